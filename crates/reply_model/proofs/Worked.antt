@@ -1,0 +1,87 @@
+-- The worked examples, by computation.
+use Rattle.std.proofs.Common.{ℕ, inl, inr, refl, arith, lit<, lit≤, ap, get_or}
+use Rattle.romfs_image.specs.declared.rule.Rule.{Rule}
+use Rattle.romfs_image.specs.declared.rule.Rule.TheVariants.{Short, Magic}
+use Rattle.romfs_image.specs.Rules.{IsNamedBefore, Breaks, StartsWith, magic}
+use Rattle.std.proofs.lemmas.Bool.{false≢true, eq-eqb}
+use Rattle.romfs_image.specs.Fields.{word, root, image, name_field, ended}
+use Rattle.fuse_wire.specs.Requests.{op_of}
+use Rattle.fuse_wire.specs.Structures.{u16, u32, u64, zeros, init_out, attr, entry_out, attr_out, open_out, statfs_out, dirent}
+use Rattle.fuse_wire.specs.Replies.{reply_with, error_reply}
+use Rattle.stack_model.specs.Numbers.{nodes, number_of, parent, children}
+use Rattle.stack_model.specs.Attributes.{data_of}
+use Rattle.reply_model.specs.Rows.{rows, dirent_of, direntplus_of, rows_from}
+use Rattle.reply_model.specs.Examples.{empty_image, sample_image, empty_entries, sample_entries, two_faults, StreamExamples, FaultOrder, FaultExamples, EmptyImageFields, InitExamples, GetattrExamples, ReaddirExamples, ReaddirplusExamples, ReadExamples, LookupExamples, NodeExamples}
+
+pub the_empty_image : EmptyImageFields
+unfolding word root image name_field ended op_of u16 u32 u64 zeros init_out attr entry_out attr_out open_out statfs_out dirent reply_with error_reply nodes number_of parent children data_of rows dirent_of direntplus_of rows_from empty_image sample_image empty_entries sample_entries
+the_empty_image = record { padded_16 = refl; padded_17 = refl; whole = refl; root_at = refl; root_kind = refl; root_exec = refl; root_next = refl; root_spec = refl; root_name = refl; up_kind = refl; up_next = refl; up_spec = refl; up_name = refl }
+
+pub init : InitExamples
+unfolding word root image name_field ended op_of u16 u32 u64 zeros init_out attr entry_out attr_out open_out statfs_out dirent reply_with error_reply nodes number_of parent children data_of rows dirent_of direntplus_of rows_from empty_image sample_image empty_entries sample_entries
+init = record { accepted = refl; newer = refl; agreed = refl; older_minor = refl; older_major = refl; fresh_write = refl; fresh_release = refl; fresh_forget = refl; short = refl }
+
+pub getattr : GetattrExamples
+unfolding word root image name_field ended op_of u16 u32 u64 zeros init_out attr entry_out attr_out open_out statfs_out dirent reply_with error_reply nodes number_of parent children data_of rows dirent_of direntplus_of rows_from empty_image sample_image empty_entries sample_entries
+getattr = record { of_root = refl; of_two = refl; of_zero = refl; short = refl }
+
+pub readdir : ReaddirExamples
+unfolding word root image name_field ended op_of u16 u32 u64 zeros init_out attr entry_out attr_out open_out statfs_out dirent reply_with error_reply nodes number_of parent children data_of rows dirent_of direntplus_of rows_from empty_image sample_image empty_entries sample_entries
+readdir = record { both = refl; one = refl; too_small = refl; no_room = refl; too_large = refl; at_end = refl }
+
+pub readdirplus : ReaddirplusExamples
+unfolding word root image name_field ended op_of u16 u32 u64 zeros init_out attr entry_out attr_out open_out statfs_out dirent reply_with error_reply nodes number_of parent children data_of rows dirent_of direntplus_of rows_from empty_image sample_image empty_entries sample_entries
+readdirplus = record { three = refl; one = refl; upper = refl; mode = refl }
+
+pub read : ReadExamples
+unfolding word root image name_field ended op_of u16 u32 u64 zeros init_out attr entry_out attr_out open_out statfs_out dirent reply_with error_reply nodes number_of parent children data_of rows dirent_of direntplus_of rows_from empty_image sample_image empty_entries sample_entries
+read = record { whole = refl; rest = refl; past_end = refl; far_past_end = refl; nothing = refl; too_large = refl; directory = refl; link = refl; stale = refl }
+
+pub lookup : LookupExamples
+unfolding word root image name_field ended op_of u16 u32 u64 zeros init_out attr entry_out attr_out open_out statfs_out dirent reply_with error_reply nodes number_of parent children data_of rows dirent_of direntplus_of rows_from empty_image sample_image empty_entries sample_entries
+lookup = record { entry = refl; unended = refl; no_body = refl; inner_zero = refl; empty_name = refl; long_name = refl; too_long = refl; marker = refl; upper = refl; in_file = refl }
+
+pub node_requests : NodeExamples
+unfolding word root image name_field ended op_of u16 u32 u64 zeros init_out attr entry_out attr_out open_out statfs_out dirent reply_with error_reply nodes number_of parent children data_of rows dirent_of direntplus_of rows_from empty_image sample_image empty_entries sample_entries
+node_requests = record { device_mode = refl; device_numbers = refl; root_links = refl; statfs = refl; open_file = refl; open_to_write = refl; open_directory = refl; opendir = refl; opendir_of_file = refl; readlink = refl; readlink_of_file = refl; release = refl; forget = refl; write = refl; unserved = refl }
+
+pub lengths : StreamExamples
+unfolding u32 u64 zeros
+lengths = record {
+  shortest = record { good = (lit≤ tt, lit≤ tt); says = refl };
+  too_short = record { long = lit≤ tt; says = refl; bad = λ g. let l = g.0 in omega arith };
+  longest = (lit< tt, inr ((lit≤ tt, lit≤ tt), lit< tt));
+  too_long = record { long = lit≤ tt; says = refl; bad = λ g. let l = g.1 in omega arith };
+  three_bytes = (lit< tt, inl (lit< tt));
+  nothing = λ u. let l = u.0 in omega arith;
+}
+
+pub order : FaultOrder
+order = record {
+  volume_by_rule = inl (lit< tt);
+  volume_first = inl (lit< tt);
+  lower_place = inr (refl, inl (lit< tt));
+  lower_rule = inr (refl, inr (refl, lit< tt));
+  twice_before_name = inr (refl, inr (refl, lit< tt));
+  depth_last = inl (lit< tt);
+}
+
+first_byte : ¬ StartsWith two_faults magic
+first_byte (rest, e) = false≢true (eq-eqb 46 45 (ap (λ xs. get_or xs 0 0) e))
+
+magic_first : (s : Rule) (q : ℕ) → Breaks two_faults s q → IsNamedBefore s q Magic 0 → ⊥
+magic_first Short q b n = let l = b.0 in omega arith
+magic_first s q b (inl l) = omega arith
+magic_first s q b (inr (e, inl l)) = omega arith
+magic_first s q b (inr (e, inr (f, l))) = omega arith
+
+short_first : (s : Rule) (q : ℕ) → IsNamedBefore s q Short 0 → ⊥
+short_first s q (inl l) = omega arith
+short_first s q (inr (e, inl l)) = omega arith
+short_first s q (inr (e, inr (f, l))) = omega arith
+
+pub faults : FaultExamples
+faults = record {
+  magic = record { broken = (first_byte, refl); first = magic_first };
+  short = record { broken = (lit< tt, refl); first = λ s q b n. short_first s q n };
+}

@@ -1,0 +1,7 @@
+pub mod Sessions
+pub mod Rows
+pub mod Refusals
+pub mod Replies
+pub mod Streams
+pub mod Examples
+pub mod Laws

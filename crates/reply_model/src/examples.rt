@@ -1,0 +1,69 @@
+//! Worked examples: over the empty image and the sample image, what requests are answered, by computation.
+
+ghost use Rattle.reply_model.specs.Examples.{StreamExamples, FaultOrder, FaultExamples, EmptyImageFields, InitExamples, GetattrExamples, ReaddirExamples, ReaddirplusExamples, ReadExamples, LookupExamples, NodeExamples};
+
+/// The fields of the empty image.
+#[tactic(auto, using(crate::proofs::Worked::the_empty_image))]
+pub fn the_empty_image_example()
+    ensures { EmptyImageFields }
+{}
+
+/// INIT: versions and terms.
+#[tactic(auto, using(crate::proofs::Worked::init))]
+pub fn init_example()
+    ensures { InitExamples }
+{}
+
+/// GETATTR over the empty image.
+#[tactic(auto, using(crate::proofs::Worked::getattr))]
+pub fn getattr_example()
+    ensures { GetattrExamples }
+{}
+
+/// READDIR over the empty image.
+#[tactic(auto, using(crate::proofs::Worked::readdir))]
+pub fn readdir_example()
+    ensures { ReaddirExamples }
+{}
+
+/// READDIRPLUS over the sample image.
+#[tactic(auto, using(crate::proofs::Worked::readdirplus))]
+pub fn readdirplus_example()
+    ensures { ReaddirplusExamples }
+{}
+
+/// READ over the sample image.
+#[tactic(auto, using(crate::proofs::Worked::read))]
+pub fn read_example()
+    ensures { ReadExamples }
+{}
+
+/// LOOKUP over the sample image.
+#[tactic(auto, using(crate::proofs::Worked::lookup))]
+pub fn lookup_example()
+    ensures { LookupExamples }
+{}
+
+/// Attributes, STATFS, OPEN and the other requests over the sample image.
+#[tactic(auto, using(crate::proofs::Worked::node_requests))]
+pub fn node_requests_example()
+    ensures { NodeExamples }
+{}
+
+/// Lengths of messages.
+#[tactic(auto, using(crate::proofs::Worked::lengths))]
+pub fn lengths_example()
+    ensures { StreamExamples }
+{}
+
+/// Which of two faults is named.
+#[tactic(auto, using(crate::proofs::Worked::order))]
+pub fn order_of_faults_example()
+    ensures { FaultOrder }
+{}
+
+/// An image with two faults, and its first 15 bytes.
+#[tactic(auto, using(crate::proofs::Worked::faults))]
+pub fn faults_example()
+    ensures { FaultExamples }
+{}

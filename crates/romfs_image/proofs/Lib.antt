@@ -1,0 +1,16 @@
+pub mod Faults
+pub mod Text
+pub mod Walk
+pub mod Sound
+pub mod Pigeon
+pub mod Chain
+pub mod Keeps
+pub mod Given
+pub mod NameBytes
+pub mod Listing
+pub mod Hops
+pub mod Steps
+pub mod Readings
+pub mod Apart
+pub mod Files
+pub mod Whole

@@ -1,0 +1,36 @@
+-- A name that is ended stands in the image's bytes.
+use Rattle.std.proofs.Common.{◌≡◌, ◌∙◌, sym, ap, ℕ, zero, suc, ◌≤◌, Bool, List, [], ◌∷◌, ◌++◌, length, take, drop, Option, Some, None, true, false, arith, refl, leb, cond}
+use Rattle.std.specs.Option.{option_map}
+use Rattle.std.proofs.Common.{append_assoc}
+use Rattle.std.proofs.Math.Seq.{take-append_seam}
+use Rattle.std.proofs.lemmas.List.{take-append-drop}
+use Rattle.std.proofs.lemmas.Bool.Decides.{nat_tests}
+use Rattle.romfs_image.specs.Fields.{text_at, text_end, if_within, ended, name_field}
+
+-- the text before the first zero byte is a front part
+front : (xs t : List ℕ) → ended xs ≡ Some t → (rest : List ℕ) × (xs ≡ t ++ rest)
+unfolding ended
+front [] t e = absurd (cc)
+front (zero ∷ xs) t e = let q : [] ≡ t = cc in (zero ∷ xs, rw (← q) refl)
+front (suc n ∷ xs) t e = pick (λ u q. front xs u q) (ended xs) refl e
+  where
+    pick : ((u : List ℕ) → ended xs ≡ Some u → (rest : List ℕ) × (xs ≡ u ++ rest)) → (o : Option (List ℕ)) → o ≡ ended xs → option_map (λ text. suc n ∷ text) o ≡ Some t → (rest : List ℕ) × (suc n ∷ xs ≡ t ++ rest)
+    pick f None q e = absurd (cc)
+    pick f (Some u) q e = let r = f u (sym q) in let k : suc n ∷ u ≡ t = cc in (r.0, rw (← k) (ap (λ l. suc n ∷ l) r.1))
+
+within : (n p : ℕ) (o : Option (List ℕ)) (t : List ℕ) → if_within n p o ≡ Some t → (o ≡ Some t) × (text_end p t ≤ n)
+within n p None t e = absurd (cc)
+within n p (Some u) t e = test (leb (text_end p u) n) refl e
+  where
+    test : (b : Bool) → b ≡ leb (text_end p u) n → cond b (Some u) None ≡ Some t → (Some u ≡ Some t) × (text_end p t ≤ n)
+    test true q e = let k : u ≡ t = cc in (e, rw (← k) (grind (arith, nat_tests)))
+    test false q e = absurd (cc)
+
+-- where a name that is ended lies
+pub text_bytes : (a t : List ℕ) (p : ℕ) → p ≤ length a → text_at a p ≡ Some t → (text_end p t ≤ length a) × (take (length t) (drop p a) ≡ t)
+unfolding name_field
+text_bytes a t p l e =
+    let w = within (length a) p (ended (name_field a p)) t e in
+    let f = front (take 256 (drop p a)) t w.0 in
+    let g : drop p a ≡ t ++ (f.0 ++ drop 256 (drop p a)) = sym (take-append-drop 256 (drop p a)) ∙ ap (λ x. x ++ drop 256 (drop p a)) f.1 ∙ append_assoc t f.0 (drop 256 (drop p a)) in
+    (w.1, rw g (take-append_seam t (f.0 ++ drop 256 (drop p a))))

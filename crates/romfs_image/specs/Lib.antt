@@ -1,0 +1,9 @@
+pub mod Fields
+pub mod Chains
+pub mod Links
+pub mod Rules
+pub mod Heads
+pub mod Walks
+pub mod Refusals
+pub mod Texts
+pub mod Flat

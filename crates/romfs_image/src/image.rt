@@ -1,0 +1,145 @@
+//! Checked images, and what is read from them.
+
+ghost use Rattle.std.specs.Prelude.{◌≡◌, ◌≢◌, ◌⊎◌, [], length, Some, MatchOption, IsNone, IfOk, IfErr, All};
+ghost use Rattle.romfs_image.specs.Fields.{image, root, name};
+ghost use Rattle.romfs_image.specs.Links.{IsFinal};
+ghost use Rattle.romfs_image.specs.Rules.{IsSound};
+ghost use Rattle.romfs_image.specs.Flat.{IsImage, IsFlat};
+ghost use Rattle.romfs_image.specs.Heads.{name_of, head_of, data_of, IsPlace, IsGiven, AreMembers};
+ghost use Rattle.romfs_image.specs.Refusals.{IsRefusal};
+
+use crate::flat::is_flat;
+use crate::head::{Head, Kind};
+use crate::members::Members;
+use crate::parts::{data_in, end_of, members_of, name_in, place_at};
+use crate::read::head_at;
+use crate::rule::CheckFault;
+use crate::volume::{accessible, root_of, volume_fault};
+use std::alloc::Allocator;
+use std::marker::Model;
+
+/// The accessible bytes of an image that keeps every rule. A clause sees these bytes.
+///
+/// `members`, `target`, `name` and `body` ask for a header that this image gave, by `root`, `members`
+/// or `target`; by `head` a caller comes back to such a header from its offset. No reader takes
+/// memory.
+#[derive(Drop)]
+pub struct Image<A: Allocator> {
+    bytes: Vec<u8, A>,
+    top: u32,
+}
+
+impl<A: Allocator> Model for Image<A> {
+    ghost use Rattle.std.specs.Prelude.{List, ℕ, ◌≡◌};
+    ghost use Rattle.romfs_image.specs.Fields.{root};
+    ghost use Rattle.romfs_image.specs.Flat.{IsImage};
+
+    ghost Value = { List ℕ };
+
+    ghost view = { λ held. held.bytes.items };
+
+    ghost invariant = { λ held. IsImage held.bytes.items × (held.top ≡ root held.bytes.items) };
+}
+
+impl<A: Allocator + Copy> Image<A> {
+    /// Checks that bytes are an image, and keeps the accessible ones: as many as the full size says
+    /// (romfs.rst, the volume header). Bytes after them are not looked at.
+    ///
+    /// `Broken` names the first rule of the volume header that is broken, and where. Bytes that keep
+    /// these rules and are no flat image are `Later`. `Memory` comes only where memory was refused.
+    ///
+    /// It reads each header a few times, and compares names by sorting them. Beside the image it takes
+    /// at most 64 bytes for each of the root's members.
+    pub fn check(alloc: A, bytes: Vec<u8, A>) -> Result<Image<A>, CheckFault>
+        ensures ok { IfOk result (λ checked. (checked ≡ image bytes.items) × IsSound bytes.items × IsFlat (image bytes.items)) }
+        ensures err { IfErr result (λ fault. IsRefusal bytes.items fault) }
+    {
+        if let Some(fault) = volume_fault(&bytes) {
+            return Err(CheckFault::Broken(fault));
+        }
+        let bytes = accessible(bytes);
+        let top = root_of(&bytes);
+        if is_flat(alloc, &bytes, top)? {
+            Ok(Image { bytes, top })
+        } else {
+            Err(CheckFault::Later)
+        }
+    }
+}
+
+impl<A: Allocator> Image<A> {
+    /// The full size: how many bytes are accessible.
+    pub fn full(&self) -> u32
+        ensures value { result ≡ length self.now }
+        ensures sound { IsImage self.now }
+    {
+        self.bytes.len() as u32
+    }
+
+    /// The header of the root, which stands after the volume name.
+    #[tactic(auto, using(crate::proofs::Keeps::root_inside, crate::proofs::Keeps::root_directory))]
+    pub fn root(&self) -> Head
+        ensures value { result ≡ head_of self.now (root self.now) }
+        ensures directory { result.kind ≡ Kind.Directory }
+        ensures given { IsGiven self.now result }
+        ensures sound { IsImage self.now }
+    {
+        head_at(&self.bytes, self.top)
+    }
+
+    /// The header at an offset in bytes; none where the offset is no multiple of 16, or the header does
+    /// not lie in the image, or its name has no end.
+    ///
+    /// At the offset of a header that this image gave it is that header, and none only for a root whose
+    /// name has no end.
+    pub fn head(&self, offset: u32) -> Option<Head>
+        ensures value { MatchOption result (¬ IsPlace self.now offset) (λ head. IsPlace self.now offset × (head ≡ head_of self.now offset)) }
+        ensures given { (g : Head) → IsGiven self.now g → g.offset ≡ offset → (result ≡ Some g) ⊎ ((offset ≡ root self.now) × IsNone (name self.now offset)) }
+    {
+        place_at(&self.bytes, self.top, offset)
+    }
+
+    /// The members of a directory, each once, in the order of its chain (romfs.rst, "next filehdr" and
+    /// "spec.info"). Headers named `.` or `..` are passed over, and so is the root's in its own chain.
+    /// A header of another kind has none.
+    ///
+    /// Each header of the chain is read once as the iterator goes on.
+    pub fn members(&self, directory: &Head) -> Members<'_>
+        requires { IsGiven self.now directory.now }
+        ensures directory { directory.now.kind ≡ Kind.Directory → AreMembers self.now directory.now.offset result }
+        ensures other { directory.now.kind ≢ Kind.Directory → result ≡ [] }
+        ensures given { All (λ head. IsGiven self.now head) result }
+    {
+        members_of(&self.bytes, self.top, directory)
+    }
+
+    /// The header that a hard link leads to, after any further hard links (romfs.rst, "spec.info").
+    /// Any other header is given back.
+    ///
+    /// A chain of hard links is no longer than the number of headers that the image has room for.
+    pub fn target(&self, head: &Head) -> Head
+        requires { IsGiven self.now head.now }
+        ensures end { IsFinal self.now head.now.offset result.offset }
+        ensures given { IsGiven self.now result }
+    {
+        end_of(&self.bytes, head)
+    }
+
+    /// The name of a header, without its zero byte. It is empty for a root whose name has no end.
+    #[tactic(auto, using(crate::proofs::Readings::given_head))]
+    pub fn name(&self, head: &Head) -> &[u8]
+        requires { IsGiven self.now head.now }
+        ensures { result.now ≡ name_of self.now head.now.offset }
+    {
+        name_in(&self.bytes, head)
+    }
+
+    /// The data of a regular file, or the target of a symbolic link: as many bytes as its size, from
+    /// the padded end of its name on. It is empty for headers of other kinds.
+    pub fn body(&self, head: &Head) -> &[u8]
+        requires { IsGiven self.now head.now }
+        ensures { result.now ≡ data_of self.now head.now.offset }
+    {
+        data_in(&self.bytes, head)
+    }
+}

@@ -1,0 +1,105 @@
+//! The members of a directory, along its chain.
+
+ghost use Rattle.std.specs.Prelude.{◌≡◌, ◌<◌, ◌∷◌, ◌^◌, [], length, MatchOption};
+ghost use Rattle.std.specs.Iterator.{YieldsFirst, item_count};
+ghost use Rattle.romfs_image.specs.Fields.{root, IsInside};
+ghost use Rattle.romfs_image.specs.Heads.{passes_over, head_of};
+ghost use Rattle.romfs_image.specs.Walks.{IsWalk, members_from};
+
+use crate::head::Head;
+use crate::read::{head_at, text_at};
+use std::marker::Model;
+
+/// The members of a directory, in the order of its chain. A clause sees the list of those that are
+/// left, so that a loop over them knows which it has seen.
+///
+/// A step reads the headers up to the next member, and takes no memory.
+#[derive(Drop)]
+pub struct Members<'a> {
+    image: &'a [u8],
+    top: u32,
+    directory: u32,
+    at: u32,
+}
+
+impl<'a> Model for Members<'a> {
+    ghost use Rattle.std.specs.Prelude.{List};
+    ghost use Rattle.romfs_image.specs.declared.head.Head.{Head};
+
+    ghost Value = { List Head };
+
+    ghost use Rattle.romfs_image.specs.Walks.{IsWalk, members_from};
+
+    ghost view = { λ m. members_from m.image.now m.directory m.at };
+
+    ghost invariant = { λ m. IsWalk m.image.now m.top m.at };
+}
+
+impl<'a> Members<'a> {
+    /// The members of a directory whose chain goes on at `at`.
+    pub(crate) fn new(image: &'a [u8], top: u32, directory: u32, at: u32) -> Members<'a>
+        requires { IsWalk image.now top at }
+        ensures { result ≡ members_from image.now directory at }
+    {
+        Members {
+            image,
+            top,
+            directory,
+            at,
+        }
+    }
+}
+
+impl<'a> Iterator for Members<'a> {
+    type Item = Head;
+
+    ghost next_gives = { YieldsFirst (λ left. left) };
+
+    ghost remaining = { item_count (λ left. left) };
+
+    fn next(&mut self) -> Option<Head> {
+        match member_from(self.image, self.top, self.directory, self.at) {
+            None => {
+                self.at = 0;
+                None
+            }
+            Some(head) => {
+                self.at = head.next;
+                Some(head)
+            }
+        }
+    }
+}
+
+/// Whether a header is passed over in the chain of a directory.
+fn is_passed_over(image: &[u8], top: u32, directory: u32, head: &Head) -> bool
+    requires top { top ≡ root image.now }
+    requires small { length image.now < 2 ^ 32 }
+    requires head { head.now ≡ head_of image.now head.now.offset }
+    requires inside { IsInside image.now head.now.offset }
+    ensures { result ≡ passes_over image.now directory head.now.offset }
+{
+    if directory == top && head.offset == top {
+        return true;
+    }
+    match text_at(image, head.name_at as usize) {
+        None => false,
+        Some(name) => name == b".".as_slice() || name == b"..".as_slice(),
+    }
+}
+
+/// The first member from a place of a chain on.
+fn member_from(image: &[u8], top: u32, directory: u32, mut at: u32) -> Option<Head>
+    requires { IsWalk image.now top at }
+    ensures { MatchOption result (members_from image.now directory at ≡ [])
+        (λ head. (members_from image.now directory at ≡ head ∷ members_from image.now directory head.next) × IsWalk image.now top head.next) }
+{
+    while at != 0 {
+        let head = head_at(image, at);
+        if !is_passed_over(image, top, directory, &head) {
+            return Some(head);
+        }
+        at = head.next;
+    }
+    None
+}

@@ -1,0 +1,102 @@
+//! What the readers of an image read, from its bytes.
+
+ghost use Rattle.std.specs.Prelude.{◌≡◌, ◌≢◌, [], ◌+◌, ◌*◌, ◌/◌, ◌≤◌, length, MatchOption, IsTrue, IsFalse, All};
+ghost use Rattle.romfs_image.specs.Fields.{root};
+ghost use Rattle.romfs_image.specs.Links.{IsFinal};
+ghost use Rattle.romfs_image.specs.Flat.{IsImage};
+ghost use Rattle.romfs_image.specs.Heads.{name_of, head_of, data_of, IsPlace, IsHeadIn, IsGiven, AreMembers, bytes_at};
+
+use crate::head::{Head, Kind};
+use crate::members::Members;
+use crate::read::{head_at, text_at};
+
+/// The header at an offset, if a header with an ended name can stand there.
+pub(crate) fn place_at(image: &[u8], top: u32, offset: u32) -> Option<Head>
+    requires image { IsImage image.now }
+    requires top { top ≡ root image.now }
+    ensures { MatchOption result (¬ IsPlace image.now offset) (λ head. IsPlace image.now offset × (head ≡ head_of image.now offset)) }
+{
+    let place = offset as usize;
+    if offset % 16 != 0 || offset < top || image.len() < place + 16 {
+        return None;
+    }
+    match text_at(image, place + 16) {
+        None => None,
+        Some(_) => Some(head_at(image, offset)),
+    }
+}
+
+/// Whether a directory other than the root names its own header as the first, which says that it
+/// is empty.
+fn leads_to_itself(top: u32, directory: &Head) -> bool
+    ensures yes { IsTrue result → (directory.now.spec / 16 * 16 ≡ directory.now.offset) × (directory.now.spec / 16 * 16 ≢ top) }
+    ensures no { IsFalse result → directory.now.spec / 16 * 16 ≡ directory.now.offset → directory.now.spec / 16 * 16 ≡ top }
+{
+    let first = directory.spec / 16 * 16;
+    first == directory.offset && first != top
+}
+
+/// The members of a header that is given.
+pub(crate) fn members_of<'a>(image: &'a [u8], top: u32, directory: &Head) -> Members<'a>
+    requires image { IsImage image.now }
+    requires top { top ≡ root image.now }
+    requires given { IsGiven image.now directory.now }
+    ensures directory { directory.now.kind ≡ Kind.Directory → AreMembers image.now directory.now.offset result }
+    ensures other { directory.now.kind ≢ Kind.Directory → result ≡ [] }
+    ensures given { All (λ head. IsGiven image.now head) result }
+{
+    if directory.kind != Kind::Directory {
+        return Members::new(image, top, directory.offset, 0);
+    }
+    if leads_to_itself(top, directory) {
+        return Members::new(image, top, directory.offset, 0);
+    }
+    Members::new(image, top, directory.offset, directory.spec / 16 * 16)
+}
+
+/// Where the chain of hard links from a header that is given ends.
+pub(crate) fn end_of(image: &[u8], head: &Head) -> Head
+    requires image { IsImage image.now }
+    requires given { IsGiven image.now head.now }
+    ensures end { IsFinal image.now head.now.offset result.offset }
+    ensures given { IsGiven image.now result }
+{
+    let mut end = *head;
+    while end.kind == Kind::HardLink {
+        end = head_at(image, end.spec / 16 * 16);
+    }
+    end
+}
+
+/// Some bytes of an image.
+#[tactic(auto, unfolding(crate::specs::Heads::bytes_at))]
+fn bytes_at(image: &[u8], from: u32, len: u32) -> &[u8]
+    requires { from + len ≤ length image.now }
+    ensures { result.now ≡ bytes_at image.now from len }
+{
+    let rest = &image[from as usize..];
+    &rest[..len as usize]
+}
+
+/// The name of a header.
+pub(crate) fn name_in<'a>(image: &'a [u8], head: &Head) -> &'a [u8]
+    requires { IsHeadIn image.now head.now }
+    ensures { result.now ≡ name_of image.now head.now.offset }
+{
+    bytes_at(image, head.name_at, head.name_len)
+}
+
+/// The data of a header that is given.
+pub(crate) fn data_in<'a>(image: &'a [u8], head: &Head) -> &'a [u8]
+    requires image { IsImage image.now }
+    requires given { IsGiven image.now head.now }
+    ensures { result.now ≡ data_of image.now head.now.offset }
+{
+    match head.kind {
+        Kind::Regular | Kind::SymLink => {
+            let at = head.name_at + (head.name_len + 1 + 15) / 16 * 16;
+            bytes_at(image, at, head.size)
+        }
+        _ => &[],
+    }
+}

@@ -1,0 +1,117 @@
+//! The rules of the volume header.
+
+ghost use Rattle.std.specs.Prelude.{◌≡◌, ◌+◌, ◌<◌, ◌≤◌, ◌^◌, ◌↔◌, length, MatchOption, IfNone, IsTrue};
+ghost use Rattle.romfs_image.specs.Fields.{image, root, summed, word};
+ghost use Rattle.romfs_image.specs.Rules.{IsFault, StartsWith, magic, number};
+ghost use Rattle.romfs_image.specs.Flat.{IsVolume};
+
+use crate::head::Kind;
+use crate::read::{kind_of, text_at, word, word_sum};
+use crate::rule::{ImageFault, Rule};
+use std::alloc::Allocator;
+
+/// The accessible bytes.
+#[tactic(auto, unfolding(crate::specs::Fields::image))]
+fn image_of(bytes: &[u8], full: usize) -> &[u8]
+    requires full { full ≡ word bytes.now 8 }
+    requires within { full ≤ length bytes.now }
+    ensures value { result.now ≡ image bytes.now }
+    ensures length { length result.now ≡ full }
+{
+    &bytes[..full]
+}
+
+/// The accessible bytes alone.
+#[tactic(auto, unfolding(crate::specs::Fields::image))]
+pub(crate) fn accessible<A: Allocator>(mut bytes: Vec<u8, A>) -> Vec<u8, A>
+    requires long { 16 ≤ length bytes.items }
+    requires within { word bytes.items 8 ≤ length bytes.items }
+    ensures value { result.items ≡ image bytes.items }
+    ensures length { length result.items ≡ word bytes.items 8 }
+    ensures small { length result.items < 2 ^ 32 }
+{
+    let full = word(&bytes, 8) as usize;
+    bytes.truncate(full);
+    bytes
+}
+
+/// What the checksum goes over.
+fn summed(image: &[u8]) -> &[u8]
+    ensures { result.now ≡ summed image.now }
+{
+    if image.len() < 512 {
+        image
+    } else {
+        &image[..512]
+    }
+}
+
+fn is_magic(bytes: &[u8]) -> bool
+    ensures { IsTrue result ↔ StartsWith bytes.now magic }
+{
+    bytes.starts_with(b"-rom1fs-")
+}
+
+/// Where the root stands.
+#[tactic(auto, unfolding(crate::specs::Fields::root))]
+pub(crate) fn root_of(image: &[u8]) -> u32
+    requires long { 16 ≤ length image.now }
+    requires small { length image.now < 2 ^ 32 }
+    ensures { result ≡ root image.now }
+{
+    match text_at(image, 16) {
+        None => 0,
+        Some(name) => 16 + (name.len() as u32 + 1 + 15) / 16 * 16,
+    }
+}
+
+/// The first rule of the volume header that is broken.
+#[tactic(auto, unfolding(crate::specs::Fields::root))]
+pub(crate) fn volume_fault(bytes: &[u8]) -> Option<ImageFault>
+    ensures fault { MatchOption result (IsVolume bytes.now) (λ fault. IsFault bytes.now fault.rule fault.place × (number fault.rule < 6)) }
+    ensures sound { IfNone result ((16 ≤ word bytes.now 8) × (word bytes.now 8 ≤ length bytes.now) × (root (image bytes.now) + 16 ≤ word bytes.now 8)) }
+{
+    if bytes.len() < 16 {
+        return Some(ImageFault {
+            rule: Rule::Short,
+            place: 0,
+        });
+    }
+    if !is_magic(bytes) {
+        return Some(ImageFault {
+            rule: Rule::Magic,
+            place: 0,
+        });
+    }
+    let full = word(bytes, 8) as usize;
+    if bytes.len() < full || full < 16 {
+        return Some(ImageFault {
+            rule: Rule::FullSize,
+            place: 8,
+        });
+    }
+    let image = image_of(bytes, full);
+    if word_sum(summed(image)) != 0 {
+        return Some(ImageFault {
+            rule: Rule::Sum,
+            place: 12,
+        });
+    }
+    match text_at(image, 16) {
+        None => Some(ImageFault {
+            rule: Rule::VolumeName,
+            place: 16,
+        }),
+        Some(name) => {
+            let top = 16 + (name.len() + 1 + 15) / 16 * 16;
+            if image.len() < top + 16 || kind_of(word(image, top)) != Kind::Directory {
+                Some(ImageFault {
+                    rule: Rule::NoRoot,
+                    place: top as u32,
+                })
+            } else {
+                None
+            }
+        }
+    }
+}

@@ -1,0 +1,83 @@
+-- Attributes of a place, as Linux's stat has them, and its data. Owners and times are all 0.
+use Rattle.std.specs.Prelude.{ℕ, ◌+◌, ◌-◌, ◌*◌, ◌/◌, ◌%◌, ◌^◌, List, [], min, Bool, take, drop, sum_by, count_by, slice_index_or, bit_and, bit_or, if◌then◌else◌, true, false}
+use Rattle.std.specs.Option.{option_map_or}
+use Rattle.romfs_image.specs.declared.head.Kind.{Kind}
+use Rattle.romfs_image.specs.declared.head.Kind.TheVariants.{HardLink, Directory, Regular, SymLink, Block, Character, Socket, Fifo}
+use Rattle.romfs_image.specs.Fields.{kind, exec, size, spec, name, data_at}
+use Rattle.stack_model.specs.Listing.{Entry}
+use Rattle.stack_model.specs.Numbers.{Place, place, same_place, children}
+use Rattle.std.specs.Prelude.{length}
+
+abbrev pub is_directory : Kind → Bool
+is_directory Directory = true
+is_directory _ = false
+
+-- type and permissions; a place is never a hard link
+abbrev pub mode_of : Kind → Bool → ℕ
+mode_of Directory exec = if exec then 0x41ed else 0x41a4
+mode_of Regular exec = if exec then 0x81ed else 0x81a4
+mode_of SymLink exec = 0xa1ff
+mode_of Block exec = 0x6180
+mode_of Character exec = 0x2180
+mode_of Socket exec = 0xc1a4
+mode_of Fifo exec = 0x11a4
+mode_of HardLink exec = 0
+
+-- only regular files and symbolic links have data
+abbrev pub size_of : Kind → ℕ → ℕ
+size_of Regular n = n
+size_of SymLink n = n
+size_of _ n = 0
+
+-- Linux's new_encode_dev: 12 bits of major between the low 8 and the high 12 bits of minor
+abbrev pub device : ℕ → ℕ → ℕ
+device major minor = bit_or (bit_or (bit_and minor 0xff) (major * 2 ^ 8)) (bit_and minor 0xfff00 * 2 ^ 12)
+
+-- major and minor are the upper and the lower 16 bits of spec.info
+abbrev pub rdev_of : Kind → ℕ → ℕ
+rdev_of Block s = device (s / 2 ^ 16) (s % 2 ^ 16)
+rdev_of Character s = device (s / 2 ^ 16) (s % 2 ^ 16)
+rdev_of _ s = 0
+
+-- bytes in blocks of 512, rounded up
+abbrev pub blocks_of : ℕ → ℕ
+blocks_of n = (n + 511) / 512
+
+-- the blocks of all layers
+abbrev pub blocks_all : List (List ℕ) → ℕ
+blocks_all layers = sum_by (λ a. blocks_of (length a)) layers
+
+module _ (layers : List (List ℕ)) where
+  abbrev pub layer_of : Place → List ℕ
+  layer_of p = slice_index_or layers p.0 []
+
+  abbrev pub kind_at : Place → Kind
+  kind_at p = kind (layer_of p) p.1
+
+  abbrev pub is_directory_at : Place → Bool
+  is_directory_at p = is_directory (kind_at p)
+
+  abbrev pub mode : Place → ℕ
+  mode p = mode_of (kind_at p) (exec (layer_of p) p.1)
+
+  abbrev pub size_at : Place → ℕ
+  size_at p = size_of (kind_at p) (size (layer_of p) p.1)
+
+  abbrev pub rdev : Place → ℕ
+  rdev p = rdev_of (kind_at p) (spec (layer_of p) p.1)
+
+  -- how many shown paths have the place; for a directory 2 plus its shown subdirectories
+  abbrev pub links : List Entry → Place → ℕ
+  links entries p =
+      if is_directory_at p then 2 + count_by (λ c. is_directory_at c.place) (children entries p)
+      else count_by (λ e. same_place p (place e)) entries
+
+  -- the same, held at the field's greatest value
+  abbrev pub nlink : List Entry → Place → ℕ
+  nlink entries p = min (links entries p) (2 ^ 32 - 1)
+
+  -- the data of a regular file, or the target of a symbolic link
+  unfoldable pub data_of : Place → List ℕ
+  data_of p =
+      let a = layer_of p in
+      take (size_at p) (drop (option_map_or (data_at p.1) (name a p.1) 0) a)

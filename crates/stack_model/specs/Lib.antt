@@ -1,0 +1,4 @@
+pub mod Stack
+pub mod Listing
+pub mod Numbers
+pub mod Attributes

@@ -1,0 +1,41 @@
+-- The shown paths of a stack in order, each with its place: all that the stack's numbers are counted on.
+use Rattle.std.specs.Prelude.{◌≡◌, ℕ, ◌⊎◌, List, [], ◌∷◌, slice_get, Some}
+use Rattle.std.specs.declared.cmp.Ordering.{Ordering}
+use Rattle.std.specs.declared.cmp.Ordering.TheVariants.{Less}
+use Rattle.std.specs.List.{AllByRecursion}
+use Rattle.std.specs.Cmp.Lexicographic.{slice_cmp}
+use Rattle.std.specs.Ordering.{nat_cmp}
+use Rattle.romfs_image.specs.Links.{IsFinal}
+use Rattle.stack_model.specs.Stack.{Path, Shows}
+
+-- a shown path, the layer that shows it, and its header there after hard links
+pub record Entry : Type 0 where
+  pub path : List (List ℕ)
+  pub layer : ℕ
+  pub header : ℕ
+
+-- by names, these by bytes; a list comes before its extensions
+abbrev pub path_cmp : Path → Path → Ordering
+path_cmp = slice_cmp (slice_cmp nat_cmp)
+
+-- the paths rise
+abbrev pub Rises : List Entry → Type 0
+Rises [] = Unit {0}
+Rises (e ∷ es) = AllByRecursion (λ f. path_cmp e.path f.path ≡ Less) es × Rises es
+
+-- the header is that of the layer i where hard links from h end
+abbrev pub IsFinalIn : List (List ℕ) → ℕ → ℕ → ℕ → Type 0
+IsFinalIn layers i h header = (a : List ℕ) × (slice_get layers i ≡ Some a) × IsFinal a h header
+
+-- the stack shows the entry's path, at the entry's place
+abbrev pub IsShown : List (List ℕ) → Entry → Type 0
+IsShown layers e = (h : ℕ) × Shows layers e.path e.layer h × IsFinalIn layers e.layer h e.header
+
+abbrev pub IsAmong : Entry → List Entry → Type 0
+IsAmong e [] = ⊥
+IsAmong e (f ∷ fs) = (e ≡ f) ⊎ IsAmong e fs
+
+-- the entries are those that the stack shows, in order
+pub record IsListing (layers : List (List ℕ)) (entries : List Entry) : Type 0 where
+  pub rising : Rises entries
+  pub exact : (e : Entry) → (IsAmong e entries → IsShown layers e) × (IsShown layers e → IsAmong e entries)

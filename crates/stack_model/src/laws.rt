@@ -1,0 +1,60 @@
+//! Laws of stacking and numbering.
+
+ghost use Rattle.std.specs.Prelude.{◌≡◌, ◌↔◌, ◌⊎◌, ◌+◌, ◌<◌, ◌≤◌, ◌++◌, [], ◌∷◌, ℕ, List, Some, IsSome, length, codes};
+ghost use Rattle.std.specs.List.{AllByRecursion};
+ghost use Rattle.romfs_image.specs.Chains.{Has};
+ghost use Rattle.stack_model.specs.Stack.{Path, IsPlain, IsIn, HasDirectory, HasOther, Cuts, Shows, IsFree, IsCut};
+ghost use Rattle.stack_model.specs.Listing.{Entry, IsAmong, IsListing};
+ghost use Rattle.stack_model.specs.Numbers.{Place, place, nodes, number_of, node_of};
+
+/// A list of layers has at most one listing.
+#[tactic(auto, using(crate::proofs::Listings::one_listing))]
+pub fn one_listing()
+    ensures { (layers : List (List ℕ)) (xs ys : List Entry) → IsListing layers xs → IsListing layers ys → xs ≡ ys }
+{}
+
+/// One layer shows exactly the paths that it has and that name no marker: its own markers cut nothing of its own.
+#[tactic(auto, using(crate::proofs::Joined::alone))]
+pub fn one_layer_shows_its_own()
+    ensures { (a : List ℕ) (path : Path) (i h : ℕ) → Shows (a ∷ []) path i h ↔ (IsPlain path × (i ≡ 0) × Has a path h) }
+{}
+
+/// A run of layers laid on another one: the joined run shows what the upper run shows, and what the lower
+/// run shows where the upper one neither has nor cuts it; and it cuts what either cuts.
+#[tactic(auto, using(crate::proofs::Joined::shows_joined, crate::proofs::Joined::cuts_joined, crate::proofs::Joined::free_is))]
+pub fn laid_is_joined()
+    ensures free { (layers : List (List ℕ)) (path : Path) →
+        IsFree layers path ↔ (AllByRecursion (λ a. ¬ IsIn a path) layers × ¬ IsCut layers path) }
+    ensures shows { (low high : List (List ℕ)) (path : Path) (i h : ℕ) →
+        Shows (low ++ high) path i h
+        ↔ (((j : ℕ) × (i ≡ length low + j) × Shows high path j h) ⊎ (Shows low path i h × IsFree high path)) }
+    ensures cuts { (low high : List (List ℕ)) (path : Path) →
+        IsCut (low ++ high) path ↔ (IsCut low path ⊎ IsCut high path) }
+{}
+
+/// Whiteouts: in a directory of a layer a marker for y cuts y and all below it, an opaque marker cuts all that is
+/// in the directory, and so does an entry that is no directory with what is at its place. The root is never cut.
+#[tactic(auto, using(crate::proofs::Joined::cut_by_marker, crate::proofs::Joined::cut_by_opaque, crate::proofs::Joined::cut_by_other, crate::proofs::Joined::root_stays))]
+pub fn whiteouts_cut()
+    ensures marker { (a : List ℕ) (q rest : Path) (y : List ℕ) → IsPlain (q ++ y ∷ rest) → HasDirectory a q →
+        IsIn a (q ++ (codes ".wh." ++ y) ∷ []) → Cuts a (q ++ y ∷ rest) }
+    ensures opaque { (a : List ℕ) (q rest : Path) (y : List ℕ) → IsPlain (q ++ y ∷ rest) → HasDirectory a q →
+        IsIn a (q ++ codes ".wh..wh..opq" ∷ []) → Cuts a (q ++ y ∷ rest) }
+    ensures replaced { (a : List ℕ) (q rest : Path) (y : List ℕ) → IsPlain (q ++ y ∷ rest) → HasDirectory a q →
+        HasOther a (q ++ y ∷ []) → Cuts a (q ++ y ∷ rest) }
+    ensures root { (a : List ℕ) → ¬ Cuts a [] }
+{}
+
+/// Numbers: the root has 1 where it is listed; each number from 1 to the number of nodes is that of exactly
+/// one place, and no other number is used; two entries have one number exactly where they have one place.
+#[tactic(auto, using(crate::proofs::Numbering::root_first, crate::proofs::Numbering::number_used, crate::proofs::Numbering::numbers_all, crate::proofs::Numbering::entries_numbered))]
+pub fn numbers_are_places()
+    ensures root { (layers : List (List ℕ)) (entries : List Entry) (e : Entry) →
+        IsListing layers entries → IsAmong e entries → e.path ≡ [] → number_of entries (place e) ≡ Some 1 }
+    ensures used { (entries : List Entry) (n : ℕ) (p : Place) →
+        (number_of entries p ≡ Some n) ↔ (node_of entries n ≡ Some p) }
+    ensures all { (entries : List Entry) (n : ℕ) →
+        IsSome (node_of entries n) ↔ ((1 ≤ n) × (n ≤ length (nodes entries))) }
+    ensures entries { (entries : List Entry) (e f : Entry) → IsAmong e entries → IsAmong f entries →
+        IsSome (number_of entries (place e)) × ((number_of entries (place e) ≡ number_of entries (place f)) ↔ (place e ≡ place f)) }
+{}
