@@ -1,0 +1,153 @@
+//! The commands of the program, over its three standard streams.
+//!
+//! A command does its steps in this order, and the first that fails ends it: it reads its line, the
+//! files of the images, opens the file of requests, creates the file of replies, and then does its
+//! work.
+
+ghost use Rattle.std.specs.Prelude.{◌≡◌, ◌⊎◌, ◌≤◌, length, map, OnOk, IfOk, IfErr, IfSome};
+ghost use Rattle.romfs_image.specs.Fields.{image};
+ghost use Rattle.romfs_image.specs.Rules.{IsSound};
+ghost use Rattle.strata.specs.Faults.{IsLayerFault};
+ghost use Rattle.strata.specs.Written.{WritesReplies, WritesFewer, AnswersStream};
+
+use crate::fault::First;
+use crate::faults::Fault;
+use crate::line::line;
+use crate::one_image::first;
+use crate::options::{Line, Verb};
+use crate::paths::{create_replies, open_requests, read_images};
+use crate::streams::{ReadFault, read_file, read_stream, write_out};
+use romfs_image::{CheckFault, Image};
+use std::alloc::{Allocator, Global};
+use std::convert::AsStr;
+use std::fs::{Files, OpenFile};
+use std::io::{Read, Write};
+
+/// Runs the program on the words after its name, and gives its exit status. The line of what went
+/// wrong goes to `faults`.
+///
+/// Memory comes from `alloc`, but for the command line: `clap` takes the global allocator alone.
+pub fn command<R: Files, A: Allocator + Copy, S: AsStr, I: Read, O: Write, E: Write>(
+    rt: &R,
+    alloc: A,
+    global: Global,
+    words: &[S],
+    input: &mut I,
+    output: &mut O,
+    faults: &mut E,
+) -> u8
+    ensures { result ≤ 5 }
+{
+    match run(rt, alloc, global, words, input, output) {
+        Ok(()) => 0,
+        Err(fault) => fault.tell(faults),
+    }
+}
+
+fn run<R: Files, A: Allocator + Copy, S: AsStr, I: Read, O: Write>(
+    rt: &R,
+    alloc: A,
+    global: Global,
+    words: &[S],
+    input: &mut I,
+    output: &mut O,
+) -> Result<(), Fault> {
+    let line = line(global, words)?;
+    match line.verb {
+        Verb::Serve => serve(rt, alloc, &line, input, output),
+        Verb::Check => check(rt, alloc, &line, output),
+    }
+}
+
+// Answers the requests of a file or else of the input, to a file or else to the output.
+fn serve<R: Files, A: Allocator + Copy, I: Read, O: Write>(
+    rt: &R,
+    alloc: A,
+    line: &Line<'_>,
+    input: &mut I,
+    output: &mut O,
+) -> Result<(), Fault>
+    ensures over_streams { line.now.requests ≡ None → line.now.replies ≡ None
+        → OnOk result (IfSome (I.remaining input.old) (λ stream. AnswersStream stream (O.contents output.old) (O.contents output.new))) }
+{
+    let images = read_images(rt, alloc, line.images.as_slice())?;
+    let requests = open_requests(rt, line.requests)?;
+    let replies = create_replies(rt, line.replies)?;
+    let stream = read_requests(alloc, requests, input)?;
+    match replies {
+        Some(mut file) => write_replies(rt, alloc, images, stream.as_slice(), &mut file),
+        None => write_replies(rt, alloc, images, stream.as_slice(), output),
+    }
+}
+
+// Answers a stream of requests, and writes the replies that stand: all of them, or those before the
+// place where the stream breaks off. Where memory runs out none are written.
+fn write_replies<R, A: Allocator + Copy, W: Write>(
+    rt: &R,
+    alloc: A,
+    images: Vec<Vec<u8, A>, A>,
+    stream: &[u8],
+    writer: &mut W,
+) -> Result<(), Fault>
+    ensures ok { OnOk result (WritesReplies (map (λ image. image.items) images.items) stream.now (W.contents writer.old) (W.contents writer.new)) }
+    ensures err { IfErr result (WritesFewer (map (λ image. image.items) images.items) stream.now (W.contents writer.old) (W.contents writer.new)) }
+{
+    let mut replies = Vec::new(alloc);
+    match first(rt, alloc, images, stream, &mut replies) {
+        Ok(_) => write_out(writer, replies.as_slice()),
+        Err(First::Memory) => Err(Fault::Memory),
+        Err(fault) => {
+            write_out(writer, replies.as_slice())?;
+            Err(Fault::from(fault))
+        }
+    }
+}
+
+// Checks the images, and writes a line for each if all are good.
+fn check<R: Files, A: Allocator + Copy, O: Write>(
+    rt: &R,
+    alloc: A,
+    line: &Line<'_>,
+    output: &mut O,
+) -> Result<(), Fault> {
+    let images = read_images(rt, alloc, line.images.as_slice())?;
+    let mut lines = String::new(alloc);
+    for (layer, bytes) in images.into_iter().enumerate() {
+        let full = checked_size(alloc, layer as u64, bytes)?;
+        writeln!(lines, "layer {layer}: {full} bytes")?;
+    }
+    write_out(output, lines.as_bytes())
+}
+
+// How many bytes of an image are accessible.
+fn checked_size<A: Allocator + Copy>(alloc: A, layer: u64, bytes: Vec<u8, A>) -> Result<u32, Fault>
+    ensures ok { IfOk result (λ full. (full ≡ length (image bytes.items)) × IsSound bytes.items) }
+    ensures err { IfErr result (λ fault. IsLayerFault layer bytes.items fault) }
+{
+    match Image::check(alloc, bytes) {
+        Ok(image) => Ok(image.full()),
+        Err(CheckFault::Broken(fault)) => Err(Fault::Layer { layer, fault }),
+        Err(CheckFault::Later) => Err(Fault::Later),
+        Err(CheckFault::Memory) => Err(Fault::Memory),
+    }
+}
+
+// All requests, of the file or else of the input.
+fn read_requests<F: Read + OpenFile + Drop, A: Allocator, I: Read>(
+    alloc: A,
+    requests: Option<F>,
+    input: &mut I,
+) -> Result<Vec<u8, A>, Fault>
+    ensures input { requests ≡ None → IfOk result (λ bytes. IfSome (I.remaining input.old) (λ known. bytes.items ≡ known)) }
+    ensures err { IfErr result (λ fault. (fault ≡ Fault.Read) ⊎ (fault ≡ Fault.Memory)) }
+{
+    let stream = match requests {
+        Some(mut file) => read_file(alloc, &mut file),
+        None => read_stream(alloc, input),
+    };
+    match stream {
+        Ok(bytes) => Ok(bytes),
+        Err(ReadFault::Failed) => Err(Fault::Read),
+        Err(ReadFault::Memory) => Err(Fault::Memory),
+    }
+}

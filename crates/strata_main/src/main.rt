@@ -1,0 +1,25 @@
+//! The program `strata`, over the process's own words and streams.
+#![tactic(auto)]
+
+use std::process::ExitCode;
+use strata::Fault;
+use strata::command::command;
+use strata::line::words;
+
+fn main(rt: HostRuntime) -> ExitCode {
+    let alloc = rt.alloc();
+    let mut faults = rt.stderr();
+    let status = match words(&rt) {
+        Ok(words) => command(
+            &rt,
+            alloc,
+            alloc,
+            words.as_slice(),
+            &mut rt.stdin(),
+            &mut rt.stdout(),
+            &mut faults,
+        ),
+        Err(fault) => Fault::from(fault).tell(&mut faults),
+    };
+    ExitCode::from(status)
+}
