@@ -1,10 +1,10 @@
 -- The worked examples, by computation.
 use Rattle.std.proofs.Common.{ℕ, inl, inr, refl, arith, lit<, lit≤, ap, get_or}
-use Rattle.romfs_image.specs.declared.rule.Rule.{Rule}
-use Rattle.romfs_image.specs.declared.rule.Rule.TheVariants.{Short, Magic}
-use Rattle.romfs_image.specs.Rules.{IsNamedBefore, Breaks, StartsWith, magic}
+use Rattle.romfs_format.specs.declared.rule.Rule.{Rule}
+use Rattle.romfs_format.specs.declared.rule.Rule.TheVariants.{Short, Magic}
+use Rattle.romfs_format.specs.Rules.{IsNamedBefore, Breaks, StartsWith, magic}
 use Rattle.std.proofs.lemmas.Bool.{false≢true, eq-eqb}
-use Rattle.romfs_image.specs.Fields.{word, root, image, name_field, ended}
+use Rattle.romfs_format.specs.Fields.{word, root, image, name_field, ended}
 use Rattle.fuse_wire.specs.Requests.{op_of}
 use Rattle.fuse_wire.specs.Structures.{u16, u32, u64, zeros, init_out, attr, entry_out, attr_out, open_out, statfs_out, dirent}
 use Rattle.fuse_wire.specs.Replies.{reply_with, error_reply}

@@ -2,10 +2,10 @@
 use Rattle.std.specs.Prelude.{◌≡◌, ℕ, zero, suc, ◌+◌, ◌-◌, ◌%◌, ◌^◌, List, [], ◌∷◌, ◌++◌, length, take, drop, replicate, true, codes, Some}
 use Rattle.std.specs.List.{flat_map}
 use Rattle.byteorder.specs.Endian.{big_bytes}
-use Rattle.romfs_image.specs.declared.head.Kind.TheVariants.{HardLink, Directory}
-use Rattle.romfs_image.specs.declared.rule.Rule.TheVariants.{Short, Magic, FullSize, NoRoot, Outside, NameBad, DataOutside, Twice, SameName, MajorLarge, Deep}
-use Rattle.romfs_image.specs.Rules.{IsNamedBefore, IsFault}
-use Rattle.romfs_image.specs.Fields.{pad, image, root, kind, exec, next, spec, size, name}
+use Rattle.romfs_format.specs.declared.head.Kind.TheVariants.{HardLink, Directory}
+use Rattle.romfs_format.specs.declared.rule.Rule.TheVariants.{Short, Magic, FullSize, NoRoot, Outside, NameBad, DataOutside, Twice, SameName, MajorLarge, Deep}
+use Rattle.romfs_format.specs.Rules.{IsNamedBefore, IsFault}
+use Rattle.romfs_format.specs.Fields.{pad, image, root, kind, exec, next, spec, size, name}
 use Rattle.fuse_wire.specs.Requests.{asked}
 use Rattle.fuse_wire.specs.Stream.{IsMessage, IsUnfinished, IsBad}
 use Rattle.fuse_wire.specs.Structures.{u32, u64, zeros}

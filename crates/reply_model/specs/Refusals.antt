@@ -1,8 +1,8 @@
 -- Which requests are refused, and with which error: the first refusal in this order that fits.
 use Rattle.std.specs.Prelude.{ℕ, ◌%◌, List, [], ◌∷◌, length, Bool, true, false, not, ◌||◌, ◌==◌, nat_lt, Option, Some, None, is_none, if◌then◌else◌}
 use Rattle.std.specs.Option.{option_map_or}
-use Rattle.romfs_image.specs.declared.head.Kind.{Kind}
-use Rattle.romfs_image.specs.declared.head.Kind.TheVariants.{Directory, Regular, SymLink}
+use Rattle.romfs_format.specs.declared.head.Kind.{Kind}
+use Rattle.romfs_format.specs.declared.head.Kind.TheVariants.{Directory, Regular, SymLink}
 use Rattle.fuse_wire.specs.declared.errno.Errno.{Errno}
 use Rattle.fuse_wire.specs.declared.errno.Errno.TheVariants.{ENOENT, EIO, ENOTDIR, EISDIR, EINVAL, EROFS, ENAMETOOLONG, ENOSYS, EPROTO, ESTALE}
 use Rattle.fuse_wire.specs.declared.opcode.TheConstants.{INIT}

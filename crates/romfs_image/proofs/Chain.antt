@@ -3,9 +3,9 @@ use Rattle.std.proofs.Common.{◌≡◌, ◌≢◌, ◌∙◌, sym, ap, subst, �
 use Rattle.std.specs.Prelude.{slice_get}
 use Rattle.std.proofs.lemmas.Bool.{cases_order}
 use Rattle.std.proofs.lemmas.Bool.Decides.{nat_tests}
-use Rattle.romfs_image.specs.Fields.{IsInside, next}
-use Rattle.romfs_image.specs.Chains.{IsFirst, IsAt}
-use Rattle.romfs_image.specs.Heads.{IsListed}
+use Rattle.romfs_format.specs.Fields.{IsInside, next}
+use Rattle.romfs_format.specs.Chains.{IsFirst, IsAt}
+use Rattle.romfs_image.specs.Readers.{IsListed}
 use Rattle.romfs_image.specs.Walks.{chain_from, EndsWithin, places}
 use Rattle.romfs_image.proofs.Pigeon.{no_room}
 

@@ -1,13 +1,14 @@
 -- What holds of the headers that a sound image gives.
 use Rattle.std.proofs.Common.{◌≡◌, ◌≢◌, ◌∙◌, sym, ap, subst, ℕ, ◌*◌, ◌/◌, ◌<◌, ◌⊎◌, inl, inr, List, Option, Some, None, arith, refl, IsSome}
 use Rattle.std.specs.Option.{option_map_or}
-use Rattle.romfs_image.specs.declared.head.Kind.TheVariants.{HardLink, Directory}
-use Rattle.romfs_image.specs.declared.head.Head.{Head}
-use Rattle.romfs_image.specs.Fields.{root, IsInside, kind, name, text_at, text_end}
-use Rattle.romfs_image.specs.Chains.{IsOpened, at_root, below, IsMember, IsSomeMember}
-use Rattle.romfs_image.specs.Links.{IsHardLink, destination, IsDestination, here, there, IsFinal, stays, follows, IsTarget, IsReached}
-use Rattle.romfs_image.specs.Flat.{IsImage}
-use Rattle.romfs_image.specs.Heads.{head_of, IsEnd, IsGiven}
+use Rattle.romfs_format.specs.declared.head.Kind.TheVariants.{HardLink, Directory}
+use Rattle.romfs_format.specs.declared.head.Head.{Head}
+use Rattle.romfs_format.specs.Fields.{root, IsInside, kind, name, text_at, text_end}
+use Rattle.romfs_format.specs.Chains.{IsOpened, at_root, below, IsMember, IsSomeMember}
+use Rattle.romfs_format.specs.Links.{IsHardLink, destination, IsDestination, here, there, IsFinal, stays, follows, IsTarget, IsReached}
+use Rattle.romfs_image.specs.Images.{IsImage}
+use Rattle.romfs_format.specs.Heads.{head_of}
+use Rattle.romfs_image.specs.Readers.{IsEnd, IsGiven}
 use Rattle.romfs_image.proofs.Chain.{aligned}
 use Rattle.romfs_image.proofs.Keeps.{root_directory, reached_inside, reached_named, member_reached, not_directory, not_loop}
 use Rattle.romfs_image.specs.Walks.{places}

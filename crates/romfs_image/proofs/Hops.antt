@@ -1,11 +1,11 @@
 -- A chain of hard links that ends, ends within as many steps as the image has places for headers.
 use Rattle.std.proofs.Common.{◌≡◌, ◌≢◌, ap, subst, ℕ, zero, suc, ◌+◌, ◌-◌, ◌*◌, ◌/◌, ◌<◌, ◌≤◌, ◌⊎◌, inl, inr, List, arith, refl}
 use Rattle.std.proofs.lemmas.Bool.{cases_order}
-use Rattle.romfs_image.specs.declared.head.Kind.{Kind}
-use Rattle.romfs_image.specs.declared.head.Kind.TheVariants.{HardLink, Directory, Regular, SymLink, Block, Character, Socket, Fifo}
-use Rattle.romfs_image.specs.declared.head.End.TheVariants.{Nowhere}
-use Rattle.romfs_image.specs.Fields.{kind}
-use Rattle.romfs_image.specs.Links.{IsHardLink, destination, IsFinal, stays, follows, EndsAs}
+use Rattle.romfs_format.specs.declared.head.Kind.{Kind}
+use Rattle.romfs_format.specs.declared.head.Kind.TheVariants.{HardLink, Directory, Regular, SymLink, Block, Character, Socket, Fifo}
+use Rattle.romfs_format.specs.declared.head.End.TheVariants.{Nowhere}
+use Rattle.romfs_format.specs.Fields.{kind}
+use Rattle.romfs_format.specs.Links.{IsHardLink, destination, IsFinal, stays, follows, EndsAs}
 use Rattle.romfs_image.specs.Walks.{places}
 use Rattle.romfs_image.proofs.Pigeon.{no_room}
 use Rattle.romfs_image.proofs.Keeps.{is_inside}

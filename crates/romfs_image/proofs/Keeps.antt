@@ -2,15 +2,15 @@
 use Rattle.std.proofs.Common.{◌≡◌, ◌≢◌, sym, ap, subst, ℕ, zero, suc, ◌+◌, ◌<◌, ◌≤◌, ◌⊎◌, inl, inr, List, length, Option, Some, None, arith, refl, IsSome, IsNone}
 use Rattle.std.proofs.lemmas.Bool.{cases_order}
 use Rattle.std.proofs.lemmas.List.{take_all}
-use Rattle.romfs_image.specs.declared.head.Kind.{Kind}
-use Rattle.romfs_image.specs.declared.head.Kind.TheVariants.{HardLink, Directory, Regular, SymLink, Block, Character, Socket, Fifo}
-use Rattle.romfs_image.specs.declared.rule.Rule.{Rule}
-use Rattle.romfs_image.specs.declared.rule.Rule.TheVariants.{NoRoot, Outside, NameOpen, DataOutside, Twice, LinkLoop, LinkDirectory}
-use Rattle.romfs_image.specs.Fields.{image, root, IsInside, kind, name}
-use Rattle.romfs_image.specs.Chains.{IsAt, IsOpened, IsSomeMember}
-use Rattle.romfs_image.specs.Links.{first_of, next_of, IsReached}
-use Rattle.romfs_image.specs.Rules.{BreaksHeader}
-use Rattle.romfs_image.specs.Flat.{IsImage}
+use Rattle.romfs_format.specs.declared.head.Kind.{Kind}
+use Rattle.romfs_format.specs.declared.head.Kind.TheVariants.{HardLink, Directory, Regular, SymLink, Block, Character, Socket, Fifo}
+use Rattle.romfs_format.specs.declared.rule.Rule.{Rule}
+use Rattle.romfs_format.specs.declared.rule.Rule.TheVariants.{NoRoot, Outside, NameOpen, DataOutside, Twice, LinkLoop, LinkDirectory}
+use Rattle.romfs_format.specs.Fields.{image, root, IsInside, kind, name}
+use Rattle.romfs_format.specs.Chains.{IsAt, IsOpened, IsSomeMember}
+use Rattle.romfs_format.specs.Links.{first_of, next_of, IsReached}
+use Rattle.romfs_format.specs.Rules.{BreaksHeader}
+use Rattle.romfs_image.specs.Images.{IsImage}
 use Rattle.romfs_image.proofs.Chain.{IsGood}
 
 whole : (a : List ℕ) → IsImage a → image a ≡ a

@@ -7,11 +7,12 @@ use Rattle.std.proofs.lemmas.Bool.{eqb-true}
 use Rattle.std.proofs.lemmas.Bool.Decides.{nat_tests}
 use Rattle.std.proofs.lemmas.List.Elements.{All-cons}
 use Rattle.std.proofs.lemmas.Slice.Eq.{bytes_eq-Decides}
-use Rattle.romfs_image.specs.declared.head.Head.{Head}
-use Rattle.romfs_image.specs.Fields.{root, IsInside, name}
-use Rattle.romfs_image.specs.Chains.{IsAt, IsPassedOver, IsOpened, IsMember}
-use Rattle.romfs_image.specs.Flat.{IsImage}
-use Rattle.romfs_image.specs.Heads.{head_of, passes_over, kept, IsListed, IsGiven, AreMembers}
+use Rattle.romfs_format.specs.declared.head.Head.{Head}
+use Rattle.romfs_format.specs.Fields.{root, IsInside, name}
+use Rattle.romfs_format.specs.Chains.{IsAt, IsPassedOver, IsOpened, IsMember}
+use Rattle.romfs_image.specs.Images.{IsImage}
+use Rattle.romfs_format.specs.Heads.{head_of}
+use Rattle.romfs_image.specs.Readers.{passes_over, kept, IsListed, IsGiven, AreMembers}
 use Rattle.romfs_image.proofs.Keeps.{good}
 
 keeps : List ℕ → ℕ → ℕ → Bool

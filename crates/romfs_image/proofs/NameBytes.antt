@@ -5,7 +5,7 @@ use Rattle.std.proofs.Common.{append_assoc}
 use Rattle.std.proofs.Math.Seq.{take-append_seam}
 use Rattle.std.proofs.lemmas.List.{take-append-drop}
 use Rattle.std.proofs.lemmas.Bool.Decides.{nat_tests}
-use Rattle.romfs_image.specs.Fields.{text_at, text_end, if_within, ended, name_field}
+use Rattle.romfs_format.specs.Fields.{text_at, text_end, if_within, ended, name_field}
 
 -- the text before the first zero byte is a front part
 front : (xs t : List ℕ) → ended xs ≡ Some t → (rest : List ℕ) × (xs ≡ t ++ rest)

@@ -2,14 +2,15 @@
 use Rattle.std.proofs.Common.{◌≡◌, ◌≢◌, ◌∙◌, sym, ap, subst, ℕ, zero, suc, ◌+◌, ◌*◌, ◌/◌, ◌<◌, ◌≤◌, ◌⊎◌, inl, inr, List, [], length, take, drop, Option, Some, None, arith, refl, IsSome, IsNone, IsSomeAnd, MatchOption, All}
 use Rattle.std.specs.Prelude.{unwrap_or}
 use Rattle.std.proofs.lemmas.Bool.{cases_order}
-use Rattle.romfs_image.specs.declared.head.Kind.{Kind}
-use Rattle.romfs_image.specs.declared.head.Kind.TheVariants.{HardLink, Directory, Regular, SymLink, Block, Character, Socket, Fifo}
-use Rattle.romfs_image.specs.declared.head.Head.{Head}
-use Rattle.romfs_image.specs.Fields.{root, kind, name, size, data_at, cleared, spec}
-use Rattle.romfs_image.specs.Chains.{IsOpened}
-use Rattle.romfs_image.specs.Rules.{HasData}
-use Rattle.romfs_image.specs.Flat.{IsImage}
-use Rattle.romfs_image.specs.Heads.{name_of, head_of, bytes_at, data_of, data_of_kind, IsPlace, IsHeadIn, IsGiven, AreMembers}
+use Rattle.romfs_format.specs.declared.head.Kind.{Kind}
+use Rattle.romfs_format.specs.declared.head.Kind.TheVariants.{HardLink, Directory, Regular, SymLink, Block, Character, Socket, Fifo}
+use Rattle.romfs_format.specs.declared.head.Head.{Head}
+use Rattle.romfs_format.specs.Fields.{root, kind, name, size, data_at, cleared, spec}
+use Rattle.romfs_format.specs.Chains.{IsOpened}
+use Rattle.romfs_format.specs.Rules.{HasData}
+use Rattle.romfs_image.specs.Images.{IsImage}
+use Rattle.romfs_format.specs.Heads.{name_of, head_of, IsHeadIn}
+use Rattle.romfs_image.specs.Readers.{bytes_at, data_of, data_of_kind, IsPlace, IsGiven, AreMembers}
 use Rattle.romfs_image.specs.Walks.{places, chain_from, members_from, IsWalk, EndsWithin}
 use Rattle.romfs_image.proofs.Keeps.{root_directory, not_data_outside, good}
 use Rattle.romfs_image.proofs.Given.{From, from_inside, from_named, from_aligned, from_opened, used}

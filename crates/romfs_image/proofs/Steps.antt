@@ -1,8 +1,9 @@
 -- A step along a chain.
 use Rattle.std.proofs.Common.{◌≡◌, ◌≢◌, sym, ap, subst, ℕ, zero, suc, ◌<◌, inl, inr, List, [], ◌∷◌, length, true, false, arith, refl}
-use Rattle.romfs_image.specs.declared.head.Head.{Head}
-use Rattle.romfs_image.specs.Fields.{IsInside, next}
-use Rattle.romfs_image.specs.Heads.{head_of, passes_over, kept}
+use Rattle.romfs_format.specs.declared.head.Head.{Head}
+use Rattle.romfs_format.specs.Fields.{IsInside, next}
+use Rattle.romfs_format.specs.Heads.{head_of}
+use Rattle.romfs_image.specs.Readers.{passes_over, kept}
 use Rattle.romfs_image.specs.Walks.{chain_from, EndsWithin, places, members_from, IsWalk}
 use Rattle.romfs_image.proofs.Chain.{other}
 

@@ -1,9 +1,5 @@
-pub mod Fields
-pub mod Chains
-pub mod Links
-pub mod Rules
-pub mod Heads
+pub mod Readers
 pub mod Walks
+pub mod Images
 pub mod Refusals
 pub mod Texts
-pub mod Flat

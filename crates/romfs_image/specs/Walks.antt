@@ -1,8 +1,8 @@
 -- Walks along chains and hard links, counted by steps: no list of headers is longer than there are places for headers.
 use Rattle.std.specs.Prelude.{◌≡◌, ◌≢◌, ℕ, zero, suc, ◌/◌, ◌^◌, ◌<◌, ◌==◌, ◌⊎◌, List, [], ◌∷◌, length, if◌then◌else◌}
-use Rattle.romfs_image.specs.declared.head.Head.{Head}
-use Rattle.romfs_image.specs.Fields.{root, IsInside, next}
-use Rattle.romfs_image.specs.Heads.{kept}
+use Rattle.romfs_format.specs.declared.head.Head.{Head}
+use Rattle.romfs_format.specs.Fields.{root, IsInside, next}
+use Rattle.romfs_image.specs.Readers.{kept}
 
 -- the chain from h on, up to n headers
 abbrev pub chain_from : List ℕ → ℕ → ℕ → List ℕ

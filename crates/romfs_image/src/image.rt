@@ -1,20 +1,20 @@
 //! Checked images, and what is read from them.
 
-ghost use Rattle.std.specs.Prelude.{◌≡◌, ◌≢◌, ◌⊎◌, [], length, Some, MatchOption, IsNone, IfOk, IfErr, All};
-ghost use Rattle.romfs_image.specs.Fields.{image, root, name};
-ghost use Rattle.romfs_image.specs.Links.{IsFinal};
-ghost use Rattle.romfs_image.specs.Rules.{IsSound};
-ghost use Rattle.romfs_image.specs.Flat.{IsImage, IsFlat};
-ghost use Rattle.romfs_image.specs.Heads.{name_of, head_of, data_of, IsPlace, IsGiven, AreMembers};
+ghost use Rattle.std.specs.Prelude.{◌≡◌, ◌≢◌, ◌⊎◌, [], ◌+◌, ◌<◌, ◌≤◌, ◌^◌, length, Some, MatchOption, IsNone, IfOk, IfErr, All};
+ghost use Rattle.romfs_format.specs.Fields.{image, root, name, word};
+ghost use Rattle.romfs_format.specs.Links.{IsFinal};
+ghost use Rattle.romfs_format.specs.Rules.{IsSound};
+ghost use Rattle.romfs_image.specs.Images.{IsImage};
+ghost use Rattle.romfs_format.specs.Heads.{name_of, head_of};
+ghost use Rattle.romfs_image.specs.Readers.{data_of, IsPlace, IsGiven, AreMembers};
 ghost use Rattle.romfs_image.specs.Refusals.{IsRefusal};
 
-use crate::flat::is_flat;
-use crate::head::{Head, Kind};
 use crate::members::Members;
 use crate::parts::{data_in, end_of, members_of, name_in, place_at};
-use crate::read::head_at;
-use crate::rule::CheckFault;
-use crate::volume::{accessible, root_of, volume_fault};
+use crate::refusal::CheckFault;
+use romfs_format::read::{head_at, root_of, word};
+use romfs_format::{Head, Kind};
+use romfs_rules::first_fault;
 use std::alloc::Allocator;
 use std::marker::Model;
 
@@ -31,8 +31,8 @@ pub struct Image<A: Allocator> {
 
 impl<A: Allocator> Model for Image<A> {
     ghost use Rattle.std.specs.Prelude.{List, ℕ, ◌≡◌};
-    ghost use Rattle.romfs_image.specs.Fields.{root};
-    ghost use Rattle.romfs_image.specs.Flat.{IsImage};
+    ghost use Rattle.romfs_format.specs.Fields.{root};
+    ghost use Rattle.romfs_image.specs.Images.{IsImage};
 
     ghost Value = { List ℕ };
 
@@ -41,30 +41,50 @@ impl<A: Allocator> Model for Image<A> {
     ghost invariant = { λ held. IsImage held.bytes.items × (held.top ≡ root held.bytes.items) };
 }
 
+/// The accessible bytes alone.
+#[tactic(auto, unfolding(romfs_format::specs::Fields::image))]
+fn accessible<A: Allocator>(mut bytes: Vec<u8, A>) -> Vec<u8, A>
+    requires long { 16 ≤ length bytes.items }
+    requires within { word bytes.items 8 ≤ length bytes.items }
+    ensures value { result.items ≡ image bytes.items }
+    ensures length { length result.items ≡ word bytes.items 8 }
+    ensures small { length result.items < 2 ^ 32 }
+{
+    let full = word(&bytes, 8) as usize;
+    bytes.truncate(full);
+    bytes
+}
+
 impl<A: Allocator + Copy> Image<A> {
     /// Checks that bytes are an image, and keeps the accessible ones: as many as the full size says
     /// (romfs.rst, the volume header). Bytes after them are not looked at.
     ///
-    /// `Broken` names the first rule of the volume header that is broken, and where. Bytes that keep
-    /// these rules and are no flat image are `Later`. `Memory` comes only where memory was refused.
+    /// `Broken` names the image's fault: the first broken rule of the volume header; else, of all broken
+    /// rules of file headers, that at the least place, and there the first; else a path that is too deep.
+    /// `Memory` comes only where memory was refused.
     ///
-    /// It reads each header a few times, and compares names by sorting them. Beside the image it takes
-    /// at most 64 bytes for each of the root's members.
+    /// It takes n log n steps in headers, whatever the image: chains may merge, loop and lead anywhere.
+    /// Beside the image it takes at most 8 bytes for each 16 of its bytes and 64 for each header in a
+    /// chain, and keeps none of it.
     pub fn check(alloc: A, bytes: Vec<u8, A>) -> Result<Image<A>, CheckFault>
-        ensures ok { IfOk result (λ checked. (checked ≡ image bytes.items) × IsSound bytes.items × IsFlat (image bytes.items)) }
+        ensures ok { IfOk result (λ checked. (checked ≡ image bytes.items) × IsSound bytes.items) }
         ensures err { IfErr result (λ fault. IsRefusal bytes.items fault) }
     {
-        if let Some(fault) = volume_fault(&bytes) {
-            return Err(CheckFault::Broken(fault));
-        }
-        let bytes = accessible(bytes);
-        let top = root_of(&bytes);
-        if is_flat(alloc, &bytes, top)? {
-            Ok(Image { bytes, top })
-        } else {
-            Err(CheckFault::Later)
+        match first_fault(alloc, &bytes)? {
+            Some(fault) => Err(CheckFault::Broken(fault)),
+            None => Ok(kept(bytes)),
         }
     }
+}
+
+/// The image of bytes that break no rule.
+fn kept<A: Allocator>(bytes: Vec<u8, A>) -> Image<A>
+    requires { IsSound bytes.items }
+    ensures { result ≡ image bytes.items }
+{
+    let bytes = accessible(bytes);
+    let top = root_of(&bytes);
+    Image { bytes, top }
 }
 
 impl<A: Allocator> Image<A> {

@@ -1,7 +1,7 @@
 //! romfs images: whether bytes are one, and what is read from it.
 //!
 //! - [`Image::check`] keeps the accessible bytes of an image that breaks no rule, and else names the rule that is
-//!   broken first, and where. It knows flat images, whose root holds regular files alone; others are `Later`.
+//!   broken first, and where. It answers for every list of bytes.
 //! - [`Image`] gives headers, and for these the members of a directory, where hard links end, names and data. No
 //!   reader takes memory, and names and data are borrowed from the image.
 //! - [`sample`] makes images for tests and examples.
@@ -15,32 +15,24 @@
 //! }
 //! ```
 //!
-//! What the calls promise is said by definitions that restate the romfs document (Documentation/filesystems/romfs.rst
-//! in Linux), in `specs/`: the fields of headers (`Fields`), which headers stand in which directory (`Chains`), what
-//! they lead to (`Links`), the rules of an image and the one fault of an image that breaks some (`Rules`, and in
-//! words `Texts`), flat images (`Flat`), why an image is refused (`Refusals`), and what the readers give (`Heads`,
-//! and step by step `Walks`). The readers are proved for every image that keeps all rules. [`laws`] says that an
-//! image has at most one fault.
+//! What the calls promise is said by the definitions of `romfs_format`, and in `specs/`: what the readers give
+//! (`Readers`, and step by step `Walks`), what a checked image is known to be (`Images`), and why bytes are refused
+//! (`Refusals`, in words `Texts`). The readers are proved for every image that keeps all rules.
 //!
-//! The crate stands on `byteorder` for words and `memchr` for the ends of names; `refusing` is for its tests alone.
+//! The crate stands on `romfs_format` for the format and `romfs_rules` for the check; `refusing` is for its tests
+//! alone.
 #![tactic(auto)]
 
-mod flat;
-pub mod head;
 mod image;
-pub mod laws;
 pub mod members;
-mod names;
 mod parts;
-mod read;
-pub mod rule;
+pub mod refusal;
 pub mod sample;
-mod volume;
 
-pub use head::{Head, Kind};
 pub use image::Image;
 pub use members::Members;
-pub use rule::{CheckFault, ImageFault, Rule};
+pub use refusal::CheckFault;
+pub use romfs_format::{Head, ImageFault, Kind, Rule};
 
 #[cfg(test)]
 mod tests;

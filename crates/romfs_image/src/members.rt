@@ -2,12 +2,13 @@
 
 ghost use Rattle.std.specs.Prelude.{◌≡◌, ◌<◌, ◌∷◌, ◌^◌, [], length, MatchOption};
 ghost use Rattle.std.specs.Iterator.{YieldsFirst, item_count};
-ghost use Rattle.romfs_image.specs.Fields.{root, IsInside};
-ghost use Rattle.romfs_image.specs.Heads.{passes_over, head_of};
+ghost use Rattle.romfs_format.specs.Fields.{root, IsInside};
+ghost use Rattle.romfs_format.specs.Heads.{head_of};
+ghost use Rattle.romfs_image.specs.Readers.{passes_over};
 ghost use Rattle.romfs_image.specs.Walks.{IsWalk, members_from};
 
-use crate::head::Head;
-use crate::read::{head_at, text_at};
+use romfs_format::head::Head;
+use romfs_format::read::{head_at, text_at};
 use std::marker::Model;
 
 /// The members of a directory, in the order of its chain. A clause sees the list of those that are
@@ -24,7 +25,7 @@ pub struct Members<'a> {
 
 impl<'a> Model for Members<'a> {
     ghost use Rattle.std.specs.Prelude.{List};
-    ghost use Rattle.romfs_image.specs.declared.head.Head.{Head};
+    ghost use Rattle.romfs_format.specs.declared.head.Head.{Head};
 
     ghost Value = { List Head };
 

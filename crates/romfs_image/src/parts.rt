@@ -1,14 +1,15 @@
 //! What the readers of an image read, from its bytes.
 
 ghost use Rattle.std.specs.Prelude.{◌≡◌, ◌≢◌, [], ◌+◌, ◌*◌, ◌/◌, ◌≤◌, length, MatchOption, IsTrue, IsFalse, All};
-ghost use Rattle.romfs_image.specs.Fields.{root};
-ghost use Rattle.romfs_image.specs.Links.{IsFinal};
-ghost use Rattle.romfs_image.specs.Flat.{IsImage};
-ghost use Rattle.romfs_image.specs.Heads.{name_of, head_of, data_of, IsPlace, IsHeadIn, IsGiven, AreMembers, bytes_at};
+ghost use Rattle.romfs_format.specs.Fields.{root};
+ghost use Rattle.romfs_format.specs.Links.{IsFinal};
+ghost use Rattle.romfs_image.specs.Images.{IsImage};
+ghost use Rattle.romfs_format.specs.Heads.{name_of, head_of, IsHeadIn};
+ghost use Rattle.romfs_image.specs.Readers.{data_of, IsPlace, IsGiven, AreMembers, bytes_at};
 
-use crate::head::{Head, Kind};
 use crate::members::Members;
-use crate::read::{head_at, text_at};
+use romfs_format::head::{Head, Kind};
+use romfs_format::read::{head_at, text_at};
 
 /// The header at an offset, if a header with an ended name can stand there.
 pub(crate) fn place_at(image: &[u8], top: u32, offset: u32) -> Option<Head>
@@ -69,7 +70,7 @@ pub(crate) fn end_of(image: &[u8], head: &Head) -> Head
 }
 
 /// Some bytes of an image.
-#[tactic(auto, unfolding(crate::specs::Heads::bytes_at))]
+#[tactic(auto, unfolding(crate::specs::Readers::bytes_at))]
 fn bytes_at(image: &[u8], from: u32, len: u32) -> &[u8]
     requires { from + len ≤ length image.now }
     ensures { result.now ≡ bytes_at image.now from len }

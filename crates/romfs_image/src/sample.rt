@@ -2,11 +2,14 @@
 //!
 //! Nothing is promised of what these functions write: tests show it.
 
-ghost use Rattle.std.specs.Prelude.{◌≡◌, ◌+◌, ◌<◌, ◌≤◌, ◌^◌, length, IfSome, IfOk};
+ghost use Rattle.std.specs.Prelude.{◌≡◌, ◌+◌, ◌≤◌, length, IfSome, IfOk};
 ghost use Rattle.romfs_image.specs.declared.sample.BuildFault.TheVariants.{Memory};
 
-use crate::read::{word, word_sum};
+mod layout;
+
 use byteorder::{BigEndian, ByteOrder};
+use layout::{Layout, Spot, data_of, is_directory, is_listing};
+use romfs_format::read::{word, word_sum};
 use std::alloc::{AllocError, AllocFailed, Allocator};
 use std::error::Error;
 use std::fmt;
@@ -43,8 +46,8 @@ pub enum What<A: Allocator> {
 /// Why an image cannot be built.
 #[derive(Clone, Copy, Debug, PartialEq, Eq)]
 pub enum BuildFault {
-    /// An item is no regular file at depth 1, or a name or the volume name holds a zero byte. Other
-    /// items cannot be built yet.
+    /// A depth is 0, or exceeds the one before it by more than one; or an item lies below no directory;
+    /// or a name or the volume name holds a zero byte; or a hard link leads to no item.
     Listing,
     /// The image would have more than 2^32 - 1 bytes.
     Size,
@@ -85,11 +88,12 @@ impl<T: Drop> From<AllocFailed<T>> for BuildFault {
     }
 }
 
-/// Lays out an image: the volume header, the root's `.` and `..`, then the items in order, each
-/// with its data. Header sums and the volume sum are set, and the full size is the length.
+/// Lays out an image: the volume header, the root's `.` and `..`, then the items in order. A directory
+/// is followed by its own `.` and `..`, hard links to it and to the directory above, and a file by its
+/// data. Header sums and the volume sum are set, and the full size is the length.
 ///
-/// `Listing` is looked at first, then `Size`. Faults that break other rules of an image can be
-/// built.
+/// `Listing` is looked at first, then `Size`. Faults that break other rules of an image can be built,
+/// such as a bad name, a loop of hard links or a path that is too deep.
 pub fn build<A: Allocator + Copy>(
     alloc: A,
     volume: &[u8],
@@ -101,9 +105,9 @@ pub fn build<A: Allocator + Copy>(
     let layout = Layout::of(alloc, volume, items)?;
     let mut image = Vec::with_capacity(alloc, layout.full as usize)?;
     put_volume(&mut image, layout.full, volume)?;
-    put_root(&mut image, &layout)?;
-    for (index, item) in items.iter().enumerate() {
-        put_item(&mut image, layout.place(index + 1), item)?;
+    put_root(&mut image, &layout.root)?;
+    for (item, spot) in items.iter().zip(&layout.spots) {
+        put_item(&mut image, &layout, spot, item)?;
     }
     seal(&mut image);
     Ok(image)
@@ -132,85 +136,6 @@ fn full_size(bytes: &[u8]) -> Option<usize>
     (16 <= full && full <= bytes.len()).then_some(full)
 }
 
-/// Whether the items can be laid out.
-fn is_listing<A: Allocator>(volume: &[u8], items: &[Item<A>]) -> bool {
-    !volume.contains(&0) && items.iter().all(|item| is_listed(item))
-}
-
-fn is_listed<A: Allocator>(item: &Item<A>) -> bool {
-    let is_file = match &item.what {
-        What::Regular(_) => true,
-        _ => false,
-    };
-    is_file && item.depth == 1 && !item.name.contains(&0)
-}
-
-/// Where the headers stand.
-#[derive(Drop)]
-struct Layout<A: Allocator> {
-    /// The root's own header, `.`.
-    root: u32,
-    /// The root's `..`.
-    above: u32,
-    /// The header of each item.
-    places: Vec<u32, A>,
-    full: u32,
-}
-
-impl<A: Allocator> Layout<A> {
-    fn of(alloc: A, volume: &[u8], items: &[Item<A>]) -> Result<Layout<A>, BuildFault> {
-        let root = after(0, volume, &[])?;
-        let above = after(root, b".", &[])?;
-        let mut at = after(above, b"..", &[])?;
-        let mut places = Vec::new(alloc);
-        for item in items {
-            places.push(at)?;
-            at = after(at, &item.name, data_of(item))?;
-        }
-        Ok(Layout {
-            root,
-            above,
-            places,
-            full: at,
-        })
-    }
-
-    /// The header of an item, or 0 where there is none.
-    fn place(&self, index: usize) -> u32 {
-        self.places.get(index).copied().unwrap_or(0)
-    }
-}
-
-/// The data that follows an item's header.
-fn data_of<A: Allocator>(item: &Item<A>) -> &[u8] {
-    match &item.what {
-        What::Regular(bytes) | What::SymLink(bytes) => bytes,
-        _ => &[],
-    }
-}
-
-/// Where the next header stands after the one at `at` with this name and data. A volume header is as
-/// long as a header with its name.
-fn after(at: u32, name: &[u8], data: &[u8]) -> Result<u32, BuildFault> {
-    let most = u32::MAX as usize;
-    if name.len() > most || data.len() > most {
-        return Err(BuildFault::Size);
-    }
-    let end = u64::from(at) + 16 + padded(name.len() as u64 + 1) + padded(data.len() as u64);
-    if end > u64::from(u32::MAX) {
-        return Err(BuildFault::Size);
-    }
-    Ok(end as u32)
-}
-
-/// A length rounded up to a multiple of 16.
-fn padded(len: u64) -> u64
-    requires { len ≤ 2 ^ 32 }
-    ensures { result ≤ len + 15 }
-{
-    (len + 15) / 16 * 16
-}
-
 fn put_volume<A: Allocator>(
     image: &mut Vec<u8, A>,
     full: u32,
@@ -222,25 +147,49 @@ fn put_volume<A: Allocator>(
     put_name(image, name)
 }
 
-/// The root's `.`, and its `..`, which is a hard link to it.
-fn put_root<A: Allocator>(image: &mut Vec<u8, A>, layout: &Layout<A>) -> Result<(), AllocError> {
-    put_head(image, [layout.above | 9, layout.root, 0], b".")?;
-    put_head(image, [layout.place(0), layout.root, 0], b"..")
+/// The root's `.`, an executable directory, and its `..`, which is a hard link to it.
+fn put_root<A: Allocator>(image: &mut Vec<u8, A>, root: &Spot) -> Result<(), AllocError> {
+    put_head(image, [root.dot_dot | 9, root.at, 0], b".")?;
+    put_head(image, [root.first, root.above, 0], b"..")
 }
 
-/// An item with its data, where the header `next` comes after it in its directory.
+/// An item with its data; a directory with its `.` and `..`.
 fn put_item<A: Allocator>(
     image: &mut Vec<u8, A>,
-    next: u32,
+    layout: &Layout<A>,
+    spot: &Spot,
     item: &Item<A>,
 ) -> Result<(), BuildFault> {
     let data = data_of(item);
-    let mode = 2 | if item.exec { 8 } else { 0 };
+    let exec = if item.exec { 8 } else { 0 };
+    let (kind, info) = kind_and_info(layout, spot, &item.what);
     let size = u32::try_from(data.len()).map_err(|_| BuildFault::Size)?;
-    put_head(image, [next | mode, 0, size], &item.name)?;
+    put_head(image, [spot.next | exec | kind, info, size], &item.name)?;
+    if is_directory(item) {
+        put_head(image, [spot.dot_dot, spot.at, 0], b".")?;
+        put_head(image, [spot.first, spot.above, 0], b"..")?;
+    }
     image.extend_from_slice(data)?;
     put_zeros(image)?;
     Ok(())
+}
+
+/// The kind of a header as a number, and its spec.info.
+fn kind_and_info<A: Allocator>(layout: &Layout<A>, spot: &Spot, what: &What<A>) -> (u32, u32) {
+    match what {
+        What::Hard(index) => (0, layout.place_of(*index)),
+        What::Directory => (1, spot.dot),
+        What::Regular(_) => (2, 0),
+        What::SymLink(_) => (3, 0),
+        What::Block(major, minor) => (4, device(*major, *minor)),
+        What::Character(major, minor) => (5, device(*major, *minor)),
+        What::Socket => (6, 0),
+        What::Fifo => (7, 0),
+    }
+}
+
+fn device(major: u16, minor: u16) -> u32 {
+    u32::from(major) << 16 | u32::from(minor)
 }
 
 /// A header with its name and its sum; `words` are its first three.

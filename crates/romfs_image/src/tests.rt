@@ -1,10 +1,16 @@
 //! Images and faults from outside, and each request for memory refused once.
 
+mod built;
+mod faults;
+
+ghost use Rattle.romfs_image.specs.Readers.{IsGiven};
+
 use crate::sample::{BuildFault, Item, What, build, seal};
-use crate::{CheckFault, Image, ImageFault, Rule};
+use crate::{CheckFault, Head, Image, ImageFault, Rule};
 use byteorder::{BigEndian, ByteOrder};
 use refusing::Refusing;
 use std::alloc::{AllocError, Allocator, Global};
+use std::process::Abort;
 use std::test::Fail;
 
 /// The empty image with the volume name `v`.
@@ -27,6 +33,16 @@ const THREE_FILES: [u32; 64] = [
     0x23212f62, 0x696e2f73, 0x680a6578, 0x65632073, 0x680a0000, 0x00000000, 0x00000000, 0x00000000,
 ];
 
+/// Words that make the chains of the sample `big`, root, `..`, `d`, `l`, `null` and `x`, `.`, `..`.
+const DOTS_LATE: [(usize, u32); 6] = [
+    (0x24, 0x60),
+    (0x60, 0x22),
+    (0x40, 0x1410),
+    (0x1414, 0x1470),
+    (0x1470, 0x1432),
+    (0x1450, 0),
+];
+
 fn bytes_of<A: Allocator>(alloc: A, words: &[u32]) -> Result<Vec<u8, A>, AllocError> {
     let mut bytes = Vec::new(alloc);
     for word in words {
@@ -39,26 +55,78 @@ fn empty(alloc: Global) -> Result<Vec<u8>, AllocError> {
     bytes_of(alloc, &EMPTY)
 }
 
-fn set_word(bytes: &mut [u8], at: usize, word: u32) {
-    if at <= bytes.len() && 4 <= bytes.len() - at {
-        BigEndian::write_u32(&mut bytes[at..], word);
-    }
+fn set_word(rt: &impl Abort, bytes: &mut [u8], at: usize, word: u32) {
+    assert!(rt; at <= bytes.len());
+    assert!(rt; 4 <= bytes.len() - at);
+    BigEndian::write_u32(&mut bytes[at..], word);
 }
 
-fn file<A: Allocator + Copy>(alloc: A, name: &[u8]) -> Result<Item<A>, AllocError> {
+fn item<A: Allocator + Copy>(
+    alloc: A,
+    depth: u16,
+    name: &[u8],
+    what: What<A>,
+) -> Result<Item<A>, AllocError> {
     Ok(Item {
-        depth: 1,
+        depth,
         name: name.to_vec(alloc)?,
         exec: false,
-        what: What::Regular(Vec::new(alloc)),
+        what,
     })
+}
+
+/// An image with `big` of 5,000 bytes, an executable directory `d` with a file `x`, a link `l` to
+/// `d/x`, and the device `null`.
+fn sample<A: Allocator + Copy>(alloc: A) -> Result<Vec<u8, A>, BuildFault> {
+    let mut big = Vec::new(alloc);
+    for number in 0..5000u32 {
+        big.push((number % 251) as u8)?;
+    }
+    let text = What::Regular(b"hi".to_vec(alloc)?);
+    let link = What::SymLink(b"d/x".to_vec(alloc)?);
+    let mut directory = item(alloc, 1, b"d", What::Directory)?;
+    directory.exec = true;
+    let mut items = Vec::new(alloc);
+    items.push(item(alloc, 1, b"big", What::Regular(big))?)?;
+    items.push(directory)?;
+    items.push(item(alloc, 2, b"x", text)?)?;
+    items.push(item(alloc, 1, b"l", link)?)?;
+    items.push(item(alloc, 1, b"null", What::Character(1, 3))?)?;
+    build(alloc, b"v", &items)
+}
+
+/// An image with hard links `a`, to the later `d/e`, and `d/h`, to `a`; an executable device `b`; and
+/// a directory in a directory, `d/f`, that holds `g`.
+fn mixed(alloc: Global) -> Result<Vec<u8>, BuildFault> {
+    let mut device = item(alloc, 1, b"b", What::Block(2, 3))?;
+    device.exec = true;
+    let items = vec![in alloc;
+        item(alloc, 1, b"a", What::Hard(3))?,
+        device,
+        item(alloc, 1, b"d", What::Directory)?,
+        item(alloc, 2, b"e", What::Fifo)?,
+        item(alloc, 2, b"f", What::Directory)?,
+        item(alloc, 3, b"g", What::Socket)?,
+        item(alloc, 2, b"h", What::Hard(0))?,
+    ]?;
+    build(alloc, b"v", &items)
+}
+
+/// Directories named `d`, each in the one before.
+fn deep(alloc: Global, count: u16) -> Result<Vec<u8>, BuildFault> {
+    let mut items = Vec::new(alloc);
+    for above in 0..count {
+        items.push(item(alloc, above + 1, b"d", What::Directory)?)?;
+    }
+    build(alloc, b"v", &items)
 }
 
 /// Empty files named by their numbers.
 fn numbered<A: Allocator + Copy>(alloc: A, count: u32) -> Result<Vec<Item<A>, A>, AllocError> {
     let mut items = Vec::new(alloc);
     for number in 0..count {
-        items.push(file(alloc, &name_of(number))?)?;
+        let what = What::Regular(Vec::new(alloc));
+        items.push(item(alloc, 1, &name_of(number), what)?)?;
     }
     Ok(items)
 }
@@ -82,7 +150,7 @@ fn names<A: Allocator>(alloc: Global, image: &Image<A>) -> Result<Vec<&[u8]>, Al
     Ok(names)
 }
 
-/// The data of the root's members.
+/// The data of the root's members, each at the end of its hard links.
 fn bodies<A: Allocator>(alloc: Global, image: &Image<A>) -> Result<Vec<&[u8]>, AllocError> {
     let mut bodies = Vec::new(alloc);
     let root = image.root();
@@ -93,6 +161,15 @@ fn bodies<A: Allocator>(alloc: Global, image: &Image<A>) -> Result<Vec<&[u8]>, A
     Ok(bodies)
 }
 
+/// The fault of some bytes; none where they are an image.
+fn check(alloc: Global, bytes: Vec<u8>) -> Result<Option<(Rule, u32)>, AllocError> {
+    match Image::check(alloc, bytes) {
+        Ok(_) => Ok(None),
+        Err(CheckFault::Broken(ImageFault { rule, place })) => Ok(Some((rule, place))),
+        Err(CheckFault::Memory) => Err(AllocError),
+    }
+}
+
 #[test]
 fn builds_the_empty_image(rt: HostRuntime) -> Result<(), Fail> {
     let mut bytes = build(rt.alloc(), b"v", &[])?;
@@ -101,50 +178,6 @@ fn builds_the_empty_image(rt: HostRuntime) -> Result<(), Fail> {
     let image = Image::check(rt.alloc(), bytes)?;
     assert_eq!(rt; image.full(), 96);
     assert!(rt; names(rt.alloc(), &image)?.is_empty());
-    Ok(())
-}
-
-fn fault_of(alloc: Global, bytes: Vec<u8>) -> Option<(Rule, u32)> {
-    match Image::check(alloc, bytes) {
-        Err(CheckFault::Broken(ImageFault { rule, place })) => Some((rule, place)),
-        _ => None,
-    }
-}
-
-#[test]
-fn names_the_first_broken_rule(rt: HostRuntime) -> Result<(), Fail> {
-    let alloc = rt.alloc();
-    assert_eq!(rt; fault_of(alloc, Vec::new(alloc)), Some((Rule::Short, 0)));
-    let mut bytes = empty(alloc)?;
-    bytes.truncate(15);
-    assert_eq!(rt; fault_of(alloc, bytes), Some((Rule::Short, 0)));
-    let mut bytes = empty(alloc)?;
-    set_word(&mut bytes, 0, 0x2e726f6d);
-    assert_eq!(rt; fault_of(alloc, bytes), Some((Rule::Magic, 0)));
-    let mut bytes = empty(alloc)?;
-    bytes.truncate(95);
-    assert_eq!(rt; fault_of(alloc, bytes), Some((Rule::FullSize, 8)));
-    let mut bytes = empty(alloc)?;
-    set_word(&mut bytes, 8, 15);
-    assert_eq!(rt; fault_of(alloc, bytes), Some((Rule::FullSize, 8)));
-    let mut bytes = empty(alloc)?;
-    set_word(&mut bytes, 12, 0x2b271d07);
-    assert_eq!(rt; fault_of(alloc, bytes), Some((Rule::Sum, 12)));
-    Ok(())
-}
-
-#[test]
-fn names_a_broken_name_or_root(rt: HostRuntime) -> Result<(), Fail> {
-    let alloc = rt.alloc();
-    let mut bytes = empty(alloc)?;
-    bytes.truncate(16);
-    bytes.resize(96, b'A')?;
-    seal(&mut bytes);
-    assert_eq!(rt; fault_of(alloc, bytes), Some((Rule::VolumeName, 16)));
-    let mut bytes = empty(alloc)?;
-    set_word(&mut bytes, 32, 0x4a);
-    seal(&mut bytes);
-    assert_eq!(rt; fault_of(alloc, bytes), Some((Rule::NoRoot, 32)));
     Ok(())
 }
 
@@ -183,26 +216,110 @@ fn reads_three_files(rt: HostRuntime) -> Result<(), Fail> {
     Ok(())
 }
 
-/// Builds an image of ten files and checks it.
+/// The members of a directory, each with where its hard links end.
+fn list<A: Allocator>(
+    alloc: Global,
+    image: &Image<A>,
+    directory: &Head,
+) -> Result<Vec<(u32, u32)>, AllocError>
+    requires { IsGiven image.now directory.now }
+{
+    let mut found = Vec::new(alloc);
+    for head in image.members(directory) {
+        let end = image.target(&head);
+        found.push((head.offset, end.offset))?;
+    }
+    Ok(found)
+}
+
+/// The members of the root, and then theirs.
+fn list_two<A: Allocator>(alloc: Global, image: &Image<A>) -> Result<Vec<(u32, u32)>, AllocError> {
+    let root = image.root();
+    let mut found = list(alloc, image, &root)?;
+    for head in image.members(&root) {
+        found.extend_from_slice(&list(alloc, image, &head)?)?;
+    }
+    Ok(found)
+}
+
+#[test]
+fn reads_members_and_targets(rt: HostRuntime) -> Result<(), Fail> {
+    let image = Image::check(rt.alloc(), mixed(rt.alloc())?)?;
+    let found = list_two(rt.alloc(), &image)?;
+    let wanted = [
+        (0x60, 0x100),
+        (0x80, 0x80),
+        (0xa0, 0xa0),
+        (0x100, 0x100),
+        (0x120, 0x120),
+        (0x1a0, 0x100),
+    ];
+    assert_eq!(rt; found.as_slice(), wanted.as_slice());
+    Ok(())
+}
+
+#[test]
+fn passes_over_dots_anywhere(rt: HostRuntime) -> Result<(), Fail> {
+    let mut bytes = sample(rt.alloc())?;
+    for (at, word) in DOTS_LATE {
+        set_word(&rt, &mut bytes, at, word);
+    }
+    seal(&mut bytes);
+    let image = Image::check(rt.alloc(), bytes)?;
+    let found = list_two(rt.alloc(), &image)?;
+    let wanted = [
+        (0x60, 0x60),
+        (0x1410, 0x1410),
+        (0x14a0, 0x14a0),
+        (0x14d0, 0x14d0),
+        (0x1470, 0x1470),
+    ];
+    assert_eq!(rt; found.as_slice(), wanted.as_slice());
+    Ok(())
+}
+
+#[test]
+fn reads_a_root_without_a_name(rt: HostRuntime) -> Result<(), Fail> {
+    let mut bytes = sample(rt.alloc())?;
+    // 256 bytes of name without a zero byte, over `..` and `big`; the chain begins at `d`.
+    for at in 0..64 {
+        set_word(&rt, &mut bytes, 0x30 + 4 * at, 0x41414141);
+    }
+    set_word(&rt, &mut bytes, 0x24, 0x1410);
+    seal(&mut bytes);
+    let image = Image::check(rt.alloc(), bytes)?;
+    let root = image.root();
+    assert_eq!(rt; image.name(&root), b"".as_slice());
+    assert_eq!(rt; image.head(0x20), None);
+    let names = names(rt.alloc(), &image)?;
+    assert_eq!(rt; names.len(), 3);
+    assert_eq!(rt; names[0], b"d".as_slice());
+    Ok(())
+}
+
+/// Builds the sample and checks it.
 fn build_and_check<A: Allocator + Copy>(alloc: A) -> Result<bool, BuildFault> {
-    let items = numbered(alloc, 10)?;
-    let bytes = build(alloc, b"ten", &items)?;
+    let bytes = sample(alloc)?;
     match Image::check(alloc, bytes) {
-        Ok(image) => Ok(image.full() == 416),
+        Ok(image) => Ok(image.full() == 5360),
         Err(CheckFault::Memory) => Err(BuildFault::Memory),
         Err(_) => Ok(false),
     }
 }
 
 #[test]
-fn tells_each_refusal(rt: HostRuntime) {
-    for refuse_at in 1..=100 {
+fn tells_each_refusal(rt: HostRuntime) -> Result<(), Fail> {
+    let counting = Refusing::new(rt.alloc(), 0);
+    let built = sample(&counting)?.len();
+    let building = counting.requests();
+    assert_eq!(rt; built, 5360);
+    for refuse_at in 1..=1000 {
         let refusing = Refusing::new(rt.alloc(), refuse_at);
         let result = build_and_check(&refusing);
         if !refusing.refused() {
             assert_eq!(rt; result, Ok(true));
-            assert!(rt; refuse_at > 20);
-            return;
+            assert!(rt; building < refuse_at - 1);
+            return Ok(());
         }
         assert_eq!(rt; result, Err(BuildFault::Memory), "at {refuse_at}");
     }

@@ -2,7 +2,7 @@
 use Rattle.std.proofs.Common.{◌≡◌, sym, subst, ℕ, zero, suc, ◌+◌, ◌⊎◌, ◌↔◌, inl, inr, List, [], ◌∷◌, ◌++◌, length, refl, arith}
 use Rattle.std.specs.Prelude.{codes}
 use Rattle.std.specs.List.{AllByRecursion}
-use Rattle.romfs_image.specs.Chains.{Has}
+use Rattle.romfs_format.specs.Chains.{Has}
 use Rattle.stack_model.specs.Stack.{Path, IsPlain, IsIn, HasDirectory, HasOther, Cuts, IsFree, IsTop, IsCut, Shows}
 
 free_joined : (low high : List (List ℕ)) (path : Path) → IsFree (low ++ high) path ↔ (IsFree low path × IsFree high path)

@@ -1,9 +1,9 @@
 -- Attributes of a place, as Linux's stat has them, and its data. Owners and times are all 0.
 use Rattle.std.specs.Prelude.{ℕ, ◌+◌, ◌-◌, ◌*◌, ◌/◌, ◌%◌, ◌^◌, List, [], min, Bool, take, drop, sum_by, count_by, slice_index_or, bit_and, bit_or, if◌then◌else◌, true, false}
 use Rattle.std.specs.Option.{option_map_or}
-use Rattle.romfs_image.specs.declared.head.Kind.{Kind}
-use Rattle.romfs_image.specs.declared.head.Kind.TheVariants.{HardLink, Directory, Regular, SymLink, Block, Character, Socket, Fifo}
-use Rattle.romfs_image.specs.Fields.{kind, exec, size, spec, name, data_at}
+use Rattle.romfs_format.specs.declared.head.Kind.{Kind}
+use Rattle.romfs_format.specs.declared.head.Kind.TheVariants.{HardLink, Directory, Regular, SymLink, Block, Character, Socket, Fifo}
+use Rattle.romfs_format.specs.Fields.{kind, exec, size, spec, name, data_at}
 use Rattle.stack_model.specs.Listing.{Entry}
 use Rattle.stack_model.specs.Numbers.{Place, place, same_place, children}
 use Rattle.std.specs.Prelude.{length}

@@ -1,9 +1,9 @@
 -- OCI image specification, layer chapter, "Whiteouts" and "Opaque Whiteout": what layers laid one on another show.
 use Rattle.std.specs.Prelude.{◌≡◌, ◌≢◌, ℕ, zero, suc, ◌⊎◌, List, [], ◌∷◌, ◌++◌, IsTrue, nat_eq, codes}
 use Rattle.std.specs.List.{AllByRecursion, starts_with}
-use Rattle.romfs_image.specs.declared.head.Kind.TheVariants.{Directory}
-use Rattle.romfs_image.specs.Fields.{kind}
-use Rattle.romfs_image.specs.Chains.{Has}
+use Rattle.romfs_format.specs.declared.head.Kind.TheVariants.{Directory}
+use Rattle.romfs_format.specs.Fields.{kind}
+use Rattle.romfs_format.specs.Chains.{Has}
 
 -- names from the root down; the empty path is the root
 abbrev pub Path : Type 0

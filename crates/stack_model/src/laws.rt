@@ -2,7 +2,7 @@
 
 ghost use Rattle.std.specs.Prelude.{◌≡◌, ◌↔◌, ◌⊎◌, ◌+◌, ◌<◌, ◌≤◌, ◌++◌, [], ◌∷◌, ℕ, List, Some, IsSome, length, codes};
 ghost use Rattle.std.specs.List.{AllByRecursion};
-ghost use Rattle.romfs_image.specs.Chains.{Has};
+ghost use Rattle.romfs_format.specs.Chains.{Has};
 ghost use Rattle.stack_model.specs.Stack.{Path, IsPlain, IsIn, HasDirectory, HasOther, Cuts, Shows, IsFree, IsCut};
 ghost use Rattle.stack_model.specs.Listing.{Entry, IsAmong, IsListing};
 ghost use Rattle.stack_model.specs.Numbers.{Place, place, nodes, number_of, node_of};

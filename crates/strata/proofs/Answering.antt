@@ -3,10 +3,11 @@ use Rattle.std.proofs.Common.{◌≡◌, ◌≢◌, ◌∙◌, sym, ap, subst, �
 use Rattle.std.specs.Prelude.{slice_get, nat_lt}
 use Rattle.std.specs.Option.{option_map}
 use Rattle.std.proofs.lemmas.Bool.Decides.{nat_tests}
-use Rattle.romfs_image.specs.declared.head.Head.{Head}
-use Rattle.romfs_image.specs.declared.head.Kind.TheVariants.{Directory, Regular}
-use Rattle.romfs_image.specs.Fields.{root, kind}
-use Rattle.romfs_image.specs.Heads.{head_of, IsGiven}
+use Rattle.romfs_format.specs.declared.head.Head.{Head}
+use Rattle.romfs_format.specs.declared.head.Kind.TheVariants.{Directory, Regular}
+use Rattle.romfs_format.specs.Fields.{root, kind}
+use Rattle.romfs_format.specs.Heads.{head_of}
+use Rattle.romfs_image.specs.Readers.{IsGiven}
 use Rattle.romfs_image.proofs.Keeps.{root_directory}
 use Rattle.fuse_wire.specs.declared.errno.Errno.TheVariants.{ENOENT, ENOTDIR, ENAMETOOLONG, ESTALE}
 use Rattle.fuse_wire.specs.declared.reply.Attr.{Attr}

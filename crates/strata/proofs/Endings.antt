@@ -1,8 +1,8 @@
 -- What a stream over one image came to, said of the image as it was given.
 use Rattle.std.proofs.Common.{◌≡◌, ◌∙◌, ap, subst, ℕ, inl, inr, List, [], ◌∷◌, ◌++◌, length, map, Option, Some, Result, Ok, Err, MatchResult, refl, arith, length-append}
 use Rattle.std.specs.Option.{option_to_list}
-use Rattle.romfs_image.specs.declared.head.Head.{Head}
-use Rattle.romfs_image.specs.Fields.{image}
+use Rattle.romfs_format.specs.declared.head.Head.{Head}
+use Rattle.romfs_format.specs.Fields.{image}
 use Rattle.strata.specs.declared.fault.First.{First}
 use Rattle.strata.specs.declared.fault.First.TheVariants.{Layers, Layer, Later, BadLength, CutOff, Memory}
 use Rattle.strata.specs.Table.{Table}

@@ -1,3 +1,4 @@
+pub mod RootFiles
 pub mod Members
 pub mod Listed
 pub mod Numbered
@@ -7,3 +8,4 @@ pub mod Ordered
 pub mod Searched
 pub mod Served
 pub mod Endings
+pub mod Sizes

@@ -4,11 +4,11 @@ use Rattle.std.specs.declared.cmp.Ordering.TheVariants.{Less}
 use Rattle.std.specs.Cmp.Lexicographic.{slice_cmp}
 use Rattle.std.specs.List.{AllPairs, AllByRecursion, slice_index_or}
 use Rattle.std.specs.Ordering.{nat_cmp}
-use Rattle.romfs_image.specs.declared.head.Head.{Head}
-use Rattle.romfs_image.specs.Fields.{root}
-use Rattle.romfs_image.specs.Chains.{IsMember}
-use Rattle.romfs_image.specs.Links.{IsFinal, stays}
-use Rattle.romfs_image.specs.Heads.{name_of, head_of}
+use Rattle.romfs_format.specs.declared.head.Head.{Head}
+use Rattle.romfs_format.specs.Fields.{root}
+use Rattle.romfs_format.specs.Chains.{IsMember}
+use Rattle.romfs_format.specs.Links.{IsFinal, stays}
+use Rattle.romfs_format.specs.Heads.{name_of, head_of}
 use Rattle.stack_model.specs.Stack.{Path, IsPlain, IsMarker}
 use Rattle.stack_model.specs.Listing.{Entry, path_cmp, Rises, IsAmong, IsShown, IsFinalIn, IsListing}
 use Rattle.stack_model.proofs.Joined.{alone as shows_alone}

@@ -3,13 +3,13 @@ use Rattle.std.proofs.Common.{◌≡◌, ◌≢◌, ◌∙◌, sym, ap, subst, �
 use Rattle.std.specs.Prelude.{unwrap_or}
 use Rattle.std.proofs.lemmas.Bool.{cases_order}
 use Rattle.std.proofs.lemmas.List.{take_all}
-use Rattle.romfs_image.specs.declared.rule.Rule.TheVariants.{SameName}
-use Rattle.romfs_image.specs.Fields.{image, root, IsInside, name}
-use Rattle.romfs_image.specs.Chains.{IsOpened, at_root, below, IsMember, Has}
-use Rattle.romfs_image.specs.Links.{IsHardLink, IsFinal, stays, follows}
-use Rattle.romfs_image.specs.Rules.{BreaksHeader}
-use Rattle.romfs_image.specs.Flat.{IsImage}
-use Rattle.romfs_image.specs.Heads.{name_of}
+use Rattle.romfs_format.specs.declared.rule.Rule.TheVariants.{SameName}
+use Rattle.romfs_format.specs.Fields.{image, root, IsInside, name}
+use Rattle.romfs_format.specs.Chains.{IsOpened, at_root, below, IsMember, Has}
+use Rattle.romfs_format.specs.Links.{IsHardLink, IsFinal, stays, follows}
+use Rattle.romfs_format.specs.Rules.{BreaksHeader}
+use Rattle.romfs_image.specs.Images.{IsImage}
+use Rattle.romfs_format.specs.Heads.{name_of}
 use Rattle.romfs_image.proofs.Keeps.{root_directory, member_reached, reached_named, reached_inside}
 use Rattle.strata.specs.First.{HasFilesAlone}
 

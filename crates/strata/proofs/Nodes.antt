@@ -8,9 +8,9 @@ use Rattle.std.proofs.lemmas.List.Elements.{All-tail, All-map}
 use Rattle.std.proofs.lemmas.List.Kept.{AllPairs-cons}
 use Rattle.std.proofs.lemmas.List.{get_or-map, length-map}
 use Rattle.std.proofs.lemmas.Option.{slice_get_within, get_or_from_slice_get}
-use Rattle.romfs_image.specs.declared.head.Head.{Head}
-use Rattle.romfs_image.specs.declared.head.Kind.TheVariants.{Regular}
-use Rattle.romfs_image.specs.Fields.{root, kind}
+use Rattle.romfs_format.specs.declared.head.Head.{Head}
+use Rattle.romfs_format.specs.declared.head.Kind.TheVariants.{Regular}
+use Rattle.romfs_format.specs.Fields.{root, kind}
 use Rattle.romfs_image.proofs.Keeps.{root_directory}
 use Rattle.stack_model.specs.Numbers.{place, same_place, noted, nodes, number_of, number, node_of, path_of, Child, child_in, children, child}
 use Rattle.stack_model.specs.Attributes.{nlink, is_directory, is_directory_at}

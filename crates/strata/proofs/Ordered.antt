@@ -19,12 +19,12 @@ use Rattle.std.proofs.lemmas.Map.Made.{AllPairs-from_IsDistinct, IsDistinct-from
 use Rattle.std.proofs.lemmas.Map.Text.{is_eq-slice_cmp}
 use Rattle.std.proofs.lemmas.Option.{slice_get-get_or}
 use Rattle.std.proofs.lemmas.Slice.Eq.{bytes_eq-Decides}
-use Rattle.romfs_image.specs.declared.head.Head.{Head}
-use Rattle.romfs_image.specs.Fields.{root}
-use Rattle.romfs_image.specs.Chains.{IsAt, IsMember, at_root}
-use Rattle.romfs_image.specs.Flat.{IsImage}
-use Rattle.romfs_image.specs.Heads.{head_of, IsGiven, IsListed, AreMembers, passes_over}
-use Rattle.romfs_image.proofs.Apart.{to_names, from_names}
+use Rattle.romfs_format.specs.declared.head.Head.{Head}
+use Rattle.romfs_format.specs.Fields.{root}
+use Rattle.romfs_format.specs.Chains.{IsAt, IsMember, at_root}
+use Rattle.romfs_image.specs.Images.{IsImage}
+use Rattle.romfs_format.specs.Heads.{head_of}
+use Rattle.romfs_image.specs.Readers.{IsGiven, IsListed, AreMembers, passes_over}
 use Rattle.romfs_image.proofs.Keeps.{good}
 use Rattle.stack_model.specs.Stack.{IsMarker, marker}
 use Rattle.strata.specs.declared.sorting.Named.{Named}
@@ -39,6 +39,19 @@ flips x y =
     let d = bytes_eq-Decides x y in
     let e = bytes_eq-Decides y x in
     same_from_decides (bytes_eq x y) (bytes_eq y x) d ((λ q. sym (e.0 q)), (λ q. e.1 (sym q)))
+
+module _ {X : Type 0} (v : X → List ℕ) where
+  to_names : (xs : List X) → AllPairs (λ x y. v x ≢ v y) xs → AllPairs (λ x y. x ≢ y) (map v xs)
+  to_names [] p i j d l m = absurd (omega arith)
+  to_names (x ∷ xs) p i j d l m =
+      let n : j < length (x ∷ xs) = rw (← length-map (x ∷ xs) v) m in
+      rw (get_or-map v (x ∷ xs) i x d (omega arith), get_or-map v (x ∷ xs) j x d n) (p i j x l n)
+
+  from_names : (xs : List X) → AllPairs (λ x y. x ≢ y) (map v xs) → AllPairs (λ x y. v x ≢ v y) xs
+  from_names xs p i j d l m =
+      let n : j < length (map v xs) = rw (length-map xs v) m in
+      let q = p i j (v d) l n in
+      rw (← get_or-map v xs i d (v d) (omega arith), ← get_or-map v xs j d (v d) m) q
 
 -- names that differ do so in any order
 moved : (xs ys : List (List ℕ)) → IsPermutation xs ys → AllPairs (λ x y. x ≢ y) xs → AllPairs (λ x y. x ≢ y) ys

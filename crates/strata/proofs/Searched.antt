@@ -12,7 +12,7 @@ use Rattle.std.proofs.lemmas.List.{get_or_default}
 use Rattle.std.proofs.lemmas.Map.Text.{is_eq-slice_cmp}
 use Rattle.std.proofs.lemmas.Option.{slice_get-get_or, slice_get_past}
 use Rattle.std.proofs.lemmas.Slice.Eq.{bytes_eq-Decides}
-use Rattle.romfs_image.specs.declared.head.Head.{Head}
+use Rattle.romfs_format.specs.declared.head.Head.{Head}
 use Rattle.strata.specs.Files.{named, head_at}
 use Rattle.strata.proofs.Numbered.{Rising, name_twice}
 

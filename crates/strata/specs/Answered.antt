@@ -1,6 +1,6 @@
 -- What a request about a node comes to, over an image of files alone.
 use Rattle.std.specs.Prelude.{◌≡◌, ℕ, List, [], ◌∷◌, MatchResult, Result, Some, None}
-use Rattle.romfs_image.specs.declared.head.Head.{Head}
+use Rattle.romfs_format.specs.declared.head.Head.{Head}
 use Rattle.fuse_wire.specs.declared.errno.Errno.{Errno}
 use Rattle.fuse_wire.specs.declared.reply.Attr.{Attr}
 use Rattle.fuse_wire.specs.Requests.{Op, Asked}

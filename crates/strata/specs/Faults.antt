@@ -1,8 +1,7 @@
 -- What the program ends with, and for what.
-use Rattle.std.specs.Prelude.{◌≡◌, ℕ, List}
-use Rattle.romfs_image.specs.Fields.{image}
-use Rattle.romfs_image.specs.Rules.{IsFault}
-use Rattle.romfs_image.specs.Flat.{IsVolume, IsFlat}
+use Rattle.std.specs.Prelude.{◌≡◌, ℕ, ◌⊎◌, List, ◌∷◌, ◌++◌, length, map, All}
+use Rattle.romfs_format.specs.Fields.{image}
+use Rattle.romfs_format.specs.Rules.{IsFault, IsSound}
 use Rattle.strata.specs.declared.fault.First.{First}
 use Rattle.strata.specs.declared.fault.First.TheVariants as first
 use Rattle.strata.specs.declared.options.LineFault.{LineFault}
@@ -39,9 +38,26 @@ told_of (first.BadLength at len) = BadLength at len
 told_of (first.CutOff at) = CutOff at
 told_of first.Memory = Memory
 
--- why the bytes of this layer were refused: their own fault at their own number, or they are not served yet, or memory ran out
+-- why the bytes of this layer were refused: their own fault at their own number, or memory ran out
 abbrev pub IsLayerFault : ℕ → List ℕ → Fault → Type 0
 IsLayerFault n b (Layer layer fault) = (layer ≡ n) × IsFault b fault.rule fault.place
-IsLayerFault n b Later = IsVolume b × ¬ IsFlat (image b)
 IsLayerFault n b Memory = Unit {0}
 IsLayerFault n b _ = ⊥
+
+-- these images are all good, and these are their sizes
+pub record AreSizes (images : List (List ℕ)) (sizes : List ℕ) : Type 0 where
+  pub sound : All IsSound images
+  pub sizes_are : sizes ≡ map (λ b. length (image b)) images
+
+-- the images before this one are good, and why it was refused
+pub record IsFirstRefused (images : List (List ℕ)) (fault : Fault) : Type 0 where
+  pub before : List (List ℕ)
+  pub after : List (List ℕ)
+  pub bytes : List ℕ
+  pub images_are : images ≡ before ++ bytes ∷ after
+  pub sound : All IsSound before
+  pub refused : IsLayerFault (length before) bytes fault
+
+-- why images were refused: the fault of the first that is broken, or memory ran out
+abbrev pub IsFirstFault : List (List ℕ) → Fault → Type 0
+IsFirstFault images fault = IsFirstRefused images fault ⊎ (fault ≡ Memory)

@@ -4,11 +4,12 @@ use Rattle.std.specs.declared.cmp.Ordering.TheVariants.{Less}
 use Rattle.std.specs.Cmp.Lexicographic.{slice_cmp}
 use Rattle.std.specs.List.{AllPairs}
 use Rattle.std.specs.Ordering.{nat_cmp}
-use Rattle.romfs_image.specs.declared.head.Head.{Head}
-use Rattle.romfs_image.specs.Fields.{root}
-use Rattle.romfs_image.specs.Chains.{IsMember}
-use Rattle.romfs_image.specs.Flat.{IsImage}
-use Rattle.romfs_image.specs.Heads.{name_of, head_of, IsGiven}
+use Rattle.romfs_format.specs.declared.head.Head.{Head}
+use Rattle.romfs_format.specs.Fields.{root}
+use Rattle.romfs_format.specs.Chains.{IsMember}
+use Rattle.romfs_image.specs.Images.{IsImage}
+use Rattle.romfs_format.specs.Heads.{name_of, head_of}
+use Rattle.romfs_image.specs.Readers.{IsGiven}
 use Rattle.fuse_wire.specs.declared.reply.Attr.{Attr}
 use Rattle.stack_model.specs.Attributes.{is_directory, mode_of, size_of, blocks_of}
 use Rattle.stack_model.specs.Listing.{Entry}

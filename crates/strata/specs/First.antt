@@ -1,10 +1,9 @@
 -- What a stream of requests over one image is answered.
 use Rattle.std.specs.Prelude.{◌≡◌, ◌≢◌, ℕ, ◌+◌, ◌⊎◌, List, [], ◌∷◌, ◌++◌, length, map}
-use Rattle.romfs_image.specs.declared.head.Kind.TheVariants.{Regular}
-use Rattle.romfs_image.specs.Fields.{image, root, kind}
-use Rattle.romfs_image.specs.Chains.{IsMember}
-use Rattle.romfs_image.specs.Rules.{IsFault, IsSound}
-use Rattle.romfs_image.specs.Flat.{IsVolume, IsFlat}
+use Rattle.romfs_format.specs.declared.head.Kind.TheVariants.{Regular}
+use Rattle.romfs_format.specs.Fields.{image, root, kind}
+use Rattle.romfs_format.specs.Chains.{IsMember}
+use Rattle.romfs_format.specs.Rules.{IsFault, IsSound}
 use Rattle.fuse_wire.specs.Stream.{IsUnfinished, IsBad, IsSplit}
 use Rattle.fuse_wire.specs.Reads.{asked_now}
 use Rattle.stack_model.specs.Listing.{Entry, IsListing}
@@ -18,10 +17,10 @@ use Rattle.strata.specs.declared.fault.First.TheVariants.{Layers, Layer, Later, 
 pub record HasFilesAlone (a : List ℕ) : Type 0 where
   pub each : (h : ℕ) → IsMember a (root a) h → kind a h ≡ Regular
 
--- the image is answered: it keeps every rule, and is flat
+-- the image is answered: it keeps every rule, and its root holds files alone
 pub record IsServed (b : List ℕ) : Type 0 where
   pub sound : IsSound b
-  pub flat : IsFlat (image b)
+  pub files : HasFilesAlone (image b)
 
 -- bytes are the replies to these messages of the stream, after which the rest follows, over what the image shows
 pub record AreReplies (b stream : List ℕ) (messages : List (List ℕ)) (rest bytes : List ℕ) : Type 0 where
@@ -52,7 +51,7 @@ IsRefused images stream bytes (Layers count) = (count ≡ length images) × (cou
 IsRefused images stream bytes (Layer layer fault) =
     (layer ≡ 0) × ((b : List ℕ) × (images ≡ b ∷ []) × IsFault b fault.rule fault.place) × (bytes ≡ [])
 IsRefused images stream bytes Later =
-    ((b : List ℕ) × (images ≡ b ∷ []) × IsVolume b × ¬ IsFlat (image b)) × (bytes ≡ [])
+    ((b : List ℕ) × (images ≡ b ∷ []) × IsSound b × ¬ HasFilesAlone (image b)) × (bytes ≡ [])
 IsRefused images stream bytes (BadLength at len) = (rest : List ℕ) × IsBad rest len × IsAnsweredTo images stream bytes at rest
 IsRefused images stream bytes (CutOff at) = (rest : List ℕ) × IsUnfinished rest × IsAnsweredTo images stream bytes at rest
 IsRefused images stream bytes Memory = (bytes ≡ []) ⊎ IsBegun images stream bytes

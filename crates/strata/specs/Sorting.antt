@@ -4,7 +4,7 @@ use Rattle.std.specs.Cmp.Lexicographic.{slice_cmp}
 use Rattle.std.specs.List.{starts_with}
 use Rattle.std.specs.List.Sorted.{IsSorted}
 use Rattle.std.specs.Ordering.{nat_cmp}
-use Rattle.romfs_image.specs.declared.head.Head.{Head}
+use Rattle.romfs_format.specs.declared.head.Head.{Head}
 use Rattle.stack_model.specs.Stack.{marker}
 use Rattle.strata.specs.declared.sorting.Named.{Named}
 use Rattle.strata.specs.Files.{named}

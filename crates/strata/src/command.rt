@@ -5,9 +5,9 @@
 //! work.
 
 ghost use Rattle.std.specs.Prelude.{◌≡◌, ◌⊎◌, ◌≤◌, length, map, OnOk, IfOk, IfErr, IfSome};
-ghost use Rattle.romfs_image.specs.Fields.{image};
-ghost use Rattle.romfs_image.specs.Rules.{IsSound};
-ghost use Rattle.strata.specs.Faults.{IsLayerFault};
+ghost use Rattle.romfs_format.specs.Fields.{image};
+ghost use Rattle.romfs_format.specs.Rules.{IsSound};
+ghost use Rattle.strata.specs.Faults.{IsLayerFault, AreSizes, IsFirstFault};
 ghost use Rattle.strata.specs.Written.{WritesReplies, WritesFewer, AnswersStream};
 
 use crate::fault::First;
@@ -103,20 +103,38 @@ fn write_replies<R, A: Allocator + Copy, W: Write>(
     }
 }
 
-// Checks the images, and writes a line for each if all are good.
+// Checks the images in order, and writes a line for each if all are good. Else nothing is written.
 fn check<R: Files, A: Allocator + Copy, O: Write>(
     rt: &R,
     alloc: A,
     line: &Line<'_>,
     output: &mut O,
-) -> Result<(), Fault> {
+) -> Result<(), Fault>
+    ensures err { IfErr result (λ fault. (fault ≡ Fault.Write) ⊎ (output.new ≡ output.old)) }
+{
     let images = read_images(rt, alloc, line.images.as_slice())?;
+    let sizes = checked_sizes(alloc, images)?;
     let mut lines = String::new(alloc);
-    for (layer, bytes) in images.into_iter().enumerate() {
-        let full = checked_size(alloc, layer as u64, bytes)?;
-        writeln!(lines, "layer {layer}: {full} bytes")?;
+    for (layer, size) in sizes.iter().enumerate() {
+        writeln!(lines, "layer {layer}: {size} bytes")?;
     }
     write_out(output, lines.as_bytes())
+}
+
+// How many bytes of each image are accessible, if all are good. Else it names the fault of the first that is not.
+fn checked_sizes<A: Allocator + Copy>(
+    alloc: A,
+    images: Vec<Vec<u8, A>, A>,
+) -> Result<Vec<u32, A>, Fault>
+    ensures ok { IfOk result (λ sizes. AreSizes (map (λ image. image.items) images.items) sizes.items) }
+    ensures err { IfErr result (λ fault. IsFirstFault (map (λ image. image.items) images.items) fault) }
+{
+    let mut sizes = Vec::with_capacity(alloc, images.len())?;
+    for bytes in images {
+        let layer = sizes.len() as u64;
+        sizes.push(checked_size(alloc, layer, bytes)?)?;
+    }
+    Ok(sizes)
 }
 
 // How many bytes of an image are accessible.
@@ -127,7 +145,6 @@ fn checked_size<A: Allocator + Copy>(alloc: A, layer: u64, bytes: Vec<u8, A>) ->
     match Image::check(alloc, bytes) {
         Ok(image) => Ok(image.full()),
         Err(CheckFault::Broken(fault)) => Err(Fault::Layer { layer, fault }),
-        Err(CheckFault::Later) => Err(Fault::Later),
         Err(CheckFault::Memory) => Err(Fault::Memory),
     }
 }

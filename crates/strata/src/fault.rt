@@ -13,7 +13,7 @@ pub enum First {
     Layers { count: u64 },
     /// The image with this number, from 0 on, breaks a rule.
     Layer { layer: u16, fault: ImageFault },
-    /// The image holds what is not served yet.
+    /// The image keeps every rule, but its root holds more than regular files, which is not served yet.
     Later,
     /// The message that begins at this place of the stream says a length that no message has.
     BadLength { at: u64, len: u32 },

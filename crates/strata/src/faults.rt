@@ -29,7 +29,7 @@ pub enum Fault {
     Layers { count: u64 },
     /// This image, counted from 0, breaks a rule.
     Layer { layer: u64, fault: ImageFault },
-    /// The image holds what is not served yet.
+    /// The image keeps every rule, but its root holds more than regular files, which is not served yet.
     Later,
     /// The message that begins at this place of the stream says a length that no message has.
     BadLength { at: u64, len: u32 },

@@ -10,14 +10,14 @@
 //! message of the stream is answered in turn. It also says when the image is refused, where the stream breaks off,
 //! and that what is appended is then the front of all replies.
 //!
-//! So far an image is served whose root holds regular files alone, and INIT, LOOKUP and GETATTR are told apart from
-//! other requests. What is proved of such an image needs only that it keeps every rule and that its root holds files
-//! alone.
+//! Every image is checked by every rule. So far one is served whose root holds regular files alone, and INIT, LOOKUP and
+//! GETATTR are told apart from other requests.
 //!
-//! The private parts of [`first`], from below: `sorting` brings the files in the order of their names, `files` looks
+//! The private parts of [`first`], from below: `alone` tells whether an image can be served, `sorting` brings the files in the order of their names, `files` looks
 //! them up by number and by name, `answer` replies to one request, `serve` goes along the stream.
 #![tactic(auto)]
 
+mod alone;
 mod answer;
 pub mod command;
 mod fault;

@@ -6,7 +6,7 @@ ghost use Rattle.std.specs.Prelude.{IfOk, ◌≤◌, vec_len};
 
 use crate::options::{Line, LineFault, Verb};
 use clap::error::ErrorKind;
-use clap::{Arg, ArgMatches, Command, Error};
+use clap::{Arg, ArgAction, ArgMatches, Command, Error};
 use std::alloc::{AllocError, Global};
 use std::convert::AsStr;
 use std::env::Env;
@@ -58,8 +58,13 @@ fn serve<'a>(alloc: Global) -> Result<Command<'a>, AllocError> {
 
 fn check<'a>(alloc: Global) -> Result<Command<'a>, AllocError> {
     Command::new(alloc, "check")
-        .about("Checks an image, and prints its size")
-        .arg(image(alloc))
+        .about("Checks images, and prints their sizes")
+        .arg(
+            image(alloc)
+                .num_args(1..)
+                .action(ArgAction::Append)
+                .help("The files of romfs images, the lowest layer first"),
+        )
 }
 
 fn file_option<'a>(alloc: Global, name: &'a str) -> Arg<'a> {

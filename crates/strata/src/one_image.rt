@@ -1,11 +1,12 @@
 //! A stream of requests answered over one image.
 
 ghost use Rattle.std.specs.Prelude.{◌≡◌, ◌++◌, ℕ, List, map, MatchResult};
-ghost use Rattle.romfs_image.specs.Fields.{image};
+ghost use Rattle.romfs_format.specs.Fields.{image};
 ghost use Rattle.strata.specs.First.{IsServed, IsAnswered, IsRefused};
 ghost use Rattle.strata.specs.Files.{IsTable};
 ghost use Rattle.strata.specs.Opening.{IsNotOpened};
 
+use crate::alone::has_files_alone;
 use crate::fault::First;
 use crate::files::Files;
 use crate::serve::serve;
@@ -14,7 +15,8 @@ use std::alloc::Allocator;
 
 /// Appends the replies to a stream of requests over one image, and counts its messages.
 ///
-/// The image is checked first. `Layers`, `Layer` and `Later` leave `out` as it was. `BadLength` and `CutOff` leave
+/// The image is checked first. It is served where each member of its root is a regular file, and is `Later` where
+/// some member is not. `Layers`, `Layer` and `Later` leave `out` as it was. `BadLength` and `CutOff` leave
 /// the replies to all messages before that place appended, and `Memory` the first bytes of the replies.
 ///
 /// Each request costs at most a search among the image's files, and takes no memory but what its reply fills.
@@ -46,9 +48,9 @@ fn open<A: Allocator + Copy>(alloc: A, bytes: Vec<u8, A>) -> Result<Files<A>, Fi
         (λ fault. IsNotOpened bytes.items fault) }
 {
     match Image::check(alloc, bytes) {
-        Ok(image) => Ok(Files::of(alloc, image)?),
+        Ok(image) if has_files_alone(&image) => Ok(Files::of(alloc, image)?),
+        Ok(_) => Err(First::Later),
         Err(CheckFault::Broken(fault)) => Err(First::Layer { layer: 0, fault }),
-        Err(CheckFault::Later) => Err(First::Later),
         Err(CheckFault::Memory) => Err(First::Memory),
     }
 }

@@ -2,7 +2,7 @@
 
 ghost use Rattle.std.specs.Prelude.{◌≡◌, map, IfOk, All};
 ghost use Rattle.std.specs.List.Sorted.{IsPermutation};
-ghost use Rattle.romfs_image.specs.Heads.{IsGiven};
+ghost use Rattle.romfs_image.specs.Readers.{IsGiven};
 ghost use Rattle.strata.specs.First.{HasFilesAlone};
 ghost use Rattle.strata.specs.Files.{IsTable};
 ghost use Rattle.strata.specs.Sorting.{AreNamed, IsByName};

@@ -287,15 +287,25 @@ fn serves_one_good_image_alone(rt: HostRuntime) -> Result<(), Fail> {
         first(&rt, alloc, images, &stream, &mut out),
         Err(First::Layer { layer: 0, fault })
     );
-    let mut image = one_file(alloc)?;
-    assert_eq!(rt; image.len(), 144);
-    image[0x63] = 1;
-    seal(&mut image);
-    let images = alone(alloc, image)?;
-    assert_eq!(rt;
-        first(&rt, alloc, images, &stream, &mut out),
-        Err(First::Later)
-    );
+    // The file turned into a directory without members, a fifo, and a hard link to itself.
+    let looped = First::Layer {
+        layer: 0,
+        fault: ImageFault {
+            rule: Rule::LinkLoop,
+            place: 0x60,
+        },
+    };
+    for (kind, fault) in [(1, First::Later), (7, First::Later), (0, looped)] {
+        let mut image = one_file(alloc)?;
+        assert_eq!(rt; image.len(), 144);
+        image[0x63] = kind;
+        if kind == 0 {
+            image[0x67] = 0x60;
+        }
+        seal(&mut image);
+        let images = alone(alloc, image)?;
+        assert_eq!(rt; first(&rt, alloc, images, &stream, &mut out), Err(fault));
+    }
     assert_eq!(rt; out.as_slice(), b"kept".as_slice());
     Ok(())
 }

@@ -5,6 +5,7 @@ use crate::fault::First;
 use crate::faults::Fault;
 use refusing::Refusing;
 use romfs_image::sample;
+use std::alloc::{AllocError, Global};
 use std::io::{Error, ErrorKind, Read, Write};
 use std::test::Fail;
 use std::{env, fs, io, process};
@@ -47,8 +48,38 @@ static REPLIES: [u8; 200] = [
     0x00, 0x10, 0x00, 0x00, 0x00, 0x00, 0x00, 0x00,
 ];
 
+// What the sample image has before the data of its file `big`: 5,000 bytes, of which each is its place modulo 251.
+static SAMPLE_HEAD: [u8; 128] = [
+    0x2d, 0x72, 0x6f, 0x6d, 0x31, 0x66, 0x73, 0x2d, 0x00, 0x00, 0x14, 0xf0, 0x1e, 0xba, 0x3c, 0x6c,
+    0x76, 0x00, 0x00, 0x00, 0x00, 0x00, 0x00, 0x00, 0x00, 0x00, 0x00, 0x00, 0x00, 0x00, 0x00, 0x00,
+    0x00, 0x00, 0x00, 0x49, 0x00, 0x00, 0x00, 0x20, 0x00, 0x00, 0x00, 0x00, 0xd1, 0xff, 0xff, 0x97,
+    0x2e, 0x00, 0x00, 0x00, 0x00, 0x00, 0x00, 0x00, 0x00, 0x00, 0x00, 0x00, 0x00, 0x00, 0x00, 0x00,
+    0x00, 0x00, 0x00, 0x60, 0x00, 0x00, 0x00, 0x20, 0x00, 0x00, 0x00, 0x00, 0xd1, 0xd1, 0xff, 0x80,
+    0x2e, 0x2e, 0x00, 0x00, 0x00, 0x00, 0x00, 0x00, 0x00, 0x00, 0x00, 0x00, 0x00, 0x00, 0x00, 0x00,
+    0x00, 0x00, 0x14, 0x12, 0x00, 0x00, 0x00, 0x00, 0x00, 0x00, 0x13, 0x88, 0x9d, 0x96, 0x71, 0x66,
+    0x62, 0x69, 0x67, 0x00, 0x00, 0x00, 0x00, 0x00, 0x00, 0x00, 0x00, 0x00, 0x00, 0x00, 0x00, 0x00,
+];
+
+// What it has after them: the directory `d` with the file `x`, the symbolic link `l` and the device `null`.
+static SAMPLE_TAIL: [u8; 224] = [
+    0x00, 0x00, 0x14, 0xa9, 0x00, 0x00, 0x14, 0x30, 0x00, 0x00, 0x00, 0x00, 0x9b, 0xff, 0xd7, 0x27,
+    0x64, 0x00, 0x00, 0x00, 0x00, 0x00, 0x00, 0x00, 0x00, 0x00, 0x00, 0x00, 0x00, 0x00, 0x00, 0x00,
+    0x00, 0x00, 0x14, 0x50, 0x00, 0x00, 0x14, 0x10, 0x00, 0x00, 0x00, 0x00, 0xd1, 0xff, 0xd7, 0xa0,
+    0x2e, 0x00, 0x00, 0x00, 0x00, 0x00, 0x00, 0x00, 0x00, 0x00, 0x00, 0x00, 0x00, 0x00, 0x00, 0x00,
+    0x00, 0x00, 0x14, 0x70, 0x00, 0x00, 0x00, 0x20, 0x00, 0x00, 0x00, 0x00, 0xd1, 0xd1, 0xeb, 0x70,
+    0x2e, 0x2e, 0x00, 0x00, 0x00, 0x00, 0x00, 0x00, 0x00, 0x00, 0x00, 0x00, 0x00, 0x00, 0x00, 0x00,
+    0x00, 0x00, 0x00, 0x02, 0x00, 0x00, 0x00, 0x00, 0x00, 0x00, 0x00, 0x02, 0x87, 0xff, 0xff, 0xfc,
+    0x78, 0x00, 0x00, 0x00, 0x00, 0x00, 0x00, 0x00, 0x00, 0x00, 0x00, 0x00, 0x00, 0x00, 0x00, 0x00,
+    0x68, 0x69, 0x00, 0x00, 0x00, 0x00, 0x00, 0x00, 0x00, 0x00, 0x00, 0x00, 0x00, 0x00, 0x00, 0x00,
+    0x00, 0x00, 0x14, 0xd3, 0x00, 0x00, 0x00, 0x00, 0x00, 0x00, 0x00, 0x03, 0x93, 0xff, 0xeb, 0x2a,
+    0x6c, 0x00, 0x00, 0x00, 0x00, 0x00, 0x00, 0x00, 0x00, 0x00, 0x00, 0x00, 0x00, 0x00, 0x00, 0x00,
+    0x64, 0x2f, 0x78, 0x00, 0x00, 0x00, 0x00, 0x00, 0x00, 0x00, 0x00, 0x00, 0x00, 0x00, 0x00, 0x00,
+    0x00, 0x00, 0x00, 0x05, 0x00, 0x01, 0x00, 0x03, 0x00, 0x00, 0x00, 0x00, 0x91, 0x89, 0x93, 0x8c,
+    0x6e, 0x75, 0x6c, 0x6c, 0x00, 0x00, 0x00, 0x00, 0x00, 0x00, 0x00, 0x00, 0x00, 0x00, 0x00, 0x00,
+];
+
 // What a command line without an image is told.
-static NO_IMAGE: &str = "error: the following required arguments were not provided:\n  <IMAGE>\n";
+static NO_IMAGE: &str = "error: the following required arguments were not provided:\n  <IMAGE>";
 
 // A reader that gives its bytes, and then fails.
 #[derive(Drop)]
@@ -158,6 +189,17 @@ fn named(rt: &HostRuntime, folder: &String, name: &str) -> Result<String, Fail> 
     Ok(format!(in rt.alloc(); "{folder}/{name}")?)
 }
 
+// The sample image.
+fn sample_image(alloc: Global) -> Result<Vec<u8>, AllocError> {
+    let mut image = SAMPLE_HEAD.to_vec(alloc)?;
+    for place in 0..5000u32 {
+        image.push((place % 251) as u8)?;
+    }
+    image.extend_from_slice(&[0; 8])?;
+    image.extend_from_slice(&SAMPLE_TAIL)?;
+    Ok(image)
+}
+
 // The empty image with one byte changed.
 fn changed(at: usize, byte: u8) -> [u8; 96] {
     let mut image = EMPTY;
@@ -175,6 +217,40 @@ fn the_empty_image_is_checked(rt: HostRuntime) -> Result<(), Fail> {
     assert_eq!(rt; run.status, 0, "{}", run.faults);
     assert!(rt; run.output.as_slice() == b"layer 0: 96 bytes\n".as_slice());
     assert!(rt; run.faults.is_empty());
+    fs::remove_dir_all(&rt, folder.as_str())?;
+    Ok(())
+}
+
+#[test]
+fn images_are_checked_in_order(rt: HostRuntime) -> Result<(), Fail> {
+    let folder = folder(&rt, "ordered")?;
+    let sample = sample_image(rt.alloc())?;
+    let mut renamed = sample.clone()?;
+    assert_eq!(rt; renamed.len(), 5_360);
+    renamed[0x14b0] = b'd';
+    sample::seal(&mut renamed);
+    let empty = file(&rt, &folder, "e.img", &EMPTY)?;
+    let whole = file(&rt, &folder, "f.img", &sample)?;
+    let twice = file(&rt, &folder, "twice.img", &renamed)?;
+    let broken = file(&rt, &folder, "broken.img", &changed(15, 7))?;
+    let missing = named(&rt, &folder, "missing")?;
+    let (empty, whole, twice) = (empty.as_str(), whole.as_str(), twice.as_str());
+    let (broken, missing) = (broken.as_str(), missing.as_str());
+
+    let one = run(&rt, &["check", whole], &[])?;
+    assert!(rt; one.is(0, b"layer 0: 5360 bytes\n", ""), "{}", one.faults);
+    let two = run(&rt, &["check", empty, whole], &[])?;
+    let lines = b"layer 0: 96 bytes\nlayer 1: 5360 bytes\n";
+    assert!(rt; two.is(0, lines, ""), "{}", two.faults);
+
+    let line = "layer 1 at 000014a0: name twice\n";
+    assert!(rt; is_told(&rt, &["check", whole, twice], 3, line)?);
+    assert!(rt; is_told(&rt, &["check", empty, twice, broken], 3, line)?);
+    let line = "layer 1 at 0000000c: bad sum\n";
+    assert!(rt; is_told(&rt, &["check", whole, broken, twice], 3, line)?);
+    // All images are read before the first is checked.
+    let line = "image 2: cannot be read\n";
+    assert!(rt; is_told(&rt, &["check", broken, twice, missing], 1, line)?);
     fs::remove_dir_all(&rt, folder.as_str())?;
     Ok(())
 }
@@ -221,17 +297,13 @@ fn images_that_cannot_be_read_are_told(rt: HostRuntime) -> Result<(), Fail> {
 #[test]
 fn images_that_are_refused_are_told(rt: HostRuntime) -> Result<(), Fail> {
     let folder = folder(&rt, "refused")?;
-    // A chain that leads back to its own header is not flat.
-    let mut looped = changed(0x43, 0x40);
-    sample::seal(&mut looped);
     let broken = file(&rt, &folder, "broken.img", &changed(15, 7))?;
-    let later = file(&rt, &folder, "later.img", &looped)?;
+    let later = file(&rt, &folder, "later.img", &sample_image(rt.alloc())?)?;
     let (broken, later) = (broken.as_str(), later.as_str());
     let line = "layer 0 at 0000000c: bad sum\n";
     assert!(rt; is_told(&rt, &["check", broken], 3, line)?);
     assert!(rt; is_told(&rt, &["serve", broken], 3, line)?);
     let line = "layer 0: not served yet\n";
-    assert!(rt; is_told(&rt, &["check", later], 3, line)?);
     assert!(rt; is_told(&rt, &["serve", later], 3, line)?);
     fs::remove_dir_all(&rt, folder.as_str())?;
     Ok(())
@@ -416,10 +488,6 @@ fn other_command_lines_are_refused(rt: HostRuntime) -> Result<(), Fail> {
         (["check"].as_slice(), NO_IMAGE),
         (["serve", "--requests", "q"].as_slice(), NO_IMAGE),
         (
-            ["check", "e", "f"].as_slice(),
-            "error: unexpected argument 'f' found\n",
-        ),
-        (
             ["serve", "e", "f"].as_slice(),
             "error: unexpected argument 'f' found\n",
         ),
@@ -442,6 +510,10 @@ fn other_command_lines_are_refused(rt: HostRuntime) -> Result<(), Fail> {
         (
             ["serve", "--help"].as_slice(),
             "Answers FUSE requests over an image\n\nUsage: strata serve",
+        ),
+        (
+            ["check", "--help"].as_slice(),
+            "Checks images, and prints their sizes\n\nUsage: strata check <IMAGE>...\n",
         ),
     ] {
         let run = run(&rt, words, &REQUESTS)?;
@@ -501,6 +573,8 @@ fn each_refused_request_for_memory_is_told(rt: HostRuntime) -> Result<(), Fail> 
     let image = file(&rt, &folder, "e.img", &EMPTY)?;
     let image = image.as_str();
     assert!(rt; 0 < told_refusals(&rt, &["check", image], b"layer 0: 96 bytes\n")?);
+    let lines = b"layer 0: 96 bytes\nlayer 1: 96 bytes\n";
+    assert!(rt; 0 < told_refusals(&rt, &["check", image, image], lines)?);
     assert!(rt; 0 < told_refusals(&rt, &["serve", image], &REPLIES)?);
     fs::remove_dir_all(&rt, folder.as_str())?;
     Ok(())

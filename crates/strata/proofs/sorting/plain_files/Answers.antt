@@ -1,6 +1,6 @@
 use Rattle.std.proofs.Common.{◌≡◌, ap, true, false, not}
 use Rattle.std.proofs.lemmas.List.Elements.{All-tail, All-push}
-use Rattle.romfs_image.specs.Heads.{IsGiven}
+use Rattle.romfs_image.specs.Readers.{IsGiven}
 use Rattle.strata.specs.declared.sorting.Named.{Named}
 use Rattle.strata.specs.Files.{named}
 use Rattle.strata.specs.Sorting.{is_plain}

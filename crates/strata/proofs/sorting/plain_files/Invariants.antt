@@ -1,6 +1,6 @@
 use Rattle.std.proofs.Common.{◌≡◌, ◌++◌, map, All}
 use Rattle.std.specs.List.{filter}
-use Rattle.romfs_image.specs.Heads.{IsGiven}
+use Rattle.romfs_image.specs.Readers.{IsGiven}
 use Rattle.strata.specs.Files.{named}
 use Rattle.strata.specs.Sorting.{is_plain}
 use Rattle.strata.proofs.sorting.plain_files.Given as goal

@@ -1,0 +1,38 @@
+-- What the first zero byte says of the text before it.
+use Rattle.std.proofs.Common.{◌≡◌, ◌≢◌, sym, ℕ, zero, suc, ◌<◌, false, leb, List, [], ◌∷◌, length, take, get_or, Option, Some, None, refl, arith, ◌≤◌}
+use Rattle.std.specs.Option.{option_map}
+use Rattle.std.proofs.lemmas.Bool.{eqb-true, le-leb}
+use Rattle.std.proofs.lemmas.Bool.Decides.{nat_tests}
+use Rattle.memchr.specs.Find.{IsFirstByte, is_byte}
+use Rattle.romfs_format.specs.Fields.{ended, name_field, text_at, text_end}
+
+ended_none : (xs : List ℕ) → ((k : ℕ) → k < length xs → get_or xs k 0 ≢ 0) → ended xs ≡ None
+unfolding ended
+ended_none [] h = refl
+ended_none (zero ∷ xs) h = absurd (h 0 (omega arith) refl)
+ended_none (suc x ∷ xs) h = rw (ended_none xs (λ k l. h (suc k) (omega arith))) refl
+
+ended_at : (xs : List ℕ) (k : ℕ) → k < length xs → get_or xs k 0 ≡ 0 → ((j : ℕ) → j < k → get_or xs j 0 ≢ 0) → ended xs ≡ Some (take k xs)
+unfolding ended
+ended_at [] k l z h = absurd (omega arith)
+ended_at (zero ∷ xs) zero l z h = refl
+ended_at (zero ∷ xs) (suc k) l z h = absurd (h 0 (omega arith) refl)
+ended_at (suc x ∷ xs) zero l z h = absurd (omega arith)
+ended_at (suc x ∷ xs) (suc k) l z h = rw (ended_at xs k (omega arith) z (λ j m. h (suc j) (omega arith))) refl
+
+pub ended_first : (xs : List ℕ) (r : Option ℕ) → IsFirstByte (is_byte 0) xs r → option_map (λ k. take k xs) r ≡ ended xs
+ended_first xs None h = sym (ended_none xs (λ k l e. h k (omega arith) l (rw e refl)))
+ended_first xs (Some k) h = sym (ended_at xs k h.0.high (eqb-true _ _ h.1) (λ j l e. h.0.before j (omega arith) l (rw e refl)))
+
+past : (n e : ℕ) → n < e → leb e n ≡ false
+past n e h = grind (arith, nat_tests)
+
+module _ (a field : List ℕ) (p : ℕ) (is : field ≡ name_field a p) where
+  pub within_none : ◌≡◌ {A = Option (List ℕ)} None (ended field) → ◌≡◌ {A = Option (List ℕ)} None (text_at a p)
+  within_none f = rw (← is, ← f) refl
+
+  pub within_then : (text : List ℕ) → Some text ≡ ended field → text_end p text ≤ length a → Some text ≡ text_at a p
+  within_then text f h = rw (← is, ← f) (rw (le-leb (text_end p text) (length a) h) refl)
+
+  pub within_else : (text : List ℕ) → Some text ≡ ended field → length a < text_end p text → ◌≡◌ {A = Option (List ℕ)} None (text_at a p)
+  within_else text f h = rw (← is, ← f) (rw (past (length a) (text_end p text) h) refl)

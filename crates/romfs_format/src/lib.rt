@@ -1,0 +1,18 @@
+//! The format of romfs images (Documentation/filesystems/romfs.rst in Linux): what it is, and the reading of
+//! single fields.
+//!
+//! `specs/` restates the document: the fields of headers (`Fields`, `Heads`), which headers stand in which directory
+//! (`Chains`), what they lead to (`Links`), the rules of an image and the one fault of an image that breaks some
+//! (`Rules`, in words `Texts`). [`read`] reads words, names and headers where they lie within the image; no call takes
+//! memory. [`laws`] says that an image has at most one fault.
+//!
+//! The crate stands on `byteorder` for words and `memchr` for the ends of names.
+#![tactic(auto)]
+
+pub mod head;
+pub mod laws;
+pub mod read;
+pub mod rule;
+
+pub use head::{End, Head, Kind};
+pub use rule::{ImageFault, Rule};

@@ -1,0 +1,121 @@
+//! Fields of an image's bytes.
+
+ghost use Rattle.std.specs.Prelude.{◌≡◌, ◌+◌, ◌<◌, ◌≤◌, ◌%◌, ◌^◌, IfSome, length};
+ghost use Rattle.std.specs.Option.{option_map};
+ghost use Rattle.romfs_format.specs.Fields.{root, word, text_end, kind_of, text_at, name_field, ended, word_sum};
+ghost use Rattle.romfs_format.specs.Heads.{head_of};
+
+use crate::head::{Head, Kind};
+use byteorder::{BigEndian, ByteOrder};
+use memchr::memchr;
+
+/// The big-endian word at a place.
+#[tactic(auto, unfolding(crate::specs::Fields::word))]
+pub fn word(bytes: &[u8], at: usize) -> u32
+    requires { at + 4 ≤ length bytes.now }
+    ensures { result ≡ word bytes.now at }
+{
+    BigEndian::read_u32(&bytes[at..])
+}
+
+/// The kind that the first word of a header says.
+pub fn kind_of(word: u32) -> Kind
+    ensures { result ≡ kind_of (word % 8) }
+{
+    match word % 8 {
+        0 => Kind::HardLink,
+        1 => Kind::Directory,
+        2 => Kind::Regular,
+        3 => Kind::SymLink,
+        4 => Kind::Block,
+        5 => Kind::Character,
+        6 => Kind::Socket,
+        _ => Kind::Fifo,
+    }
+}
+
+/// The bytes before the first zero byte, if there is one.
+#[tactic(auto, using(crate::proofs::Text::ended_first))]
+fn ended(field: &[u8]) -> Option<&[u8]>
+    ensures { option_map (λ text. text.now) result ≡ ended field.now }
+{
+    match memchr(0, field) {
+        Some(end) => Some(&field[..end]),
+        None => None,
+    }
+}
+
+/// The bytes among which a name ends.
+#[tactic(auto, unfolding(crate::specs::Fields::name_field))]
+fn name_field(image: &[u8], at: usize) -> &[u8]
+    requires { at ≤ length image.now }
+    ensures { result.now ≡ name_field image.now at }
+{
+    let rest = &image[at..];
+    if rest.len() < 256 { rest } else { &rest[..256] }
+}
+
+/// The name whose field begins at a place of the accessible bytes.
+pub fn text_at(image: &[u8], at: usize) -> Option<&[u8]>
+    requires at { at ≤ length image.now }
+    requires small { length image.now < 2 ^ 32 }
+    ensures value { option_map (λ text. text.now) result ≡ text_at image.now at }
+    ensures within { IfSome result (λ text. text_end at text.now ≤ length image.now) }
+{
+    match ended(name_field(image, at)) {
+        None => None,
+        Some(text) => {
+            let end = at + (text.len() + 1 + 15) / 16 * 16;
+            if end <= image.len() { Some(text) } else { None }
+        }
+    }
+}
+
+/// The sum of the whole words of some bytes.
+pub fn word_sum(bytes: &[u8]) -> u32
+    ensures { result ≡ word_sum bytes.now % 2 ^ 32 }
+{
+    let mut sum: u32 = 0;
+    let mut rest = bytes;
+    while rest.len() >= 4 {
+        sum = sum.wrapping_add(BigEndian::read_u32(rest));
+        rest = &rest[4..];
+    }
+    sum
+}
+
+/// The header at a place.
+pub fn head_at(image: &[u8], at: u32) -> Head
+    requires inside { at + 16 ≤ length image.now }
+    requires small { length image.now < 2 ^ 32 }
+    ensures { result ≡ head_of image.now at }
+{
+    let place = at as usize;
+    let first = word(image, place);
+    Head {
+        offset: at,
+        next: first / 16 * 16,
+        kind: kind_of(first),
+        exec: first / 8 % 2 == 1,
+        spec: word(image, place + 4),
+        size: word(image, place + 8),
+        name_at: at + 16,
+        name_len: match text_at(image, place + 16) {
+            Some(name) => name.len() as u32,
+            None => 0,
+        },
+    }
+}
+
+/// Where the root stands.
+#[tactic(auto, unfolding(crate::specs::Fields::root))]
+pub fn root_of(image: &[u8]) -> u32
+    requires long { 16 ≤ length image.now }
+    requires small { length image.now < 2 ^ 32 }
+    ensures { result ≡ root image.now }
+{
+    match text_at(image, 16) {
+        None => 0,
+        Some(name) => 16 + (name.len() as u32 + 1 + 15) / 16 * 16,
+    }
+}

@@ -1,0 +1,81 @@
+//! What an image may break.
+
+use std::fmt;
+
+/// A rule that every image keeps, in the order in which rules are named where several are broken:
+/// the rules of the volume header one by one, then all rules of file headers by place, then the
+/// depth.
+#[derive(Clone, Copy, Debug, PartialEq, Eq)]
+pub enum Rule {
+    /// The image has 16 bytes or more.
+    Short,
+    /// It begins with `-rom1fs-`.
+    Magic,
+    /// The full size is 16 or more, and no more than there are bytes.
+    FullSize,
+    /// The words of the first 512 bytes sum to 0.
+    Sum,
+    /// The volume name ends, and its padding lies within the full size.
+    VolumeName,
+    /// A directory's header stands after the volume name.
+    NoRoot,
+    /// A header that is reached lies between the root's and the end.
+    Outside,
+    /// A header that is reached has a name that ends within the image.
+    NameOpen,
+    /// A member's name is not empty and holds no `/`.
+    NameBad,
+    /// The data of a regular file or link lies within the image.
+    DataOutside,
+    /// A link's target has at most 4,095 bytes.
+    TargetLong,
+    /// A header is named by one link alone, and the root's by no other directory's chain.
+    Twice,
+    /// A directory holds a name once.
+    SameName,
+    /// A hard link leads to something that is no hard link.
+    LinkLoop,
+    /// A hard link leads to no directory.
+    LinkDirectory,
+    /// A device's major number is at most 4,095.
+    MajorLarge,
+    /// A path has at most 512 names.
+    Deep,
+}
+
+/// The rule that an image breaks, and where.
+#[derive(Clone, Copy, Debug, PartialEq, Eq)]
+pub struct ImageFault {
+    pub rule: Rule,
+    /// The place that the fault is named at, an offset in bytes.
+    pub place: u32,
+}
+
+impl fmt::Display for Rule {
+    ghost use Rattle.std.specs.Prelude.{Some};
+    ghost use Rattle.romfs_format.specs.Texts.{text_of};
+
+    ghost output = { λ rule. Some (text_of rule) };
+
+    fn fmt<W: fmt::Write>(&self, f: &mut fmt::Formatter<W>) -> fmt::Result {
+        match self {
+            Rule::Short => write!(f, "too short"),
+            Rule::Magic => write!(f, "not romfs"),
+            Rule::FullSize => write!(f, "bad full size"),
+            Rule::Sum => write!(f, "bad sum"),
+            Rule::VolumeName => write!(f, "bad volume name"),
+            Rule::NoRoot => write!(f, "no root"),
+            Rule::Outside => write!(f, "header outside"),
+            Rule::NameOpen => write!(f, "name not ended"),
+            Rule::NameBad => write!(f, "bad name"),
+            Rule::DataOutside => write!(f, "data outside"),
+            Rule::TargetLong => write!(f, "target too long"),
+            Rule::Twice => write!(f, "linked twice"),
+            Rule::SameName => write!(f, "name twice"),
+            Rule::LinkLoop => write!(f, "link loop"),
+            Rule::LinkDirectory => write!(f, "link to directory"),
+            Rule::MajorLarge => write!(f, "major too large"),
+            Rule::Deep => write!(f, "too deep"),
+        }
+    }
+}

@@ -1,0 +1,194 @@
+//! Where the headers of an image to be built stand, and which headers they name.
+
+ghost use Rattle.std.specs.Prelude.{◌+◌, ◌≤◌, ◌^◌};
+
+use super::{BuildFault, Item, What};
+use std::alloc::{AllocError, Allocator};
+
+/// Whether items stand in walk order, each below a directory, with names that end, and whether hard
+/// links lead to items.
+pub(super) fn is_listing<A: Allocator>(volume: &[u8], items: &[Item<A>]) -> bool {
+    is_walk(items)
+        && !volume.contains(&0)
+        && items.iter().all(|item| !item.name.contains(&0) && leads_to(item, items.len()))
+}
+
+/// Whether each depth is that of a member of a directory that is still open.
+fn is_walk<A: Allocator>(items: &[Item<A>]) -> bool {
+    let mut most: u32 = 1;
+    for item in items {
+        let depth = u32::from(item.depth);
+        if depth == 0 || most < depth {
+            return false;
+        }
+        most = if is_directory(item) { depth + 1 } else { depth };
+    }
+    true
+}
+
+/// Whether an item, if it is a hard link, leads to one of `count` items.
+fn leads_to<A: Allocator>(item: &Item<A>, count: usize) -> bool {
+    match &item.what {
+        What::Hard(index) => *index < count,
+        _ => true,
+    }
+}
+
+pub(super) fn is_directory<A: Allocator>(item: &Item<A>) -> bool {
+    matches!(&item.what, What::Directory)
+}
+
+/// The data that follows an item's header.
+pub(super) fn data_of<A: Allocator>(item: &Item<A>) -> &[u8] {
+    match &item.what {
+        What::Regular(bytes) | What::SymLink(bytes) => bytes,
+        _ => &[],
+    }
+}
+
+/// The place of a header, and the places that it and its directory's dots name. 0 is none.
+#[derive(Clone, Copy)]
+pub(super) struct Spot {
+    pub at: u32,
+    /// The header after it in the same directory.
+    pub next: u32,
+    /// The header of the directory that it stands in.
+    pub above: u32,
+    /// A directory's `.`.
+    pub dot: u32,
+    /// A directory's `..`.
+    pub dot_dot: u32,
+    /// What comes after a directory's `..`: its first member.
+    pub first: u32,
+}
+
+/// Where the headers of an image stand.
+#[derive(Drop)]
+pub(super) struct Layout<A: Allocator> {
+    /// The root, which is its own `.`.
+    pub root: Spot,
+    /// The items, in their order.
+    pub spots: Vec<Spot, A>,
+    /// Where the image ends.
+    pub full: u32,
+}
+
+impl<A: Allocator + Copy> Layout<A> {
+    /// Lays out items in walk order.
+    pub fn of(alloc: A, volume: &[u8], items: &[Item<A>]) -> Result<Layout<A>, BuildFault> {
+        let at = after(0, volume, &[])?;
+        let dot_dot = after(at, b".", &[])?;
+        let mut layout = Layout {
+            root: Spot {
+                at,
+                next: 0,
+                above: at,
+                dot: at,
+                dot_dot,
+                first: 0,
+            },
+            spots: Vec::new(alloc),
+            full: after(dot_dot, b"..", &[])?,
+        };
+        layout.place(alloc, items)?;
+        layout.chain(alloc, items)?;
+        Ok(layout)
+    }
+
+    /// Places each item. `path` holds the headers from the root to the item before.
+    fn place(&mut self, alloc: A, items: &[Item<A>]) -> Result<(), BuildFault> {
+        let mut path = Vec::new(alloc);
+        path.push(self.root.at)?;
+        for item in items {
+            path.truncate(usize::from(item.depth));
+            let above = path.last().copied().unwrap_or(0);
+            path.push(self.full)?;
+            self.add(item, above)?;
+        }
+        Ok(())
+    }
+
+    /// Places an item at the end, in the directory `above`.
+    fn add(&mut self, item: &Item<A>, above: u32) -> Result<(), BuildFault> {
+        let at = self.full;
+        let end = after(at, &item.name, data_of(item))?;
+        let (dot_dot, full) = if is_directory(item) {
+            let dot_dot = after(end, b".", &[])?;
+            (dot_dot, after(dot_dot, b"..", &[])?)
+        } else {
+            (0, end)
+        };
+        self.spots.push(Spot {
+            at,
+            next: 0,
+            above,
+            dot: end,
+            dot_dot,
+            first: 0,
+        })?;
+        self.full = full;
+        Ok(())
+    }
+
+    /// Finds what comes after each item in its directory, and each directory's first member. It goes
+    /// backwards, and keeps for each depth the header that was met last in the open directory.
+    fn chain(&mut self, alloc: A, items: &[Item<A>]) -> Result<(), AllocError> {
+        let mut later = Vec::new(alloc);
+        for (spot, item) in self.spots.iter_mut().zip(items).rev() {
+            let depth = usize::from(item.depth);
+            later.resize(depth + 2, 0)?;
+            spot.first = later[depth + 1];
+            spot.next = later[depth];
+            later[depth] = spot.at;
+            later.truncate(depth + 1);
+        }
+        self.root.first = later.get(1).copied().unwrap_or(0);
+        Ok(())
+    }
+}
+
+impl<A: Allocator> Layout<A> {
+    /// Where an item stands.
+    pub fn place_of(&self, index: usize) -> u32 {
+        match self.spots.get(index) {
+            Some(spot) => spot.at,
+            None => 0,
+        }
+    }
+}
+
+/// Where the next header stands after the one at `at` with this name and data. A volume header is as
+/// long as a header with its name.
+fn after(at: u32, name: &[u8], data: &[u8]) -> Result<u32, BuildFault> {
+    let most = u32::MAX as usize;
+    if name.len() > most || data.len() > most {
+        return Err(BuildFault::Size);
+    }
+    let end = u64::from(at) + 16 + padded(name.len() as u64 + 1) + padded(data.len() as u64);
+    if end > u64::from(u32::MAX) {
+        return Err(BuildFault::Size);
+    }
+    Ok(end as u32)
+}
+
+/// A length rounded up to a multiple of 16.
+fn padded(len: u64) -> u64
+    requires { len ≤ 2 ^ 32 }
+    ensures { result ≤ len + 15 }
+{
+    (len + 15) / 16 * 16
+}
+
+#[cfg(test)]
+mod tests {
+    use super::*;
+
+    #[test]
+    fn ends_at_the_largest_size(rt: HostRuntime) {
+        let long = [1; 15];
+        assert_eq!(rt; after(0xffffffd0, b"a", &[]), Ok(0xfffffff0));
+        assert_eq!(rt; after(0xffffffc0, &long, b"a"), Ok(0xfffffff0));
+        assert_eq!(rt; after(0xffffffe0, b"a", &[]), Err(BuildFault::Size));
+        assert_eq!(rt; after(0xffffffd0, &long, b"a"), Err(BuildFault::Size));
+    }
+}

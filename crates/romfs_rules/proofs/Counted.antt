@@ -1,0 +1,171 @@
+-- Counting links, as lists.
+use Rattle.std.proofs.Common.{◌≡◌, ◌≢◌, ◌∙◌, sym, ap, subst, ℕ, ◌+◌, ◌*◌, ◌/◌, ◌<◌, ◌⊎◌, inl, inr, List, length, get_or, Bool, true, false, Option, None, refl, arith}
+use Rattle.std.proofs.lemmas.Bool.{cases_eq}
+use Rattle.romfs_format.specs.Fields.{root, IsInside, spec, cleared}
+use Rattle.romfs_format.specs.Chains.{IsFirst, IsNext, IsOpened, at_root, below, Stands}
+use Rattle.romfs_format.specs.Links.{Field, first_of, next_of, IsLink}
+use Rattle.romfs_format.specs.Rules.{IsLinkedTwice}
+use Rattle.romfs_rules.specs.Marks.{IsMarked, AreMarks}
+use Rattle.romfs_rules.specs.Leads.{IsTheOne, IsInSomeChain}
+use Rattle.romfs_rules.specs.Twice.{IsSlotOf, Counts, CountsBoth}
+use Rattle.romfs_rules.proofs.Slots.{cleared_root, cleared_in_chain}
+use Rattle.romfs_rules.proofs.Standing.{in_some_chain}
+use Rattle.romfs_rules.proofs.Leads.{nowhere}
+use Rattle.romfs_rules.proofs.Destined.{twice_cleared}
+
+module _ (a : List ℕ) where
+  -- what the fields of a header name
+  standing : (h : ℕ) → IsInSomeChain a h → (d : ℕ) × Stands a d h
+  standing h (inl c) = (root a, record { opened = at_root refl; in_chain = c })
+  standing h (inr e) = (e.dir, record { opened = e.opened; in_chain = e.in_chain })
+
+  pub next_named : (h : ℕ) (w : Option ℕ) → IsInSomeChain a h → IsTheOne (IsNext a h) w → IsTheOne (IsLink a (next_of h)) w
+  next_named h w c x = let s = standing h c in record { each = λ g. (λ e. (s.0, s.1, (x.each g).0 e), λ l. (x.each g).1 l.2) }
+
+  pub no_next : (h : ℕ) → ¬ (IsInside a h × IsInSomeChain a h) → IsTheOne (IsLink a (next_of h)) None
+  no_next h n = nowhere (IsLink a (next_of h)) (λ g l. n (l.2.0, in_some_chain a l.0 h l.1.opened l.1.in_chain))
+
+  pub first_named : (d : ℕ) (w : Option ℕ) → IsOpened a d → IsTheOne (IsFirst a d) w → IsTheOne (IsLink a (first_of d)) w
+  first_named d w o x = record { each = λ g. (λ e. (o, (x.each g).0 e), λ l. (x.each g).1 l.1) }
+
+  pub no_first : (d : ℕ) → ¬ IsOpened a d → IsTheOne (IsLink a (first_of d)) None
+  no_first d n = nowhere (IsLink a (first_of d)) (λ g l. n l.0)
+
+  pub inside_opened : IsInside a (root a) → (d : ℕ) → IsOpened a d → IsInside a d
+  inside_opened r d (at_root e) = subst (λ y. IsInside a y) (sym e) r
+  inside_opened r d (below o c k i t) = i
+
+  cleared_opened : (d : ℕ) → IsOpened a d → cleared d ≡ d
+  cleared_opened d (at_root e) = rw e (cleared_root a)
+  cleared_opened d (below {d = c} o k p i t) = cleared_in_chain a c d k
+
+  cleared_link : (f : Field) (h : ℕ) → IsLink a f h → cleared h ≡ h
+  cleared_link (first_of d) h l = rw (l.1.0) (twice_cleared (spec a d))
+  cleared_link (next_of g) h l = rw (l.2.1) (omega arith)
+
+  -- the marks say which headers the links of S name, once and twice
+  pub record Tallied (S : Field → ℕ → Type 0) (once twice : List Bool) : Type 0 where
+    pub once_sized : length once ≡ length a / 16
+    pub twice_sized : length twice ≡ length a / 16
+    pub once_each : (k : ℕ) → get_or once k false ≡ true → (f : Field) × S f (k * 16) × IsInside a (k * 16)
+    pub once_all : (f : Field) (h : ℕ) → S f h → IsInside a h → IsMarked once h
+    pub twice_each : (k : ℕ) → get_or twice k false ≡ true → (f g : Field) × (f ≢ g) × S f (k * 16) × S g (k * 16) × IsInside a (k * 16)
+    pub twice_all : (f g : Field) (h : ℕ) → f ≢ g → S f h → S g h → IsInside a h → IsMarked twice h
+
+  -- the links of S, and those of one more field
+  abbrev pub With : (Field → ℕ → Type 0) → Field → Field → ℕ → Type 0
+  With S g f h = S f h ⊎ ((f ≡ g) × IsLink a g h)
+
+  module _ (S : Field → ℕ → Type 0) (g : Field) (fresh : (h : ℕ) → ¬ S g h) (to : Option ℕ) (once twice once_after twice_after : List Bool)
+      (is : IsTheOne (IsLink a g) to) (c : Counts a to once twice once_after twice_after) (t : Tallied S once twice) where
+    at_slot : (k : ℕ) → IsSlotOf a to k → IsLink a g (k * 16) × IsInside a (k * 16)
+    at_slot k s =
+        let l : IsLink a g s.0 = (is.each s.0).0 s.1 in
+        let e : k * 16 ≡ s.0 = ap (λ y. y * 16) s.3 ∙ cleared_link g s.0 l in
+        rw e (l, s.2)
+
+    slot_of : (h : ℕ) → IsLink a g h → IsInside a h → IsSlotOf a to (h / 16)
+    slot_of h l i = (h, (is.each h).1 l, i, refl)
+
+    same_twice : (f d : Field) → (f ≢ d) → f ≡ g → d ≡ g → ⊥
+    same_twice f d n p q = n (p ∙ sym q)
+
+    pub counts_more : Tallied (With S g) once_after twice_after
+    counts_more = record {
+      once_sized = c.once_sized ∙ t.once_sized;
+      twice_sized = c.twice_sized ∙ t.twice_sized;
+      once_each = λ k m. elim ((c.once_each k).0 m) [
+        | inl o ↦ (let x = t.once_each k o in (x.0, inl x.1, x.2))
+        | inr s ↦ (let x = at_slot k s in (g, inr (refl, x.0), x.1))
+      ];
+      once_all = λ f h s i. (c.once_each (h / 16)).1 (elim s [ inl o ↦ inl (t.once_all f h o i) | inr x ↦ inr (slot_of h x.1 i) ]);
+      twice_each = λ k m. elim ((c.twice_each k).0 m) [
+        | inl o ↦ (let x = t.twice_each k o in (x.0, x.1, x.2, inl x.3, inl x.4, x.5))
+        | inr s ↦ (let x = t.once_each k s.1 in let y = at_slot k s.0 in (x.0, g, λ e. fresh (k * 16) (subst (λ z. S z (k * 16)) e x.1), inl x.1, inr (refl, y.0), x.2))
+      ];
+      twice_all = λ f d h n s u i. (c.twice_each (h / 16)).1 (elim s [
+        | inl o ↦ elim u [
+          | inl v ↦ inl (t.twice_all f d h n o v i)
+          | inr y ↦ inr (slot_of h y.1 i, t.once_all f h o i)
+        ]
+        | inr x ↦ elim u [
+          | inl v ↦ inr (slot_of h x.1 i, t.once_all d h v i)
+          | inr y ↦ absurd (same_twice f d n x.0 y.0)
+        ]
+      ]);
+    }
+
+  same_tally : (S R : Field → ℕ → Type 0) (once twice : List Bool) → ((f : Field) (h : ℕ) → S f h → R f h) → ((f : Field) (h : ℕ) → R f h → S f h) → Tallied S once twice → Tallied R once twice
+  same_tally S R once twice to from t = record {
+    once_sized = t.once_sized;
+    twice_sized = t.twice_sized;
+    once_each = λ k m. (let x = t.once_each k m in (x.0, to x.0 (k * 16) x.1, x.2));
+    once_all = λ f h s i. t.once_all f h (from f h s) i;
+    twice_each = λ k m. (let x = t.twice_each k m in (x.0, x.1, x.2, to x.0 (k * 16) x.3, to x.1 (k * 16) x.4, x.5));
+    twice_all = λ f g h n s u i. t.twice_all f g h n (from f h s) (from g h u) i;
+  }
+
+  -- the header that a field belongs to
+  abbrev pub place_of : Field → ℕ
+  place_of (first_of d) = d
+  place_of (next_of h) = h
+
+  -- the links of the headers below a slot
+  abbrev pub Below : ℕ → Field → ℕ → Type 0
+  Below slot f h = IsLink a f h × (place_of f < slot * 16)
+
+  cleared_place : (f : Field) (h : ℕ) → IsLink a f h → cleared (place_of f) ≡ place_of f
+  cleared_place (first_of d) h l = cleared_opened d l.0
+  cleared_place (next_of g) h l = cleared_in_chain a l.0 g l.1.in_chain
+
+  inside_place : IsInside a (root a) → (f : Field) (h : ℕ) → IsLink a f h → IsInside a (place_of f)
+  inside_place r (first_of d) h l = inside_opened r d l.0
+  inside_place r (next_of g) h l = l.2.0
+
+  abbrev Both : ℕ → Field → ℕ → Type 0
+  Both slot = With (With (Below slot) (next_of (slot * 16))) (first_of (slot * 16))
+
+  at_place : (slot : ℕ) (f : Field) (h : ℕ) → IsLink a f h → place_of f ≡ slot * 16 → Both slot f h
+  at_place slot (first_of d) h l e = inr (ap first_of e, subst (λ y. IsLink a (first_of y) h) e l)
+  at_place slot (next_of g) h l e = inl (inr (ap next_of e, subst (λ y. IsLink a (next_of y) h) e l))
+
+  up : (slot : ℕ) (f : Field) (h : ℕ) → Both slot f h → Below (slot + 1) f h
+  up slot f h (inl (inl x)) = (x.0, (let l = x.1 in omega arith))
+  up slot f h (inl (inr x)) = (subst (λ y. IsLink a y h) (sym x.0) x.1, rw (x.0) (omega arith))
+  up slot f h (inr x) = (subst (λ y. IsLink a y h) (sym x.0) x.1, rw (x.0) (omega arith))
+
+  down : (slot : ℕ) (f : Field) (h : ℕ) → Below (slot + 1) f h → Both slot f h
+  down slot f h x = elim (cases_eq (place_of f) (slot * 16)) [
+    | inl e ↦ at_place slot f h x.0 e
+    | inr n ↦ inl (inl (x.0, (let c = cleared_place f h x.0 in let l = x.1 in lower (place_of f) slot c l n)))
+  ]
+    where
+      lower : (p n : ℕ) → cleared p ≡ p → p < (n + 1) * 16 → p ≢ n * 16 → p < n * 16
+      lower p n c l z = omega arith
+
+  first_next : (d h : ℕ) → first_of d ≡ next_of h → ⊥
+  first_next d h e = cc
+
+  pub passes : (slot : ℕ) (once twice once_after twice_after : List Bool) → CountsBoth a (slot * 16) once twice once_after twice_after → Tallied (Below slot) once twice
+      → Tallied (Below (slot + 1)) once_after twice_after
+  passes slot once twice once_after twice_after c t =
+      same_tally (Both slot) (Below (slot + 1)) once_after twice_after (up slot) (down slot)
+      (counts_more (With (Below slot) (next_of (slot * 16))) (first_of (slot * 16)) no_first_yet c.first c.once_between c.twice_between once_after twice_after c.is_first c.counts_first
+      (counts_more (Below slot) (next_of (slot * 16)) (λ h x. no_less (slot * 16) x.1) c.next once twice c.once_between c.twice_between c.is_next c.counts_next t))
+    where
+      no_less : (n : ℕ) → ¬ (n < n)
+      no_less n l = omega arith
+
+      no_first_yet : (h : ℕ) → ¬ With (Below slot) (next_of (slot * 16)) (first_of (slot * 16)) h
+      no_first_yet h (inl x) = no_less (slot * 16) x.1
+      no_first_yet h (inr x) = first_next (slot * 16) (slot * 16) x.0
+
+  pub all_twice : IsInside a (root a) → (once twice : List Bool) → Tallied (Below (length a / 16)) once twice → AreMarks a (IsLinkedTwice a) twice
+  all_twice r once twice t = record {
+    sized = t.twice_sized;
+    each = λ k m. (let x = t.twice_each k m in ((x.0, x.1, x.2, x.3.0, x.4.0), x.5));
+    all = λ h x i. t.twice_all x.0 x.1 h x.2 (x.3, within x.0 h x.3) (x.4, within x.1 h x.4) i;
+  }
+    where
+      within : (f : Field) (h : ℕ) → IsLink a f h → place_of f < length a / 16 * 16
+      within f h l = let i = (inside_place r f h l).1 in let c = cleared_place f h l in omega arith

@@ -1,0 +1,91 @@
+-- What the tests of the rules say of a header.
+use Rattle.std.proofs.Common.{◌≡◌, ◌∙◌, sym, subst, ℕ, ◌+◌, ◌/◌, ◌<◌, ◌↔◌, ◌⊎◌, inl, inr, List, length, Bool, get_or, true, false, Some, IsTrue, IsSomeAnd, Contains, refl, ap, arith}
+use Rattle.std.proofs.lemmas.Bool.{false≢true, cases_order}
+use Rattle.std.proofs.lemmas.Grind.{get_or_default_zero}
+use Rattle.std.specs.List.Sorted.{IsNonDecreasing}
+use Rattle.romfs_format.specs.declared.head.End.{End}
+use Rattle.romfs_format.specs.declared.head.End.TheVariants.{AtDirectory, AtOther, Nowhere}
+use Rattle.romfs_format.specs.declared.rule.Rule.TheVariants.{DataOutside, Twice, SameName}
+use Rattle.romfs_format.specs.Fields.{root, name, size, data_at}
+use Rattle.romfs_format.specs.Chains.{IsSomeMember}
+use Rattle.romfs_format.specs.Links.{IsHardLink, IsDirectory, IsFinal, stays, follows, EndsAs}
+use Rattle.romfs_format.specs.Rules.{IsRootElsewhere, IsUsed, HasData, BreaksHeader}
+use Rattle.romfs_rules.specs.Marks.{AreMarks, IsElsewhere}
+use Rattle.romfs_rules.specs.Leads.{IsInSomeChain}
+use Rattle.romfs_rules.specs.Judge.{HasSlot}
+use Rattle.romfs_rules.specs.Namesakes.{AreNamesakes}
+use Rattle.romfs_rules.proofs.Slots.{marked}
+use Rattle.romfs_rules.proofs.Standing.{some_member}
+
+-- what a test that fails says
+pub fails : {P : Type 0} {b : Bool} → IsTrue b ↔ P → b ≡ false → ¬ P
+fails t e p = false≢true (sym e ∙ t.1 p)
+
+-- a test that reads a mark
+pub mark_says : (a : List ℕ) (P : ℕ → Type 0) (marks : List Bool) (h : ℕ) (b : Bool) → AreMarks a P marks → HasSlot a h → b ≡ get_or marks (h / 16) false → IsTrue b ↔ P h
+mark_says a P marks h b m s e = (λ t. (marked a P marks h m s.aligned s.inside).0 (sym e ∙ t), λ p. e ∙ (marked a P marks h m s.aligned s.inside).1 p)
+
+-- the second of two tests, where the first fails or holds
+pub or_else : {P Q : Type 0} {b c : Bool} → IsTrue b ↔ P → b ≡ false → IsTrue c ↔ Q → IsTrue c ↔ (P ⊎ Q)
+or_else s e t = (λ y. inr (t.0 y), elim [ inl p ↦ absurd (fails s e p) | inr q ↦ t.1 q ])
+
+pub or_true : {P Q : Type 0} {b : Bool} → IsTrue b ↔ P → b ≡ true → IsTrue b ↔ (P ⊎ Q)
+or_true s e = (λ y. inl (s.0 y), λ x. e)
+
+pub and_then : {P Q : Type 0} {b c : Bool} → IsTrue b ↔ P → b ≡ true → IsTrue c ↔ Q → IsTrue c ↔ (P × Q)
+and_then s e t = (λ y. (s.0 e, t.0 y), λ x. t.1 x.1)
+
+pub root_elsewhere : (a : List ℕ) (h : ℕ) → h ≡ root a → IsElsewhere a h ↔ IsRootElsewhere a h
+root_elsewhere a h e = (
+  λ x. (e, (x.dir, x.other, record { opened = x.opened; in_chain = x.in_chain })),
+  λ x. let s = x.1 in record { dir = s.0; other = s.1; opened = s.2.opened; in_chain = s.2.in_chain },
+)
+
+pub member_in_chain : (a : List ℕ) (h : ℕ) → IsSomeMember a h → IsInSomeChain a h
+member_in_chain a h m = elim ((some_member a h).0 m).0 [ inl x ↦ inl x.0 | inr x ↦ inr x ]
+
+-- a chain of hard links has one end
+one_final : (a : List ℕ) {h e f : ℕ} → IsFinal a h e → IsFinal a h f → e ≡ f
+one_final a (stays n) (stays m) = refl
+one_final a (stays n) (follows l y) = absurd (n l)
+one_final a (follows l x) (stays m) = absurd (m l)
+one_final a (follows l x) (follows k y) = one_final a x y
+
+pub one_end : (a : List ℕ) (h : ℕ) (r s : End) → EndsAs a h r → EndsAs a h s → r ≡ s
+one_end a h AtDirectory AtDirectory x y = refl
+one_end a h AtDirectory AtOther x y = absurd (y.2 (subst (λ e. IsDirectory a e) (one_final a x.1 y.1) x.2))
+one_end a h AtDirectory Nowhere x y = absurd (y x.0 x.1)
+one_end a h AtOther AtDirectory x y = absurd (x.2 (subst (λ e. IsDirectory a e) (one_final a y.1 x.1) y.2))
+one_end a h AtOther AtOther x y = refl
+one_end a h AtOther Nowhere x y = absurd (y x.0 x.1)
+one_end a h Nowhere AtDirectory x y = absurd (x y.0 y.1)
+one_end a h Nowhere AtOther x y = absurd (x y.0 y.1)
+one_end a h Nowhere Nowhere x y = refl
+
+pub link_says : (a : List ℕ) (h : ℕ) (end r : End) (b : Bool) → IsSomeMember a h × IsHardLink a h × EndsAs a h end → b ≡ true ↔ (end ≡ r) → IsTrue b ↔ (IsSomeMember a h × IsHardLink a h × EndsAs a h r)
+link_says a h end r b x e = (λ t. (x.0, x.1, subst (λ y. EndsAs a h y) (e.0 t) x.2), λ y. e.1 (one_end a h end r x.2 y.2))
+
+pub data_says : (a : List ℕ) (h : ℕ) (n : List ℕ) (b : Bool) → Some n ≡ name a h → length a < data_at h n + size a h → IsTrue b ↔ (IsUsed a h × HasData a h) → IsTrue b ↔ BreaksHeader a DataOutside h
+data_says a h n b e l t = (
+  λ y. let x = t.0 y in (x.0, x.1, subst (λ o. IsSomeAnd o (λ m. length a < data_at h m + size a h)) e l),
+  λ x. t.1 (x.0, x.1),
+)
+
+-- equal names are known of a header that no two links name
+pub alone : (a : List ℕ) (h : ℕ) → (IsElsewhere a (root a) → h ≡ root a) → ¬ BreaksHeader a Twice h → ¬ IsElsewhere a (root a)
+alone a h only once e = once (inr ((root_elsewhere a h (only e)).0 (subst (λ y. IsElsewhere a y) (sym (only e)) e)))
+
+pub listed_says : (a : List ℕ) (h : ℕ) (hs : List ℕ) (b : Bool) → AreNamesakes a hs → IsTrue b ↔ Contains hs h → IsTrue b ↔ BreaksHeader a SameName h
+listed_says a h hs b n t = (λ y. n.each h (t.0 y), λ x. t.1 (n.all h x))
+
+-- headers that rise do not fall
+pub not_falling : (a hs : List ℕ) → AreNamesakes a hs → IsNonDecreasing hs
+not_falling a hs n i j d l k = elim (cases_order i j) [
+  | inl e ↦ (let same : get_or hs i d ≡ get_or hs j d = ap (λ m. get_or hs m d) e in omega arith)
+  | inr (inl m) ↦ (
+      let r = n.rising i j m k in
+      let x = get_or_default_zero hs i d (omega arith) in
+      let y = get_or_default_zero hs j d k in
+      omega arith)
+  | inr (inr m) ↦ absurd (omega arith)
+]

@@ -1,0 +1,222 @@
+-- The least headers outside the image that are reached.
+use Rattle.std.proofs.Common.{◌≡◌, ◌≢◌, sym, ap, subst, ℕ, suc, ◌+◌, ◌*◌, ◌/◌, ◌<◌, ◌≤◌, ◌↔◌, ◌⊎◌, inl, inr, List, length, false, Option, Some, None, refl, arith, leb}
+use Rattle.std.proofs.lemmas.Bool.{cases_eq, cases_lt, le-leb}
+use Rattle.romfs_format.specs.Fields.{root, IsInside, cleared}
+use Rattle.romfs_format.specs.Chains.{IsFirst, IsNext, IsOpened, at_root, below, IsSomeMember}
+use Rattle.romfs_format.specs.Links.{Field, first_of, next_of, IsLink, IsHardLink, destination, IsDestination, here, there, IsTarget, IsReached}
+use Rattle.romfs_rules.specs.Marks.{IsVolumeImage}
+use Rattle.romfs_rules.specs.Leads.{IsTheOne, IsInSomeChain}
+use Rattle.romfs_rules.specs.Outside.{NamesNext, NamesFirst, NamesDestination, Names, IsLeast, IsBelow, IsAbove, lesser, Notes}
+use Rattle.romfs_rules.proofs.Slots.{inside_root, cleared_root, cleared_in_chain}
+use Rattle.std.proofs.lemmas.Bool.Decides.{nat_tests}
+use Rattle.romfs_rules.proofs.Leads.{nowhere}
+use Rattle.romfs_rules.proofs.Standing.{in_some_chain, link_to}
+
+module _ (a : List ℕ) where
+  -- a chain of hard links may go on by one
+  goes_on : (h g : ℕ) → IsDestination a h g → IsHardLink a g → IsDestination a h (destination a g)
+  goes_on h g (here l) m = there l (here m)
+  goes_on h g (there l x) m = there l (goes_on _ g x m)
+
+  -- the last hard link before a header on a destination chain
+  last : (h g : ℕ) → IsDestination a h g → (p : ℕ) × IsHardLink a p × (g ≡ destination a p) × ((p ≡ h) ⊎ IsDestination a h p)
+  last h g (here l) = (h, l, refl, inl refl)
+  last h g (there l x) =
+      let r = last (destination a h) g x in
+      (r.0, r.1, r.2, elim r.3 [ inl e ↦ inr (subst (IsDestination a h) (sym e) (here l)) | inr y ↦ inr (there l y) ])
+
+  cleared_destination : (h g : ℕ) → IsDestination a h g → cleared g ≡ g
+  cleared_destination h g x = let r = last h g x in rw (r.2) (omega arith)
+
+  next_reached : (h g : ℕ) → NamesNext a h g → IsReached a g
+  next_reached h g (inl c, n) = inr (inl (link_to a (root a) (suc c.0) g (at_root refl) (h, c.1, n)))
+  next_reached h g (inr e, n) = inr (inl (link_to a e.dir (suc e.in_chain.0) g e.opened (h, e.in_chain.1, n)))
+
+  destination_reached : (h g : ℕ) → NamesDestination a h g → IsReached a g
+  destination_reached h g (inl m, l, e) = inr (inr (m.0, h, m.1, rw e (here l)))
+  destination_reached h g (inr (d, m, x, y), l, e) = inr (inr (d, m, x, rw e (goes_on m h y l)))
+
+  pub names_reached : (h g : ℕ) → Names a h g → IsReached a g
+  names_reached h g (inl x) = next_reached h g x
+  names_reached h g (inr (inl x)) = inr (inl (first_of h, x))
+  names_reached h g (inr (inr x)) = destination_reached h g x
+
+  -- g is what some header inside leads to
+  pub record IsLedTo (g : ℕ) : Type 0 where
+    pub from : ℕ
+    pub inside : IsInside a from
+    pub slot : cleared from ≡ from
+    pub names : Names a from g
+
+  module _ (v : IsVolumeImage a) where
+    opened_inside : (d : ℕ) → IsOpened a d → IsInside a d
+    opened_inside d (at_root e) = rw e (inside_root a v)
+    opened_inside d (below o k p i t) = i
+
+    opened_slot : (d : ℕ) → IsOpened a d → cleared d ≡ d
+    opened_slot d (at_root e) = rw e (cleared_root a)
+    opened_slot d (below {d = c} o k p i t) = cleared_in_chain a c d k
+
+    link_named : (f : Field) (g : ℕ) → IsLink a f g → IsLedTo g
+    link_named (first_of d) g x = record { from = d; inside = opened_inside d x.0; slot = opened_slot d x.0; names = inr (inl x) }
+    link_named (next_of p) g (d, s, n) = record { from = p; inside = n.0; slot = cleared_in_chain a d p s.in_chain; names = inl (in_some_chain a d p s.opened s.in_chain, n) }
+
+    target_named : (g : ℕ) → IsTarget a g → IsLedTo g
+    target_named g (d, h, m, x) =
+        let r = last h g x in
+        elim r.3 [
+          | inl e ↦ record { from = r.0; inside = r.1.0; slot = rw e (cleared_in_chain a d h m.in_chain); names = inr (inr (inl (subst (IsSomeMember a) (sym e) (d, m)), r.1, r.2)) }
+          | inr y ↦ record { from = r.0; inside = r.1.0; slot = cleared_destination h r.0 y; names = inr (inr (inr (d, h, m, y), r.1, r.2)) }
+        ]
+
+    -- the reached headers but the root's are those that headers inside lead to
+    pub reached_named : (g : ℕ) → IsReached a g → g ≢ root a → IsLedTo g
+    reached_named g (inl e) n = absurd (n e)
+    reached_named g (inr (inl l)) n = link_named l.0 g l.1
+    reached_named g (inr (inr t)) n = target_named g t
+
+module _ (a : List ℕ) (at : ℕ) where
+  pub next_named : (word : Option ℕ) → IsInSomeChain a at → IsTheOne (IsNext a at) word → IsTheOne (NamesNext a at) word
+  next_named word c o = record { each = λ g. (λ e. (c, (o.each g).0 e), λ x. (o.each g).1 x.1) }
+
+  pub first_named : (word : Option ℕ) → IsOpened a at → IsTheOne (IsFirst a at) word → IsTheOne (NamesFirst a at) word
+  first_named word p o = record { each = λ g. (λ e. (p, (o.each g).0 e), λ x. (o.each g).1 x.1) }
+
+  pub destination_named : (word : Option ℕ) → IsSomeMember a at ⊎ IsTarget a at → IsTheOne (λ g. IsHardLink a at × (g ≡ destination a at)) word → IsTheOne (NamesDestination a at) word
+  destination_named word u o = record { each = λ g. (λ e. (let x = (o.each g).0 e in (u, x.0, x.1)), λ x. (o.each g).1 (x.1, x.2)) }
+
+  pub destination_unnamed : ¬ IsSomeMember a at → ¬ IsTarget a at → IsTheOne (NamesDestination a at) None
+  destination_unnamed m t = nowhere (NamesDestination a at) (λ g x. elim x.0 [ inl y ↦ m y | inr y ↦ t y ])
+
+module _ (Q : ℕ → Type 0) (found : Option ℕ) where
+  pub unnamed : Notes (λ h. ◌≡◌ {A = Option ℕ} None (Some h)) Q found found
+  unnamed = record { is = λ h e. inl e; old = λ h e. (h, e, omega arith); new = λ h e q. cc }
+
+  pub unnoted : (word : ℕ) → ¬ Q word → Notes (λ h. Some word ≡ Some h) Q found found
+  unnoted word n = record { is = λ h e. inl e; old = λ h e. (h, e, omega arith); new = λ h e q. absurd (n (let x : word ≡ h = cc in subst Q (sym x) q)) }
+
+past : (n e : ℕ) → e < n → leb n e ≡ false
+past n e h = grind (arith, nat_tests)
+
+lesser_word : (found : Option ℕ) (word : ℕ) → lesser found word ≤ word
+lesser_word None word = omega arith
+lesser_word (Some least) word = elim (cases_lt word least) [ inl l ↦ rw (past least word l) (omega arith) | inr l ↦ rw (le-leb least word l) l ]
+
+lesser_found : (found : Option ℕ) (word h : ℕ) → found ≡ Some h → lesser found word ≤ h
+lesser_found None word h e = cc
+lesser_found (Some least) word h e =
+    let same : least ≡ h = cc in
+    elim (cases_lt word least) [ inl l ↦ rw (past least word l) (omega arith) | inr l ↦ rw (le-leb least word l) (omega arith) ]
+
+lesser_is : (found : Option ℕ) (word h : ℕ) → lesser found word ≡ h → (found ≡ Some h) ⊎ (word ≡ h)
+lesser_is None word h e = inr e
+lesser_is (Some least) word h e = elim (cases_lt word least) [
+  | inl l ↦ inr (rw (past least word l) at e)
+  | inr l ↦ inl (ap Some (rw (le-leb least word l) at e))
+]
+
+pub noted : (Q : ℕ → Type 0) (found : Option ℕ) (word : ℕ) → Q word → Notes (λ h. Some word ≡ Some h) Q found (Some (lesser found word))
+noted Q found word q = record {
+  is = λ h e. elim (lesser_is found word h (cc)) [ inl x ↦ inl x | inr x ↦ inr (ap Some x, subst Q x q) ];
+  old = λ h e. (lesser found word, refl, lesser_found found word h e);
+  new = λ h e x. (lesser found word, refl, (let y : word ≡ h = cc in subst (λ z. lesser found word ≤ z) y (lesser_word found word)));
+}
+
+-- the one header of W is noted
+of_one : (W Q : ℕ → Type 0) (before word after : Option ℕ) → IsTheOne W word → Notes (λ h. word ≡ Some h) Q before after → Notes W Q before after
+of_one W Q before word after o n = record {
+  is = λ h e. elim (n.is h e) [ inl x ↦ inl x | inr x ↦ inr ((o.each h).0 x.0, x.1) ];
+  old = n.old;
+  new = λ h w q. n.new h ((o.each h).1 w) q;
+}
+
+-- two notes in a row
+then_of : (V W Q : ℕ → Type 0) (before middle after : Option ℕ) → Notes V Q before middle → Notes W Q middle after → Notes (λ h. V h ⊎ W h) Q before after
+then_of V W Q before middle after m n = record {
+  is = λ h e. elim (n.is h e) [
+    | inl x ↦ elim (m.is h x) [ inl y ↦ inl y | inr y ↦ inr (inl y.0, y.1) ]
+    | inr x ↦ inr (inr x.0, x.1)
+  ];
+  old = λ h e. (let x = m.old h e in onward h x.0 x.1 x.2);
+  new = λ h u q. elim u [ inl v ↦ (let x = m.new h v q in onward h x.0 x.1 x.2) | inr w ↦ n.new h w q ];
+}
+  where
+    onward : (h g : ℕ) → middle ≡ Some g → g ≤ h → (k : ℕ) × (after ≡ Some k) × (k ≤ h)
+    onward h g e l = let x = n.old g e in (x.0, x.1, omega arith)
+
+-- what a header leads to is noted, word by word
+pub noted_named : (a : List ℕ) (at : ℕ) (Q : ℕ → Type 0) (next first hard before with_next with_first after : Option ℕ)
+    → IsTheOne (NamesNext a at) next → IsTheOne (NamesFirst a at) first → IsTheOne (NamesDestination a at) hard
+    → Notes (λ h. next ≡ Some h) Q before with_next → Notes (λ h. first ≡ Some h) Q with_next with_first → Notes (λ h. hard ≡ Some h) Q with_first after
+    → Notes (Names a at) Q before after
+noted_named a at Q next first hard before with_next with_first after x y z l m n =
+    let late = then_of (NamesFirst a at) (NamesDestination a at) Q with_next with_first after (of_one _ Q _ first _ y m) (of_one _ Q _ hard _ z n) in
+    then_of (NamesNext a at) (λ g. NamesFirst a at g ⊎ NamesDestination a at g) Q before with_next after (of_one _ Q _ next _ x l) late
+
+-- what was found is the least of P, and with the notes also of W
+least_more : (P W Q : ℕ → Type 0) (before after : Option ℕ) → IsLeast (λ g. P g × Q g) before → Notes W Q before after → IsLeast (λ g. (P g ⊎ W g) × Q g) after
+least_more P W Q before after l n = record {
+  is = λ h e. elim (n.is h e) [ inl x ↦ (let y = l.is h x in (inl y.0, y.1)) | inr x ↦ (inr x.0, x.1) ];
+  whole = all;
+}
+  where
+    all : (h : ℕ) → (P h ⊎ W h) × Q h → (g : ℕ) × (after ≡ Some g) × (g ≤ h)
+    all h (inl p, q) = let x = l.whole h (p, q) in let y = n.old x.0 x.1 in (y.0, y.1, omega arith)
+    all h (inr w, q) = n.new h w q
+
+least_same : (P R : ℕ → Type 0) (found : Option ℕ) → ((g : ℕ) → P g → R g) → ((g : ℕ) → R g → P g) → IsLeast P found → IsLeast R found
+least_same P R found to from l = record { is = λ h e. to h (l.is h e); whole = λ h r. l.whole h (from h r) }
+
+-- g is what a header inside, in a slot before n, leads to
+pub record IsLedToBefore (a : List ℕ) (n g : ℕ) : Type 0 where
+  pub slot : ℕ
+  pub early : slot < n
+  pub inside : IsInside a (slot * 16)
+  pub names : Names a (slot * 16) g
+
+module _ (a : List ℕ) (Q : ℕ → Type 0) where
+  abbrev pub IsFoundBefore : ℕ → Option ℕ → Type 0
+  IsFoundBefore n found = IsLeast (λ g. IsLedToBefore a n g × Q g) found
+
+  pub nothing : (n : ℕ) → n ≡ root a / 16 → IsFoundBefore n None
+  nothing n e = record { is = λ h x. cc; whole = λ h x. absurd (let c = cleared_root a in let l = x.0.early in let i = x.0.inside in omega arith) }
+
+  to_next : (n : ℕ) → IsInside a (n * 16) → (g : ℕ) → (IsLedToBefore a n g ⊎ Names a (n * 16) g) × Q g → IsLedToBefore a (n + 1) g × Q g
+  to_next n i g (inl x, q) = (record { slot = x.slot; early = omega arith; inside = x.inside; names = x.names }, q)
+  to_next n i g (inr x, q) = (record { slot = n; early = omega arith; inside = i; names = x }, q)
+
+  from_next : (n g : ℕ) → IsLedToBefore a (n + 1) g × Q g → (IsLedToBefore a n g ⊎ Names a (n * 16) g) × Q g
+  from_next n g (x, q) = elim (cases_eq x.slot n) [
+    | inl e ↦ (inr (subst (λ y. Names a (y * 16) g) e x.names), q)
+    | inr e ↦ (inl (record { slot = x.slot; early = (let l = x.early in omega arith); inside = x.inside; names = x.names }), q)
+  ]
+
+  -- one slot more
+  pub scans : (n : ℕ) (before after : Option ℕ) → IsInside a (n * 16) → IsFoundBefore n before → Notes (Names a (n * 16)) Q before after → IsFoundBefore (n + 1) after
+  scans n before after i l x = least_same _ _ after (to_next n i) (from_next n) (least_more (IsLedToBefore a n) (Names a (n * 16)) Q before after l x)
+
+  pub all_scanned : IsVolumeImage a → (n : ℕ) (found : Option ℕ) → length a / 16 ≤ n → ((g : ℕ) → Q g → g ≢ root a) → IsFoundBefore n found → IsLeast (λ g. IsReached a g × Q g) found
+  all_scanned v n found l u f = least_same _ _ found (λ g x. (names_reached a (x.0.slot * 16) g x.0.names, x.1)) from f
+    where
+      from : (g : ℕ) → IsReached a g × Q g → IsLedToBefore a n g × Q g
+      from g (r, q) =
+          let x = reached_named a v g r (u g q) in
+          let i = x.inside in
+          (record { slot = x.from / 16; early = omega arith; inside = rw (x.slot) i; names = subst (λ y. Names a y g) (sym x.slot) x.names }, q)
+
+pub slot_inside : (a : List ℕ) (top n slots : ℕ) → top ≡ root a → top / 16 ≤ n → n < slots → slots ≡ length a / 16 → IsInside a (n * 16)
+slot_inside a top n slots t l f s = let c = cleared_root a in (omega arith, omega arith)
+
+-- a reached header that is not inside lies before the root's header or beyond the end
+pub reached_outside : (a : List ℕ) (h : ℕ) → (IsReached a h × ¬ IsInside a h) ↔ ((IsReached a h × IsBelow a h) ⊎ (IsReached a h × IsAbove a h))
+reached_outside a h = (to, from)
+  where
+    to : IsReached a h × ¬ IsInside a h → (IsReached a h × IsBelow a h) ⊎ (IsReached a h × IsAbove a h)
+    to (r, n) = elim (cases_lt h (root a)) [
+      | inl l ↦ inl (r, l)
+      | inr l ↦ elim (cases_lt (length a) (h + 16)) [ inl m ↦ inr (r, (l, m)) | inr m ↦ absurd (n (l, m)) ]
+    ]
+
+    from : (IsReached a h × IsBelow a h) ⊎ (IsReached a h × IsAbove a h) → IsReached a h × ¬ IsInside a h
+    from (inl x) = (x.0, λ i. omega arith)
+    from (inr x) = (x.0, λ i. omega arith)

@@ -1,0 +1,278 @@
+-- Headers with a namesake, by their numbers: one comes after the other.
+use Rattle.std.proofs.Common.{◌≡◌, ◌≢◌, ◌∙◌, sym, ap, subst, ℕ, zero, suc, ◌*◌, ◌/◌, ◌<◌, ◌⊎◌, inl, inr, List, length, get_or, Bool, true, false, Option, Some, None, IsSome, bytes_eq, codes, if◌then◌else◌, refl, arith}
+use Rattle.std.proofs.lemmas.Bool.{cases_eq, cases_order, false≢true, eqb-true, eq-eqb}
+use Rattle.std.proofs.lemmas.Slice.Eq.{bytes_eq-Decides}
+use Rattle.std.specs.Prelude.{◌==◌, ◌||◌, Contains}
+use Rattle.romfs_format.specs.Fields.{root, IsInside, name, next}
+use Rattle.romfs_format.specs.Chains.{IsNext, IsAt, IsInChain, IsPassedOver, IsDotted, IsOpened, at_root, IsMember}
+use Rattle.romfs_rules.specs.Marks.{IsElsewhere, HasNamesake, AreMarks, IsInRootChain}
+use Rattle.romfs_rules.specs.Climb.{After, one, more, AreNoted}
+use Rattle.romfs_rules.specs.Names.{unless_dotted, kept_name, AreClasses}
+use Rattle.romfs_rules.specs.Namesakes.{IsLinked, AreNumbered, IsNextNumber, AreNextNumbers, AreCollected, IsEither, AreChosen, AreNamesakes}
+
+-- g comes after h along next
+pub data Follows (a : List ℕ) : ℕ → ℕ → Type 0 where
+  next_one : {h g : ℕ} → IsNext a h g → Follows a h g
+  later : {h g k : ℕ} → IsNext a h g → Follows a g k → Follows a h k
+
+module _ (a : List ℕ) where
+  follows_next : {h g k : ℕ} → Follows a h g → IsNext a g k → Follows a h k
+  follows_next (next_one n) m = later n (next_one m)
+  follows_next (later n x) m = later n (follows_next x m)
+
+  starts_inside : {h g : ℕ} → Follows a h g → IsInside a h
+  starts_inside (next_one n) = n.0
+  starts_inside (later n x) = n.0
+
+  in_chain_too : (d : ℕ) {h g : ℕ} → IsInChain a d h → Follows a h g → IsInChain a d g
+  in_chain_too d {h = h} c (next_one n) = (suc c.0, (h, c.1, n))
+  in_chain_too d {h = h} c (later n x) = in_chain_too d (suc c.0, (h, c.1, n)) x
+
+  one_at : (d n h g : ℕ) → IsAt a d n h → IsAt a d n g → h ≡ g
+  one_at d zero h g x y = x.0 ∙ sym y.0
+  one_at d (suc n) h g x y = x.2.1 ∙ ap (next a) (one_at d n x.0 y.0 x.1 y.1) ∙ sym y.2.1
+
+  later_follows : (d m n h g : ℕ) → m < n → IsAt a d m h → IsAt a d n g → Follows a h g
+  later_follows d m zero h g l x y = absurd (omega arith)
+  later_follows d m (suc n) h g l x y = elim (cases_order m n) [
+    | inl e ↦ next_one (subst (λ k. IsNext a k g) (one_at d n y.0 h y.1 (subst (λ k. IsAt a d k h) e x)) y.2)
+    | inr (inl k) ↦ follows_next (later_follows d m n h y.0 k x y.1) y.2
+    | inr (inr k) ↦ absurd (omega arith)
+  ]
+
+  -- of two headers of one chain one comes after the other
+  one_follows : (d h g : ℕ) → IsInChain a d h → IsInChain a d g → h ≢ g → Follows a h g ⊎ Follows a g h
+  one_follows d h g x y n = elim (cases_order x.0 y.0) [
+    | inl e ↦ absurd (n (one_at d y.0 h g (subst (λ k. IsAt a d k h) e x.1) y.1))
+    | inr (inl l) ↦ inl (later_follows d x.0 y.0 h g l x.1 y.1)
+    | inr (inr l) ↦ inr (later_follows d y.0 x.0 g h l y.1 x.1)
+  ]
+
+  clear : (d n h : ℕ) → IsAt a d n h → h / 16 * 16 ≡ h
+  clear d zero h x = rw (x.0) (omega arith)
+  clear d (suc n) h x = rw (x.2.1) (omega arith)
+
+  pub linked_clear : (h : ℕ) → IsLinked a h → h / 16 * 16 ≡ h
+  linked_clear h l = let c = l.stands.in_chain in clear l.dir c.0 h c.1
+
+  next_linked : (h g : ℕ) → IsLinked a h → IsNext a h g → IsInside a g → IsLinked a g
+  next_linked h g l n i = record { inside = i; dir = l.dir; stands = record { opened = l.stands.opened; in_chain = (suc l.stands.in_chain.0, (h, l.stands.in_chain.1, n)) } }
+
+  -- what the marks are of
+  pub numbered : (chain other : List Bool) (heads numbers : List ℕ) → AreMarks a (IsInRootChain a) chain → AreMarks a (IsElsewhere a) other → AreCollected chain other (length chain) heads numbers → AreNumbered a heads numbers
+  numbered chain other heads numbers r e c = record {
+    sized = c.sized ∙ r.sized;
+    rising = c.rising;
+    each = λ i l. (let k = c.each i l in rw (k.2) (linked k.0 k.3));
+    place = λ h l. (
+        let q = linked_clear h l in
+        let i = l.inside.1 in
+        let s = r.sized in
+        let p = c.place (h / 16) (omega arith) (marked h l) in
+        (p.0, p.1 ∙ q));
+  }
+    where
+      linked : (k : ℕ) → IsEither chain other k → IsLinked a (k * 16)
+      linked k (inl m) = let p = r.each k m in record { inside = p.1; dir = root a; stands = record { opened = at_root refl; in_chain = p.0 } }
+      linked k (inr m) = let p = e.each k m in record { inside = p.1; dir = p.0.dir; stands = record { opened = p.0.opened; in_chain = p.0.in_chain } }
+
+      marked : (h : ℕ) → IsLinked a h → IsEither chain other (h / 16)
+      marked h l = elim (cases_eq l.dir (root a)) [
+        | inl f ↦ inl (r.all h (subst (λ d. IsInChain a d h) f l.stands.in_chain) l.inside)
+        | inr n ↦ inr (e.all h (record { dir = l.dir; other = n; opened = l.stands.opened; in_chain = l.stands.in_chain }) l.inside)
+      ]
+
+  pub next_number : (heads numbers : List ℕ) (h after : ℕ) → AreNumbered a heads numbers → IsLinked a h → after ≡ next a h → after ≢ 0 → IsInside a after → IsNextNumber a heads h (get_or numbers (after / 16) 0)
+  next_number heads numbers h after n l e z i =
+      let p = n.place after (next_linked h after l (l.inside, e, z) i) in
+      let b = p.0 in
+      record {
+        below = omega arith;
+        only = λ k. subst (λ y. IsNext a h y) (sym p.1) (l.inside, e, z);
+        all = λ g x j. (p.0, p.1 ∙ e ∙ sym x.1);
+      }
+
+  pub no_number : (heads : List ℕ) (h after : ℕ) → after ≡ next a h → ((after ≡ 0) ⊎ (¬ IsInside a after)) → IsNextNumber a heads h (length heads)
+  no_number heads h after e o = record {
+    below = omega arith;
+    only = λ k. absurd (omega arith);
+    all = λ g x j. elim o [ inl z ↦ absurd (x.2 (x.1 ∙ sym e ∙ z)) | inr n ↦ absurd (n (subst (λ y. IsInside a y) (x.1 ∙ sym e) j)) ];
+  }
+
+-- the name that a header keeps
+none_some : (q : List ℕ) → ◌≡◌ {A = Option (List ℕ)} None (Some q) → ⊥
+none_some q e = cc
+
+same_name : (n q : List ℕ) → ◌≡◌ {A = Option (List ℕ)} (Some n) (Some q) → n ≡ q
+same_name n q e = cc
+
+given : (b : Bool) (o : Option (List ℕ)) (q : List ℕ) → ◌≡◌ {A = Option (List ℕ)} (if b then None else o) (Some q) → (b ≡ false) × (o ≡ Some q)
+given true o q e = absurd (none_some q e)
+given false o q e = (refl, e)
+
+gives : (b : Bool) (o : Option (List ℕ)) (q : List ℕ) → b ≡ false → o ≡ Some q → ◌≡◌ {A = Option (List ℕ)} (if b then None else o) (Some q)
+gives true o q f e = absurd (false≢true (sym f))
+gives false o q f e = e
+
+neither : (b c : Bool) → (b || c) ≡ false → (b ≡ false) × (c ≡ false)
+neither true c e = absurd (false≢true (sym e))
+neither false c e = (refl, e)
+
+both_false : (b c : Bool) → b ≡ false → c ≡ false → (b || c) ≡ false
+both_false true c e f = absurd (false≢true (sym e))
+both_false false c e f = f
+
+differs : (n m : List ℕ) → bytes_eq n m ≡ false → n ≢ m
+differs n m f e = absurd (false≢true (sym f ∙ (bytes_eq-Decides n m).1 e))
+
+apart : (n m : List ℕ) → n ≢ m → bytes_eq n m ≡ false
+apart n m d = go (bytes_eq n m) refl
+  where
+    go : (t : Bool) → bytes_eq n m ≡ t → bytes_eq n m ≡ false
+    go true f = absurd (d ((bytes_eq-Decides n m).0 f))
+    go false f = f
+
+not_equal : (x y : ℕ) → x ≢ y → (x == y) ≡ false
+not_equal x y d = go (x == y) refl
+  where
+    go : (t : Bool) → (x == y) ≡ t → (x == y) ≡ false
+    go true f = absurd (d (eqb-true x y f))
+    go false f = f
+
+named : (o : Option (List ℕ)) (q : List ℕ) → unless_dotted o ≡ Some q → (o ≡ Some q) × (q ≢ codes ".") × (q ≢ codes "..")
+named None q e = absurd (none_some q e)
+named (Some n) q e =
+    let r = given (bytes_eq n (codes ".") || bytes_eq n (codes "..")) (Some n) q e in
+    let k = neither (bytes_eq n (codes ".")) (bytes_eq n (codes "..")) r.0 in
+    let f = same_name n q r.1 in
+    (r.1, λ z. differs n (codes ".") k.0 (f ∙ z), λ z. differs n (codes "..") k.1 (f ∙ z))
+
+names : (o : Option (List ℕ)) (q : List ℕ) → o ≡ Some q → q ≢ codes "." → q ≢ codes ".." → unless_dotted o ≡ Some q
+names None q e d f = absurd (none_some q e)
+names (Some n) q e d f =
+    let z = same_name n q e in
+    gives (bytes_eq n (codes ".") || bytes_eq n (codes "..")) (Some n) q
+    (both_false (bytes_eq n (codes ".")) (bytes_eq n (codes "..")) (apart n (codes ".") (λ y. d (sym z ∙ y))) (apart n (codes "..") (λ y. f (sym z ∙ y)))) e
+
+pub kept : (a : List ℕ) (h : ℕ) (q : List ℕ) → kept_name a h ≡ Some q → (h ≢ root a) × (name a h ≡ Some q) × ¬ IsDotted a h
+kept a h q e =
+    let r = given (h == root a) (unless_dotted (name a h)) q e in
+    let k = named (name a h) q r.1 in (
+      λ z. absurd (false≢true (sym r.0 ∙ eq-eqb h (root a) z)),
+      k.0,
+      λ x. elim x.1 [ inl y ↦ k.1 (same_name q _ (sym k.0 ∙ y)) | inr y ↦ k.2 (same_name q _ (sym k.0 ∙ y)) ],
+    )
+
+pub keeps : (a : List ℕ) (h : ℕ) (q : List ℕ) → h ≢ root a → IsInside a h → ¬ IsDotted a h → name a h ≡ Some q → kept_name a h ≡ Some q
+keeps a h q n i d e =
+    gives (h == root a) (unless_dotted (name a h)) q (not_equal h (root a) n)
+    (names (name a h) q e (λ z. d (i, inl (e ∙ ap (λ y. Some y) z))) (λ z. d (i, inr (e ∙ ap (λ y. Some y) z))))
+
+module _ (a heads numbers next class : List ℕ) (noted : List Bool) (n : AreNumbered a heads numbers) (t : AreNextNumbers a heads next)
+    (c : AreClasses (λ i. kept_name a (get_or heads i 0)) (length heads) class) (m : AreNoted next class noted) (only : ¬ IsElsewhere a (root a)) where
+  at_last : {y : ℕ} {x : ℕ} → x ≡ length heads → After next x y → y ≡ length heads
+  at_last e (one f) = sym f ∙ ap (λ z. get_or next z 0) e ∙ t.last
+  at_last e (more f b) = at_last (sym f ∙ ap (λ z. get_or next z 0) e ∙ t.last) b
+
+  -- one number comes after another
+  forth : {x y : ℕ} → x < length heads → y < length heads → After next x y → Follows a (get_or heads x 0) (get_or heads y 0)
+  forth {x = x} {y = y} l k (one e) = next_one (subst (λ z. IsNext a (get_or heads x 0) (get_or heads z 0)) e ((t.each x l).only (let f = e in omega arith)))
+  forth {x = x} {y = y} l k (more {y = w} e b) = elim (cases_order w (length heads)) [
+    | inl f ↦ absurd (let g = at_last f b in omega arith)
+    | inr (inl f) ↦ later (subst (λ z. IsNext a (get_or heads x 0) (get_or heads z 0)) e ((t.each x l).only (let g = e in omega arith))) (forth f k b)
+    | inr (inr f) ↦ absurd (let g = (t.each x l).below in let h = e in omega arith)
+  ]
+
+  back : {h g : ℕ} → Follows a h g → (x : ℕ) → x < length heads → get_or heads x 0 ≡ h → IsInside a g → (y : ℕ) × (y < length heads) × (get_or heads y 0 ≡ g) × After next x y
+  back {h = h} {g = g} (next_one k) x l e i =
+      let p = (t.each x l).all g (subst (λ z. IsNext a z g) (sym e) k) i in
+      (get_or next x 0, p.0, p.1, one refl)
+  back {h = h} {g = g} (later {g = w} k f) x l e i =
+      let p = (t.each x l).all w (subst (λ z. IsNext a z w) (sym e) k) (starts_inside a f) in
+      let r = back f (get_or next x 0) p.0 p.1 i in
+      (r.0, r.1, r.2, more refl r.3)
+
+  one_number : (i j : ℕ) → i < length heads → j < length heads → get_or heads i 0 ≡ get_or heads j 0 → i ≡ j
+  one_number i j l k e = elim (cases_order i j) [
+    | inl f ↦ f
+    | inr (inl f) ↦ absurd (let r = n.rising i j f k in omega arith)
+    | inr (inr f) ↦ absurd (let r = n.rising j i f l in omega arith)
+  ]
+
+  some_name : (o : Option (List ℕ)) (q : List ℕ) → o ≡ Some q → IsSome o
+  some_name o q e = rw e refl
+
+  over : (d h : ℕ) (q : List ℕ) → kept_name a h ≡ Some q → ¬ IsPassedOver a d h
+  over d h q e (inl x) = (kept a h q e).0 x.1
+  over d h q e (inr x) = (kept a h q e).2 x
+
+  -- in the chain of one directory, with one name
+  twins : (i y : ℕ) (q : List ℕ) → i < length heads → y < length heads → y < i → kept_name a (get_or heads i 0) ≡ Some q → kept_name a (get_or heads y 0) ≡ Some q
+      → (d : ℕ) → IsOpened a d → IsInChain a d (get_or heads i 0) → IsInChain a d (get_or heads y 0) → HasNamesake a (get_or heads i 0)
+  twins i y q l k b e f d o x z =
+      let g = (kept a (get_or heads i 0) q e).1 in
+      let h = (kept a (get_or heads y 0) q f).1 in (
+        get_or heads y 0,
+        (
+          n.rising y i b l,
+          (d, record { opened = o; in_chain = z; kept = over d _ q f }, record { opened = o; in_chain = x; kept = over d _ q e }),
+          ((n.each y k).inside, some_name _ q h),
+          ((n.each i l).inside, some_name _ q g),
+          h ∙ sym g,
+        ),
+      )
+
+  pub noted_right : (i : ℕ) → i < length heads → get_or noted i false ≡ true → HasNamesake a (get_or heads i 0)
+  noted_right i l k =
+      let h = m.each i k in
+      let y = h.0 in
+      let w = h.1 in
+      let b = w.below in
+      let s = c.only y i (omega arith) (omega arith) (omega arith) w.same in
+      elim w.along [
+        | inl r ↦ (let p = (n.each i l).stands in twins i y s.2.0 l s.0 b s.2.2 s.2.1 (n.each i l).dir p.opened p.in_chain (in_chain_too a _ p.in_chain (forth l s.0 r)))
+        | inr r ↦ (let p = (n.each y s.0).stands in twins i y s.2.0 l s.0 b s.2.2 s.2.1 (n.each y s.0).dir p.opened (in_chain_too a _ p.in_chain (forth s.0 l r)) p.in_chain)
+      ]
+
+  member_linked : (d h : ℕ) → IsMember a d h → IsInside a h → IsLinked a h
+  member_linked d h k i = record { inside = i; dir = d; stands = record { opened = k.opened; in_chain = k.in_chain } }
+
+  not_root : (d h : ℕ) → IsMember a d h → h ≢ root a
+  not_root d h k e = elim (cases_eq d (root a)) [
+    | inl f ↦ k.kept (inl (f, e))
+    | inr f ↦ only (record { dir = d; other = f; opened = k.opened; in_chain = subst (λ z. IsInChain a d z) e k.in_chain })
+  ]
+
+  its_name : (d h : ℕ) (q : List ℕ) → IsMember a d h → IsInside a h → name a h ≡ Some q → kept_name a h ≡ Some q
+  its_name d h q k i e = keeps a h q (not_root d h k) i (λ x. k.kept (inr x)) e
+
+  pub noted_whole : (h : ℕ) → HasNamesake a h → (i : ℕ) × (i < length heads) × (get_or heads i 0 ≡ h) × (get_or noted i false ≡ true)
+  noted_whole h (g, (b, (d, x, y), u, v, s)) = go (name a h) refl v.1
+    where
+      go : (o : Option (List ℕ)) → name a h ≡ o → IsSome o → (i : ℕ) × (i < length heads) × (get_or heads i 0 ≡ h) × (get_or noted i false ≡ true)
+      go None e f = absurd (false≢true f)
+      go (Some q) e f =
+          let p = n.place h (member_linked d h y v.0) in
+          let r = n.place g (member_linked d g x u.0) in
+          let i = get_or numbers (h / 16) 0 in
+          let j = get_or numbers (g / 16) 0 in
+          let k = its_name d h q y v.0 e in
+          let l = its_name d g q x u.0 (s ∙ e) in
+          let w : j < i = elim (cases_order i j) [
+            | inl z ↦ absurd (let w = sym p.1 ∙ ap (λ k. get_or heads k 0) z ∙ r.1 in omega arith)
+            | inr (inl z) ↦ absurd (let w = n.rising i j z r.0 in let e = p.1 in let f = r.1 in omega arith)
+            | inr (inr z) ↦ z
+          ] in
+          let same = c.all j i q r.0 p.0 (ap (λ z. kept_name a z) r.1 ∙ l) (ap (λ z. kept_name a z) p.1 ∙ k) in
+          let along : After next i j ⊎ After next j i = elim (one_follows a d h g y.in_chain x.in_chain (λ z. omega arith)) [
+            | inl z ↦ (let w = back z i p.0 p.1 u.0 in inl (subst (λ k. After next i k) (one_number w.0 j w.1 r.0 (w.2 ∙ sym r.1)) w.3))
+            | inr z ↦ (let w = back z j r.0 r.1 v.0 in inr (subst (λ k. After next j k) (one_number w.0 i w.1 p.0 (w.2 ∙ sym p.1)) w.3))
+          ] in
+          (i, p.0, p.1, m.all i (let z = t.sized in let pp = p.0 in omega arith) (j, record { below = w; same = same; along = along }))
+
+  pub namesakes : (found : List ℕ) → AreChosen heads noted (length heads) found → AreNamesakes a found
+  namesakes found w = record {
+    each = λ h x. (let r = w.each h x in subst (λ y. HasNamesake a y) r.3 (noted_right r.0 r.1 r.2));
+    all = λ h k. (let r = noted_whole h k in subst (λ y. Contains found y) r.2 (w.all r.0 r.1 r.3));
+    rising = w.rising;
+  }

@@ -1,0 +1,28 @@
+use Rattle.std.proofs.Common.{ap, ◌/◌, ◌*◌, refl, arith}
+use Rattle.romfs_format.specs.Fields.{cleared}
+use Rattle.romfs_rules.proofs.MarkSteps.{fewer_unmarked}
+use Rattle.romfs_rules.proofs.RootWalk.{begun, steps, all_marked}
+use Rattle.romfs_rules.proofs.chains.mark_root_chain.Goals as goal
+
+pub loop-marks-init : goal.loop-marks-init
+loop-marks-init g c = record {
+  walked = begun c.args.image.now c.requires.volume c.args.top c.word.result c.requires.top c.word.ensures c.in_ok-marks.marks.items (c.in_ok-marks.ensures.items_if_clones_equal (λ y e. e));
+  narrow = omega arith;
+}
+
+pub loop-marks-smaller : goal.loop-marks-smaller
+loop-marks-smaller g c =
+    let f = rw c.deref.ensures.value at (c.loop-marks-test.ensures.fresh refl) in
+    let less = fewer_unmarked c.loop-marks.marks.items (c.loop-marks.at / 16) f.1 f.2 in
+    omega arith
+
+pub loop-marks-preserved : goal.loop-marks-preserved
+loop-marks-preserved g c =
+    let f = rw c.deref.ensures.value at (c.loop-marks-test.ensures.fresh refl) in
+    record {
+      walked = steps c.args.image.now c.loop-marks.marks.items c.loop-marks.at c.loop-marks.invariant.walked c.requires.volume f.0 f.1 (c.word-in-loop-marks.result / 16 * 16) (ap cleared c.word-in-loop-marks.ensures);
+      narrow = omega arith;
+    }
+
+pub returns : goal.returns
+returns g c = all_marked c.args.image.now c.loop-marks.marks.items c.loop-marks.at c.loop-marks.invariant.walked (rw c.deref.ensures.value at (c.loop-marks-test.ensures.stale refl))

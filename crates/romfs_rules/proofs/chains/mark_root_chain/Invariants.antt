@@ -1,0 +1,10 @@
+use Rattle.std.proofs.Common.{◌<◌, ◌^◌}
+use Rattle.romfs_rules.proofs.MarkSteps.{unmarked_in}
+use Rattle.romfs_rules.proofs.RootWalk.{Walked}
+use Rattle.romfs_rules.proofs.chains.mark_root_chain.Given as goal
+
+abbrev pub invariant-loop-marks : goal.invariant-loop-marks
+invariant-loop-marks g l = record { walked : Walked l.image l.marks.items l.at; narrow : l.at < 2 ^ 32 }
+
+abbrev pub decreases-loop-marks : goal.decreases-loop-marks
+decreases-loop-marks g l = unmarked_in l.marks.items

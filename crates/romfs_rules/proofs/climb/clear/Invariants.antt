@@ -1,0 +1,11 @@
+use Rattle.std.proofs.Common.{◌≡◌, length, drop}
+use Rattle.romfs_rules.proofs.Rounds.{IsClearing}
+use Rattle.romfs_rules.proofs.climb.clear.Given as goal
+
+abbrev pub invariant-loop-at : goal.invariant-loop-at
+invariant-loop-at g l = record {
+  clearing : IsClearing l.forest.class.items l.found.low.items (drop l.at-index l.ring);
+  low : length l.found.low.items ≡ length l.forest.next.items;
+  entered : l.found.entered.items ≡ l.fn.found.entered.items;
+  noted : l.found.noted.items ≡ l.fn.found.noted.items;
+}

@@ -1,0 +1,16 @@
+use Rattle.std.proofs.Common.{◌≡◌, ◌+◌, ◌*◌, length, get_or, drop, reverse}
+use Rattle.romfs_rules.specs.Climb.{AreKept}
+use Rattle.romfs_rules.proofs.Ascent.{IsUnderWay, unentered}
+use Rattle.romfs_rules.proofs.climb.climb.Given as goal
+
+abbrev pub invariant-loop-found : goal.invariant-loop-found
+invariant-loop-found g l = record {
+  under_way : IsUnderWay l.forest.next.items l.forest.class.items l.forest.first.items l.forest.sibling.items (reverse l.ring) (drop (l.turn + 1) l.ring) (get_or l.ring l.turn 0) l.from (reverse l.steps.items) l.found.entered.items l.found.noted.items l.found.low.items;
+  kept : AreKept l.fn.found.entered.items l.found.entered.items;
+  entered : length l.found.entered.items ≡ length l.forest.next.items;
+  noted : length l.found.noted.items ≡ length l.forest.next.items;
+  low : length l.found.low.items ≡ length l.forest.next.items;
+}
+
+abbrev pub decreases-loop-found : goal.decreases-loop-found
+decreases-loop-found g l = 2 * unentered l.found.entered.items + length l.steps.items

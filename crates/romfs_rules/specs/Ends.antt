@@ -1,0 +1,31 @@
+-- Where the hard links of an image end, as walks along their chains found it.
+use Rattle.std.specs.Prelude.{◌≡◌, ◌≢◌, ℕ, suc, ◌*◌, ◌/◌, ◌<◌, List, length, get_or}
+use Rattle.romfs_format.specs.declared.head.End.{End}
+use Rattle.romfs_format.specs.declared.head.End.TheVariants.{AtDirectory}
+use Rattle.romfs_format.specs.Links.{IsHardLink, EndsAs}
+use Rattle.romfs_rules.specs.Leads.{IsInSomeChain}
+
+-- by slot, walks has the number of the walk that passed there, or 0; by walk, from 1, ends has where its chain ends
+pub record HasEnds (a walks : List ℕ) (ends : List End) : Type 0 where
+  pub each : (k n : ℕ) → get_or walks k 0 ≡ suc n → (n < length ends) × EndsAs a (k * 16) (get_or ends n AtDirectory)
+
+-- and each hard link in a chain was passed
+pub record AreEnds (a walks : List ℕ) (ends : List End) : Type 0 where
+  pub sized : length walks ≡ length a / 16
+  pub known : HasEnds a walks ends
+  pub all : (h : ℕ) → IsInSomeChain a h → IsHardLink a h → get_or walks (h / 16) 0 ≢ 0
+
+-- h is a hard link in a chain of the image, whose ends these are
+pub record KnowsEnd (a walks : List ℕ) (ends : List End) (h : ℕ) : Type 0 where
+  pub known : AreEnds a walks ends
+  pub chained : IsInSomeChain a h
+  pub hard : IsHardLink a h
+
+-- the hard link in a slot, if it is in a chain, was passed
+abbrev pub IsPassed : List ℕ → List ℕ → ℕ → Type 0
+IsPassed a walks slot = IsInSomeChain a (slot * 16) → IsHardLink a (slot * 16) → get_or walks slot 0 ≢ 0
+
+-- what the marks are after a walk, from what they were before: none is lost, and the header it began at has one
+pub record Passes (from : ℕ) (before after : List ℕ) : Type 0 where
+  pub kept : (k : ℕ) → get_or before k 0 ≢ 0 → get_or after k 0 ≢ 0
+  pub passed : get_or after (from / 16) 0 ≢ 0

@@ -1,0 +1,39 @@
+-- Which header leads to which: by next, as a directory by its first file, as a hard link by its destination.
+use Rattle.std.specs.Prelude.{◌≡◌, ◌≢◌, ℕ, ◌⊎◌, ◌↔◌, List, ◌++◌, length, ◌≤◌, Option, Some, Contains}
+use Rattle.romfs_format.specs.Fields.{root}
+use Rattle.romfs_format.specs.Chains.{IsFirst, IsNext}
+use Rattle.romfs_rules.specs.Marks.{IsInRootChain, IsElsewhere, Opens}
+
+-- h stands in the chain of some opened directory
+abbrev pub IsInSomeChain : List ℕ → ℕ → Type 0
+IsInSomeChain a h = IsInRootChain a h ⊎ IsElsewhere a h
+
+-- P holds of the word, if it is there, and of no other header
+pub record IsTheOne (P : ℕ → Type 0) (word : Option ℕ) : Type 0 where
+  pub each : (h : ℕ) → (word ≡ Some h) ↔ P h
+
+-- h leads on to g in chains other than the root's: by next, or as a directory by first
+pub data LeadsOn (a : List ℕ) : ℕ → ℕ → Type 0 where
+  on : {h g : ℕ} → IsNext a h g → LeadsOn a h g
+  down : {h g : ℕ} → h ≢ root a → Opens a h → IsFirst a h g → LeadsOn a h g
+
+-- first of a directory other than the root that the root holds
+pub record IsSeed (a : List ℕ) (g : ℕ) : Type 0 where
+  pub dir : ℕ
+  pub in_chain : IsInRootChain a dir
+  pub other : dir ≢ root a
+  pub opens : Opens a dir
+  pub first : IsFirst a dir g
+
+-- the words are those with which the walk over the other chains begins
+pub record AreSeeds (a words : List ℕ) : Type 0 where
+  pub each : (g : ℕ) → Contains words g → IsSeed a g
+  pub all : (g : ℕ) → IsSeed a g → Contains words g
+
+-- the words after are those before, and then what h leads on to
+pub record Follows (a : List ℕ) (h : ℕ) (before after : List ℕ) : Type 0 where
+  pub new : List ℕ
+  pub is : after ≡ before ++ new
+  pub few : length new ≤ 2
+  pub only : (g : ℕ) → Contains new g → LeadsOn a h g
+  pub whole : (g : ℕ) → LeadsOn a h g → Contains new g

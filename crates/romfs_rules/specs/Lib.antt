@@ -1,0 +1,11 @@
+pub mod Marks
+pub mod Leads
+pub mod Outside
+pub mod Targets
+pub mod Twice
+pub mod Depth
+pub mod Ends
+pub mod Judge
+pub mod Climb
+pub mod Names
+pub mod Namesakes

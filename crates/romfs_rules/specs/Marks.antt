@@ -1,0 +1,43 @@
+-- Sets of headers of an image, as marks by slot: a slot is 16 bytes, and each header inside the image has one.
+use Rattle.std.specs.Prelude.{◌≡◌, ◌≢◌, ℕ, ◌+◌, ◌*◌, ◌/◌, ◌^◌, ◌<◌, ◌≤◌, List, length, Bool, true, false, get_or, IsSome}
+use Rattle.romfs_format.specs.declared.head.Kind.TheVariants.{Directory}
+use Rattle.romfs_format.specs.Fields.{root, IsInside, kind, text_at}
+use Rattle.romfs_format.specs.Chains.{IsInChain, IsDotted, IsOpened}
+use Rattle.romfs_format.specs.Rules.{IsNamesake}
+
+-- what the accessible bytes of an image that keeps the volume rules are known to be
+pub record IsVolumeImage (a : List ℕ) : Type 0 where
+  pub small : length a < 2 ^ 32
+  pub volume_name : IsSome (text_at a 16)
+  pub top : root a + 16 ≤ length a
+  pub directory : kind a (root a) ≡ Directory
+
+abbrev pub IsMarked : List Bool → ℕ → Type 0
+IsMarked marks h = get_or marks (h / 16) false ≡ true
+
+-- the marks are those of the headers inside the image of which P holds
+pub record AreMarks (a : List ℕ) (P : ℕ → Type 0) (marks : List Bool) : Type 0 where
+  pub sized : length marks ≡ length a / 16
+  pub each : (k : ℕ) → get_or marks k false ≡ true → P (k * 16) × IsInside a (k * 16)
+  pub all : (h : ℕ) → P h → IsInside a h → IsMarked marks h
+
+-- h is in the root's chain
+abbrev pub IsInRootChain : List ℕ → ℕ → Type 0
+IsInRootChain a h = IsInChain a (root a) h
+
+-- h stands in the chain of an opened directory other than the root
+pub record IsElsewhere (a : List ℕ) (h : ℕ) : Type 0 where
+  pub dir : ℕ
+  pub other : dir ≢ root a
+  pub opened : IsOpened a dir
+  pub in_chain : IsInChain a dir h
+
+-- the header opens as a directory wherever it is a member
+pub record Opens (a : List ℕ) (h : ℕ) : Type 0 where
+  pub inside : IsInside a h
+  pub kind : kind a h ≡ Directory
+  pub kept : ¬ IsDotted a h
+
+-- a member of the same directory with the same name has a lower place than h
+abbrev pub HasNamesake : List ℕ → ℕ → Type 0
+HasNamesake a h = (g : ℕ) × IsNamesake a g h

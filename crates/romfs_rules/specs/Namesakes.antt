@@ -1,0 +1,53 @@
+-- The headers in chains, by number, and those of which a member of the same directory has the name.
+use Rattle.std.specs.Prelude.{◌≡◌, ℕ, ◌+◌, ◌*◌, ◌/◌, ◌<◌, ◌≤◌, ◌⊎◌, List, length, get_or, Bool, true, false, Contains}
+use Rattle.romfs_format.specs.Fields.{IsInside}
+use Rattle.romfs_format.specs.Chains.{IsNext, Stands}
+use Rattle.romfs_rules.specs.Marks.{HasNamesake}
+
+-- exactly the headers with a namesake at a lower place, rising and each once
+pub record AreNamesakes (a found : List ℕ) : Type 0 where
+  pub each : (h : ℕ) → Contains found h → HasNamesake a h
+  pub all : (h : ℕ) → HasNamesake a h → Contains found h
+  pub rising : (i j : ℕ) → i < j → j < length found → get_or found i 0 < get_or found j 0
+
+-- h lies in the image, in the chain of some opened directory
+pub record IsLinked (a : List ℕ) (h : ℕ) : Type 0 where
+  pub inside : IsInside a h
+  pub dir : ℕ
+  pub stands : Stands a dir h
+
+abbrev pub IsEither : List Bool → List Bool → ℕ → Type 0
+IsEither one other k = (get_or one k false ≡ true) ⊎ (get_or other k false ≡ true)
+
+-- the headers of the first slots that are marked on either list, in order, and how many of them stand before each slot
+pub record AreCollected (one other : List Bool) (slots : ℕ) (heads numbers : List ℕ) : Type 0 where
+  pub sized : length numbers ≡ slots
+  pub few : length heads ≤ slots
+  pub rising : (i j : ℕ) → i < j → j < length heads → get_or heads i 0 < get_or heads j 0
+  pub each : (i : ℕ) → i < length heads → (k : ℕ) × (k < slots) × (get_or heads i 0 ≡ k * 16) × IsEither one other k
+  pub place : (k : ℕ) → k < slots → IsEither one other k → (get_or numbers k 0 < length heads) × (get_or heads (get_or numbers k 0) 0 ≡ k * 16)
+
+-- all headers that are linked, in order, and the number of each by its slot
+pub record AreNumbered (a heads numbers : List ℕ) : Type 0 where
+  pub sized : length numbers ≡ length a / 16
+  pub rising : (i j : ℕ) → i < j → j < length heads → get_or heads i 0 < get_or heads j 0
+  pub each : (i : ℕ) → i < length heads → IsLinked a (get_or heads i 0)
+  pub place : (h : ℕ) → IsLinked a h → (get_or numbers (h / 16) 0 < length heads) × (get_or heads (get_or numbers (h / 16) 0) 0 ≡ h)
+
+-- the number of the header after h, or that of headers where there is none inside the image
+pub record IsNextNumber (a heads : List ℕ) (h number : ℕ) : Type 0 where
+  pub below : number < length heads + 1
+  pub only : number < length heads → IsNext a h (get_or heads number 0)
+  pub all : (g : ℕ) → IsNext a h g → IsInside a g → (number < length heads) × (get_or heads number 0 ≡ g)
+
+-- the number of the header after each, and one that leads to itself for none
+pub record AreNextNumbers (a heads next : List ℕ) : Type 0 where
+  pub sized : length next ≡ length heads + 1
+  pub last : get_or next (length heads) 0 ≡ length heads
+  pub each : (i : ℕ) → i < length heads → IsNextNumber a heads (get_or heads i 0) (get_or next i 0)
+
+-- those of the headers that are noted, in order
+pub record AreChosen (heads : List ℕ) (noted : List Bool) (count : ℕ) (found : List ℕ) : Type 0 where
+  pub each : (h : ℕ) → Contains found h → (i : ℕ) × (i < count) × (get_or noted i false ≡ true) × (get_or heads i 0 ≡ h)
+  pub all : (i : ℕ) → i < count → get_or noted i false ≡ true → Contains found (get_or heads i 0)
+  pub rising : (i j : ℕ) → i < j → j < length found → get_or found i 0 < get_or found j 0

@@ -1,0 +1,46 @@
+-- Which headers outside the image the headers inside lead to.
+use Rattle.std.specs.Prelude.{◌≡◌, ℕ, ◌+◌, ◌<◌, ◌≤◌, ◌⊎◌, List, length, Option, Some, None, nat_le, if◌then◌else◌}
+use Rattle.romfs_format.specs.Fields.{root}
+use Rattle.romfs_format.specs.Chains.{IsFirst, IsNext, IsOpened, IsSomeMember}
+use Rattle.romfs_format.specs.Links.{IsHardLink, destination, IsTarget}
+use Rattle.romfs_rules.specs.Leads.{IsInSomeChain}
+
+-- next of the header h in a chain is g
+abbrev pub NamesNext : List ℕ → ℕ → ℕ → Type 0
+NamesNext a h g = IsInSomeChain a h × IsNext a h g
+
+-- first of the opened directory h is g
+abbrev pub NamesFirst : List ℕ → ℕ → ℕ → Type 0
+NamesFirst a h g = IsOpened a h × IsFirst a h g
+
+-- g is the destination of h, a hard link that is a member or that a member's hard link leads over
+abbrev pub NamesDestination : List ℕ → ℕ → ℕ → Type 0
+NamesDestination a h g = (IsSomeMember a h ⊎ IsTarget a h) × IsHardLink a h × (g ≡ destination a h)
+
+-- the header h leads to g
+abbrev pub Names : List ℕ → ℕ → ℕ → Type 0
+Names a h g = NamesNext a h g ⊎ NamesFirst a h g ⊎ NamesDestination a h g
+
+-- the number is the least of P; there is none where nothing is of P
+pub record IsLeast (P : ℕ → Type 0) (least : Option ℕ) : Type 0 where
+  pub is : (h : ℕ) → least ≡ Some h → P h
+  pub whole : (h : ℕ) → P h → (g : ℕ) × (least ≡ Some g) × (g ≤ h)
+
+-- before the root's header
+abbrev pub IsBelow : List ℕ → ℕ → Type 0
+IsBelow a h = h < root a
+
+-- from the root's header on, and not whole in the image
+abbrev pub IsAbove : List ℕ → ℕ → Type 0
+IsAbove a h = (root a ≤ h) × (length a < h + 16)
+
+-- the lesser of a word and what was found before
+abbrev pub lesser : Option ℕ → ℕ → ℕ
+lesser None word = word
+lesser (Some least) word = if nat_le least word then least else word
+
+-- what is found after is the least of what was found before and of what both W and Q hold of
+pub record Notes (W Q : ℕ → Type 0) (before after : Option ℕ) : Type 0 where
+  pub is : (h : ℕ) → after ≡ Some h → (before ≡ Some h) ⊎ (W h × Q h)
+  pub old : (h : ℕ) → before ≡ Some h → (g : ℕ) × (after ≡ Some g) × (g ≤ h)
+  pub new : (h : ℕ) → W h → Q h → (g : ℕ) × (after ≡ Some g) × (g ≤ h)

@@ -1,0 +1,19 @@
+-- Sets of headers that hold each hard link's destination with it.
+use Rattle.std.specs.Prelude.{◌≡◌, ℕ, ◌*◌, ◌⊎◌, List, Bool, true, false, get_or}
+use Rattle.romfs_format.specs.Fields.{IsInside}
+use Rattle.romfs_format.specs.Links.{IsHardLink, destination, IsDestination}
+use Rattle.romfs_rules.specs.Marks.{IsMarked}
+
+-- where h leads has a mark, or lies outside
+abbrev pub IsFollowed : List ℕ → List Bool → ℕ → Type 0
+IsFollowed a marks h = IsMarked marks (destination a h) ⊎ ¬ IsInside a (destination a h)
+
+-- each hard link that has a mark is followed
+pub record IsClosed (a : List ℕ) (marks : List Bool) : Type 0 where
+  pub each : (k : ℕ) → get_or marks k false ≡ true → IsHardLink a (k * 16) → IsFollowed a marks (k * 16)
+
+-- the new marks are the old ones, and those of headers on the destination chain of h, where h leads among them
+pub record FollowsLink (a : List ℕ) (h : ℕ) (old new : List Bool) : Type 0 where
+  pub kept : (k : ℕ) → get_or old k false ≡ true → get_or new k false ≡ true
+  pub only : (k : ℕ) → get_or new k false ≡ true → (get_or old k false ≡ true) ⊎ (IsDestination a h (k * 16) × IsInside a (k * 16))
+  pub followed : IsHardLink a h → IsFollowed a new h

@@ -1,0 +1,114 @@
+//! The first rule that an image breaks behind its volume header.
+
+ghost use Rattle.std.specs.Prelude.{◌≡◌, ℕ, List, IfOk};
+ghost use Rattle.romfs_format.specs.Fields.{root, image};
+ghost use Rattle.romfs_format.specs.Rules.{IsVolume};
+ghost use Rattle.romfs_rules.specs.Marks.{IsVolumeImage, AreMarks, IsInRootChain, IsElsewhere};
+ghost use Rattle.romfs_rules.specs.Namesakes.{AreNamesakes};
+ghost use Rattle.romfs_rules.specs.Judge.{IsHeaderFault};
+ghost use Rattle.romfs_format.specs.Rules.{IsFaultOf};
+
+use crate::chains::{mark_elsewhere, mark_root_chain};
+use crate::depth::find_deep;
+use crate::ends::find_ends;
+use crate::judge::{Sets, fault_of, header_fault};
+use crate::namesakes::find_namesakes;
+use crate::outside::find_outside;
+use crate::targets::mark_targets;
+use crate::twice::mark_twice;
+use crate::volume::{image_of, volume_fault};
+use romfs_format::ImageFault;
+use romfs_format::read::{root_of, word};
+use std::alloc::{AllocError, Allocator};
+
+/// The headers with a namesake; none where the root stands in another chain than its own, since then
+/// no fault of a name is the first.
+fn namesakes_below<A: Allocator + Copy>(
+    alloc: A,
+    bytes: &[u8],
+    top: usize,
+    root_chain: &[bool],
+    elsewhere: &[bool],
+) -> Result<Vec<u32, A>, AllocError>
+    requires volume { IsVolumeImage bytes.now }
+    requires top { top ≡ root bytes.now }
+    requires root_chain { AreMarks bytes.now (IsInRootChain bytes.now) root_chain.now }
+    requires elsewhere { AreMarks bytes.now (IsElsewhere bytes.now) elsewhere.now }
+    ensures { IfOk result (λ found. ¬ IsElsewhere bytes.now (root bytes.now) → AreNamesakes bytes.now found.items) }
+{
+    if elsewhere[top / 16] {
+        Ok(Vec::new(alloc))
+    } else {
+        find_namesakes(alloc, bytes, top, root_chain, elsewhere)
+    }
+}
+
+/// The first breach of a rule of file headers.
+fn header_fault_in<A: Allocator + Copy>(
+    alloc: A,
+    bytes: &[u8],
+    top: usize,
+) -> Result<Option<ImageFault>, AllocError>
+    requires volume { IsVolumeImage bytes.now }
+    requires top { top ≡ root bytes.now }
+    ensures { IfOk result (IsHeaderFault bytes.now) }
+{
+    let root_chain = mark_root_chain(alloc, bytes, top)?;
+    let elsewhere = mark_elsewhere(alloc, bytes, top, &root_chain)?;
+    let namesakes = namesakes_below(alloc, bytes, top, &root_chain, &elsewhere)?;
+    let targets = mark_targets(alloc, bytes, top, &root_chain, &elsewhere)?;
+    let twice = mark_twice(alloc, bytes, top, &root_chain, &elsewhere)?;
+    let ends = find_ends(alloc, bytes, top, &root_chain, &elsewhere)?;
+    let outside = find_outside(bytes, top, &root_chain, &elsewhere, &targets);
+    let sets = Sets {
+        root_chain: &root_chain,
+        elsewhere: &elsewhere,
+        targets: &targets,
+        twice: &twice,
+        namesakes: &namesakes,
+        ends: &ends,
+    };
+    Ok(header_fault(bytes, top, &sets, outside))
+}
+
+/// The fault of an image that keeps the rules of the volume header, by its accessible bytes; none where
+/// it is sound.
+fn fault_in<A: Allocator + Copy>(
+    alloc: A,
+    bytes: &[u8],
+    top: usize,
+) -> Result<Option<ImageFault>, AllocError>
+    requires volume { IsVolumeImage bytes.now }
+    requires top { top ≡ root bytes.now }
+    ensures { IfOk result (λ fault. (b : List ℕ) → image b ≡ bytes.now → IsVolume b → IsFaultOf b fault) }
+{
+    let header = header_fault_in(alloc, bytes, top)?;
+    let deep = match header {
+        Some(_) => None,
+        None => find_deep(alloc, bytes, top)?,
+    };
+    Ok(fault_of(header, deep))
+}
+
+/// The fault of some bytes as an image; none where they break no rule.
+///
+/// That is the first broken rule of the volume header; else, of all broken rules of file headers, the one at
+/// the least place, and there the first; else a path of more than 512 names, at the least such header. The
+/// error comes only where memory was refused.
+///
+/// It takes n log n steps in headers and one pass over the bytes of the image, whatever they are. Beside them
+/// it takes at most 8 bytes for each 16 of the image and 64 for each header in a chain, and keeps nothing.
+pub fn first_fault<A: Allocator + Copy>(
+    alloc: A,
+    bytes: &[u8],
+) -> Result<Option<ImageFault>, AllocError>
+    ensures { IfOk result (IsFaultOf bytes.now) }
+{
+    match volume_fault(bytes) {
+        Some(fault) => Ok(Some(fault)),
+        None => {
+            let accessible = image_of(bytes, word(bytes, 8) as usize);
+            fault_in(alloc, accessible, root_of(accessible) as usize)
+        }
+    }
+}

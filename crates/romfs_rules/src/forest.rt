@@ -1,0 +1,39 @@
+//! Headers that each lead on to one.
+
+ghost use Rattle.std.specs.Prelude.{◌<◌, ◌^◌, IfOk, length};
+ghost use Rattle.romfs_rules.specs.Climb.{AreBelow, AreLists};
+
+use std::alloc::{AllocError, Allocator};
+
+/// Numbered headers, each of which leads on to one.
+#[derive(Drop)]
+pub(crate) struct Forest<A: Allocator> {
+    /// The header that each leads on to.
+    pub next: Vec<u32, A>,
+    /// The class of each: a number below that of headers.
+    pub class: Vec<u32, A>,
+    /// The first of those that lead to each, or the number of headers.
+    pub first: Vec<u32, A>,
+    /// The next that leads to the same header, or the number of headers.
+    pub sibling: Vec<u32, A>,
+}
+
+/// The lists of those that lead to each: the first of each list, and what follows each on its own.
+pub(crate) fn lists<A: Allocator + Copy>(
+    alloc: A,
+    next: &[u32],
+) -> Result<(Vec<u32, A>, Vec<u32, A>), AllocError>
+    requires few { length next.now < 2 ^ 32 }
+    requires next { AreBelow next.now (length next.now) }
+    ensures { IfOk result (λ lists. AreLists next.now lists.0.items lists.1.items) }
+{
+    let none = next.len() as u32;
+    let mut first = vec![in alloc; none; next.len()]?;
+    let mut sibling = vec![in alloc; none; next.len()]?;
+    for at in (0..next.len()).rev() {
+        let to = next[at] as usize;
+        sibling[at] = first[to];
+        first[to] = at as u32;
+    }
+    Ok((first, sibling))
+}

@@ -1,0 +1,140 @@
+//! Members of a directory that have the name of another.
+
+ghost use Rattle.std.specs.Prelude.{◌≡◌, ◌≢◌, ◌+◌, ◌/◌, ◌^◌, ◌<◌, ◌≤◌, ◌↔◌, ℕ, List, Bool, IfOk, IsTrue, length, get_or};
+ghost use Rattle.romfs_format.specs.Fields.{root, IsInside};
+ghost use Rattle.romfs_rules.specs.Marks.{IsVolumeImage, AreMarks, IsInRootChain, IsElsewhere};
+ghost use Rattle.romfs_rules.specs.Namesakes.{IsLinked, IsEither, AreCollected, AreNumbered, IsNextNumber, AreNextNumbers, AreChosen, AreNamesakes};
+
+use crate::climb::note_higher;
+use crate::forest::{Forest, lists};
+use crate::names::classes;
+use romfs_format::read::word;
+use std::alloc::{AllocError, Allocator};
+
+/// Whether a slot is marked on either list.
+fn is_either(chain: &[bool], elsewhere: &[bool], slot: usize) -> bool
+    requires chain { slot < length chain.now }
+    requires elsewhere { slot < length elsewhere.now }
+    ensures { IsTrue result ↔ IsEither chain.now elsewhere.now slot }
+{
+    chain[slot] || elsewhere[slot]
+}
+
+/// The marked headers in order, and how many of them stand before each slot.
+fn collect<A: Allocator + Copy>(
+    alloc: A,
+    chain: &[bool],
+    elsewhere: &[bool],
+) -> Result<(Vec<u32, A>, Vec<u32, A>), AllocError>
+    requires few { length chain.now < 2 ^ 28 }
+    requires sized { length elsewhere.now ≡ length chain.now }
+    ensures { IfOk result (λ both.
+        AreCollected chain.now elsewhere.now (length chain.now) both.0.items both.1.items) }
+{
+    let mut heads = Vec::new(alloc);
+    let mut numbers = Vec::with_capacity(alloc, chain.len())?;
+    for slot in 0..chain.len() {
+        numbers.push(heads.len() as u32)?;
+        if is_either(chain, elsewhere, slot) {
+            heads.push((slot * 16) as u32)?;
+        }
+    }
+    Ok((heads, numbers))
+}
+
+/// Whether a header lies in the image.
+fn is_inside(image: &[u8], top: usize, at: usize) -> bool
+    requires top { top ≡ root image.now }
+    requires at { at < 2 ^ 32 }
+    ensures { IsTrue result ↔ IsInside image.now at }
+{
+    top <= at && at + 16 <= image.len()
+}
+
+/// The number of the header after one, or that of headers where there is none inside the image.
+fn next_number(image: &[u8], top: usize, heads: &[u32], numbers: &[u32], at: usize) -> u32
+    requires small { length image.now < 2 ^ 32 }
+    requires top { top ≡ root image.now }
+    requires few { length heads.now < 2 ^ 32 }
+    requires numbered { AreNumbered image.now heads.now numbers.now }
+    requires at { IsLinked image.now at }
+    ensures { IsNextNumber image.now heads.now at result }
+{
+    let after = word(image, at) as usize / 16 * 16;
+    if after != 0 && is_inside(image, top, after) {
+        numbers[after / 16]
+    } else {
+        heads.len() as u32
+    }
+}
+
+/// The number of the header after each, and one more, for none, that leads to itself.
+fn next_numbers<A: Allocator + Copy>(
+    alloc: A,
+    image: &[u8],
+    top: usize,
+    heads: &[u32],
+    numbers: &[u32],
+) -> Result<Vec<u32, A>, AllocError>
+    requires small { length image.now < 2 ^ 32 }
+    requires top { top ≡ root image.now }
+    requires few { length heads.now < 2 ^ 32 }
+    requires numbered { AreNumbered image.now heads.now numbers.now }
+    ensures { IfOk result (λ next. AreNextNumbers image.now heads.now next.items) }
+{
+    let mut next = Vec::with_capacity(alloc, heads.len() + 1)?;
+    for at in heads {
+        next.push(next_number(image, top, heads, numbers, *at as usize))?;
+    }
+    next.push(heads.len() as u32)?;
+    Ok(next)
+}
+
+/// Those of the headers that are noted.
+fn chosen<A: Allocator>(alloc: A, heads: &[u32], noted: &[bool]) -> Result<Vec<u32, A>, AllocError>
+    requires sized { length heads.now ≤ length noted.now }
+    requires rising { (i j : ℕ) → i < j → j < length heads.now →
+        get_or heads.now i 0 < get_or heads.now j 0 }
+    ensures { IfOk result (λ found. AreChosen heads.now noted.now (length heads.now) found.items) }
+{
+    let mut found = Vec::new(alloc);
+    for (number, head) in heads.iter().enumerate() {
+        if noted[number] {
+            found.push(*head)?;
+        }
+    }
+    Ok(found)
+}
+
+/// The members that have the name of another member of their directory that stands at a lower
+/// place, in the order of their places.
+pub(crate) fn find_namesakes<A: Allocator + Copy>(
+    alloc: A,
+    image: &[u8],
+    top: usize,
+    root_chain: &[bool],
+    elsewhere: &[bool],
+) -> Result<Vec<u32, A>, AllocError>
+    requires volume { IsVolumeImage image.now }
+    requires top { top ≡ root image.now }
+    requires root_chain { AreMarks image.now (IsInRootChain image.now) root_chain.now }
+    requires elsewhere { AreMarks image.now (IsElsewhere image.now) elsewhere.now }
+    requires alone { ¬ IsElsewhere image.now (root image.now) }
+    ensures { IfOk result (λ found. AreNamesakes image.now found.items) }
+{
+    let (heads, numbers) = collect(alloc, root_chain, elsewhere)?;
+    let next = next_numbers(alloc, image, top, &heads, &numbers)?;
+    drop(numbers);
+    let class = classes(alloc, image, top, &heads)?;
+    let (first, sibling) = lists(alloc, &next)?;
+    let noted = note_higher(
+        alloc,
+        &Forest {
+            next,
+            class,
+            first,
+            sibling,
+        },
+    )?;
+    chosen(alloc, &heads, &noted)
+}

@@ -1,0 +1,173 @@
+//! Headers that are reached, and lie outside the image.
+
+ghost use Rattle.std.specs.Prelude.{◌≡◌, ◌*◌, ◌/◌, ◌<◌, ◌^◌, length};
+ghost use Rattle.romfs_format.specs.Fields.{root, IsInside, cleared};
+ghost use Rattle.romfs_format.specs.Links.{IsTarget, IsReached};
+ghost use Rattle.romfs_rules.specs.Marks.{IsVolumeImage, IsInRootChain, IsElsewhere, AreMarks};
+ghost use Rattle.romfs_rules.specs.Leads.{IsTheOne};
+ghost use Rattle.romfs_rules.specs.Outside.{NamesNext, NamesFirst, Names, NamesNext, NamesFirst, NamesDestination, IsLeast, IsBelow, IsAbove, lesser, Notes};
+
+use crate::lead::{destination_of, first_of, next_of};
+use crate::member::{is_marked, is_opened, is_some_member};
+
+/// The least places outside the image at which headers are reached.
+#[derive(Clone, Copy)]
+pub(crate) struct Outside {
+    /// The least below the root's header.
+    pub below: Option<u32>,
+    /// The least of those from the root's header on.
+    pub above: Option<u32>,
+}
+
+/// The header after a header that stands in a chain.
+fn named_next(image: &[u8], at: usize, root_chain: &[bool], elsewhere: &[bool]) -> Option<u32>
+    requires inside { IsInside image.now at }
+    requires slot { cleared at ≡ at }
+    requires root_chain { AreMarks image.now (IsInRootChain image.now) root_chain.now }
+    requires elsewhere { AreMarks image.now (IsElsewhere image.now) elsewhere.now }
+    ensures { IsTheOne (NamesNext image.now at) result }
+{
+    if is_marked(root_chain, at) || is_marked(elsewhere, at) {
+        next_of(image, at)
+    } else {
+        None
+    }
+}
+
+/// The first header of a directory that is opened.
+fn named_first(
+    image: &[u8],
+    top: usize,
+    at: usize,
+    root_chain: &[bool],
+    elsewhere: &[bool],
+) -> Option<u32>
+    requires small { length image.now < 2 ^ 32 }
+    requires top { top ≡ root image.now }
+    requires inside { IsInside image.now at }
+    requires slot { cleared at ≡ at }
+    requires root_chain { AreMarks image.now (IsInRootChain image.now) root_chain.now }
+    requires elsewhere { AreMarks image.now (IsElsewhere image.now) elsewhere.now }
+    ensures { IsTheOne (NamesFirst image.now at) result }
+{
+    if is_opened(image, top, at, root_chain, elsewhere) {
+        first_of(image, top, at)
+    } else {
+        None
+    }
+}
+
+/// The destination of a hard link that is a member, or that a member's hard link leads over.
+fn named_destination(
+    image: &[u8],
+    top: usize,
+    at: usize,
+    root_chain: &[bool],
+    elsewhere: &[bool],
+    targets: &[bool],
+) -> Option<u32>
+    requires small { length image.now < 2 ^ 32 }
+    requires top { top ≡ root image.now }
+    requires inside { IsInside image.now at }
+    requires slot { cleared at ≡ at }
+    requires root_chain { AreMarks image.now (IsInRootChain image.now) root_chain.now }
+    requires elsewhere { AreMarks image.now (IsElsewhere image.now) elsewhere.now }
+    requires targets { AreMarks image.now (IsTarget image.now) targets.now }
+    ensures { IsTheOne (NamesDestination image.now at) result }
+{
+    if is_marked(targets, at) || is_some_member(image, top, at, root_chain, elsewhere) {
+        destination_of(image, at)
+    } else {
+        None
+    }
+}
+
+/// The lesser of a word and what was found before.
+fn lesser(found: Option<u32>, word: u32) -> u32
+    ensures { result ≡ lesser found word }
+{
+    match found {
+        Some(least) if least <= word => least,
+        _ => word,
+    }
+}
+
+/// What is found with one header more, if there is one.
+#[tactic(auto, using(crate::proofs::Reach::unnamed, crate::proofs::Reach::noted, crate::proofs::Reach::unnoted))]
+fn note(found: Outside, image: &[u8], top: usize, word: Option<u32>) -> Outside
+    requires top { top ≡ root image.now }
+    ensures below { Notes (λ h. word ≡ Some h) (IsBelow image.now) found.below result.below }
+    ensures above { Notes (λ h. word ≡ Some h) (IsAbove image.now) found.above result.above }
+{
+    let Some(word) = word else {
+        return found;
+    };
+    let at = word as usize;
+    if at < top {
+        Outside {
+            below: Some(lesser(found.below, word)),
+            above: found.above,
+        }
+    } else if image.len() < at + 16 {
+        Outside {
+            below: found.below,
+            above: Some(lesser(found.above, word)),
+        }
+    } else {
+        found
+    }
+}
+
+/// What is found with the headers more that a header leads to.
+fn note_named(
+    found: Outside,
+    image: &[u8],
+    top: usize,
+    at: usize,
+    root_chain: &[bool],
+    elsewhere: &[bool],
+    targets: &[bool],
+) -> Outside
+    requires small { length image.now < 2 ^ 32 }
+    requires top { top ≡ root image.now }
+    requires inside { IsInside image.now at }
+    requires slot { cleared at ≡ at }
+    requires root_chain { AreMarks image.now (IsInRootChain image.now) root_chain.now }
+    requires elsewhere { AreMarks image.now (IsElsewhere image.now) elsewhere.now }
+    requires targets { AreMarks image.now (IsTarget image.now) targets.now }
+    ensures below { Notes (Names image.now at) (IsBelow image.now) found.below result.below }
+    ensures above { Notes (Names image.now at) (IsAbove image.now) found.above result.above }
+{
+    let next = named_next(image, at, root_chain, elsewhere);
+    let first = named_first(image, top, at, root_chain, elsewhere);
+    let destination = named_destination(image, top, at, root_chain, elsewhere, targets);
+    let with_next = note(found, image, top, next);
+    let with_first = note(with_next, image, top, first);
+    note(with_first, image, top, destination)
+}
+
+/// Finds the least headers outside the image that are reached, on either side.
+pub(crate) fn find_outside(
+    image: &[u8],
+    top: usize,
+    root_chain: &[bool],
+    elsewhere: &[bool],
+    targets: &[bool],
+) -> Outside
+    requires volume { IsVolumeImage image.now }
+    requires top { top ≡ root image.now }
+    requires root_chain { AreMarks image.now (IsInRootChain image.now) root_chain.now }
+    requires elsewhere { AreMarks image.now (IsElsewhere image.now) elsewhere.now }
+    requires targets { AreMarks image.now (IsTarget image.now) targets.now }
+    ensures below { IsLeast (λ h. IsReached image.now h × IsBelow image.now h) result.below }
+    ensures above { IsLeast (λ h. IsReached image.now h × IsAbove image.now h) result.above }
+{
+    let mut found = Outside {
+        below: None,
+        above: None,
+    };
+    for slot in top / 16..root_chain.len() {
+        found = note_named(found, image, top, slot * 16, root_chain, elsewhere, targets);
+    }
+    found
+}

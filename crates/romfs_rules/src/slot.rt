@@ -1,0 +1,25 @@
+//! Headers and their slots.
+
+ghost use Rattle.std.specs.Prelude.{◌≡◌, ◌+◌, ◌<◌, ◌≤◌, ◌/◌, ◌⊎◌, ◌↔◌, ◌^◌, Bool, false, length, get_or, IsTrue};
+ghost use Rattle.romfs_format.specs.Fields.{root, IsInside};
+ghost use Rattle.romfs_rules.specs.Marks.{IsMarked};
+
+/// Whether a header lies in the image.
+pub(crate) fn is_inside(image: &[u8], top: usize, at: usize) -> bool
+    requires at { at < 2 ^ 32 }
+    requires top { top ≡ root image.now }
+    ensures { IsTrue result ↔ IsInside image.now at }
+{
+    top <= at && at + 16 <= image.len()
+}
+
+/// Whether a header lies in the image, and has no mark.
+pub(crate) fn is_fresh(image: &[u8], top: usize, at: usize, marks: &[bool]) -> bool
+    requires at { at < 2 ^ 32 }
+    requires top { top ≡ root image.now }
+    requires sized { length marks.now ≡ length image.now / 16 }
+    ensures fresh { IsTrue result → IsInside image.now at × (at / 16 < length marks.now) × (get_or marks.now (at / 16) false ≡ false) }
+    ensures stale { result ≡ false → (¬ IsInside image.now at) ⊎ IsMarked marks.now at }
+{
+    is_inside(image, top, at) && !marks[at / 16]
+}

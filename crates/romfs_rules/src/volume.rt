@@ -1,0 +1,91 @@
+//! The rules of the volume header.
+
+ghost use Rattle.std.specs.Prelude.{◌≡◌, ◌+◌, ◌<◌, ◌≤◌, ◌^◌, ◌↔◌, length, MatchOption, IfNone, IsTrue};
+ghost use Rattle.romfs_format.specs.Fields.{image, root, summed, word};
+ghost use Rattle.romfs_format.specs.Rules.{IsFault, StartsWith, magic, IsVolume};
+ghost use Rattle.romfs_rules.specs.Marks.{IsVolumeImage};
+
+use romfs_format::head::Kind;
+use romfs_format::read::{kind_of, text_at, word, word_sum};
+use romfs_format::rule::{ImageFault, Rule};
+use std::alloc::Allocator;
+
+/// The accessible bytes.
+#[tactic(auto, unfolding(romfs_format::specs::Fields::image))]
+pub(crate) fn image_of(bytes: &[u8], full: usize) -> &[u8]
+    requires full { full ≡ word bytes.now 8 }
+    requires within { full ≤ length bytes.now }
+    ensures value { result.now ≡ image bytes.now }
+    ensures length { length result.now ≡ full }
+{
+    &bytes[..full]
+}
+
+/// What the checksum goes over.
+fn summed(image: &[u8]) -> &[u8]
+    ensures { result.now ≡ summed image.now }
+{
+    if image.len() < 512 {
+        image
+    } else {
+        &image[..512]
+    }
+}
+
+fn is_magic(bytes: &[u8]) -> bool
+    ensures { IsTrue result ↔ StartsWith bytes.now magic }
+{
+    bytes.starts_with(b"-rom1fs-")
+}
+
+/// The first rule of the volume header that is broken.
+#[tactic(auto, unfolding(romfs_format::specs::Fields::root))]
+pub(crate) fn volume_fault(bytes: &[u8]) -> Option<ImageFault>
+    ensures fault { MatchOption result (IsVolume bytes.now) (λ fault. IsFault bytes.now fault.rule fault.place) }
+    ensures image { IfNone result (IsVolumeImage (image bytes.now)) }
+    ensures sound { IfNone result ((16 ≤ word bytes.now 8) × (word bytes.now 8 ≤ length bytes.now) × (root (image bytes.now) + 16 ≤ word bytes.now 8)) }
+{
+    if bytes.len() < 16 {
+        return Some(ImageFault {
+            rule: Rule::Short,
+            place: 0,
+        });
+    }
+    if !is_magic(bytes) {
+        return Some(ImageFault {
+            rule: Rule::Magic,
+            place: 0,
+        });
+    }
+    let full = word(bytes, 8) as usize;
+    if bytes.len() < full || full < 16 {
+        return Some(ImageFault {
+            rule: Rule::FullSize,
+            place: 8,
+        });
+    }
+    let image = image_of(bytes, full);
+    if word_sum(summed(image)) != 0 {
+        return Some(ImageFault {
+            rule: Rule::Sum,
+            place: 12,
+        });
+    }
+    match text_at(image, 16) {
+        None => Some(ImageFault {
+            rule: Rule::VolumeName,
+            place: 16,
+        }),
+        Some(name) => {
+            let top = 16 + (name.len() + 1 + 15) / 16 * 16;
+            if image.len() < top + 16 || kind_of(word(image, top)) != Kind::Directory {
+                Some(ImageFault {
+                    rule: Rule::NoRoot,
+                    place: top as u32,
+                })
+            } else {
+                None
+            }
+        }
+    }
+}
