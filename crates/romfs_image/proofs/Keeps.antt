@@ -13,7 +13,7 @@ use Rattle.romfs_format.specs.Rules.{BreaksHeader}
 use Rattle.romfs_image.specs.Images.{IsImage}
 use Rattle.romfs_image.proofs.Chain.{IsGood}
 
-whole : (a : List ℕ) → IsImage a → image a ≡ a
+pub whole : (a : List ℕ) → IsImage a → image a ≡ a
 unfolding image
 whole a i = let e = i.full in take_all _ a (omega arith)
 

@@ -8,3 +8,4 @@ pub mod Readings
 pub mod Whole
 pub mod Pigeon
 pub mod NameBytes
+pub mod Paths

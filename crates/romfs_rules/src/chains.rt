@@ -1,28 +1,15 @@
 //! Which headers stand in the root's chain, and which in chains of other directories.
 
-ghost use Rattle.std.specs.Prelude.{◌≡◌, ◌+◌, ◌/◌, ◌<◌, ◌⊎◌, ◌++◌, ◌^◌, length, get_or, false, IsTrue, IfOk};
+ghost use Rattle.std.specs.Prelude.{◌≡◌, ◌+◌, ◌/◌, ◌<◌, ◌⊎◌, ◌++◌, ◌^◌, length, false, IfOk};
 ghost use Rattle.std.specs.Option.{option_to_list};
 ghost use Rattle.romfs_format.specs.Fields.{root, IsInside};
-ghost use Rattle.romfs_rules.specs.Marks.{IsVolumeImage, IsInRootChain, IsElsewhere, AreMarks, IsMarked};
+ghost use Rattle.romfs_rules.specs.Marks.{IsVolumeImage, IsInRootChain, IsElsewhere, AreMarks};
 ghost use Rattle.romfs_rules.specs.Leads.{AreSeeds, Follows};
 
 use crate::lead::{first_below, next_of};
+use crate::slot::is_fresh;
 use romfs_format::read::word;
 use std::alloc::{AllocError, Allocator};
-
-/// Whether a header lies in the image, and has no mark.
-fn is_fresh(image: &[u8], top: usize, at: usize, marks: &[bool]) -> bool
-    requires top { top ≡ root image.now }
-    requires at { at < 2 ^ 32 }
-    requires sized { length marks.now ≡ length image.now / 16 }
-    ensures fresh { IsTrue result → IsInside image.now at × (at / 16 < length marks.now) × (get_or marks.now (at / 16) false ≡ false) }
-    ensures stale { result ≡ false → (¬ IsInside image.now at) ⊎ IsMarked marks.now at }
-{
-    if at < top || image.len() < at + 16 {
-        return false;
-    }
-    !marks[at / 16]
-}
 
 /// Marks the headers of the root's chain, up to one that lies outside or comes again.
 pub(crate) fn mark_root_chain<A: Allocator + Copy>(

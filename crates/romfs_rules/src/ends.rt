@@ -6,6 +6,7 @@ ghost use Rattle.romfs_format.specs.Links.{IsHardLink, IsDirectory, EndsAs};
 ghost use Rattle.romfs_rules.specs.Marks.{IsVolumeImage, AreMarks, IsInRootChain, IsElsewhere};
 ghost use Rattle.romfs_rules.specs.Ends.{HasEnds, AreEnds, KnowsEnd, Passes, IsPassed};
 
+use crate::slot::is_hard_link;
 use romfs_format::head::{End, Kind};
 use romfs_format::read::{kind_of, word};
 use std::alloc::{AllocError, Allocator};
@@ -29,15 +30,6 @@ impl<A: Allocator> Ends<A> {
         let walk = self.walks[at / 16];
         self.ends[walk as usize - 1]
     }
-}
-
-/// Whether a header lies in the image and is a hard link.
-pub(crate) fn is_hard_link(image: &[u8], top: usize, at: usize) -> bool
-    requires at { at < 2 ^ 32 }
-    requires top { top ≡ root image.now }
-    ensures { IsTrue result ↔ IsHardLink image.now at }
-{
-    top <= at && at + 16 <= image.len() && kind_of(word(image, at)) == Kind::HardLink
 }
 
 /// Whether a header lies in the image and is a directory.

@@ -11,9 +11,10 @@ ghost use Rattle.romfs_rules.specs.Outside.{IsLeast, IsBelow, IsAbove};
 ghost use Rattle.romfs_rules.specs.Judge.{AreSets, HasSlot, KeepsHeaderRules, IsFirstRule, KeepsBelow, IsFirstInside, IsHeaderFault, IsDeepFault};
 ghost use Rattle.romfs_format.specs.Rules.{IsFaultOf};
 
-use crate::ends::{Ends, is_hard_link};
+use crate::ends::Ends;
 use crate::member::{is_marked, is_some_member};
 use crate::outside::Outside;
+use crate::slot::is_hard_link;
 use romfs_format::head::{End, Kind};
 use romfs_format::read::{kind_of, text_at, word};
 use romfs_format::rule::{ImageFault, Rule};

@@ -1,13 +1,14 @@
 //! Members of a directory that have the name of another.
 
 ghost use Rattle.std.specs.Prelude.{◌≡◌, ◌≢◌, ◌+◌, ◌/◌, ◌^◌, ◌<◌, ◌≤◌, ◌↔◌, ℕ, List, Bool, IfOk, IsTrue, length, get_or};
-ghost use Rattle.romfs_format.specs.Fields.{root, IsInside};
+ghost use Rattle.romfs_format.specs.Fields.{root};
 ghost use Rattle.romfs_rules.specs.Marks.{IsVolumeImage, AreMarks, IsInRootChain, IsElsewhere};
 ghost use Rattle.romfs_rules.specs.Namesakes.{IsLinked, IsEither, AreCollected, AreNumbered, IsNextNumber, AreNextNumbers, AreChosen, AreNamesakes};
 
 use crate::climb::note_higher;
 use crate::forest::{Forest, lists};
 use crate::names::classes;
+use crate::slot::is_inside;
 use romfs_format::read::word;
 use std::alloc::{AllocError, Allocator};
 
@@ -40,15 +41,6 @@ fn collect<A: Allocator + Copy>(
         }
     }
     Ok((heads, numbers))
-}
-
-/// Whether a header lies in the image.
-fn is_inside(image: &[u8], top: usize, at: usize) -> bool
-    requires top { top ≡ root image.now }
-    requires at { at < 2 ^ 32 }
-    ensures { IsTrue result ↔ IsInside image.now at }
-{
-    top <= at && at + 16 <= image.len()
 }
 
 /// The number of the header after one, or that of headers where there is none inside the image.

@@ -2,7 +2,11 @@
 
 ghost use Rattle.std.specs.Prelude.{◌≡◌, ◌+◌, ◌<◌, ◌≤◌, ◌/◌, ◌⊎◌, ◌↔◌, ◌^◌, Bool, false, length, get_or, IsTrue};
 ghost use Rattle.romfs_format.specs.Fields.{root, IsInside};
+ghost use Rattle.romfs_format.specs.Links.{IsHardLink};
 ghost use Rattle.romfs_rules.specs.Marks.{IsMarked};
+
+use romfs_format::head::Kind;
+use romfs_format::read::{kind_of, word};
 
 /// Whether a header lies in the image.
 pub(crate) fn is_inside(image: &[u8], top: usize, at: usize) -> bool
@@ -22,4 +26,13 @@ pub(crate) fn is_fresh(image: &[u8], top: usize, at: usize, marks: &[bool]) -> b
     ensures stale { result ≡ false → (¬ IsInside image.now at) ⊎ IsMarked marks.now at }
 {
     is_inside(image, top, at) && !marks[at / 16]
+}
+
+/// Whether a header lies in the image and is a hard link.
+pub(crate) fn is_hard_link(image: &[u8], top: usize, at: usize) -> bool
+    requires at { at < 2 ^ 32 }
+    requires top { top ≡ root image.now }
+    ensures { IsTrue result ↔ IsHardLink image.now at }
+{
+    is_inside(image, top, at) && kind_of(word(image, at)) == Kind::HardLink
 }

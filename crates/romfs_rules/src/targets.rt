@@ -1,25 +1,15 @@
 //! The headers on the destination chains of hard links.
 
-ghost use Rattle.std.specs.Prelude.{◌≡◌, ◌<◌, ◌/◌, ◌^◌, ◌↔◌, length, IsTrue, IfOk};
+ghost use Rattle.std.specs.Prelude.{◌≡◌, ◌<◌, ◌/◌, ◌^◌, ◌↔◌, length, IfOk};
 ghost use Rattle.romfs_format.specs.Fields.{root};
-ghost use Rattle.romfs_format.specs.Links.{IsHardLink, IsTarget};
+ghost use Rattle.romfs_format.specs.Links.{IsTarget};
 ghost use Rattle.romfs_rules.specs.Marks.{IsVolumeImage, AreMarks, IsInRootChain, IsElsewhere};
 ghost use Rattle.romfs_rules.specs.Targets.{IsClosed, FollowsLink};
 
 use crate::member::is_some_member;
-use crate::slot::{is_fresh, is_inside};
-use romfs_format::head::Kind;
-use romfs_format::read::{kind_of, word};
+use crate::slot::{is_fresh, is_hard_link};
+use romfs_format::read::word;
 use std::alloc::{AllocError, Allocator};
-
-/// Whether a header lies in the image and is a hard link.
-fn is_hard_link(image: &[u8], top: usize, at: usize) -> bool
-    requires at { at < 2 ^ 32 }
-    requires top { top ≡ root image.now }
-    ensures { IsTrue result ↔ IsHardLink image.now at }
-{
-    is_inside(image, top, at) && kind_of(word(image, at)) == Kind::HardLink
-}
 
 /// Marks the headers on the destination chain of a header, up to one that has a mark.
 fn mark_destinations(image: &[u8], top: usize, from: usize, marks: &mut [bool])

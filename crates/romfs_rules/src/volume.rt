@@ -8,7 +8,6 @@ ghost use Rattle.romfs_rules.specs.Marks.{IsVolumeImage};
 use romfs_format::head::Kind;
 use romfs_format::read::{kind_of, text_at, word, word_sum};
 use romfs_format::rule::{ImageFault, Rule};
-use std::alloc::Allocator;
 
 /// The accessible bytes.
 #[tactic(auto, unfolding(romfs_format::specs::Fields::image))]
