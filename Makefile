@@ -9,9 +9,10 @@ test:
 build: build/strata
 
 build/strata: crates.txt $(shell find crates -name '*.rt' -o -name '*.antt')
-	cd crates/strata_main && rt run -- check data/e.img > /dev/null
-	mkdir -p build
-	cp crates/strata_main/out/strata_main build/strata
+	@mkdir -p build
+	@echo "proving and building strata, some minutes the first time (what the prover says: build/log)"
+	@cd crates/strata_main && rt run -- check data/e.img > ../../build/log 2>&1 || { tail -n 20 ../../build/log; exit 1; }
+	@cp crates/strata_main/out/strata_main build/strata
 
 demo: build/strata
 	build/strata check demo/lantern.romfs
