@@ -30,6 +30,3 @@ pub use framing::{Framed, frame};
 pub use put::{put_attr, put_entry, put_error, put_head, put_init};
 pub use reply::{Attr, Dirent, InitOut};
 pub use request::{Op, Request};
-
-#[cfg(test)]
-mod tests;

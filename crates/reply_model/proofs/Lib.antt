@@ -1,3 +1,4 @@
 pub mod Headers
 pub mod Fronts
 pub mod Worked
+pub mod Lengths

@@ -3,7 +3,7 @@ use Rattle.std.specs.Prelude.{◌≡◌, ℕ, ◌≤◌, List, ◌++◌, length,
 use Rattle.std.specs.List.{flat_map}
 use Rattle.fuse_wire.specs.Structures.{u32, u64}
 
--- the bytes begin with how many they are, an error, and the request's unique
+-- the bytes begin with how many they are, as 32 bits, an error, and the request's unique
 pub record IsReplyTo (unique : ℕ) (bytes : List ℕ) : Type 0 where
   pub error : ℕ
   pub rest : List ℕ

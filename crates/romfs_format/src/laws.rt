@@ -1,7 +1,11 @@
 //! What holds of every list of bytes, by the definitions alone.
 
-ghost use Rattle.std.specs.Prelude.{◌≡◌, ℕ, List};
+ghost use Rattle.std.specs.Prelude.{◌≡◌, ◌≤◌, ℕ, List};
+ghost use Rattle.romfs_format.specs.declared.head.Kind.TheVariants.{SymLink};
 ghost use Rattle.romfs_format.specs.declared.rule.Rule.{Rule};
+ghost use Rattle.romfs_format.specs.Fields.{image, kind, size};
+ghost use Rattle.romfs_format.specs.Chains.{Has};
+ghost use Rattle.romfs_format.specs.Links.{IsFinal};
 ghost use Rattle.romfs_format.specs.Rules.{IsFault, IsSound};
 
 /// An image has at most one fault, and a sound one has none.
@@ -9,4 +13,11 @@ ghost use Rattle.romfs_format.specs.Rules.{IsFault, IsSound};
 pub fn one_fault()
     ensures once { (b : List ℕ) (r s : Rule) (p q : ℕ) → IsFault b r p → IsFault b s q → (r ≡ s) × (p ≡ q) }
     ensures none { (b : List ℕ) (r : Rule) (p : ℕ) → IsSound b → ¬ IsFault b r p }
+{}
+
+/// A symbolic link of a sound image that a path leads to, after hard links, has a target of at most 4,095 bytes.
+#[tactic(auto, using(crate::proofs::Targets::short_target))]
+pub fn targets_are_short()
+    ensures { (b : List ℕ) → IsSound b → (path : List (List ℕ)) (h e : ℕ) →
+        Has (image b) path h → IsFinal (image b) h e → kind (image b) e ≡ SymLink → size (image b) e ≤ 4095 }
 {}

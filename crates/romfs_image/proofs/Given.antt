@@ -6,6 +6,7 @@ use Rattle.romfs_format.specs.declared.head.Head.{Head}
 use Rattle.romfs_format.specs.Fields.{root, IsInside, kind, name, text_at, text_end}
 use Rattle.romfs_format.specs.Chains.{IsOpened, at_root, below, IsMember, IsSomeMember}
 use Rattle.romfs_format.specs.Links.{IsHardLink, destination, IsDestination, here, there, IsFinal, stays, follows, IsTarget, IsReached}
+use Rattle.romfs_format.proofs.Targets.{final_target, destination_link}
 use Rattle.romfs_image.specs.Images.{IsImage}
 use Rattle.romfs_format.specs.Heads.{head_of}
 use Rattle.romfs_image.specs.Readers.{IsEnd, IsGiven}
@@ -18,21 +19,9 @@ use Rattle.romfs_image.proofs.Hops.{is_hard, LeavesWithin, leaves, left_already,
 abbrev pub From : List ℕ → ℕ → Type 0
 From a h = (h ≡ root a) ⊎ IsSomeMember a h ⊎ IsEnd a h
 
--- a chain of hard links ends where it begins, or on its destinations
-final_target : (a : List ℕ) {h e : ℕ} → IsFinal a h e → (e ≡ h) ⊎ IsDestination a h e
-final_target a (stays n) = inl refl
-final_target a (follows {h = h} {e = e} l f) = elim (final_target a f) [
-  | inl q ↦ inr (subst (λ x. IsDestination a h x) (sym q) (here l))
-  | inr d ↦ inr (there l d)
-]
-
 destination_aligned : (a : List ℕ) {h g : ℕ} → IsDestination a h g → g ≡ g / 16 * 16
 destination_aligned a (here {h = h} l) = (let e : destination a h ≡ destination a h = refl in omega arith)
 destination_aligned a (there l d) = destination_aligned a d
-
-destination_link : (a : List ℕ) {h g : ℕ} → IsDestination a h g → IsHardLink a h
-destination_link a (here l) = l
-destination_link a (there l d) = l
 
 pub root_aligned : (a : List ℕ) → root a ≡ root a / 16 * 16
 unfolding root

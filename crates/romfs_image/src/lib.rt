@@ -20,8 +20,7 @@
 //! (`Refusals`, in words `Texts`). The readers are proved for every image that keeps all rules. [`laws`] says that each
 //! path of such an image has one header and at most 512 names, and that there are finitely many.
 //!
-//! The crate stands on `romfs_format` for the format and `romfs_rules` for the check; `refusing` is for its tests
-//! alone.
+//! The crate stands on `romfs_format` for the format and `romfs_rules` for the check.
 #![tactic(auto)]
 
 mod image;
@@ -35,6 +34,3 @@ pub use image::Image;
 pub use members::Members;
 pub use refusal::CheckFault;
 pub use romfs_format::{Head, ImageFault, Kind, Rule};
-
-#[cfg(test)]
-mod tests;

@@ -1,13 +1,12 @@
 -- A climb as a whole: the path that its steps are on, and what is still to be entered.
 use Rattle.std.proofs.Common.{◌≡◌, ◌∙◌, sym, ap, subst, ℕ, zero, suc, ◌+◌, ◌<◌, ◌≤◌, ◌⊎◌, inl, inr, List, [], ◌∷◌, length, get_or, set, min, drop, reverse, ◌++◌, Bool, true, false, refl, arith}
-use Rattle.std.specs.List.{sum_by}
-use Rattle.std.proofs.lemmas.List.{get_or-set_same, get_or-set_other, reverse-append, reverse-reverse}
+use Rattle.std.proofs.lemmas.List.{get_or-set_other, reverse-append, reverse-reverse}
 use Rattle.std.proofs.Math.Seq.{drop-cons}
 use Rattle.std.proofs.Math.Numerals.{add-one}
-use Rattle.std.proofs.lemmas.List.Sums.{sum_by-set}
 use Rattle.std.proofs.lemmas.Bool.{cases_eq}
 use Rattle.romfs_rules.specs.declared.climb.Step.{Step}
 use Rattle.romfs_rules.specs.Climb.{After, one, more, On, top, under, IsLowest, IsLow, IsSpare, IsCompared, AreLower, IsNoted, Ahead, here, later, IsForest, IsRing, IsFound, IsSkipped, AreKept}
+use Rattle.romfs_rules.proofs.MarkLists.{newly_set, still_set}
 use Rattle.romfs_rules.proofs.Climbing.{Covers, covers_next, after_next, low_enters, low_leaves, spare_enters, compared_enters, lower_enters}
 
 -- the path that the steps, the last first, are on
@@ -77,24 +76,9 @@ pub no_steps : {X : Type 0} (xs : List X) → length xs ≡ 0 → reverse xs ≡
 no_steps [] e = refl
 no_steps (x ∷ xs) e = absurd (omega arith)
 
-abbrev fresh : Bool → ℕ
-fresh true = 0
-fresh false = 1
-
--- how many headers have not been entered
-unfoldable pub unentered : List Bool → ℕ
-unentered entered = sum_by fresh entered
-
-pub fewer : (entered : List Bool) (at : ℕ) → at < length entered → get_or entered at false ≡ false → unentered (set entered at true) + 1 ≡ unentered entered
-unfolding unentered
-fewer entered at l e = let s = sum_by-set fresh entered at true false l in let f : fresh (get_or entered at false) ≡ 1 = ap fresh e in omega arith
-
 pub keeps : (before entered : List Bool) (at : ℕ) → at < length entered → AreKept before entered → AreKept before (set entered at true)
 keeps before entered at l k = record {
-  each = λ x m. elim (cases_eq x at) [
-    | inl e ↦ rw e (get_or-set_same entered at true false l)
-    | inr d ↦ get_or-set_other entered at x true false d ∙ k.each x m
-  ];
+  each = λ x m. still_set entered at x l (k.each x m);
 }
 
 pub step_fits : {next class first sibling ring rest : List ℕ} {bottom from : ℕ} {s : Step} {steps : List Step} {entered noted : List Bool} {low : List ℕ}
@@ -213,9 +197,9 @@ module _ (next class first sibling ring : List ℕ) (forest : IsForest next clas
           closed = λ x l m. elim (cases_eq (get_or next x 0) at) [
             | inl e ↦ inr (inl (subst (λ t. Ahead sibling (get_or first t 0) x) e (forest.lists.whole x l)))
             | inr d ↦ elim (w.closed x l (sym (get_or-set_other entered at (get_or next x 0) true false d) ∙ m)) [
-              | inl e ↦ inl (kept x e)
+              | inl e ↦ inl (still_set entered at x (omega arith) e)
               | inr (inl a) ↦ elim (ahead_cases a) [
-                | inl e ↦ inl (rw e (get_or-set_same entered at true false (omega arith)))
+                | inl e ↦ inl (rw e (newly_set entered at (omega arith)))
                 | inr b ↦ inr (inr (inl (now (rw sa b))))
               ]
               | inr (inr (inl v)) ↦ inr (inr (inl (then v)))
@@ -223,12 +207,6 @@ module _ (next class first sibling ring : List ℕ) (forest : IsForest next clas
             ]
           ];
         }
-      where
-        kept : (x : ℕ) → get_or entered x false ≡ true → get_or (set entered at true) x false ≡ true
-        kept x m = let marked = w.compared.sized in elim (cases_eq x at) [
-          | inl e ↦ rw e (get_or-set_same entered at true false (omega arith))
-          | inr d ↦ get_or-set_other entered at x true false d ∙ m
-        ]
 
     pub leaves : (at : ℕ) (s : Step) (steps : List Step) (entered noted : List Bool) (low : List ℕ) → length next ≤ at
         → IsUnderWay next class first sibling ring rest bottom at (s ∷ steps) entered noted low

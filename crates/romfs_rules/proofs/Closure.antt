@@ -1,17 +1,18 @@
 -- The walk over the chains of directories other than the root, as lists.
-use Rattle.std.proofs.Common.{◌≡◌, ◌≢◌, ◌∙◌, sym, ap, subst, ℕ, zero, suc, ◌+◌, ◌*◌, ◌/◌, ◌-◌, ◌<◌, ◌≤◌, ◌⊎◌, inl, inr, List, [], ◌∷◌, ◌++◌, length, get_or, set, take, replicate, Bool, true, false, Option, Some, None, refl, arith, append_assoc, length-append}
+use Rattle.std.proofs.Common.{◌≡◌, ◌≢◌, ◌∙◌, sym, ap, subst, ℕ, zero, suc, ◌+◌, ◌*◌, ◌/◌, ◌<◌, ◌≤◌, ◌⊎◌, inl, inr, List, [], ◌∷◌, ◌++◌, length, get_or, set, replicate, Bool, true, false, Option, Some, None, arith, append_assoc, length-append}
 use Rattle.std.specs.List.{Contains}
 use Rattle.std.specs.Option.{option_to_list}
 use Rattle.std.proofs.lemmas.List.Elements.{Contains-append_left, Contains-append_right, Contains-append_cases}
-use Rattle.std.proofs.lemmas.List.{append-nil, length-set, length-replicate}
+use Rattle.std.proofs.lemmas.List.{length-set, length-replicate}
 use Rattle.std.proofs.lemmas.Bool.{cases_eq}
 use Rattle.romfs_format.specs.Fields.{root, IsInside, cleared}
 use Rattle.romfs_format.specs.Chains.{IsFirst, IsNext, IsAt, IsInChain, IsOpened, at_root, below}
 use Rattle.romfs_rules.specs.Marks.{IsMarked, AreMarks, IsInRootChain, IsElsewhere, Opens}
-use Rattle.romfs_rules.specs.Leads.{IsTheOne, LeadsOn, on, down, IsSeed, AreSeeds, Follows}
+use Rattle.romfs_rules.specs.Leads.{IsTheOne, LeadsOn, on, down, IsSeed, AreSeeds, Adds}
+use Rattle.romfs_rules.proofs.Lists.{none_in, one_in, has_one}
 use Rattle.romfs_rules.proofs.Slots.{cleared_at, cleared_in_chain}
 use Rattle.romfs_rules.proofs.Standing.{opened_in}
-use Rattle.romfs_rules.proofs.MarkSteps.{blank, here_marked, kept_marked, one_more, unmarked_in, fewer_unmarked}
+use Rattle.romfs_rules.proofs.MarkLists.{no_marks, newly_set, still_set, one_more, unmarked, marks_fall}
 
 -- g has been marked, lies outside, or is still to come
 abbrev pub IsSettled : List ℕ → List ℕ → List Bool → ℕ → Type 0
@@ -26,17 +27,7 @@ pub record Walked (a todo : List ℕ) (marks : List Bool) : Type 0 where
 
 -- what a walk has left
 unfoldable pub left : List ℕ → List Bool → ℕ
-left todo marks = length todo + 2 * unmarked_in marks
-
-none_in : (g : ℕ) → Contains {X = ℕ} [] g → ⊥
-none_in g (k, l, e) = omega arith
-
-one_in : (x g : ℕ) → Contains (x ∷ []) g → x ≡ g
-one_in x g (zero, l, e) = e
-one_in x g (suc k, l, e) = absurd (omega arith)
-
-has_one : (x : ℕ) → Contains (x ∷ []) x
-has_one x = (0, omega arith, refl)
+left todo marks = length todo + 2 * unmarked marks
 
 module _ (a : List ℕ) where
   -- what a header elsewhere leads on to is elsewhere
@@ -95,10 +86,10 @@ module _ (a : List ℕ) where
         (only : (g : ℕ) → Contains new g → LeadsOn a at g) (whole : (g : ℕ) → LeadsOn a at g → Contains new g) where
       moves : (g : ℕ) → IsSettled a (todo ++ at ∷ []) marks g → IsSettled a (todo ++ new) (set marks (at / 16) true) g
       moves g (inr (inl n)) = inr (inl n)
-      moves g (inr (inr m)) = inr (inr (kept_marked marks at fits g m))
+      moves g (inr (inr m)) = inr (inr (still_set marks (at / 16) (g / 16) fits m))
       moves g (inl c) = elim (Contains-append_cases todo (at ∷ []) g c) [
         | inl x ↦ inl (Contains-append_left todo new g x)
-        | inr x ↦ inr (inr (subst (λ y. IsMarked (set marks (at / 16) true) y) (one_in at g x) (here_marked marks at fits)))
+        | inr x ↦ inr (inr (subst (λ y. IsMarked (set marks (at / 16) true) y) (one_in at g x) (newly_set marks (at / 16) fits)))
       ]
 
       mark : Walked a (todo ++ at ∷ []) marks → Walked a (todo ++ new) (set marks (at / 16) true)
@@ -118,9 +109,9 @@ module _ (a : List ℕ) where
   pub begun : (todo : List ℕ) (marks : List Bool) → AreSeeds a todo → marks ≡ replicate (length a / 16) false → Walked a todo marks
   begun todo marks s e = record {
     sized = ap length e ∙ length-replicate (length a / 16) false;
-    each = λ k m. absurd (let x = blank marks (length a / 16) e k in cc);
+    each = λ k m. absurd (let x = no_marks marks (length a / 16) e k in cc);
     waits = λ h c. seeded h (s.each h c);
-    closed = λ k g m l. absurd (let x = blank marks (length a / 16) e k in cc);
+    closed = λ k g m l. absurd (let x = no_marks marks (length a / 16) e k in cc);
     seeds = λ g d. inl (s.all g d);
   }
 
@@ -136,7 +127,7 @@ module _ (a todo rest : List ℕ) (marks : List Bool) (at : ℕ) (taken : todo �
   unfolding left
   less_stale = let l : length todo ≡ length rest + 1 = rw taken (length-append rest (at ∷ [])) in omega arith
 
-  module _ (after : List ℕ) (f : Follows a at rest after) (fits : at / 16 < length marks) where
+  module _ (after : List ℕ) (f : Adds (LeadsOn a at) rest after) (fits : at / 16 < length marks) where
     pub step_fresh : IsInside a at → Walked a after (set marks (at / 16) true)
     step_fresh i =
         let e : IsElsewhere a at = ends.waits at (Contains-append_right rest (at ∷ []) at (has_one at)) in
@@ -147,12 +138,9 @@ module _ (a todo rest : List ℕ) (marks : List Bool) (at : ℕ) (taken : todo �
     less_fresh u =
         let l : length todo ≡ length rest + 1 = rw taken (length-append rest (at ∷ [])) in
         let m : length after ≡ length rest + length f.new = rw f.is (length-append rest f.new) in
-        let s = fewer_unmarked marks (at / 16) fits u in
+        let s = marks_fall marks (at / 16) fits u in
         let n = f.few in
         omega arith
-
-pub none_left : (todo rest : List ℕ) (n : ℕ) → todo ≡ rest ++ [] → rest ≡ take (n - 1) todo → n ≡ 0 → todo ≡ []
-none_left todo rest n e t z = e ∙ append-nil rest ∙ t ∙ ap (λ m. take (m - 1) todo) z
 
 some_has : (w : Option ℕ) (g : ℕ) → Contains (option_to_list w) g → w ≡ Some g
 some_has None g c = absurd (none_in g c)
@@ -168,7 +156,7 @@ some_short (Some n) = omega arith
 -- what is added where both words are known
 pub led : (a : List ℕ) (at : ℕ) (n f : Option ℕ) (before middle after : List ℕ) → IsTheOne (IsNext a at) n
     → IsTheOne (λ g. (at ≢ root a) × Opens a at × IsFirst a at g) f
-    → middle ≡ before ++ option_to_list n → after ≡ middle ++ option_to_list f → Follows a at before after
+    → middle ≡ before ++ option_to_list n → after ≡ middle ++ option_to_list f → Adds (LeadsOn a at) before after
 led a at n f before middle after next first m k = record {
   new = option_to_list n ++ option_to_list f;
   is = k ∙ ap (λ x. x ++ option_to_list f) m ∙ append_assoc before (option_to_list n) (option_to_list f);

@@ -1,44 +1,17 @@
 -- Counting links, as lists.
-use Rattle.std.proofs.Common.{◌≡◌, ◌≢◌, ◌∙◌, sym, ap, subst, ℕ, ◌+◌, ◌*◌, ◌/◌, ◌<◌, ◌⊎◌, inl, inr, List, length, get_or, Bool, true, false, Option, None, refl, arith}
-use Rattle.std.proofs.lemmas.Bool.{cases_eq}
+use Rattle.std.proofs.Common.{◌≡◌, ◌≢◌, ◌∙◌, sym, ap, subst, ℕ, ◌+◌, ◌*◌, ◌/◌, ◌<◌, ◌⊎◌, inl, inr, List, length, get_or, replicate, Bool, true, false, Option, refl, arith}
+use Rattle.std.proofs.lemmas.List.{length-replicate}
+use Rattle.std.proofs.lemmas.Bool.{cases_eq, true≢false}
 use Rattle.romfs_format.specs.Fields.{root, IsInside, spec, cleared}
-use Rattle.romfs_format.specs.Chains.{IsFirst, IsNext, IsOpened, at_root, below, Stands}
 use Rattle.romfs_format.specs.Links.{Field, first_of, next_of, IsLink}
 use Rattle.romfs_format.specs.Rules.{IsLinkedTwice}
-use Rattle.romfs_rules.specs.Marks.{IsMarked, AreMarks}
-use Rattle.romfs_rules.specs.Leads.{IsTheOne, IsInSomeChain}
+use Rattle.romfs_rules.specs.Marks.{IsVolumeImage, IsMarked, AreMarks}
+use Rattle.romfs_rules.specs.Leads.{IsTheOne}
 use Rattle.romfs_rules.specs.Twice.{IsSlotOf, Counts, CountsBoth}
-use Rattle.romfs_rules.proofs.Slots.{cleared_root, cleared_in_chain}
-use Rattle.romfs_rules.proofs.Standing.{in_some_chain}
-use Rattle.romfs_rules.proofs.Leads.{nowhere}
-use Rattle.romfs_rules.proofs.Destined.{twice_cleared}
+use Rattle.romfs_rules.proofs.Slots.{twice_cleared, cleared_root, cleared_in_chain, inside_opened, cleared_opened}
+use Rattle.romfs_rules.proofs.MarkLists.{no_marks}
 
 module _ (a : List ℕ) where
-  -- what the fields of a header name
-  standing : (h : ℕ) → IsInSomeChain a h → (d : ℕ) × Stands a d h
-  standing h (inl c) = (root a, record { opened = at_root refl; in_chain = c })
-  standing h (inr e) = (e.dir, record { opened = e.opened; in_chain = e.in_chain })
-
-  pub next_named : (h : ℕ) (w : Option ℕ) → IsInSomeChain a h → IsTheOne (IsNext a h) w → IsTheOne (IsLink a (next_of h)) w
-  next_named h w c x = let s = standing h c in record { each = λ g. (λ e. (s.0, s.1, (x.each g).0 e), λ l. (x.each g).1 l.2) }
-
-  pub no_next : (h : ℕ) → ¬ (IsInside a h × IsInSomeChain a h) → IsTheOne (IsLink a (next_of h)) None
-  no_next h n = nowhere (IsLink a (next_of h)) (λ g l. n (l.2.0, in_some_chain a l.0 h l.1.opened l.1.in_chain))
-
-  pub first_named : (d : ℕ) (w : Option ℕ) → IsOpened a d → IsTheOne (IsFirst a d) w → IsTheOne (IsLink a (first_of d)) w
-  first_named d w o x = record { each = λ g. (λ e. (o, (x.each g).0 e), λ l. (x.each g).1 l.1) }
-
-  pub no_first : (d : ℕ) → ¬ IsOpened a d → IsTheOne (IsLink a (first_of d)) None
-  no_first d n = nowhere (IsLink a (first_of d)) (λ g l. n l.0)
-
-  pub inside_opened : IsInside a (root a) → (d : ℕ) → IsOpened a d → IsInside a d
-  inside_opened r d (at_root e) = subst (λ y. IsInside a y) (sym e) r
-  inside_opened r d (below o c k i t) = i
-
-  cleared_opened : (d : ℕ) → IsOpened a d → cleared d ≡ d
-  cleared_opened d (at_root e) = rw e (cleared_root a)
-  cleared_opened d (below {d = c} o k p i t) = cleared_in_chain a c d k
-
   cleared_link : (f : Field) (h : ℕ) → IsLink a f h → cleared h ≡ h
   cleared_link (first_of d) h l = rw (l.1.0) (twice_cleared (spec a d))
   cleared_link (next_of g) h l = rw (l.2.1) (omega arith)
@@ -115,12 +88,26 @@ module _ (a : List ℕ) where
   Below slot f h = IsLink a f h × (place_of f < slot * 16)
 
   cleared_place : (f : Field) (h : ℕ) → IsLink a f h → cleared (place_of f) ≡ place_of f
-  cleared_place (first_of d) h l = cleared_opened d l.0
+  cleared_place (first_of d) h l = cleared_opened a d l.0
   cleared_place (next_of g) h l = cleared_in_chain a l.0 g l.1.in_chain
 
-  inside_place : IsInside a (root a) → (f : Field) (h : ℕ) → IsLink a f h → IsInside a (place_of f)
-  inside_place r (first_of d) h l = inside_opened r d l.0
-  inside_place r (next_of g) h l = l.2.0
+  inside_place : IsVolumeImage a → (f : Field) (h : ℕ) → IsLink a f h → IsInside a (place_of f)
+  inside_place v (first_of d) h l = inside_opened a v d l.0
+  inside_place v (next_of g) h l = l.2.0
+
+  -- no link belongs to a header before the root's
+  pub none_tallied : IsVolumeImage a → (slot : ℕ) → slot ≡ root a / 16 → (once twice : List Bool) → once ≡ replicate (length a / 16) false → twice ≡ replicate (length a / 16) false → Tallied (Below slot) once twice
+  none_tallied v slot e once twice o t = record {
+    once_sized = ap length o ∙ length-replicate (length a / 16) false;
+    twice_sized = ap length t ∙ length-replicate (length a / 16) false;
+    once_each = λ k m. absurd (true≢false (sym m ∙ no_marks once (length a / 16) o k));
+    once_all = λ f h s i. absurd (none f h s);
+    twice_each = λ k m. absurd (true≢false (sym m ∙ no_marks twice (length a / 16) t k));
+    twice_all = λ f g h n s u i. absurd (none f h s);
+  }
+    where
+      none : (f : Field) (h : ℕ) → ¬ Below slot f h
+      none f h x = let i = (inside_place v f h x.0).0 in let c = cleared_root a in let l = x.1 in omega arith
 
   abbrev Both : ℕ → Field → ℕ → Type 0
   Both slot = With (With (Below slot) (next_of (slot * 16))) (first_of (slot * 16))
@@ -160,12 +147,12 @@ module _ (a : List ℕ) where
       no_first_yet h (inl x) = no_less (slot * 16) x.1
       no_first_yet h (inr x) = first_next (slot * 16) (slot * 16) x.0
 
-  pub all_twice : IsInside a (root a) → (once twice : List Bool) → Tallied (Below (length a / 16)) once twice → AreMarks a (IsLinkedTwice a) twice
-  all_twice r once twice t = record {
+  pub all_twice : IsVolumeImage a → (once twice : List Bool) → Tallied (Below (length a / 16)) once twice → AreMarks a (IsLinkedTwice a) twice
+  all_twice v once twice t = record {
     sized = t.twice_sized;
     each = λ k m. (let x = t.twice_each k m in ((x.0, x.1, x.2, x.3.0, x.4.0), x.5));
     all = λ h x i. t.twice_all x.0 x.1 h x.2 (x.3, within x.0 h x.3) (x.4, within x.1 h x.4) i;
   }
     where
       within : (f : Field) (h : ℕ) → IsLink a f h → place_of f < length a / 16 * 16
-      within f h l = let i = (inside_place r f h l).1 in let c = cleared_place f h l in omega arith
+      within f h l = let i = (inside_place v f h l).1 in let c = cleared_place f h l in omega arith

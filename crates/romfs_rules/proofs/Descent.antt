@@ -1,20 +1,21 @@
 -- The walk down from the root, as lists.
-use Rattle.std.proofs.Common.{◌≡◌, ◌≢◌, ◌∙◌, sym, ap, subst, ℕ, zero, suc, ◌+◌, ◌-◌, ◌*◌, ◌/◌, ◌<◌, ◌≤◌, ◌⊎◌, inl, inr, List, [], ◌∷◌, ◌++◌, length, take, get_or, set, min, Bool, true, false, Option, Some, None, IfSome, refl, arith, append_assoc, length-append}
+use Rattle.std.proofs.Common.{◌≡◌, ◌≢◌, ◌∙◌, sym, ap, subst, ℕ, zero, suc, ◌+◌, ◌*◌, ◌/◌, ◌<◌, ◌≤◌, ◌⊎◌, inl, inr, List, [], ◌∷◌, ◌++◌, length, get_or, set, min, Bool, true, false, Option, Some, None, IfSome, refl, arith, append_assoc, length-append}
 use Rattle.std.specs.Option.{IsSomeAnd, option_map_or}
 use Rattle.std.specs.List.{Contains}
 use Rattle.std.proofs.lemmas.List.Elements.{Contains-append_left, Contains-append_right, Contains-append_cases}
-use Rattle.std.proofs.lemmas.List.{append-nil, length-set}
-use Rattle.std.proofs.lemmas.Bool.{cases_eq}
+use Rattle.std.proofs.lemmas.List.{length-set}
+use Rattle.std.proofs.lemmas.Bool.{cases_eq, true≢false}
 use Rattle.romfs_format.specs.declared.rule.Rule.TheVariants.{Deep}
 use Rattle.romfs_rules.specs.declared.depth.Waiting.{Waiting}
 use Rattle.romfs_format.specs.Fields.{root, IsInside}
 use Rattle.romfs_format.specs.Chains.{IsFirst, IsNext, IsAt, IsOpened, at_root, below, IsMember}
 use Rattle.romfs_format.specs.Rules.{BreaksHeader}
 use Rattle.romfs_rules.specs.Marks.{IsMarked, Opens}
-use Rattle.romfs_rules.specs.Leads.{IsTheOne}
+use Rattle.romfs_rules.specs.Leads.{IsTheOne, Adds}
 use Rattle.romfs_rules.specs.Judge.{KeepsAllHeaderRules}
 use Rattle.romfs_rules.specs.Outside.{IsLeast}
-use Rattle.romfs_rules.specs.Depth.{Notes, waiting, LeadsDown, on, down, FollowsDown}
+use Rattle.romfs_rules.specs.Depth.{Notes, waiting, LeadsDown, on, down}
+use Rattle.romfs_rules.proofs.Lists.{none_in, one_in, has_one}
 use Rattle.romfs_rules.proofs.Slots.{cleared_in_chain}
 use Rattle.romfs_rules.proofs.Standing.{opened}
 use Rattle.romfs_rules.proofs.MarkLists.{unmarked, marks_fall, few_marks, newly_set, still_set, was_set}
@@ -22,16 +23,6 @@ use Rattle.romfs_rules.proofs.OnePath.{IsBelow, StandsBelow, no_root, one_standi
 
 abbrev pub at_names : ℕ → ℕ → Waiting
 at_names h n = record { header = h; names = n }
-
-none_in : (g : Waiting) → Contains {X = Waiting} [] g → ⊥
-none_in g (k, l, e) = omega arith
-
-one_in : (x g : Waiting) → Contains (x ∷ []) g → x ≡ g
-one_in x g (zero, l, e) = e
-one_in x g (suc k, l, e) = absurd (omega arith)
-
-has_one : (x : Waiting) → Contains (x ∷ []) x
-has_one x = (0, omega arith, refl)
 
 waits_for : (o : Option ℕ) (n : ℕ) (v : Waiting) → Contains (waiting o n) v → (h : ℕ) × (o ≡ Some h) × (v ≡ at_names h n)
 waits_for None n v c = absurd (none_in v c)
@@ -47,7 +38,7 @@ one_waits (Some h) n = omega arith
 -- what is added where both headers are known
 pub led : (a : List ℕ) (w : Waiting) (next first : Option ℕ) (before middle after : List Waiting) → IsTheOne (IsNext a w.header) next
     → IsTheOne (λ g. (w.header ≢ root a) × Opens a w.header × IsFirst a w.header g) first
-    → middle ≡ before ++ waiting next w.names → after ≡ middle ++ waiting first (w.names + 1) → FollowsDown a w before after
+    → middle ≡ before ++ waiting next w.names → after ≡ middle ++ waiting first (w.names + 1) → Adds (LeadsDown a w) before after
 led a w next first before middle after x y m k = record {
   new = waiting next w.names ++ waiting first (w.names + 1);
   is = k ∙ ap (λ z. z ++ waiting first (w.names + 1)) m ∙ append_assoc before (waiting next w.names) (waiting first (w.names + 1));
@@ -171,14 +162,11 @@ module _ (a : List ℕ) (keeps : KeepsAllHeaderRules a) where
     sized = s;
     waits = λ w c. (let r = waits_for first 0 w (subst (λ x. Contains x w) t c) in subst (λ v. StandsBelow a v.names v.header) (sym r.2) (record { dir = root a; below = refl; opened = at_root refl; in_chain = (zero, (f.each r.0).0 r.1) }));
     low = λ w c. (let r = waits_for first 0 w (subst (λ x. Contains x w) t c) in let z : w.names ≡ 0 = ap (λ v. v.names) r.2 in let u = few_marks marks in omega arith);
-    closed = λ k n v m x l. absurd (clash (sym m ∙ e k));
+    closed = λ k n v m x l. absurd (true≢false (sym m ∙ e k));
     start = λ h x. inl (subst (λ y. Contains y (at_names h 0)) (sym t) (is_waiting first 0 h ((f.each h).1 x)));
     holds = tt;
-    least = λ k m x. absurd (clash (sym m ∙ e k));
+    least = λ k m x. absurd (true≢false (sym m ∙ e k));
   }
-    where
-      clash : ◌≡◌ {A = Bool} true false → ⊥
-      clash e = cc
 
   -- the list ends with the header that is taken
   module _ (todo rest : List Waiting) (marks : List Bool) (deep : Option ℕ) (w : Waiting) (taken : todo ≡ rest ++ w ∷ []) (d : Descends a todo marks deep) where
@@ -220,7 +208,7 @@ module _ (a : List ℕ) (keeps : KeepsAllHeaderRules a) where
     pub names_fit : w.header / 16 < length marks → get_or marks (w.header / 16) false ≡ false → w.names + 1 ≤ length marks
     names_fit fits free = let m = marks_fall marks (w.header / 16) fits free in let l = d.low w itself in omega arith
 
-    module _ (fits : w.header / 16 < length marks) (free : get_or marks (w.header / 16) false ≡ false) (after : List Waiting) (f : FollowsDown a w rest after) where
+    module _ (fits : w.header / 16 < length marks) (free : get_or marks (w.header / 16) false ≡ false) (after : List Waiting) (f : Adds (LeadsDown a w) rest after) where
       abbrev marked_too : List Bool
       marked_too = set marks (w.header / 16) true
 
@@ -303,6 +291,3 @@ module _ (a : List ℕ) (keeps : KeepsAllHeaderRules a) where
           let u = fewer in
           let n = f.few in
           omega arith
-
-pub none_left : (todo rest : List Waiting) (n : ℕ) → todo ≡ rest ++ [] → rest ≡ take (n - 1) todo → n ≡ 0 → todo ≡ []
-none_left todo rest n e t z = e ∙ append-nil rest ∙ t ∙ ap (λ m. take (m - 1) todo) z

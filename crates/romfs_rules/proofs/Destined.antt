@@ -2,25 +2,22 @@
 use Rattle.std.proofs.Common.{◌≡◌, ◌∙◌, sym, subst, ℕ, ◌+◌, ◌*◌, ◌/◌, ◌^◌, ◌<◌, ◌⊎◌, inl, inr, List, length, get_or, set, Bool, true, false, arith}
 use Rattle.std.proofs.lemmas.List.{length-set}
 use Rattle.std.proofs.lemmas.Bool.{cases_eq}
-use Rattle.romfs_format.specs.Fields.{IsInside, spec, cleared}
+use Rattle.romfs_format.specs.Fields.{IsInside, spec}
 use Rattle.romfs_format.specs.Chains.{IsSomeMember}
 use Rattle.romfs_format.specs.Links.{IsHardLink, destination, IsDestination, here, there, IsTarget}
 use Rattle.romfs_rules.specs.Marks.{IsMarked, AreMarks}
 use Rattle.romfs_rules.specs.Targets.{IsFollowed, IsClosed, FollowsLink}
-use Rattle.romfs_rules.proofs.Slots.{cleared_in_chain}
+use Rattle.romfs_rules.proofs.Slots.{twice_cleared, cleared_in_chain}
 use Rattle.romfs_rules.proofs.MarkLists.{unmarked, marks_fall, newly_set, still_set, was_set}
 
 -- a chain goes on
-goes_on : (a : List ℕ) {h g : ℕ} → IsDestination a h g → IsHardLink a g → IsDestination a h (destination a g)
+pub goes_on : (a : List ℕ) {h g : ℕ} → IsDestination a h g → IsHardLink a g → IsDestination a h (destination a g)
 goes_on a (here l) m = there l (here m)
 goes_on a (there l d) m = there l (goes_on a d m)
 
 hard : (a : List ℕ) {h g : ℕ} → IsDestination a h g → IsHardLink a h
 hard a (here l) = l
 hard a (there l d) = l
-
-pub twice_cleared : (n : ℕ) → cleared (cleared n) ≡ cleared n
-twice_cleared n = omega arith
 
 module _ (a : List ℕ) where
   -- the walk from one header stands at another

@@ -6,15 +6,12 @@ use Rattle.std.proofs.lemmas.List.{get_or-set_same, get_or-set_other, length-set
 use Rattle.std.proofs.lemmas.Bool.{cases_eq, cases_order, false≢true}
 use Rattle.romfs_format.specs.declared.head.End.{End}
 use Rattle.romfs_format.specs.declared.head.End.TheVariants.{AtDirectory, AtOther, Nowhere}
-use Rattle.romfs_format.specs.Fields.{root, IsInside, spec, cleared}
-use Rattle.romfs_rules.proofs.Slots.{cleared_in_chain}
+use Rattle.romfs_format.specs.Fields.{IsInside, spec, cleared}
 use Rattle.romfs_format.specs.Links.{IsHardLink, IsFinal, stays, follows, EndsAs}
 use Rattle.romfs_rules.specs.Marks.{AreMarks, IsInRootChain, IsElsewhere}
 use Rattle.romfs_rules.specs.Leads.{IsInSomeChain}
-use Rattle.romfs_rules.specs.Ends.{HasEnds, AreEnds, KnowsEnd, Passes, IsPassed}
-
-twice : (n : ℕ) → cleared (cleared n) ≡ cleared n
-twice n = omega arith
+use Rattle.romfs_rules.specs.Ends.{HasEnds, AreEnds, KnowsEnd, Passes, IsLeft}
+use Rattle.romfs_rules.proofs.Slots.{twice_cleared, cleared_in_some_chain}
 
 -- from within a closed set of hard links no chain leaves
 never_leaves : (a : List ℕ) (S : ℕ → Type 0) (inside : (h : ℕ) → S h → IsHardLink a h × S (cleared (spec a h))) {h e : ℕ} → IsFinal a h e → ¬ S h
@@ -94,7 +91,7 @@ module _ (a : List ℕ) (ends : List End) where
       inside h s = (
         subst (λ y. IsHardLink a y) s.0 (g.hard (h / 16) s.1),
         (
-          twice (spec a h),
+          twice_cleared (spec a h),
           elim (subst (λ y. (cleared (spec a y) ≡ at) ⊎ (get_or marks (cleared (spec a y) / 16) 0 ≡ length ends + 1)) s.0 (g.closed (h / 16) s.1)) [ inl e ↦ rw e m | inr x ↦ x ],
         ),
       )
@@ -120,7 +117,7 @@ module _ (a : List ℕ) (ends : List End) where
     passes w = record {
       sized = length-set marks (at / 16) (length ends + 1) ∙ g.sized;
       small = omega arith;
-      aligned = twice (spec a at);
+      aligned = twice_cleared (spec a at);
       high = λ k. by_mark k _ refl (λ p q. let d : get_or (set marks (at / 16) (length ends + 1)) k 0 ≡ length ends + 1 = sym q in omega arith) (λ q. rw (← q) (g.high k));
       past = λ k n e m. by_mark k (suc n) e (λ p q. absurd (omega arith)) (λ q. g.past k n q m);
       hard = λ k e. by_mark k _ e (λ p q. rw p l) (λ q. g.hard k q);
@@ -182,14 +179,10 @@ pub record Found (a walks : List ℕ) (ends : List End) (slot : ℕ) : Type 0 wh
   pub sized : length walks ≡ length a / 16
   pub few : length ends ≤ slot
   pub known : HasEnds a walks ends
-  pub passed : (k : ℕ) → k < slot → IsPassed a walks k
+  pub passed : (k : ℕ) → k < slot → ¬ IsLeft a walks k
 
 slot_of : (k : ℕ) → k * 16 / 16 ≡ k
 slot_of k = omega arith
-
-in_slot : (a : List ℕ) (h : ℕ) → IsInSomeChain a h → h / 16 * 16 ≡ h
-in_slot a h (inl c) = cleared_in_chain a (root a) h c
-in_slot a h (inr e) = cleared_in_chain a e.dir h e.in_chain
 
 module _ (a walks : List ℕ) (ends : List End) (slot : ℕ) (f : Found a walks ends slot) where
   pub found_more : (more : List ℕ) (r : End) → length more ≡ length walks → HasEnds a more (ends ++ r ∷ []) → Passes (slot * 16) walks more → Found a more (ends ++ r ∷ []) (slot + 1)
@@ -197,18 +190,18 @@ module _ (a walks : List ℕ) (ends : List End) (slot : ℕ) (f : Found a walks 
     sized = s ∙ f.sized;
     few = (let l = length-append ends (r ∷ []) in let w = f.few in omega arith);
     known = h;
-    passed = λ k l c x. elim (cases_eq k slot) [
-      | inl q ↦ rw (q, ← slot_of slot) p.passed
-      | inr q ↦ p.kept k (f.passed k (omega arith) c x)
+    passed = λ k l x. elim (cases_eq k slot) [
+      | inl q ↦ (let z : get_or more k 0 ≢ 0 = rw (q, ← slot_of slot) p.passed in z x.2)
+      | inr q ↦ p.kept k (λ e. f.passed k (omega arith) (x.0, x.1, e)) x.2
     ];
   }
 
-  pub found_same : IsPassed a walks slot → Found a walks ends (slot + 1)
+  pub found_same : ¬ IsLeft a walks slot → Found a walks ends (slot + 1)
   found_same same = record {
     sized = f.sized;
     few = (let w = f.few in omega arith);
     known = f.known;
-    passed = λ k l. elim (cases_eq k slot) as (λ _. IsPassed a walks k) [
+    passed = λ k l. elim (cases_eq k slot) as (λ _. ¬ IsLeft a walks k) [
       | inl q ↦ rw q same
       | inr q ↦ f.passed k (omega arith)
     ];
@@ -218,7 +211,7 @@ module _ (a walks : List ℕ) (ends : List End) (slot : ℕ) (f : Found a walks 
   found_all all = record {
     sized = f.sized;
     known = f.known;
-    all = λ h c x. f.passed (h / 16) (let i = x.0.1 in omega arith) (rw (in_slot a h c) c) (rw (in_slot a h c) x);
+    all = λ h c x e. f.passed (h / 16) (let i = x.0.1 in omega arith) (rw (cleared_in_some_chain a h c) (c, x, e));
   }
 
 -- a slot without marks is in no chain
@@ -245,4 +238,4 @@ module _ (a walks : List ℕ) (ends : List End) (at : ℕ) (k : KnowsEnd a walks
     ended_in = (k.known.known.each (at / 16) (walk - 1) reads).0
 
     pub ended_as : (end : End) → end ≡ get_or ends (walk - 1) end → EndsAs a at end
-    ended_as end e = subst (λ r. EndsAs a at r) (get_or_default ends (walk - 1) AtDirectory end ended_in ∙ sym e) (subst (λ y. EndsAs a y (get_or ends (walk - 1) AtDirectory)) (in_slot a at k.chained) (k.known.known.each (at / 16) (walk - 1) reads).1)
+    ended_as end e = subst (λ r. EndsAs a at r) (get_or_default ends (walk - 1) AtDirectory end ended_in ∙ sym e) (subst (λ y. EndsAs a y (get_or ends (walk - 1) AtDirectory)) (cleared_in_some_chain a at k.chained) (k.known.known.each (at / 16) (walk - 1) reads).1)

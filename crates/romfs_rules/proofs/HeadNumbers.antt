@@ -1,9 +1,9 @@
 -- Lists of headers that grow by one.
-use Rattle.std.proofs.Common.{◌≡◌, ◌∙◌, sym, ap, subst, ℕ, zero, suc, ◌+◌, ◌*◌, ◌<◌, ◌⊎◌, inl, inr, List, [], ◌∷◌, ◌++◌, length, get_or, Bool, true, false, refl, arith}
-use Rattle.std.specs.List.{Contains}
+use Rattle.std.proofs.Common.{◌≡◌, ◌∙◌, sym, ap, subst, ℕ, ◌+◌, ◌*◌, ◌<◌, ◌⊎◌, inl, inr, List, [], ◌∷◌, ◌++◌, length, get_or, Bool, true, false, refl, arith}
 use Rattle.std.proofs.lemmas.List.{get_or_at, get_or_append_left, get_or_default, length_push}
 use Rattle.std.proofs.lemmas.List.Elements.{Contains-append_left, Contains-append_right, Contains-append_cases}
 use Rattle.std.proofs.lemmas.Bool.{cases_order, false≢true}
+use Rattle.romfs_rules.proofs.Lists.{one_in}
 use Rattle.romfs_rules.specs.Namesakes.{IsEither, AreCollected, IsNextNumber, AreNextNumbers, AreChosen}
 
 -- a place of a list with one more at the end
@@ -143,7 +143,3 @@ module _ (heads : List ℕ) (noted : List Bool) (count : ℕ) (found : List ℕ)
               omega arith)
         ];
       }
-    where
-      one_in : (x g : ℕ) → Contains (x ∷ []) g → x ≡ g
-      one_in x g (zero, l, e) = e
-      one_in x g (suc k, l, e) = absurd (omega arith)

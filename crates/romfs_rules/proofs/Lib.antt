@@ -1,11 +1,12 @@
 pub mod Slots
 pub mod Standing
 pub mod Leads
-pub mod MarkSteps
+pub mod MarkLists
+pub mod Lists
+pub mod Links
 pub mod RootWalk
 pub mod Closure
 pub mod Reach
-pub mod MarkLists
 pub mod Destined
 pub mod Counted
 pub mod OnePath

@@ -1,9 +1,10 @@
 -- Lists of marks.
-use Rattle.std.proofs.Common.{◌≡◌, ◌∙◌, sym, ap, ℕ, zero, suc, ◌+◌, ◌<◌, ◌≤◌, ◌⊎◌, inl, inr, List, length, get_or, set, replicate, cond, not, Bool, true, false, refl, arith}
+use Rattle.std.proofs.Common.{◌≡◌, ◌∙◌, sym, ap, ℕ, zero, suc, ◌+◌, ◌*◌, ◌/◌, ◌<◌, ◌≤◌, ◌⊎◌, inl, inr, List, length, get_or, set, replicate, cond, not, Bool, true, false, refl, arith}
 use Rattle.std.specs.List.{sum_by}
 use Rattle.std.proofs.lemmas.List.Sums.{sum_by-set, count_by-le-length}
 use Rattle.std.proofs.lemmas.List.{get_or-set_same, get_or-set_other}
 use Rattle.std.proofs.lemmas.Bool.{cases_eq}
+use Rattle.romfs_format.specs.Fields.{cleared}
 
 abbrev missing : Bool → ℕ
 missing marked = cond (not marked) 1 0
@@ -21,10 +22,13 @@ unfolding unmarked
 few_marks marks = count_by-le-length not marks
 
 -- a list with no mark
-pub no_marks : (n k : ℕ) → get_or (replicate n false) k false ≡ false
-no_marks zero k = refl
-no_marks (suc n) zero = refl
-no_marks (suc n) (suc k) = no_marks n k
+pub no_marks : (marks : List Bool) (n : ℕ) → marks ≡ replicate n false → (k : ℕ) → get_or marks k false ≡ false
+no_marks marks n e k = rw e (none n k)
+  where
+    none : (n k : ℕ) → get_or (replicate n false) k false ≡ false
+    none zero k = refl
+    none (suc n) zero = refl
+    none (suc n) (suc k) = none n k
 
 -- one mark more
 pub newly_set : (marks : List Bool) (k : ℕ) → k < length marks → get_or (set marks k true) k false ≡ true
@@ -40,4 +44,11 @@ pub was_set : (marks : List Bool) (k j : ℕ) → get_or (set marks k true) j fa
 was_set marks k j m = elim (cases_eq j k) [
   | inl e ↦ inl e
   | inr n ↦ inr (sym (get_or-set_other marks k j true false n) ∙ m)
+]
+
+-- what holds of each marked header, and of this one
+pub one_more : (marks : List Bool) (at : ℕ) → cleared at ≡ at → (k : ℕ) (P : ℕ → Type 0) → (get_or marks k false ≡ true → P (k * 16)) → P at → get_or (set marks (at / 16) true) k false ≡ true → P (k * 16)
+one_more marks at clean k P old here m = elim (was_set marks (at / 16) k m) [
+  | inl e ↦ rw e (rw clean here)
+  | inr o ↦ old o
 ]

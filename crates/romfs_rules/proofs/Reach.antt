@@ -1,23 +1,18 @@
 -- The least headers outside the image that are reached.
-use Rattle.std.proofs.Common.{◌≡◌, ◌≢◌, sym, ap, subst, ℕ, suc, ◌+◌, ◌*◌, ◌/◌, ◌<◌, ◌≤◌, ◌↔◌, ◌⊎◌, inl, inr, List, length, false, Option, Some, None, refl, arith, leb}
+use Rattle.std.proofs.Common.{◌≡◌, ◌≢◌, sym, ap, subst, ℕ, ◌+◌, ◌*◌, ◌/◌, ◌<◌, ◌≤◌, ◌↔◌, ◌⊎◌, inl, inr, List, length, false, Option, Some, None, refl, arith, leb}
 use Rattle.std.proofs.lemmas.Bool.{cases_eq, cases_lt, le-leb}
 use Rattle.romfs_format.specs.Fields.{root, IsInside, cleared}
-use Rattle.romfs_format.specs.Chains.{IsFirst, IsNext, IsOpened, at_root, below, IsSomeMember}
+use Rattle.romfs_format.specs.Chains.{IsSomeMember}
 use Rattle.romfs_format.specs.Links.{Field, first_of, next_of, IsLink, IsHardLink, destination, IsDestination, here, there, IsTarget, IsReached}
 use Rattle.romfs_rules.specs.Marks.{IsVolumeImage}
-use Rattle.romfs_rules.specs.Leads.{IsTheOne, IsInSomeChain}
-use Rattle.romfs_rules.specs.Outside.{NamesNext, NamesFirst, NamesDestination, Names, IsLeast, IsBelow, IsAbove, lesser, Notes}
-use Rattle.romfs_rules.proofs.Slots.{inside_root, cleared_root, cleared_in_chain}
+use Rattle.romfs_rules.specs.Leads.{IsTheOne}
+use Rattle.romfs_rules.specs.Outside.{NamesDestination, Names, IsLeast, IsBelow, IsAbove, lesser, Notes}
+use Rattle.romfs_rules.proofs.Slots.{cleared_root, cleared_in_chain, inside_opened, cleared_opened, cleared_destination}
+use Rattle.romfs_rules.proofs.Destined.{goes_on}
 use Rattle.std.proofs.lemmas.Bool.Decides.{nat_tests}
 use Rattle.romfs_rules.proofs.Leads.{nowhere}
-use Rattle.romfs_rules.proofs.Standing.{in_some_chain, link_to}
 
 module _ (a : List ℕ) where
-  -- a chain of hard links may go on by one
-  goes_on : (h g : ℕ) → IsDestination a h g → IsHardLink a g → IsDestination a h (destination a g)
-  goes_on h g (here l) m = there l (here m)
-  goes_on h g (there l x) m = there l (goes_on _ g x m)
-
   -- the last hard link before a header on a destination chain
   last : (h g : ℕ) → IsDestination a h g → (p : ℕ) × IsHardLink a p × (g ≡ destination a p) × ((p ≡ h) ⊎ IsDestination a h p)
   last h g (here l) = (h, l, refl, inl refl)
@@ -25,19 +20,12 @@ module _ (a : List ℕ) where
       let r = last (destination a h) g x in
       (r.0, r.1, r.2, elim r.3 [ inl e ↦ inr (subst (IsDestination a h) (sym e) (here l)) | inr y ↦ inr (there l y) ])
 
-  cleared_destination : (h g : ℕ) → IsDestination a h g → cleared g ≡ g
-  cleared_destination h g x = let r = last h g x in rw (r.2) (omega arith)
-
-  next_reached : (h g : ℕ) → NamesNext a h g → IsReached a g
-  next_reached h g (inl c, n) = inr (inl (link_to a (root a) (suc c.0) g (at_root refl) (h, c.1, n)))
-  next_reached h g (inr e, n) = inr (inl (link_to a e.dir (suc e.in_chain.0) g e.opened (h, e.in_chain.1, n)))
-
   destination_reached : (h g : ℕ) → NamesDestination a h g → IsReached a g
   destination_reached h g (inl m, l, e) = inr (inr (m.0, h, m.1, rw e (here l)))
-  destination_reached h g (inr (d, m, x, y), l, e) = inr (inr (d, m, x, rw e (goes_on m h y l)))
+  destination_reached h g (inr (d, m, x, y), l, e) = inr (inr (d, m, x, rw e (goes_on a y l)))
 
   pub names_reached : (h g : ℕ) → Names a h g → IsReached a g
-  names_reached h g (inl x) = next_reached h g x
+  names_reached h g (inl x) = inr (inl (next_of h, x))
   names_reached h g (inr (inl x)) = inr (inl (first_of h, x))
   names_reached h g (inr (inr x)) = destination_reached h g x
 
@@ -49,24 +37,16 @@ module _ (a : List ℕ) where
     pub names : Names a from g
 
   module _ (v : IsVolumeImage a) where
-    opened_inside : (d : ℕ) → IsOpened a d → IsInside a d
-    opened_inside d (at_root e) = rw e (inside_root a v)
-    opened_inside d (below o k p i t) = i
-
-    opened_slot : (d : ℕ) → IsOpened a d → cleared d ≡ d
-    opened_slot d (at_root e) = rw e (cleared_root a)
-    opened_slot d (below {d = c} o k p i t) = cleared_in_chain a c d k
-
     link_named : (f : Field) (g : ℕ) → IsLink a f g → IsLedTo g
-    link_named (first_of d) g x = record { from = d; inside = opened_inside d x.0; slot = opened_slot d x.0; names = inr (inl x) }
-    link_named (next_of p) g (d, s, n) = record { from = p; inside = n.0; slot = cleared_in_chain a d p s.in_chain; names = inl (in_some_chain a d p s.opened s.in_chain, n) }
+    link_named (first_of d) g x = record { from = d; inside = inside_opened a v d x.0; slot = cleared_opened a d x.0; names = inr (inl x) }
+    link_named (next_of p) g (d, s, n) = record { from = p; inside = n.0; slot = cleared_in_chain a d p s.in_chain; names = inl (d, s, n) }
 
     target_named : (g : ℕ) → IsTarget a g → IsLedTo g
     target_named g (d, h, m, x) =
         let r = last h g x in
         elim r.3 [
           | inl e ↦ record { from = r.0; inside = r.1.0; slot = rw e (cleared_in_chain a d h m.in_chain); names = inr (inr (inl (subst (IsSomeMember a) (sym e) (d, m)), r.1, r.2)) }
-          | inr y ↦ record { from = r.0; inside = r.1.0; slot = cleared_destination h r.0 y; names = inr (inr (inr (d, h, m, y), r.1, r.2)) }
+          | inr y ↦ record { from = r.0; inside = r.1.0; slot = cleared_destination a y; names = inr (inr (inr (d, h, m, y), r.1, r.2)) }
         ]
 
     -- the reached headers but the root's are those that headers inside lead to
@@ -76,12 +56,6 @@ module _ (a : List ℕ) where
     reached_named g (inr (inr t)) n = target_named g t
 
 module _ (a : List ℕ) (at : ℕ) where
-  pub next_named : (word : Option ℕ) → IsInSomeChain a at → IsTheOne (IsNext a at) word → IsTheOne (NamesNext a at) word
-  next_named word c o = record { each = λ g. (λ e. (c, (o.each g).0 e), λ x. (o.each g).1 x.1) }
-
-  pub first_named : (word : Option ℕ) → IsOpened a at → IsTheOne (IsFirst a at) word → IsTheOne (NamesFirst a at) word
-  first_named word p o = record { each = λ g. (λ e. (p, (o.each g).0 e), λ x. (o.each g).1 x.1) }
-
   pub destination_named : (word : Option ℕ) → IsSomeMember a at ⊎ IsTarget a at → IsTheOne (λ g. IsHardLink a at × (g ≡ destination a at)) word → IsTheOne (NamesDestination a at) word
   destination_named word u o = record { each = λ g. (λ e. (let x = (o.each g).0 e in (u, x.0, x.1)), λ x. (o.each g).1 (x.1, x.2)) }
 
@@ -146,12 +120,12 @@ then_of V W Q before middle after m n = record {
 
 -- what a header leads to is noted, word by word
 pub noted_named : (a : List ℕ) (at : ℕ) (Q : ℕ → Type 0) (next first hard before with_next with_first after : Option ℕ)
-    → IsTheOne (NamesNext a at) next → IsTheOne (NamesFirst a at) first → IsTheOne (NamesDestination a at) hard
+    → IsTheOne (IsLink a (next_of at)) next → IsTheOne (IsLink a (first_of at)) first → IsTheOne (NamesDestination a at) hard
     → Notes (λ h. next ≡ Some h) Q before with_next → Notes (λ h. first ≡ Some h) Q with_next with_first → Notes (λ h. hard ≡ Some h) Q with_first after
     → Notes (Names a at) Q before after
 noted_named a at Q next first hard before with_next with_first after x y z l m n =
-    let late = then_of (NamesFirst a at) (NamesDestination a at) Q with_next with_first after (of_one _ Q _ first _ y m) (of_one _ Q _ hard _ z n) in
-    then_of (NamesNext a at) (λ g. NamesFirst a at g ⊎ NamesDestination a at g) Q before with_next after (of_one _ Q _ next _ x l) late
+    let late = then_of (IsLink a (first_of at)) (NamesDestination a at) Q with_next with_first after (of_one _ Q _ first _ y m) (of_one _ Q _ hard _ z n) in
+    then_of (IsLink a (next_of at)) (λ g. IsLink a (first_of at) g ⊎ NamesDestination a at g) Q before with_next after (of_one _ Q _ next _ x l) late
 
 -- what was found is the least of P, and with the notes also of W
 least_more : (P W Q : ℕ → Type 0) (before after : Option ℕ) → IsLeast (λ g. P g × Q g) before → Notes W Q before after → IsLeast (λ g. (P g ⊎ W g) × Q g) after
@@ -203,9 +177,6 @@ module _ (a : List ℕ) (Q : ℕ → Type 0) where
           let x = reached_named a v g r (u g q) in
           let i = x.inside in
           (record { slot = x.from / 16; early = omega arith; inside = rw (x.slot) i; names = subst (λ y. Names a y g) (sym x.slot) x.names }, q)
-
-pub slot_inside : (a : List ℕ) (top n slots : ℕ) → top ≡ root a → top / 16 ≤ n → n < slots → slots ≡ length a / 16 → IsInside a (n * 16)
-slot_inside a top n slots t l f s = let c = cleared_root a in (omega arith, omega arith)
 
 -- a reached header that is not inside lies before the root's header or beyond the end
 pub reached_outside : (a : List ℕ) (h : ℕ) → (IsReached a h × ¬ IsInside a h) ↔ ((IsReached a h × IsBelow a h) ⊎ (IsReached a h × IsAbove a h))

@@ -5,7 +5,7 @@ use Rattle.romfs_format.specs.Fields.{root, IsInside, next, spec, cleared}
 use Rattle.romfs_format.specs.Chains.{IsFirst, IsNext, IsAt}
 use Rattle.romfs_rules.specs.Marks.{IsVolumeImage, IsMarked, AreMarks, IsInRootChain}
 use Rattle.romfs_rules.proofs.Slots.{root_high, cleared_at}
-use Rattle.romfs_rules.proofs.MarkSteps.{blank, here_marked, kept_marked, one_more}
+use Rattle.romfs_rules.proofs.MarkLists.{no_marks, newly_set, still_set, one_more}
 
 -- g comes next, lies outside or is marked
 abbrev IsDone : List ℕ → List Bool → ℕ → ℕ → Type 0
@@ -30,10 +30,10 @@ module _ (a : List ℕ) where
     pub begun : (marks : List Bool) → marks ≡ replicate (length a / 16) false → Walked a marks (cleared w)
     begun marks e = record {
       sized = ap length e ∙ length-replicate (length a / 16) false;
-      each = λ k m. absurd (let x = blank marks (length a / 16) e k in cc);
+      each = λ k m. absurd (let x = no_marks marks (length a / 16) e k in cc);
       here = λ i. (0, (starts, not_zero v (cleared w) i, λ _. refl));
       first = λ g x. inl (x.0 ∙ sym starts);
-      closed = λ k g m x. absurd (let x = blank marks (length a / 16) e k in cc);
+      closed = λ k g m x. absurd (let x = no_marks marks (length a / 16) e k in cc);
     }
 
   module _ (marks : List Bool) (at : ℕ) (w : Walked a marks at) where
@@ -57,9 +57,9 @@ module _ (a : List ℕ) where
       clean = let c = w.here i in cleared_at a (root a) c.0 at c.1
 
       moves : (g : ℕ) → IsDone a marks at g → IsDone a (set marks (at / 16) true) after g
-      moves g (inl e) = inr (inr (rw e (here_marked marks at fits)))
+      moves g (inl e) = inr (inr (rw e (newly_set marks (at / 16) fits)))
       moves g (inr (inl n)) = inr (inl n)
-      moves g (inr (inr m)) = inr (inr (kept_marked marks at fits g m))
+      moves g (inr (inr m)) = inr (inr (still_set marks (at / 16) (g / 16) fits m))
 
       pub steps : Walked a (set marks (at / 16) true) after
       steps = record {

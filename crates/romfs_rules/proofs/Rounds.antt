@@ -1,8 +1,9 @@
 -- Rings: how one is found, entered and left.
-use Rattle.std.proofs.Common.{◌≡◌, ◌∙◌, sym, ap, subst, ℕ, zero, suc, ◌+◌, ◌<◌, ◌≤◌, ◌⊎◌, inl, inr, List, [], ◌∷◌, length, get_or, set, min, drop, reverse, replicate, Bool, true, false, refl, arith}
+use Rattle.std.proofs.Common.{◌≡◌, ◌∙◌, sym, ap, subst, ℕ, zero, suc, ◌+◌, ◌<◌, ◌≤◌, ◌⊎◌, inl, inr, List, [], ◌∷◌, length, get_or, set, min, drop, reverse, Bool, true, false, refl, arith}
 use Rattle.std.proofs.lemmas.List.{get_or-set_same, get_or-set_other, length-set, get_or_read}
 use Rattle.std.proofs.lemmas.Bool.{cases_eq}
 use Rattle.romfs_rules.specs.Climb.{After, one, more, On, top, under, IsLowest, IsLow, IsSpare, IsCompared, AreLower, AreNoted, IsNoted, AreBelow, IsFound, AreKept, IsClosed, IsWalk, IsGathered}
+use Rattle.romfs_rules.proofs.MarkLists.{newly_set, still_set, was_set}
 use Rattle.romfs_rules.proofs.Climbing.{then_next, after_next, on_cases, low_enters, spare_enters, lower_enters}
 use Rattle.romfs_rules.proofs.Ascent.{on_reverse, on_reversed, drop_turn}
 
@@ -50,9 +51,9 @@ module _ (next : List ℕ) where
   walks entered seen from at l k c w = record {
     fresh = marked (get_or entered (get_or next at 0) false) (λ m. clash _ (c.each at l m) w.fresh);
     leads = inr (elim w.leads [ inl e ↦ subst (λ z. After next z (get_or next at 0)) e (one refl) | inr a ↦ then_next a ]);
-    left = λ x m. elim (cases_eq x at) [
+    left = λ x m. elim (was_set seen at x m) [
       | inl e ↦ inr (subst (λ z. After next z (get_or next at 0)) (sym e) (one refl))
-      | inr d ↦ elim (w.left x (sym (get_or-set_other seen at x true false d) ∙ m)) [ inl e ↦ inl e | inr a ↦ inr (then_next a) ]
+      | inr o ↦ elim (w.left x o) [ inl e ↦ inl e | inr a ↦ inr (then_next a) ]
     ];
   }
 
@@ -116,7 +117,6 @@ module _ (next class : List ℕ) (few : length class ≡ length next) (leads : A
   enters first entered noted noted' at old path low low' fits room o lows made w =
       let known : get_or class at 0 < length class = (let e = classes.each at fits in omega arith) in
       let lowest : IsLowest class path (length class) (get_or class at 0) old = subst (λ v. IsLowest class path (length class) (get_or class at 0) v) (sym o) (w.lowest.each _ known) in
-      let here : get_or (set entered at true) at false ≡ true = get_or-set_same entered at true false room in
       record {
         lowest = rw (lows, o) (low_enters class low path at (omega arith) known w.lowest);
         spare = spare_enters next class path at old noted noted' (omega arith) lowest made w.spare;
@@ -127,19 +127,13 @@ module _ (next class : List ℕ) (few : length class ≡ length next) (leads : A
         };
         lower = lower_enters next class path at old noted noted' (omega arith) lowest made (λ y p. inl (tied at y w.leads (w.led y p))) w.lower;
         closed = w.closed;
-        each = λ x m. elim (cases_eq x at) [
+        each = λ x m. elim (was_set entered at x m) [
           | inl e ↦ inr (subst (λ z. On (at ∷ path) z) (sym e) top)
-          | inr d ↦ elim (w.each x (sym (get_or-set_other entered at x true false d) ∙ m)) [ inl e ↦ inl e | inr p ↦ inr (under p) ]
+          | inr o ↦ elim (w.each x o) [ inl e ↦ inl e | inr p ↦ inr (under p) ]
         ];
-        all = λ x p. elim (cases_eq x at) [
-          | inl e ↦ rw e here
-          | inr d ↦ get_or-set_other entered at x true false d ∙ (elim (on_cases p) [ inl e ↦ absurd (d e) | inr q ↦ w.all x q ])
-        ];
+        all = λ x p. elim (on_cases p) [ inl e ↦ rw e (newly_set entered at room) | inr q ↦ still_set entered at x room (w.all x q) ];
         kept = record {
-          each = λ x m. elim (cases_eq x at) [
-            | inl e ↦ rw e here
-            | inr d ↦ get_or-set_other entered at x true false d ∙ w.kept.each x m
-          ];
+          each = λ x m. still_set entered at x room (w.kept.each x m);
         };
         fresh = marked (get_or first (get_or next at 0) false) (λ m. clash _ (w.closed.each at fits m) w.fresh);
         leads = inr (elim w.leads [ inl e ↦ subst (λ z. After next z (get_or next at 0)) e (one refl) | inr a ↦ then_next a ]);
@@ -217,14 +211,6 @@ clears_all class low w = record {
     least = λ y o e. absurd (elim o [ ]);
   };
 }
-
-pub no_marks : (marks : List Bool) (n : ℕ) → marks ≡ replicate n false → (x : ℕ) → get_or marks x false ≡ false
-no_marks marks n e x = rw e (none n x)
-  where
-    none : (n x : ℕ) → get_or (replicate n false) x false ≡ false
-    none zero x = refl
-    none (suc n) zero = refl
-    none (suc n) (suc x) = none n x
 
 -- where nothing has been entered
 pub nothing : (next class low : List ℕ) (entered noted : List Bool) → length class ≡ length next → length entered ≡ length next → length noted ≡ length class → length low ≡ length class

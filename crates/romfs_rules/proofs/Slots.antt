@@ -1,9 +1,11 @@
 -- Headers and their slots.
-use Rattle.std.proofs.Common.{◌≡◌, subst, ℕ, zero, suc, ◌/◌, ◌≤◌, ◌↔◌, List, Bool, Some, None, IsSome, refl, arith}
+use Rattle.std.proofs.Common.{◌≡◌, subst, ℕ, zero, suc, ◌*◌, ◌/◌, ◌<◌, ◌≤◌, ◌↔◌, inl, inr, List, Bool, length, Some, None, IsSome, refl, arith}
 use Rattle.std.specs.Option.{option_map_or}
-use Rattle.romfs_format.specs.Fields.{root, text_at, text_end, IsInside, cleared}
-use Rattle.romfs_format.specs.Chains.{IsAt, IsInChain}
+use Rattle.romfs_format.specs.Fields.{root, text_at, text_end, IsInside, spec, cleared}
+use Rattle.romfs_format.specs.Chains.{IsAt, IsInChain, IsOpened, at_root, below}
+use Rattle.romfs_format.specs.Links.{IsDestination, here, there}
 use Rattle.romfs_rules.specs.Marks.{IsVolumeImage, IsMarked, AreMarks}
+use Rattle.romfs_rules.specs.Leads.{IsInSomeChain}
 
 pub cleared_root : (a : List ℕ) → cleared (root a) ≡ root a
 unfolding root
@@ -20,6 +22,9 @@ root_high a s = elim (text_at a 16) as (λ o. IsSome o → 32 ≤ option_map_or 
   | Some text ↦ λ x. omega arith
 ] s
 
+pub twice_cleared : (n : ℕ) → cleared (cleared n) ≡ cleared n
+twice_cleared n = omega arith
+
 pub inside_root : (a : List ℕ) → IsVolumeImage a → IsInside a (root a)
 inside_root a v = (omega arith, v.top)
 
@@ -29,6 +34,26 @@ cleared_at a d (suc n) h x = rw (x.2.1) (omega arith)
 
 pub cleared_in_chain : (a : List ℕ) (d h : ℕ) → IsInChain a d h → cleared h ≡ h
 cleared_in_chain a d h c = cleared_at a d c.0 h c.1
+
+pub cleared_in_some_chain : (a : List ℕ) (h : ℕ) → IsInSomeChain a h → cleared h ≡ h
+cleared_in_some_chain a h (inl c) = cleared_in_chain a (root a) h c
+cleared_in_some_chain a h (inr e) = cleared_in_chain a e.dir h e.in_chain
+
+pub inside_opened : (a : List ℕ) → IsVolumeImage a → (d : ℕ) → IsOpened a d → IsInside a d
+inside_opened a v d (at_root e) = rw e (inside_root a v)
+inside_opened a v d (below o c k i t) = i
+
+pub cleared_opened : (a : List ℕ) (d : ℕ) → IsOpened a d → cleared d ≡ d
+cleared_opened a d (at_root e) = rw e (cleared_root a)
+cleared_opened a d (below {d = c} o k p i t) = cleared_in_chain a c d k
+
+pub cleared_destination : (a : List ℕ) {h g : ℕ} → IsDestination a h g → cleared g ≡ g
+cleared_destination a (here {h = h} l) = twice_cleared (spec a h)
+cleared_destination a (there l d) = cleared_destination a d
+
+-- the slots from the root's on have headers inside
+pub slot_inside : (a : List ℕ) (slot : ℕ) → root a / 16 ≤ slot → slot < length a / 16 → IsInside a (slot * 16)
+slot_inside a slot l m = let c = cleared_root a in (omega arith, omega arith)
 
 -- what the mark of a header says
 pub marked : (a : List ℕ) (P : ℕ → Type 0) (marks : List Bool) (h : ℕ) → AreMarks a P marks → cleared h ≡ h → IsInside a h → IsMarked marks h ↔ P h

@@ -9,6 +9,7 @@ use Rattle.romfs_rules.specs.Marks.{IsElsewhere, HasNamesake, AreMarks, IsInRoot
 use Rattle.romfs_rules.specs.Climb.{After, one, more, AreNoted}
 use Rattle.romfs_rules.specs.Names.{unless_dotted, kept_name, AreClasses}
 use Rattle.romfs_rules.specs.Namesakes.{IsLinked, AreNumbered, IsNextNumber, AreNextNumbers, AreCollected, IsEither, AreChosen, AreNamesakes}
+use Rattle.romfs_rules.proofs.Slots.{cleared_in_chain}
 
 -- g comes after h along next
 pub data Follows (a : List ℕ) : ℕ → ℕ → Type 0 where
@@ -48,12 +49,8 @@ module _ (a : List ℕ) where
     | inr (inr l) ↦ inr (later_follows d y.0 x.0 g h l y.1 x.1)
   ]
 
-  clear : (d n h : ℕ) → IsAt a d n h → h / 16 * 16 ≡ h
-  clear d zero h x = rw (x.0) (omega arith)
-  clear d (suc n) h x = rw (x.2.1) (omega arith)
-
   pub linked_clear : (h : ℕ) → IsLinked a h → h / 16 * 16 ≡ h
-  linked_clear h l = let c = l.stands.in_chain in clear l.dir c.0 h c.1
+  linked_clear h l = cleared_in_chain a l.dir h l.stands.in_chain
 
   next_linked : (h g : ℕ) → IsLinked a h → IsNext a h g → IsInside a g → IsLinked a g
   next_linked h g l n i = record { inside = i; dir = l.dir; stands = record { opened = l.stands.opened; in_chain = (suc l.stands.in_chain.0, (h, l.stands.in_chain.1, n)) } }

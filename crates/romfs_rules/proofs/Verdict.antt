@@ -3,14 +3,14 @@ use Rattle.std.proofs.Common.{◌≡◌, ◌≢◌, subst, ℕ, ◌+◌, ◌*◌
 use Rattle.std.proofs.lemmas.Bool.{cases_order, cases_lt}
 use Rattle.romfs_format.specs.declared.rule.Rule.{Rule}
 use Rattle.romfs_format.specs.declared.rule.Rule.TheVariants.{Short, Magic, FullSize, Sum, VolumeName, NoRoot, Outside, NameOpen, NameBad, DataOutside, TargetLong, Twice, SameName, LinkLoop, LinkDirectory, MajorLarge, Deep}
-use Rattle.romfs_format.specs.Fields.{root, image, IsInside, cleared, spec}
+use Rattle.romfs_format.specs.Fields.{root, image, IsInside, cleared}
 use Rattle.romfs_format.specs.Chains.{IsSomeMember}
-use Rattle.romfs_format.specs.Links.{IsDestination, here, there, IsReached}
+use Rattle.romfs_format.specs.Links.{IsReached}
 use Rattle.romfs_format.specs.Rules.{IsVolume, BreaksHeader, Breaks, IsUsed, number, stage, IsNamedBefore, IsFault, IsSound}
 use Rattle.romfs_rules.specs.Marks.{IsVolumeImage, IsElsewhere}
 use Rattle.romfs_rules.specs.Outside.{IsLeast, IsBelow, IsAbove}
 use Rattle.romfs_rules.specs.Judge.{HasSlot, IsHeaderRule, KeepsHeaderRules, IsFirstRule, KeepsBelow, IsFirstInside, KeepsAllHeaderRules, IsFirstBreach}
-use Rattle.romfs_rules.proofs.Slots.{cleared_root, cleared_in_chain, inside_root}
+use Rattle.romfs_rules.proofs.Slots.{cleared_root, cleared_in_chain, inside_root, cleared_destination, slot_inside}
 use Rattle.romfs_rules.proofs.Standing.{reached}
 use Rattle.romfs_rules.proofs.Judging.{member_in_chain, root_elsewhere}
 
@@ -33,9 +33,6 @@ by_part Q v h d LinkLoop = h LinkLoop (lit≤ tt, lit< tt)
 by_part Q v h d LinkDirectory = h LinkDirectory (lit≤ tt, lit< tt)
 by_part Q v h d MajorLarge = h MajorLarge (lit≤ tt, lit< tt)
 by_part Q v h d Deep = d
-
-cleared_twice : (n : ℕ) → cleared (cleared n) ≡ cleared n
-cleared_twice n = omega arith
 
 -- a fact of every rule of file headers
 by_rule : (Q : Rule → Type 0) → Q Outside → Q NameOpen → Q NameBad → Q DataOutside → Q TargetLong → Q Twice → Q SameName → Q LinkLoop → Q LinkDirectory → Q MajorLarge → (r : Rule) → IsHeaderRule r → Q r
@@ -72,16 +69,12 @@ before s r q p hs hr (inl l) = let e = header_stage s hs in let f = header_stage
 before s r q p hs hr (inr x) = x.1
 
 module _ (a : List ℕ) where
-  target_cleared : {h g : ℕ} → IsDestination a h g → cleared g ≡ g
-  target_cleared (here {h = h} l) = cleared_twice (spec a h)
-  target_cleared (there l d) = target_cleared d
-
   pub reached_cleared : (h : ℕ) → IsReached a h → cleared h ≡ h
   reached_cleared h r = elim ((reached a h).0 r) [
     | inl e ↦ rw e (cleared_root a)
     | inr (inl c) ↦ cleared_in_chain a (root a) h c
     | inr (inr (inl e)) ↦ cleared_in_chain a e.dir h e.in_chain
-    | inr (inr (inr t)) ↦ target_cleared t.3
+    | inr (inr (inr t)) ↦ cleared_destination a t.3
   ]
 
   member_reached : (h : ℕ) → IsSomeMember a h → IsReached a h
@@ -155,7 +148,7 @@ module _ (a : List ℕ) (h : ℕ) (i : IsInside a h) where
 -- a scan over the slots, upward
 module _ (a : List ℕ) (v : IsVolumeImage a) where
   pub slot_at : (slot : ℕ) → root a / 16 ≤ slot → slot < length a / 16 → HasSlot a (slot * 16)
-  slot_at slot l m = let c = cleared_root a in record { inside = (omega arith, omega arith); aligned = omega arith }
+  slot_at slot l m = record { inside = slot_inside a slot l m; aligned = omega arith }
 
   root_slot : HasSlot a (root a)
   root_slot = record { inside = inside_root a v; aligned = cleared_root a }

@@ -1,5 +1,5 @@
 -- Headers whose paths have too many names.
-use Rattle.std.specs.Prelude.{◌≡◌, ◌≢◌, ℕ, ◌+◌, ◌≤◌, ◌⊎◌, List, [], ◌∷◌, ◌++◌, length, min, Option, Some, None, Contains}
+use Rattle.std.specs.Prelude.{◌≡◌, ◌≢◌, ℕ, ◌+◌, ◌≤◌, ◌⊎◌, List, [], ◌∷◌, min, Option, Some, None}
 use Rattle.std.specs.Option.{option_map_or}
 use Rattle.romfs_rules.specs.declared.depth.Waiting.{Waiting}
 use Rattle.romfs_format.specs.Fields.{root}
@@ -24,11 +24,3 @@ waiting (Some h) n = record { header = h; names = n } ∷ []
 pub data LeadsDown (a : List ℕ) : Waiting → Waiting → Type 0 where
   on : {h g n : ℕ} → IsNext a h g → LeadsDown a (record { header = h; names = n }) (record { header = g; names = n })
   down : {h g n : ℕ} → h ≢ root a → Opens a h → IsFirst a h g → LeadsDown a (record { header = h; names = n }) (record { header = g; names = n + 1 })
-
--- the headers after are those before, and then what w leads to
-pub record FollowsDown (a : List ℕ) (w : Waiting) (before after : List Waiting) : Type 0 where
-  pub new : List Waiting
-  pub is : after ≡ before ++ new
-  pub few : length new ≤ 2
-  pub only : (v : Waiting) → Contains new v → LeadsDown a w v
-  pub whole : (v : Waiting) → LeadsDown a w v → Contains new v

@@ -21,9 +21,9 @@ pub record KnowsEnd (a walks : List ℕ) (ends : List End) (h : ℕ) : Type 0 wh
   pub chained : IsInSomeChain a h
   pub hard : IsHardLink a h
 
--- the hard link in a slot, if it is in a chain, was passed
-abbrev pub IsPassed : List ℕ → List ℕ → ℕ → Type 0
-IsPassed a walks slot = IsInSomeChain a (slot * 16) → IsHardLink a (slot * 16) → get_or walks slot 0 ≢ 0
+-- the slot holds a hard link, in a chain, that was not passed
+abbrev pub IsLeft : List ℕ → List ℕ → ℕ → Type 0
+IsLeft a walks slot = IsInSomeChain a (slot * 16) × IsHardLink a (slot * 16) × (get_or walks slot 0 ≡ 0)
 
 -- what the marks are after a walk, from what they were before: none is lost, and the header it began at has one
 pub record Passes (from : ℕ) (before after : List ℕ) : Type 0 where

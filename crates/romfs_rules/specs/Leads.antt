@@ -30,10 +30,10 @@ pub record AreSeeds (a words : List ℕ) : Type 0 where
   pub each : (g : ℕ) → Contains words g → IsSeed a g
   pub all : (g : ℕ) → IsSeed a g → Contains words g
 
--- the words after are those before, and then what h leads on to
-pub record Follows (a : List ℕ) (h : ℕ) (before after : List ℕ) : Type 0 where
-  pub new : List ℕ
+-- the list after is the one before, and then all of P, which are two at most
+pub record Adds {X : Type 0} (P : X → Type 0) (before after : List X) : Type 0 where
+  pub new : List X
   pub is : after ≡ before ++ new
   pub few : length new ≤ 2
-  pub only : (g : ℕ) → Contains new g → LeadsOn a h g
-  pub whole : (g : ℕ) → LeadsOn a h g → Contains new g
+  pub only : (x : X) → Contains new x → P x
+  pub whole : (x : X) → P x → Contains new x

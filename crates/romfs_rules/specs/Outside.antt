@@ -1,25 +1,16 @@
 -- Which headers outside the image the headers inside lead to.
 use Rattle.std.specs.Prelude.{◌≡◌, ℕ, ◌+◌, ◌<◌, ◌≤◌, ◌⊎◌, List, length, Option, Some, None, nat_le, if◌then◌else◌}
 use Rattle.romfs_format.specs.Fields.{root}
-use Rattle.romfs_format.specs.Chains.{IsFirst, IsNext, IsOpened, IsSomeMember}
-use Rattle.romfs_format.specs.Links.{IsHardLink, destination, IsTarget}
-use Rattle.romfs_rules.specs.Leads.{IsInSomeChain}
-
--- next of the header h in a chain is g
-abbrev pub NamesNext : List ℕ → ℕ → ℕ → Type 0
-NamesNext a h g = IsInSomeChain a h × IsNext a h g
-
--- first of the opened directory h is g
-abbrev pub NamesFirst : List ℕ → ℕ → ℕ → Type 0
-NamesFirst a h g = IsOpened a h × IsFirst a h g
+use Rattle.romfs_format.specs.Chains.{IsSomeMember}
+use Rattle.romfs_format.specs.Links.{first_of, next_of, IsLink, IsHardLink, destination, IsTarget}
 
 -- g is the destination of h, a hard link that is a member or that a member's hard link leads over
 abbrev pub NamesDestination : List ℕ → ℕ → ℕ → Type 0
 NamesDestination a h g = (IsSomeMember a h ⊎ IsTarget a h) × IsHardLink a h × (g ≡ destination a h)
 
--- the header h leads to g
+-- a field of the header h names g, or h leads to g as a hard link
 abbrev pub Names : List ℕ → ℕ → ℕ → Type 0
-Names a h g = NamesNext a h g ⊎ NamesFirst a h g ⊎ NamesDestination a h g
+Names a h g = IsLink a (next_of h) g ⊎ IsLink a (first_of h) g ⊎ NamesDestination a h g
 
 -- the number is the least of P; there is none where nothing is of P
 pub record IsLeast (P : ℕ → Type 0) (least : Option ℕ) : Type 0 where

@@ -4,7 +4,7 @@ ghost use Rattle.std.specs.Prelude.{◌≡◌, ◌+◌, ◌/◌, ◌<◌, ◌⊎
 ghost use Rattle.std.specs.Option.{option_to_list};
 ghost use Rattle.romfs_format.specs.Fields.{root, IsInside};
 ghost use Rattle.romfs_rules.specs.Marks.{IsVolumeImage, IsInRootChain, IsElsewhere, AreMarks};
-ghost use Rattle.romfs_rules.specs.Leads.{AreSeeds, Follows};
+ghost use Rattle.romfs_rules.specs.Leads.{AreSeeds, LeadsOn, Adds};
 
 use crate::lead::{first_below, next_of};
 use crate::slot::is_fresh;
@@ -71,7 +71,7 @@ fn follow<A: Allocator>(
     requires small { length image.now < 2 ^ 32 }
     requires top { top ≡ root image.now }
     requires inside { IsInside image.now at }
-    ensures { IfOk result (λ _. Follows image.now at todo.old.items todo.new.items) }
+    ensures { IfOk result (λ _. Adds (LeadsOn image.now at) todo.old.items todo.new.items) }
 {
     push_some(todo, next_of(image, at))?;
     push_some(todo, first_below(image, top, at))?;

@@ -6,7 +6,8 @@ ghost use Rattle.romfs_format.specs.Rules.{BreaksHeader};
 ghost use Rattle.romfs_rules.specs.Marks.{IsVolumeImage};
 ghost use Rattle.romfs_rules.specs.Judge.{KeepsAllHeaderRules};
 ghost use Rattle.romfs_rules.specs.Outside.{IsLeast};
-ghost use Rattle.romfs_rules.specs.Depth.{IsTooDeep, Notes, waiting, FollowsDown};
+ghost use Rattle.romfs_rules.specs.Leads.{Adds};
+ghost use Rattle.romfs_rules.specs.Depth.{IsTooDeep, Notes, waiting, LeadsDown};
 
 use crate::lead::{first_below, first_of, next_of};
 use crate::member::is_dotted;
@@ -50,7 +51,7 @@ fn follow<A: Allocator>(
     requires top { top ≡ root image.now }
     requires inside { IsInside image.now from.header }
     requires names { from.names + 1 < 2 ^ 32 }
-    ensures { IfOk result (λ _. FollowsDown image.now from todo.old.items todo.new.items) }
+    ensures { IfOk result (λ _. Adds (LeadsDown image.now from) todo.old.items todo.new.items) }
 {
     let at = from.header as usize;
     push_some(todo, next_of(image, at), from.names)?;

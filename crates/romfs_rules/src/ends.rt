@@ -4,9 +4,9 @@ ghost use Rattle.std.specs.Prelude.{◌≡◌, ℕ, List, ◌+◌, ◌*◌, ◌+
 ghost use Rattle.romfs_format.specs.Fields.{root, cleared};
 ghost use Rattle.romfs_format.specs.Links.{IsHardLink, IsDirectory, EndsAs};
 ghost use Rattle.romfs_rules.specs.Marks.{IsVolumeImage, AreMarks, IsInRootChain, IsElsewhere};
-ghost use Rattle.romfs_rules.specs.Ends.{HasEnds, AreEnds, KnowsEnd, Passes, IsPassed};
+ghost use Rattle.romfs_rules.specs.Ends.{HasEnds, AreEnds, KnowsEnd, Passes, IsLeft};
 
-use crate::slot::is_hard_link;
+use crate::slot::{is_hard_link, is_inside};
 use romfs_format::head::{End, Kind};
 use romfs_format::read::{kind_of, word};
 use std::alloc::{AllocError, Allocator};
@@ -38,7 +38,7 @@ fn is_directory(image: &[u8], top: usize, at: usize) -> bool
     requires top { top ≡ root image.now }
     ensures { IsTrue result ↔ IsDirectory image.now at }
 {
-    top <= at && at + 16 <= image.len() && kind_of(word(image, at)) == Kind::Directory
+    is_inside(image, top, at) && kind_of(word(image, at)) == Kind::Directory
 }
 
 /// Where the chain of a hard link ends. Marks each hard link on the way with the number of this
@@ -91,8 +91,7 @@ fn is_left(
     requires sized { length walks.now ≡ length image.now / 16 }
     requires root_chain { AreMarks image.now (IsInRootChain image.now) root_chain.now }
     requires elsewhere { AreMarks image.now (IsElsewhere image.now) elsewhere.now }
-    ensures left { IsTrue result → IsHardLink image.now (slot * 16) }
-    ensures done { result ≡ false → IsPassed image.now walks.now slot }
+    ensures { IsTrue result ↔ IsLeft image.now walks.now slot }
 {
     (root_chain[slot] || elsewhere[slot]) && walks[slot] == 0 && is_hard_link(image, top, slot * 16)
 }

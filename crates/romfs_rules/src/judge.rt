@@ -12,7 +12,7 @@ ghost use Rattle.romfs_rules.specs.Judge.{AreSets, HasSlot, KeepsHeaderRules, Is
 ghost use Rattle.romfs_format.specs.Rules.{IsFaultOf};
 
 use crate::ends::Ends;
-use crate::member::{is_marked, is_some_member};
+use crate::member::{is_in_chain, is_marked, is_some_member};
 use crate::outside::Outside;
 use crate::slot::is_hard_link;
 use romfs_format::head::{End, Kind};
@@ -46,13 +46,10 @@ fn is_reached<A: Allocator>(image: &[u8], top: usize, sets: &Sets<A>, at: usize)
     requires slot { HasSlot image.now at }
     ensures { IsTrue result ↔ IsReached image.now at }
 {
-    if at == top {
+    if at == top || is_marked(sets.targets, at) {
         return true;
     }
-    if is_marked(sets.targets, at) {
-        return true;
-    }
-    is_marked(sets.root_chain, at) || is_marked(sets.elsewhere, at)
+    is_in_chain(image, at, sets.root_chain, sets.elsewhere)
 }
 
 /// Whether a header is a member, or a member's hard links lead over it.
@@ -199,22 +196,27 @@ fn is_listed(headers: &[u32], at: usize) -> bool
     headers.binary_search(&(at as u32)).is_ok()
 }
 
-/// Where the chain of a member ends that is a hard link.
-fn member_end<A: Allocator>(image: &[u8], top: usize, sets: &Sets<A>, at: usize) -> Option<End>
+/// Whether a member is a hard link whose chain ends in this way.
+fn member_ends_as<A: Allocator>(
+    image: &[u8],
+    top: usize,
+    sets: &Sets<A>,
+    at: usize,
+    end: End,
+) -> bool
     requires volume { IsVolumeImage image.now }
     requires top { top ≡ root image.now }
     requires sets { AreSets image.now sets.now }
     requires slot { HasSlot image.now at }
-    ensures link { IfSome result (λ end. IsSomeMember image.now at × IsHardLink image.now at
+    ensures { IsTrue result ↔ (IsSomeMember image.now at × IsHardLink image.now at
         × EndsAs image.now at end) }
-    ensures none { IfNone result (IsSomeMember image.now at → ¬ IsHardLink image.now at) }
 {
     if is_hard_link(image, top, at)
         && is_some_member(image, top, at, sets.root_chain, sets.elsewhere)
     {
-        Some(sets.ends.at(at))
+        sets.ends.at(at) == end
     } else {
-        None
+        false
     }
 }
 
@@ -226,10 +228,7 @@ fn breaks_link_loop<A: Allocator>(image: &[u8], top: usize, sets: &Sets<A>, at: 
     requires slot { HasSlot image.now at }
     ensures { IsTrue result ↔ BreaksHeader image.now Rule.LinkLoop at }
 {
-    match member_end(image, top, sets, at) {
-        Some(end) => end == End::Nowhere,
-        None => false,
-    }
+    member_ends_as(image, top, sets, at, End::Nowhere)
 }
 
 /// Whether a member is a hard link whose chain ends at a directory.
@@ -240,10 +239,7 @@ fn breaks_link_directory<A: Allocator>(image: &[u8], top: usize, sets: &Sets<A>,
     requires slot { HasSlot image.now at }
     ensures { IsTrue result ↔ BreaksHeader image.now Rule.LinkDirectory at }
 {
-    match member_end(image, top, sets, at) {
-        Some(end) => end == End::AtDirectory,
-        None => false,
-    }
+    member_ends_as(image, top, sets, at, End::AtDirectory)
 }
 
 /// Whether the major number of a device is too large.

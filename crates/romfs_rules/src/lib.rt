@@ -17,6 +17,7 @@ mod fault;
 mod forest;
 mod judge;
 mod lead;
+mod link;
 mod member;
 mod names;
 mod namesakes;

@@ -4,6 +4,7 @@ ghost use Rattle.std.specs.Prelude.{◌≡◌, ◌+◌, ◌*◌, ◌/◌, ◌<�
 ghost use Rattle.romfs_format.specs.Fields.{root, IsInside, cleared};
 ghost use Rattle.romfs_format.specs.Chains.{IsDotted, IsOpened, IsSomeMember};
 ghost use Rattle.romfs_rules.specs.Marks.{IsInRootChain, IsElsewhere, Opens, AreMarks};
+ghost use Rattle.romfs_rules.specs.Leads.{IsInSomeChain};
 
 use romfs_format::head::Kind;
 use romfs_format::read::{kind_of, text_at, word};
@@ -37,8 +38,20 @@ pub(crate) fn is_marked(marks: &[bool], at: usize) -> bool
     marks[at / 16]
 }
 
+/// Whether a header stands in a chain.
+#[tactic(auto, using(crate::proofs::Slots::marked))]
+pub(crate) fn is_in_chain(image: &[u8], at: usize, root_chain: &[bool], elsewhere: &[bool]) -> bool
+    requires inside { IsInside image.now at }
+    requires slot { cleared at ≡ at }
+    requires root_chain { AreMarks image.now (IsInRootChain image.now) root_chain.now }
+    requires elsewhere { AreMarks image.now (IsElsewhere image.now) elsewhere.now }
+    ensures { IsTrue result ↔ IsInSomeChain image.now at }
+{
+    is_marked(root_chain, at) || is_marked(elsewhere, at)
+}
+
 /// Whether a header is a directory that is opened.
-#[tactic(auto, using(crate::proofs::Standing::opened, crate::proofs::Standing::opened_root, crate::proofs::Slots::marked))]
+#[tactic(auto, using(crate::proofs::Standing::opened, crate::proofs::Standing::opened_root))]
 pub(crate) fn is_opened(
     image: &[u8],
     top: usize,
@@ -54,7 +67,7 @@ pub(crate) fn is_opened(
     requires elsewhere { AreMarks image.now (IsElsewhere image.now) elsewhere.now }
     ensures { IsTrue result ↔ IsOpened image.now at }
 {
-    at == top || (is_marked(root_chain, at) || is_marked(elsewhere, at)) && opens(image, at)
+    at == top || is_in_chain(image, at, root_chain, elsewhere) && opens(image, at)
 }
 
 /// Whether a header is a member of some directory.

@@ -5,10 +5,11 @@ ghost use Rattle.romfs_format.specs.Fields.{root, IsInside, cleared};
 ghost use Rattle.romfs_format.specs.Links.{IsTarget, IsReached};
 ghost use Rattle.romfs_rules.specs.Marks.{IsVolumeImage, IsInRootChain, IsElsewhere, AreMarks};
 ghost use Rattle.romfs_rules.specs.Leads.{IsTheOne};
-ghost use Rattle.romfs_rules.specs.Outside.{NamesNext, NamesFirst, Names, NamesNext, NamesFirst, NamesDestination, IsLeast, IsBelow, IsAbove, lesser, Notes};
+ghost use Rattle.romfs_rules.specs.Outside.{Names, NamesDestination, IsLeast, IsBelow, IsAbove, lesser, Notes};
 
-use crate::lead::{destination_of, first_of, next_of};
-use crate::member::{is_marked, is_opened, is_some_member};
+use crate::lead::destination_of;
+use crate::link::{first_link, next_link};
+use crate::member::{is_marked, is_some_member};
 
 /// The least places outside the image at which headers are reached.
 #[derive(Clone, Copy)]
@@ -17,44 +18,6 @@ pub(crate) struct Outside {
     pub below: Option<u32>,
     /// The least of those from the root's header on.
     pub above: Option<u32>,
-}
-
-/// The header after a header that stands in a chain.
-fn named_next(image: &[u8], at: usize, root_chain: &[bool], elsewhere: &[bool]) -> Option<u32>
-    requires inside { IsInside image.now at }
-    requires slot { cleared at ≡ at }
-    requires root_chain { AreMarks image.now (IsInRootChain image.now) root_chain.now }
-    requires elsewhere { AreMarks image.now (IsElsewhere image.now) elsewhere.now }
-    ensures { IsTheOne (NamesNext image.now at) result }
-{
-    if is_marked(root_chain, at) || is_marked(elsewhere, at) {
-        next_of(image, at)
-    } else {
-        None
-    }
-}
-
-/// The first header of a directory that is opened.
-fn named_first(
-    image: &[u8],
-    top: usize,
-    at: usize,
-    root_chain: &[bool],
-    elsewhere: &[bool],
-) -> Option<u32>
-    requires small { length image.now < 2 ^ 32 }
-    requires top { top ≡ root image.now }
-    requires inside { IsInside image.now at }
-    requires slot { cleared at ≡ at }
-    requires root_chain { AreMarks image.now (IsInRootChain image.now) root_chain.now }
-    requires elsewhere { AreMarks image.now (IsElsewhere image.now) elsewhere.now }
-    ensures { IsTheOne (NamesFirst image.now at) result }
-{
-    if is_opened(image, top, at, root_chain, elsewhere) {
-        first_of(image, top, at)
-    } else {
-        None
-    }
 }
 
 /// The destination of a hard link that is a member, or that a member's hard link leads over.
@@ -138,8 +101,8 @@ fn note_named(
     ensures below { Notes (Names image.now at) (IsBelow image.now) found.below result.below }
     ensures above { Notes (Names image.now at) (IsAbove image.now) found.above result.above }
 {
-    let next = named_next(image, at, root_chain, elsewhere);
-    let first = named_first(image, top, at, root_chain, elsewhere);
+    let next = next_link(image, at, root_chain, elsewhere);
+    let first = first_link(image, top, at, root_chain, elsewhere);
     let destination = named_destination(image, top, at, root_chain, elsewhere, targets);
     let with_next = note(found, image, top, next);
     let with_first = note(with_next, image, top, first);

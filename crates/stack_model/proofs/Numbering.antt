@@ -1,9 +1,9 @@
 -- Numbers and places are one to one.
-use Rattle.std.proofs.Common.{◌≡◌, ◌∙◌, sym, ap, ℕ, zero, suc, ◌+◌, ◌<◌, ◌≤◌, ◌↔◌, inl, inr, List, [], ◌∷◌, ◌++◌, length, map, Bool, true, false, ◌||◌, Some, IsSome, cond, refl, arith}
+use Rattle.std.proofs.Common.{◌≡◌, ◌∙◌, sym, ap, ℕ, zero, suc, ◌+◌, ◌<◌, ◌≤◌, ◌⊎◌, ◌↔◌, inl, inr, List, [], ◌∷◌, ◌++◌, length, map, Bool, true, false, ◌||◌, Some, IsSome, cond, refl, arith}
 use Rattle.std.specs.Prelude.{slice_get, fold, nat_eq}
 use Rattle.std.specs.List.{list_any, position_from, AllByRecursion}
 use Rattle.std.specs.declared.cmp.Ordering.TheVariants.{Less}
-use Rattle.std.proofs.lemmas.Bool.{eqb-true, eq-eqb, and_parts}
+use Rattle.std.proofs.lemmas.Bool.{eqb-true, eq-eqb, and_parts, or_cases}
 use Rattle.std.proofs.lemmas.List.Folds.{list_any-append}
 use Rattle.stack_model.specs.Listing.{Entry, path_cmp, IsAmong, IsListing}
 use Rattle.stack_model.specs.Numbers.{Place, place, same_place, noted, nodes, number_of, node_of}
@@ -104,6 +104,25 @@ all_noted e [] ps a = elim a [ ]
 all_noted e (f ∷ fs) ps (inl i) = rw i (stays_all (noted ps (place f)) (map place fs) (place f) (is_noted ps (place f)))
 all_noted e (f ∷ fs) ps (inr a) = all_noted e fs (noted ps (place f)) a
 
+-- a place that is noted was there, or is the new one
+noted_from : (ps : List Place) (p q : Place) → list_any (same_place p) (noted ps q) ≡ true → (list_any (same_place p) ps ≡ true) ⊎ (q ≡ p)
+noted_from ps p q = go (list_any (same_place q) ps)
+  where
+    last : list_any (same_place p) (q ∷ []) ≡ true → q ≡ p
+    last e = elim (or_cases (same_place p q) false e) [ inl f ↦ sym (same_is p q f) | inr f ↦ absurd (cc) ]
+
+    go : (b : Bool) → list_any (same_place p) (cond b ps (ps ++ q ∷ [])) ≡ true → (list_any (same_place p) ps ≡ true) ⊎ (q ≡ p)
+    go true e = inl e
+    go false e = elim (or_cases _ _ (sym (list_any-append (same_place p) ps (q ∷ [])) ∙ e)) [ inl f ↦ inl f | inr f ↦ inr (last f) ]
+
+-- a place among all that are noted was there, or is an entry's
+from_entry : (es : List Entry) (ps : List Place) (p : Place) → list_any (same_place p) (fold noted ps (map place es)) ≡ true → (list_any (same_place p) ps ≡ true) ⊎ ((e : Entry) × IsAmong e es × (place e ≡ p))
+from_entry [] ps p i = inl i
+from_entry (f ∷ fs) ps p i = elim (from_entry fs (noted ps (place f)) p i) [
+  | inr (e, a, q) ↦ inr (e, inr a, q)
+  | inl x ↦ elim (noted_from ps p (place f) x) [ inl y ↦ inl y | inr q ↦ inr (f, inl refl, q) ]
+]
+
 some_position : (n : ℕ) (p : Place) (ps : List Place) → list_any (same_place p) ps ≡ true → (m : ℕ) × (position_from (same_place p) n ps ≡ Some m)
 some_position n p [] e = absurd (cc)
 some_position n p (q ∷ ps) e = go (same_place p q) refl (some_position (n + 1) p ps)
@@ -152,6 +171,12 @@ numbers_all entries (suc n) = (within (nodes entries) n, λ b. there (nodes entr
 
     within : (ps : List Place) (k : ℕ) → IsSome (slice_get ps k) → (1 ≤ suc k) × (suc k ≤ length ps)
     within ps k s = let l = under ps k s in (omega arith, omega arith)
+
+-- a number that is used is that of an entry's place
+pub number_listed : (entries : List Entry) (n : ℕ) (p : Place) → node_of entries n ≡ Some p → (e : Entry) × IsAmong e entries × (place e ≡ p)
+unfolding nodes
+number_listed entries zero p e = absurd (cc)
+number_listed entries (suc k) p e = elim (from_entry entries [] p (any_at p (nodes entries) k e)) [ inl f ↦ absurd (cc) | inr x ↦ x ]
 
 numbered : (entries : List Entry) (e : Entry) → IsAmong e entries → (m : ℕ) × (number_of entries (place e) ≡ Some m)
 unfolding number_of nodes

@@ -46,13 +46,16 @@ pub fn whiteouts_cut()
 {}
 
 /// Numbers: the root has 1 where it is listed; each number from 1 to the number of nodes is that of exactly
-/// one place, and no other number is used; two entries have one number exactly where they have one place.
-#[tactic(auto, using(crate::proofs::Numbering::root_first, crate::proofs::Numbering::number_used, crate::proofs::Numbering::numbers_all, crate::proofs::Numbering::entries_numbered))]
+/// one place, that of some entry, and no other number is used; two entries have one number exactly where they have
+/// one place.
+#[tactic(auto, using(crate::proofs::Numbering::root_first, crate::proofs::Numbering::number_used, crate::proofs::Numbering::number_listed, crate::proofs::Numbering::numbers_all, crate::proofs::Numbering::entries_numbered))]
 pub fn numbers_are_places()
     ensures root { (layers : List (List ℕ)) (entries : List Entry) (e : Entry) →
         IsListing layers entries → IsAmong e entries → e.path ≡ [] → number_of entries (place e) ≡ Some 1 }
     ensures used { (entries : List Entry) (n : ℕ) (p : Place) →
         (number_of entries p ≡ Some n) ↔ (node_of entries n ≡ Some p) }
+    ensures listed { (entries : List Entry) (n : ℕ) (p : Place) →
+        node_of entries n ≡ Some p → (e : Entry) × IsAmong e entries × (place e ≡ p) }
     ensures all { (entries : List Entry) (n : ℕ) →
         IsSome (node_of entries n) ↔ ((1 ≤ n) × (n ≤ length (nodes entries))) }
     ensures entries { (entries : List Entry) (e f : Entry) → IsAmong e entries → IsAmong f entries →

@@ -9,3 +9,10 @@ pub mod Searched
 pub mod Served
 pub mod Endings
 pub mod Sizes
+pub mod Printed
+pub mod Ended
+pub mod Walked
+pub mod Valued
+pub mod Taken
+pub mod Parsed
+pub mod WorkedLines

@@ -7,3 +7,7 @@ pub mod Serving
 pub mod Opening
 pub mod Faults
 pub mod Written
+pub mod Texts
+pub mod Ending
+pub mod CommandLine
+pub mod LineExamples

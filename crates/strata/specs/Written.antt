@@ -1,5 +1,5 @@
 -- What a writer holds after a stream of requests over some images.
-use Rattle.std.specs.Prelude.{◌≡◌, ℕ, ◌⊎◌, List, Option}
+use Rattle.std.specs.Prelude.{◌≡◌, ◌≢◌, ℕ, ◌⊎◌, List, Option}
 use Rattle.std.specs.Io.KnownBytes.{Appends}
 use Rattle.strata.specs.declared.fault.First.{First}
 use Rattle.strata.specs.declared.faults.Fault.{Fault}
@@ -20,13 +20,9 @@ pub record WritesStanding (images : List (List ℕ)) (stream : List ℕ) (old ne
   pub first : First
   pub refused : IsRefused images stream replies first
   pub told : fault ≡ told_of first
+  pub for_memory : fault ≢ Memory
   pub written : Appends old new replies
 
--- the same, or the writer failed, or memory ran out
+-- the same, or the writer failed, or memory ran out and the writer is as it was
 abbrev pub WritesFewer : List (List ℕ) → List ℕ → Option (List ℕ) → Option (List ℕ) → Fault → Type 0
-WritesFewer images stream old new fault = WritesStanding images stream old new fault ⊎ ((fault ≡ Write) ⊎ (fault ≡ Memory))
-
--- the writer gained all replies to the stream, over the bytes of some images
-pub record AnswersStream (stream : List ℕ) (old new : Option (List ℕ)) : Type 0 where
-  pub images : List (List ℕ)
-  pub replies : WritesReplies images stream old new
+WritesFewer images stream old new fault = WritesStanding images stream old new fault ⊎ ((fault ≡ Write) ⊎ ((fault ≡ Memory) × (new ≡ old)))

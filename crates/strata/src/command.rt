@@ -4,11 +4,13 @@
 //! files of the images, opens the file of requests, creates the file of replies, and then does its
 //! work.
 
-ghost use Rattle.std.specs.Prelude.{◌≡◌, ◌⊎◌, ◌≤◌, length, map, OnOk, IfOk, IfErr, IfSome};
+ghost use Rattle.std.specs.Prelude.{◌≡◌, ◌≢◌, ◌⊎◌, ◌≤◌, length, map, string_bytes, OnOk, IfOk, IfErr, IfSome};
 ghost use Rattle.romfs_format.specs.Fields.{image};
 ghost use Rattle.romfs_format.specs.Rules.{IsSound};
-ghost use Rattle.strata.specs.Faults.{IsLayerFault, AreSizes, IsFirstFault};
-ghost use Rattle.strata.specs.Written.{WritesReplies, WritesFewer, AnswersStream};
+ghost use Rattle.strata.specs.Faults.{status_of, IsLayerFault, AreSizes, IsFirstFault};
+ghost use Rattle.strata.specs.Texts.{size_lines};
+ghost use Rattle.strata.specs.Written.{WritesReplies, WritesFewer};
+ghost use Rattle.strata.specs.Ending.{IsServedWhole, AreGood, IsStoppedBy, IsDone, IsStopped, EndsWith};
 
 use crate::fault::First;
 use crate::faults::Fault;
@@ -18,13 +20,17 @@ use crate::options::{Line, Verb};
 use crate::paths::{create_replies, open_requests, read_images};
 use crate::streams::{ReadFault, read_file, read_stream, write_out};
 use romfs_image::{CheckFault, Image};
-use std::alloc::{Allocator, Global};
+use std::alloc::{AllocError, Allocator, Global};
 use std::convert::AsStr;
 use std::fs::{Files, OpenFile};
 use std::io::{Read, Write};
 
-/// Runs the program on the words after its name, and gives its exit status. The line of what went
-/// wrong goes to `faults`.
+/// Runs the program on the words after its name, and gives its exit status.
+///
+/// The status is 0 where the words are a command of the program and all of its work was done: the
+/// replies to the whole stream, or the sizes of all images, were written. Else a line for what went
+/// wrong goes to `faults`, and the status is that of [`Fault`]; `output` then holds the replies that
+/// stand, or is as it was.
 ///
 /// Memory comes from `alloc`, but for the command line: `clap` takes the global allocator alone.
 pub fn command<R: Files, A: Allocator + Copy, S: AsStr, I: Read, O: Write, E: Write>(
@@ -36,11 +42,15 @@ pub fn command<R: Files, A: Allocator + Copy, S: AsStr, I: Read, O: Write, E: Wr
     output: &mut O,
     faults: &mut E,
 ) -> u8
-    ensures { result ≤ 5 }
+    ensures done { result ≡ 0 → IsDone (map S.text words.now) (I.remaining input.old) (O.contents output.old) (O.contents output.new) }
+    ensures stopped { result ≢ 0 → EndsWith (map S.text words.now) result (I.remaining input.old) (O.contents output.old) (O.contents output.new) }
 {
     match run(rt, alloc, global, words, input, output) {
         Ok(()) => 0,
-        Err(fault) => fault.tell(faults),
+        Err(fault) => {
+            let _ = fault.tell(faults);
+            fault.status()
+        }
     }
 }
 
@@ -51,7 +61,10 @@ fn run<R: Files, A: Allocator + Copy, S: AsStr, I: Read, O: Write>(
     words: &[S],
     input: &mut I,
     output: &mut O,
-) -> Result<(), Fault> {
+) -> Result<(), Fault>
+    ensures done { OnOk result (IsDone (map S.text words.now) (I.remaining input.old) (O.contents output.old) (O.contents output.new)) }
+    ensures stopped { IfErr result (λ fault. IsStopped (map S.text words.now) fault (I.remaining input.old) (O.contents output.old) (O.contents output.new)) }
+{
     let line = line(global, words)?;
     match line.verb {
         Verb::Serve => serve(rt, alloc, &line, input, output),
@@ -67,8 +80,8 @@ fn serve<R: Files, A: Allocator + Copy, I: Read, O: Write>(
     input: &mut I,
     output: &mut O,
 ) -> Result<(), Fault>
-    ensures over_streams { line.now.requests ≡ None → line.now.replies ≡ None
-        → OnOk result (IfSome (I.remaining input.old) (λ stream. AnswersStream stream (O.contents output.old) (O.contents output.new))) }
+    ensures done { OnOk result (IsServedWhole line.now (I.remaining input.old) (O.contents output.old) (O.contents output.new)) }
+    ensures stopped { IfErr result (λ fault. IsStoppedBy Verb.Serve line.now fault (I.remaining input.old) (O.contents output.old) (O.contents output.new)) }
 {
     let images = read_images(rt, alloc, line.images.as_slice())?;
     let requests = open_requests(rt, line.requests)?;
@@ -110,15 +123,24 @@ fn check<R: Files, A: Allocator + Copy, O: Write>(
     line: &Line<'_>,
     output: &mut O,
 ) -> Result<(), Fault>
-    ensures err { IfErr result (λ fault. (fault ≡ Fault.Write) ⊎ (output.new ≡ output.old)) }
+    ensures done { OnOk result (AreGood line.now (O.contents output.old) (O.contents output.new)) }
+    ensures stopped { IfErr result (λ fault. (input : _) → IsStoppedBy Verb.Check line.now fault input (O.contents output.old) (O.contents output.new)) }
 {
     let images = read_images(rt, alloc, line.images.as_slice())?;
     let sizes = checked_sizes(alloc, images)?;
+    let lines = lines_of(alloc, sizes.as_slice())?;
+    write_out(output, lines.as_bytes())
+}
+
+// A line for each of these sizes in bytes, by the number of its image.
+fn lines_of<A: Allocator>(alloc: A, sizes: &[u32]) -> Result<String<A>, AllocError>
+    ensures { IfOk result (λ lines. string_bytes lines ≡ size_lines 0 sizes.now) }
+{
     let mut lines = String::new(alloc);
     for (layer, size) in sizes.iter().enumerate() {
         writeln!(lines, "layer {layer}: {size} bytes")?;
     }
-    write_out(output, lines.as_bytes())
+    Ok(lines)
 }
 
 // How many bytes of each image are accessible, if all are good. Else it names the fault of the first that is not.

@@ -1,14 +1,16 @@
 //! What can go wrong in the program: a line for standard error and an exit status each.
 
-ghost use Rattle.std.specs.Prelude.{◌≡◌};
+ghost use Rattle.std.specs.Prelude.{◌≡◌, ◌++◌, ◌∷◌, [], OnOk};
+ghost use Rattle.std.specs.Io.KnownBytes.{Appends};
 ghost use Rattle.strata.specs.Faults.{status_of};
+ghost use Rattle.strata.specs.Texts.{fault_text};
 
 use crate::fault::First;
 use crate::options::LineFault;
 use romfs_image::ImageFault;
 use std::alloc::{AllocError, AllocFailed};
-use std::fmt;
 use std::io::Write;
+use std::{fmt, io};
 
 /// Why the program stopped. Its `Display` is the line for standard error.
 #[derive(Debug, Drop)]
@@ -54,17 +56,20 @@ impl Fault {
         }
     }
 
-    /// Writes its line, and gives its exit status. A failure to write is ignored.
-    pub fn tell<W: Write>(&self, faults: &mut W) -> u8
-        ensures { result ≡ status_of self.now }
+    /// Writes its line.
+    pub fn tell<W: Write>(&self, writer: &mut W) -> io::Result<()>
+        ensures { OnOk result (Appends (W.contents writer.old) (W.contents writer.new) (fault_text self.now ++ 10 ∷ [])) }
     {
-        let _ = writeln!(faults, "{self}");
-        let _ = faults.flush();
-        self.status()
+        writeln!(writer, "{self}")?;
+        writer.flush()
     }
 }
 
 impl fmt::Display for Fault {
+    ghost use Rattle.std.specs.Prelude.{Some};
+
+    ghost output = { λ fault. Some (fault_text fault) };
+
     fn fmt<W: fmt::Write>(&self, f: &mut fmt::Formatter<W>) -> fmt::Result {
         match self {
             Fault::Usage { text } => write!(f, "{text}"),

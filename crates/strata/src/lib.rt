@@ -1,8 +1,9 @@
 //! The program `strata`: FUSE requests answered over romfs images.
 //!
 //! [`command::command`] is the whole program over the words of its command line and its three standard streams. Below
-//! it, `line` reads the words, `paths` opens the files that they name, `streams` reads and writes whole streams, and
-//! `faults` has a line and an exit status for each thing that can go wrong.
+//! it, `line` reads the words, with worked examples in `line_examples`, `paths` opens the files that they name,
+//! `streams` reads and writes whole streams, and `faults` has a line and an exit status for each thing that can go
+//! wrong.
 //!
 //! [`first`] checks one image and appends the replies to a whole stream of requests. Its contract says exactly which
 //! bytes these are, by the definitions that restate romfs, the layer chapter of the OCI image specification, and
@@ -24,6 +25,7 @@ mod fault;
 pub mod faults;
 mod files;
 pub mod line;
+pub mod line_examples;
 mod one_image;
 pub mod options;
 mod paths;
@@ -34,6 +36,3 @@ mod streams;
 pub use fault::First;
 pub use faults::Fault;
 pub use one_image::first;
-
-#[cfg(test)]
-mod tests;

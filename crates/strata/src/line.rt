@@ -2,7 +2,10 @@
 //!
 //! `clap` keeps what it makes in the global allocator, so this module takes that one alone.
 
-ghost use Rattle.std.specs.Prelude.{IfOk, ◌≤◌, vec_len};
+ghost use Rattle.std.specs.Prelude.{◌≡◌, ◌≢◌, ◌≤◌, ◌⊎◌, false, codes, map, vec_len, IfOk, IfErr};
+ghost use Rattle.clap.specs.Words.{app_of, found_of, kind_of, rows_of, rule_of, subcommand_rows_of};
+ghost use Rattle.strata.specs.CommandLine.{HasImages, HoldsRows, IsLineFault, IsLineOf, IsTaken, check_command, command_in, file_option, image_word, program, serve_command, verb_word};
+ghost use Rattle.strata.specs.declared.options.LineFault.TheVariants.{Memory};
 
 use crate::options::{Line, LineFault, Verb};
 use clap::error::ErrorKind;
@@ -21,22 +24,35 @@ pub fn words<R: Env + AllocGlobal>(rt: &R) -> Result<Vec<String>, LineFault> {
     }
 }
 
-/// Reads the words after the program's name.
+/// Reads the words after the program's name: the line has their verb, their images in order, and the
+/// first value of each option. `Serve` has one image, `Check` has one or more. It is `Usage` only where
+/// the words are no command of the program, as where they ask for help.
 pub fn line<'a, S: AsStr>(alloc: Global, words: &'a [S]) -> Result<Line<'a>, LineFault>
-    ensures { IfOk result (λ line. 1 ≤ vec_len line.images) }
+    ensures ok { IfOk result (λ line. IsLineOf (map S.text words.now) line) }
+    ensures some_image { IfOk result (λ line. 1 ≤ vec_len line.images) }
+    ensures one_image { IfOk result (λ line. line.verb ≡ Verb.Serve → vec_len line.images ≡ 1) }
+    ensures err { IfErr result (λ fault. IsLineFault (map S.text words.now) fault) }
 {
-    let matches = match program(alloc)?.try_get_matches_from(words) {
-        Ok(matches) => matches,
-        Err(error) => return Err(refusal(alloc, &error)),
-    };
-    match matches.subcommand() {
-        Some(("serve", found)) => line_of(alloc, Verb::Serve, found),
-        Some(("check", found)) => line_of(alloc, Verb::Check, found),
-        _ => Err(usage(alloc, "error: there is no such command")),
+    let matches = matches_of(alloc, words)?;
+    let (name, found) = matches.subcommand().unwrap();
+    line_of(alloc, verb_of(name), found)
+}
+
+// What `clap` makes of the words.
+fn matches_of<'a, S: AsStr>(alloc: Global, words: &'a [S]) -> Result<ArgMatches<'a>, LineFault>
+    ensures taken { IfOk result (λ _. IsTaken (map S.text words.now)) }
+    ensures command { IfOk result (λ matches. subcommand_rows_of matches ≡ command_in (map S.text words.now)) }
+    ensures err { IfErr result (λ fault. IsLineFault (map S.text words.now) fault) }
+{
+    match program(alloc)?.try_get_matches_from(words) {
+        Ok(matches) => Ok(matches),
+        Err(error) => Err(refusal(alloc, &error)),
     }
 }
 
-fn program<'a>(alloc: Global) -> Result<Command<'a>, AllocError> {
+fn program<'a>(alloc: Global) -> Result<Command<'a>, AllocError>
+    ensures { IfOk result (λ command. app_of command ≡ program) }
+{
     Command::new(alloc, "strata")
         .no_binary_name(true)
         .bin_name("strata")?
@@ -46,7 +62,9 @@ fn program<'a>(alloc: Global) -> Result<Command<'a>, AllocError> {
         .subcommand(check(alloc)?)
 }
 
-fn serve<'a>(alloc: Global) -> Result<Command<'a>, AllocError> {
+fn serve<'a>(alloc: Global) -> Result<Command<'a>, AllocError>
+    ensures { IfOk result (λ command. app_of command ≡ serve_command) }
+{
     Command::new(alloc, "serve")
         .about("Answers FUSE requests over an image")
         .arg(file_option(alloc, "requests").help(
@@ -56,7 +74,9 @@ fn serve<'a>(alloc: Global) -> Result<Command<'a>, AllocError> {
         .arg(image(alloc))
 }
 
-fn check<'a>(alloc: Global) -> Result<Command<'a>, AllocError> {
+fn check<'a>(alloc: Global) -> Result<Command<'a>, AllocError>
+    ensures { IfOk result (λ command. app_of command ≡ check_command) }
+{
     Command::new(alloc, "check")
         .about("Checks images, and prints their sizes")
         .arg(
@@ -67,27 +87,45 @@ fn check<'a>(alloc: Global) -> Result<Command<'a>, AllocError> {
         )
 }
 
-fn file_option<'a>(alloc: Global, name: &'a str) -> Arg<'a> {
+fn file_option<'a>(alloc: Global, name: &'a str) -> Arg<'a>
+    ensures rule { rule_of result ≡ file_option name.entry.now }
+    ensures local { result.global ≡ false }
+{
     Arg::new(alloc, name).long(name).value_name("FILE")
 }
 
-fn image<'a>(alloc: Global) -> Arg<'a> {
+fn image<'a>(alloc: Global) -> Arg<'a>
+    ensures rule { rule_of result ≡ image_word }
+    ensures local { result.global ≡ false }
+{
     Arg::new(alloc, "image")
         .value_name("IMAGE")
         .required(true)
         .help("The file of a romfs image")
 }
 
-fn line_of<'a>(alloc: Global, verb: Verb, found: &ArgMatches<'a>) -> Result<Line<'a>, LineFault>
-    ensures { IfOk result (λ line. 1 ≤ vec_len line.images) }
+// The verb of a command's name.
+fn verb_of(name: &str) -> Verb
+    requires { (name.now ≡ codes "serve") ⊎ (name.now ≡ codes "check") }
+    ensures { verb_word result ≡ name.now }
 {
-    let images = match found.get_strs("image") {
-        Some(images) => images.to_vec(alloc)?,
-        None => Vec::new(alloc),
-    };
-    if images.is_empty() {
-        return Err(usage(alloc, "error: there is no image"));
+    match name {
+        "serve" => Verb::Serve,
+        "check" => Verb::Check,
+        _ => unreachable!(),
     }
+}
+
+// The line of a command that has images.
+fn line_of<'a>(alloc: Global, verb: Verb, found: &ArgMatches<'a>) -> Result<Line<'a>, LineFault>
+    requires { HasImages verb (rows_of (found_of found.now)) }
+    ensures verb { IfOk result (λ line. line.verb ≡ verb) }
+    ensures holds { IfOk result (λ line. HoldsRows (rows_of (found_of found.now)) line) }
+    ensures some_image { IfOk result (λ line. 1 ≤ vec_len line.images) }
+    ensures one_image { IfOk result (λ line. line.verb ≡ Verb.Serve → vec_len line.images ≡ 1) }
+    ensures err { IfErr result (λ fault. fault ≡ Memory) }
+{
+    let images = found.get_strs("image").unwrap().to_vec(alloc)?;
     Ok(Line {
         verb,
         requests: found.get_str("requests"),
@@ -97,7 +135,9 @@ fn line_of<'a>(alloc: Global, verb: Verb, found: &ArgMatches<'a>) -> Result<Line
 }
 
 // What `clap` answers in place of matches.
-fn refusal(alloc: Global, error: &Error) -> LineFault {
+fn refusal(alloc: Global, error: &Error) -> LineFault
+    ensures { (result ≡ Memory) ⊎ (kind_of error.now ≢ ErrorKind.OutOfMemory) }
+{
     if error.kind() == ErrorKind::OutOfMemory {
         return LineFault::Memory;
     }

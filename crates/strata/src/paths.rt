@@ -1,6 +1,6 @@
 //! The files that a command line names.
 
-ghost use Rattle.std.specs.Prelude.{◌≡◌, ◌⊎◌, length, vec_len, is_some, IfOk, IfErr};
+ghost use Rattle.std.specs.Prelude.{◌≡◌, ◌⊎◌, ◌<◌, ℕ, length, vec_len, is_some, IfOk, IfErr};
 
 use crate::faults::Fault;
 use crate::streams::{ReadFault, read_file};
@@ -14,7 +14,8 @@ pub fn read_images<R: Files, A: Allocator + Copy>(
     alloc: A,
     paths: &[&str],
 ) -> Result<Vec<Vec<u8, A>, A>, Fault>
-    ensures { IfOk result (λ images. vec_len images ≡ length paths.now) }
+    ensures ok { IfOk result (λ images. vec_len images ≡ length paths.now) }
+    ensures err { IfErr result (λ fault. (fault ≡ Fault.Memory) ⊎ ((image : ℕ) × (image < length paths.now) × (fault ≡ Fault.ImageFile image))) }
 {
     let mut images = Vec::with_capacity(alloc, paths.len())?;
     for (image, path) in paths.iter().enumerate() {

@@ -19,7 +19,11 @@ fn main(rt: HostRuntime) -> ExitCode {
             &mut rt.stdout(),
             &mut faults,
         ),
-        Err(fault) => Fault::from(fault).tell(&mut faults),
+        Err(fault) => {
+            let fault = Fault::from(fault);
+            let _ = fault.tell(&mut faults);
+            fault.status()
+        }
     };
     ExitCode::from(status)
 }

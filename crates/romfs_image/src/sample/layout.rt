@@ -1,6 +1,7 @@
 //! Where the headers of an image to be built stand, and which headers they name.
 
-ghost use Rattle.std.specs.Prelude.{◌+◌, ◌≤◌, ◌^◌};
+ghost use Rattle.std.specs.Prelude.{◌≡◌, ◌+◌, ◌≤◌, ◌^◌, length, IfOk, IfErr};
+ghost use Rattle.romfs_format.specs.Fields.{pad};
 
 use super::{BuildFault, Item, What};
 use std::alloc::{AllocError, Allocator};
@@ -159,12 +160,15 @@ impl<A: Allocator> Layout<A> {
 
 /// Where the next header stands after the one at `at` with this name and data. A volume header is as
 /// long as a header with its name.
-fn after(at: u32, name: &[u8], data: &[u8]) -> Result<u32, BuildFault> {
+fn after(at: u32, name: &[u8], body: &[u8]) -> Result<u32, BuildFault>
+    ensures ok { IfOk result (λ next. next ≡ at + 16 + pad (length name.now + 1) + pad (length body.now)) }
+    ensures err { IfErr result (λ fault. (fault ≡ BuildFault.Size) × (2 ^ 32 ≤ at + 16 + pad (length name.now + 1) + pad (length body.now))) }
+{
     let most = u32::MAX as usize;
-    if name.len() > most || data.len() > most {
+    if name.len() > most || body.len() > most {
         return Err(BuildFault::Size);
     }
-    let end = u64::from(at) + 16 + padded(name.len() as u64 + 1) + padded(data.len() as u64);
+    let end = u64::from(at) + 16 + padded(name.len() as u64 + 1) + padded(body.len() as u64);
     if end > u64::from(u32::MAX) {
         return Err(BuildFault::Size);
     }
@@ -174,21 +178,8 @@ fn after(at: u32, name: &[u8], data: &[u8]) -> Result<u32, BuildFault> {
 /// A length rounded up to a multiple of 16.
 fn padded(len: u64) -> u64
     requires { len ≤ 2 ^ 32 }
-    ensures { result ≤ len + 15 }
+    ensures value { result ≡ pad len }
+    ensures near { (len ≤ result) × (result ≤ len + 15) }
 {
     (len + 15) / 16 * 16
-}
-
-#[cfg(test)]
-mod tests {
-    use super::*;
-
-    #[test]
-    fn ends_at_the_largest_size(rt: HostRuntime) {
-        let long = [1; 15];
-        assert_eq!(rt; after(0xffffffd0, b"a", &[]), Ok(0xfffffff0));
-        assert_eq!(rt; after(0xffffffc0, &long, b"a"), Ok(0xfffffff0));
-        assert_eq!(rt; after(0xffffffe0, b"a", &[]), Err(BuildFault::Size));
-        assert_eq!(rt; after(0xffffffd0, &long, b"a"), Err(BuildFault::Size));
-    }
 }

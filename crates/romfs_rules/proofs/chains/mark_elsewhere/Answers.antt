@@ -1,5 +1,6 @@
 use Rattle.std.proofs.Common.{refl, subst}
-use Rattle.romfs_rules.proofs.Closure.{Walked, begun, all_marked, step_stale, less_stale, step_fresh, less_fresh, none_left}
+use Rattle.romfs_rules.proofs.Lists.{none_left}
+use Rattle.romfs_rules.proofs.Closure.{Walked, begun, all_marked, step_stale, less_stale, step_fresh, less_fresh}
 use Rattle.romfs_rules.proofs.chains.mark_elsewhere.Goals as goal
 
 pub loop-word-init : goal.loop-word-init

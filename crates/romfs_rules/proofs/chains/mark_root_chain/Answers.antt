@@ -1,6 +1,6 @@
 use Rattle.std.proofs.Common.{ap, ◌/◌, ◌*◌, refl, arith}
 use Rattle.romfs_format.specs.Fields.{cleared}
-use Rattle.romfs_rules.proofs.MarkSteps.{fewer_unmarked}
+use Rattle.romfs_rules.proofs.MarkLists.{marks_fall}
 use Rattle.romfs_rules.proofs.RootWalk.{begun, steps, all_marked}
 use Rattle.romfs_rules.proofs.chains.mark_root_chain.Goals as goal
 
@@ -13,7 +13,7 @@ loop-marks-init g c = record {
 pub loop-marks-smaller : goal.loop-marks-smaller
 loop-marks-smaller g c =
     let f = rw c.deref.ensures.value at (c.loop-marks-test.ensures.fresh refl) in
-    let less = fewer_unmarked c.loop-marks.marks.items (c.loop-marks.at / 16) f.1 f.2 in
+    let less = marks_fall c.loop-marks.marks.items (c.loop-marks.at / 16) f.1 f.2 in
     omega arith
 
 pub loop-marks-preserved : goal.loop-marks-preserved

@@ -1,5 +1,5 @@
 use Rattle.std.proofs.Common.{◌<◌, ◌^◌}
-use Rattle.romfs_rules.proofs.MarkSteps.{unmarked_in}
+use Rattle.romfs_rules.proofs.MarkLists.{unmarked}
 use Rattle.romfs_rules.proofs.RootWalk.{Walked}
 use Rattle.romfs_rules.proofs.chains.mark_root_chain.Given as goal
 
@@ -7,4 +7,4 @@ abbrev pub invariant-loop-marks : goal.invariant-loop-marks
 invariant-loop-marks g l = record { walked : Walked l.image l.marks.items l.at; narrow : l.at < 2 ^ 32 }
 
 abbrev pub decreases-loop-marks : goal.decreases-loop-marks
-decreases-loop-marks g l = unmarked_in l.marks.items
+decreases-loop-marks g l = unmarked l.marks.items

@@ -1,7 +1,8 @@
 use Rattle.std.proofs.Common.{◌≡◌, ◌∙◌, ap, ◌<◌, length, get_or, true, arith, refl}
 use Rattle.std.proofs.lemmas.List.{get_or_read, length-set, length-append}
 use Rattle.romfs_rules.specs.Climb.{IsSkipped}
-use Rattle.romfs_rules.proofs.Ascent.{begins, skips, enters, leaves, ends, on_turn, drop_turn, reverse_push, fewer, keeps, unentered, popped, no_steps, step_fits}
+use Rattle.romfs_rules.proofs.MarkLists.{unmarked, marks_fall}
+use Rattle.romfs_rules.proofs.Ascent.{begins, skips, enters, leaves, ends, on_turn, drop_turn, reverse_push, keeps, popped, no_steps, step_fits}
 use Rattle.romfs_rules.proofs.climb.climb.Goals as goal
 
 pub index-from-requires : goal.index-from-requires
@@ -29,8 +30,8 @@ loop-found-smaller-then-at-len g c =
     let fresh = rw (c.deref.ensures.value, c.deref-in-loop-found.ensures.value) at c.skip_entered-at.ensures.fresh in
     let s = c.requires.forest.lists.siblings in
     let v = c.loop-found.invariant.entered in
-    let k = fewer c.loop-found.found.entered.items c.skip_entered-at.result (omega arith) (fresh (omega arith)) in
-    let u = ap unentered c.enter-low.ensures.entered in
+    let k = marks_fall c.loop-found.found.entered.items c.skip_entered-at.result (omega arith) (fresh (omega arith)) in
+    let u = ap unmarked c.enter-low.ensures.entered in
     let n = ap length c.in_ok-push.ensures.items ∙ length-append c.loop-found.steps.items _ in
     omega arith
 

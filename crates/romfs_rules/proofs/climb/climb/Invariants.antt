@@ -1,6 +1,7 @@
 use Rattle.std.proofs.Common.{◌≡◌, ◌+◌, ◌*◌, length, get_or, drop, reverse}
 use Rattle.romfs_rules.specs.Climb.{AreKept}
-use Rattle.romfs_rules.proofs.Ascent.{IsUnderWay, unentered}
+use Rattle.romfs_rules.proofs.MarkLists.{unmarked}
+use Rattle.romfs_rules.proofs.Ascent.{IsUnderWay}
 use Rattle.romfs_rules.proofs.climb.climb.Given as goal
 
 abbrev pub invariant-loop-found : goal.invariant-loop-found
@@ -13,4 +14,4 @@ invariant-loop-found g l = record {
 }
 
 abbrev pub decreases-loop-found : goal.decreases-loop-found
-decreases-loop-found g l = 2 * unentered l.found.entered.items + length l.steps.items
+decreases-loop-found g l = 2 * unmarked l.found.entered.items + length l.steps.items

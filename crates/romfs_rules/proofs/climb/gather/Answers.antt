@@ -1,6 +1,7 @@
 use Rattle.std.proofs.Common.{◌∙◌, sym, ap, ◌<◌, length, true, false, arith}
 use Rattle.std.proofs.lemmas.List.{get_or_read, length-set}
-use Rattle.romfs_rules.proofs.Ascent.{reverse_push, fewer, unentered}
+use Rattle.romfs_rules.proofs.MarkLists.{unmarked, marks_fall}
+use Rattle.romfs_rules.proofs.Ascent.{reverse_push}
 use Rattle.romfs_rules.proofs.Rounds.{begins, enters, gathered}
 use Rattle.romfs_rules.proofs.climb.gather.Goals as goal
 
@@ -21,8 +22,8 @@ loop-found-smaller g c =
     let at = c.loop-found.at in
     let i : at < length c.loop-found.found.entered.items = (let a = l.inside in let b = l.entered in omega arith) in
     let e = get_or_read c.loop-found.found.entered.items at _ i c.index.ensures false in
-    let k = fewer c.loop-found.found.entered.items at i (sym e ∙ c.loop-found-test.true) in
-    let u = ap unentered c.enter.ensures.entered in
+    let k = marks_fall c.loop-found.found.entered.items at i (sym e ∙ c.loop-found-test.true) in
+    let u = ap unmarked c.enter.ensures.entered in
     omega arith
 
 pub loop-found-preserved : goal.loop-found-preserved

@@ -1,5 +1,5 @@
 use Rattle.std.proofs.Common.{◌≡◌, ◌<◌, length, reverse}
-use Rattle.romfs_rules.proofs.Ascent.{unentered}
+use Rattle.romfs_rules.proofs.MarkLists.{unmarked}
 use Rattle.romfs_rules.proofs.Rounds.{IsRounding}
 use Rattle.romfs_rules.proofs.climb.gather.Given as goal
 
@@ -13,4 +13,4 @@ invariant-loop-found g l = record {
 }
 
 abbrev pub decreases-loop-found : goal.decreases-loop-found
-decreases-loop-found g l = unentered l.found.entered.items
+decreases-loop-found g l = unmarked l.found.entered.items

@@ -1,6 +1,7 @@
 use Rattle.std.proofs.Common.{◌≡◌, ◌∙◌, sym, ap, length, get_or, false, arith, below_more}
 use Rattle.std.proofs.lemmas.List.{get_or-replicate, length-replicate}
-use Rattle.romfs_rules.proofs.Rounds.{nothing, no_marks, clash}
+use Rattle.romfs_rules.proofs.MarkLists.{no_marks}
+use Rattle.romfs_rules.proofs.Rounds.{nothing, clash}
 use Rattle.romfs_rules.proofs.climb.note_higher.Goals as goal
 
 pub loop-from-init : goal.loop-from-init

@@ -1,5 +1,5 @@
 use Rattle.std.proofs.Common.{arith}
-use Rattle.romfs_rules.proofs.Ascent.{fewer}
+use Rattle.romfs_rules.proofs.MarkLists.{marks_fall}
 use Rattle.romfs_rules.proofs.Rounds.{sets_out, walks, meets}
 use Rattle.romfs_rules.proofs.climb.seek.Goals as goal
 
@@ -9,7 +9,7 @@ loop-seen-init c = record { inside = c.requires.from; walk = λ e k b f. sets_ou
 pub loop-seen-smaller : goal.loop-seen-smaller
 loop-seen-smaller c =
     let i = c.loop-seen.invariant.inside in
-    let k = fewer c.loop-seen.seen c.loop-seen.at (omega arith) c.loop-seen-test.true in
+    let k = marks_fall c.loop-seen.seen c.loop-seen.at (omega arith) c.loop-seen-test.true in
     omega arith
 
 pub loop-seen-preserved : goal.loop-seen-preserved

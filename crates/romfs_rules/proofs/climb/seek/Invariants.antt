@@ -1,6 +1,6 @@
 use Rattle.std.proofs.Common.{◌≡◌, ◌<◌, List, Bool, false, length, get_or}
 use Rattle.romfs_rules.specs.Climb.{AreKept, IsClosed, IsWalk}
-use Rattle.romfs_rules.proofs.Ascent.{unentered}
+use Rattle.romfs_rules.proofs.MarkLists.{unmarked}
 use Rattle.romfs_rules.proofs.climb.seek.Given as goal
 
 abbrev pub invariant-loop-seen : goal.invariant-loop-seen
@@ -10,4 +10,4 @@ invariant-loop-seen l = record {
 }
 
 abbrev pub decreases-loop-seen : goal.decreases-loop-seen
-decreases-loop-seen l = unentered l.seen
+decreases-loop-seen l = unmarked l.seen

@@ -1,7 +1,8 @@
 use Rattle.std.proofs.Common.{◌≡◌, ◌/◌, false, subst, refl, arith, length, replicate}
 use Rattle.std.proofs.lemmas.List.{length-replicate}
 use Rattle.romfs_rules.proofs.MarkLists.{no_marks}
-use Rattle.romfs_rules.proofs.Descent.{Descends, begun, step_stale, less_stale, step_fresh, less_fresh, names_fit, found, none_left}
+use Rattle.romfs_rules.proofs.Lists.{none_left}
+use Rattle.romfs_rules.proofs.Descent.{Descends, begun, step_stale, less_stale, step_fresh, less_fresh, names_fit, found}
 use Rattle.romfs_rules.proofs.depth.find_deep.Goals as goal
 
 pub loop-next-init : goal.loop-next-init
@@ -10,7 +11,7 @@ loop-next-init g c =
     let marks : c.in_ok-marks.marks.items ≡ replicate (length image / 16) false = c.in_ok-marks.ensures.items_if_clones_equal (λ y e. e) in
     begun image c.requires.keeps c.push_some.new.todo.items c.in_ok-marks.marks.items c.first_of.result
     (rw marks (length-replicate (length image / 16) false))
-    (rw marks (no_marks (length image / 16)))
+    (no_marks c.in_ok-marks.marks.items (length image / 16) marks)
     (rw c.requires.top at c.first_of.ensures)
     (rw c.new-todo.ensures.items at c.in_ok-push_some.ensures)
 

@@ -1,5 +1,6 @@
-use Rattle.std.proofs.Common.{◌≡◌, ℕ, Vec, ap, sym, ◌∙◌, length, refl}
+use Rattle.std.proofs.Common.{◌≡◌, ℕ, Vec, ap, sym, ◌∙◌, length}
 use Rattle.std.proofs.lemmas.List.{with_items_is}
+use Rattle.std.proofs.lemmas.Bool.{false≢true}
 use Rattle.romfs_rules.proofs.EndWalk.{found_more, found_same, found_all}
 use Rattle.romfs_rules.proofs.ends.find_ends.Goals as goal
 use Rattle.romfs_rules.proofs.ends.find_ends.Goals.{then-is_left+in_ok-push, else-is_left}
@@ -12,7 +13,7 @@ loop-slot-preserved g c = elim c.if-is_left.branch [
       let len = w.end_of-end.auto.walks ∙ ap length w.deref_mut.ensures.value in
       let walks : c.if-is_left.walks.items ≡ w.end_of-end.new.walks = ap (λ (v : Vec ℕ g.row.A.Denot). v.items) w.walks-is ∙ with_items_is c.loop-slot.walks w.end_of-end.new.walks (len ∙ sym c.loop-slot.walks.ok.0) in
       rw (walks, w.ends-is, w.in_ok-push.ensures.items) (found_more c.args.image.now c.loop-slot.walks.items c.loop-slot.ends.items c.loop-slot.slot c.loop-slot.invariant w.end_of-end.new.walks w.end_of-end.result len known passes)
-  | else-is_left w ↦ rw (w.walks-is, w.ends-is) (found_same c.args.image.now c.loop-slot.walks.items c.loop-slot.ends.items c.loop-slot.slot c.loop-slot.invariant (rw c.deref.ensures.value at (w.if-is_left.ensures.done refl)))
+  | else-is_left w ↦ rw (w.walks-is, w.ends-is) (found_same c.args.image.now c.loop-slot.walks.items c.loop-slot.ends.items c.loop-slot.slot c.loop-slot.invariant (λ x. false≢true (w.if-is_left.ensures.1 (rw c.deref.ensures.value x))))
 ]
 
 pub returns : goal.returns

@@ -1,11 +1,12 @@
-use Rattle.std.proofs.Common.{length, arith}
+use Rattle.std.proofs.Common.{arith}
 use Rattle.romfs_rules.specs.Outside.{IsBelow, IsAbove}
-use Rattle.romfs_rules.proofs.Reach.{slot_inside, scans, all_scanned}
+use Rattle.romfs_rules.proofs.Slots.{slot_inside}
+use Rattle.romfs_rules.proofs.Reach.{scans, all_scanned}
 use Rattle.romfs_rules.proofs.outside.find_outside.Goals as goal
 
 pub note_named-found-requires-clause-inside : goal.note_named-found-requires-clause-inside
 note_named-found-requires-clause-inside c =
-    slot_inside c.args.image.now c.args.top c.loop-slot.slot (length c.args.root_chain.now) c.requires.top c.loop-slot.auto.slot c.loop-slot-test.true c.requires.root_chain.sized
+    let sized = c.requires.root_chain.sized in slot_inside c.args.image.now c.loop-slot.slot (omega arith) (omega arith)
 
 pub loop-slot-preserved : goal.loop-slot-preserved
 loop-slot-preserved c =
@@ -13,7 +14,8 @@ loop-slot-preserved c =
     let slot = c.loop-slot.slot in
     let before = c.loop-slot.found in
     let after = c.note_named-found in
-    let inside = slot_inside a c.args.top slot (length c.args.root_chain.now) c.requires.top c.loop-slot.auto.slot c.loop-slot-test.true c.requires.root_chain.sized in
+    let sized = c.requires.root_chain.sized in
+    let inside = slot_inside a slot (omega arith) (omega arith) in
     record {
       below = scans a (IsBelow a) slot before.below after.result.below inside c.loop-slot.invariant.below after.ensures.below;
       above = scans a (IsAbove a) slot before.above after.result.above inside c.loop-slot.invariant.above after.ensures.above;

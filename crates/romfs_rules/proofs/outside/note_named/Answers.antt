@@ -5,8 +5,8 @@ use Rattle.romfs_rules.proofs.outside.note_named.Goals as goal
 pub returns : goal.returns
 returns c =
     let a = c.args.image.now in
-    let next = c.named_next-next in
-    let first = c.named_first-first in
+    let next = c.next_link-next in
+    let first = c.first_link-first in
     let hard = c.named_destination-destination in
     let one = c.note-with_next in
     let two = c.note-with_first in

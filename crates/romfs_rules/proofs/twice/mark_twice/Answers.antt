@@ -1,8 +1,14 @@
 use Rattle.std.proofs.Common.{◌≡◌, ◌/◌, ap, subst, arith, length}
 use Rattle.std.proofs.lemmas.List.{with_items_is}
-use Rattle.romfs_rules.proofs.Slots.{inside_root}
-use Rattle.romfs_rules.proofs.Counted.{Tallied, Below, passes, all_twice}
+use Rattle.romfs_rules.proofs.Slots.{slot_inside}
+use Rattle.romfs_rules.proofs.Counted.{Tallied, Below, none_tallied, passes, all_twice}
 use Rattle.romfs_rules.proofs.twice.mark_twice.Goals as goal
+
+pub loop-slot-init : goal.loop-slot-init
+loop-slot-init g c = none_tallied c.args.image.now c.requires.volume (c.args.top / 16) (omega arith) c.in_ok-once.once.items c.in_ok-twice.twice.items (c.in_ok-once.ensures.items_if_clones_equal (λ y e. e)) (c.in_ok-twice.ensures.items_if_clones_equal (λ y e. e))
+
+pub count_links-requires-clause-inside : goal.count_links-requires-clause-inside
+count_links-requires-clause-inside g c = slot_inside c.args.image.now c.loop-slot.slot (omega arith) (omega arith)
 
 pub loop-slot-preserved : goal.loop-slot-preserved
 loop-slot-preserved g c =
@@ -19,4 +25,4 @@ pub returns : goal.returns
 returns g c =
     let image = c.args.image.now in
     let e : c.loop-slot.slot ≡ length image / 16 = omega arith in
-    all_twice image (inside_root image c.requires.volume) c.loop-slot.once.items c.loop-slot.twice.items (subst (λ n. Tallied image (Below image n) c.loop-slot.once.items c.loop-slot.twice.items) e c.loop-slot.invariant)
+    all_twice image c.requires.volume c.loop-slot.once.items c.loop-slot.twice.items (subst (λ n. Tallied image (Below image n) c.loop-slot.once.items c.loop-slot.twice.items) e c.loop-slot.invariant)

@@ -1,0 +1,195 @@
+-- A reply over sound images is short, so its header says its length whole.
+use Rattle.std.proofs.Common.{◌≡◌, ◌∙◌, sym, ap, subst, ℕ, zero, suc, ◌+◌, ◌<◌, ◌≤◌, ◌^◌, ◌⊎◌, inl, inr, List, [], ◌∷◌, ◌++◌, length, map, take, drop, Bool, true, false, Option, Some, None, cond, refl, arith, lit≤, All}
+use Rattle.std.specs.Prelude.{slice_get, nat_lt}
+use Rattle.std.specs.Option.{option_map_or}
+use Rattle.std.proofs.lemmas.Bool.{ltb-false, or_parts}
+use Rattle.std.proofs.lemmas.List.{length-take}
+use Rattle.std.proofs.lemmas.List.Elements.{All-head, All-tail}
+use Rattle.std.proofs.lemmas.Option.{get_or_from_slice_get}
+use Rattle.byteorder.specs.Numbers.{little_number-reads_back}
+use Rattle.romfs_format.specs.declared.head.Kind.{Kind}
+use Rattle.romfs_format.specs.declared.head.Kind.TheVariants.{SymLink}
+use Rattle.romfs_format.specs.Fields.{image, kind, size, name, data_at}
+use Rattle.romfs_format.specs.Chains.{Has}
+use Rattle.romfs_format.specs.Links.{IsFinal}
+use Rattle.romfs_format.specs.Rules.{IsSound}
+use Rattle.romfs_format.proofs.Targets.{short_target}
+use Rattle.fuse_wire.specs.declared.errno.Errno.{Errno}
+use Rattle.fuse_wire.specs.declared.errno.Errno.TheVariants.{ESTALE}
+use Rattle.fuse_wire.specs.declared.reply.Attr.{Attr}
+use Rattle.fuse_wire.specs.declared.reply.InitOut.{InitOut}
+use Rattle.fuse_wire.specs.declared.reply.InitOut.TheVariants.{Version, Terms}
+use Rattle.fuse_wire.specs.Stream.{said_length}
+use Rattle.fuse_wire.specs.Requests.{Op, Asked, lookup, getattr, readlink, open_file, read, statfs, init, opendir, readdir, readdirplus}
+use Rattle.fuse_wire.specs.Structures.{u16, u32, u64, zeros, init_out, attr, entry_out, attr_out, open_out, statfs_out}
+use Rattle.fuse_wire.specs.Replies.{reply_with, error_reply}
+use Rattle.stack_model.specs.Listing.{Entry, IsListing}
+use Rattle.stack_model.specs.Numbers.{Place, nodes, node_of, child}
+use Rattle.stack_model.specs.Attributes.{blocks_all, kind_at, size_at, layer_of, data_of}
+use Rattle.stack_model.proofs.Listings.{IsLedTo, led_to}
+use Rattle.stack_model.proofs.Numbering.{number_listed}
+use Rattle.reply_model.specs.declared.session.Session.{Session}
+use Rattle.reply_model.specs.Rows.{fitting, attr_of}
+use Rattle.reply_model.specs.Refusals.{first_refusal, refuse_if, refused_by_session, refused_by_itself, asks_node, unless_link, refused_by_kind, is_too_large, refused_rows, refused_by_arguments, refused_at, refused_at_node, refusal}
+use Rattle.reply_model.specs.Replies.{is_silent, answer_at, answer, reply}
+use Rattle.reply_model.proofs.Fronts.{front}
+use Rattle.reply_model.proofs.Headers.{headed}
+
+-- the structures of replies have fixed lengths
+length-init : (o : InitOut) → length (init_out o) ≡ 64
+unfolding init_out u16 u32 zeros
+length-init Version = refl
+length-init (Terms readahead flags) = refl
+
+length-entry : (a : Attr) → length (entry_out a) ≡ 128
+unfolding entry_out attr u32 u64 zeros
+length-entry a = refl
+
+length-attr : (a : Attr) → length (attr_out a) ≡ 104
+unfolding attr_out attr u32 u64 zeros
+length-attr a = refl
+
+length-open : (flags : ℕ) → length (open_out flags) ≡ 16
+unfolding open_out u32 u64
+length-open flags = refl
+
+length-statfs : (blocks files : ℕ) → length (statfs_out blocks files) ≡ 80
+unfolding statfs_out u32 u64 zeros
+length-statfs blocks files = refl
+
+-- a reply is as long as its header and its data
+length-error : (unique : ℕ) (errno : Errno) → length (error_reply unique errno) ≡ 16
+unfolding error_reply u32 u64
+length-error unique errno = refl
+
+length-with : (unique : ℕ) (bytes : List ℕ) → length (reply_with unique bytes) ≡ 16 + length bytes
+unfolding reply_with u32 u64
+length-with unique bytes = omega arith
+
+-- some first bytes are no more than asked
+length-front : (n : ℕ) (xs : List ℕ) → length (take n xs) ≤ n
+length-front n xs = let e = length-take n xs in omega arith
+
+-- where nothing refuses, the first does not
+first_none : (o : Option Errno) (os : List (Option Errno)) → first_refusal (o ∷ os) ≡ None → (o ≡ None) × (first_refusal os ≡ None)
+first_none None os e = (refl, e)
+first_none (Some errno) os e = absurd (cc)
+
+-- and where there are two, neither does
+both_none : (o p : Option Errno) → first_refusal (o ∷ p ∷ []) ≡ None → (o ≡ None) × (p ≡ None)
+both_none o p e = let r = first_none o (p ∷ []) e in (r.0, (first_none p [] r.1).0)
+
+-- nor is what it refuses there
+if_none : (b : Bool) (errno : Errno) → refuse_if b errno ≡ None → b ≡ false
+if_none true errno e = absurd (cc)
+if_none false errno e = refl
+
+-- a size that is not too large
+not_large : (n : ℕ) → is_too_large n ≡ false → n ≤ 1048576
+not_large n e = ltb-false 1048576 n e
+
+-- READLINK is answered for symbolic links alone
+is_link : (k : Kind) → unless_link k ≡ None → k ≡ SymLink
+is_link SymLink e = refl
+is_link _ e = absurd (cc)
+
+-- a layer is the accessible bytes of a sound image
+sound_layer : (bs : List (List ℕ)) (i : ℕ) (a : List ℕ) → All IsSound bs → slice_get (map image bs) i ≡ Some a → (b : List ℕ) × IsSound b × (a ≡ image b)
+sound_layer [] i a s e = absurd (cc)
+sound_layer (b ∷ bs) zero a s e = (b, All-head IsSound b bs s, (let q : image b ≡ a = cc in sym q))
+sound_layer (b ∷ bs) (suc i) a s e = sound_layer bs i a (All-tail IsSound b bs s) e
+
+-- the data of a symbolic link is no longer than its header says
+link_data : (layers : List (List ℕ)) (p : Place) (n : ℕ) → kind_at layers p ≡ SymLink → size (layer_of layers p) p.1 ≤ n → length (data_of layers p) ≤ n
+unfolding data_of
+link_data layers p n k l =
+    let s : size_at layers p ≡ size (layer_of layers p) p.1 = rw k refl in
+    let a = layer_of layers p in
+    let f = length-front (size_at layers p) (drop (option_map_or (data_at p.1) (name a p.1) 0) a) in
+    omega arith
+
+-- the length that a header says, read back
+said_header : (n error unique : ℕ) (rest : List ℕ) → n < 2 ^ 32 → said_length (u32 n ++ u32 error ++ u64 unique ++ rest) ≡ n
+unfolding u32 u64
+said_header n error unique rest l = little_number-reads_back 4 n (u32 error ++ (u64 unique ++ rest)) l
+
+module _ (bs : List (List ℕ)) (entries : List Entry) (sound : All IsSound bs) (l : IsListing (map image bs) entries) where
+  abbrev layers : List (List ℕ)
+  layers = map image bs
+
+  -- a symbolic link with a number has a short target
+  short_link : (node : ℕ) (p : Place) → node_of entries node ≡ Some p → kind_at layers p ≡ SymLink → length (data_of layers p) ≤ 4095
+  short_link node p e k =
+      let m = number_listed entries node p e in
+      let t = subst (λ q. IsLedTo layers q.0 q.1) m.2 (led_to layers entries m.0 l m.1) in
+      let s = sound_layer bs p.0 t.bytes sound t.is in
+      let here : layer_of layers p ≡ image s.0 = get_or_from_slice_get layers p.0 t.bytes [] t.is ∙ s.2 in
+      let has = subst (λ a. Has a t.path t.first) s.2 t.has in
+      let ends = subst (λ a. IsFinal a t.first p.1) s.2 t.ends in
+      let short = short_target s.0 s.1 t.path t.first p.1 has ends (subst (λ a. kind a p.1 ≡ SymLink) here k) in
+      link_data layers p 4095 k (subst (λ a. size a p.1 ≤ 4095) (sym here) short)
+
+  -- what is not refused at a node is refused neither by its kind nor by the arguments
+  by_kind : (op : Op) (p : Place) → refused_at layers entries op p ≡ None → refused_by_kind op (kind_at layers p) ≡ None
+  by_kind op p r = (both_none (refused_by_kind op (kind_at layers p)) (refused_by_arguments layers entries op p) r).0
+
+  by_arguments : (op : Op) (p : Place) → refused_at layers entries op p ≡ None → refused_by_arguments layers entries op p ≡ None
+  by_arguments op p r = (both_none (refused_by_kind op (kind_at layers p)) (refused_by_arguments layers entries op p) r).1
+
+  -- rows that are answered fit in 1 MiB
+  short_rows : (rows : List (List ℕ)) (n : ℕ) → refused_rows layers entries rows n ≡ None → length (fitting n rows) ≤ 1048576
+  short_rows rows n r = let a = not_large n (or_parts _ _ (if_none _ _ r)).0 in let f = (front n rows).fits in omega arith
+
+  -- the answer at a place that has a number
+  short_at : (node : ℕ) (op : Op) (p : Place) → node_of entries node ≡ Some p → cond (asks_node op) (refused_at layers entries op p) None ≡ None → length (answer_at layers entries op p) ≤ 1048576
+  short_at node (lookup name) p e r = found (child entries p name)
+    where
+      found : (o : Option Place) → length (option_map_or (λ c. entry_out (attr_of layers entries c)) o []) ≤ 1048576
+      found None = lit≤ tt
+      found (Some c) = let x = length-entry (attr_of layers entries c) in omega arith
+  short_at node getattr p e r = let x = length-attr (attr_of layers entries p) in omega arith
+  short_at node readlink p e r = let x = short_link node p e (is_link _ (by_kind readlink p r)) in omega arith
+  short_at node (open_file flags) p e r = let x = length-open 2 in omega arith
+  short_at node opendir p e r = let x = length-open 0 in omega arith
+  short_at node (read offset n) p e r =
+      let a = not_large n (if_none _ _ (by_arguments (read offset n) p r)) in
+      let f = length-front n (drop offset (data_of layers p)) in
+      omega arith
+  short_at node (readdir offset n) p e r = short_rows _ n (by_arguments (readdir offset n) p r)
+  short_at node (readdirplus offset n) p e r = short_rows _ n (by_arguments (readdirplus offset n) p r)
+  short_at node _ p e r = lit≤ tt
+
+  -- the answer to a request about a node
+  short_node : (node : ℕ) (op : Op) (o : Option Place) → node_of entries node ≡ o → cond (asks_node op) (option_map_or (refused_at layers entries op) o (Some ESTALE)) None ≡ None → length (option_map_or (answer_at layers entries op) o []) ≤ 1048576
+  short_node node op None e r = lit≤ tt
+  short_node node op (Some p) e r = short_at node op p e r
+
+  -- the answer to a request that is not refused
+  short_answer : (node : ℕ) (op : Op) → refused_at_node layers entries node op ≡ None → length (answer layers entries node op) ≤ 1048576
+  short_answer node (init major minor readahead flags) r = let x = length-init (cond (nat_lt 7 major) Version (Terms readahead flags)) in omega arith
+  short_answer node statfs r = let x = length-statfs (blocks_all layers) (length (nodes entries)) in omega arith
+  short_answer node op r = short_node node op (node_of entries node) refl r
+
+  -- a reply is a header of 16 bytes and an answer
+  pub short : (s : Session) (q : Asked) → length (reply layers entries s q) ≤ 1048592
+  short s q = silent (is_silent q.op)
+    where
+      replied : (o : Option Errno) → refusal layers entries s q.node q.op ≡ o → length (option_map_or (error_reply q.unique) o (reply_with q.unique (answer layers entries q.node q.op))) ≤ 1048592
+      replied (Some errno) e = let x = length-error q.unique errno in omega arith
+      replied None e =
+          let there = refused_at_node layers entries q.node q.op in
+          let r = (first_none (refused_by_session s q.op) (refused_by_itself q.op ∷ there ∷ []) e).1 in
+          let a = short_answer q.node q.op (both_none (refused_by_itself q.op) there r).1 in
+          let x = length-with q.unique (answer layers entries q.node q.op) in
+          omega arith
+
+      silent : (b : Bool) → length (cond b [] (option_map_or (error_reply q.unique) (refusal layers entries s q.node q.op) (reply_with q.unique (answer layers entries q.node q.op)))) ≤ 1048592
+      silent true = lit≤ tt
+      silent false = replied (refusal layers entries s q.node q.op) refl
+
+  -- so it says its length
+  pub said : (s : Session) (q : Asked) → (reply layers entries s q ≡ []) ⊎ (said_length (reply layers entries s q) ≡ length (reply layers entries s q))
+  said s q = elim (headed layers entries s q) [
+    | inl e ↦ inl e
+    | inr h ↦ inr (let x = short s q in ap said_length h.is ∙ said_header (length (reply layers entries s q)) h.error q.unique h.rest (omega arith))
+  ]

@@ -1,0 +1,31 @@
+-- What numbers and sizes look like in print.
+use Rattle.std.proofs.Common.{◌≡◌, ◌∙◌, sym, ap, ℕ, ◌+◌, ◌-◌, ◌^◌, ◌<◌, ◌≤◌, List, [], ◌++◌, length, drop, replicate, false, append-nil, append_assoc, slice_index_or}
+use Rattle.std.proofs.lemmas.List.{drop_more}
+use Rattle.std.proofs.Math.ListN.{drop_of_length-le}
+use native.Mathlib.Numerals.{unary_clauses}
+use Rattle.std.specs.Fmt.{digits, padded_integral, format_spec, char_count}
+use Rattle.strata.specs.Texts.{place_text, size_line, size_lines}
+
+-- eight digits with zeros in front, as a hole of the form {:08x} writes them
+pub as_place : (n : ℕ) → padded_integral (format_spec 32 0 4 8 (2 ^ 64 - 1)) false [] (digits 16 false n) ≡ place_text n
+unfolding padded_integral char_count
+as_place n = simp unary_clauses (ap (λ text. replicate (8 - length (digits 16 false n)) 48 ++ text) (append-nil (digits 16 false n)))
+
+-- the text so far, and the lines of the sizes that are left, make up all lines
+pub record IsPrinted (sizes : List ℕ) (layer : ℕ) (text : List ℕ) : Type 0 where
+  pub whole : text ++ size_lines layer (drop layer sizes) ≡ size_lines 0 sizes
+
+pub none_printed : (sizes text : List ℕ) → text ≡ [] → IsPrinted sizes 0 text
+none_printed sizes text e = record { whole = ap (λ t. t ++ size_lines 0 sizes) e }
+
+pub one_more_printed : (sizes text more : List ℕ) (layer : ℕ) → layer < length sizes → IsPrinted sizes layer text → more ≡ text ++ size_line layer (slice_index_or sizes layer 0) → IsPrinted sizes (layer + 1) more
+unfolding size_lines
+one_more_printed sizes text more layer b p e = record {
+  whole = ap (λ t. t ++ size_lines (layer + 1) (drop (layer + 1) sizes)) e
+      ∙ append_assoc text (size_line layer (slice_index_or sizes layer 0)) (size_lines (layer + 1) (drop (layer + 1) sizes))
+      ∙ ap (λ left. text ++ size_lines layer left) (sym (drop_more sizes layer 0 b)) ∙ p.whole;
+}
+
+pub all_printed : (sizes text : List ℕ) (layer : ℕ) → length sizes ≤ layer → IsPrinted sizes layer text → text ≡ size_lines 0 sizes
+unfolding size_lines
+all_printed sizes text layer b p = sym (append-nil text) ∙ ap (λ left. text ++ size_lines layer left) (sym (drop_of_length-le sizes b)) ∙ p.whole

@@ -1,0 +1,12 @@
+use Rattle.std.proofs.Common.{string_bytes}
+use Rattle.strata.proofs.Printed.{none_printed, one_more_printed, all_printed}
+use Rattle.strata.proofs.command.lines_of.Goals as goal
+
+pub loop-layer-init : goal.loop-layer-init
+loop-layer-init g c = none_printed c.args.sizes.now (string_bytes c.new-lines.result) c.new-lines.ensures.bytes
+
+pub loop-layer-preserved : goal.loop-layer-preserved
+loop-layer-preserved g c = one_more_printed _ _ _ _ c.loop-layer-test.true c.loop-layer.invariant (c.in_ok-writeln.ensures.bytes)
+
+pub returns : goal.returns
+returns g c = all_printed _ _ _ c.loop-layer-test.false c.loop-layer.invariant

@@ -1,0 +1,7 @@
+use Rattle.std.proofs.Common.{string_bytes}
+use Rattle.strata.proofs.Printed.{IsPrinted}
+use Rattle.strata.proofs.command.lines_of.Given as goal
+
+-- the lines so far
+abbrev pub invariant-loop-layer : goal.invariant-loop-layer
+invariant-loop-layer g l = IsPrinted l.fn.sizes l.layer-counter (string_bytes l.lines)
