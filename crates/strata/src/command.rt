@@ -27,10 +27,10 @@ use std::io::{Read, Write};
 
 /// Runs the program on the words after its name, and gives its exit status.
 ///
-/// The status is 0 where the words are a command of the program and all of its work was done: the
-/// replies to the whole stream, or the sizes of all images, were written. Else a line for what went
-/// wrong goes to `faults`, and the status is that of [`Fault`]; `output` then holds the replies that
-/// stand, or is as it was.
+/// The status is 0 only where the words are a command of the program and all of its work was done:
+/// the replies to the whole stream, or the sizes of all images, were written. Else a line for what
+/// went wrong goes to `faults`, and the status is that of [`Fault`]; `output` then holds the replies
+/// that stand, or is as it was.
 ///
 /// Memory comes from `alloc`, but for the command line: `clap` takes the global allocator alone.
 pub fn command<R: Files, A: Allocator + Copy, S: AsStr, I: Read, O: Write, E: Write>(
@@ -178,6 +178,7 @@ fn read_requests<F: Read + OpenFile + Drop, A: Allocator, I: Read>(
     input: &mut I,
 ) -> Result<Vec<u8, A>, Fault>
     ensures input { requests ≡ None → IfOk result (λ bytes. IfSome (I.remaining input.old) (λ known. bytes.items ≡ known)) }
+    ensures file { IfSome requests (λ file. IfOk result (λ bytes. IfSome (F.remaining file) (λ known. bytes.items ≡ known))) }
     ensures err { IfErr result (λ fault. (fault ≡ Fault.Read) ⊎ (fault ≡ Fault.Memory)) }
 {
     let stream = match requests {
