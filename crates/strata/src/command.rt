@@ -27,10 +27,10 @@ use std::io::{Read, Write};
 
 /// Runs the program on the words after its name, and gives its exit status.
 ///
-/// The status is 0 only where the words are a command of the program and all of its work was done:
-/// the replies to the whole stream, or the sizes of all images, were written. Else a line for what
-/// went wrong goes to `faults`, and the status is that of [`Fault`]; `output` then holds the replies
-/// that stand, or is as it was.
+/// The status is 0 only where the words are a command of the program and its work was done: `output`
+/// gained the replies to the whole stream, unless a file is named for them, or the sizes of all
+/// images. Else the status is that of a [`Fault`], whose line goes to `faults`; `output` then holds
+/// the replies that stand, or is as it was. After a failed write nothing is promised of it.
 ///
 /// Memory comes from `alloc`, but for the command line: `clap` takes the global allocator alone.
 pub fn command<R: Files, A: Allocator + Copy, S: AsStr, I: Read, O: Write, E: Write>(
