@@ -2,16 +2,16 @@
 use Rattle.std.proofs.Common.{◌≡◌, ◌≢◌, ◌∙◌, sym, ap, subst, refl, ℕ, inl, inr, List, Option, None, Some, Result, Ok, Err, OnOk, IfErr, IfSome, IsErrAnd, is_some, true, false, true≢false, arith, length, map, vec_len, Vec}
 use Rattle.std.proofs.lemmas.List.{length-map}
 use Rattle.std.specs.Io.KnownBytes.{Appends}
-use Rattle.strata.specs.declared.fault.First.{First}
-use Rattle.strata.specs.declared.fault.First.TheVariants as first
+use Rattle.flat_server.specs.declared.fault.First.{First}
+use Rattle.flat_server.specs.declared.fault.First.TheVariants as first
 use Rattle.strata.specs.declared.faults.Fault.{Fault}
 use Rattle.strata.specs.declared.faults.Fault.TheVariants.{Usage, ImageFile, RequestsFile, RepliesFile, Read, Write, Layers, Layer, Later, BadLength, CutOff, Memory}
-use Rattle.strata.specs.declared.options.Line.{Line}
-use Rattle.strata.specs.declared.options.LineFault.{LineFault}
-use Rattle.strata.specs.declared.options.LineFault.TheVariants as line_fault
-use Rattle.strata.specs.declared.options.Verb.{Verb}
-use Rattle.strata.specs.declared.options.Verb.TheVariants.{Serve, Check}
-use Rattle.strata.specs.CommandLine.{IsLineOf, IsLineFault}
+use Rattle.command_line.specs.declared.options.Line.{Line}
+use Rattle.command_line.specs.declared.options.LineFault.{LineFault}
+use Rattle.command_line.specs.declared.options.LineFault.TheVariants as line_fault
+use Rattle.command_line.specs.declared.options.Verb.{Verb}
+use Rattle.command_line.specs.declared.options.Verb.TheVariants.{Serve, Check}
+use Rattle.command_line.specs.CommandLine.{IsLineOf, IsLineFault}
 use Rattle.strata.specs.Faults.{told_of, line_told_of, status_of}
 use Rattle.strata.specs.Written.{WritesReplies, WritesStanding, WritesFewer}
 use Rattle.strata.specs.Ending.{AreNamed, IsStreamOf, Gains, IsServedWhole, IsServedInPart, IsDoneBy, IsStoppedBy, IsDone, IsBrokenOff, IsStopped}

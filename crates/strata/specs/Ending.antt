@@ -1,14 +1,14 @@
 -- What a command leaves behind: its status, and what its output gained.
 use Rattle.std.specs.Prelude.{◌≡◌, ◌<◌, ℕ, List, Option, None, IfSome, is_some, true, length, vec_len}
 use Rattle.std.specs.Io.KnownBytes.{Appends}
-use Rattle.strata.specs.declared.fault.First.{First}
+use Rattle.flat_server.specs.declared.fault.First.{First}
 use Rattle.strata.specs.declared.faults.Fault.{Fault}
-use Rattle.strata.specs.declared.faults.Fault.TheVariants.{Usage, ImageFile, Write, Layers, Layer, Later, BadLength, CutOff, Memory}
-use Rattle.strata.specs.declared.options.Line.{Line}
-use Rattle.strata.specs.declared.options.Verb.{Verb}
-use Rattle.strata.specs.declared.options.Verb.TheVariants.{Serve, Check}
-use Rattle.strata.specs.CommandLine.{IsTaken, IsLineOf}
-use Rattle.strata.specs.First.{IsAnswered, IsRefused}
+use Rattle.strata.specs.declared.faults.Fault.TheVariants.{Usage, ImageFile, RequestsFile, RepliesFile, Read, Write, Layers, Layer, Later, BadLength, CutOff, Memory}
+use Rattle.command_line.specs.declared.options.Line.{Line}
+use Rattle.command_line.specs.declared.options.Verb.{Verb}
+use Rattle.command_line.specs.declared.options.Verb.TheVariants.{Serve, Check}
+use Rattle.command_line.specs.CommandLine.{IsTaken, IsLineOf}
+use Rattle.flat_server.specs.First.{IsAnswered, IsRefused}
 use Rattle.strata.specs.Faults.{AreSizes, IsFirstFault, told_of, status_of}
 use Rattle.strata.specs.Texts.{size_lines}
 
@@ -73,17 +73,20 @@ abbrev pub IsRefusedBy : Verb → Line → Fault → Option (List ℕ) → Optio
 IsRefusedBy Serve line fault input old new = IsServedInPart line fault input old new
 IsRefusedBy Check line fault input old new = IsNoneGood line fault old new
 
--- the command stopped with a fault of what it reads, or of a file: for a file and for memory the output is as it was, and what it holds after a failed write is not said
+-- the command stopped with a fault of what it reads, or of a file that the line names: for a file and for memory the output is as it was, and what it holds after a failed write is not said
 abbrev pub IsStoppedBy : Verb → Line → Fault → Option (List ℕ) → Option (List ℕ) → Option (List ℕ) → Type 0
 IsStoppedBy verb line (Usage text) input old new = ⊥
 IsStoppedBy verb line (ImageFile image) input old new = (image < vec_len line.images) × (new ≡ old)
+IsStoppedBy verb line RequestsFile input old new = (is_some line.requests ≡ true) × (new ≡ old)
+IsStoppedBy verb line RepliesFile input old new = (is_some line.replies ≡ true) × (new ≡ old)
+IsStoppedBy verb line Read input old new = (verb ≡ Serve) × (new ≡ old)
 IsStoppedBy verb line Write input old new = Unit {0}
 IsStoppedBy verb line (Layers count) input old new = IsRefusedBy verb line (Layers count) input old new
 IsStoppedBy verb line (Layer layer fault) input old new = IsRefusedBy verb line (Layer layer fault) input old new
 IsStoppedBy verb line Later input old new = IsRefusedBy verb line Later input old new
 IsStoppedBy verb line (BadLength at len) input old new = IsRefusedBy verb line (BadLength at len) input old new
 IsStoppedBy verb line (CutOff at) input old new = IsRefusedBy verb line (CutOff at) input old new
-IsStoppedBy verb line fault input old new = new ≡ old
+IsStoppedBy verb line Memory input old new = new ≡ old
 
 -- the program did what its words say
 pub record IsDone (words : List (List ℕ)) (input old new : Option (List ℕ)) : Type 0 where

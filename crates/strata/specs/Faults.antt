@@ -2,10 +2,10 @@
 use Rattle.std.specs.Prelude.{◌≡◌, ℕ, ◌⊎◌, List, ◌∷◌, ◌++◌, length, map, All}
 use Rattle.romfs_format.specs.Fields.{image}
 use Rattle.romfs_format.specs.Rules.{IsFault, IsSound}
-use Rattle.strata.specs.declared.fault.First.{First}
-use Rattle.strata.specs.declared.fault.First.TheVariants as first
-use Rattle.strata.specs.declared.options.LineFault.{LineFault}
-use Rattle.strata.specs.declared.options.LineFault.TheVariants as line
+use Rattle.flat_server.specs.declared.fault.First.{First}
+use Rattle.flat_server.specs.declared.fault.First.TheVariants as first
+use Rattle.command_line.specs.declared.options.LineFault.{LineFault}
+use Rattle.command_line.specs.declared.options.LineFault.TheVariants as line
 use Rattle.strata.specs.declared.faults.Fault.{Fault}
 use Rattle.strata.specs.declared.faults.Fault.TheVariants.{Usage, ImageFile, RequestsFile, RepliesFile, Read, Write, Layers, Layer, Later, BadLength, CutOff, Memory}
 

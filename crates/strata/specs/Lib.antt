@@ -1,13 +1,4 @@
-pub mod First
-pub mod Table
-pub mod Files
-pub mod Sorting
-pub mod Answered
-pub mod Serving
-pub mod Opening
 pub mod Faults
 pub mod Written
 pub mod Texts
 pub mod Ending
-pub mod CommandLine
-pub mod LineExamples

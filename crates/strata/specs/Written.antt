@@ -1,10 +1,10 @@
 -- What a writer holds after a stream of requests over some images.
 use Rattle.std.specs.Prelude.{◌≡◌, ◌≢◌, ℕ, ◌⊎◌, List, Option}
 use Rattle.std.specs.Io.KnownBytes.{Appends}
-use Rattle.strata.specs.declared.fault.First.{First}
+use Rattle.flat_server.specs.declared.fault.First.{First}
 use Rattle.strata.specs.declared.faults.Fault.{Fault}
 use Rattle.strata.specs.declared.faults.Fault.TheVariants.{Write, Memory}
-use Rattle.strata.specs.First.{IsAnswered, IsRefused}
+use Rattle.flat_server.specs.First.{IsAnswered, IsRefused}
 use Rattle.strata.specs.Faults.{told_of}
 
 -- the writer gained all replies to the stream

@@ -12,13 +12,11 @@ ghost use Rattle.strata.specs.Texts.{size_lines};
 ghost use Rattle.strata.specs.Written.{WritesReplies, WritesFewer};
 ghost use Rattle.strata.specs.Ending.{IsServedWhole, AreGood, IsStoppedBy, IsDone, IsStopped, EndsWith};
 
-use crate::fault::First;
 use crate::faults::Fault;
-use crate::line::line;
-use crate::one_image::first;
-use crate::options::{Line, Verb};
 use crate::paths::{create_replies, open_requests, read_images};
 use crate::streams::{ReadFault, read_file, read_stream, write_out};
+use command_line::{Line, Verb, line};
+use flat_server::{First, first};
 use romfs_image::{CheckFault, Image};
 use std::alloc::{AllocError, Allocator, Global};
 use std::convert::AsStr;

@@ -5,8 +5,8 @@ ghost use Rattle.std.specs.Io.KnownBytes.{Appends};
 ghost use Rattle.strata.specs.Faults.{status_of};
 ghost use Rattle.strata.specs.Texts.{fault_text};
 
-use crate::fault::First;
-use crate::options::LineFault;
+use command_line::LineFault;
+use flat_server::First;
 use romfs_image::ImageFault;
 use std::alloc::{AllocError, AllocFailed};
 use std::io::Write;

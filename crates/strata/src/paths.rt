@@ -1,6 +1,6 @@
 //! The files that a command line names.
 
-ghost use Rattle.std.specs.Prelude.{◌≡◌, ◌⊎◌, ◌<◌, ℕ, length, vec_len, is_some, IfOk, IfErr};
+ghost use Rattle.std.specs.Prelude.{◌≡◌, ◌⊎◌, ◌<◌, ℕ, length, vec_len, is_some, true, IfOk, IfErr};
 
 use crate::faults::Fault;
 use crate::streams::{ReadFault, read_file};
@@ -43,7 +43,7 @@ fn read_image<R: Files, A: Allocator>(
 /// The file of requests, if one is named.
 pub fn open_requests<R: Files>(rt: &R, path: Option<&str>) -> Result<Option<R::File>, Fault>
     ensures ok { IfOk result (λ file. is_some file ≡ is_some path.entry) }
-    ensures err { IfErr result (λ fault. fault ≡ Fault.RequestsFile) }
+    ensures err { IfErr result (λ fault. (fault ≡ Fault.RequestsFile) × (is_some path.entry ≡ true)) }
 {
     let Some(path) = path else {
         return Ok(None);
@@ -55,7 +55,7 @@ pub fn open_requests<R: Files>(rt: &R, path: Option<&str>) -> Result<Option<R::F
 /// The file of replies, empty, if one is named.
 pub fn create_replies<R: Files>(rt: &R, path: Option<&str>) -> Result<Option<R::File>, Fault>
     ensures ok { IfOk result (λ file. is_some file ≡ is_some path.entry) }
-    ensures err { IfErr result (λ fault. fault ≡ Fault.RepliesFile) }
+    ensures err { IfErr result (λ fault. (fault ≡ Fault.RepliesFile) × (is_some path.entry ≡ true)) }
 {
     let Some(path) = path else {
         return Ok(None);

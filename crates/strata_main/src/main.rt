@@ -1,10 +1,10 @@
 //! The program `strata`, over the process's own words and streams.
 #![tactic(auto)]
 
+use command_line::words;
 use std::process::ExitCode;
 use strata::Fault;
 use strata::command::command;
-use strata::line::words;
 
 fn main(rt: HostRuntime) -> ExitCode {
     let alloc = rt.alloc();

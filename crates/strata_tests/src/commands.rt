@@ -1,11 +1,11 @@
 //! The program over files, streams and words of the command line.
 
-use crate::messages::{REPLIES, REQUESTS};
 use crate::program::{file, folder, is_told, named, run};
-use crate::sample_images::{bad_sum, empty, sample};
 use romfs_image::sample::seal;
 use std::fs;
 use std::test::Fail;
+use test_data::messages::{REPLIES, REQUESTS};
+use test_data::sample_images::{bad_sum, empty, sample};
 
 /// What a command line without an image is told.
 static NO_IMAGE: &str = "error: the following required arguments were not provided:\n  <IMAGE>";

@@ -1,10 +1,10 @@
 //! The program, run over streams in memory and over files in a folder of the test's own.
 
-use crate::messages::REQUESTS;
 use std::alloc::Allocator;
 use std::test::Fail;
 use std::{env, fs, process};
 use strata::command::command;
+use test_data::messages::REQUESTS;
 
 /// What a run of the program left.
 #[derive(Drop)]

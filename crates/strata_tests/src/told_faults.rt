@@ -1,13 +1,14 @@
 //! The line and the exit status of each fault.
 
-use crate::messages::REQUESTS;
 use crate::program::{file, folder, is_told, named};
-use crate::sample_images::{bad_sum, empty, sample};
+use flat_server::First;
 use std::fs;
 use std::io::{self, Error, ErrorKind, Read, Write};
 use std::test::Fail;
+use strata::Fault;
 use strata::command::command;
-use strata::{Fault, First};
+use test_data::messages::REQUESTS;
+use test_data::sample_images::{bad_sum, empty, sample};
 
 /// A reader that gives its bytes, and then fails.
 #[derive(Drop)]

@@ -1,5 +1,5 @@
 use Rattle.strata.proofs.Ended.{did, broke_off, at_input, not_read}
-use Rattle.strata.specs.declared.options.Verb.TheVariants.{Serve, Check}
+use Rattle.command_line.specs.declared.options.Verb.TheVariants.{Serve, Check}
 use Rattle.strata.proofs.command.run.Goals as goal
 
 pub returns-in_err-line-clause-stopped : goal.returns-in_err-line-clause-stopped

@@ -1,0 +1,5 @@
+pub mod Walked
+pub mod Valued
+pub mod Taken
+pub mod Parsed
+pub mod WorkedLines
