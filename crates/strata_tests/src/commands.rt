@@ -23,89 +23,113 @@ fn the_empty_image_is_checked(rt: HostRuntime) -> Result<(), Fail> {
 }
 
 #[test]
-fn images_are_checked_in_order(rt: HostRuntime) -> Result<(), Fail> {
+fn good_images_are_told_in_order(rt: HostRuntime) -> Result<(), Fail> {
     let folder = folder(&rt, "ordered")?;
-    let sample = sample(rt.alloc())?;
-    let mut renamed = sample.clone()?;
-    assert_eq!(rt; renamed.len(), 5_360);
-    renamed[0x14b0] = b'd';
-    seal(&mut renamed);
     let empty = file(&rt, &folder, "e.img", &empty(rt.alloc())?)?;
-    let whole = file(&rt, &folder, "f.img", &sample)?;
-    let twice = file(&rt, &folder, "twice.img", &renamed)?;
-    let broken = file(&rt, &folder, "broken.img", &bad_sum(rt.alloc())?)?;
-    let missing = named(&rt, &folder, "missing")?;
-    let (empty, whole, twice) = (empty.as_str(), whole.as_str(), twice.as_str());
-    let (broken, missing) = (broken.as_str(), missing.as_str());
-
-    let one = run(&rt, &["check", whole], &[])?;
+    let whole = file(&rt, &folder, "f.img", &sample(rt.alloc())?)?;
+    let one = run(&rt, &["check", whole.as_str()], &[])?;
     assert!(rt; one.is(0, b"layer 0: 5360 bytes\n", ""), "{}", one.faults);
-    let two = run(&rt, &["check", empty, whole], &[])?;
+    let two = run(&rt, &["check", empty.as_str(), whole.as_str()], &[])?;
     let lines = b"layer 0: 96 bytes\nlayer 1: 5360 bytes\n";
     assert!(rt; two.is(0, lines, ""), "{}", two.faults);
+    fs::remove_dir_all(&rt, folder.as_str())?;
+    Ok(())
+}
 
-    let line = "layer 1 at 000014a0: name twice\n";
-    assert!(rt; is_told(&rt, &["check", whole, twice], 3, line)?);
-    assert!(rt; is_told(&rt, &["check", empty, twice, broken], 3, line)?);
-    let line = "layer 1 at 0000000c: bad sum\n";
-    assert!(rt; is_told(&rt, &["check", whole, broken, twice], 3, line)?);
+/// The sample with its last file renamed to `d`, which is there already.
+fn name_twice(rt: &HostRuntime) -> Result<Vec<u8>, Fail> {
+    let mut image = sample(rt.alloc())?;
+    if image.len() != 5_360 {
+        return Err(Fail::new("another sample"));
+    }
+    image[0x14b0] = b'd';
+    seal(&mut image);
+    Ok(image)
+}
+
+#[test]
+fn the_first_bad_image_is_told(rt: HostRuntime) -> Result<(), Fail> {
+    let folder = folder(&rt, "bad")?;
+    let good = file(&rt, &folder, "e.img", &empty(rt.alloc())?)?;
+    let twice = file(&rt, &folder, "twice.img", &name_twice(&rt)?)?;
+    let broken = file(&rt, &folder, "broken.img", &bad_sum(rt.alloc())?)?;
+    let missing = named(&rt, &folder, "missing")?;
     // All images are read before the first is checked.
-    let line = "image 2: cannot be read\n";
-    assert!(rt; is_told(&rt, &["check", broken, twice, missing], 1, line)?);
+    for (images, status, line) in [
+        (
+            [&good, &twice, &broken],
+            3,
+            "layer 1 at 000014a0: name twice\n",
+        ),
+        (
+            [&good, &broken, &twice],
+            3,
+            "layer 1 at 0000000c: bad sum\n",
+        ),
+        ([&broken, &twice, &missing], 1, "image 2: cannot be read\n"),
+    ] {
+        let [first, second, third] = images;
+        let words = ["check", first.as_str(), second.as_str(), third.as_str()];
+        assert!(rt; is_told(&rt, &words, status, line)?, "{words:?}");
+    }
     fs::remove_dir_all(&rt, folder.as_str())?;
     Ok(())
 }
 
 #[test]
-fn requests_are_answered_over_streams_and_files(rt: HostRuntime) -> Result<(), Fail> {
+fn requests_are_answered_over_streams(rt: HostRuntime) -> Result<(), Fail> {
     let folder = folder(&rt, "answered")?;
     let image = file(&rt, &folder, "e.img", &empty(rt.alloc())?)?;
-    let image = image.as_str();
-    let over_streams = run(&rt, &["serve", image], &REQUESTS)?;
-    assert_eq!(rt; over_streams.status, 0, "{}", over_streams.faults);
-    assert!(rt; over_streams.output.as_slice() == REPLIES.as_slice());
+    let words = ["serve", image.as_str()];
+    let over_streams = run(&rt, &words, &REQUESTS)?;
+    assert!(rt; over_streams.is(0, &REPLIES, ""), "{}", over_streams.faults);
+    let of_none = run(&rt, &words, &[])?;
+    assert!(rt; of_none.is(0, &[], ""), "{}", of_none.faults);
+    fs::remove_dir_all(&rt, folder.as_str())?;
+    Ok(())
+}
 
-    let of_none = run(&rt, &["serve", image], &[])?;
-    assert_eq!(rt; of_none.status, 0);
-    assert!(rt; of_none.output.is_empty() && of_none.faults.is_empty());
-
-    let requests = file(&rt, &folder, "requests", &REQUESTS)?;
-    let replies = file(&rt, &folder, "replies", b"what stood there before")?;
-    let (from, to) = (requests.as_str(), replies.as_str());
+#[test]
+fn requests_are_answered_over_files(rt: HostRuntime) -> Result<(), Fail> {
+    let folder = folder(&rt, "files")?;
+    let image = file(&rt, &folder, "e.img", &empty(rt.alloc())?)?;
+    let from = file(&rt, &folder, "requests", &REQUESTS)?;
+    let to = file(&rt, &folder, "replies", b"what stood there before")?;
+    let (image, from, to) = (image.as_str(), from.as_str(), to.as_str());
     let words = ["serve", "--requests", from, "--replies", to, image];
     let over_files = run(&rt, &words, b"not read")?;
-    assert_eq!(rt; over_files.status, 0, "{}", over_files.faults);
-    assert!(rt; over_files.output.is_empty());
+    assert!(rt; over_files.is(0, &[], ""), "{}", over_files.faults);
     assert!(rt; fs::read(&rt, to)?.as_slice() == REPLIES.as_slice());
     fs::remove_dir_all(&rt, folder.as_str())?;
     Ok(())
 }
 
 #[test]
-fn replies_before_a_fault_are_written(rt: HostRuntime) -> Result<(), Fail> {
+fn replies_before_a_bad_length_are_written(rt: HostRuntime) -> Result<(), Fail> {
     let folder = folder(&rt, "before")?;
     let image = file(&rt, &folder, "e.img", &empty(rt.alloc())?)?;
-    let replies = named(&rt, &folder, "replies")?;
-    let (image, to) = (image.as_str(), replies.as_str());
     let mut bad = REQUESTS.to_vec(rt.alloc())?;
     bad.extend_from_slice(b"\x27\0\0\0")?;
-    let ended = run(&rt, &["serve", image], bad.as_slice())?;
-    assert_eq!(rt; ended.status, 4);
-    assert!(rt;
-        ended.faults.as_str() == "request at 112: bad length 39\n",
-        "{}",
-        ended.faults
-    );
-    assert!(rt; ended.output.as_slice() == REPLIES.as_slice());
+    let ended = run(&rt, &["serve", image.as_str()], &bad)?;
+    let line = "request at 112: bad length 39\n";
+    assert!(rt; ended.is(4, &REPLIES, line), "{}", ended.faults);
+    fs::remove_dir_all(&rt, folder.as_str())?;
+    Ok(())
+}
 
-    let ended = run(&rt, &["serve", "--replies", to, image], &REQUESTS[..100])?;
-    assert_eq!(rt; ended.status, 4);
+#[test]
+fn replies_before_a_cut_off_are_written(rt: HostRuntime) -> Result<(), Fail> {
+    let folder = folder(&rt, "cut")?;
+    let image = file(&rt, &folder, "e.img", &empty(rt.alloc())?)?;
+    let to = named(&rt, &folder, "replies")?;
+    let words = ["serve", "--replies", to.as_str(), image.as_str()];
+    let ended = run(&rt, &words, &REQUESTS[..100])?;
     assert!(rt;
-        ended.faults.as_str() == "request at 56: cut off\n",
+        ended.is(4, &[], "request at 56: cut off\n"),
         "{}",
         ended.faults
     );
-    assert!(rt; fs::read(&rt, to)?.as_slice() == &REPLIES[..80]);
+    assert!(rt; fs::read(&rt, to.as_str())?.as_slice() == &REPLIES[..80]);
     fs::remove_dir_all(&rt, folder.as_str())?;
     Ok(())
 }

@@ -65,13 +65,19 @@ fn status_over<I: Read, O: Write, E: Write>(
 fn images_that_cannot_be_read_are_told(rt: HostRuntime) -> Result<(), Fail> {
     let folder = folder(&rt, "unread")?;
     let missing = named(&rt, &folder, "missing")?;
-    let (missing, directory) = (missing.as_str(), folder.as_str());
-    let line = "image 0: cannot be read\n";
-    assert!(rt; is_told(&rt, &["check", missing], 1, line)?);
-    assert!(rt; is_told(&rt, &["check", directory], 1, line)?);
-    assert!(rt; is_told(&rt, &["serve", missing], 1, line)?);
-    assert!(rt; is_told(&rt, &["serve", directory], 1, line)?);
-    fs::remove_dir_all(&rt, directory)?;
+    for (verb, image) in [
+        ("check", &missing),
+        ("check", &folder),
+        ("serve", &missing),
+        ("serve", &folder),
+    ] {
+        let words = [verb, image.as_str()];
+        assert!(rt;
+            is_told(&rt, &words, 1, "image 0: cannot be read\n")?,
+            "{words:?}"
+        );
+    }
+    fs::remove_dir_all(&rt, folder.as_str())?;
     Ok(())
 }
 
@@ -98,16 +104,16 @@ fn requests_that_cannot_be_read_are_told(rt: HostRuntime) -> Result<(), Fail> {
     let image = file(&rt, &folder, "e.img", &empty(rt.alloc())?)?;
     let broken = file(&rt, &folder, "broken.img", &bad_sum(rt.alloc())?)?;
     let missing = named(&rt, &folder, "missing")?;
-    let (image, broken) = (image.as_str(), broken.as_str());
-    let (missing, directory) = (missing.as_str(), folder.as_str());
-    let unopened = ["serve", "--requests", missing, image];
-    assert!(rt; is_told(&rt, &unopened, 1, "requests: cannot be opened\n")?);
-    let unread = ["serve", "--requests", directory, image];
-    assert!(rt; is_told(&rt, &unread, 1, "read fault\n")?);
     // The requests are read before the image is checked.
-    let unread_first = ["serve", "--requests", directory, broken];
-    assert!(rt; is_told(&rt, &unread_first, 1, "read fault\n")?);
-    fs::remove_dir_all(&rt, directory)?;
+    for (from, image, line) in [
+        (&missing, &image, "requests: cannot be opened\n"),
+        (&folder, &image, "read fault\n"),
+        (&folder, &broken, "read fault\n"),
+    ] {
+        let words = ["serve", "--requests", from.as_str(), image.as_str()];
+        assert!(rt; is_told(&rt, &words, 1, line)?, "{words:?}");
+    }
+    fs::remove_dir_all(&rt, folder.as_str())?;
     Ok(())
 }
 
@@ -116,15 +122,14 @@ fn replies_that_cannot_be_written_are_told(rt: HostRuntime) -> Result<(), Fail> 
     let folder = folder(&rt, "replies")?;
     let image = file(&rt, &folder, "e.img", &empty(rt.alloc())?)?;
     let nowhere = named(&rt, &folder, "missing/replies")?;
-    let (image, nowhere, directory) = (image.as_str(), nowhere.as_str(), folder.as_str());
     let line = "replies: cannot be created\n";
-    let in_no_folder = ["serve", "--replies", nowhere, image];
+    let in_no_folder = ["serve", "--replies", nowhere.as_str(), image.as_str()];
     assert!(rt; is_told(&rt, &in_no_folder, 1, line)?);
-    let at_a_folder = ["serve", "--replies", directory, image];
+    let at_a_folder = ["serve", "--replies", folder.as_str(), image.as_str()];
     assert!(rt; is_told(&rt, &at_a_folder, 1, line)?);
-    let at_a_full_device = ["serve", "--replies", "/dev/full", image];
+    let at_a_full_device = ["serve", "--replies", "/dev/full", image.as_str()];
     assert!(rt; is_told(&rt, &at_a_full_device, 1, "write fault\n")?);
-    fs::remove_dir_all(&rt, directory)?;
+    fs::remove_dir_all(&rt, folder.as_str())?;
     Ok(())
 }
 
@@ -138,9 +143,8 @@ fn a_count_of_layers_is_told(rt: HostRuntime) {
 }
 
 #[test]
-fn streams_that_fail_are_told(rt: HostRuntime) -> Result<(), Fail> {
-    let alloc = rt.alloc();
-    let folder = folder(&rt, "failing")?;
+fn writers_that_fail_are_told(rt: HostRuntime) -> Result<(), Fail> {
+    let folder = folder(&rt, "unwritten")?;
     let image = file(&rt, &folder, "e.img", &empty(rt.alloc())?)?;
     let image = image.as_str();
     for (verb, room, flushes) in [
@@ -154,27 +158,39 @@ fn streams_that_fail_are_told(rt: HostRuntime) -> Result<(), Fail> {
         let words = [verb, image];
         let mut input = REQUESTS.as_slice();
         let mut output = Full { room, flushes };
-        let mut faults = Vec::new(alloc);
+        let mut faults = Vec::new(rt.alloc());
         let status = status_over(&rt, &words, &mut input, &mut output, &mut faults);
         assert_eq!(rt; status, 1);
         assert!(rt; faults.as_slice() == b"write fault\n".as_slice());
     }
+    fs::remove_dir_all(&rt, folder.as_str())?;
+    Ok(())
+}
 
-    let words = ["serve", image];
+#[test]
+fn a_reader_that_fails_is_told(rt: HostRuntime) -> Result<(), Fail> {
+    let folder = folder(&rt, "failing")?;
+    let image = file(&rt, &folder, "e.img", &empty(rt.alloc())?)?;
+    let words = ["serve", image.as_str()];
+    let mut output = Vec::new(rt.alloc());
+    let mut faults = Vec::new(rt.alloc());
     let mut input = Broken(&REQUESTS);
-    let mut output = Vec::new(alloc);
-    let mut faults = Vec::new(alloc);
     let status = status_over(&rt, &words, &mut input, &mut output, &mut faults);
     assert_eq!(rt; status, 1);
     assert!(rt; faults.as_slice() == b"read fault\n".as_slice());
     assert!(rt; output.is_empty());
+    fs::remove_dir_all(&rt, folder.as_str())?;
+    Ok(())
+}
 
+#[test]
+fn a_fault_that_cannot_be_told_has_its_status(rt: HostRuntime) {
     let mut deaf = Full {
         room: 0,
         flushes: false,
     };
-    let status = status_over(&rt, &words, &mut input, &mut output, &mut deaf);
-    assert_eq!(rt; status, 1);
-    fs::remove_dir_all(&rt, folder.as_str())?;
-    Ok(())
+    let mut input = REQUESTS.as_slice();
+    let mut output = Vec::new(rt.alloc());
+    let status = status_over(&rt, &["check"], &mut input, &mut output, &mut deaf);
+    assert_eq!(rt; status, 2);
 }
