@@ -1,6 +1,6 @@
 //! The program over files, streams and words of the command line.
 
-use crate::program::{file, folder, is_told, named, run};
+use program_runs::{file, folder, is_told, named, run};
 use romfs_image::sample::seal;
 use std::fs;
 use std::test::Fail;

@@ -1,6 +1,6 @@
 //! Each request for memory of the program is refused in turn, and told.
 
-use crate::program::{file, folder, run_with};
+use program_runs::{file, folder, run_with};
 use std::fs;
 use std::test::Fail;
 use test_data::messages::{REPLIES, REQUESTS};

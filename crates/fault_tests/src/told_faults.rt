@@ -1,7 +1,7 @@
 //! The line and the exit status of each fault.
 
-use crate::program::{file, folder, is_told, named};
 use flat_server::First;
+use program_runs::{file, folder, is_told, named};
 use std::fs;
 use std::io::{self, Error, ErrorKind, Read, Write};
 use std::test::Fail;
