@@ -10,7 +10,7 @@ ghost use Rattle.romfs_format.specs.Rules.{IsSound};
 ghost use Rattle.strata.specs.Faults.{status_of, IsLayerFault, AreSizes, IsFirstFault};
 ghost use Rattle.strata.specs.Texts.{size_lines};
 ghost use Rattle.strata.specs.Written.{WritesReplies, WritesFewer};
-ghost use Rattle.strata.specs.Ending.{IsServedWhole, AreGood, IsStoppedBy, IsDone, IsStopped, EndsWith};
+ghost use Rattle.strata.specs.Ending.{IsServedWhole, IsNotServed, AreGood, AreNotGood, IsDone, IsStopped, EndsWith};
 
 use crate::faults::Fault;
 use crate::paths::{create_replies, open_requests, read_images};
@@ -64,9 +64,10 @@ fn run<R: Files, A: Allocator + Copy, S: AsStr, I: Read, O: Write>(
     ensures stopped { IfErr result (λ fault. IsStopped (map S.text words.now) fault (I.remaining input.old) (O.contents output.old) (O.contents output.new)) }
 {
     let line = line(global, words)?;
+    let images = read_images(rt, alloc, line.images.as_slice())?;
     match line.verb {
-        Verb::Serve => serve(rt, alloc, &line, input, output),
-        Verb::Check => check(rt, alloc, &line, output),
+        Verb::Serve => serve(rt, alloc, &line, images, input, output),
+        Verb::Check => check(alloc, images, output),
     }
 }
 
@@ -75,13 +76,13 @@ fn serve<R: Files, A: Allocator + Copy, I: Read, O: Write>(
     rt: &R,
     alloc: A,
     line: &Line<'_>,
+    images: Vec<Vec<u8, A>, A>,
     input: &mut I,
     output: &mut O,
 ) -> Result<(), Fault>
-    ensures done { OnOk result (IsServedWhole line.now (I.remaining input.old) (O.contents output.old) (O.contents output.new)) }
-    ensures stopped { IfErr result (λ fault. IsStoppedBy Verb.Serve line.now fault (I.remaining input.old) (O.contents output.old) (O.contents output.new)) }
+    ensures done { OnOk result (IsServedWhole line.now (map (λ image. image.items) images.items) (I.remaining input.old) (O.contents output.old) (O.contents output.new)) }
+    ensures stopped { IfErr result (λ fault. IsNotServed line.now (map (λ image. image.items) images.items) fault (I.remaining input.old) (O.contents output.old) (O.contents output.new)) }
 {
-    let images = read_images(rt, alloc, line.images.as_slice())?;
     let requests = open_requests(rt, line.requests)?;
     let replies = create_replies(rt, line.replies)?;
     let stream = read_requests(alloc, requests, input)?;
@@ -115,16 +116,14 @@ fn write_replies<R, A: Allocator + Copy, W: Write>(
 }
 
 // Checks the images in order, and writes a line for each if all are good. Else nothing is written.
-fn check<R: Files, A: Allocator + Copy, O: Write>(
-    rt: &R,
+fn check<A: Allocator + Copy, O: Write>(
     alloc: A,
-    line: &Line<'_>,
+    images: Vec<Vec<u8, A>, A>,
     output: &mut O,
 ) -> Result<(), Fault>
-    ensures done { OnOk result (AreGood line.now (O.contents output.old) (O.contents output.new)) }
-    ensures stopped { IfErr result (λ fault. (input : _) → IsStoppedBy Verb.Check line.now fault input (O.contents output.old) (O.contents output.new)) }
+    ensures done { OnOk result (AreGood (map (λ image. image.items) images.items) (O.contents output.old) (O.contents output.new)) }
+    ensures stopped { IfErr result (λ fault. AreNotGood (map (λ image. image.items) images.items) fault (O.contents output.old) (O.contents output.new)) }
 {
-    let images = read_images(rt, alloc, line.images.as_slice())?;
     let sizes = checked_sizes(alloc, images)?;
     let lines = lines_of(alloc, sizes.as_slice())?;
     write_out(output, lines.as_bytes())
