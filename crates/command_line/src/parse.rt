@@ -18,10 +18,12 @@ use std::{env, io};
 /// The words of the command line after the program's name. All of them are text, or it is a `Usage`
 /// fault.
 pub fn words<R: Env + AllocGlobal>(rt: &R) -> Result<Vec<String>, LineFault> {
-    match env::args(rt) {
-        Ok(arguments) => Ok(arguments.skip(1).collect(rt.alloc())?),
-        Err(error) => Err(not_text(rt.alloc(), &error)),
+    let arguments = env::args(rt).map_err(|error| not_text(rt.alloc(), &error))?;
+    let mut words = Vec::new(rt.alloc());
+    for word in arguments.skip(1) {
+        words.push(word)?;
     }
+    Ok(words)
 }
 
 /// Reads the words after the program's name: the line has their verb, their images in order, and the
