@@ -1,0 +1,4 @@
+pub mod Sums
+pub mod Rising
+pub mod Numbers
+pub mod Rule

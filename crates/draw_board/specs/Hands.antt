@@ -1,0 +1,98 @@
+-- What is said of a board and its hands, and what a call changes.
+use Rattle.std.specs.Prelude.{◌≡◌, ℕ, ◌+◌, ◌-◌, ◌<◌, ◌≤◌, max, List, [], ◌∷◌, ◌++◌, Option, map}
+use Rattle.atomic_table.specs.Seated.{TableId}
+use Rattle.draw_board.specs.declared.hand.Hand.{Hand}
+use Rattle.draw_board.specs.declared.board.Board.{Board}
+use Rattle.draw_board.specs.Counter.{Drawn, answer_at, drawn_at}
+use Rattle.draw_board.specs.Views.{Key, IsSoundView}
+
+-- the numbers to be drawn are those below the total
+abbrev pub total_of : {A : Type 0} → Board A → ℕ
+total_of board = board.table.shared.key.0
+
+-- the misses of all the board's hands at the start
+abbrev pub misses_of : {A : Type 0} → Board A → ℕ
+misses_of board = board.table.shared.key.1
+
+-- the positions of the hand's draws
+abbrev pub positions : Hand → List ℕ
+positions hand = hand.seat.me.0.positions
+
+-- the hand's draws, each with its answer
+abbrev pub draws : ℕ → Hand → List Drawn
+draws total hand = map (drawn_at total) (positions hand)
+
+-- the misses that the hand has left
+abbrev pub left : Hand → ℕ
+left hand = hand.misses
+
+-- the misses that the hand has left, and those that it has spent
+abbrev pub share : Hand → ℕ
+share hand = hand.seat.me.0.share
+
+-- the hand has seen that each position below this one was drawn
+abbrev pub seen : Hand → ℕ
+seen hand = hand.seat.me.0.seen
+
+-- the hand is of the board with this word, total and misses
+pub record IsOf (word : TableId) (key : Key) (hand : Hand) : Type 0 where
+  pub of_word : hand.seat.table_id ≡ word
+  pub told : (hand.seat.me.0.total ≡ key.0) × (hand.seat.me.0.misses ≡ key.1)
+  pub left : hand.seat.me.0.left ≡ hand.misses
+  pub live : 1 ≤ hand.seat.me.0.share
+  pub bare : hand.seat.me.1 ≡ []
+  pub sound : IsSoundView hand.seat.me.0
+
+-- the hand is of this board
+abbrev pub IsHandOf : {A : Type 0} → Board A → Hand → Type 0
+IsHandOf board hand = IsOf board.table.shared.table_id board.table.shared.key hand
+
+-- a board as it starts
+abbrev pub IsBoard : {A : Type 0} → Board A → ℕ → ℕ → Type 0
+IsBoard board total misses = (total_of board ≡ total) × (misses_of board ≡ misses)
+
+-- a board's first hand has all misses, no position, and nothing seen
+pub record IsFirstHand {A : Type 0} (board : Board A) (hand : Hand) : Type 0 where
+  pub of_board : IsHandOf board hand
+  pub left : left hand ≡ misses_of board
+  pub share : share hand ≡ misses_of board
+  pub positions : positions hand ≡ []
+  pub seen : seen hand ≡ 0
+
+-- the hand stays one of the board, with the same share
+abbrev pub KeepsShare : {A : Type 0} → Board A → Hand → Hand → Type 0
+KeepsShare board old new = IsHandOf board new × (share new ≡ share old)
+
+-- a draw of the counter, at a position that the hand had not seen, is added to the hand's
+pub record TakesDraw (total : ℕ) (old new : Hand) (answer : Option ℕ) : Type 0 where
+  pub position : ℕ
+  pub answered : answer ≡ answer_at total position
+  pub unseen : seen old ≤ position
+  pub added : positions new ≡ positions old ++ position ∷ []
+  pub noted : seen new ≡ position + 1
+
+-- a number is drawn at the position of the same number
+abbrev pub TakesNumber : ℕ → Hand → Hand → ℕ → Type 0
+TakesNumber total old new number = (number < total) × (positions new ≡ positions old ++ number ∷ [])
+
+-- some misses, not all, go from the giver to another hand, which has no position and has seen what the giver had
+pub record MovesMisses {A : Type 0} (board : Board A) (old new other : Hand) (misses : ℕ) : Type 0 where
+  pub some_moved : 0 < misses
+  pub some_kept : misses < left old
+  pub giver_of_board : IsHandOf board new
+  pub giver_left : left new ≡ left old - misses
+  pub giver_share : share new ≡ share old - misses
+  pub giver_positions : positions new ≡ positions old
+  pub giver_seen : seen new ≡ seen old
+  pub other_of_board : IsHandOf board other
+  pub other_left : left other ≡ misses
+  pub other_share : share other ≡ misses
+  pub other_positions : positions other ≡ []
+  pub other_seen : seen other ≡ seen old
+
+-- the hand has the misses of both, and has seen what both had
+pub record TakesIn {A : Type 0} (board : Board A) (old other new : Hand) : Type 0 where
+  pub of_board : IsHandOf board new
+  pub left : left new ≡ left old + left other
+  pub share : share new ≡ share old + share other
+  pub seen : seen new ≡ max (seen old) (seen other)

@@ -1,0 +1,4 @@
+pub mod Counter
+pub mod Positions
+pub mod Views
+pub mod Hands

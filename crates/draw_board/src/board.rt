@@ -1,0 +1,125 @@
+//! The shared word, and what hands do with it.
+
+ghost use Rattle.std.specs.Prelude.{◌≡◌, ◌<◌, ◌^◌};
+
+use crate::hand::{Few, Hand};
+use crate::steps::{Announce, Draw, Drawing, Look, Part, Rejoin};
+use crate::view::View;
+use atomic_table::Table;
+use std::alloc::{AllocError, Allocator};
+
+/// The numbers below a total, for hands to draw. Threads share it by reference.
+#[derive(Drop)]
+pub struct Board<A: Allocator> {
+    table: Table<(), View, (u32, u32), Drawing, A>,
+    total: u32,
+    ghost one_word: { (table.shared.table_id.words ≡ 1) × (table.shared.table_id.slots ≡ 0) },
+    ghost total_told: { table.shared.key.0 ≡ total },
+    ghost few_misses: { table.shared.key.1 < 2 ^ 32 },
+}
+
+impl<A: Allocator> Board<A> {
+    ghost use Rattle.std.specs.Prelude.{◌≡◌, ◌≤◌, ◌<◌, ◌+◌, ◌⊎◌, ◌↔◌, None, IfOk, IfSome, IfNone, IsErr, OnErr, MatchOption};
+    ghost use Rattle.std.specs.List.{range_with_len};
+    ghost use Rattle.draw_board.specs.Counter.{history};
+    ghost use Rattle.draw_board.specs.Positions.{Unites, numbers};
+    ghost use Rattle.draw_board.specs.Hands.{total_of, misses_of, draws, left, positions, seen, share, IsBoard, IsFirstHand, IsHandOf, KeepsShare, MovesMisses, TakesDraw, TakesIn, TakesNumber};
+
+    /// Starts a board with the numbers below `total`, and its first hand with all of its `misses`. A board of no
+    /// numbers is fine; a hand with no miss could never be told that all numbers are drawn.
+    ///
+    /// `AllocError` where there is no memory for the word; no other call on a board asks for memory.
+    pub fn start(alloc: A, total: u32, misses: u32) -> Result<(Board<A>, Hand), AllocError>
+        requires { 1 ≤ misses }
+        ensures board { IfOk result (λ made. IsBoard made.0 total misses) }
+        ensures hand { IfOk result (λ made. IsFirstHand made.0 made.1) }
+    {
+        let (table, seat) = Table::of_words(alloc, &[0], &(total, misses))?;
+        Ok((Board { table, total }, Hand { seat, misses }))
+    }
+
+    /// Draws the next number, in one atomic step. `None` where all numbers are drawn already, which costs the hand
+    /// one miss; a hand that has no miss left answers it without a step, and stays as it is.
+    ///
+    /// It takes no lock and no memory, and waits for nobody. Many threads may draw at a time, each with a hand of
+    /// its own.
+    pub fn draw(&self, hand: &mut Hand) -> Option<u32>
+        requires { IsHandOf self.now hand.old }
+
+        // Each step is a draw of one counter, at a position that the hand had not seen.
+        ensures step { 0 < left hand.old → TakesDraw (total_of self.now) hand.old hand.new result }
+        ensures number { IfSome result (TakesNumber (total_of self.now) hand.old hand.new) }
+
+        // Nothing is answered only where the hand has seen that all numbers were drawn.
+        ensures drawn { IfNone result (total_of self.now ≤ seen hand.new) }
+        ensures misses { 0 < left hand.old →
+            MatchOption result (left hand.new + 1 ≡ left hand.old) (λ _. left hand.new ≡ left hand.old) }
+        ensures no_miss { left hand.old ≡ 0 → (result ≡ None) × (hand.new ≡ hand.old) }
+        ensures hand { KeepsShare self.now hand.old hand.new }
+    {
+        if hand.misses == 0 {
+            return None;
+        }
+        let position = self.table.shared.fetch_add::<Draw>(&mut hand.seat, 0, 1);
+        if position < self.total as u64 {
+            Some(position as u32)
+        } else {
+            hand.misses -= 1;
+            None
+        }
+    }
+
+    /// Gives so many of the hand's misses to a new hand, which has drawn nothing, and has seen what the giver has.
+    ///
+    /// [`Few`] where `misses` is 0, or where the giver would keep none; the hand is then as before.
+    pub fn split(&self, hand: &mut Hand, misses: u32) -> Result<Hand, Few>
+        requires { IsHandOf self.now hand.old }
+        ensures few { IsErr result ↔ ((misses ≡ 0) ⊎ (left hand.old ≤ misses)) }
+        ensures ok { IfOk result (λ other. MovesMisses self.now hand.old hand.new other misses) }
+        ensures err { OnErr result (hand.new ≡ hand.old) }
+    {
+        if misses == 0 || hand.misses <= misses {
+            return Err(Few);
+        }
+        let shared = &self.table.shared;
+        shared.compare_exchange::<Announce>(&mut hand.seat, 0, misses as u64, misses as u64);
+        let seat = shared.split_seat::<Part>(&mut hand.seat);
+        hand.misses -= misses;
+        Ok(Hand { seat, misses })
+    }
+
+    /// Takes another hand in: its draws, its misses, and what it has seen.
+    pub fn rejoin(&self, hand: &mut Hand, other: Hand)
+        requires { IsHandOf self.now hand.old × IsHandOf self.now other }
+        ensures positions { Unites (positions hand.old) (positions other) (positions hand.new) }
+        ensures hand { TakesIn self.now hand.old other hand.new }
+    {
+        let Hand { seat, misses } = other;
+        let shared = &self.table.shared;
+        shared.join_seat::<Rejoin>(&mut hand.seat, seat);
+        shared.load::<Look>(&mut hand.seat, 0);
+        hand.misses += misses;
+    }
+
+    /// Ends the board, and gives the number of draws that took a step, over all hands. It asks for the hand that all
+    /// others were rejoined into, which is the one whose share is all of the board's misses.
+    pub fn close(self, hand: Hand) -> u64
+        requires { IsHandOf self hand × (share hand ≡ misses_of self) }
+
+        // The draws of all hands are one legal history.
+        ensures history { draws (total_of self) hand ≡ history (total_of self) result }
+        ensures positions { positions hand ≡ range_with_len 0 result }
+        ensures seen { seen hand ≤ result }
+
+        // After a miss each number was drawn, once.
+        ensures numbers { left hand < share hand →
+            numbers (total_of self) (positions hand) ≡ range_with_len 0 (total_of self) }
+    {
+        let Board { table, total: _ } = self;
+        let Hand { seat, misses: _ } = hand;
+        let closed = table.close_with(seat);
+        let drawn = closed.word(0);
+        closed.free();
+        drawn
+    }
+}
