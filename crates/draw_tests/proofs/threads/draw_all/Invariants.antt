@@ -1,0 +1,5 @@
+use Rattle.draw_board.specs.Hands.{KeepsShare}
+use Rattle.draw_tests.proofs.threads.draw_all.Given as goal
+
+abbrev pub invariant-loop : goal.invariant-loop
+invariant-loop l = KeepsShare l.board l.initial.hand l.hand

@@ -1,0 +1,56 @@
+//! One thread draws through one hand or two, and memory that is refused.
+
+use draw_board::{Board, Few};
+use refusing::Refusing;
+use std::test::Fail;
+
+#[test]
+fn two_hands_share_three_numbers(rt: HostRuntime) -> Result<(), Fail> {
+    let (board, mut a) = Board::start(rt.alloc(), 3, 2)?;
+    let Ok(mut b) = board.split(&mut a, 1) else {
+        panic!(rt; "the first hand has two misses")
+    };
+    assert!(rt; board.split(&mut a, 1).is_err() && board.split(&mut a, 0).is_err());
+    let numbers = [board.draw(&mut a), board.draw(&mut b), board.draw(&mut a)];
+    let misses = [board.draw(&mut a), board.draw(&mut b), board.draw(&mut b)];
+    assert_eq!(rt; numbers, [Some(0), Some(1), Some(2)]);
+    assert_eq!(rt; misses, [None, None, None]);
+    board.rejoin(&mut a, b);
+    assert_eq!(rt; board.close(a), 5);
+    Ok(())
+}
+
+#[test]
+fn a_board_of_no_numbers(rt: HostRuntime) -> Result<(), Fail> {
+    let (board, mut hand) = Board::start(rt.alloc(), 0, 1)?;
+    let draws = [board.draw(&mut hand), board.draw(&mut hand)];
+    assert_eq!(rt; draws, [None, None]);
+    assert_eq!(rt; board.close(hand), 1);
+    Ok(())
+}
+
+#[test]
+fn none_or_all_misses_are_not_given(rt: HostRuntime) -> Result<(), Fail> {
+    let (board, mut hand) = Board::start(rt.alloc(), 1, 2)?;
+    let refused = [
+        board.split(&mut hand, 0).err(),
+        board.split(&mut hand, 2).err(),
+        board.split(&mut hand, u32::MAX).err(),
+    ];
+    assert_eq!(rt; refused, [Some(Few), Some(Few), Some(Few)]);
+    assert_eq!(rt; board.draw(&mut hand), Some(0));
+    assert_eq!(rt; board.close(hand), 1);
+    Ok(())
+}
+
+#[test]
+fn each_request_of_a_start_refused(rt: HostRuntime) -> Result<(), Fail> {
+    let counting = Refusing::new(rt.alloc(), 0);
+    assert!(rt; Board::start(&counting, 3, 2).is_ok());
+    assert!(rt; 0 < counting.requests());
+    for refuse_at in 1..=counting.requests() {
+        let refusing = Refusing::new(rt.alloc(), refuse_at);
+        assert!(rt; Board::start(&refusing, 3, 2).is_err(), "at {refuse_at}");
+    }
+    Ok(())
+}
