@@ -1,10 +1,10 @@
 -- What is said of a board and its hands, and what a call changes.
-use Rattle.std.specs.Prelude.{◌≡◌, ℕ, ◌+◌, ◌-◌, ◌<◌, ◌≤◌, max, List, [], ◌∷◌, ◌++◌, Option, map}
+use Rattle.std.specs.Prelude.{◌≡◌, ℕ, ◌+◌, ◌-◌, ◌<◌, ◌≤◌, max, List, [], ◌∷◌, ◌++◌, Option, MatchOption, map}
 use Rattle.atomic_table.specs.Seated.{TableId}
 use Rattle.draw_board.specs.declared.hand.Hand.{Hand}
 use Rattle.draw_board.specs.declared.board.Board.{Board}
 use Rattle.draw_board.specs.Counter.{Drawn, answer_at, drawn_at}
-use Rattle.draw_board.specs.Views.{Key, IsSoundView}
+use Rattle.draw_board.specs.Views.{Key, IsSoundView, key_of}
 
 -- the numbers to be drawn are those below the total
 abbrev pub total_of : {A : Type 0} → Board A → ℕ
@@ -63,6 +63,10 @@ pub record IsFirstHand {A : Type 0} (board : Board A) (hand : Hand) : Type 0 whe
 abbrev pub KeepsShare : {A : Type 0} → Board A → Hand → Hand → Type 0
 KeepsShare board old new = IsHandOf board new × (share new ≡ share old)
 
+-- what a thread may promise of a hand that it is lent: one of the same board, with the same share
+abbrev pub GivesBack : Hand → Hand → Type 0
+GivesBack lent back = IsOf lent.seat.table_id (key_of lent.seat.me.0) back × (share back ≡ share lent)
+
 -- a draw of the counter, at a position that the hand had not seen, is added to the hand's
 pub record TakesDraw (total : ℕ) (old new : Hand) (answer : Option ℕ) : Type 0 where
   pub position : ℕ
@@ -71,11 +75,16 @@ pub record TakesDraw (total : ℕ) (old new : Hand) (answer : Option ℕ) : Type
   pub added : positions new ≡ positions old ++ position ∷ []
   pub noted : seen new ≡ position + 1
 
+-- an answer of nothing spends one miss, and a number spends none
+abbrev pub SpendsMissAtNone : Hand → Hand → Option ℕ → Type 0
+SpendsMissAtNone old new answer = MatchOption answer (left new + 1 ≡ left old) (λ _. left new ≡ left old)
+
 -- a number is drawn at the position of the same number
 abbrev pub TakesNumber : ℕ → Hand → Hand → ℕ → Type 0
 TakesNumber total old new number = (number < total) × (positions new ≡ positions old ++ number ∷ [])
 
--- some misses, not all, go from the giver to another hand, which has no position and has seen what the giver had
+-- some misses go from the giver, which keeps some, to another hand, which has drawn nothing,
+-- and has seen what the giver had
 pub record MovesMisses {A : Type 0} (board : Board A) (old new other : Hand) (misses : ℕ) : Type 0 where
   pub some_moved : 0 < misses
   pub some_kept : misses < left old

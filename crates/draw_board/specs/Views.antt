@@ -18,7 +18,7 @@ Table = State (Unit {0}) View
 abbrev pub Seated : Type 0
 Seated = Me (Unit {0}) View
 
--- a view by itself: its positions rise below what it has seen, and after a miss it has seen the total
+-- a view by itself: its positions rise below what it has seen; after a miss it has seen the total
 pub record IsSoundView (v : View) : Type 0 where
   pub rises : RisesWithin 0 v.positions v.seen
   pub within_share : v.left ≤ v.share
@@ -46,7 +46,15 @@ abbrev pub key_of : View → Key
 key_of v = (v.total, v.misses)
 
 abbrev pub view : Key → List ℕ → ℕ → ℕ → ℕ → ℕ → View
-view key positions left share seen asked = record { positions = positions; left = left; share = share; seen = seen; total = key.0; misses = key.1; asked = asked }
+view key positions left share seen asked = record {
+  positions = positions;
+  left = left;
+  share = share;
+  seen = seen;
+  total = key.0;
+  misses = key.1;
+  asked = asked;
+}
 
 -- the first view: no position, all misses, nothing seen
 abbrev pub first_view : Key → View
@@ -54,7 +62,10 @@ first_view key = view key [] key.1 key.1 0 0
 
 -- after a draw at position p: a miss, where p is no number, costs one
 abbrev pub after_draw : View → ℕ → View
-after_draw v p = view (key_of v) (v.positions ++ p ∷ []) (if nat_lt p v.total then v.left else v.left - 1) v.share (suc p) v.asked
+after_draw v p = view (key_of v) (v.positions ++ p ∷ []) left v.share (suc p) v.asked
+  where
+    left : ℕ
+    left = if nat_lt p v.total then v.left else v.left - 1
 
 -- a split moves the announced number of misses from the giver's view to a new one
 abbrev pub giver_view : View → View
@@ -65,14 +76,16 @@ given_view v = view (key_of v) [] v.asked v.asked v.seen 0
 
 -- a rejoin makes one view of two, and leaves nothing in the other
 abbrev pub joined_view : View → View → View
-joined_view v w = view (key_of v) (merged v.positions w.positions) (v.left + w.left) (v.share + w.share) (max v.seen w.seen) 0
+joined_view v w =
+    view (key_of v) (merged v.positions w.positions) (v.left + w.left) (v.share + w.share) (max v.seen w.seen) 0
 
 abbrev pub spent_view : View
 spent_view = view (0, 0) [] 0 0 0 0
 
 -- a draw tells that its position had not been seen
 abbrev pub drew : Step (Unit {0}) → Seated → ℕ → Seated → Type 0
-drew _ before p after = (after ≡ (after_draw before.0 p, before.1)) × (before.0.seen ≤ p) × IsSoundView after.0
+drew _ before p after =
+    (after ≡ (after_draw before.0 p, before.1)) × (before.0.seen ≤ p) × IsSoundView after.0
 
 -- an announcement of how many misses a split will move
 abbrev pub announced : Step (Unit {0}) → Seated → ℕ → Seated → Type 0

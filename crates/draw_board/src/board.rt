@@ -19,11 +19,11 @@ pub struct Board<A: Allocator> {
 }
 
 impl<A: Allocator> Board<A> {
-    ghost use Rattle.std.specs.Prelude.{◌≡◌, ◌≤◌, ◌<◌, ◌+◌, ◌⊎◌, ◌↔◌, None, IfOk, IfSome, IfNone, IsErr, OnErr, MatchOption};
+    ghost use Rattle.std.specs.Prelude.{◌≡◌, ◌≤◌, ◌<◌, ◌⊎◌, ◌↔◌, None, IfOk, IfSome, IfNone, IsErr, OnErr};
     ghost use Rattle.std.specs.List.{range_with_len};
     ghost use Rattle.draw_board.specs.Counter.{history};
     ghost use Rattle.draw_board.specs.Positions.{Unites, numbers};
-    ghost use Rattle.draw_board.specs.Hands.{total_of, misses_of, draws, left, positions, seen, share, IsBoard, IsFirstHand, IsHandOf, KeepsShare, MovesMisses, TakesDraw, TakesIn, TakesNumber};
+    ghost use Rattle.draw_board.specs.Hands.{total_of, misses_of, draws, left, positions, seen, share, IsBoard, IsFirstHand, IsHandOf, KeepsShare, MovesMisses, SpendsMissAtNone, TakesDraw, TakesIn, TakesNumber};
 
     /// Starts a board with the numbers below `total`, and its first hand with all of its `misses`. A board of no
     /// numbers is fine; a hand with no miss could never be told that all numbers are drawn.
@@ -52,8 +52,7 @@ impl<A: Allocator> Board<A> {
 
         // Nothing is answered only where the hand has seen that all numbers were drawn.
         ensures drawn { IfNone result (total_of self.now ≤ seen hand.new) }
-        ensures misses { 0 < left hand.old →
-            MatchOption result (left hand.new + 1 ≡ left hand.old) (λ _. left hand.new ≡ left hand.old) }
+        ensures misses { 0 < left hand.old → SpendsMissAtNone hand.old hand.new result }
         ensures no_miss { left hand.old ≡ 0 → (result ≡ None) × (hand.new ≡ hand.old) }
         ensures hand { KeepsShare self.now hand.old hand.new }
     {

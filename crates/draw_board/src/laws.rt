@@ -9,13 +9,15 @@ ghost use Rattle.draw_board.specs.Positions.{Unites, numbers, times};
 #[tactic(auto, using(crate::proofs::Numbers::one_more))]
 pub fn draws_in_order()
     ensures none { (total : ℕ) → history total 0 ≡ [] }
-    ensures next { (total n : ℕ) → history total (n + 1) ≡ history total n ++ drawn_at total n ∷ [] }
+    ensures next { (total n : ℕ) →
+        history total (n + 1) ≡ history total n ++ drawn_at total n ∷ [] }
 {}
 
 /// Once there were as many draws as there are numbers, each number was drawn, once.
 #[tactic(auto, using(crate::proofs::Numbers::all_numbers))]
 pub fn numbers_once()
-    ensures { (total n : ℕ) → total ≤ n → numbers total (range_with_len 0 n) ≡ range_with_len 0 total }
+    ensures { (total n : ℕ) → total ≤ n →
+        numbers total (range_with_len 0 n) ≡ range_with_len 0 total }
 {}
 
 /// The numbers of two hands are those of the hand that they become.

@@ -23,8 +23,8 @@ impl Play<(), View> for Draw {
     ghost then = { drew };
 }
 
-// An announcement. How a view is cut may depend on the view alone, so the number of misses that a split
-// moves goes into the view first.
+// An announcement. How a view is cut may depend on the view alone, so the number of misses that a
+// split moves goes into the view first.
 pub(crate) struct Announce;
 
 impl Play<(), View> for Announce {

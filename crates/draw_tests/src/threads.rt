@@ -2,8 +2,7 @@
 
 ghost use Rattle.std.specs.Prelude.{◌≡◌, ◌+◌};
 ghost use Rattle.std.specs.Thread.{IsSync};
-ghost use Rattle.draw_board.specs.Hands.{IsHandOf, KeepsShare, share};
-ghost use Rattle.draw_tests.specs.Promises.{IsSameHand};
+ghost use Rattle.draw_board.specs.Hands.{GivesBack, IsHandOf, KeepsShare, share};
 
 use draw_board::{Board, Hand};
 use std::alloc::{AllocError, Global};
@@ -34,7 +33,7 @@ struct Drawn {
 struct SameHand(Snapshot<Hand>);
 
 impl Promise<Drawn> for SameHand {
-    ghost kept_by = { λ lent back. IsSameHand lent.0.value back.hand };
+    ghost kept_by = { λ lent back. GivesBack lent.0.value back.hand };
 }
 
 /// Draws until all numbers are gone and all misses of the hand are spent.
@@ -122,7 +121,7 @@ fn draw_in<R: Threads + Wait + Sync>(
                 SameHand(Snapshot::of(&lent)),
                 move || -> Drawn
                     requires { IsHandOf board.now lent }
-                    ensures { IsSameHand lent result.hand }
+                    ensures { GivesBack lent result.hand }
                 { draw_all(alloc, board, lent) },
             );
             let mine = draw_in(rt, alloc, board, hand, rest, misses);
