@@ -22,13 +22,16 @@ below `for N 0 to 15` stand once for each of these numbers, in place of N.
 Each run has a folder of its own, with the files that its line names. Whatever is not said must be empty, and each
 run says its status. A name that no run uses, and a line that means nothing, fail.
 """
+import fcntl
 import os
 import re
 import resource
 import shutil
+import struct
 import subprocess
 import sys
 import tempfile
+import termios
 import threading
 import time
 
@@ -105,7 +108,7 @@ class Case:
             for line in repeated(tree_of(text.read())):
                 try:
                     self.read(line)
-                except Wrong as wrong:
+                except (Wrong, ValueError, OverflowError, struct.error) as wrong:
                     raise Wrong("%s:%d: %s" % (path, line.number, wrong)) from None
         for run in self.runs:
             if run.status is None:
@@ -247,9 +250,6 @@ class Started:
 
 def feed(data, pipe, size):
     """Writes bytes into a pipe, a piece whenever the one before was taken out."""
-    import fcntl
-    import struct
-    import termios
     try:
         for at in range(0, len(data), size):
             os.write(pipe, data[at:at + size])

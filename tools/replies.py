@@ -92,7 +92,10 @@ def reply_of(unique, words, rows):
             row.end()
         return plain.with_data(unique, data)
     if kind == "bytes":
-        return words.data()
+        data = words.data()
+        if len(data) < 16 or struct.unpack_from("<Q", data, 8)[0] != unique:
+            raise Wrong("bytes of a reply with another unique")
+        return data
     raise Wrong("no reply: %s" % kind)
 
 
