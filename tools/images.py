@@ -1,8 +1,6 @@
 """Images in a text form: what they hold, a line each, or edits of the sample images by offset."""
-import struct
-
-from build import header, name_bytes, padded, seal, volume
-from text import Wrong
+from build import finished, header, padded, seal, volume
+from text import Wrong, plain_bytes
 
 # the empty image as a dump prints it
 EMPTY = bytes.fromhex(
@@ -18,6 +16,7 @@ class Item:
         self.path, self.kind, self.executable = path, kind, executable
         self.spec, self.data, self.target = spec, data, target
         self.at = self.next = 0
+        self.is_first = False
 
 
 def laid_out(name, items):
@@ -29,10 +28,9 @@ def laid_out(name, items):
         above = item.path[:-1]
         if above not in last:
             raise Wrong("no directory above %r" % (item.path,))
-        if last[above] is None:
-            item.is_first = True
-        else:
-            last[above].next, item.is_first = at, False
+        item.is_first = last[above] is None
+        if not item.is_first:
+            last[above].next = at
         last[above] = item
         places[item.path] = at
         at += 16 + padded(len(item.path[-1]) + 1)
@@ -57,12 +55,15 @@ def laid_out(name, items):
             parts.append(header(own + 32, "hard", False, item.at, 0, b"."))
             parts.append(header(firsts.get(item.path, 0), "hard", False, places[item.path[:-1]], 0, b".."))
         parts.append(item.data + bytes(-len(item.data) % 16))
-    data = b"".join(parts)
-    return seal(data[:8] + struct.pack(">I", len(data)) + data[12:])
+    return finished(parts)
+
+
+def flat(name, files):
+    """An image whose root holds these files, (name, executable, data) each."""
+    return laid_out(name, [Item((file,), "regular", executable, data=data) for file, executable, data in files])
 
 
 def path_of(words):
-    from text import plain_bytes
     return tuple(plain_bytes(name) for name in words.next().split("/"))
 
 
