@@ -68,22 +68,22 @@ fn is_told<I: Read, O: Write>(
     status == 1 && faults.as_slice() == line
 }
 
+/// Whether a write that fails, after so many bytes or at the flush, is told.
+fn tells_a_failed_write(rt: &HostRuntime, words: &[&str], room: usize, flushes: bool) -> bool {
+    let mut input = REQUESTS.as_slice();
+    let mut output = Full { room, flushes };
+    is_told(rt, words, &mut input, &mut output, b"write fault\n")
+}
+
 #[test]
 fn writers_that_fail_are_told(rt: HostRuntime) -> Result<(), Fail> {
     let image = image_file(&rt, "writers")?;
-    for (verb, room, flushes) in [
-        ("check", 10, true),
-        ("check", 1000, false),
-        ("serve", 80, true),
-        ("serve", 1000, false),
-    ] {
-        let words = [verb, image.as_str()];
-        let mut input = REQUESTS.as_slice();
-        let mut output = Full { room, flushes };
-        let told = is_told(&rt, &words, &mut input, &mut output, b"write fault\n");
-        assert!(rt; told);
+    let path = image.as_str();
+    for (room, flushes) in [(10, true), (1000, false)] {
+        assert!(rt; tells_a_failed_write(&rt, &["check", path], room, flushes));
+        assert!(rt; tells_a_failed_write(&rt, &["serve", path], room, flushes));
     }
-    fs::remove_file(&rt, image.as_str())?;
+    fs::remove_file(&rt, path)?;
     Ok(())
 }
 
