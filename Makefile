@@ -1,26 +1,43 @@
-# make test: the merge gate. It proves every crate from nothing and runs all tests.
+# make test: the merge gate. It proves every crate from nothing, tries the wrong bodies, and runs all tests and cases.
 # make build: the proved program, as build/strata. make demo: shows it at work.
-# make bench, make fuzz: figures, and a comparison with a plain reading of the formats (both want python3).
-.PHONY: test build demo bench fuzz
+# make cases: the cases alone, on build/strata. make plant: sees that the cases notice wrong lines.
+# make trials [CRATES=..]: tries the wrong bodies of trials/, over what make build kept.
+# make bench, make fuzz: figures, and a comparison with a plain reading of the formats.
+.PHONY: test build demo cases plant trials bench fuzz needed
 
-test:
+PYTHON = python3 -B
+
+test: needed
 	rt ci
+	@mkdir -p build
+	@cp crates/strata_main/out/strata_main build/strata
+	$(PYTHON) tools/cases.py build/strata
 
 build: build/strata
 
-build/strata: crates.txt $(shell find crates -name '*.rt' -o -name '*.antt')
-	@mkdir -p build
-	@echo "proving and building strata, some minutes the first time (what the prover says: build/log)"
-	@cd crates/strata_main && rt run -- check data/e.img > ../../build/log 2>&1 || { tail -n 20 ../../build/log; exit 1; }
-	@cp crates/strata_main/out/strata_main build/strata
+build/strata: crates.txt $(shell find crates -name '*.rt' -o -name '*.antt') | needed
+	@$(PYTHON) tools/prove.py
 
 demo: build/strata
 	build/strata check demo/lantern.romfs
 	build/strata serve --requests demo/requests.fuse --replies build/replies demo/lantern.romfs
-	demo/show-replies build/replies
+	@$(PYTHON) tools/show.py demo/requests.fuse build/replies
+
+cases: build/strata
+	$(PYTHON) tools/cases.py build/strata
+
+plant: build/strata
+	$(PYTHON) tools/plant.py build/strata
+
+trials: needed
+	$(PYTHON) tools/trials.py $(CRATES)
 
 bench: build/strata
-	python3 -B tools/bench.py build/strata
+	$(PYTHON) tools/bench.py build/strata
 
 fuzz: build/strata
-	python3 -B tools/fuzz.py build/strata
+	$(PYTHON) tools/fuzz.py build/strata
+
+needed:
+	@command -v rt > /dev/null || { echo "strata needs the command rt of the Rattle kit on the path"; exit 1; }
+	@command -v python3 > /dev/null || { echo "strata needs python3 (3.9 or later, its standard library alone)"; exit 1; }

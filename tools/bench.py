@@ -9,7 +9,8 @@ import sys
 import tempfile
 import time
 
-from build import finished, flat, getattr_, header, init, lookup, padded, volume
+from build import finished, getattr_, header, init, lookup, padded, volume
+from images import flat
 
 MIB = 1 << 20
 HEADERS = 200_000

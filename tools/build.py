@@ -37,25 +37,6 @@ def finished(parts):
     return seal(data[:8] + struct.pack(">I", len(data)) + data[12:])
 
 
-def flat(volume_name, files):
-    """An image whose root holds `.`, `..` and these files, (name, executable, data) each."""
-    parts = [volume(volume_name)]
-    root = len(parts[0])
-    at = root + 32
-    parts.append(header(at, "directory", True, root, 0, b"."))
-    dots = at
-    at += 32
-    sizes = [16 + padded(len(name) + 1) + padded(len(data)) for name, _, data in files]
-    parts.append(header(at if files else 0, "hard", False, root, 0, b".."))
-    del dots
-    for index, ((name, executable, data), size) in enumerate(zip(files, sizes)):
-        next_ = at + size if index + 1 < len(files) else 0
-        parts.append(header(next_, "regular", executable, 0, len(data), name))
-        parts.append(data + bytes(padded(len(data)) - len(data)))
-        at += size
-    return finished(parts)
-
-
 def request(opcode, unique, node, body=b""):
     return struct.pack("<IIQQ4I", 40 + len(body), opcode, unique, node, 0, 0, 0, 0) + body
 

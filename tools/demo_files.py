@@ -1,7 +1,8 @@
 """Writes the demo's image and requests: python3 tools/demo_files.py demo"""
 import sys
 
-from build import flat, getattr_, init, lookup
+from build import getattr_, init, lookup
+from images import flat
 
 FILES = [
     (b"hostname", False, b"lantern\n"),

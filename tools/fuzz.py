@@ -10,7 +10,8 @@ import sys
 import tempfile
 
 import plain
-from build import flat, getattr_, header, init, lookup, name_bytes, request, seal, volume
+from build import getattr_, header, init, lookup, name_bytes, request, seal, volume
+from images import flat
 
 NAMES = [b"a", b"b", b"c", b"d", b".", b"..", b"", b"a/b", b".wh.a", b"fifteen-letters", b"sixteen-letters-", b"x" * 255]
 EDGES = [0, 15, 16, 32, 40, 80, 4095, 4096, 0x10000003, 0x0fff0001, 2 ** 31, 2 ** 32 - 1]

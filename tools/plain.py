@@ -229,12 +229,58 @@ def split(stream):
     return messages, stream
 
 
+ERRNOS = {"ENOENT": 2, "EIO": 5, "ENOTDIR": 20, "EISDIR": 21, "EINVAL": 22, "EROFS": 30, "ENAMETOOLONG": 36,
+          "ENOSYS": 38, "EPROTO": 71, "ESTALE": 116}
+VALID = 3600
+
+
 def error(unique, number):
     return struct.pack("<IiQ", 16, -number, unique)
 
 
 def with_data(unique, data):
     return struct.pack("<IiQ", 16 + len(data), 0, unique) + data
+
+
+def attr(ino, size, mode, nlink, rdev=0):
+    """struct fuse_attr: times, owners and flags are 0, blocks are of 512 bytes."""
+    return struct.pack("<6Q10I", ino, size, (size + 511) // 512, 0, 0, 0, 0, 0, 0, mode, nlink, 0, 0, rdev, 4096, 0)
+
+
+def attr_out(attributes):
+    return struct.pack("<Q2I", VALID, 0, 0) + attributes
+
+
+def entry_out(node, attributes):
+    return struct.pack("<4Q2I", node, 0, VALID, VALID, 0, 0) + attributes
+
+
+def open_out(flags):
+    return struct.pack("<Q2I", 0, flags, 0)
+
+
+def statfs_out(blocks, files):
+    return struct.pack("<5Q4I24x", blocks, 0, 0, files, 0, 512, 255, 512, 0)
+
+
+def dirent(ino, off, kind, name):
+    return struct.pack("<2Q2I", ino, off, len(name), kind) + name + bytes(-len(name) % 8)
+
+
+def init_out(readahead, flags, pages):
+    return struct.pack("<4I2H2I2H", 7, 31, readahead, flags, 12, 9, 131072, 1, pages, 0) + bytes(32)
+
+
+def version_out():
+    """What a client of a later major version is told."""
+    return struct.pack("<2I", 7, 31) + bytes(56)
+
+
+def init_reply(unique, major, minor, readahead, flags):
+    if major > 7:
+        return with_data(unique, version_out())
+    pages = 32 if flags >> 22 & 1 else 0
+    return with_data(unique, init_out(min(readahead, 1048576), flags & 0x00446001, pages))
 
 
 class Files:
@@ -251,22 +297,13 @@ class Files:
         root = number == 1
         size = 0 if root else self.image.size(h)
         mode = (0o40755 if root else 0o100755) if self.image.executable(h) else (0o40644 if root else 0o100644)
-        return struct.pack("<6Q10I", number, size, (size + 511) // 512, 0, 0, 0,
-                           0, 0, 0, mode, 2 if root else 1, 0, 0, 0, 4096, 0)
+        return attr(number, size, mode, 2 if root else 1)
 
     def child(self, name):
         for number in range(2, len(self.heads) + 1):
             if self.image.name(self.heads[number - 1]) == name:
                 return number
         return None
-
-
-def init_reply(unique, major, minor, readahead, flags):
-    if major > 7:
-        return with_data(unique, struct.pack("<2I", 7, 31) + bytes(56))
-    pages = 32 if flags >> 22 & 1 else 0
-    return with_data(unique, struct.pack("<4I2H2I2H", 7, 31, min(readahead, 1048576), flags & 0x00446001,
-                                         12, 9, 131072, 1, pages, 0) + bytes(32))
 
 
 def reply(files, ready, message):
@@ -291,7 +328,7 @@ def reply(files, ready, message):
     if not 1 <= node <= len(files.heads):
         return error(unique, 116), ready
     if opcode == 3:
-        return with_data(unique, struct.pack("<Q2I", 3600, 0, 0) + files.attr(node)), ready
+        return with_data(unique, attr_out(files.attr(node))), ready
     if node != 1:
         return error(unique, 20), ready
     if len(body) > 256:
@@ -299,7 +336,7 @@ def reply(files, ready, message):
     number = files.child(body[:-1])
     if number is None:
         return error(unique, 2), ready
-    return with_data(unique, struct.pack("<4Q2I", number, 0, 3600, 3600, 0, 0) + files.attr(number)), ready
+    return with_data(unique, entry_out(number, files.attr(number))), ready
 
 
 def serve(data, stream):

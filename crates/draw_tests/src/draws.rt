@@ -1,7 +1,7 @@
 //! One thread draws through one hand or two, and memory that is refused.
 
 use draw_board::{Board, Few};
-use refusing::Refusing;
+use test_kit::refusing::Refusing;
 use std::test::Fail;
 
 #[test]

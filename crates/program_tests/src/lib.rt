@@ -1,0 +1,14 @@
+//! The tests of the program over devices that fail and memory that is refused, which no command line can bring about.
+//!
+//! - `devices`: readers and writers that fail.
+//! - `memory`: each request for memory is refused in turn.
+//!
+//! What they share: `program`, which lays an image into a file of the test's own.
+#![tactic(auto)]
+
+#[cfg(test)]
+mod devices;
+#[cfg(test)]
+mod memory;
+#[cfg(test)]
+mod program;
