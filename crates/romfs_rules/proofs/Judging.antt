@@ -1,18 +1,21 @@
 -- What the tests of the rules say of a header.
-use Rattle.std.proofs.Common.{◌≡◌, ◌∙◌, sym, subst, ℕ, ◌+◌, ◌/◌, ◌<◌, ◌↔◌, ◌⊎◌, inl, inr, List, length, Bool, get_or, true, false, Some, IsTrue, IsSomeAnd, Contains, refl, ap, arith}
+use Rattle.std.proofs.Common.{◌≡◌, ◌∙◌, sym, subst, ℕ, zero, suc, ◌+◌, ◌/◌, ◌<◌, ◌↔◌, ◌⊎◌, inl, inr, List, [], ◌∷◌, length, Bool, get_or, true, false, Some, IsTrue, IsSomeAnd, Contains, refl, ap, arith, lit<, lit≤}
 use Rattle.std.proofs.lemmas.Bool.{false≢true, cases_order}
 use Rattle.std.proofs.lemmas.Grind.{get_or_default_zero}
 use Rattle.std.specs.List.Sorted.{IsNonDecreasing}
 use Rattle.romfs_format.specs.declared.head.End.{End}
 use Rattle.romfs_format.specs.declared.head.End.TheVariants.{AtDirectory, AtOther, Nowhere}
+use Rattle.romfs_format.specs.declared.rule.Rule.{Rule}
+use Rattle.romfs_format.specs.declared.rule.Profile.{Profile}
 use Rattle.romfs_format.specs.declared.rule.Rule.TheVariants.{DataOutside, Twice, SameName}
+use Rattle.romfs_rules.specs.declared.judge.TheConstants.{HEADER_RULES}
 use Rattle.romfs_format.specs.Fields.{root, name, size, data_at}
 use Rattle.romfs_format.specs.Chains.{IsSomeMember}
 use Rattle.romfs_format.specs.Links.{IsHardLink, IsDirectory, IsFinal, stays, follows, EndsAs}
-use Rattle.romfs_format.specs.Rules.{IsRootElsewhere, IsUsed, HasData, BreaksHeader}
+use Rattle.romfs_format.specs.Rules.{IsRootElsewhere, IsUsed, HasData, BreaksHeader, number}
 use Rattle.romfs_rules.specs.Marks.{AreMarks, IsElsewhere}
 use Rattle.romfs_rules.specs.Leads.{IsInSomeChain}
-use Rattle.romfs_rules.specs.Judge.{HasSlot}
+use Rattle.romfs_rules.specs.Judge.{HasSlot, IsHeaderRule, KeepsBefore}
 use Rattle.romfs_rules.specs.Namesakes.{AreNamesakes}
 use Rattle.romfs_rules.proofs.Slots.{marked}
 use Rattle.romfs_rules.proofs.Standing.{some_member}
@@ -89,3 +92,24 @@ not_falling a hs n i j d l k = elim (cases_order i j) [
       omega arith)
   | inr (inr m) ↦ absurd (omega arith)
 ]
+
+-- the rules are numbered one after the other from n on
+abbrev AreNumberedFrom : ℕ → List Rule → Type 0
+AreNumberedFrom n [] = Unit {0}
+AreNumberedFrom n (r ∷ rules) = (number r ≡ n) × AreNumberedFrom (suc n) rules
+
+numbered_at : (rules : List Rule) (n i : ℕ) (d : Rule) → AreNumberedFrom n rules → i < length rules → number (get_or rules i d) ≡ n + i
+numbered_at [] n i d x l = absurd (omega arith)
+numbered_at (r ∷ rules) n zero d x l = x.0 ∙ omega arith
+numbered_at (r ∷ rules) n (suc i) d x l = numbered_at rules (suc n) i d x.1 (omega arith) ∙ omega arith
+
+-- the rules that are tried have the numbers from 7 on
+pub tried_number : (i : ℕ) (d : Rule) → i < 10 → number (get_or HEADER_RULES i d) ≡ i + 7
+tried_number i d l = numbered_at HEADER_RULES 7 i d (refl, (refl, (refl, (refl, (refl, (refl, (refl, (refl, (refl, (refl, tt)))))))))) l ∙ omega arith
+
+pub header_tried : (i : ℕ) (d : Rule) → i < 10 → IsHeaderRule (get_or HEADER_RULES i d)
+header_tried i d l = let n = tried_number i d l in (omega arith, omega arith)
+
+-- equal names are tried only on headers that no two links name
+pub name_tried : (profile : Profile) (a : List ℕ) (h : ℕ) (r : Rule) (n : ℕ) → number r ≡ n → (IsElsewhere a (root a) → h ≡ root a) → KeepsBefore profile a h n → r ≡ SameName → ¬ IsElsewhere a (root a)
+name_tried profile a h r n e only k s = alone a h only (k.keeps Twice (lit≤ tt, lit< tt) (let f : number r ≡ 12 = ap number s in omega arith))

@@ -3,6 +3,7 @@
 ghost use Rattle.std.specs.Prelude.{◌≡◌, ◌+◌, ◌<◌, ◌↔◌, ◌^◌, ◌++◌, IsTrue, IfOk};
 ghost use Rattle.romfs_format.specs.Fields.{root, IsInside};
 ghost use Rattle.romfs_format.specs.Rules.{BreaksHeader};
+ghost use Rattle.romfs_format.specs.declared.rule.Profile.TheVariants.{Usual};
 ghost use Rattle.romfs_rules.specs.Marks.{IsVolumeImage};
 ghost use Rattle.romfs_rules.specs.Judge.{KeepsAllHeaderRules};
 ghost use Rattle.romfs_rules.specs.Outside.{IsLeast};
@@ -94,7 +95,7 @@ pub(crate) fn find_deep<A: Allocator + Copy>(
 ) -> Result<Option<u32>, AllocError>
     requires volume { IsVolumeImage image.now }
     requires top { top ≡ root image.now }
-    requires keeps { KeepsAllHeaderRules image.now }
+    requires keeps { KeepsAllHeaderRules Usual image.now }
     ensures { IfOk result (λ deep. IsLeast (BreaksHeader image.now Rule.Deep) deep) }
 {
     let mut marks = vec![in alloc; false; image.len() / 16]?;

@@ -3,4 +3,4 @@ use Rattle.romfs_rules.specs.Judge.{KeepsBelow}
 use Rattle.romfs_rules.proofs.judge.fault_inside.Given as goal
 
 abbrev pub invariant-loop-slot : goal.invariant-loop-slot
-invariant-loop-slot g l = KeepsBelow l.image (l.slot * 16)
+invariant-loop-slot g l = KeepsBelow l.profile l.image (l.slot * 16)
