@@ -7,18 +7,16 @@ use Rattle.romfs_format.specs.declared.head.End.{End}
 use Rattle.romfs_format.specs.declared.head.End.TheVariants.{AtDirectory, AtOther, Nowhere}
 use Rattle.romfs_format.specs.declared.rule.Rule.{Rule}
 use Rattle.romfs_format.specs.declared.rule.Profile.{Profile}
-use Rattle.romfs_format.specs.declared.rule.Rule.TheVariants.{DataOutside, Twice, SameName}
+use Rattle.romfs_format.specs.declared.rule.Rule.TheVariants.{NameBad, DataOutside, Twice, SameName}
 use Rattle.romfs_rules.specs.declared.judge.TheConstants.{HEADER_RULES}
-use Rattle.romfs_format.specs.Fields.{root, name, size, data_at}
+use Rattle.romfs_format.specs.Fields.{root, IsInside, name, size, data_at}
 use Rattle.romfs_format.specs.Chains.{IsSomeMember}
 use Rattle.romfs_format.specs.Links.{IsHardLink, IsDirectory, IsFinal, stays, follows, EndsAs}
 use Rattle.romfs_format.specs.Rules.{IsRootElsewhere, IsUsed, HasData, BreaksHeader, number}
 use Rattle.romfs_rules.specs.Marks.{AreMarks, IsElsewhere}
-use Rattle.romfs_rules.specs.Leads.{IsInSomeChain}
 use Rattle.romfs_rules.specs.Judge.{HasSlot, IsHeaderRule, KeepsBefore}
 use Rattle.romfs_rules.specs.Namesakes.{AreNamesakes}
 use Rattle.romfs_rules.proofs.Slots.{marked}
-use Rattle.romfs_rules.proofs.Standing.{some_member}
 
 -- what a test that fails says
 pub fails : {P : Type 0} {b : Bool} → IsTrue b ↔ P → b ≡ false → ¬ P
@@ -43,9 +41,6 @@ root_elsewhere a h e = (
   λ x. (e, (x.dir, x.other, record { opened = x.opened; in_chain = x.in_chain })),
   λ x. let s = x.1 in record { dir = s.0; other = s.1; opened = s.2.opened; in_chain = s.2.in_chain },
 )
-
-pub member_in_chain : (a : List ℕ) (h : ℕ) → IsSomeMember a h → IsInSomeChain a h
-member_in_chain a h m = elim ((some_member a h).0 m).0 [ inl x ↦ inl x.0 | inr x ↦ inr x ]
 
 -- a chain of hard links has one end
 one_final : (a : List ℕ) {h e f : ℕ} → IsFinal a h e → IsFinal a h f → e ≡ f
@@ -73,6 +68,12 @@ data_says a h n b e l t = (
   λ y. let x = t.0 y in (x.0, x.1, subst (λ o. IsSomeAnd o (λ m. length a < data_at h m + size a h)) e l),
   λ x. t.1 (x.0, x.1),
 )
+
+pub bad_says : (a : List ℕ) (h : ℕ) (n : List ℕ) (b : Bool) → IsInside a h → Some n ≡ name a h → (n ≡ []) ⊎ Contains n 47 → IsTrue b ↔ IsSomeMember a h → IsTrue b ↔ BreaksHeader a NameBad h
+bad_says a h n b i e l t = (λ y. (t.0 y, i, subst (λ o. IsSomeAnd o (λ m. (m ≡ []) ⊎ Contains m 47)) e l), λ x. t.1 x.0)
+
+pub bad_not : (a : List ℕ) (h : ℕ) (n : List ℕ) (b : Bool) → Some n ≡ name a h → b ≡ false → IsTrue b ↔ ((n ≡ []) ⊎ Contains n 47) → IsTrue b ↔ BreaksHeader a NameBad h
+bad_not a h n b e f t = (λ y. absurd (false≢true (sym f ∙ y)), λ x. t.1 (subst (λ o. IsSomeAnd o (λ m. (m ≡ []) ⊎ Contains m 47)) (sym e) x.2))
 
 -- equal names are known of a header that no two links name
 pub alone : (a : List ℕ) (h : ℕ) → (IsElsewhere a (root a) → h ≡ root a) → ¬ BreaksHeader a Twice h → ¬ IsElsewhere a (root a)

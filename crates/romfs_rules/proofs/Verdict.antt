@@ -1,21 +1,25 @@
 -- Which breach of the rules is named first.
-use Rattle.std.proofs.Common.{◌≡◌, ◌≢◌, ◌∙◌, sym, subst, ℕ, ◌+◌, ◌*◌, ◌/◌, ◌<◌, ◌≤◌, ◌↔◌, ◌⊎◌, inl, inr, List, length, Option, Some, None, refl, arith, lit<, lit≤}
+use Rattle.std.proofs.Common.{◌≡◌, ◌∙◌, sym, subst, ℕ, ◌+◌, ◌*◌, ◌/◌, ◌<◌, ◌≤◌, ◌↔◌, ◌⊎◌, inl, inr, List, length, Bool, true, false, get_or, Option, Some, None, refl, arith, lit<, lit≤}
 use Rattle.std.proofs.lemmas.Bool.{cases_order, cases_lt}
 use Rattle.romfs_format.specs.declared.rule.Rule.{Rule}
 use Rattle.romfs_format.specs.declared.rule.Rule.TheVariants.{Short, Magic, FullSize, Sum, VolumeName, NoRoot, Outside, NameOpen, NameBad, DataOutside, TargetLong, Twice, SameName, LinkLoop, LinkDirectory, MajorLarge, HeaderSum, Deep}
 use Rattle.romfs_format.specs.Fields.{root, image, IsInside, cleared}
 use Rattle.romfs_format.specs.Chains.{IsSomeMember}
-use Rattle.romfs_format.specs.Links.{IsReached}
+use Rattle.romfs_format.specs.Links.{IsTarget, IsReached}
 use Rattle.romfs_format.specs.declared.rule.Profile.{Profile}
 use Rattle.romfs_format.specs.declared.rule.Profile.TheVariants.{Usual, Strict}
 use Rattle.romfs_format.specs.Rules.{IsVolume, BreaksHeader, BreaksHeaderAs, BreaksAs, IsUsed, number, stage, IsNamedBefore, IsFaultAs, IsSoundAs}
 use Rattle.romfs_format.proofs.Faults.{one_rule}
-use Rattle.romfs_rules.specs.Marks.{IsVolumeImage, IsElsewhere}
+use Rattle.romfs_rules.specs.Marks.{IsVolumeImage, AreMarks, IsElsewhere}
+use Rattle.romfs_rules.specs.Leads.{IsInSomeChain}
+use Rattle.romfs_rules.specs.SlotSets.{IsClear}
+use Rattle.romfs_rules.proofs.Unions.{over_to, outside_set}
+use Rattle.romfs_format.specs.declared.rule.ImageFault.{ImageFault}
 use Rattle.romfs_rules.specs.Outside.{IsLeast, IsBelow, IsAbove}
 use Rattle.romfs_rules.specs.Judge.{HasSlot, IsHeaderRule, KeepsBefore, KeepsHeaderRules, IsFirstRule, KeepsBelow, IsFirstInside, KeepsAllHeaderRules, IsFirstBreach}
 use Rattle.romfs_rules.proofs.Slots.{cleared_root, cleared_in_chain, inside_root, cleared_destination, slot_inside}
-use Rattle.romfs_rules.proofs.Standing.{reached}
-use Rattle.romfs_rules.proofs.Judging.{member_in_chain, root_elsewhere}
+use Rattle.romfs_rules.proofs.Standing.{reached, member_in_chain}
+use Rattle.romfs_rules.proofs.Judging.{root_elsewhere}
 
 -- a fact of every rule, by its part in the order
 by_part : (Q : Rule → Type 0) → ((r : Rule) → number r < 6 → Q r) → ((r : Rule) → IsHeaderRule r → Q r) → Q Deep → (r : Rule) → Q r
@@ -161,7 +165,7 @@ module _ (profile : Profile) (a : List ℕ) (v : IsVolumeImage a) where
   pub slot_at : (slot : ℕ) → root a / 16 ≤ slot → slot < length a / 16 → HasSlot a (slot * 16)
   slot_at slot l m = record { inside = slot_inside a slot l m; aligned = omega arith }
 
-  root_slot : HasSlot a (root a)
+  pub root_slot : HasSlot a (root a)
   root_slot = record { inside = inside_root a v; aligned = cleared_root a }
 
   -- where the root's header stands elsewhere the scan ends there
@@ -172,9 +176,6 @@ module _ (profile : Profile) (a : List ℕ) (v : IsVolumeImage a) where
     | inr (inr m) ↦ absurd ((k.keeps (root a) root_slot m).keeps Twice (lit≤ tt, lit< tt) (inr ((root_elsewhere a (root a) refl).0 e)))
   ]
 
-  pub scan_none : (slot : ℕ) → slot ≡ root a / 16 → KeepsBelow profile a (slot * 16)
-  scan_none slot e = record { keeps = λ h s l. let c = cleared_root a in let i = s.inside.0 in absurd (omega arith) }
-
   pub scan_more : (slot : ℕ) → KeepsBelow profile a (slot * 16) → KeepsHeaderRules profile a (slot * 16) → KeepsBelow profile a ((slot + 1) * 16)
   scan_more slot k h = record {
     keeps = λ g s l. elim (cases_order g (slot * 16)) [
@@ -183,6 +184,39 @@ module _ (profile : Profile) (a : List ℕ) (v : IsVolumeImage a) where
       | inr (inr m) ↦ (let c = s.aligned in absurd (omega arith))
     ];
   }
+
+  -- over slots, behind the root's, whose headers are not reached
+  pub scanned_to : (headers targets : List Bool) → AreMarks a (IsInSomeChain a) headers → AreMarks a (IsTarget a) targets → (low high : ℕ) → root a < low * 16 → low ≤ high → high ≤ length a / 16 → IsClear headers low high → IsClear targets low high → KeepsBelow profile a (low * 16) → KeepsBelow profile a (high * 16)
+  scanned_to headers targets m t low high r l h c d k = over_to (λ n. KeepsBelow profile a (n * 16)) low high l k (λ n o p x. scan_more n x (unreached profile a (n * 16) (λ y.
+      let i = slot_inside a n (omega arith) (omega arith) in
+      elim ((reached a (n * 16)).0 y) [
+        | inl e ↦ omega arith
+        | inr (inl z) ↦ outside_set a (IsInSomeChain a) headers m low high c n o p i (inl z)
+        | inr (inr (inl z)) ↦ outside_set a (IsInSomeChain a) headers m low high c n o p i (inr z)
+        | inr (inr (inr z)) ↦ outside_set a (IsTarget a) targets t low high d n o p i z
+      ])))
+
+  -- a slot of either set
+  pub slot_reached : (headers targets : List Bool) → AreMarks a (IsInSomeChain a) headers → AreMarks a (IsTarget a) targets → (slot : ℕ) → (get_or headers slot false ≡ true) ⊎ (get_or targets slot false ≡ true) → HasSlot a (slot * 16) × IsReached a (slot * 16)
+  slot_reached headers targets m t slot (inl x) = let y = m.each slot x in (record { inside = y.1; aligned = omega arith }, elim y.0 [ inl z ↦ (reached a (slot * 16)).1 (inr (inl z)) | inr z ↦ (reached a (slot * 16)).1 (inr (inr (inl z))) ])
+  slot_reached headers targets m t slot (inr x) = let y = t.each slot x in (record { inside = y.1; aligned = omega arith }, inr (inr y.0))
+
+  pub none_below : KeepsBelow profile a (root a)
+  none_below = record { keeps = λ h s l. let i = s.inside.0 in absurd (omega arith) }
+
+  -- the first fault is at the root, or further up
+  pub at_root : (f : ImageFault) (top : ℕ) → top ≡ root a → (f.place ≡ top) × IsFirstRule profile a top f.rule → IsFirstInside profile a f.rule f.place
+  at_root f top t (e, r) = subst (IsFirstInside profile a f.rule) (sym (e ∙ t)) (record { slot = root_slot; rule = subst (λ h. IsFirstRule profile a h f.rule) t r; below = none_below })
+
+  pub at_slot : (f : ImageFault) (h : ℕ) → HasSlot a h → KeepsBelow profile a h → (f.place ≡ h) × IsFirstRule profile a h f.rule → IsFirstInside profile a f.rule f.place
+  at_slot f h s k (e, r) = subst (IsFirstInside profile a f.rule) (sym e) (record { slot = s; rule = r; below = k })
+
+  pub root_kept : (slot top : ℕ) → top ≡ root a → slot ≡ top / 16 + 1 → KeepsHeaderRules profile a top → KeepsBelow profile a (slot * 16)
+  root_kept slot top t e k =
+      let c = cleared_root a in
+      let q : root a / 16 * 16 ≡ root a = c in
+      let r : (root a / 16 + 1) * 16 ≡ slot * 16 = omega arith in
+      subst (KeepsBelow profile a) r (scan_more (root a / 16) (subst (KeepsBelow profile a) (sym q) none_below) (subst (KeepsHeaderRules profile a) (t ∙ sym q) k))
 
   pub scan_all : (slot : ℕ) → length a / 16 ≤ slot → KeepsBelow profile a (slot * 16) → KeepsBelow profile a (length a)
   scan_all slot m k = record { keeps = λ h s l. k.keeps h s (let c = s.aligned in let i = s.inside.1 in omega arith) }

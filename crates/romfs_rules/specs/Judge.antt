@@ -8,15 +8,15 @@ use Rattle.romfs_format.specs.declared.rule.ImageFault.{ImageFault}
 use Rattle.romfs_format.specs.Fields.{root, IsInside, cleared}
 use Rattle.romfs_format.specs.Links.{IsTarget}
 use Rattle.romfs_format.specs.Rules.{BreaksHeader, BreaksHeaderAs, number, IsNamedBefore, IsLinkedTwice}
-use Rattle.romfs_rules.specs.Marks.{AreMarks, IsInRootChain, IsElsewhere}
+use Rattle.romfs_rules.specs.Marks.{AreMarks, IsElsewhere}
+use Rattle.romfs_rules.specs.InChains.{AreChains}
 use Rattle.romfs_rules.specs.Ends.{AreEnds}
 use Rattle.romfs_rules.specs.Outside.{IsLeast}
 use Rattle.romfs_rules.specs.Namesakes.{AreNamesakes}
 
 -- the sets are what their names say; equal names are known where the root stands in no chain but its own
 pub record AreSets {A : Type 0} (a : List ℕ) (sets : Sets A) : Type 0 where
-  pub root_chain : AreMarks a (IsInRootChain a) sets.root_chain.now
-  pub elsewhere : AreMarks a (IsElsewhere a) sets.elsewhere.now
+  pub chains : AreChains a sets.chains.now
   pub targets : AreMarks a (IsTarget a) sets.targets.now
   pub twice : AreMarks a (IsLinkedTwice a) sets.twice.now
   pub namesakes : ¬ IsElsewhere a (root a) → AreNamesakes a sets.namesakes.now

@@ -3,12 +3,13 @@
 ghost use Rattle.std.specs.Prelude.{◌≡◌, ℕ, List, IfOk};
 ghost use Rattle.romfs_format.specs.Fields.{root, image};
 ghost use Rattle.romfs_format.specs.Rules.{IsVolume};
-ghost use Rattle.romfs_rules.specs.Marks.{IsVolumeImage, AreMarks, IsInRootChain, IsElsewhere};
+ghost use Rattle.romfs_rules.specs.Marks.{IsVolumeImage, IsElsewhere};
+ghost use Rattle.romfs_rules.specs.InChains.{AreChains};
 ghost use Rattle.romfs_rules.specs.Namesakes.{AreNamesakes};
 ghost use Rattle.romfs_rules.specs.Judge.{IsHeaderFault};
 ghost use Rattle.romfs_format.specs.Rules.{IsFaultOfAs};
 
-use crate::chains::{mark_elsewhere, mark_root_chain};
+use crate::chains::{Chains, find_chains};
 use crate::depth::find_deep;
 use crate::ends::find_ends;
 use crate::judge::{Sets, fault_of, header_fault};
@@ -27,19 +28,17 @@ fn namesakes_below<A: Allocator + Copy>(
     alloc: A,
     bytes: &[u8],
     top: usize,
-    root_chain: &[bool],
-    elsewhere: &[bool],
+    chains: &Chains<A>,
 ) -> Result<Vec<u32, A>, AllocError>
     requires volume { IsVolumeImage bytes.now }
     requires top { top ≡ root bytes.now }
-    requires root_chain { AreMarks bytes.now (IsInRootChain bytes.now) root_chain.now }
-    requires elsewhere { AreMarks bytes.now (IsElsewhere bytes.now) elsewhere.now }
+    requires chains { AreChains bytes.now chains.now }
     ensures { IfOk result (λ found. ¬ IsElsewhere bytes.now (root bytes.now) → AreNamesakes bytes.now found.items) }
 {
-    if elsewhere[top / 16] {
+    if chains.root_elsewhere {
         Ok(Vec::new(alloc))
     } else {
-        find_namesakes(alloc, bytes, top, root_chain, elsewhere)
+        find_namesakes(alloc, bytes, top, chains)
     }
 }
 
@@ -54,16 +53,14 @@ fn header_fault_in<A: Allocator + Copy>(
     requires top { top ≡ root bytes.now }
     ensures { IfOk result (IsHeaderFault profile bytes.now) }
 {
-    let root_chain = mark_root_chain(alloc, bytes, top)?;
-    let elsewhere = mark_elsewhere(alloc, bytes, top, &root_chain)?;
-    let namesakes = namesakes_below(alloc, bytes, top, &root_chain, &elsewhere)?;
-    let targets = mark_targets(alloc, bytes, top, &root_chain, &elsewhere)?;
-    let twice = mark_twice(alloc, bytes, top, &root_chain, &elsewhere)?;
-    let ends = find_ends(alloc, bytes, top, &root_chain, &elsewhere)?;
-    let outside = find_outside(bytes, top, &root_chain, &elsewhere, &targets);
+    let chains = find_chains(alloc, bytes, top)?;
+    let namesakes = namesakes_below(alloc, bytes, top, &chains)?;
+    let ends = find_ends(alloc, bytes, top, &chains)?;
+    let targets = mark_targets(alloc, bytes, top, &chains)?;
+    let twice = mark_twice(alloc, bytes, top, &chains)?;
+    let outside = find_outside(bytes, top, &chains, &targets);
     let sets = Sets {
-        root_chain: &root_chain,
-        elsewhere: &elsewhere,
+        chains: &chains,
         targets: &targets,
         twice: &twice,
         namesakes: &namesakes,

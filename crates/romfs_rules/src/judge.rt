@@ -11,45 +11,32 @@ ghost use Rattle.romfs_rules.specs.Outside.{IsLeast, IsBelow, IsAbove};
 ghost use Rattle.romfs_rules.specs.Judge.{AreSets, HasSlot, IsHeaderRule, KeepsHeaderRules, IsFirstRule, KeepsBelow, IsFirstInside, IsHeaderFault, IsDeepFault};
 ghost use Rattle.romfs_format.specs.Rules.{IsFaultOfAs};
 
+use crate::chains::Chains;
 use crate::ends::Ends;
-use crate::member::{is_in_chain, is_marked, is_some_member};
+use crate::member::{is_in_chain, is_some_member};
 use crate::outside::Outside;
+use crate::reached::next_reached;
 use crate::slot::is_hard_link;
+use crate::slot_set::SlotSet;
 use romfs_format::head::{End, Kind};
 use romfs_format::read::{header_bytes, kind_of, text_at, word, word_sum};
 use romfs_format::rule::{ImageFault, Profile, Rule};
 use std::alloc::Allocator;
 
-/// The sets of headers that the rules are judged by: marks by slot, and a rising list.
+/// The sets of headers that the rules are judged by: sets of slots, and a rising list.
 #[derive(Drop)]
 pub(crate) struct Sets<'s, A: Allocator> {
-    /// The headers in the root's chain.
-    pub(crate) root_chain: &'s [bool],
-    /// Those in the chains of other directories.
-    pub(crate) elsewhere: &'s [bool],
+    /// The headers in chains.
+    pub(crate) chains: &'s Chains<A>,
     /// Those that the hard links of members lead over.
-    pub(crate) targets: &'s [bool],
+    pub(crate) targets: &'s SlotSet<A>,
     /// Those that two links name.
-    pub(crate) twice: &'s [bool],
+    pub(crate) twice: &'s SlotSet<A>,
     /// Those whose name a member of the same directory has at a lower place. It may be empty
     /// where the root's header stands in the chain of another directory.
     pub(crate) namesakes: &'s [u32],
     /// Where the hard links in chains end.
     pub(crate) ends: &'s Ends<A>,
-}
-
-/// Whether a header is reached.
-fn is_reached<A: Allocator>(image: &[u8], top: usize, sets: &Sets<A>, at: usize) -> bool
-    requires volume { IsVolumeImage image.now }
-    requires top { top ≡ root image.now }
-    requires sets { AreSets image.now sets.now }
-    requires slot { HasSlot image.now at }
-    ensures { IsTrue result ↔ IsReached image.now at }
-{
-    if at == top || is_marked(sets.targets, at) {
-        return true;
-    }
-    is_in_chain(image, at, sets.root_chain, sets.elsewhere)
 }
 
 /// Whether a header is a member, or a member's hard links lead over it.
@@ -60,7 +47,7 @@ fn is_used<A: Allocator>(image: &[u8], top: usize, sets: &Sets<A>, at: usize) ->
     requires slot { HasSlot image.now at }
     ensures { IsTrue result ↔ IsUsed image.now at }
 {
-    is_marked(sets.targets, at) || is_some_member(image, top, at, sets.root_chain, sets.elsewhere)
+    sets.targets.contains(at / 16) || is_some_member(image, top, at, sets.chains)
 }
 
 /// Whether a name is empty or holds `/`.
@@ -134,9 +121,7 @@ fn breaks_name_bad<A: Allocator>(image: &[u8], top: usize, sets: &Sets<A>, at: u
 {
     match text_at(image, at + 16) {
         None => false,
-        Some(name) => {
-            is_bad_name(name) && is_some_member(image, top, at, sets.root_chain, sets.elsewhere)
-        }
+        Some(name) => { is_bad_name(name) && is_some_member(image, top, at, sets.chains) }
     }
 }
 
@@ -184,7 +169,7 @@ fn breaks_twice<A: Allocator>(image: &[u8], top: usize, sets: &Sets<A>, at: usiz
     requires slot { HasSlot image.now at }
     ensures { IsTrue result ↔ BreaksHeader image.now Rule.Twice at }
 {
-    is_marked(sets.twice, at) || at == top && is_marked(sets.elsewhere, at)
+    sets.twice.contains(at / 16) || at == top && sets.chains.root_elsewhere
 }
 
 /// Whether a header is among headers in rising order.
@@ -211,9 +196,7 @@ fn member_ends_as<A: Allocator>(
     ensures { IsTrue result ↔ (IsSomeMember image.now at × IsHardLink image.now at
         × EndsAs image.now at end) }
 {
-    if is_hard_link(image, top, at)
-        && is_some_member(image, top, at, sets.root_chain, sets.elsewhere)
-    {
+    if is_hard_link(image, top, at) && is_some_member(image, top, at, sets.chains) {
         sets.ends.at(at) == end
     } else {
         false
@@ -354,27 +337,29 @@ fn rule_at<A: Allocator>(
     None
 }
 
-/// The first rule of file headers that the header in a slot breaks, if it is reached.
-fn rule_in<A: Allocator>(
+/// The first rule that a reached header breaks, with its place.
+fn fault_at<A: Allocator>(
     image: &[u8],
     top: usize,
     profile: Profile,
     sets: &Sets<A>,
-    slot: usize,
-) -> Option<Rule>
+    at: usize,
+) -> Option<ImageFault>
     requires volume { IsVolumeImage image.now }
     requires top { top ≡ root image.now }
     requires sets { AreSets image.now sets.now }
-    requires slot { HasSlot image.now (slot * 16) }
-    requires root_once { IsElsewhere image.now (root image.now) → slot * 16 ≡ root image.now }
-    ensures { MatchOption result (KeepsHeaderRules profile image.now (slot * 16))
-        (IsFirstRule profile image.now (slot * 16)) }
+    requires slot { HasSlot image.now at }
+    requires reached { IsReached image.now at }
+    requires root_once { IsElsewhere image.now (root image.now) → at ≡ root image.now }
+    ensures { MatchOption result (KeepsHeaderRules profile image.now at)
+        (λ f. (f.place ≡ at) × IsFirstRule profile image.now at f.rule) }
 {
-    let at = slot * 16;
-    if is_reached(image, top, sets, at) {
-        rule_at(image, top, profile, sets, at)
-    } else {
-        None
+    match rule_at(image, top, profile, sets, at) {
+        Some(rule) => Some(ImageFault {
+            rule,
+            place: at as u32,
+        }),
+        None => None,
     }
 }
 
@@ -392,11 +377,15 @@ fn fault_inside<A: Allocator>(
     ensures { MatchOption result (KeepsBelow profile image.now (length image.now))
         (λ f. IsFirstInside profile image.now f.rule f.place) }
 {
-    for slot in top / 16..image.len() / 16 {
-        if let Some(rule) = rule_in(image, top, profile, sets, slot) {
-            let place = (slot * 16) as u32;
-            return Some(ImageFault { rule, place });
+    if let Some(fault) = fault_at(image, top, profile, sets, top) {
+        return Some(fault);
+    }
+    let mut from = top / 16 + 1;
+    while let Some(slot) = next_reached(sets.chains, sets.targets, from) {
+        if let Some(fault) = fault_at(image, top, profile, sets, slot * 16) {
+            return Some(fault);
         }
+        from = slot + 1;
     }
     None
 }

@@ -24,3 +24,9 @@ returns-in-SameName g c = rw c.in-SameName.is (listed_says c.args.image.now c.ar
 
 pub returns-in-MajorLarge : goal.returns-in-MajorLarge
 returns-in-MajorLarge g c = rw c.in-MajorLarge.is c.breaks_major_large.ensures
+
+pub returns-in-LinkLoop : goal.returns-in-LinkLoop
+returns-in-LinkLoop g c = rw c.in-LinkLoop.is c.breaks_link_loop.ensures
+
+pub returns-in-LinkDirectory : goal.returns-in-LinkDirectory
+returns-in-LinkDirectory g c = rw c.in-LinkDirectory.is c.breaks_link_directory.ensures

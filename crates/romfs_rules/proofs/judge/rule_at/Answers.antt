@@ -1,7 +1,6 @@
 use Rattle.romfs_rules.proofs.Judging.{fails, header_tried, tried_number, name_tried}
-use Rattle.romfs_rules.proofs.Verdict.{none_tried, one_tried, first_broken, all_tried}
-use Rattle.std.proofs.Common.{◌≡◌, ◌+◌, ◌≤◌, ◌<◌, arith, subst, lit<, lit≤}
-use Rattle.romfs_format.specs.Rules.{number}
+use Rattle.romfs_rules.proofs.Verdict.{none_tried, one_tried, first_broken}
+use Rattle.std.proofs.Common.{◌≡◌, ◌+◌, arith, subst}
 use Rattle.romfs_rules.specs.Judge.{KeepsBefore}
 use Rattle.romfs_rules.proofs.judge.rule_at.Goals as goal
 
