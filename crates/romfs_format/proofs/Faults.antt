@@ -2,11 +2,13 @@
 use Rattle.std.proofs.Common.{◌≡◌, ◌∙◌, sym, ap, ℕ, inl, inr, List, [], ◌∷◌, get_or, refl}
 use Rattle.std.proofs.lemmas.Bool.{cases_order}
 use Rattle.romfs_format.specs.declared.rule.Rule.{Rule}
-use Rattle.romfs_format.specs.declared.rule.Rule.TheVariants.{Short, Magic, FullSize, Sum, VolumeName, NoRoot, Outside, NameOpen, NameBad, DataOutside, TargetLong, Twice, SameName, LinkLoop, LinkDirectory, MajorLarge, Deep}
-use Rattle.romfs_format.specs.Rules.{number, stage, IsFault, IsSound}
+use Rattle.romfs_format.specs.declared.rule.Rule.TheVariants.{Short, Magic, FullSize, Sum, VolumeName, NoRoot, Outside, NameOpen, NameBad, DataOutside, TargetLong, Twice, SameName, LinkLoop, LinkDirectory, MajorLarge, HeaderSum, Deep}
+use Rattle.romfs_format.specs.declared.rule.Profile.{Profile}
+use Rattle.romfs_format.specs.declared.rule.Profile.TheVariants.{Usual, Strict}
+use Rattle.romfs_format.specs.Rules.{number, stage, Breaks, BreaksAs, IsFaultAs, IsSoundAs}
 
 rules : List Rule
-rules = Short ∷ Magic ∷ FullSize ∷ Sum ∷ VolumeName ∷ NoRoot ∷ Outside ∷ NameOpen ∷ NameBad ∷ DataOutside ∷ TargetLong ∷ Twice ∷ SameName ∷ LinkLoop ∷ LinkDirectory ∷ MajorLarge ∷ Deep ∷ []
+rules = Short ∷ Magic ∷ FullSize ∷ Sum ∷ VolumeName ∷ NoRoot ∷ Outside ∷ NameOpen ∷ NameBad ∷ DataOutside ∷ TargetLong ∷ Twice ∷ SameName ∷ LinkLoop ∷ LinkDirectory ∷ MajorLarge ∷ HeaderSum ∷ Deep ∷ []
 
 numbered : (r : Rule) → get_or rules (number r) Short ≡ r
 unfolding rules
@@ -26,13 +28,15 @@ numbered SameName = refl
 numbered LinkLoop = refl
 numbered LinkDirectory = refl
 numbered MajorLarge = refl
+numbered HeaderSum = refl
 numbered Deep = refl
 
-one_rule : (r s : Rule) → number r ≡ number s → r ≡ s
+-- rules with one number are one rule
+pub one_rule : (r s : Rule) → number r ≡ number s → r ≡ s
 one_rule r s e = sym (numbered r) ∙ ap (λ n. get_or rules n Short) e ∙ numbered s
 
-pub one_fault : (b : List ℕ) (r s : Rule) (p q : ℕ) → IsFault b r p → IsFault b s q → (r ≡ s) × (p ≡ q)
-one_fault b r s p q x y =
+pub one_fault : (profile : Profile) (b : List ℕ) (r s : Rule) (p q : ℕ) → IsFaultAs profile b r p → IsFaultAs profile b s q → (r ≡ s) × (p ≡ q)
+one_fault profile b r s p q x y =
     elim (cases_order (stage r) (stage s)) [
       | inr (inl h) ↦ absurd (y.first r p x.broken (inl h))
       | inr (inr h) ↦ absurd (x.first s q y.broken (inl h))
@@ -47,5 +51,34 @@ one_fault b r s p q x y =
       ]
     ]
 
-pub no_fault : (b : List ℕ) (r : Rule) (p : ℕ) → IsSound b → ¬ IsFault b r p
-no_fault b r p s f = s.keeps r p f.broken
+pub no_fault : (profile : Profile) (b : List ℕ) (r : Rule) (p : ℕ) → IsSoundAs profile b → ¬ IsFaultAs profile b r p
+no_fault profile b r p s f = s.keeps r p f.broken
+
+-- what breaks a rule of the usual profile breaks it under the strict one
+strict_breaks : (b : List ℕ) (r : Rule) (p : ℕ) → Breaks b r p → BreaksAs Strict b r p
+strict_breaks b Short p x = x
+strict_breaks b Magic p x = x
+strict_breaks b FullSize p x = x
+strict_breaks b Sum p x = x
+strict_breaks b VolumeName p x = x
+strict_breaks b NoRoot p x = x
+strict_breaks b Outside p x = x
+strict_breaks b NameOpen p x = x
+strict_breaks b NameBad p x = x
+strict_breaks b DataOutside p x = x
+strict_breaks b TargetLong p x = x
+strict_breaks b Twice p x = x
+strict_breaks b SameName p x = x
+strict_breaks b LinkLoop p x = x
+strict_breaks b LinkDirectory p x = x
+strict_breaks b MajorLarge p x = x
+strict_breaks b HeaderSum p x = absurd x
+strict_breaks b Deep p x = x
+
+pub strict_sound : (b : List ℕ) → IsSoundAs Strict b → IsSoundAs Usual b
+strict_sound b s = record { keeps = λ r p x. s.keeps r p (strict_breaks b r p x) }
+
+-- what is sound under some profile is sound
+pub profile_sound : (profile : Profile) (b : List ℕ) → IsSoundAs profile b → IsSoundAs Usual b
+profile_sound Usual b s = s
+profile_sound Strict b s = strict_sound b s

@@ -100,3 +100,7 @@ name a h = text_at a (h + 16)
 -- where the data begins of a header with this name
 abbrev pub data_at : ℕ → List ℕ → ℕ
 data_at h text = text_end (h + 16) text
+
+-- the header with this name, up to where the padding ends
+unfoldable pub header_bytes : List ℕ → ℕ → List ℕ → List ℕ
+header_bytes a h text = take (16 + pad (length text + 1)) (drop h a)

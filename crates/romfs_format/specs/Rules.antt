@@ -4,8 +4,10 @@ use Rattle.romfs_format.specs.declared.head.Kind.TheVariants.{Directory, Regular
 use Rattle.romfs_format.specs.declared.head.End.TheVariants.{AtDirectory, Nowhere}
 use Rattle.romfs_format.specs.declared.rule.Rule.{Rule}
 use Rattle.romfs_format.specs.declared.rule.ImageFault.{ImageFault}
-use Rattle.romfs_format.specs.declared.rule.Rule.TheVariants.{Short, Magic, FullSize, Sum, VolumeName, NoRoot, Outside, NameOpen, NameBad, DataOutside, TargetLong, Twice, SameName, LinkLoop, LinkDirectory, MajorLarge, Deep}
-use Rattle.romfs_format.specs.Fields.{word, image, summed, text_at, word_sum, root, IsInside, kind, spec, size, name, data_at}
+use Rattle.romfs_format.specs.declared.rule.Profile.{Profile}
+use Rattle.romfs_format.specs.declared.rule.Profile.TheVariants.{Usual, Strict}
+use Rattle.romfs_format.specs.declared.rule.Rule.TheVariants.{Short, Magic, FullSize, Sum, VolumeName, NoRoot, Outside, NameOpen, NameBad, DataOutside, TargetLong, Twice, SameName, LinkLoop, LinkDirectory, MajorLarge, HeaderSum, Deep}
+use Rattle.romfs_format.specs.Fields.{word, image, summed, text_at, word_sum, root, IsInside, kind, spec, size, name, data_at, header_bytes}
 use Rattle.romfs_format.specs.Chains.{Stands, IsMember, IsSomeMember, Has}
 use Rattle.romfs_format.specs.Links.{Field, IsLink, IsHardLink, EndsAs, IsTarget, IsReached}
 
@@ -42,30 +44,44 @@ IsRootElsewhere a h = (h ≡ root a) × ((d : ℕ) × (d ≢ root a) × Stands a
 abbrev pub IsNamesake : List ℕ → ℕ → ℕ → Type 0
 IsNamesake a g h = (g < h) × ((d : ℕ) × IsMember a d g × IsMember a d h) × IsNamed a g × IsNamed a h × (name a g ≡ name a h)
 
--- the image with the accessible bytes a breaks the rule at the header h
-abbrev pub BreaksHeader : List ℕ → Rule → ℕ → Type 0
-BreaksHeader a Outside h = IsReached a h × ¬ IsInside a h
-BreaksHeader a NameOpen h = IsReached a h × IsInside a h × (h ≢ root a) × IsNone (name a h)
-BreaksHeader a NameBad h = IsSomeMember a h × IsInside a h × IsSomeAnd (name a h) (λ n. (n ≡ []) ⊎ Contains n 47)
-BreaksHeader a DataOutside h = IsUsed a h × HasData a h × IsSomeAnd (name a h) (λ n. length a < data_at h n + size a h)
-BreaksHeader a TargetLong h = IsUsed a h × (kind a h ≡ SymLink) × (4095 < size a h)
-BreaksHeader a Twice h = IsLinkedTwice a h ⊎ IsRootElsewhere a h
-BreaksHeader a SameName h = (g : ℕ) × IsNamesake a g h
-BreaksHeader a LinkLoop h = IsSomeMember a h × IsHardLink a h × EndsAs a h Nowhere
-BreaksHeader a LinkDirectory h = IsSomeMember a h × IsHardLink a h × EndsAs a h AtDirectory
-BreaksHeader a MajorLarge h = IsUsed a h × IsDevice a h × (4095 < spec a h / 2 ^ 16)
-BreaksHeader a Deep h = (path : List (List ℕ)) × Has a path h × (512 < length path)
-BreaksHeader a _ h = ⊥
+-- the words of the header at h, of its name and of the padding do not sum to 0; a name that is not ended stands for
+-- no sum, and of such headers only the root's is asked for one
+abbrev pub HasBadSum : List ℕ → ℕ → Type 0
+HasBadSum a h = MatchOption (name a h) (h ≡ root a) (λ n. word_sum (header_bytes a h n) % 2 ^ 32 ≢ 0)
 
--- the bytes b break the rule at the place p
+-- the image with the accessible bytes a breaks the rule of the profile at the header h
+abbrev pub BreaksHeaderAs : Profile → List ℕ → Rule → ℕ → Type 0
+BreaksHeaderAs profile a Outside h = IsReached a h × ¬ IsInside a h
+BreaksHeaderAs profile a NameOpen h = IsReached a h × IsInside a h × (h ≢ root a) × IsNone (name a h)
+BreaksHeaderAs profile a NameBad h = IsSomeMember a h × IsInside a h × IsSomeAnd (name a h) (λ n. (n ≡ []) ⊎ Contains n 47)
+BreaksHeaderAs profile a DataOutside h = IsUsed a h × HasData a h × IsSomeAnd (name a h) (λ n. length a < data_at h n + size a h)
+BreaksHeaderAs profile a TargetLong h = IsUsed a h × (kind a h ≡ SymLink) × (4095 < size a h)
+BreaksHeaderAs profile a Twice h = IsLinkedTwice a h ⊎ IsRootElsewhere a h
+BreaksHeaderAs profile a SameName h = (g : ℕ) × IsNamesake a g h
+BreaksHeaderAs profile a LinkLoop h = IsSomeMember a h × IsHardLink a h × EndsAs a h Nowhere
+BreaksHeaderAs profile a LinkDirectory h = IsSomeMember a h × IsHardLink a h × EndsAs a h AtDirectory
+BreaksHeaderAs profile a MajorLarge h = IsUsed a h × IsDevice a h × (4095 < spec a h / 2 ^ 16)
+BreaksHeaderAs Strict a HeaderSum h = IsReached a h × IsInside a h × HasBadSum a h
+BreaksHeaderAs Usual a HeaderSum h = ⊥
+BreaksHeaderAs profile a Deep h = (path : List (List ℕ)) × Has a path h × (512 < length path)
+BreaksHeaderAs profile a _ h = ⊥
+
+-- the bytes b break the rule of the profile at the place p
+abbrev pub BreaksAs : Profile → List ℕ → Rule → ℕ → Type 0
+BreaksAs profile b Short p = (length b < 16) × (p ≡ 0)
+BreaksAs profile b Magic p = (¬ StartsWith b magic) × (p ≡ 0)
+BreaksAs profile b FullSize p = ((length b < word b 8) ⊎ (word b 8 < 16)) × (p ≡ 8)
+BreaksAs profile b Sum p = (word_sum (summed (image b)) % 2 ^ 32 ≢ 0) × (p ≡ 12)
+BreaksAs profile b VolumeName p = IsNone (text_at (image b) 16) × (p ≡ 16)
+BreaksAs profile b NoRoot p = let a = image b in ((length a < root a + 16) ⊎ (kind a (root a) ≢ Directory)) × (p ≡ root a)
+BreaksAs profile b r p = BreaksHeaderAs profile (image b) r p
+
+-- the same under the usual profile
+abbrev pub BreaksHeader : List ℕ → Rule → ℕ → Type 0
+BreaksHeader a r h = BreaksHeaderAs Usual a r h
+
 abbrev pub Breaks : List ℕ → Rule → ℕ → Type 0
-Breaks b Short p = (length b < 16) × (p ≡ 0)
-Breaks b Magic p = (¬ StartsWith b magic) × (p ≡ 0)
-Breaks b FullSize p = ((length b < word b 8) ⊎ (word b 8 < 16)) × (p ≡ 8)
-Breaks b Sum p = (word_sum (summed (image b)) % 2 ^ 32 ≢ 0) × (p ≡ 12)
-Breaks b VolumeName p = IsNone (text_at (image b) 16) × (p ≡ 16)
-Breaks b NoRoot p = let a = image b in ((length a < root a + 16) ⊎ (kind a (root a) ≢ Directory)) × (p ≡ root a)
-Breaks b r p = BreaksHeader (image b) r p
+Breaks b r p = BreaksAs Usual b r p
 
 -- the rules in order
 abbrev pub number : Rule → ℕ
@@ -85,30 +101,41 @@ number SameName = 12
 number LinkLoop = 13
 number LinkDirectory = 14
 number MajorLarge = 15
-number Deep = 16
+number HeaderSum = 16
+number Deep = 17
 
 -- the rules of the volume header one by one, then all rules of file headers together, then the depth
 abbrev pub stage : Rule → ℕ
-stage r = if nat_lt (number r) 6 then number r else (if nat_lt (number r) 16 then 6 else 7)
+stage r = if nat_lt (number r) 6 then number r else (if nat_lt (number r) 17 then 6 else 7)
 
 -- breaking r at p is named before breaking s at q: by stage, then by place, then by number
 abbrev pub IsNamedBefore : Rule → ℕ → Rule → ℕ → Type 0
 IsNamedBefore r p s q =
     (stage r < stage s) ⊎ ((stage r ≡ stage s) × ((p < q) ⊎ ((p ≡ q) × (number r < number s))))
 
--- the image breaks r at p, and nothing that is named before it
-pub record IsFault (b : List ℕ) (r : Rule) (p : ℕ) : Type 0 where
-  pub broken : Breaks b r p
-  pub first : (s : Rule) (q : ℕ) → Breaks b s q → ¬ IsNamedBefore s q r p
+-- the image breaks r at p, and nothing that is named before it, under the profile
+pub record IsFaultAs (profile : Profile) (b : List ℕ) (r : Rule) (p : ℕ) : Type 0 where
+  pub broken : BreaksAs profile b r p
+  pub first : (s : Rule) (q : ℕ) → BreaksAs profile b s q → ¬ IsNamedBefore s q r p
 
--- no rule of the volume header is broken: they are the first six
+-- no rule of the volume header is broken: they are the first six, and of every profile
 pub record IsVolume (b : List ℕ) : Type 0 where
   pub keeps : (r : Rule) (p : ℕ) → number r < 6 → ¬ Breaks b r p
 
--- no rule is broken
-pub record IsSound (b : List ℕ) : Type 0 where
-  pub keeps : (r : Rule) (p : ℕ) → ¬ Breaks b r p
+-- no rule of the profile is broken
+pub record IsSoundAs (profile : Profile) (b : List ℕ) : Type 0 where
+  pub keeps : (r : Rule) (p : ℕ) → ¬ BreaksAs profile b r p
 
--- the fault of b; none where it is sound
+-- the fault of b under the profile; none where it is sound
+abbrev pub IsFaultOfAs : Profile → List ℕ → Option ImageFault → Type 0
+IsFaultOfAs profile b fault = MatchOption fault (IsSoundAs profile b) (λ f. IsFaultAs profile b f.rule f.place)
+
+-- the same under the usual profile
+abbrev pub IsFault : List ℕ → Rule → ℕ → Type 0
+IsFault b r p = IsFaultAs Usual b r p
+
+abbrev pub IsSound : List ℕ → Type 0
+IsSound b = IsSoundAs Usual b
+
 abbrev pub IsFaultOf : List ℕ → Option ImageFault → Type 0
-IsFaultOf b fault = MatchOption fault (IsSound b) (λ f. IsFault b f.rule f.place)
+IsFaultOf b fault = IsFaultOfAs Usual b fault

@@ -1,7 +1,7 @@
 -- The rules in words, as they are printed.
 use Rattle.std.specs.Prelude.{ℕ, List, codes}
 use Rattle.romfs_format.specs.declared.rule.Rule.{Rule}
-use Rattle.romfs_format.specs.declared.rule.Rule.TheVariants.{Short, Magic, FullSize, Sum, VolumeName, NoRoot, Outside, NameOpen, NameBad, DataOutside, TargetLong, Twice, SameName, LinkLoop, LinkDirectory, MajorLarge, Deep}
+use Rattle.romfs_format.specs.declared.rule.Rule.TheVariants.{Short, Magic, FullSize, Sum, VolumeName, NoRoot, Outside, NameOpen, NameBad, DataOutside, TargetLong, Twice, SameName, LinkLoop, LinkDirectory, MajorLarge, HeaderSum, Deep}
 
 -- what is wrong with an image that breaks the rule
 abbrev pub text_of : Rule → List ℕ
@@ -21,4 +21,5 @@ text_of SameName = codes "name twice"
 text_of LinkLoop = codes "link loop"
 text_of LinkDirectory = codes "link to directory"
 text_of MajorLarge = codes "major too large"
+text_of HeaderSum = codes "bad header sum"
 text_of Deep = codes "too deep"

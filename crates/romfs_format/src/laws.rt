@@ -3,16 +3,26 @@
 ghost use Rattle.std.specs.Prelude.{◌≡◌, ◌≤◌, ℕ, List};
 ghost use Rattle.romfs_format.specs.declared.head.Kind.TheVariants.{SymLink};
 ghost use Rattle.romfs_format.specs.declared.rule.Rule.{Rule};
+ghost use Rattle.romfs_format.specs.declared.rule.Profile.{Profile};
+ghost use Rattle.romfs_format.specs.declared.rule.Profile.TheVariants.{Strict};
 ghost use Rattle.romfs_format.specs.Fields.{image, kind, size};
 ghost use Rattle.romfs_format.specs.Chains.{Has};
 ghost use Rattle.romfs_format.specs.Links.{IsFinal};
-ghost use Rattle.romfs_format.specs.Rules.{IsFault, IsSound};
+ghost use Rattle.romfs_format.specs.Rules.{IsFaultAs, IsSoundAs, IsSound};
 
-/// An image has at most one fault, and a sound one has none.
+/// Under a profile an image has at most one fault, and a sound one has none.
 #[tactic(auto, using(crate::proofs::Faults::one_fault, crate::proofs::Faults::no_fault))]
 pub fn one_fault()
-    ensures once { (b : List ℕ) (r s : Rule) (p q : ℕ) → IsFault b r p → IsFault b s q → (r ≡ s) × (p ≡ q) }
-    ensures none { (b : List ℕ) (r : Rule) (p : ℕ) → IsSound b → ¬ IsFault b r p }
+    ensures once { (profile : Profile) (b : List ℕ) (r s : Rule) (p q : ℕ) →
+        IsFaultAs profile b r p → IsFaultAs profile b s q → (r ≡ s) × (p ≡ q) }
+    ensures none { (profile : Profile) (b : List ℕ) (r : Rule) (p : ℕ) →
+        IsSoundAs profile b → ¬ IsFaultAs profile b r p }
+{}
+
+/// What is sound under the strict profile is sound.
+#[tactic(auto, using(crate::proofs::Faults::strict_sound))]
+pub fn strict_is_sound()
+    ensures { (b : List ℕ) → IsSoundAs Strict b → IsSound b }
 {}
 
 /// A symbolic link of a sound image that a path leads to, after hard links, has a target of at most 4,095 bytes.

@@ -15,4 +15,4 @@ pub mod read;
 pub mod rule;
 
 pub use head::{End, Head, Kind};
-pub use rule::{ImageFault, Rule};
+pub use rule::{ImageFault, Profile, Rule};

@@ -2,7 +2,7 @@
 
 ghost use Rattle.std.specs.Prelude.{◌≡◌, ◌+◌, ◌<◌, ◌≤◌, ◌%◌, ◌^◌, IfSome, length};
 ghost use Rattle.std.specs.Option.{option_map};
-ghost use Rattle.romfs_format.specs.Fields.{root, word, text_end, kind_of, text_at, name_field, ended, word_sum};
+ghost use Rattle.romfs_format.specs.Fields.{root, word, text_end, kind_of, text_at, name_field, ended, word_sum, data_at, header_bytes};
 ghost use Rattle.romfs_format.specs.Heads.{head_of};
 
 use crate::head::{Head, Kind};
@@ -69,6 +69,17 @@ pub fn text_at(image: &[u8], at: usize) -> Option<&[u8]>
             if end <= image.len() { Some(text) } else { None }
         }
     }
+}
+
+/// A header with its name, up to where the padding of the name ends.
+#[tactic(auto, unfolding(crate::specs::Fields::header_bytes))]
+pub fn header_bytes<'a>(image: &'a [u8], at: usize, name: &[u8]) -> &'a [u8]
+    requires within { data_at at name.now ≤ length image.now }
+    requires small { length image.now < 2 ^ 32 }
+    ensures { result.now ≡ header_bytes image.now at name.now }
+{
+    let rest = &image[at..];
+    &rest[..16 + (name.len() + 1 + 15) / 16 * 16]
 }
 
 /// The sum of the whole words of some bytes.

@@ -39,8 +39,19 @@ pub enum Rule {
     LinkDirectory,
     /// A device's major number is at most 4,095.
     MajorLarge,
+    /// The words of a header that is reached, with its name and padding, sum to 0. The strict
+    /// profile alone asks it.
+    HeaderSum,
     /// A path has at most 512 names.
     Deep,
+}
+
+/// Which rules an image has to keep: all of them, or all but [`Rule::HeaderSum`].
+#[derive(Clone, Copy, Debug, PartialEq, Eq)]
+pub enum Profile {
+    /// Header sums are not looked at, as Linux does.
+    Usual,
+    Strict,
 }
 
 /// The rule that an image breaks, and where.
@@ -75,6 +86,7 @@ impl fmt::Display for Rule {
             Rule::LinkLoop => write!(f, "link loop"),
             Rule::LinkDirectory => write!(f, "link to directory"),
             Rule::MajorLarge => write!(f, "major too large"),
+            Rule::HeaderSum => write!(f, "bad header sum"),
             Rule::Deep => write!(f, "too deep"),
         }
     }

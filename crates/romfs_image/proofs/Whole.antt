@@ -4,7 +4,7 @@ use Rattle.std.proofs.lemmas.List.{take_all, length-take-le, get_or-drop, get_or
 use Rattle.std.proofs.lemmas.Bool.{cases_lt}
 use Rattle.std.proofs.Math.Seq.{take-append-add}
 use Rattle.romfs_format.specs.declared.rule.Rule.{Rule}
-use Rattle.romfs_format.specs.declared.rule.Rule.TheVariants.{Short, Magic, FullSize, Sum, VolumeName, NoRoot, Outside, NameOpen, NameBad, DataOutside, TargetLong, Twice, SameName, LinkLoop, LinkDirectory, MajorLarge, Deep}
+use Rattle.romfs_format.specs.declared.rule.Rule.TheVariants.{Short, Magic, FullSize, Sum, VolumeName, NoRoot, Outside, NameOpen, NameBad, DataOutside, TargetLong, Twice, SameName, LinkLoop, LinkDirectory, MajorLarge, HeaderSum, Deep}
 use Rattle.std.specs.Prelude.{IsNone}
 use Rattle.romfs_format.specs.declared.head.Kind.TheVariants.{Directory}
 use Rattle.romfs_format.specs.Fields.{word, image, root, word_sum, summed, text_at, kind}
@@ -68,6 +68,7 @@ module _ (b : List ℕ) (v : IsVolume b) (long : 16 ≤ word b 8) (within : word
     kept_all LinkLoop p = header_kept LinkLoop p (sound.keeps LinkLoop p)
     kept_all LinkDirectory p = header_kept LinkDirectory p (sound.keeps LinkDirectory p)
     kept_all MajorLarge p = header_kept MajorLarge p (sound.keeps MajorLarge p)
+    kept_all HeaderSum p = λ x. x
     kept_all Deep p = header_kept Deep p (sound.keeps Deep p)
 
     pub is_image : word b 8 < 2 ^ 32 → IsImage (image b)

@@ -2,9 +2,15 @@
 use Rattle.std.specs.Prelude.{ℕ, List}
 use Rattle.romfs_image.specs.declared.refusal.CheckFault.{CheckFault}
 use Rattle.romfs_image.specs.declared.refusal.CheckFault.TheVariants.{Broken, Memory}
-use Rattle.romfs_format.specs.Rules.{IsFault}
+use Rattle.romfs_format.specs.declared.rule.Profile.{Profile}
+use Rattle.romfs_format.specs.declared.rule.Profile.TheVariants.{Usual}
+use Rattle.romfs_format.specs.Rules.{IsFaultAs}
 
--- the image has this fault; or memory ran out
+-- the image has this fault under the profile; or memory ran out
+abbrev pub IsRefusalAs : Profile → List ℕ → CheckFault → Type 0
+IsRefusalAs profile b (Broken fault) = IsFaultAs profile b fault.rule fault.place
+IsRefusalAs profile b Memory = Unit {0}
+
+-- the same under the usual profile
 abbrev pub IsRefusal : List ℕ → CheckFault → Type 0
-IsRefusal b (Broken fault) = IsFault b fault.rule fault.place
-IsRefusal b Memory = Unit {0}
+IsRefusal b fault = IsRefusalAs Usual b fault

@@ -3,17 +3,17 @@
 ghost use Rattle.std.specs.Prelude.{◌≡◌, ◌≢◌, ◌⊎◌, [], ◌+◌, ◌<◌, ◌≤◌, ◌^◌, length, Some, MatchOption, IsNone, IfOk, IfErr, All};
 ghost use Rattle.romfs_format.specs.Fields.{image, root, name, word};
 ghost use Rattle.romfs_format.specs.Links.{IsFinal};
-ghost use Rattle.romfs_format.specs.Rules.{IsSound};
+ghost use Rattle.romfs_format.specs.Rules.{IsSound, IsSoundAs};
 ghost use Rattle.romfs_image.specs.Images.{IsImage};
 ghost use Rattle.romfs_format.specs.Heads.{name_of, head_of};
 ghost use Rattle.romfs_image.specs.Readers.{data_of, IsPlace, IsGiven, AreMembers};
-ghost use Rattle.romfs_image.specs.Refusals.{IsRefusal};
+ghost use Rattle.romfs_image.specs.Refusals.{IsRefusal, IsRefusalAs};
 
 use crate::members::Members;
 use crate::parts::{data_in, end_of, members_of, name_in, place_at};
 use crate::refusal::CheckFault;
 use romfs_format::read::{head_at, root_of, word};
-use romfs_format::{Head, Kind};
+use romfs_format::{Head, Kind, Profile};
 use romfs_rules::first_fault;
 use std::alloc::Allocator;
 use std::marker::Model;
@@ -56,8 +56,8 @@ fn accessible<A: Allocator>(mut bytes: Vec<u8, A>) -> Vec<u8, A>
 }
 
 impl<A: Allocator + Copy> Image<A> {
-    /// Checks that bytes are an image, and keeps the accessible ones: as many as the full size says
-    /// (romfs.rst, the volume header). Bytes after them are not looked at.
+    /// Checks that bytes are an image by the usual profile, and keeps the accessible ones: as many as
+    /// the full size says (romfs.rst, the volume header). Bytes after them are not looked at.
     ///
     /// `Broken` names the image's fault: the first broken rule of the volume header; else, of all broken
     /// rules of file headers, that at the least place, and there the first; else a path that is too deep.
@@ -70,7 +70,18 @@ impl<A: Allocator + Copy> Image<A> {
         ensures ok { IfOk result (λ checked. (checked ≡ image bytes.items) × IsSound bytes.items) }
         ensures err { IfErr result (λ fault. IsRefusal bytes.items fault) }
     {
-        match first_fault(alloc, &bytes)? {
+        Image::check_as(alloc, bytes, Profile::Usual)
+    }
+
+    /// Checks that bytes are an image as `check` does, by the rules of a profile: the strict one also
+    /// asks that the words of each header, its name and the padding sum to 0 (romfs.rst, "checksum").
+    /// It costs one more pass over headers and names.
+    #[tactic(auto, using(romfs_format::proofs::Faults::profile_sound))]
+    pub fn check_as(alloc: A, bytes: Vec<u8, A>, profile: Profile) -> Result<Image<A>, CheckFault>
+        ensures ok { IfOk result (λ checked. (checked ≡ image bytes.items) × IsSoundAs profile bytes.items) }
+        ensures err { IfErr result (λ fault. IsRefusalAs profile bytes.items fault) }
+    {
+        match first_fault(alloc, &bytes, profile)? {
             Some(fault) => Err(CheckFault::Broken(fault)),
             None => Ok(kept(bytes)),
         }

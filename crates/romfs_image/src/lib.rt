@@ -1,7 +1,7 @@
 //! romfs images: whether bytes are one, and what is read from it.
 //!
 //! - [`Image::check`] keeps the accessible bytes of an image that breaks no rule, and else names the rule that is
-//!   broken first, and where. It answers for every list of bytes.
+//!   broken first, and where. It answers for every list of bytes. [`Image::check_as`] takes the strict profile too.
 //! - [`Image`] gives headers, and for these the members of a directory, where hard links end, names and data. No
 //!   reader takes memory, and names and data are borrowed from the image.
 //! - [`sample`] makes images for tests and examples.
@@ -33,4 +33,4 @@ pub mod sample;
 pub use image::Image;
 pub use members::Members;
 pub use refusal::CheckFault;
-pub use romfs_format::{Head, ImageFault, Kind, Rule};
+pub use romfs_format::{Head, ImageFault, Kind, Profile, Rule};

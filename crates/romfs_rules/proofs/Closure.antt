@@ -7,6 +7,8 @@ use Rattle.std.proofs.lemmas.List.{length-set, length-replicate}
 use Rattle.std.proofs.lemmas.Bool.{cases_eq}
 use Rattle.romfs_format.specs.Fields.{root, IsInside, cleared}
 use Rattle.romfs_format.specs.Chains.{IsFirst, IsNext, IsAt, IsInChain, IsOpened, at_root, below}
+use Rattle.romfs_rules.specs.SlotSets.{IsClear}
+use Rattle.romfs_rules.proofs.Unions.{over_to}
 use Rattle.romfs_rules.specs.Marks.{IsMarked, AreMarks, IsInRootChain, IsElsewhere, Opens}
 use Rattle.romfs_rules.specs.Leads.{IsTheOne, LeadsOn, on, down, IsSeed, AreSeeds, Adds}
 use Rattle.romfs_rules.proofs.Lists.{none_in, one_in, has_one}
@@ -203,6 +205,10 @@ module _ (a : List ℕ) (root_chain : List Bool) (r : AreMarks a (IsInRootChain 
         | inr e ↦ Contains-append_left todo (option_to_list w) g (s.all k g (omega arith) q z o f)
       ];
     })
+
+  -- over slots that are not in the set
+  pub passed_to : (low high : ℕ) (todo : List ℕ) → low ≤ high → IsClear root_chain low high → Seeded a root_chain low todo → Seeded a root_chain high todo
+  passed_to low high todo l c s = over_to (λ k. Seeded a root_chain k todo) low high l s (λ k m n x. passed k todo x (c.each k m n))
 
   pub all_seeded : (n : ℕ) (todo : List ℕ) → length root_chain ≤ n → Seeded a root_chain n todo → AreSeeds a todo
   all_seeded n todo l s = record { each = s.each; all = λ g d. seed g d }

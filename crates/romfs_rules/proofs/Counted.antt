@@ -1,13 +1,17 @@
 -- Counting links, as lists.
-use Rattle.std.proofs.Common.{◌≡◌, ◌≢◌, ◌∙◌, sym, ap, subst, ℕ, ◌+◌, ◌*◌, ◌/◌, ◌<◌, ◌⊎◌, inl, inr, List, length, get_or, replicate, Bool, true, false, Option, refl, arith}
+use Rattle.std.proofs.Common.{◌≡◌, ◌≢◌, ◌∙◌, sym, ap, subst, ℕ, ◌+◌, ◌*◌, ◌/◌, ◌<◌, ◌≤◌, ◌⊎◌, inl, inr, List, length, get_or, replicate, Bool, true, false, Option, refl, arith}
 use Rattle.std.proofs.lemmas.List.{length-replicate}
-use Rattle.std.proofs.lemmas.Bool.{cases_eq, true≢false}
+use Rattle.std.proofs.lemmas.Bool.{cases_eq, cases_lt, true≢false}
 use Rattle.romfs_format.specs.Fields.{root, IsInside, spec, cleared}
 use Rattle.romfs_format.specs.Links.{Field, first_of, next_of, IsLink}
 use Rattle.romfs_format.specs.Rules.{IsLinkedTwice}
 use Rattle.romfs_rules.specs.Marks.{IsVolumeImage, IsMarked, AreMarks}
 use Rattle.romfs_rules.specs.Leads.{IsTheOne}
 use Rattle.romfs_rules.specs.Twice.{IsSlotOf, Counts, CountsBoth}
+use Rattle.romfs_rules.specs.SlotSets.{IsClear}
+use Rattle.romfs_rules.specs.Leads.{IsInSomeChain}
+use Rattle.romfs_rules.proofs.Unions.{over_to, outside_set}
+use Rattle.romfs_rules.proofs.Standing.{opened, in_some_chain}
 use Rattle.romfs_rules.proofs.Slots.{twice_cleared, cleared_root, cleared_in_chain, inside_opened, cleared_opened}
 use Rattle.romfs_rules.proofs.MarkLists.{no_marks}
 
@@ -146,6 +150,27 @@ module _ (a : List ℕ) where
       no_first_yet : (h : ℕ) → ¬ With (Below slot) (next_of (slot * 16)) (first_of (slot * 16)) h
       no_first_yet h (inl x) = no_less (slot * 16) x.1
       no_first_yet h (inr x) = first_next (slot * 16) (slot * 16) x.0
+
+  place_chained : (f : Field) (h : ℕ) → IsLink a f h → (place_of f ≡ root a) ⊎ IsInSomeChain a (place_of f)
+  place_chained (first_of d) h l = elim ((opened a d).0 l.0) [ inl e ↦ inl e | inr x ↦ inr x.0 ]
+  place_chained (next_of g) h l = inr (in_some_chain a l.0 g l.1.opened l.1.in_chain)
+
+  -- over slots, behind the root's, whose headers are in no chain
+  pub skipped_to : IsVolumeImage a → (headers : List Bool) → AreMarks a (IsInSomeChain a) headers → (low high : ℕ) (once twice : List Bool) → root a < low * 16 → low ≤ high → IsClear headers low high → Tallied (Below low) once twice → Tallied (Below high) once twice
+  skipped_to v headers m low high once twice r l c t = over_to (λ k. Tallied (Below k) once twice) low high l t (λ k n o x. same_tally (Below k) (Below (k + 1)) once twice
+      (λ f h y. (y.0, (let z = y.1 in omega arith)))
+      (λ f h y. (
+        y.0,
+        elim (cases_lt (place_of f) (k * 16)) [
+          | inl z ↦ z
+          | inr z ↦ (
+              let e : place_of f ≡ k * 16 = (let p = cleared_place f h y.0 in let q = y.1 in omega arith) in
+              absurd (elim (place_chained f h y.0) [
+                | inl q ↦ (let d : k * 16 ≡ root a = sym e ∙ q in omega arith)
+                | inr q ↦ outside_set a (IsInSomeChain a) headers m low high c k n o (subst (λ i. IsInside a i) e (inside_place v f h y.0)) (subst (λ i. IsInSomeChain a i) e q)
+              ]))
+        ],
+      )) x)
 
   pub all_twice : IsVolumeImage a → (once twice : List Bool) → Tallied (Below (length a / 16)) once twice → AreMarks a (IsLinkedTwice a) twice
   all_twice v once twice t = record {

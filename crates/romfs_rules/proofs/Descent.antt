@@ -12,6 +12,7 @@ use Rattle.romfs_format.specs.Chains.{IsFirst, IsNext, IsAt, IsOpened, at_root, 
 use Rattle.romfs_format.specs.Rules.{BreaksHeader}
 use Rattle.romfs_rules.specs.Marks.{IsMarked, Opens}
 use Rattle.romfs_rules.specs.Leads.{IsTheOne, Adds}
+use Rattle.romfs_format.specs.declared.rule.Profile.TheVariants.{Usual}
 use Rattle.romfs_rules.specs.Judge.{KeepsAllHeaderRules}
 use Rattle.romfs_rules.specs.Outside.{IsLeast}
 use Rattle.romfs_rules.specs.Depth.{Notes, waiting, LeadsDown, on, down}
@@ -106,7 +107,7 @@ there_is : (P : ℕ → Type 0) (o : Option ℕ) → IsSomeAnd o P → (g : ℕ)
 there_is P None x = absurd x
 there_is P (Some g) x = (g, refl, x)
 
-module _ (a : List ℕ) (keeps : KeepsAllHeaderRules a) where
+module _ (a : List ℕ) (keeps : KeepsAllHeaderRules Usual a) where
   -- what stands where w leads
   below_too : (w v : Waiting) → StandsBelow a w.names w.header → LeadsDown a w v → StandsBelow a v.names v.header
   below_too w v s (on {h = h} {g = g} {n = n} i) = record { dir = s.dir; below = s.below; opened = s.opened; in_chain = (suc s.in_chain.0, (h, s.in_chain.1, i)) }

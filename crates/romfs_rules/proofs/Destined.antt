@@ -1,5 +1,5 @@
 -- The walk over destination chains, as lists.
-use Rattle.std.proofs.Common.{◌≡◌, ◌∙◌, sym, subst, ℕ, ◌+◌, ◌*◌, ◌/◌, ◌^◌, ◌<◌, ◌⊎◌, inl, inr, List, length, get_or, set, Bool, true, false, arith}
+use Rattle.std.proofs.Common.{◌≡◌, ◌∙◌, sym, subst, ℕ, ◌+◌, ◌*◌, ◌/◌, ◌^◌, ◌<◌, ◌≤◌, ◌⊎◌, inl, inr, List, length, get_or, set, Bool, true, false, arith}
 use Rattle.std.proofs.lemmas.List.{length-set}
 use Rattle.std.proofs.lemmas.Bool.{cases_eq}
 use Rattle.romfs_format.specs.Fields.{IsInside, spec}
@@ -7,6 +7,10 @@ use Rattle.romfs_format.specs.Chains.{IsSomeMember}
 use Rattle.romfs_format.specs.Links.{IsHardLink, destination, IsDestination, here, there, IsTarget}
 use Rattle.romfs_rules.specs.Marks.{IsMarked, AreMarks}
 use Rattle.romfs_rules.specs.Targets.{IsFollowed, IsClosed, FollowsLink}
+use Rattle.romfs_rules.specs.SlotSets.{IsClear}
+use Rattle.romfs_rules.specs.Leads.{IsInSomeChain}
+use Rattle.romfs_rules.proofs.Unions.{over_to, outside_set}
+use Rattle.romfs_rules.proofs.Standing.{member_in_chain}
 use Rattle.romfs_rules.proofs.Slots.{twice_cleared, cleared_in_chain}
 use Rattle.romfs_rules.proofs.MarkLists.{unmarked, marks_fall, newly_set, still_set, was_set}
 
@@ -92,9 +96,9 @@ module _ (a : List ℕ) where
   lifted old new from h f (inr n) = inr n
 
   -- a slot with such a member, and one without
-  pub passes : (slot : ℕ) (old new : List Bool) → length new ≡ length old → IsSomeMember a (slot * 16) → FollowsLink a (slot * 16) old new → IsClosed a new → Reaches slot old → Reaches (slot + 1) new
-  passes slot old new s m f c r = record {
-    sized = s ∙ r.sized;
+  pub passes : (slot : ℕ) (old new : List Bool) → IsSomeMember a (slot * 16) → FollowsLink a (slot * 16) old new → IsClosed a new → Reaches slot old → Reaches (slot + 1) new
+  passes slot old new m f c r = record {
+    sized = f.sized ∙ r.sized;
     each = λ k x. elim (f.only k x) [ inl o ↦ r.each k o | inr d ↦ ((m.0, slot * 16, m.1, d.0), d.1) ];
     closed = c;
     below = λ k l h n. elim (cases_eq k slot) [
@@ -113,6 +117,10 @@ module _ (a : List ℕ) where
       | inr d ↦ r.below k (omega arith) h n
     ];
   }
+
+  -- over slots whose headers are in no chain
+  pub skipped_to : (headers : List Bool) → AreMarks a (IsInSomeChain a) headers → (low high : ℕ) (marks : List Bool) → low ≤ high → IsClear headers low high → Reaches low marks → Reaches high marks
+  skipped_to headers m low high marks l c r = over_to (λ k. Reaches k marks) low high l r (λ k n o x. skips k marks (λ y. outside_set a (IsInSomeChain a) headers m low high c k n o y.0.0 (member_in_chain a (k * 16) y.1)) x)
 
   pub all_targets : (marks : List Bool) → Reaches (length a / 16) marks → AreMarks a (IsTarget a) marks
   all_targets marks r = record { sized = r.sized; each = r.each; all = all }

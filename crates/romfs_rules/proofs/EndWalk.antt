@@ -1,15 +1,17 @@
 -- The walk along a chain of hard links, as lists.
-use Rattle.std.proofs.Common.{◌≡◌, ◌≢◌, ◌∙◌, sym, ap, subst, ℕ, zero, suc, ◌+◌, ◌-◌, ◌*◌, ◌/◌, ◌<◌, ◌≤◌, ◌^◌, ◌⊎◌, inl, inr, List, [], ◌∷◌, ◌++◌, length, get_or, set, Bool, false, refl, arith, length-append}
+use Rattle.std.proofs.Common.{◌≡◌, ◌≢◌, ◌∙◌, sym, ap, subst, ℕ, zero, suc, ◌+◌, ◌-◌, ◌*◌, ◌/◌, ◌<◌, ◌≤◌, ◌^◌, ◌⊎◌, inl, inr, List, [], ◌∷◌, ◌++◌, length, get_or, set, Bool, refl, arith, length-append}
 use Rattle.std.specs.List.{sum_by}
 use Rattle.std.proofs.lemmas.List.Sums.{sum_by-set}
 use Rattle.std.proofs.lemmas.List.{get_or-set_same, get_or-set_other, length-set, get_or_at, get_or_append_left, get_or_default}
-use Rattle.std.proofs.lemmas.Bool.{cases_eq, cases_order, false≢true}
+use Rattle.std.proofs.lemmas.Bool.{cases_eq, cases_order}
 use Rattle.romfs_format.specs.declared.head.End.{End}
 use Rattle.romfs_format.specs.declared.head.End.TheVariants.{AtDirectory, AtOther, Nowhere}
-use Rattle.romfs_format.specs.Fields.{IsInside, spec, cleared}
+use Rattle.romfs_format.specs.Fields.{spec, cleared}
 use Rattle.romfs_format.specs.Links.{IsHardLink, IsFinal, stays, follows, EndsAs}
-use Rattle.romfs_rules.specs.Marks.{AreMarks, IsInRootChain, IsElsewhere}
+use Rattle.romfs_rules.specs.Marks.{AreMarks}
 use Rattle.romfs_rules.specs.Leads.{IsInSomeChain}
+use Rattle.romfs_rules.specs.SlotSets.{IsClear}
+use Rattle.romfs_rules.proofs.Unions.{over_to, outside_set}
 use Rattle.romfs_rules.specs.Ends.{HasEnds, AreEnds, KnowsEnd, Passes, IsLeft}
 use Rattle.romfs_rules.proofs.Slots.{twice_cleared, cleared_in_some_chain}
 
@@ -191,8 +193,8 @@ module _ (a walks : List ℕ) (ends : List End) (slot : ℕ) (f : Found a walks 
     few = (let l = length-append ends (r ∷ []) in let w = f.few in omega arith);
     known = h;
     passed = λ k l x. elim (cases_eq k slot) [
-      | inl q ↦ (let z : get_or more k 0 ≢ 0 = rw (q, ← slot_of slot) p.passed in z x.2)
-      | inr q ↦ p.kept k (λ e. f.passed k (omega arith) (x.0, x.1, e)) x.2
+      | inl q ↦ (let z : get_or more k 0 ≢ 0 = rw (q, ← slot_of slot) p.passed in z x.1.1)
+      | inr q ↦ p.kept k (λ e. f.passed k (omega arith) (x.0, (x.1.0, e))) x.1.1
     ];
   }
 
@@ -211,13 +213,12 @@ module _ (a walks : List ℕ) (ends : List End) (slot : ℕ) (f : Found a walks 
   found_all all = record {
     sized = f.sized;
     known = f.known;
-    all = λ h c x e. f.passed (h / 16) (let i = x.0.1 in omega arith) (rw (cleared_in_some_chain a h c) (c, x, e));
+    all = λ h c x e. f.passed (h / 16) (let i = x.0.1 in omega arith) (rw (cleared_in_some_chain a h c) (c, (x, e)));
   }
 
--- a slot without marks is in no chain
-pub unchained : (a : List ℕ) (root_chain elsewhere : List Bool) (slot : ℕ) → AreMarks a (IsInRootChain a) root_chain → AreMarks a (IsElsewhere a) elsewhere → get_or root_chain slot false ≡ false → get_or elsewhere slot false ≡ false → (h : ℕ) → h ≡ slot * 16 → IsInside a h → ¬ IsInSomeChain a h
-unchained a root_chain elsewhere slot r e x y h is i (inl c) = false≢true (sym x ∙ (rw (is, slot_of slot) at (r.all h c i)))
-unchained a root_chain elsewhere slot r e x y h is i (inr c) = false≢true (sym y ∙ (rw (is, slot_of slot) at (e.all h c i)))
+-- over slots whose headers are in no chain
+pub found_to : (a walks : List ℕ) (ends : List End) (headers : List Bool) → AreMarks a (IsInSomeChain a) headers → (low high : ℕ) → low ≤ high → IsClear headers low high → Found a walks ends low → Found a walks ends high
+found_to a walks ends headers m low high l c f = over_to (λ k. Found a walks ends k) low high l f (λ k n o x. found_same a walks ends k x (λ y. outside_set a (IsInSomeChain a) headers m low high c k n o y.1.0.0 y.0))
 
 -- the number of a walk says where its chain ends
 module _ (a walks : List ℕ) (ends : List End) (at : ℕ) (k : KnowsEnd a walks ends at) where

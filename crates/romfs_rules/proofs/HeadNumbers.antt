@@ -4,7 +4,7 @@ use Rattle.std.proofs.lemmas.List.{get_or_at, get_or_append_left, get_or_default
 use Rattle.std.proofs.lemmas.List.Elements.{Contains-append_left, Contains-append_right, Contains-append_cases}
 use Rattle.std.proofs.lemmas.Bool.{cases_order, false≢true}
 use Rattle.romfs_rules.proofs.Lists.{one_in}
-use Rattle.romfs_rules.specs.Namesakes.{IsEither, AreCollected, IsNextNumber, AreNextNumbers, AreChosen}
+use Rattle.romfs_rules.specs.Namesakes.{AreCollected, IsNextNumber, AreNextNumbers, AreChosen}
 
 -- a place of a list with one more at the end
 places : (xs : List ℕ) (x k : ℕ) → k < length (xs ++ x ∷ []) → ((k < length xs) × (get_or (xs ++ x ∷ []) k 0 ≡ get_or xs k 0)) ⊎ ((k ≡ length xs) × (get_or (xs ++ x ∷ []) k 0 ≡ x))
@@ -17,8 +17,8 @@ places xs x k l = let s = length_push xs x in elim (cases_order k (length xs)) [
 last : (xs : List ℕ) (x : ℕ) → get_or (xs ++ x ∷ []) (length xs) 0 ≡ x
 last xs x = get_or_at xs x [] 0 (length xs) refl
 
-module _ (chain other : List Bool) where
-  pub collects_none : AreCollected chain other 0 [] []
+module _ (set : List Bool) where
+  pub collects_none : AreCollected set 0 [] []
   collects_none = record {
     sized = refl;
     few = omega arith;
@@ -27,8 +27,8 @@ module _ (chain other : List Bool) where
     place = λ k l m. absurd (omega arith);
   }
 
-  module _ (slot : ℕ) (heads numbers : List ℕ) (w : AreCollected chain other slot heads numbers) where
-    pub collects_plain : ¬ IsEither chain other slot → AreCollected chain other (slot + 1) heads (numbers ++ length heads ∷ [])
+  module _ (slot : ℕ) (heads numbers : List ℕ) (w : AreCollected set slot heads numbers) where
+    pub collects_plain : get_or set slot false ≡ false → AreCollected set (slot + 1) heads (numbers ++ length heads ∷ [])
     collects_plain n =
         let f = w.few in
         record {
@@ -37,13 +37,13 @@ module _ (chain other : List Bool) where
           rising = w.rising;
           each = λ i l. (let r = w.each i l in let k = r.1 in (r.0, (let z = k in omega arith), r.2, r.3));
           place = λ k l m. elim (cases_order k slot) [
-            | inl e ↦ absurd (n (subst (λ z. IsEither chain other z) e m))
+            | inl e ↦ absurd (false≢true (sym n ∙ ap (λ z. get_or set z false) (sym e) ∙ m))
             | inr (inl d) ↦ (let r = w.place k d m in let s = w.sized in rw (get_or_append_left numbers (length heads ∷ []) 0 k (omega arith)) r)
             | inr (inr d) ↦ absurd (omega arith)
           ];
         }
 
-    pub collects_marked : IsEither chain other slot → AreCollected chain other (slot + 1) (heads ++ slot * 16 ∷ []) (numbers ++ length heads ∷ [])
+    pub collects_marked : get_or set slot false ≡ true → AreCollected set (slot + 1) (heads ++ slot * 16 ∷ []) (numbers ++ length heads ∷ [])
     collects_marked e =
         let f = w.few in
         let s = w.sized in

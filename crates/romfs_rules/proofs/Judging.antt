@@ -1,21 +1,22 @@
 -- What the tests of the rules say of a header.
-use Rattle.std.proofs.Common.{◌≡◌, ◌∙◌, sym, subst, ℕ, ◌+◌, ◌/◌, ◌<◌, ◌↔◌, ◌⊎◌, inl, inr, List, length, Bool, get_or, true, false, Some, IsTrue, IsSomeAnd, Contains, refl, ap, arith}
+use Rattle.std.proofs.Common.{◌≡◌, ◌∙◌, sym, subst, ℕ, zero, suc, ◌+◌, ◌/◌, ◌<◌, ◌↔◌, ◌⊎◌, inl, inr, List, [], ◌∷◌, length, Bool, get_or, true, false, Some, IsTrue, IsSomeAnd, Contains, refl, ap, arith, lit<, lit≤}
 use Rattle.std.proofs.lemmas.Bool.{false≢true, cases_order}
 use Rattle.std.proofs.lemmas.Grind.{get_or_default_zero}
 use Rattle.std.specs.List.Sorted.{IsNonDecreasing}
 use Rattle.romfs_format.specs.declared.head.End.{End}
 use Rattle.romfs_format.specs.declared.head.End.TheVariants.{AtDirectory, AtOther, Nowhere}
-use Rattle.romfs_format.specs.declared.rule.Rule.TheVariants.{DataOutside, Twice, SameName}
-use Rattle.romfs_format.specs.Fields.{root, name, size, data_at}
+use Rattle.romfs_format.specs.declared.rule.Rule.{Rule}
+use Rattle.romfs_format.specs.declared.rule.Profile.{Profile}
+use Rattle.romfs_format.specs.declared.rule.Rule.TheVariants.{NameBad, DataOutside, Twice, SameName}
+use Rattle.romfs_rules.specs.declared.judge.TheConstants.{HEADER_RULES}
+use Rattle.romfs_format.specs.Fields.{root, IsInside, name, size, data_at}
 use Rattle.romfs_format.specs.Chains.{IsSomeMember}
 use Rattle.romfs_format.specs.Links.{IsHardLink, IsDirectory, IsFinal, stays, follows, EndsAs}
-use Rattle.romfs_format.specs.Rules.{IsRootElsewhere, IsUsed, HasData, BreaksHeader}
+use Rattle.romfs_format.specs.Rules.{IsRootElsewhere, IsUsed, HasData, BreaksHeader, number}
 use Rattle.romfs_rules.specs.Marks.{AreMarks, IsElsewhere}
-use Rattle.romfs_rules.specs.Leads.{IsInSomeChain}
-use Rattle.romfs_rules.specs.Judge.{HasSlot}
+use Rattle.romfs_rules.specs.Judge.{HasSlot, IsHeaderRule, KeepsBefore}
 use Rattle.romfs_rules.specs.Namesakes.{AreNamesakes}
 use Rattle.romfs_rules.proofs.Slots.{marked}
-use Rattle.romfs_rules.proofs.Standing.{some_member}
 
 -- what a test that fails says
 pub fails : {P : Type 0} {b : Bool} → IsTrue b ↔ P → b ≡ false → ¬ P
@@ -40,9 +41,6 @@ root_elsewhere a h e = (
   λ x. (e, (x.dir, x.other, record { opened = x.opened; in_chain = x.in_chain })),
   λ x. let s = x.1 in record { dir = s.0; other = s.1; opened = s.2.opened; in_chain = s.2.in_chain },
 )
-
-pub member_in_chain : (a : List ℕ) (h : ℕ) → IsSomeMember a h → IsInSomeChain a h
-member_in_chain a h m = elim ((some_member a h).0 m).0 [ inl x ↦ inl x.0 | inr x ↦ inr x ]
 
 -- a chain of hard links has one end
 one_final : (a : List ℕ) {h e f : ℕ} → IsFinal a h e → IsFinal a h f → e ≡ f
@@ -71,6 +69,12 @@ data_says a h n b e l t = (
   λ x. t.1 (x.0, x.1),
 )
 
+pub bad_says : (a : List ℕ) (h : ℕ) (n : List ℕ) (b : Bool) → IsInside a h → Some n ≡ name a h → (n ≡ []) ⊎ Contains n 47 → IsTrue b ↔ IsSomeMember a h → IsTrue b ↔ BreaksHeader a NameBad h
+bad_says a h n b i e l t = (λ y. (t.0 y, i, subst (λ o. IsSomeAnd o (λ m. (m ≡ []) ⊎ Contains m 47)) e l), λ x. t.1 x.0)
+
+pub bad_not : (a : List ℕ) (h : ℕ) (n : List ℕ) (b : Bool) → Some n ≡ name a h → b ≡ false → IsTrue b ↔ ((n ≡ []) ⊎ Contains n 47) → IsTrue b ↔ BreaksHeader a NameBad h
+bad_not a h n b e f t = (λ y. absurd (false≢true (sym f ∙ y)), λ x. t.1 (subst (λ o. IsSomeAnd o (λ m. (m ≡ []) ⊎ Contains m 47)) (sym e) x.2))
+
 -- equal names are known of a header that no two links name
 pub alone : (a : List ℕ) (h : ℕ) → (IsElsewhere a (root a) → h ≡ root a) → ¬ BreaksHeader a Twice h → ¬ IsElsewhere a (root a)
 alone a h only once e = once (inr ((root_elsewhere a h (only e)).0 (subst (λ y. IsElsewhere a y) (sym (only e)) e)))
@@ -89,3 +93,24 @@ not_falling a hs n i j d l k = elim (cases_order i j) [
       omega arith)
   | inr (inr m) ↦ absurd (omega arith)
 ]
+
+-- the rules are numbered one after the other from n on
+abbrev AreNumberedFrom : ℕ → List Rule → Type 0
+AreNumberedFrom n [] = Unit {0}
+AreNumberedFrom n (r ∷ rules) = (number r ≡ n) × AreNumberedFrom (suc n) rules
+
+numbered_at : (rules : List Rule) (n i : ℕ) (d : Rule) → AreNumberedFrom n rules → i < length rules → number (get_or rules i d) ≡ n + i
+numbered_at [] n i d x l = absurd (omega arith)
+numbered_at (r ∷ rules) n zero d x l = x.0 ∙ omega arith
+numbered_at (r ∷ rules) n (suc i) d x l = numbered_at rules (suc n) i d x.1 (omega arith) ∙ omega arith
+
+-- the rules that are tried have the numbers from 7 on
+pub tried_number : (i : ℕ) (d : Rule) → i < 10 → number (get_or HEADER_RULES i d) ≡ i + 7
+tried_number i d l = numbered_at HEADER_RULES 7 i d (refl, (refl, (refl, (refl, (refl, (refl, (refl, (refl, (refl, (refl, tt)))))))))) l ∙ omega arith
+
+pub header_tried : (i : ℕ) (d : Rule) → i < 10 → IsHeaderRule (get_or HEADER_RULES i d)
+header_tried i d l = let n = tried_number i d l in (omega arith, omega arith)
+
+-- equal names are tried only on headers that no two links name
+pub name_tried : (profile : Profile) (a : List ℕ) (h : ℕ) (r : Rule) (n : ℕ) → number r ≡ n → (IsElsewhere a (root a) → h ≡ root a) → KeepsBefore profile a h n → r ≡ SameName → ¬ IsElsewhere a (root a)
+name_tried profile a h r n e only k s = alone a h only (k.keeps Twice (lit≤ tt, lit< tt) (let f : number r ≡ 12 = ap number s in omega arith))

@@ -1,3 +1,5 @@
+pub mod Bits
+pub mod Unions
 pub mod Slots
 pub mod Standing
 pub mod Leads

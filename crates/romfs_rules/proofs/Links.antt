@@ -8,7 +8,7 @@ use Rattle.romfs_rules.proofs.Standing.{in_some_chain}
 use Rattle.romfs_rules.proofs.Leads.{nowhere}
 
 module _ (a : List ℕ) where
-  standing : (h : ℕ) → IsInSomeChain a h → (d : ℕ) × Stands a d h
+  pub standing : (h : ℕ) → IsInSomeChain a h → (d : ℕ) × Stands a d h
   standing h (inl c) = (root a, record { opened = at_root refl; in_chain = c })
   standing h (inr e) = (e.dir, record { opened = e.opened; in_chain = e.in_chain })
 

@@ -7,6 +7,7 @@ use Rattle.romfs_format.specs.Fields.{root, IsInside, name}
 use Rattle.romfs_format.specs.Chains.{IsNext, IsAt, IsInChain, IsOpened, IsMember, Leads, Has}
 use Rattle.romfs_format.specs.Links.{Field, first_of, next_of, IsLink, IsReached}
 use Rattle.romfs_format.specs.Rules.{BreaksHeader}
+use Rattle.romfs_format.specs.declared.rule.Profile.TheVariants.{Usual}
 use Rattle.romfs_rules.specs.Judge.{KeepsAllHeaderRules}
 use Rattle.romfs_rules.specs.Depth.{IsTooDeep}
 use Rattle.romfs_rules.proofs.Standing.{link_to}
@@ -23,7 +24,7 @@ pub record StandsBelow (a : List ℕ) (n h : ℕ) : Type 0 where
   pub opened : IsOpened a dir
   pub in_chain : IsInChain a dir h
 
-module _ (a : List ℕ) (keeps : KeepsAllHeaderRules a) where
+module _ (a : List ℕ) (keeps : KeepsAllHeaderRules Usual a) where
   not_twice : (h : ℕ) (f g : Field) → f ≢ g → IsLink a f h → IsLink a g h → ⊥
   not_twice h f g n l m = keeps.keeps Twice h (lit≤ tt, lit< tt) (inl (f, g, n, l, m))
 

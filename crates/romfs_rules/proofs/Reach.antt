@@ -1,13 +1,17 @@
 -- The least headers outside the image that are reached.
-use Rattle.std.proofs.Common.{◌≡◌, ◌≢◌, sym, ap, subst, ℕ, ◌+◌, ◌*◌, ◌/◌, ◌<◌, ◌≤◌, ◌↔◌, ◌⊎◌, inl, inr, List, length, false, Option, Some, None, refl, arith, leb}
+use Rattle.std.proofs.Common.{◌≡◌, ◌≢◌, sym, ap, subst, ℕ, ◌+◌, ◌*◌, ◌/◌, ◌<◌, ◌≤◌, ◌↔◌, ◌⊎◌, inl, inr, List, length, Bool, false, Option, Some, None, refl, arith, leb}
 use Rattle.std.proofs.lemmas.Bool.{cases_eq, cases_lt, le-leb}
 use Rattle.romfs_format.specs.Fields.{root, IsInside, cleared}
 use Rattle.romfs_format.specs.Chains.{IsSomeMember}
 use Rattle.romfs_format.specs.Links.{Field, first_of, next_of, IsLink, IsHardLink, destination, IsDestination, here, there, IsTarget, IsReached}
-use Rattle.romfs_rules.specs.Marks.{IsVolumeImage}
+use Rattle.romfs_rules.specs.Marks.{IsVolumeImage, AreMarks}
 use Rattle.romfs_rules.specs.Leads.{IsTheOne}
 use Rattle.romfs_rules.specs.Outside.{NamesDestination, Names, IsLeast, IsBelow, IsAbove, lesser, Notes}
 use Rattle.romfs_rules.proofs.Slots.{cleared_root, cleared_in_chain, inside_opened, cleared_opened, cleared_destination}
+use Rattle.romfs_rules.specs.SlotSets.{IsClear}
+use Rattle.romfs_rules.specs.Leads.{IsInSomeChain}
+use Rattle.romfs_rules.proofs.Unions.{over_to, outside_set}
+use Rattle.romfs_rules.proofs.Standing.{opened, in_some_chain, member_in_chain}
 use Rattle.romfs_rules.proofs.Destined.{goes_on}
 use Rattle.std.proofs.lemmas.Bool.Decides.{nat_tests}
 use Rattle.romfs_rules.proofs.Leads.{nowhere}
@@ -168,6 +172,27 @@ module _ (a : List ℕ) (Q : ℕ → Type 0) where
   -- one slot more
   pub scans : (n : ℕ) (before after : Option ℕ) → IsInside a (n * 16) → IsFoundBefore n before → Notes (Names a (n * 16)) Q before after → IsFoundBefore (n + 1) after
   scans n before after i l x = least_same _ _ after (to_next n i) (from_next n) (least_more (IsLedToBefore a n) (Names a (n * 16)) Q before after l x)
+
+  -- a header that is not reached leads nowhere
+  names_from : (h g : ℕ) → Names a h g → (h ≡ root a) ⊎ IsInSomeChain a h ⊎ IsTarget a h
+  names_from h g (inl x) = inr (inl (in_some_chain a x.0 h x.1.opened x.1.in_chain))
+  names_from h g (inr (inl x)) = elim ((opened a h).0 x.0) [ inl e ↦ inl e | inr y ↦ inr (inl y.0) ]
+  names_from h g (inr (inr (inl m, l, e))) = inr (inl (member_in_chain a h m))
+  names_from h g (inr (inr (inr t, l, e))) = inr (inr t)
+
+  scan_over : (n : ℕ) (found : Option ℕ) → ((g : ℕ) → IsInside a (n * 16) → ¬ Names a (n * 16) g) → IsFoundBefore n found → IsFoundBefore (n + 1) found
+  scan_over n found none l = least_same _ _ found
+      (λ g x. (let y = x.0 in let e = y.early in (record { slot = y.slot; early = omega arith; inside = y.inside; names = y.names }, x.1)))
+      (λ g x. (let y = x.0 in (record { slot = y.slot; early = (elim (cases_eq y.slot n) [ inl q ↦ absurd (none g (subst (λ k. IsInside a (k * 16)) q y.inside) (subst (λ k. Names a (k * 16) g) q y.names)) | inr q ↦ (let e = y.early in omega arith) ]); inside = y.inside; names = y.names }, x.1)))
+      l
+
+  -- over slots, behind the root's, whose headers are not reached
+  pub scanned_to : (headers targets : List Bool) → AreMarks a (IsInSomeChain a) headers → AreMarks a (IsTarget a) targets → (low high : ℕ) (found : Option ℕ) → root a < low * 16 → low ≤ high → IsClear headers low high → IsClear targets low high → IsFoundBefore low found → IsFoundBefore high found
+  scanned_to headers targets m t low high found r l c d f = over_to (λ k. IsFoundBefore k found) low high l f (λ k n o x. scan_over k found (λ g i y. elim (names_from (k * 16) g y) [
+    | inl e ↦ omega arith
+    | inr (inl z) ↦ outside_set a (IsInSomeChain a) headers m low high c k n o i z
+    | inr (inr z) ↦ outside_set a (IsTarget a) targets t low high d k n o i z
+  ]) x)
 
   pub all_scanned : IsVolumeImage a → (n : ℕ) (found : Option ℕ) → length a / 16 ≤ n → ((g : ℕ) → Q g → g ≢ root a) → IsFoundBefore n found → IsLeast (λ g. IsReached a g × Q g) found
   all_scanned v n found l u f = least_same _ _ found (λ g x. (names_reached a (x.0.slot * 16) g x.0.names, x.1)) from f

@@ -1,5 +1,5 @@
 -- Headers and their slots.
-use Rattle.std.proofs.Common.{◌≡◌, subst, ℕ, zero, suc, ◌*◌, ◌/◌, ◌<◌, ◌≤◌, ◌↔◌, inl, inr, List, Bool, length, Some, None, IsSome, refl, arith}
+use Rattle.std.proofs.Common.{◌≡◌, ◌∙◌, sym, ap, get_or, false, IsTrue, subst, ℕ, zero, suc, ◌*◌, ◌/◌, ◌<◌, ◌≤◌, ◌↔◌, inl, inr, List, Bool, length, Some, None, IsSome, refl, arith}
 use Rattle.std.specs.Option.{option_map_or}
 use Rattle.romfs_format.specs.Fields.{root, text_at, text_end, IsInside, spec, cleared}
 use Rattle.romfs_format.specs.Chains.{IsAt, IsInChain, IsOpened, at_root, below}
@@ -58,3 +58,10 @@ slot_inside a slot l m = let c = cleared_root a in (omega arith, omega arith)
 -- what the mark of a header says
 pub marked : (a : List ℕ) (P : ℕ → Type 0) (marks : List Bool) (h : ℕ) → AreMarks a P marks → cleared h ≡ h → IsInside a h → IsMarked marks h ↔ P h
 marked a P marks h m c i = (λ x. subst P c (m.each (h / 16) x).0, λ p. m.all h p i)
+
+-- what the mark of the root's header says
+pub root_marked : (a : List ℕ) → IsVolumeImage a → (P : ℕ → Type 0) (marks : List Bool) (flag : Bool) (h : ℕ) → AreMarks a P marks → h ≡ root a → flag ≡ get_or marks (h / 16) false → IsTrue flag ↔ P (root a)
+root_marked a v P marks flag h m e f =
+    let t = marked a P marks (root a) m (cleared_root a) (inside_root a v) in
+    let g : flag ≡ get_or marks (root a / 16) false = f ∙ ap (λ x. get_or marks (x / 16) false) e in
+    (λ x. t.0 (sym g ∙ x), λ p. g ∙ t.1 p)

@@ -90,3 +90,6 @@ module _ (a : List ℕ) where
       from (inr (inl c)) = inr (inl (link_in h (inl c)))
       from (inr (inr (inl e))) = inr (inl (link_in h (inr e)))
       from (inr (inr (inr t))) = inr (inr t)
+
+pub member_in_chain : (a : List ℕ) (h : ℕ) → IsSomeMember a h → IsInSomeChain a h
+member_in_chain a h m = elim ((some_member a h).0 m).0 [ inl x ↦ inl x.0 | inr x ↦ inr x ]

@@ -4,11 +4,14 @@ use Rattle.std.proofs.lemmas.Bool.{cases_eq, cases_order, false≢true, eqb-true
 use Rattle.std.proofs.lemmas.Slice.Eq.{bytes_eq-Decides}
 use Rattle.std.specs.Prelude.{◌==◌, ◌||◌, Contains}
 use Rattle.romfs_format.specs.Fields.{root, IsInside, name, next}
-use Rattle.romfs_format.specs.Chains.{IsNext, IsAt, IsInChain, IsPassedOver, IsDotted, IsOpened, at_root, IsMember}
-use Rattle.romfs_rules.specs.Marks.{IsElsewhere, HasNamesake, AreMarks, IsInRootChain}
+use Rattle.romfs_format.specs.Chains.{IsNext, IsAt, IsInChain, IsPassedOver, IsDotted, IsOpened, IsMember}
+use Rattle.romfs_rules.specs.Marks.{IsElsewhere, HasNamesake, AreMarks}
 use Rattle.romfs_rules.specs.Climb.{After, one, more, AreNoted}
 use Rattle.romfs_rules.specs.Names.{unless_dotted, kept_name, AreClasses}
-use Rattle.romfs_rules.specs.Namesakes.{IsLinked, AreNumbered, IsNextNumber, AreNextNumbers, AreCollected, IsEither, AreChosen, AreNamesakes}
+use Rattle.romfs_rules.specs.Namesakes.{IsLinked, AreNumbered, IsNextNumber, AreNextNumbers, AreCollected, AreChosen, AreNamesakes}
+use Rattle.romfs_rules.specs.Leads.{IsInSomeChain}
+use Rattle.romfs_rules.proofs.Standing.{in_some_chain}
+use Rattle.romfs_rules.proofs.Links.{standing}
 use Rattle.romfs_rules.proofs.Slots.{cleared_in_chain}
 
 -- g comes after h along next
@@ -55,9 +58,9 @@ module _ (a : List ℕ) where
   next_linked : (h g : ℕ) → IsLinked a h → IsNext a h g → IsInside a g → IsLinked a g
   next_linked h g l n i = record { inside = i; dir = l.dir; stands = record { opened = l.stands.opened; in_chain = (suc l.stands.in_chain.0, (h, l.stands.in_chain.1, n)) } }
 
-  -- what the marks are of
-  pub numbered : (chain other : List Bool) (heads numbers : List ℕ) → AreMarks a (IsInRootChain a) chain → AreMarks a (IsElsewhere a) other → AreCollected chain other (length chain) heads numbers → AreNumbered a heads numbers
-  numbered chain other heads numbers r e c = record {
+  -- what the set is of
+  pub numbered : (set : List Bool) (heads numbers : List ℕ) → AreMarks a (IsInSomeChain a) set → AreCollected set (length set) heads numbers → AreNumbered a heads numbers
+  numbered set heads numbers r c = record {
     sized = c.sized ∙ r.sized;
     rising = c.rising;
     each = λ i l. (let k = c.each i l in rw (k.2) (linked k.0 k.3));
@@ -65,19 +68,12 @@ module _ (a : List ℕ) where
         let q = linked_clear h l in
         let i = l.inside.1 in
         let s = r.sized in
-        let p = c.place (h / 16) (omega arith) (marked h l) in
+        let p = c.place (h / 16) (omega arith) (r.all h (in_some_chain a l.dir h l.stands.opened l.stands.in_chain) l.inside) in
         (p.0, p.1 ∙ q));
   }
     where
-      linked : (k : ℕ) → IsEither chain other k → IsLinked a (k * 16)
-      linked k (inl m) = let p = r.each k m in record { inside = p.1; dir = root a; stands = record { opened = at_root refl; in_chain = p.0 } }
-      linked k (inr m) = let p = e.each k m in record { inside = p.1; dir = p.0.dir; stands = record { opened = p.0.opened; in_chain = p.0.in_chain } }
-
-      marked : (h : ℕ) → IsLinked a h → IsEither chain other (h / 16)
-      marked h l = elim (cases_eq l.dir (root a)) [
-        | inl f ↦ inl (r.all h (subst (λ d. IsInChain a d h) f l.stands.in_chain) l.inside)
-        | inr n ↦ inr (e.all h (record { dir = l.dir; other = n; opened = l.stands.opened; in_chain = l.stands.in_chain }) l.inside)
-      ]
+      linked : (k : ℕ) → get_or set k false ≡ true → IsLinked a (k * 16)
+      linked k m = let p = r.each k m in let s = standing a (k * 16) p.0 in record { inside = p.1; dir = s.0; stands = s.1 }
 
   pub next_number : (heads numbers : List ℕ) (h after : ℕ) → AreNumbered a heads numbers → IsLinked a h → after ≡ next a h → after ≢ 0 → IsInside a after → IsNextNumber a heads h (get_or numbers (after / 16) 0)
   next_number heads numbers h after n l e z i =

@@ -21,9 +21,13 @@ pub record KnowsEnd (a walks : List ℕ) (ends : List End) (h : ℕ) : Type 0 wh
   pub chained : IsInSomeChain a h
   pub hard : IsHardLink a h
 
--- the slot holds a hard link, in a chain, that was not passed
+-- the slot holds a hard link that was not passed
+abbrev pub IsUnpassed : List ℕ → List ℕ → ℕ → Type 0
+IsUnpassed a walks slot = IsHardLink a (slot * 16) × (get_or walks slot 0 ≡ 0)
+
+-- and stands in a chain
 abbrev pub IsLeft : List ℕ → List ℕ → ℕ → Type 0
-IsLeft a walks slot = IsInSomeChain a (slot * 16) × IsHardLink a (slot * 16) × (get_or walks slot 0 ≡ 0)
+IsLeft a walks slot = IsInSomeChain a (slot * 16) × IsUnpassed a walks slot
 
 -- what the marks are after a walk, from what they were before: none is lost, and the header it began at has one
 pub record Passes (from : ℕ) (before after : List ℕ) : Type 0 where

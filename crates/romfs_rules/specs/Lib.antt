@@ -1,5 +1,7 @@
+pub mod SlotSets
 pub mod Marks
 pub mod Leads
+pub mod InChains
 pub mod Outside
 pub mod Targets
 pub mod Twice

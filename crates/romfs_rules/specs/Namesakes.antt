@@ -1,5 +1,5 @@
 -- The headers in chains, by number, and those of which a member of the same directory has the name.
-use Rattle.std.specs.Prelude.{◌≡◌, ℕ, ◌+◌, ◌*◌, ◌/◌, ◌<◌, ◌≤◌, ◌⊎◌, List, length, get_or, Bool, true, false, Contains}
+use Rattle.std.specs.Prelude.{◌≡◌, ℕ, ◌+◌, ◌*◌, ◌/◌, ◌<◌, ◌≤◌, List, length, get_or, Bool, true, false, Contains}
 use Rattle.romfs_format.specs.Fields.{IsInside}
 use Rattle.romfs_format.specs.Chains.{IsNext, Stands}
 use Rattle.romfs_rules.specs.Marks.{HasNamesake}
@@ -16,16 +16,13 @@ pub record IsLinked (a : List ℕ) (h : ℕ) : Type 0 where
   pub dir : ℕ
   pub stands : Stands a dir h
 
-abbrev pub IsEither : List Bool → List Bool → ℕ → Type 0
-IsEither one other k = (get_or one k false ≡ true) ⊎ (get_or other k false ≡ true)
-
--- the headers of the first slots that are marked on either list, in order, and how many of them stand before each slot
-pub record AreCollected (one other : List Bool) (slots : ℕ) (heads numbers : List ℕ) : Type 0 where
+-- the headers of the first slots that are in the set, in order, and how many of them stand before each slot
+pub record AreCollected (set : List Bool) (slots : ℕ) (heads numbers : List ℕ) : Type 0 where
   pub sized : length numbers ≡ slots
   pub few : length heads ≤ slots
   pub rising : (i j : ℕ) → i < j → j < length heads → get_or heads i 0 < get_or heads j 0
-  pub each : (i : ℕ) → i < length heads → (k : ℕ) × (k < slots) × (get_or heads i 0 ≡ k * 16) × IsEither one other k
-  pub place : (k : ℕ) → k < slots → IsEither one other k → (get_or numbers k 0 < length heads) × (get_or heads (get_or numbers k 0) 0 ≡ k * 16)
+  pub each : (i : ℕ) → i < length heads → (k : ℕ) × (k < slots) × (get_or heads i 0 ≡ k * 16) × (get_or set k false ≡ true)
+  pub place : (k : ℕ) → k < slots → get_or set k false ≡ true → (get_or numbers k 0 < length heads) × (get_or heads (get_or numbers k 0) 0 ≡ k * 16)
 
 -- all headers that are linked, in order, and the number of each by its slot
 pub record AreNumbered (a heads numbers : List ℕ) : Type 0 where

@@ -1,5 +1,5 @@
 -- Sets of headers that hold each hard link's destination with it.
-use Rattle.std.specs.Prelude.{◌≡◌, ℕ, ◌*◌, ◌⊎◌, List, Bool, true, false, get_or}
+use Rattle.std.specs.Prelude.{◌≡◌, ℕ, ◌*◌, ◌⊎◌, List, length, Bool, true, false, get_or}
 use Rattle.romfs_format.specs.Fields.{IsInside}
 use Rattle.romfs_format.specs.Links.{IsHardLink, destination, IsDestination}
 use Rattle.romfs_rules.specs.Marks.{IsMarked}
@@ -14,6 +14,7 @@ pub record IsClosed (a : List ℕ) (marks : List Bool) : Type 0 where
 
 -- the new marks are the old ones, and those of headers on the destination chain of h, where h leads among them
 pub record FollowsLink (a : List ℕ) (h : ℕ) (old new : List Bool) : Type 0 where
+  pub sized : length new ≡ length old
   pub kept : (k : ℕ) → get_or old k false ≡ true → get_or new k false ≡ true
   pub only : (k : ℕ) → get_or new k false ≡ true → (get_or old k false ≡ true) ⊎ (IsDestination a h (k * 16) × IsInside a (k * 16))
   pub followed : IsHardLink a h → IsFollowed a new h

@@ -5,26 +5,38 @@ ghost use Rattle.std.specs.Option.{option_to_list};
 ghost use Rattle.romfs_format.specs.Fields.{root, IsInside};
 ghost use Rattle.romfs_rules.specs.Marks.{IsVolumeImage, IsInRootChain, IsElsewhere, AreMarks};
 ghost use Rattle.romfs_rules.specs.Leads.{AreSeeds, LeadsOn, Adds};
+ghost use Rattle.romfs_rules.specs.InChains.{AreChains};
 
 use crate::lead::{first_below, next_of};
 use crate::slot::is_fresh;
+use crate::slot_set::SlotSet;
 use romfs_format::read::word;
 use std::alloc::{AllocError, Allocator};
 
+/// The headers in chains. Which of them stand in the root's and which elsewhere matters for the root's own
+/// header alone.
+#[derive(Drop)]
+pub(crate) struct Chains<A: Allocator> {
+    /// The headers in the chain of some opened directory.
+    pub(crate) headers: SlotSet<A>,
+    /// Whether the root's header stands in the chain of another directory.
+    pub(crate) root_elsewhere: bool,
+}
+
 /// Marks the headers of the root's chain, up to one that lies outside or comes again.
-pub(crate) fn mark_root_chain<A: Allocator + Copy>(
+fn mark_root_chain<A: Allocator + Copy>(
     alloc: A,
     image: &[u8],
     top: usize,
-) -> Result<Vec<bool, A>, AllocError>
+) -> Result<SlotSet<A>, AllocError>
     requires volume { IsVolumeImage image.now }
     requires top { top ≡ root image.now }
-    ensures { IfOk result (λ marks. AreMarks image.now (IsInRootChain image.now) marks.items) }
+    ensures { IfOk result (λ marks. AreMarks image.now (IsInRootChain image.now) marks) }
 {
-    let mut marks = vec![in alloc; false; image.len() / 16]?;
+    let mut marks = SlotSet::new(alloc, image.len() / 16)?;
     let mut at = (word(image, top + 4) / 16 * 16) as usize;
     while is_fresh(image, top, at, &marks) {
-        marks[at / 16] = true;
+        marks.insert(at / 16);
         at = (word(image, at) / 16 * 16) as usize;
     }
     Ok(marks)
@@ -45,7 +57,7 @@ fn seeds<A: Allocator + Copy>(
     alloc: A,
     image: &[u8],
     top: usize,
-    root_chain: &[bool],
+    root_chain: &SlotSet<A>,
 ) -> Result<Vec<u32, A>, AllocError>
     requires small { length image.now < 2 ^ 32 }
     requires top { top ≡ root image.now }
@@ -53,10 +65,10 @@ fn seeds<A: Allocator + Copy>(
     ensures { IfOk result (λ todo. AreSeeds image.now todo.items) }
 {
     let mut todo = Vec::new(alloc);
-    for slot in 0..root_chain.len() {
-        if root_chain[slot] {
-            push_some(&mut todo, first_below(image, top, slot * 16))?;
-        }
+    let mut from = 0;
+    while let Some(slot) = root_chain.next_from(from) {
+        push_some(&mut todo, first_below(image, top, slot * 16))?;
+        from = slot + 1;
     }
     Ok(todo)
 }
@@ -79,26 +91,46 @@ fn follow<A: Allocator>(
 }
 
 /// Marks the headers of the chains of all opened directories but the root.
-pub(crate) fn mark_elsewhere<A: Allocator + Copy>(
+fn mark_elsewhere<A: Allocator + Copy>(
     alloc: A,
     image: &[u8],
     top: usize,
-    root_chain: &[bool],
-) -> Result<Vec<bool, A>, AllocError>
+    root_chain: &SlotSet<A>,
+) -> Result<SlotSet<A>, AllocError>
     requires volume { IsVolumeImage image.now }
     requires top { top ≡ root image.now }
     requires root_chain { AreMarks image.now (IsInRootChain image.now) root_chain.now }
-    ensures { IfOk result (λ marks. AreMarks image.now (IsElsewhere image.now) marks.items) }
+    ensures { IfOk result (λ marks. AreMarks image.now (IsElsewhere image.now) marks) }
 {
-    let mut marks = vec![in alloc; false; image.len() / 16]?;
+    let mut marks = SlotSet::new(alloc, image.len() / 16)?;
     let mut todo = seeds(alloc, image, top, root_chain)?;
     while let Some(word) = todo.pop() {
         let at = word as usize;
         if !is_fresh(image, top, at, &marks) {
             continue;
         }
-        marks[at / 16] = true;
+        marks.insert(at / 16);
         follow(image, top, at, &mut todo)?;
     }
     Ok(marks)
+}
+
+/// Finds the headers in the chains of all opened directories.
+pub(crate) fn find_chains<A: Allocator + Copy>(
+    alloc: A,
+    image: &[u8],
+    top: usize,
+) -> Result<Chains<A>, AllocError>
+    requires volume { IsVolumeImage image.now }
+    requires top { top ≡ root image.now }
+    ensures { IfOk result (AreChains image.now) }
+{
+    let root_chain = mark_root_chain(alloc, image, top)?;
+    let mut headers = mark_elsewhere(alloc, image, top, &root_chain)?;
+    let root_elsewhere = headers.contains(top / 16);
+    headers.add_all(&root_chain);
+    Ok(Chains {
+        headers,
+        root_elsewhere,
+    })
 }

@@ -3,6 +3,7 @@
 ghost use Rattle.std.specs.Prelude.{◌≡◌, ◌+◌, ◌<◌, ◌↔◌, ◌^◌, ◌++◌, IsTrue, IfOk};
 ghost use Rattle.romfs_format.specs.Fields.{root, IsInside};
 ghost use Rattle.romfs_format.specs.Rules.{BreaksHeader};
+ghost use Rattle.romfs_format.specs.declared.rule.Profile.TheVariants.{Usual};
 ghost use Rattle.romfs_rules.specs.Marks.{IsVolumeImage};
 ghost use Rattle.romfs_rules.specs.Judge.{KeepsAllHeaderRules};
 ghost use Rattle.romfs_rules.specs.Outside.{IsLeast};
@@ -12,6 +13,7 @@ ghost use Rattle.romfs_rules.specs.Depth.{IsTooDeep, Notes, waiting, LeadsDown};
 use crate::lead::{first_below, first_of, next_of};
 use crate::member::is_dotted;
 use crate::slot::is_fresh;
+use crate::slot_set::SlotSet;
 use romfs_format::rule::Rule;
 use std::alloc::{AllocError, Allocator};
 
@@ -94,17 +96,17 @@ pub(crate) fn find_deep<A: Allocator + Copy>(
 ) -> Result<Option<u32>, AllocError>
     requires volume { IsVolumeImage image.now }
     requires top { top ≡ root image.now }
-    requires keeps { KeepsAllHeaderRules image.now }
+    requires keeps { KeepsAllHeaderRules Usual image.now }
     ensures { IfOk result (λ deep. IsLeast (BreaksHeader image.now Rule.Deep) deep) }
 {
-    let mut marks = vec![in alloc; false; image.len() / 16]?;
+    let mut marks = SlotSet::new(alloc, image.len() / 16)?;
     let mut todo = Vec::new(alloc);
     push_some(&mut todo, first_of(image, top, top), 0)?;
     let mut deep = None;
     while let Some(next) = todo.pop() {
         let at = next.header as usize;
         if is_fresh(image, top, at, &marks) {
-            marks[at / 16] = true;
+            marks.insert(at / 16);
             deep = note(image, top, deep, next);
             follow(image, top, next, &mut todo)?;
         }

@@ -3,9 +3,11 @@
 ghost use Rattle.std.specs.Prelude.{◌≡◌, ℕ, List, ◌+◌, ◌*◌, ◌++◌, [], ◌∷◌, ◌<◌, ◌↔◌, ◌^◌, ◌/◌, length, false, IsTrue, IfOk};
 ghost use Rattle.romfs_format.specs.Fields.{root, cleared};
 ghost use Rattle.romfs_format.specs.Links.{IsHardLink, IsDirectory, EndsAs};
-ghost use Rattle.romfs_rules.specs.Marks.{IsVolumeImage, AreMarks, IsInRootChain, IsElsewhere};
-ghost use Rattle.romfs_rules.specs.Ends.{HasEnds, AreEnds, KnowsEnd, Passes, IsLeft};
+ghost use Rattle.romfs_rules.specs.Marks.{IsVolumeImage, AreMarks};
+ghost use Rattle.romfs_rules.specs.InChains.{AreChains};
+ghost use Rattle.romfs_rules.specs.Ends.{HasEnds, AreEnds, KnowsEnd, Passes, IsUnpassed};
 
+use crate::chains::Chains;
 use crate::slot::{is_hard_link, is_inside};
 use romfs_format::head::{End, Kind};
 use romfs_format::read::{kind_of, word};
@@ -75,25 +77,15 @@ fn end_of(image: &[u8], top: usize, from: usize, walks: &mut [u32], ends: &[End]
     }
 }
 
-/// Whether a slot holds a hard link, in a chain, that no walk passed.
-#[tactic(auto, using(crate::proofs::EndWalk::unchained))]
-fn is_left(
-    image: &[u8],
-    top: usize,
-    root_chain: &[bool],
-    elsewhere: &[bool],
-    slot: usize,
-    walks: &[u32],
-) -> bool
+/// Whether a slot holds a hard link that no walk passed.
+fn is_left(image: &[u8], top: usize, slot: usize, walks: &[u32]) -> bool
     requires small { length image.now < 2 ^ 32 }
     requires top { top ≡ root image.now }
     requires slot { slot < length image.now / 16 }
     requires sized { length walks.now ≡ length image.now / 16 }
-    requires root_chain { AreMarks image.now (IsInRootChain image.now) root_chain.now }
-    requires elsewhere { AreMarks image.now (IsElsewhere image.now) elsewhere.now }
-    ensures { IsTrue result ↔ IsLeft image.now walks.now slot }
+    ensures { IsTrue result ↔ IsUnpassed image.now walks.now slot }
 {
-    (root_chain[slot] || elsewhere[slot]) && walks[slot] == 0 && is_hard_link(image, top, slot * 16)
+    walks[slot] == 0 && is_hard_link(image, top, slot * 16)
 }
 
 /// Follows each hard link in a chain of the image to where it ends.
@@ -101,23 +93,23 @@ pub(crate) fn find_ends<A: Allocator + Copy>(
     alloc: A,
     image: &[u8],
     top: usize,
-    root_chain: &[bool],
-    elsewhere: &[bool],
+    chains: &Chains<A>,
 ) -> Result<Ends<A>, AllocError>
     requires volume { IsVolumeImage image.now }
     requires top { top ≡ root image.now }
-    requires root_chain { AreMarks image.now (IsInRootChain image.now) root_chain.now }
-    requires elsewhere { AreMarks image.now (IsElsewhere image.now) elsewhere.now }
+    requires chains { AreChains image.now chains.now }
     ensures { IfOk result (λ found. AreEnds image.now found.walks.items found.ends.items) }
 {
     let slots = image.len() / 16;
     let mut walks = vec![in alloc; 0u32; slots]?;
     let mut ends = Vec::new(alloc);
-    for slot in 0..slots {
-        if is_left(image, top, root_chain, elsewhere, slot, &walks) {
+    let mut from = 0;
+    while let Some(slot) = chains.headers.next_from(from) {
+        if is_left(image, top, slot, &walks) {
             let end = end_of(image, top, slot * 16, &mut walks, &ends);
             ends.push(end)?;
         }
+        from = slot + 1;
     }
     Ok(Ends { walks, ends })
 }

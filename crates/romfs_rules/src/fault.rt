@@ -3,12 +3,13 @@
 ghost use Rattle.std.specs.Prelude.{◌≡◌, ℕ, List, IfOk};
 ghost use Rattle.romfs_format.specs.Fields.{root, image};
 ghost use Rattle.romfs_format.specs.Rules.{IsVolume};
-ghost use Rattle.romfs_rules.specs.Marks.{IsVolumeImage, AreMarks, IsInRootChain, IsElsewhere};
+ghost use Rattle.romfs_rules.specs.Marks.{IsVolumeImage, IsElsewhere};
+ghost use Rattle.romfs_rules.specs.InChains.{AreChains};
 ghost use Rattle.romfs_rules.specs.Namesakes.{AreNamesakes};
 ghost use Rattle.romfs_rules.specs.Judge.{IsHeaderFault};
-ghost use Rattle.romfs_format.specs.Rules.{IsFaultOf};
+ghost use Rattle.romfs_format.specs.Rules.{IsFaultOfAs};
 
-use crate::chains::{mark_elsewhere, mark_root_chain};
+use crate::chains::{Chains, find_chains};
 use crate::depth::find_deep;
 use crate::ends::find_ends;
 use crate::judge::{Sets, fault_of, header_fault};
@@ -17,8 +18,8 @@ use crate::outside::find_outside;
 use crate::targets::mark_targets;
 use crate::twice::mark_twice;
 use crate::volume::{image_of, volume_fault};
-use romfs_format::ImageFault;
 use romfs_format::read::{root_of, word};
+use romfs_format::{ImageFault, Profile};
 use std::alloc::{AllocError, Allocator};
 
 /// The headers with a namesake; none where the root stands in another chain than its own, since then
@@ -27,19 +28,17 @@ fn namesakes_below<A: Allocator + Copy>(
     alloc: A,
     bytes: &[u8],
     top: usize,
-    root_chain: &[bool],
-    elsewhere: &[bool],
+    chains: &Chains<A>,
 ) -> Result<Vec<u32, A>, AllocError>
     requires volume { IsVolumeImage bytes.now }
     requires top { top ≡ root bytes.now }
-    requires root_chain { AreMarks bytes.now (IsInRootChain bytes.now) root_chain.now }
-    requires elsewhere { AreMarks bytes.now (IsElsewhere bytes.now) elsewhere.now }
+    requires chains { AreChains bytes.now chains.now }
     ensures { IfOk result (λ found. ¬ IsElsewhere bytes.now (root bytes.now) → AreNamesakes bytes.now found.items) }
 {
-    if elsewhere[top / 16] {
+    if chains.root_elsewhere {
         Ok(Vec::new(alloc))
     } else {
-        find_namesakes(alloc, bytes, top, root_chain, elsewhere)
+        find_namesakes(alloc, bytes, top, chains)
     }
 }
 
@@ -48,27 +47,26 @@ fn header_fault_in<A: Allocator + Copy>(
     alloc: A,
     bytes: &[u8],
     top: usize,
+    profile: Profile,
 ) -> Result<Option<ImageFault>, AllocError>
     requires volume { IsVolumeImage bytes.now }
     requires top { top ≡ root bytes.now }
-    ensures { IfOk result (IsHeaderFault bytes.now) }
+    ensures { IfOk result (IsHeaderFault profile bytes.now) }
 {
-    let root_chain = mark_root_chain(alloc, bytes, top)?;
-    let elsewhere = mark_elsewhere(alloc, bytes, top, &root_chain)?;
-    let namesakes = namesakes_below(alloc, bytes, top, &root_chain, &elsewhere)?;
-    let targets = mark_targets(alloc, bytes, top, &root_chain, &elsewhere)?;
-    let twice = mark_twice(alloc, bytes, top, &root_chain, &elsewhere)?;
-    let ends = find_ends(alloc, bytes, top, &root_chain, &elsewhere)?;
-    let outside = find_outside(bytes, top, &root_chain, &elsewhere, &targets);
+    let chains = find_chains(alloc, bytes, top)?;
+    let namesakes = namesakes_below(alloc, bytes, top, &chains)?;
+    let ends = find_ends(alloc, bytes, top, &chains)?;
+    let targets = mark_targets(alloc, bytes, top, &chains)?;
+    let twice = mark_twice(alloc, bytes, top, &chains)?;
+    let outside = find_outside(bytes, top, &chains, &targets);
     let sets = Sets {
-        root_chain: &root_chain,
-        elsewhere: &elsewhere,
+        chains: &chains,
         targets: &targets,
         twice: &twice,
         namesakes: &namesakes,
         ends: &ends,
     };
-    Ok(header_fault(bytes, top, &sets, outside))
+    Ok(header_fault(bytes, top, profile, &sets, outside))
 }
 
 /// The fault of an image that keeps the rules of the volume header, by its accessible bytes; none where
@@ -77,12 +75,13 @@ fn fault_in<A: Allocator + Copy>(
     alloc: A,
     bytes: &[u8],
     top: usize,
+    profile: Profile,
 ) -> Result<Option<ImageFault>, AllocError>
     requires volume { IsVolumeImage bytes.now }
     requires top { top ≡ root bytes.now }
-    ensures { IfOk result (λ fault. (b : List ℕ) → image b ≡ bytes.now → IsVolume b → IsFaultOf b fault) }
+    ensures { IfOk result (λ fault. (b : List ℕ) → image b ≡ bytes.now → IsVolume b → IsFaultOfAs profile b fault) }
 {
-    let header = header_fault_in(alloc, bytes, top)?;
+    let header = header_fault_in(alloc, bytes, top, profile)?;
     let deep = match header {
         Some(_) => None,
         None => find_deep(alloc, bytes, top)?,
@@ -90,7 +89,7 @@ fn fault_in<A: Allocator + Copy>(
     Ok(fault_of(header, deep))
 }
 
-/// The fault of some bytes as an image; none where they break no rule.
+/// The fault of some bytes as an image, under a profile; none where they break no rule of it.
 ///
 /// That is the first broken rule of the volume header; else, of all broken rules of file headers, the one at
 /// the least place, and there the first; else a path of more than 512 names, at the least such header. The
@@ -101,14 +100,15 @@ fn fault_in<A: Allocator + Copy>(
 pub fn first_fault<A: Allocator + Copy>(
     alloc: A,
     bytes: &[u8],
+    profile: Profile,
 ) -> Result<Option<ImageFault>, AllocError>
-    ensures { IfOk result (IsFaultOf bytes.now) }
+    ensures { IfOk result (IsFaultOfAs profile bytes.now) }
 {
     match volume_fault(bytes) {
         Some(fault) => Ok(Some(fault)),
         None => {
             let accessible = image_of(bytes, word(bytes, 8) as usize);
-            fault_in(alloc, accessible, root_of(accessible) as usize)
+            fault_in(alloc, accessible, root_of(accessible) as usize, profile)
         }
     }
 }

@@ -5,51 +5,38 @@ ghost use Rattle.std.specs.List.Sorted.{IsNonDecreasing};
 ghost use Rattle.romfs_format.specs.Fields.{root, image, kind, size, spec, data_at};
 ghost use Rattle.romfs_format.specs.Chains.{IsSomeMember};
 ghost use Rattle.romfs_format.specs.Links.{IsHardLink, IsReached, EndsAs};
-ghost use Rattle.romfs_format.specs.Rules.{IsVolume, IsUsed, HasData, IsDevice, BreaksHeader};
+ghost use Rattle.romfs_format.specs.Rules.{IsVolume, IsUsed, HasData, IsDevice, HasBadSum, BreaksHeader, BreaksHeaderAs};
 ghost use Rattle.romfs_rules.specs.Marks.{IsVolumeImage, IsElsewhere};
 ghost use Rattle.romfs_rules.specs.Outside.{IsLeast, IsBelow, IsAbove};
-ghost use Rattle.romfs_rules.specs.Judge.{AreSets, HasSlot, KeepsHeaderRules, IsFirstRule, KeepsBelow, IsFirstInside, IsHeaderFault, IsDeepFault};
-ghost use Rattle.romfs_format.specs.Rules.{IsFaultOf};
+ghost use Rattle.romfs_rules.specs.Judge.{AreSets, HasSlot, IsHeaderRule, KeepsHeaderRules, IsFirstRule, KeepsBelow, IsFirstInside, IsHeaderFault, IsDeepFault};
+ghost use Rattle.romfs_format.specs.Rules.{IsFaultOfAs};
 
+use crate::chains::Chains;
 use crate::ends::Ends;
-use crate::member::{is_in_chain, is_marked, is_some_member};
+use crate::member::{is_in_chain, is_some_member};
 use crate::outside::Outside;
+use crate::reached::next_reached;
 use crate::slot::is_hard_link;
+use crate::slot_set::SlotSet;
 use romfs_format::head::{End, Kind};
-use romfs_format::read::{kind_of, text_at, word};
-use romfs_format::rule::{ImageFault, Rule};
+use romfs_format::read::{header_bytes, kind_of, text_at, word, word_sum};
+use romfs_format::rule::{ImageFault, Profile, Rule};
 use std::alloc::Allocator;
 
-/// The sets of headers that the rules are judged by: marks by slot, and a rising list.
+/// The sets of headers that the rules are judged by: sets of slots, and a rising list.
 #[derive(Drop)]
 pub(crate) struct Sets<'s, A: Allocator> {
-    /// The headers in the root's chain.
-    pub(crate) root_chain: &'s [bool],
-    /// Those in the chains of other directories.
-    pub(crate) elsewhere: &'s [bool],
+    /// The headers in chains.
+    pub(crate) chains: &'s Chains<A>,
     /// Those that the hard links of members lead over.
-    pub(crate) targets: &'s [bool],
+    pub(crate) targets: &'s SlotSet<A>,
     /// Those that two links name.
-    pub(crate) twice: &'s [bool],
+    pub(crate) twice: &'s SlotSet<A>,
     /// Those whose name a member of the same directory has at a lower place. It may be empty
     /// where the root's header stands in the chain of another directory.
     pub(crate) namesakes: &'s [u32],
     /// Where the hard links in chains end.
     pub(crate) ends: &'s Ends<A>,
-}
-
-/// Whether a header is reached.
-fn is_reached<A: Allocator>(image: &[u8], top: usize, sets: &Sets<A>, at: usize) -> bool
-    requires volume { IsVolumeImage image.now }
-    requires top { top ≡ root image.now }
-    requires sets { AreSets image.now sets.now }
-    requires slot { HasSlot image.now at }
-    ensures { IsTrue result ↔ IsReached image.now at }
-{
-    if at == top || is_marked(sets.targets, at) {
-        return true;
-    }
-    is_in_chain(image, at, sets.root_chain, sets.elsewhere)
 }
 
 /// Whether a header is a member, or a member's hard links lead over it.
@@ -60,7 +47,7 @@ fn is_used<A: Allocator>(image: &[u8], top: usize, sets: &Sets<A>, at: usize) ->
     requires slot { HasSlot image.now at }
     ensures { IsTrue result ↔ IsUsed image.now at }
 {
-    is_marked(sets.targets, at) || is_some_member(image, top, at, sets.root_chain, sets.elsewhere)
+    sets.targets.contains(at / 16) || is_some_member(image, top, at, sets.chains)
 }
 
 /// Whether a name is empty or holds `/`.
@@ -134,9 +121,7 @@ fn breaks_name_bad<A: Allocator>(image: &[u8], top: usize, sets: &Sets<A>, at: u
 {
     match text_at(image, at + 16) {
         None => false,
-        Some(name) => {
-            is_bad_name(name) && is_some_member(image, top, at, sets.root_chain, sets.elsewhere)
-        }
+        Some(name) => { is_bad_name(name) && is_some_member(image, top, at, sets.chains) }
     }
 }
 
@@ -184,7 +169,7 @@ fn breaks_twice<A: Allocator>(image: &[u8], top: usize, sets: &Sets<A>, at: usiz
     requires slot { HasSlot image.now at }
     ensures { IsTrue result ↔ BreaksHeader image.now Rule.Twice at }
 {
-    is_marked(sets.twice, at) || at == top && is_marked(sets.elsewhere, at)
+    sets.twice.contains(at / 16) || at == top && sets.chains.root_elsewhere
 }
 
 /// Whether a header is among headers in rising order.
@@ -211,9 +196,7 @@ fn member_ends_as<A: Allocator>(
     ensures { IsTrue result ↔ (IsSomeMember image.now at × IsHardLink image.now at
         × EndsAs image.now at end) }
 {
-    if is_hard_link(image, top, at)
-        && is_some_member(image, top, at, sets.root_chain, sets.elsewhere)
-    {
+    if is_hard_link(image, top, at) && is_some_member(image, top, at, sets.chains) {
         sets.ends.at(at) == end
     } else {
         false
@@ -253,72 +236,156 @@ fn breaks_major_large<A: Allocator>(image: &[u8], top: usize, sets: &Sets<A>, at
     is_major_large(image, at) && is_used(image, top, sets, at)
 }
 
+/// Whether the words of a header, its name and the padding do not sum to 0.
+fn is_sum_bad(image: &[u8], top: usize, at: usize) -> bool
+    requires top { top ≡ root image.now }
+    requires inside { at + 16 ≤ length image.now }
+    requires small { length image.now < 2 ^ 32 }
+    ensures { IsTrue result ↔ HasBadSum image.now at }
+{
+    match text_at(image, at + 16) {
+        None => at == top,
+        Some(name) => word_sum(header_bytes(image, at, name)) != 0,
+    }
+}
+
+/// Whether the sum of a header is looked at, and bad.
+fn breaks_header_sum(image: &[u8], top: usize, profile: Profile, at: usize) -> bool
+    requires volume { IsVolumeImage image.now }
+    requires top { top ≡ root image.now }
+    requires slot { HasSlot image.now at }
+    requires reached { IsReached image.now at }
+    ensures { IsTrue result ↔ BreaksHeaderAs profile image.now Rule.HeaderSum at }
+{
+    match profile {
+        Profile::Usual => false,
+        Profile::Strict => is_sum_bad(image, top, at),
+    }
+}
+
+/// The rules of file headers that a header inside the image may break, in the order of their numbers.
+const HEADER_RULES: [Rule; 10] = [
+    Rule::NameOpen,
+    Rule::NameBad,
+    Rule::DataOutside,
+    Rule::TargetLong,
+    Rule::Twice,
+    Rule::SameName,
+    Rule::LinkLoop,
+    Rule::LinkDirectory,
+    Rule::MajorLarge,
+    Rule::HeaderSum,
+];
+
+/// Whether a reached header breaks a rule of file headers. Equal names are known only where the
+/// root's header stands in no other directory's chain.
+fn breaks<A: Allocator>(
+    image: &[u8],
+    top: usize,
+    profile: Profile,
+    sets: &Sets<A>,
+    rule: Rule,
+    at: usize,
+) -> bool
+    requires volume { IsVolumeImage image.now }
+    requires top { top ≡ root image.now }
+    requires sets { AreSets image.now sets.now }
+    requires slot { HasSlot image.now at }
+    requires reached { IsReached image.now at }
+    requires rule { IsHeaderRule rule }
+    requires named { rule ≡ Rule.SameName → ¬ IsElsewhere image.now (root image.now) }
+    ensures { IsTrue result ↔ BreaksHeaderAs profile image.now rule at }
+{
+    match rule {
+        Rule::NameOpen => breaks_name_open(image, top, at),
+        Rule::NameBad => breaks_name_bad(image, top, sets, at),
+        Rule::DataOutside => breaks_data_outside(image, top, sets, at),
+        Rule::TargetLong => breaks_target_long(image, top, sets, at),
+        Rule::Twice => breaks_twice(image, top, sets, at),
+        Rule::SameName => is_listed(sets.namesakes, at),
+        Rule::LinkLoop => breaks_link_loop(image, top, sets, at),
+        Rule::LinkDirectory => breaks_link_directory(image, top, sets, at),
+        Rule::MajorLarge => breaks_major_large(image, top, sets, at),
+        Rule::HeaderSum => breaks_header_sum(image, top, profile, at),
+        _ => false,
+    }
+}
+
 /// The first rule of file headers that a reached header breaks. Where the root's header stands
 /// in the chain of another directory, only the root may be asked for.
-fn rule_at<A: Allocator>(image: &[u8], top: usize, sets: &Sets<A>, at: usize) -> Option<Rule>
+fn rule_at<A: Allocator>(
+    image: &[u8],
+    top: usize,
+    profile: Profile,
+    sets: &Sets<A>,
+    at: usize,
+) -> Option<Rule>
     requires volume { IsVolumeImage image.now }
     requires top { top ≡ root image.now }
     requires sets { AreSets image.now sets.now }
     requires slot { HasSlot image.now at }
     requires reached { IsReached image.now at }
     requires root_once { IsElsewhere image.now (root image.now) → at ≡ root image.now }
-    ensures { MatchOption result (KeepsHeaderRules image.now at) (IsFirstRule image.now at) }
+    ensures { MatchOption result (KeepsHeaderRules profile image.now at) (IsFirstRule profile image.now at) }
 {
-    if breaks_name_open(image, top, at) {
-        Some(Rule::NameOpen)
-    } else if breaks_name_bad(image, top, sets, at) {
-        Some(Rule::NameBad)
-    } else if breaks_data_outside(image, top, sets, at) {
-        Some(Rule::DataOutside)
-    } else if breaks_target_long(image, top, sets, at) {
-        Some(Rule::TargetLong)
-    } else if breaks_twice(image, top, sets, at) {
-        Some(Rule::Twice)
-    } else if is_listed(sets.namesakes, at) {
-        Some(Rule::SameName)
-    } else if breaks_link_loop(image, top, sets, at) {
-        Some(Rule::LinkLoop)
-    } else if breaks_link_directory(image, top, sets, at) {
-        Some(Rule::LinkDirectory)
-    } else if breaks_major_large(image, top, sets, at) {
-        Some(Rule::MajorLarge)
-    } else {
-        None
+    for number in 0..HEADER_RULES.len() {
+        let rule = HEADER_RULES[number];
+        if breaks(image, top, profile, sets, rule, at) {
+            return Some(rule);
+        }
     }
+    None
 }
 
-/// The first rule of file headers that the header in a slot breaks, if it is reached.
-fn rule_in<A: Allocator>(image: &[u8], top: usize, sets: &Sets<A>, slot: usize) -> Option<Rule>
+/// The first rule that a reached header breaks, with its place.
+fn fault_at<A: Allocator>(
+    image: &[u8],
+    top: usize,
+    profile: Profile,
+    sets: &Sets<A>,
+    at: usize,
+) -> Option<ImageFault>
     requires volume { IsVolumeImage image.now }
     requires top { top ≡ root image.now }
     requires sets { AreSets image.now sets.now }
-    requires slot { HasSlot image.now (slot * 16) }
-    requires root_once { IsElsewhere image.now (root image.now) → slot * 16 ≡ root image.now }
-    ensures { MatchOption result (KeepsHeaderRules image.now (slot * 16))
-        (IsFirstRule image.now (slot * 16)) }
+    requires slot { HasSlot image.now at }
+    requires reached { IsReached image.now at }
+    requires root_once { IsElsewhere image.now (root image.now) → at ≡ root image.now }
+    ensures { MatchOption result (KeepsHeaderRules profile image.now at)
+        (λ f. (f.place ≡ at) × IsFirstRule profile image.now at f.rule) }
 {
-    let at = slot * 16;
-    if is_reached(image, top, sets, at) {
-        rule_at(image, top, sets, at)
-    } else {
-        None
+    match rule_at(image, top, profile, sets, at) {
+        Some(rule) => Some(ImageFault {
+            rule,
+            place: at as u32,
+        }),
+        None => None,
     }
 }
 
 /// The first header inside the image that breaks a rule of file headers, and the first rule that
 /// it breaks.
-fn fault_inside<A: Allocator>(image: &[u8], top: usize, sets: &Sets<A>) -> Option<ImageFault>
+fn fault_inside<A: Allocator>(
+    image: &[u8],
+    top: usize,
+    profile: Profile,
+    sets: &Sets<A>,
+) -> Option<ImageFault>
     requires volume { IsVolumeImage image.now }
     requires top { top ≡ root image.now }
     requires sets { AreSets image.now sets.now }
-    ensures { MatchOption result (KeepsBelow image.now (length image.now))
-        (λ f. IsFirstInside image.now f.rule f.place) }
+    ensures { MatchOption result (KeepsBelow profile image.now (length image.now))
+        (λ f. IsFirstInside profile image.now f.rule f.place) }
 {
-    for slot in top / 16..image.len() / 16 {
-        if let Some(rule) = rule_in(image, top, sets, slot) {
-            let place = (slot * 16) as u32;
-            return Some(ImageFault { rule, place });
+    if let Some(fault) = fault_at(image, top, profile, sets, top) {
+        return Some(fault);
+    }
+    let mut from = top / 16 + 1;
+    while let Some(slot) = next_reached(sets.chains, sets.targets, from) {
+        if let Some(fault) = fault_at(image, top, profile, sets, slot * 16) {
+            return Some(fault);
         }
+        from = slot + 1;
     }
     None
 }
@@ -327,6 +394,7 @@ fn fault_inside<A: Allocator>(image: &[u8], top: usize, sets: &Sets<A>) -> Optio
 pub(crate) fn header_fault<A: Allocator>(
     image: &[u8],
     top: usize,
+    profile: Profile,
     sets: &Sets<A>,
     outside: Outside,
 ) -> Option<ImageFault>
@@ -335,7 +403,7 @@ pub(crate) fn header_fault<A: Allocator>(
     requires sets { AreSets image.now sets.now }
     requires below { IsLeast (λ h. IsReached image.now h × IsBelow image.now h) outside.below }
     requires above { IsLeast (λ h. IsReached image.now h × IsAbove image.now h) outside.above }
-    ensures { IsHeaderFault image.now result }
+    ensures { IsHeaderFault profile image.now result }
 {
     if let Some(place) = outside.below {
         return Some(ImageFault {
@@ -343,7 +411,7 @@ pub(crate) fn header_fault<A: Allocator>(
             place,
         });
     }
-    if let Some(fault) = fault_inside(image, top, sets) {
+    if let Some(fault) = fault_inside(image, top, profile, sets) {
         return Some(fault);
     }
     match outside.above {
@@ -358,8 +426,8 @@ pub(crate) fn header_fault<A: Allocator>(
 /// The fault of an image that keeps the rules of the volume header: its first breach of a rule of
 /// file headers, or else its least header that is too deep.
 pub(crate) fn fault_of(header: Option<ImageFault>, deep: Option<u32>) -> Option<ImageFault>
-    ensures { (b : List ℕ) → IsVolume b → IsHeaderFault (image b) header
-        → IsDeepFault (image b) header deep → IsFaultOf b result }
+    ensures { (profile : Profile) (b : List ℕ) → IsVolume b → IsHeaderFault profile (image b) header
+        → IsDeepFault (image b) header deep → IsFaultOfAs profile b result }
 {
     match header {
         Some(fault) => Some(fault),

@@ -3,11 +3,14 @@
 ghost use Rattle.std.specs.Prelude.{◌≡◌, ◌+◌, ◌*◌, ◌/◌, ◌<◌, ◌≤◌, ◌↔◌, ◌^◌, List, Bool, length, get_or, false, IsTrue};
 ghost use Rattle.romfs_format.specs.Fields.{root, IsInside, cleared};
 ghost use Rattle.romfs_format.specs.Chains.{IsDotted, IsOpened, IsSomeMember};
-ghost use Rattle.romfs_rules.specs.Marks.{IsInRootChain, IsElsewhere, Opens, AreMarks};
-ghost use Rattle.romfs_rules.specs.Leads.{IsInSomeChain};
+ghost use Rattle.romfs_rules.specs.Marks.{Opens};
+ghost use Rattle.romfs_rules.specs.Leads.{IsInSomeChain, StandsKept};
+ghost use Rattle.romfs_rules.specs.InChains.{AreChains};
 
+use crate::chains::Chains;
 use romfs_format::head::Kind;
 use romfs_format::read::{kind_of, text_at, word};
+use std::alloc::Allocator;
 
 /// Whether a header is named `.` or `..`.
 pub(crate) fn is_dotted(image: &[u8], at: usize) -> bool
@@ -30,63 +33,64 @@ pub(crate) fn opens(image: &[u8], at: usize) -> bool
     kind_of(word(image, at)) == Kind::Directory && !is_dotted(image, at)
 }
 
-/// Whether a header has a mark.
-pub(crate) fn is_marked(marks: &[bool], at: usize) -> bool
-    requires { at / 16 < length marks.now }
-    ensures { result ≡ get_or marks.now (at / 16) false }
-{
-    marks[at / 16]
-}
-
 /// Whether a header stands in a chain.
 #[tactic(auto, using(crate::proofs::Slots::marked))]
-pub(crate) fn is_in_chain(image: &[u8], at: usize, root_chain: &[bool], elsewhere: &[bool]) -> bool
+pub(crate) fn is_in_chain<A: Allocator>(image: &[u8], at: usize, chains: &Chains<A>) -> bool
     requires inside { IsInside image.now at }
     requires slot { cleared at ≡ at }
-    requires root_chain { AreMarks image.now (IsInRootChain image.now) root_chain.now }
-    requires elsewhere { AreMarks image.now (IsElsewhere image.now) elsewhere.now }
+    requires chains { AreChains image.now chains.now }
     ensures { IsTrue result ↔ IsInSomeChain image.now at }
 {
-    is_marked(root_chain, at) || is_marked(elsewhere, at)
+    chains.headers.contains(at / 16)
 }
 
 /// Whether a header is a directory that is opened.
 #[tactic(auto, using(crate::proofs::Standing::opened, crate::proofs::Standing::opened_root))]
-pub(crate) fn is_opened(
+pub(crate) fn is_opened<A: Allocator>(
     image: &[u8],
     top: usize,
     at: usize,
-    root_chain: &[bool],
-    elsewhere: &[bool],
+    chains: &Chains<A>,
 ) -> bool
     requires small { length image.now < 2 ^ 32 }
     requires top { top ≡ root image.now }
     requires inside { IsInside image.now at }
     requires slot { cleared at ≡ at }
-    requires root_chain { AreMarks image.now (IsInRootChain image.now) root_chain.now }
-    requires elsewhere { AreMarks image.now (IsElsewhere image.now) elsewhere.now }
+    requires chains { AreChains image.now chains.now }
     ensures { IsTrue result ↔ IsOpened image.now at }
 {
-    at == top || is_in_chain(image, at, root_chain, elsewhere) && opens(image, at)
+    at == top || is_in_chain(image, at, chains) && opens(image, at)
+}
+
+/// Whether a header stands in a chain, the root's in another than its own.
+fn stands_kept<A: Allocator>(image: &[u8], top: usize, at: usize, chains: &Chains<A>) -> bool
+    requires top { top ≡ root image.now }
+    requires inside { IsInside image.now at }
+    requires slot { cleared at ≡ at }
+    requires chains { AreChains image.now chains.now }
+    ensures { IsTrue result ↔ StandsKept image.now at }
+{
+    if at == top {
+        chains.root_elsewhere
+    } else {
+        is_in_chain(image, at, chains)
+    }
 }
 
 /// Whether a header is a member of some directory.
-#[tactic(auto, using(crate::proofs::Standing::some_member, crate::proofs::Slots::marked))]
-pub(crate) fn is_some_member(
+#[tactic(auto, using(crate::proofs::Standing::member_unless, crate::proofs::Standing::some_member))]
+pub(crate) fn is_some_member<A: Allocator>(
     image: &[u8],
     top: usize,
     at: usize,
-    root_chain: &[bool],
-    elsewhere: &[bool],
+    chains: &Chains<A>,
 ) -> bool
     requires small { length image.now < 2 ^ 32 }
     requires top { top ≡ root image.now }
     requires inside { IsInside image.now at }
     requires slot { cleared at ≡ at }
-    requires root_chain { AreMarks image.now (IsInRootChain image.now) root_chain.now }
-    requires elsewhere { AreMarks image.now (IsElsewhere image.now) elsewhere.now }
+    requires chains { AreChains image.now chains.now }
     ensures { IsTrue result ↔ IsSomeMember image.now at }
 {
-    let stands = is_marked(elsewhere, at) || at != top && is_marked(root_chain, at);
-    stands && !is_dotted(image, at)
+    stands_kept(image, top, at, chains) && !is_dotted(image, at)
 }

@@ -2,41 +2,33 @@
 
 ghost use Rattle.std.specs.Prelude.{◌≡◌, ◌≢◌, ◌+◌, ◌/◌, ◌^◌, ◌<◌, ◌≤◌, ◌↔◌, ℕ, List, Bool, IfOk, IsTrue, length, get_or};
 ghost use Rattle.romfs_format.specs.Fields.{root};
-ghost use Rattle.romfs_rules.specs.Marks.{IsVolumeImage, AreMarks, IsInRootChain, IsElsewhere};
-ghost use Rattle.romfs_rules.specs.Namesakes.{IsLinked, IsEither, AreCollected, AreNumbered, IsNextNumber, AreNextNumbers, AreChosen, AreNamesakes};
+ghost use Rattle.romfs_rules.specs.Marks.{IsVolumeImage, IsElsewhere};
+ghost use Rattle.romfs_rules.specs.InChains.{AreChains};
+ghost use Rattle.romfs_rules.specs.Namesakes.{IsLinked, AreCollected, AreNumbered, IsNextNumber, AreNextNumbers, AreChosen, AreNamesakes};
 
+use crate::chains::Chains;
 use crate::climb::note_higher;
 use crate::forest::{Forest, lists};
 use crate::names::classes;
 use crate::slot::is_inside;
+use crate::slot_set::SlotSet;
 use romfs_format::read::word;
 use std::alloc::{AllocError, Allocator};
 
-/// Whether a slot is marked on either list.
-fn is_either(chain: &[bool], elsewhere: &[bool], slot: usize) -> bool
-    requires chain { slot < length chain.now }
-    requires elsewhere { slot < length elsewhere.now }
-    ensures { IsTrue result ↔ IsEither chain.now elsewhere.now slot }
-{
-    chain[slot] || elsewhere[slot]
-}
-
-/// The marked headers in order, and how many of them stand before each slot.
+/// The headers of a set in order, and how many of them stand before each slot.
 fn collect<A: Allocator + Copy>(
     alloc: A,
-    chain: &[bool],
-    elsewhere: &[bool],
+    set: &SlotSet<A>,
 ) -> Result<(Vec<u32, A>, Vec<u32, A>), AllocError>
-    requires few { length chain.now < 2 ^ 28 }
-    requires sized { length elsewhere.now ≡ length chain.now }
+    requires few { length set.now < 2 ^ 28 }
     ensures { IfOk result (λ both.
-        AreCollected chain.now elsewhere.now (length chain.now) both.0.items both.1.items) }
+        AreCollected set.now (length set.now) both.0.items both.1.items) }
 {
     let mut heads = Vec::new(alloc);
-    let mut numbers = Vec::with_capacity(alloc, chain.len())?;
-    for slot in 0..chain.len() {
+    let mut numbers = Vec::with_capacity(alloc, set.slots())?;
+    for slot in 0..set.slots() {
         numbers.push(heads.len() as u32)?;
-        if is_either(chain, elsewhere, slot) {
+        if set.contains(slot) {
             heads.push((slot * 16) as u32)?;
         }
     }
@@ -104,17 +96,15 @@ pub(crate) fn find_namesakes<A: Allocator + Copy>(
     alloc: A,
     image: &[u8],
     top: usize,
-    root_chain: &[bool],
-    elsewhere: &[bool],
+    chains: &Chains<A>,
 ) -> Result<Vec<u32, A>, AllocError>
     requires volume { IsVolumeImage image.now }
     requires top { top ≡ root image.now }
-    requires root_chain { AreMarks image.now (IsInRootChain image.now) root_chain.now }
-    requires elsewhere { AreMarks image.now (IsElsewhere image.now) elsewhere.now }
+    requires chains { AreChains image.now chains.now }
     requires alone { ¬ IsElsewhere image.now (root image.now) }
     ensures { IfOk result (λ found. AreNamesakes image.now found.items) }
 {
-    let (heads, numbers) = collect(alloc, root_chain, elsewhere)?;
+    let (heads, numbers) = collect(alloc, &chains.headers)?;
     let next = next_numbers(alloc, image, top, &heads, &numbers)?;
     drop(numbers);
     let class = classes(alloc, image, top, &heads)?;

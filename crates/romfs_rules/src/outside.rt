@@ -3,13 +3,18 @@
 ghost use Rattle.std.specs.Prelude.{◌≡◌, ◌*◌, ◌/◌, ◌<◌, ◌^◌, length};
 ghost use Rattle.romfs_format.specs.Fields.{root, IsInside, cleared};
 ghost use Rattle.romfs_format.specs.Links.{IsTarget, IsReached};
-ghost use Rattle.romfs_rules.specs.Marks.{IsVolumeImage, IsInRootChain, IsElsewhere, AreMarks};
+ghost use Rattle.romfs_rules.specs.Marks.{IsVolumeImage, AreMarks};
+ghost use Rattle.romfs_rules.specs.InChains.{AreChains};
 ghost use Rattle.romfs_rules.specs.Leads.{IsTheOne};
 ghost use Rattle.romfs_rules.specs.Outside.{Names, NamesDestination, IsLeast, IsBelow, IsAbove, lesser, Notes};
 
+use crate::chains::Chains;
 use crate::lead::destination_of;
 use crate::link::{first_link, next_link};
-use crate::member::{is_marked, is_some_member};
+use crate::member::is_some_member;
+use crate::reached::next_reached;
+use crate::slot_set::SlotSet;
+use std::alloc::Allocator;
 
 /// The least places outside the image at which headers are reached.
 #[derive(Clone, Copy)]
@@ -21,24 +26,22 @@ pub(crate) struct Outside {
 }
 
 /// The destination of a hard link that is a member, or that a member's hard link leads over.
-fn named_destination(
+fn named_destination<A: Allocator>(
     image: &[u8],
     top: usize,
     at: usize,
-    root_chain: &[bool],
-    elsewhere: &[bool],
-    targets: &[bool],
+    chains: &Chains<A>,
+    targets: &SlotSet<A>,
 ) -> Option<u32>
     requires small { length image.now < 2 ^ 32 }
     requires top { top ≡ root image.now }
     requires inside { IsInside image.now at }
     requires slot { cleared at ≡ at }
-    requires root_chain { AreMarks image.now (IsInRootChain image.now) root_chain.now }
-    requires elsewhere { AreMarks image.now (IsElsewhere image.now) elsewhere.now }
+    requires chains { AreChains image.now chains.now }
     requires targets { AreMarks image.now (IsTarget image.now) targets.now }
     ensures { IsTheOne (NamesDestination image.now at) result }
 {
-    if is_marked(targets, at) || is_some_member(image, top, at, root_chain, elsewhere) {
+    if targets.contains(at / 16) || is_some_member(image, top, at, chains) {
         destination_of(image, at)
     } else {
         None
@@ -82,55 +85,54 @@ fn note(found: Outside, image: &[u8], top: usize, word: Option<u32>) -> Outside
 }
 
 /// What is found with the headers more that a header leads to.
-fn note_named(
+fn note_named<A: Allocator>(
     found: Outside,
     image: &[u8],
     top: usize,
     at: usize,
-    root_chain: &[bool],
-    elsewhere: &[bool],
-    targets: &[bool],
+    chains: &Chains<A>,
+    targets: &SlotSet<A>,
 ) -> Outside
     requires small { length image.now < 2 ^ 32 }
     requires top { top ≡ root image.now }
     requires inside { IsInside image.now at }
     requires slot { cleared at ≡ at }
-    requires root_chain { AreMarks image.now (IsInRootChain image.now) root_chain.now }
-    requires elsewhere { AreMarks image.now (IsElsewhere image.now) elsewhere.now }
+    requires chains { AreChains image.now chains.now }
     requires targets { AreMarks image.now (IsTarget image.now) targets.now }
     ensures below { Notes (Names image.now at) (IsBelow image.now) found.below result.below }
     ensures above { Notes (Names image.now at) (IsAbove image.now) found.above result.above }
 {
-    let next = next_link(image, at, root_chain, elsewhere);
-    let first = first_link(image, top, at, root_chain, elsewhere);
-    let destination = named_destination(image, top, at, root_chain, elsewhere, targets);
+    let next = next_link(image, at, chains);
+    let first = first_link(image, top, at, chains);
+    let destination = named_destination(image, top, at, chains, targets);
     let with_next = note(found, image, top, next);
     let with_first = note(with_next, image, top, first);
     note(with_first, image, top, destination)
 }
 
 /// Finds the least headers outside the image that are reached, on either side.
-pub(crate) fn find_outside(
+pub(crate) fn find_outside<A: Allocator>(
     image: &[u8],
     top: usize,
-    root_chain: &[bool],
-    elsewhere: &[bool],
-    targets: &[bool],
+    chains: &Chains<A>,
+    targets: &SlotSet<A>,
 ) -> Outside
     requires volume { IsVolumeImage image.now }
     requires top { top ≡ root image.now }
-    requires root_chain { AreMarks image.now (IsInRootChain image.now) root_chain.now }
-    requires elsewhere { AreMarks image.now (IsElsewhere image.now) elsewhere.now }
+    requires chains { AreChains image.now chains.now }
     requires targets { AreMarks image.now (IsTarget image.now) targets.now }
     ensures below { IsLeast (λ h. IsReached image.now h × IsBelow image.now h) result.below }
     ensures above { IsLeast (λ h. IsReached image.now h × IsAbove image.now h) result.above }
 {
-    let mut found = Outside {
+    let none = Outside {
         below: None,
         above: None,
     };
-    for slot in top / 16..root_chain.len() {
-        found = note_named(found, image, top, slot * 16, root_chain, elsewhere, targets);
+    let mut found = note_named(none, image, top, top, chains, targets);
+    let mut from = top / 16 + 1;
+    while let Some(slot) = next_reached(chains, targets, from) {
+        found = note_named(found, image, top, slot * 16, chains, targets);
+        from = slot + 1;
     }
     found
 }

@@ -5,8 +5,10 @@ ghost use Rattle.romfs_format.specs.Fields.{root, IsInside};
 ghost use Rattle.romfs_format.specs.Links.{IsHardLink};
 ghost use Rattle.romfs_rules.specs.Marks.{IsMarked};
 
+use crate::slot_set::SlotSet;
 use romfs_format::head::Kind;
 use romfs_format::read::{kind_of, word};
+use std::alloc::Allocator;
 
 /// Whether a header lies in the image.
 pub(crate) fn is_inside(image: &[u8], top: usize, at: usize) -> bool
@@ -18,14 +20,19 @@ pub(crate) fn is_inside(image: &[u8], top: usize, at: usize) -> bool
 }
 
 /// Whether a header lies in the image, and has no mark.
-pub(crate) fn is_fresh(image: &[u8], top: usize, at: usize, marks: &[bool]) -> bool
+pub(crate) fn is_fresh<A: Allocator>(
+    image: &[u8],
+    top: usize,
+    at: usize,
+    marks: &SlotSet<A>,
+) -> bool
     requires at { at < 2 ^ 32 }
     requires top { top ≡ root image.now }
     requires sized { length marks.now ≡ length image.now / 16 }
     ensures fresh { IsTrue result → IsInside image.now at × (at / 16 < length marks.now) × (get_or marks.now (at / 16) false ≡ false) }
     ensures stale { result ≡ false → (¬ IsInside image.now at) ⊎ IsMarked marks.now at }
 {
-    is_inside(image, top, at) && !marks[at / 16]
+    is_inside(image, top, at) && !marks.contains(at / 16)
 }
 
 /// Whether a header lies in the image and is a hard link.

@@ -3,16 +3,19 @@
 ghost use Rattle.std.specs.Prelude.{◌≡◌, ◌<◌, ◌/◌, ◌^◌, ◌↔◌, length, IfOk};
 ghost use Rattle.romfs_format.specs.Fields.{root};
 ghost use Rattle.romfs_format.specs.Links.{IsTarget};
-ghost use Rattle.romfs_rules.specs.Marks.{IsVolumeImage, AreMarks, IsInRootChain, IsElsewhere};
+ghost use Rattle.romfs_rules.specs.Marks.{IsVolumeImage, AreMarks};
+ghost use Rattle.romfs_rules.specs.InChains.{AreChains};
 ghost use Rattle.romfs_rules.specs.Targets.{IsClosed, FollowsLink};
 
+use crate::chains::Chains;
 use crate::member::is_some_member;
 use crate::slot::{is_fresh, is_hard_link};
+use crate::slot_set::SlotSet;
 use romfs_format::read::word;
 use std::alloc::{AllocError, Allocator};
 
 /// Marks the headers on the destination chain of a header, up to one that has a mark.
-fn mark_destinations(image: &[u8], top: usize, from: usize, marks: &mut [bool])
+fn mark_destinations<A: Allocator>(image: &[u8], top: usize, from: usize, marks: &mut SlotSet<A>)
     requires volume { IsVolumeImage image.now }
     requires top { top ≡ root image.now }
     requires from { from < 2 ^ 32 }
@@ -27,7 +30,7 @@ fn mark_destinations(image: &[u8], top: usize, from: usize, marks: &mut [bool])
         if !is_fresh(image, top, at, marks) {
             return;
         }
-        marks[at / 16] = true;
+        marks.insert(at / 16);
     }
 }
 
@@ -36,21 +39,21 @@ pub(crate) fn mark_targets<A: Allocator + Copy>(
     alloc: A,
     image: &[u8],
     top: usize,
-    root_chain: &[bool],
-    elsewhere: &[bool],
-) -> Result<Vec<bool, A>, AllocError>
+    chains: &Chains<A>,
+) -> Result<SlotSet<A>, AllocError>
     requires volume { IsVolumeImage image.now }
     requires top { top ≡ root image.now }
-    requires root_chain { AreMarks image.now (IsInRootChain image.now) root_chain.now }
-    requires elsewhere { AreMarks image.now (IsElsewhere image.now) elsewhere.now }
-    ensures { IfOk result (λ marks. AreMarks image.now (IsTarget image.now) marks.items) }
+    requires chains { AreChains image.now chains.now }
+    ensures { IfOk result (λ marks. AreMarks image.now (IsTarget image.now) marks) }
 {
-    let mut marks = vec![in alloc; false; image.len() / 16]?;
-    for slot in 0..image.len() / 16 {
+    let mut marks = SlotSet::new(alloc, image.len() / 16)?;
+    let mut from = 0;
+    while let Some(slot) = chains.headers.next_from(from) {
         let at = slot * 16;
-        if is_hard_link(image, top, at) && is_some_member(image, top, at, root_chain, elsewhere) {
+        if is_hard_link(image, top, at) && is_some_member(image, top, at, chains) {
             mark_destinations(image, top, at, &mut marks);
         }
+        from = slot + 1;
     }
     Ok(marks)
 }

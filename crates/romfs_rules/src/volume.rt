@@ -1,8 +1,9 @@
 //! The rules of the volume header.
 
 ghost use Rattle.std.specs.Prelude.{◌≡◌, ◌+◌, ◌<◌, ◌≤◌, ◌^◌, ◌↔◌, length, MatchOption, IfNone, IsTrue};
+ghost use Rattle.romfs_format.specs.declared.rule.Profile.{Profile};
 ghost use Rattle.romfs_format.specs.Fields.{image, root, summed, word};
-ghost use Rattle.romfs_format.specs.Rules.{IsFault, StartsWith, magic, IsVolume};
+ghost use Rattle.romfs_format.specs.Rules.{IsFaultAs, StartsWith, magic, IsVolume};
 ghost use Rattle.romfs_rules.specs.Marks.{IsVolumeImage};
 
 use romfs_format::head::Kind;
@@ -40,7 +41,7 @@ fn is_magic(bytes: &[u8]) -> bool
 /// The first rule of the volume header that is broken.
 #[tactic(auto, unfolding(romfs_format::specs::Fields::root))]
 pub(crate) fn volume_fault(bytes: &[u8]) -> Option<ImageFault>
-    ensures fault { MatchOption result (IsVolume bytes.now) (λ fault. IsFault bytes.now fault.rule fault.place) }
+    ensures fault { MatchOption result (IsVolume bytes.now) (λ fault. (profile : Profile) → IsFaultAs profile bytes.now fault.rule fault.place) }
     ensures image { IfNone result (IsVolumeImage (image bytes.now)) }
     ensures sound { IfNone result ((16 ≤ word bytes.now 8) × (word bytes.now 8 ≤ length bytes.now) × (root (image bytes.now) + 16 ≤ word bytes.now 8)) }
 {

@@ -6,23 +6,23 @@ use Rattle.romfs_rules.proofs.chains.mark_root_chain.Goals as goal
 
 pub loop-marks-init : goal.loop-marks-init
 loop-marks-init g c = record {
-  walked = begun c.args.image.now c.requires.volume c.args.top c.word.result c.requires.top c.word.ensures c.in_ok-marks.marks.items (c.in_ok-marks.ensures.items_if_clones_equal (λ y e. e));
+  walked = begun c.args.image.now c.requires.volume c.args.top c.word.result c.requires.top c.word.ensures c.in_ok-marks.marks c.in_ok-marks.ensures;
   narrow = omega arith;
 }
 
 pub loop-marks-smaller : goal.loop-marks-smaller
 loop-marks-smaller g c =
-    let f = rw c.deref.ensures.value at (c.loop-marks-test.ensures.fresh refl) in
-    let less = marks_fall c.loop-marks.marks.items (c.loop-marks.at / 16) f.1 f.2 in
-    omega arith
+    let f = c.loop-marks-test.ensures.fresh refl in
+    let less = marks_fall c.loop-marks.marks (c.loop-marks.at / 16) f.1 f.2 in
+    rw c.insert.ensures (omega arith)
 
 pub loop-marks-preserved : goal.loop-marks-preserved
 loop-marks-preserved g c =
-    let f = rw c.deref.ensures.value at (c.loop-marks-test.ensures.fresh refl) in
+    let f = c.loop-marks-test.ensures.fresh refl in
     record {
-      walked = steps c.args.image.now c.loop-marks.marks.items c.loop-marks.at c.loop-marks.invariant.walked c.requires.volume f.0 f.1 (c.word-in-loop-marks.result / 16 * 16) (ap cleared c.word-in-loop-marks.ensures);
+      walked = rw c.insert.ensures (steps c.args.image.now c.loop-marks.marks c.loop-marks.at c.loop-marks.invariant.walked c.requires.volume f.0 f.1 (c.word-in-loop-marks.result / 16 * 16) (ap cleared c.word-in-loop-marks.ensures));
       narrow = omega arith;
     }
 
 pub returns : goal.returns
-returns g c = all_marked c.args.image.now c.loop-marks.marks.items c.loop-marks.at c.loop-marks.invariant.walked (rw c.deref.ensures.value at (c.loop-marks-test.ensures.stale refl))
+returns g c = all_marked c.args.image.now c.loop-marks.marks c.loop-marks.at c.loop-marks.invariant.walked (c.loop-marks-test.ensures.stale refl)

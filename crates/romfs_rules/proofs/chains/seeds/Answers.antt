@@ -1,16 +1,25 @@
-use Rattle.romfs_rules.proofs.Closure.{passed, seeds_more, all_seeded}
+use Rattle.std.proofs.Common.{arith, length}
+use Rattle.romfs_rules.proofs.Closure.{unseeded, passed_to, seeds_more, all_seeded}
 use Rattle.romfs_rules.proofs.chains.seeds.Goals as goal
-use Rattle.romfs_rules.proofs.chains.seeds.Goals.{then-root_chain-slot+in_ok-push_some, else-root_chain-slot}
+
+pub loop-slot-init : goal.loop-slot-init
+loop-slot-init g c = record { low = omega arith; seeded = rw c.new-todo.ensures.items (unseeded c.args.image.now c.args.root_chain.now c.requires.root_chain) }
 
 pub loop-slot-preserved : goal.loop-slot-preserved
 loop-slot-preserved g c =
     let a = c.args.image.now in
-    let marks = c.args.root_chain.now in
-    let before = c.loop-slot.todo.items in
-    elim c.if-root_chain-slot.branch [
-      | then-root_chain-slot+in_ok-push_some w ↦ seeds_more a marks c.requires.root_chain c.loop-slot.slot before c.loop-slot.invariant w.if-root_chain-slot.true w.first_below.result c.if-root_chain-slot.todo.items w.first_below.ensures (rw w.todo-is w.in_ok-push_some.ensures)
-      | else-root_chain-slot w ↦ rw w.todo-is (passed a marks c.requires.root_chain c.loop-slot.slot before c.loop-slot.invariant w.if-root_chain-slot.false)
-    ]
+    let set = c.args.root_chain.now in
+    let n = c.in-Some.ensures.next in
+    let h = n.high in
+    let before = passed_to a set c.requires.root_chain c.loop-slot.from c.in-Some.slot c.loop-slot.todo.items n.low n.clear c.loop-slot.invariant.seeded in
+    record {
+      low = omega arith;
+      seeded = seeds_more a set c.requires.root_chain c.in-Some.slot c.loop-slot.todo.items before n.is c.first_below.result c.push_some.new.todo.items c.first_below.ensures c.in_ok-push_some.ensures;
+    }
 
 pub returns : goal.returns
-returns g c = all_seeded c.args.image.now c.args.root_chain.now c.requires.root_chain c.loop-slot.slot c.loop-slot.todo.items c.loop-slot-test.false c.loop-slot.invariant
+returns g c =
+    let a = c.args.image.now in
+    let set = c.args.root_chain.now in
+    all_seeded a set c.requires.root_chain (length set) c.loop-slot.todo.items (omega arith)
+    (passed_to a set c.requires.root_chain c.loop-slot.from (length set) c.loop-slot.todo.items c.loop-slot.invariant.low c.in_default.ensures.next c.loop-slot.invariant.seeded)

@@ -9,8 +9,8 @@ use Rattle.romfs_rules.proofs.fault.fault_in.Goals as goal
 
 pub returns : goal.returns
 returns g c = λ b e v.
-    c.fault_of.ensures b v
-    (subst (λ a. IsHeaderFault a c.in_ok-header.header) (sym e) c.in_ok-header.ensures)
+    c.fault_of.ensures c.args.profile b v
+    (subst (λ a. IsHeaderFault c.args.profile a c.in_ok-header.header) (sym e) c.in_ok-header.ensures)
     (λ n. subst (λ a. IsLeast (BreaksHeader a Deep) c.match-header.deep) (sym e)
     (elim c.match-header.branch [
       | in-Some w ↦ absurd (true≢false (rw w.in-Some.is at n))

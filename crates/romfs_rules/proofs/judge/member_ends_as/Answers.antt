@@ -3,7 +3,8 @@ use Rattle.std.proofs.Common.{◌≡◌, ◌∙◌, sym, ap, true, refl, rules}
 use Rattle.romfs_format.specs.declared.head.End.{End}
 use Rattle.romfs_format.specs.declared.head.End.TheVariants.{AtDirectory, AtOther, Nowhere}
 use Rattle.romfs_format.specs.contracts.head.End.{the_type}
-use Rattle.romfs_rules.proofs.Judging.{member_in_chain, link_says}
+use Rattle.romfs_rules.proofs.Standing.{member_in_chain}
+use Rattle.romfs_rules.proofs.Judging.{link_says}
 use Rattle.romfs_rules.proofs.judge.member_ends_as.Goals as goal
 
 -- an end is equal to itself

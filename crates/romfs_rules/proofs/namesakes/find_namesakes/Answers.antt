@@ -7,11 +7,11 @@ use Rattle.romfs_rules.proofs.namesakes.find_namesakes.Goals as goal
 
 pub next_numbers-requires-clause-numbered : goal.next_numbers-requires-clause-numbered
 next_numbers-requires-clause-numbered g c =
-    rw (c.deref.ensures.value, c.deref-2.ensures.value) (numbered _ _ _ _ _ c.requires.root_chain c.requires.elsewhere c.in_ok-heads.ensures)
+    rw (c.deref.ensures.value, c.deref-2.ensures.value) (numbered _ _ _ _ c.requires.chains.headers c.in_ok-heads.ensures)
 
 pub classes-requires-clause-inside : goal.classes-requires-clause-inside
 classes-requires-clause-inside g c =
-    let n = numbered _ _ _ _ _ c.requires.root_chain c.requires.elsewhere c.in_ok-heads.ensures in
+    let n = numbered _ _ _ _ c.requires.chains.headers c.in_ok-heads.ensures in
     rw c.deref-3.ensures.value (λ i l. (n.each i l).inside.1)
 
 pub chosen-requires-clause-rising : goal.chosen-requires-clause-rising
@@ -21,7 +21,7 @@ pub returns : goal.returns
 returns g c =
     let a = c.args.image.now in
     let heads = c.in_ok-heads.heads.items in
-    let n = numbered a _ _ heads c.in_ok-heads.numbers.items c.requires.root_chain c.requires.elsewhere c.in_ok-heads.ensures in
+    let n = numbered a _ heads c.in_ok-heads.numbers.items c.requires.chains.headers c.in_ok-heads.ensures in
     let next : AreNextNumbers a heads c.in_ok-next.next.items = rw c.deref.ensures.value at c.in_ok-next.ensures in
     let class : AreClasses (λ i. kept_name a (get_or heads i 0)) (length heads) c.in_ok-class.class.items =
     subst (λ hs. AreClasses (λ i. kept_name a (get_or hs i 0)) (length hs) c.in_ok-class.class.items) c.deref-3.ensures.value c.in_ok-class.ensures in

@@ -1,34 +1,61 @@
-use Rattle.std.proofs.Common.{arith}
-use Rattle.romfs_rules.specs.Outside.{IsBelow, IsAbove}
-use Rattle.romfs_rules.proofs.Slots.{slot_inside}
-use Rattle.romfs_rules.proofs.Reach.{scans, all_scanned}
+use Rattle.std.proofs.Common.{◌≡◌, ◌*◌, ◌/◌, ℕ, Option, None, subst, arith, length}
+use Rattle.romfs_rules.specs.Outside.{IsBelow, IsAbove, Names, Notes}
+use Rattle.romfs_rules.proofs.Slots.{slot_inside, cleared_root, inside_root}
+use Rattle.romfs_rules.proofs.Reach.{IsFoundBefore, nothing, scans, scanned_to, all_scanned}
 use Rattle.romfs_rules.proofs.outside.find_outside.Goals as goal
 
-pub note_named-found-requires-clause-inside : goal.note_named-found-requires-clause-inside
-note_named-found-requires-clause-inside c =
-    let sized = c.requires.root_chain.sized in slot_inside c.args.image.now c.loop-slot.slot (omega arith) (omega arith)
+pub note_named-found-requires-clause-slot : goal.note_named-found-requires-clause-slot
+note_named-found-requires-clause-slot g c = let t = c.requires.top in rw t (cleared_root c.args.image.now)
 
-pub loop-slot-preserved : goal.loop-slot-preserved
-loop-slot-preserved c =
+pub loop-slot-init : goal.loop-slot-init
+loop-slot-init g c =
     let a = c.args.image.now in
-    let slot = c.loop-slot.slot in
-    let before = c.loop-slot.found in
-    let after = c.note_named-found in
-    let sized = c.requires.root_chain.sized in
+    let slot = c.args.top / 16 in
+    let t = c.requires.top in
+    let k = cleared_root a in
+    let e : c.args.top ≡ slot * 16 = omega arith in
+    let v = c.requires.volume.top in
+    let s = c.requires.chains.headers.sized in
     let inside = slot_inside a slot (omega arith) (omega arith) in
+    let after = c.note_named-found in
     record {
-      below = scans a (IsBelow a) slot before.below after.result.below inside c.loop-slot.invariant.below after.ensures.below;
-      above = scans a (IsAbove a) slot before.above after.result.above inside c.loop-slot.invariant.above after.ensures.above;
+      behind = omega arith;
+      low = omega arith;
+      below = scans a (IsBelow a) slot None after.result.below inside (nothing a (IsBelow a) slot (omega arith)) (subst (λ h. Notes (Names a h) (IsBelow a) None after.result.below) e after.ensures.below);
+      above = scans a (IsAbove a) slot None after.result.above inside (nothing a (IsAbove a) slot (omega arith)) (subst (λ h. Notes (Names a h) (IsAbove a) None after.result.above) e after.ensures.above);
     }
 
-pub returns-clause-below : goal.returns-clause-below
-returns-clause-below c =
+pub loop-slot-preserved : goal.loop-slot-preserved
+loop-slot-preserved g c =
     let a = c.args.image.now in
-    let sized = c.requires.root_chain.sized in
-    all_scanned a (IsBelow a) c.requires.volume c.loop-slot.slot c.loop-slot.found.below (omega arith) (λ g q e. omega arith) c.loop-slot.invariant.below
+    let slot = c.in-Some.slot in
+    let n = c.in-Some.ensures in
+    let l = n.low in
+    let h = n.high in
+    let s = c.requires.chains.headers.sized in
+    let b = c.loop-slot.invariant.behind in
+    let inside = slot_inside a slot (omega arith) (omega arith) in
+    let before = c.loop-slot.found in
+    let after = c.note_named-found-in-Some in
+    let headers = c.args.chains.now.headers in
+    let targets = c.args.targets.now in
+    record {
+      behind = omega arith;
+      low = omega arith;
+      below = scans a (IsBelow a) slot before.below after.result.below inside (scanned_to a (IsBelow a) headers targets c.requires.chains.headers c.requires.targets c.loop-slot.from slot before.below b l n.one_clear n.other_clear c.loop-slot.invariant.below) after.ensures.below;
+      above = scans a (IsAbove a) slot before.above after.result.above inside (scanned_to a (IsAbove a) headers targets c.requires.chains.headers c.requires.targets c.loop-slot.from slot before.above b l n.one_clear n.other_clear c.loop-slot.invariant.above) after.ensures.above;
+    }
 
-pub returns-clause-above : goal.returns-clause-above
-returns-clause-above c =
+pub returns : goal.returns
+returns g c =
     let a = c.args.image.now in
-    let sized = c.requires.root_chain.sized in
-    all_scanned a (IsAbove a) c.requires.volume c.loop-slot.slot c.loop-slot.found.above (omega arith) (λ g q e. omega arith) c.loop-slot.invariant.above
+    let headers = c.args.chains.now.headers in
+    let targets = c.args.targets.now in
+    let s = c.requires.chains.headers.sized in
+    let b = c.loop-slot.invariant.behind in
+    let d = c.in_default.ensures in
+    let all : (Q : ℕ → Type 0) → (found : Option ℕ) → IsFoundBefore a Q c.loop-slot.from found → IsFoundBefore a Q (length headers) found = λ Q found f. scanned_to a Q headers targets c.requires.chains.headers c.requires.targets c.loop-slot.from (length headers) found b c.loop-slot.invariant.low d.0 d.1 f in
+    record {
+      below = all_scanned a (IsBelow a) c.requires.volume (length headers) c.loop-slot.found.below (omega arith) (λ g q e. omega arith) (all (IsBelow a) c.loop-slot.found.below c.loop-slot.invariant.below);
+      above = all_scanned a (IsAbove a) c.requires.volume (length headers) c.loop-slot.found.above (omega arith) (λ g q e. (let i = inside_root a c.requires.volume in omega arith)) (all (IsAbove a) c.loop-slot.found.above c.loop-slot.invariant.above);
+    }

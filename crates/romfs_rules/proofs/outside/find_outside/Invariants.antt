@@ -1,9 +1,16 @@
+use Rattle.std.proofs.Common.{◌-◌, ◌*◌, ◌<◌, ◌≤◌, length}
+use Rattle.romfs_format.specs.Fields.{root}
 use Rattle.romfs_rules.specs.Outside.{IsBelow, IsAbove}
 use Rattle.romfs_rules.proofs.Reach.{IsFoundBefore}
 use Rattle.romfs_rules.proofs.outside.find_outside.Given as goal
 
 abbrev pub invariant-loop-slot : goal.invariant-loop-slot
-invariant-loop-slot l = record {
-  below : IsFoundBefore l.image (IsBelow l.image) l.slot l.found.below;
-  above : IsFoundBefore l.image (IsAbove l.image) l.slot l.found.above;
+invariant-loop-slot g l = record {
+  behind : root l.image < l.from * 16;
+  low : l.from ≤ length l.chains.headers;
+  below : IsFoundBefore l.image (IsBelow l.image) l.from l.found.below;
+  above : IsFoundBefore l.image (IsAbove l.image) l.from l.found.above;
 }
+
+abbrev pub decreases-loop-slot : goal.decreases-loop-slot
+decreases-loop-slot g l = length l.chains.headers - l.from

@@ -3,7 +3,7 @@ use Rattle.romfs_rules.proofs.Reach.{noted_named}
 use Rattle.romfs_rules.proofs.outside.note_named.Goals as goal
 
 pub returns : goal.returns
-returns c =
+returns g c =
     let a = c.args.image.now in
     let next = c.next_link-next in
     let first = c.first_link-first in

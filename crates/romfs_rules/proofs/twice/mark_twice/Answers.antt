@@ -1,28 +1,44 @@
-use Rattle.std.proofs.Common.{◌≡◌, ◌/◌, ap, subst, arith, length}
-use Rattle.std.proofs.lemmas.List.{with_items_is}
-use Rattle.romfs_rules.proofs.Slots.{slot_inside}
-use Rattle.romfs_rules.proofs.Counted.{Tallied, Below, none_tallied, passes, all_twice}
+use Rattle.std.proofs.Common.{◌≡◌, ◌*◌, ◌/◌, subst, arith, length}
+use Rattle.romfs_rules.specs.Twice.{CountsBoth}
+use Rattle.romfs_rules.proofs.Slots.{cleared_root}
+use Rattle.romfs_rules.proofs.Counted.{Tallied, Below, none_tallied, passes, skipped_to, all_twice}
 use Rattle.romfs_rules.proofs.twice.mark_twice.Goals as goal
 
 pub loop-slot-init : goal.loop-slot-init
-loop-slot-init g c = none_tallied c.args.image.now c.requires.volume (c.args.top / 16) (omega arith) c.in_ok-once.once.items c.in_ok-twice.twice.items (c.in_ok-once.ensures.items_if_clones_equal (λ y e. e)) (c.in_ok-twice.ensures.items_if_clones_equal (λ y e. e))
+loop-slot-init g c =
+    let a = c.args.image.now in
+    let slot = c.args.top / 16 in
+    let e : c.args.top ≡ slot * 16 = (let k = cleared_root a in let t = c.requires.top in omega arith) in
+    let v = c.requires.volume.top in
+    let s = c.requires.chains.headers.sized in
+    let t = c.requires.top in
+    record {
+      behind = omega arith;
+      low = omega arith;
+      tallied = passes a slot c.in_ok-once.once c.in_ok-twice.twice c.count_links.new.once c.count_links.new.twice (subst (λ h. CountsBoth a h c.in_ok-once.once c.in_ok-twice.twice c.count_links.new.once c.count_links.new.twice) e c.count_links.ensures)
+          (none_tallied a c.requires.volume slot (omega arith) c.in_ok-once.once c.in_ok-twice.twice c.in_ok-once.ensures c.in_ok-twice.ensures);
+    }
 
-pub count_links-requires-clause-inside : goal.count_links-requires-clause-inside
-count_links-requires-clause-inside g c = slot_inside c.args.image.now c.loop-slot.slot (omega arith) (omega arith)
+pub count_links-requires-clause-slot : goal.count_links-requires-clause-slot
+count_links-requires-clause-slot g c = let t = c.requires.top in rw t (cleared_root c.args.image.now)
 
 pub loop-slot-preserved : goal.loop-slot-preserved
 loop-slot-preserved g c =
-    let image = c.args.image.now in
-    let once = c.loop-slot.once in
-    let twice = c.loop-slot.twice in
-    let new_once = c.count_links.new.once in
-    let new_twice = c.count_links.new.twice in
-    let once_is = with_items_is once new_once (omega (arith, once.ok.0, ap length c.deref_mut.ensures.value)) in
-    let twice_is = with_items_is twice new_twice (omega (arith, twice.ok.0, ap length c.deref_mut-in-loop-slot.ensures.value)) in
-    rw (once_is, twice_is) (passes image c.loop-slot.slot once.items twice.items new_once new_twice (rw (c.deref_mut.ensures.value, c.deref_mut-in-loop-slot.ensures.value) at c.count_links.ensures) c.loop-slot.invariant)
+    let a = c.args.image.now in
+    let n = c.in-Some.ensures.next in
+    let l = n.low in
+    let h = n.high in
+    let b = c.loop-slot.invariant.behind in
+    record {
+      behind = omega arith;
+      low = omega arith;
+      tallied = passes a c.in-Some.slot c.loop-slot.once c.loop-slot.twice c.count_links-in-Some.new.once c.count_links-in-Some.new.twice c.count_links-in-Some.ensures
+          (skipped_to a c.requires.volume c.args.chains.now.headers c.requires.chains.headers c.loop-slot.from c.in-Some.slot c.loop-slot.once c.loop-slot.twice b l n.clear c.loop-slot.invariant.tallied);
+    }
 
 pub returns : goal.returns
 returns g c =
-    let image = c.args.image.now in
-    let e : c.loop-slot.slot ≡ length image / 16 = omega arith in
-    all_twice image c.requires.volume c.loop-slot.once.items c.loop-slot.twice.items (subst (λ n. Tallied image (Below image n) c.loop-slot.once.items c.loop-slot.twice.items) e c.loop-slot.invariant)
+    let a = c.args.image.now in
+    let headers = c.args.chains.now.headers in
+    all_twice a c.requires.volume c.loop-slot.once c.loop-slot.twice (subst (λ n. Tallied a (Below a n) c.loop-slot.once c.loop-slot.twice) c.requires.chains.headers.sized
+    (skipped_to a c.requires.volume headers c.requires.chains.headers c.loop-slot.from (length headers) c.loop-slot.once c.loop-slot.twice c.loop-slot.invariant.behind c.loop-slot.invariant.low c.in_default.ensures.next c.loop-slot.invariant.tallied))

@@ -1,5 +1,14 @@
+use Rattle.std.proofs.Common.{◌-◌, ◌*◌, ◌<◌, ◌≤◌, length}
+use Rattle.romfs_format.specs.Fields.{root}
 use Rattle.romfs_rules.proofs.Counted.{Tallied, Below}
 use Rattle.romfs_rules.proofs.twice.mark_twice.Given as goal
 
 abbrev pub invariant-loop-slot : goal.invariant-loop-slot
-invariant-loop-slot g l = Tallied l.image (Below l.image l.slot) l.once.items l.twice.items
+invariant-loop-slot g l = record {
+  behind : root l.image < l.from * 16;
+  low : l.from ≤ length l.chains.headers;
+  tallied : Tallied l.image (Below l.image l.from) l.once l.twice;
+}
+
+abbrev pub decreases-loop-slot : goal.decreases-loop-slot
+decreases-loop-slot g l = length l.chains.headers - l.from

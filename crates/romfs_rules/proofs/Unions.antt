@@ -1,0 +1,78 @@
+-- Walks over sets of slots: what holds below a slot, and the slots between that are not in the set.
+use Rattle.std.proofs.Common.{◌≡◌, ◌∙◌, sym, subst, ℕ, zero, suc, ◌+◌, ◌-◌, ◌*◌, ◌/◌, ◌<◌, ◌≤◌, ◌⊎◌, inl, inr, List, length, Bool, true, false, get_or, set, refl, arith}
+use Rattle.std.proofs.lemmas.Bool.{cases_eq, cases_lt, true≢false}
+use Rattle.std.proofs.lemmas.List.{length-set, get_or_past}
+use Rattle.romfs_rules.specs.SlotSets.{IsClear, IsNextIn, IsUnion}
+use Rattle.romfs_format.specs.Fields.{IsInside}
+use Rattle.romfs_rules.specs.Marks.{AreMarks}
+use Rattle.romfs_rules.proofs.MarkLists.{was_set, still_set, newly_set}
+
+-- what goes on from each slot to the next goes on over any number of slots
+pub over : (P : ℕ → Type 0) (low count : ℕ) → P low → ((k : ℕ) → low ≤ k → k < low + count → P k → P (k + 1)) → P (low + count)
+over P low zero p step = subst P (let e : low ≡ low + 0 = omega arith in e) p
+over P low (suc n) p step =
+    let q = over P low n p (λ k l m x. step k l (omega arith) x) in
+    let r = step (low + n) (omega arith) (omega arith) q in
+    let e : low + n + 1 ≡ low + suc n = omega arith in
+    subst P e r
+
+pub over_to : (P : ℕ → Type 0) (low high : ℕ) → low ≤ high → P low → ((k : ℕ) → low ≤ k → k < high → P k → P (k + 1)) → P high
+over_to P low high l p step =
+    let e : low + (high - low) ≡ high = omega arith in
+    subst P e (over P low (high - low) p (λ k m n x. step k m (omega arith) x))
+
+-- both holds the slots of one, and those of other below n
+pub record IsUnionBelow (n : ℕ) (one other both : List Bool) : Type 0 where
+  pub sized : length both ≡ length one
+  pub each : (k : ℕ) → get_or both k false ≡ true → (get_or one k false ≡ true) ⊎ (get_or other k false ≡ true)
+  pub old : (k : ℕ) → get_or one k false ≡ true → get_or both k false ≡ true
+  pub new : (k : ℕ) → k < n → get_or other k false ≡ true → get_or both k false ≡ true
+
+module _ (one other : List Bool) where
+  pub united_none : IsUnionBelow 0 one other one
+  united_none = record { sized = refl; each = λ k m. inl m; old = λ k m. m; new = λ k l m. absurd (omega arith) }
+
+  pub united_more : (from slot : ℕ) (both : List Bool) → length other ≡ length one → IsUnionBelow from one other both → IsNextIn other from slot → IsUnionBelow (slot + 1) one other (set both slot true)
+  united_more from slot both same u n = record {
+    sized = length-set both slot true ∙ u.sized;
+    each = λ k m. elim (was_set both slot k m) [ inl e ↦ inr (subst (λ x. get_or other x false ≡ true) (sym e) n.is) | inr o ↦ u.each k o ];
+    old = λ k m. still_set both slot k fits (u.old k m);
+    new = λ k l m. elim (cases_eq k slot) [
+      | inl e ↦ rw e (newly_set both slot fits)
+      | inr d ↦ still_set both slot k fits (elim (cases_lt k from) [
+        | inl b ↦ u.new k b m
+        | inr b ↦ absurd (true≢false (sym m ∙ n.clear.each k b (omega arith)))
+      ])
+    ];
+  }
+    where
+      fits : slot < length both
+      fits = let s = u.sized in let h = n.high in omega arith
+
+  pub united_all : (from : ℕ) (both : List Bool) → IsUnionBelow from one other both → IsClear other from (length other) → IsUnion one other both
+  united_all from both u c = record {
+    sized = u.sized;
+    each = u.each;
+    old = u.old;
+    new = λ k m. elim (cases_lt k from) [
+      | inl b ↦ u.new k b m
+      | inr b ↦ elim (cases_lt k (length other)) [
+        | inl l ↦ absurd (true≢false (sym m ∙ c.each k b l))
+        | inr l ↦ absurd (true≢false (sym m ∙ get_or_past other k false l))
+      ]
+    ];
+  }
+
+-- where no slot is in the set of P, no header is of P
+pub outside_set : (a : List ℕ) (P : ℕ → Type 0) (marks : List Bool) → AreMarks a P marks → (low high : ℕ) → IsClear marks low high → (k : ℕ) → low ≤ k → k < high → IsInside a (k * 16) → ¬ P (k * 16)
+outside_set a P marks m low high c k l h i p =
+    let e : k * 16 / 16 ≡ k = omega arith in
+    true≢false (sym (subst (λ x. get_or marks x false ≡ true) e (m.all (k * 16) p i)) ∙ c.each k l h)
+
+-- a set joined with another is the set of what is of either
+pub united_marks : (a : List ℕ) (P Q : ℕ → Type 0) (one other both : List Bool) → AreMarks a P one → AreMarks a Q other → IsUnion one other both → AreMarks a (λ h. Q h ⊎ P h) both
+united_marks a P Q one other both m n u = record {
+  sized = u.sized ∙ m.sized;
+  each = λ k x. elim (u.each k x) [ inl y ↦ (let z = m.each k y in (inr z.0, z.1)) | inr y ↦ (let z = n.each k y in (inl z.0, z.1)) ];
+  all = λ h p i. elim p [ inl q ↦ u.new (h / 16) (n.all h q i) | inr q ↦ u.old (h / 16) (m.all h q i) ];
+}

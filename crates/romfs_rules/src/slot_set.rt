@@ -1,0 +1,96 @@
+//! Sets of slots.
+//!
+//! A set has a bit for each slot of an image, 64 a word, so that it takes an eighth of a byte for 16 bytes of the
+//! image. To go over its slots upward skips a word that has none in one step.
+
+ghost use Rattle.std.specs.Prelude.{◌≡◌, ◌<◌, ◌^◌, false, true, length, get_or, set, replicate, IfOk};
+ghost use Rattle.romfs_rules.specs.SlotSets.{IsNext, IsUnion};
+
+use std::alloc::{AllocError, Allocator};
+use std::marker::Model;
+
+/// A set of slots, of those below a number. A clause sees whether each is in it.
+#[derive(Drop)]
+pub(crate) struct SlotSet<A: Allocator> {
+    words: Vec<u64, A>,
+    slots: usize,
+}
+
+impl<A: Allocator> Model for SlotSet<A> {
+    ghost use Rattle.std.specs.Prelude.{◌<◌, ◌≤◌, ◌*◌, ◌^◌, List, Bool, length};
+    ghost use Rattle.romfs_rules.specs.SlotSets.{bits};
+
+    ghost Value = { List Bool };
+
+    ghost view = { λ held. bits held.slots held.words.items };
+
+    ghost invariant = { λ held. (held.slots ≤ length held.words.items * 64) × (held.slots < 2 ^ 32) };
+}
+
+impl<A: Allocator> SlotSet<A> {
+    /// The empty set of slots below a number.
+    pub(crate) fn new(alloc: A, slots: usize) -> Result<SlotSet<A>, AllocError>
+        requires { slots < 2 ^ 32 }
+        ensures { IfOk result (λ empty. empty ≡ replicate slots false) }
+    {
+        let words = vec![in alloc; 0u64; slots / 64 + 1]?;
+        Ok(SlotSet { words, slots })
+    }
+
+    /// The number below which its slots are.
+    #[tactic(auto, using(crate::proofs::Bits::bits_length))]
+    pub(crate) fn slots(&self) -> usize
+        ensures { result ≡ length self.now }
+    {
+        self.slots
+    }
+
+    /// Whether a slot is in the set.
+    pub(crate) fn contains(&self, slot: usize) -> bool
+        requires { slot < length self.now }
+        ensures { result ≡ get_or self.now slot false }
+    {
+        self.words[slot / 64] >> (slot % 64) & 1 == 1
+    }
+
+    /// Adds a slot.
+    pub(crate) fn insert(&mut self, slot: usize)
+        requires { slot < length self.old }
+        ensures { self.new ≡ set self.old slot true }
+    {
+        self.words[slot / 64] |= 1 << (slot % 64);
+    }
+
+    /// Adds the slots of another set.
+    pub(crate) fn add_all(&mut self, other: &SlotSet<A>)
+        requires { length other.now ≡ length self.old }
+        ensures { IsUnion self.old other.now self.new }
+    {
+        let mut from = 0;
+        while let Some(slot) = other.next_from(from) {
+            self.insert(slot);
+            from = slot + 1;
+        }
+    }
+
+    /// The first slot of the set from a slot on.
+    pub(crate) fn next_from(&self, from: usize) -> Option<usize>
+        ensures next { IsNext self.now from result }
+        ensures small { length self.now < 2 ^ 32 }
+    {
+        let mut slot = from;
+        while slot < self.slots {
+            let word = self.words[slot / 64] & (u64::MAX << (slot % 64));
+            if word != 0 {
+                let found = slot / 64 * 64 + word.trailing_zeros() as usize;
+                return if found < self.slots {
+                    Some(found)
+                } else {
+                    None
+                };
+            }
+            slot = (slot / 64 + 1) * 64;
+        }
+        None
+    }
+}
