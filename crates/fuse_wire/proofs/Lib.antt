@@ -1,4 +1,4 @@
 pub mod Splits
 pub mod Begins
-pub mod Flags
+pub mod FlagBits
 pub mod Names

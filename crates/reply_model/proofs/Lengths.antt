@@ -1,6 +1,7 @@
 -- A reply over sound images is short, so its header says its length whole.
 use Rattle.std.proofs.Common.{◌≡◌, ◌∙◌, sym, ap, subst, ℕ, zero, suc, ◌+◌, ◌<◌, ◌≤◌, ◌^◌, ◌⊎◌, inl, inr, List, [], ◌∷◌, ◌++◌, length, map, take, drop, Bool, true, false, Option, Some, None, cond, refl, arith, lit≤, All}
 use Rattle.std.specs.Prelude.{slice_get, nat_lt}
+use Rattle.std.specs.List.{flat_map}
 use Rattle.std.specs.Option.{option_map_or}
 use Rattle.std.proofs.lemmas.Bool.{ltb-false, or_parts}
 use Rattle.std.proofs.lemmas.List.{length-take}
@@ -21,25 +22,31 @@ use Rattle.fuse_wire.specs.declared.reply.InitOut.{InitOut}
 use Rattle.fuse_wire.specs.declared.reply.InitOut.TheVariants.{Version, Terms}
 use Rattle.fuse_wire.specs.Stream.{said_length}
 use Rattle.fuse_wire.specs.Requests.{Op, Asked, lookup, getattr, readlink, open_file, read, statfs, init, opendir, readdir, readdirplus}
-use Rattle.fuse_wire.specs.Structures.{u16, u32, u64, zeros, init_out, attr, entry_out, attr_out, open_out, statfs_out}
+use Rattle.fuse_wire.specs.Structures.{u16, u32, u64, zeros, init_out, init_out_22, max_pages, attr, entry_out, attr_out, open_out, statfs_out}
 use Rattle.fuse_wire.specs.Replies.{reply_with, error_reply}
 use Rattle.stack_model.specs.Listing.{Entry, IsListing}
-use Rattle.stack_model.specs.Numbers.{Place, nodes, node_of, child}
+use Rattle.stack_model.specs.Numbers.{Place, nodes, node_of}
 use Rattle.stack_model.specs.Attributes.{blocks_all, kind_at, size_at, layer_of, data_of}
 use Rattle.stack_model.proofs.Listings.{IsLedTo, led_to}
 use Rattle.stack_model.proofs.Numbering.{number_listed}
 use Rattle.reply_model.specs.declared.session.Session.{Session}
-use Rattle.reply_model.specs.Rows.{fitting, attr_of}
+use Rattle.reply_model.specs.Sessions.{is_exported}
+use Rattle.reply_model.specs.Lookups.{looked_up}
+use Rattle.reply_model.specs.Rows.{Row, attr_of, dirent_of, direntplus_of, fitting}
 use Rattle.reply_model.specs.Refusals.{first_refusal, refuse_if, refused_by_session, refused_by_itself, asks_node, unless_link, refused_by_kind, is_too_large, refused_rows, refused_by_arguments, refused_at, refused_at_node, refusal}
 use Rattle.reply_model.specs.Replies.{is_silent, answer_at, answer, reply}
 use Rattle.reply_model.proofs.Fronts.{front}
 use Rattle.reply_model.proofs.Headers.{headed}
 
 -- the structures of replies have fixed lengths
-length-init : (o : InitOut) → length (init_out o) ≡ 64
-unfolding init_out u16 u32 zeros
-length-init Version = refl
-length-init (Terms readahead flags) = refl
+length-init : (o : InitOut) → length (init_out o) ≤ 64
+unfolding init_out init_out_22 u16 u32 zeros
+length-init Version = lit≤ tt
+length-init (Terms minor readahead flags) = either (nat_lt minor 23)
+  where
+    either : (b : Bool) → length (cond b (init_out_22 readahead flags) (init_out_22 readahead flags ++ u32 1 ++ u16 (max_pages flags) ++ u16 0 ++ zeros 32)) ≤ 64
+    either true = lit≤ tt
+    either false = lit≤ tt
 
 length-entry : (a : Attr) → length (entry_out a) ≡ 128
 unfolding entry_out attr u32 u64 zeros
@@ -130,60 +137,60 @@ module _ (bs : List (List ℕ)) (entries : List Entry) (sound : All IsSound bs) 
       link_data layers p 4095 k (subst (λ a. size a p.1 ≤ 4095) (sym here) short)
 
   -- what is not refused at a node is refused neither by its kind nor by the arguments
-  by_kind : (op : Op) (p : Place) → refused_at layers entries op p ≡ None → refused_by_kind op (kind_at layers p) ≡ None
-  by_kind op p r = (both_none (refused_by_kind op (kind_at layers p)) (refused_by_arguments layers entries op p) r).0
+  by_kind : (x : Bool) (op : Op) (p : Place) → refused_at layers entries x op p ≡ None → refused_by_kind x op (kind_at layers p) ≡ None
+  by_kind x op p r = (both_none (refused_by_kind x op (kind_at layers p)) (refused_by_arguments layers entries x op p) r).0
 
-  by_arguments : (op : Op) (p : Place) → refused_at layers entries op p ≡ None → refused_by_arguments layers entries op p ≡ None
-  by_arguments op p r = (both_none (refused_by_kind op (kind_at layers p)) (refused_by_arguments layers entries op p) r).1
+  by_arguments : (x : Bool) (op : Op) (p : Place) → refused_at layers entries x op p ≡ None → refused_by_arguments layers entries x op p ≡ None
+  by_arguments x op p r = (both_none (refused_by_kind x op (kind_at layers p)) (refused_by_arguments layers entries x op p) r).1
 
   -- rows that are answered fit in 1 MiB
-  short_rows : (rows : List (List ℕ)) (n : ℕ) → refused_rows layers entries rows n ≡ None → length (fitting n rows) ≤ 1048576
-  short_rows rows n r = let a = not_large n (or_parts _ _ (if_none _ _ r)).0 in let f = (front n rows).fits in omega arith
+  short_rows : (form : Row → List ℕ) (rows : List Row) (n : ℕ) → refused_rows form n rows ≡ None → length (flat_map form (fitting form n rows)) ≤ 1048576
+  short_rows form rows n r = let a = not_large n (or_parts _ _ (if_none _ _ r)).0 in let f = (front form n rows).fits in omega arith
 
   -- the answer at a place that has a number
-  short_at : (node : ℕ) (op : Op) (p : Place) → node_of entries node ≡ Some p → cond (asks_node op) (refused_at layers entries op p) None ≡ None → length (answer_at layers entries op p) ≤ 1048576
-  short_at node (lookup name) p e r = found (child entries p name)
+  short_at : (x : Bool) (node : ℕ) (op : Op) (p : Place) → node_of entries node ≡ Some p → cond (asks_node op) (refused_at layers entries x op p) None ≡ None → length (answer_at layers entries x op p) ≤ 1048576
+  short_at x node (lookup name) p e r = found (looked_up entries x p name)
     where
       found : (o : Option Place) → length (option_map_or (λ c. entry_out (attr_of layers entries c)) o []) ≤ 1048576
       found None = lit≤ tt
-      found (Some c) = let x = length-entry (attr_of layers entries c) in omega arith
-  short_at node getattr p e r = let x = length-attr (attr_of layers entries p) in omega arith
-  short_at node readlink p e r = let x = short_link node p e (is_link _ (by_kind readlink p r)) in omega arith
-  short_at node (open_file flags) p e r = let x = length-open 2 in omega arith
-  short_at node opendir p e r = let x = length-open 0 in omega arith
-  short_at node (read offset n) p e r =
-      let a = not_large n (if_none _ _ (by_arguments (read offset n) p r)) in
+      found (Some c) = let l = length-entry (attr_of layers entries c) in omega arith
+  short_at x node getattr p e r = let l = length-attr (attr_of layers entries p) in omega arith
+  short_at x node readlink p e r = let l = short_link node p e (is_link _ (by_kind x readlink p r)) in omega arith
+  short_at x node (open_file flags) p e r = let l = length-open 2 in omega arith
+  short_at x node opendir p e r = let l = length-open 0 in omega arith
+  short_at x node (read offset n) p e r =
+      let a = not_large n (if_none _ _ (by_arguments x (read offset n) p r)) in
       let f = length-front n (drop offset (data_of layers p)) in
       omega arith
-  short_at node (readdir offset n) p e r = short_rows _ n (by_arguments (readdir offset n) p r)
-  short_at node (readdirplus offset n) p e r = short_rows _ n (by_arguments (readdirplus offset n) p r)
-  short_at node _ p e r = lit≤ tt
+  short_at x node (readdir offset n) p e r = short_rows (dirent_of layers entries) _ n (by_arguments x (readdir offset n) p r)
+  short_at x node (readdirplus offset n) p e r = short_rows (direntplus_of layers entries) _ n (by_arguments x (readdirplus offset n) p r)
+  short_at x node _ p e r = lit≤ tt
 
   -- the answer to a request about a node
-  short_node : (node : ℕ) (op : Op) (o : Option Place) → node_of entries node ≡ o → cond (asks_node op) (option_map_or (refused_at layers entries op) o (Some ESTALE)) None ≡ None → length (option_map_or (answer_at layers entries op) o []) ≤ 1048576
-  short_node node op None e r = lit≤ tt
-  short_node node op (Some p) e r = short_at node op p e r
+  short_node : (x : Bool) (node : ℕ) (op : Op) (o : Option Place) → node_of entries node ≡ o → cond (asks_node op) (option_map_or (refused_at layers entries x op) o (Some ESTALE)) None ≡ None → length (option_map_or (answer_at layers entries x op) o []) ≤ 1048576
+  short_node x node op None e r = lit≤ tt
+  short_node x node op (Some p) e r = short_at x node op p e r
 
   -- the answer to a request that is not refused
-  short_answer : (node : ℕ) (op : Op) → refused_at_node layers entries node op ≡ None → length (answer layers entries node op) ≤ 1048576
-  short_answer node (init major minor readahead flags) r = let x = length-init (cond (nat_lt 7 major) Version (Terms readahead flags)) in omega arith
-  short_answer node statfs r = let x = length-statfs (blocks_all layers) (length (nodes entries)) in omega arith
-  short_answer node op r = short_node node op (node_of entries node) refl r
+  short_answer : (x : Bool) (node : ℕ) (op : Op) → refused_at_node layers entries x node op ≡ None → length (answer layers entries x node op) ≤ 1048576
+  short_answer x node (init major minor readahead flags) r = let l = length-init (cond (nat_lt 7 major) Version (Terms minor readahead flags)) in omega arith
+  short_answer x node statfs r = let l = length-statfs (blocks_all layers) (length (nodes entries)) in omega arith
+  short_answer x node op r = short_node x node op (node_of entries node) refl r
 
   -- a reply is a header of 16 bytes and an answer
   pub short : (s : Session) (q : Asked) → length (reply layers entries s q) ≤ 1048592
   short s q = silent (is_silent q.op)
     where
-      replied : (o : Option Errno) → refusal layers entries s q.node q.op ≡ o → length (option_map_or (error_reply q.unique) o (reply_with q.unique (answer layers entries q.node q.op))) ≤ 1048592
+      replied : (o : Option Errno) → refusal layers entries s q.node q.op ≡ o → length (option_map_or (error_reply q.unique) o (reply_with q.unique (answer layers entries (is_exported s) q.node q.op))) ≤ 1048592
       replied (Some errno) e = let x = length-error q.unique errno in omega arith
       replied None e =
-          let there = refused_at_node layers entries q.node q.op in
+          let there = refused_at_node layers entries (is_exported s) q.node q.op in
           let r = (first_none (refused_by_session s q.op) (refused_by_itself q.op ∷ there ∷ []) e).1 in
-          let a = short_answer q.node q.op (both_none (refused_by_itself q.op) there r).1 in
-          let x = length-with q.unique (answer layers entries q.node q.op) in
+          let a = short_answer (is_exported s) q.node q.op (both_none (refused_by_itself q.op) there r).1 in
+          let x = length-with q.unique (answer layers entries (is_exported s) q.node q.op) in
           omega arith
 
-      silent : (b : Bool) → length (cond b [] (option_map_or (error_reply q.unique) (refusal layers entries s q.node q.op) (reply_with q.unique (answer layers entries q.node q.op)))) ≤ 1048592
+      silent : (b : Bool) → length (cond b [] (option_map_or (error_reply q.unique) (refusal layers entries s q.node q.op) (reply_with q.unique (answer layers entries (is_exported s) q.node q.op)))) ≤ 1048592
       silent true = lit≤ tt
       silent false = replied (refusal layers entries s q.node q.op) refl
 

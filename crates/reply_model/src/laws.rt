@@ -9,7 +9,7 @@ ghost use Rattle.stack_model.specs.Listing.{Entry, IsListing};
 ghost use Rattle.reply_model.specs.declared.session.Session.{Session};
 ghost use Rattle.reply_model.specs.Replies.{reply};
 ghost use Rattle.reply_model.specs.Laws.{IsReplyTo, IsFront};
-ghost use Rattle.reply_model.specs.Rows.{fitting};
+ghost use Rattle.reply_model.specs.Rows.{Row, fitting};
 
 /// A reply is empty, or it begins with its own length, as a word of 32 bits, and carries its request's unique.
 #[tactic(auto, using(crate::proofs::Headers::headed))]
@@ -29,8 +29,8 @@ pub fn replies_are_short()
         ⊎ (said_length (reply (map image bs) entries s q) ≡ length (reply (map image bs) entries s q)) }
 {}
 
-/// The rows that fit in a size are the first ones, whole, and no longer than it.
+/// The rows that fit in a size are the first ones, whole, and as many as fit.
 #[tactic(auto, using(crate::proofs::Fronts::front))]
 pub fn fitting_rows_are_the_first()
-    ensures { (room : ℕ) (rows : List (List ℕ)) → IsFront room rows (fitting room rows) }
+    ensures { (form : Row → List ℕ) (room : ℕ) (rows : List Row) → IsFront form room rows (fitting form room rows) }
 {}
