@@ -2,3 +2,8 @@ pub mod Splits
 pub mod Begins
 pub mod FlagBits
 pub mod Names
+pub mod Sizes
+pub mod Padding
+pub mod Items
+pub mod Bodies
+pub mod Worked

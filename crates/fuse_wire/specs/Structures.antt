@@ -99,13 +99,15 @@ statfs_out blocks files =
 abbrev pub dirent_size : ℕ → ℕ
 dirent_size n = (24 + n + 7) / 8 * 8
 
--- dirent, with zeros up to its size
+-- dirent up to its name: ino, off, namelen, type
+unfoldable pub dirent_front : ℕ → ℕ → ℕ → List ℕ → List ℕ
+dirent_front ino off file_type name = u64 ino ++ u64 off ++ u32 (length name) ++ u32 file_type
+
+-- dirent, its name, and zeros up to its size
 unfoldable pub dirent : ℕ → ℕ → ℕ → List ℕ → List ℕ
 dirent ino off file_type name =
-    -- ino, off, namelen, type, name
-    u64 ino ++ u64 off ++ u32 (length name) ++ u32 file_type ++ name
-    ++ zeros (dirent_size (length name) - (24 + length name))
+    dirent_front ino off file_type name ++ name ++ zeros (dirent_size (length name) - (24 + length name))
 
--- direntplus: an entry_out, which is all zeros where the row is given no entry, and the dirent
+-- direntplus: an entry_out, which is all zeros where the row has no entry, and the dirent
 unfoldable pub direntplus : Option Attr → ℕ → ℕ → ℕ → List ℕ → List ℕ
 direntplus entry ino off file_type name = option_map_or entry_out entry (zeros 128) ++ dirent ino off file_type name

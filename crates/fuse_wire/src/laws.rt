@@ -1,9 +1,12 @@
 //! What holds of every stream, by the definitions alone.
 
-ghost use Rattle.std.specs.Prelude.{◌≡◌, ◌++◌, ◌∷◌, [], ℕ, List, take, drop};
+ghost use Rattle.std.specs.Prelude.{◌≡◌, ◌+◌, ◌≤◌, length, ◌++◌, ◌∷◌, [], ℕ, List, take, drop};
 ghost use Rattle.fuse_wire.specs.declared.framing.Framed.{Framed};
 ghost use Rattle.fuse_wire.specs.Frames.{Frames};
 ghost use Rattle.fuse_wire.specs.Stream.{BeginsMessage, IsBad, IsRest, IsSplit};
+ghost use Rattle.fuse_wire.specs.declared.limits.TheConstants.{HEADER_SIZE, MAX_MESSAGE_SIZE, MAX_FORGETS};
+ghost use Rattle.fuse_wire.specs.Requests.{forgets_of};
+ghost use Rattle.fuse_wire.specs.Laws.{BodySizes, ReplySizes, RowSizes};
 
 /// Every stream is cut into messages and a rest, in one way.
 #[tactic(auto, using(crate::proofs::Splits::one_split, crate::proofs::Splits::some_split))]
@@ -26,4 +29,23 @@ pub fn frames_make_the_split()
     ensures once { (bytes : List ℕ) (f g : Framed) → Frames bytes f → Frames bytes g → f ≡ g }
     ensures first { (bytes rest : List ℕ) (n : ℕ) (ms : List (List ℕ)) → BeginsMessage bytes n → IsSplit (drop n bytes) ms rest → IsSplit bytes (take n bytes ∷ ms) rest }
     ensures last { (bytes : List ℕ) → IsRest bytes → IsSplit bytes [] bytes }
+{}
+
+/// Bodies of requests: shorter than their structure they are malformed, and else never, whatever follows it.
+#[tactic(auto, using(crate::proofs::Bodies::body_sizes))]
+pub fn bodies_hold_their_structures()
+    ensures { BodySizes }
+{}
+
+/// A message forgets at most 65,789 nodes.
+#[tactic(auto, using(crate::proofs::Bodies::few_forgets))]
+pub fn forgets_are_few()
+    ensures { (body : List ℕ) → HEADER_SIZE + length body ≤ MAX_MESSAGE_SIZE → length (forgets_of body) ≤ MAX_FORGETS }
+{}
+
+/// The structures of replies have their sizes, and rows whole 8 bytes.
+#[tactic(auto, using(crate::proofs::Bodies::reply_sizes, crate::proofs::Bodies::row_sizes))]
+pub fn structures_have_their_sizes()
+    ensures replies { ReplySizes }
+    ensures rows { RowSizes }
 {}

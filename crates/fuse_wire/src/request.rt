@@ -1,6 +1,23 @@
-//! What a message asks.
+//! Messages as they are read.
 
+ghost use Rattle.std.specs.Prelude.{◌≡◌, length};
+ghost use Rattle.fuse_wire.specs.Stream.{IsGoodLength};
+ghost use Rattle.fuse_wire.specs.Requests.{asked};
+ghost use Rattle.fuse_wire.specs.Reads.{asked_of};
+
+use crate::body::read_op;
 use crate::forget::Forgets;
+use crate::limits::HEADER_SIZE;
+use byteorder::{ByteOrder, LittleEndian};
+
+/// Where `opcode` lies in a `struct fuse_in_header`.
+const OPCODE: usize = 4;
+
+/// Where `unique` lies in a `struct fuse_in_header`.
+const UNIQUE: usize = 8;
+
+/// Where `nodeid` lies in a `struct fuse_in_header`.
+const NODEID: usize = 16;
 
 /// A message as it was read (linux/fuse.h, `struct fuse_in_header` and the structure after it).
 #[derive(Clone, Copy, Debug, PartialEq, Eq)]
@@ -99,4 +116,21 @@ pub enum Op<'a> {
         /// The opcode that the message says.
         opcode: u32,
     },
+}
+
+impl<'a> Request<'a> {
+    /// Reads a whole message, as [`frame`](crate::frame) found it. Names and items are borrowed from it.
+    pub fn read(message: &'a [u8]) -> Self
+        requires { IsGoodLength (length message.now) }
+        ensures { asked_of result ≡ asked message.now }
+    {
+        Request {
+            unique: LittleEndian::read_u64(&message[UNIQUE..]),
+            node: LittleEndian::read_u64(&message[NODEID..]),
+            op: read_op(
+                LittleEndian::read_u32(&message[OPCODE..]),
+                &message[HEADER_SIZE..],
+            ),
+        }
+    }
 }

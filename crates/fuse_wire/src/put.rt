@@ -1,0 +1,257 @@
+//! Replies and rows as bytes. Each writer appends exactly its bytes; where the vector has no room for them and gets
+//! none, it is as before.
+
+ghost use Rattle.std.specs.Prelude.{◌≡◌, ◌++◌, ◌<◌, ◌≤◌, ◌+◌, ◌-◌, ◌^◌, [], length};
+ghost use Rattle.std.specs.Option.{option_copied, option_map_or};
+ghost use Rattle.fuse_wire.specs.Structures.{init_out, entry_out, attr_out, open_out, statfs_out, dirent_size, dirent, direntplus, zeros};
+ghost use Rattle.fuse_wire.specs.Replies.{head_of, reply_with, error_reply};
+ghost use Rattle.fuse_wire.specs.Appends.{Appends};
+
+use crate::structure::Structure;
+use crate::structures::{
+    ATTR_OUT_SIZE, COMPAT_22_INIT_OUT_SIZE, ENTRY_OUT_SIZE, INIT_OUT_SIZE, OPEN_OUT_SIZE,
+    STATFS_OUT_SIZE, attr_out, dirent_front, entry_out, error_head, head, init_out, open_out,
+    statfs_out,
+};
+use crate::{Attr, Dirent, Errno, InitOut};
+use std::alloc::{AllocError, Allocator};
+
+/// The size of a `struct fuse_dirent` before its name.
+const DIRENT_FRONT_SIZE: usize = 24;
+
+/// What stands behind a name, up to a multiple of 8 bytes.
+const PADDING: [u8; 7] = [0; 7];
+
+/// Appends a reply without data: a `struct fuse_out_header` of 16 bytes alone, with no error.
+#[tactic(auto, unfolding(crate::specs::Replies::reply_with), using(std::proofs::lemmas::Grind::common_steps))]
+pub fn put_head<A: Allocator>(out: &mut Vec<u8, A>, unique: u64) -> Result<(), AllocError>
+    ensures { Appends result out.old out.new (reply_with unique []) }
+{
+    put_data_head(out, unique, 0)
+}
+
+/// Appends the header of a reply with `size` bytes of data, which are to follow: a `struct fuse_out_header` of 16
+/// bytes, with no error.
+#[tactic(auto, using(crate::proofs::Sizes::sizes))]
+pub fn put_data_head<A: Allocator>(
+    out: &mut Vec<u8, A>,
+    unique: u64,
+    size: usize,
+) -> Result<(), AllocError>
+    requires { 16 + size < 2 ^ 32 }
+    ensures { Appends result out.old out.new (head_of unique size) }
+{
+    let mut reply = Structure::new();
+    head(&mut reply, unique, size);
+    out.extend_from_slice(reply.as_slice())
+}
+
+/// Appends the reply of an error: a `struct fuse_out_header` of 16 bytes alone, with the negated number.
+#[tactic(auto, using(crate::proofs::Sizes::sizes))]
+pub fn put_error<A: Allocator>(
+    out: &mut Vec<u8, A>,
+    unique: u64,
+    errno: Errno,
+) -> Result<(), AllocError>
+    ensures { Appends result out.old out.new (error_reply unique errno) }
+{
+    let mut reply = Structure::new();
+    error_head(&mut reply, unique, errno);
+    out.extend_from_slice(reply.as_slice())
+}
+
+/// Appends a reply with these bytes of data behind its header, in one growth.
+#[tactic(auto, unfolding(crate::specs::Replies::reply_with), using(crate::proofs::Sizes::sizes))]
+pub fn put_data<A: Allocator>(
+    out: &mut Vec<u8, A>,
+    unique: u64,
+    data: &[u8],
+) -> Result<(), AllocError>
+    requires { 16 + length data.now < 2 ^ 32 }
+    ensures { Appends result out.old out.new (reply_with unique data.now) }
+{
+    let mut reply = Structure::new();
+    head(&mut reply, unique, data.len());
+    put_three(out, reply.as_slice(), data, &[])
+}
+
+/// Appends the reply to an INIT that is not refused (`struct fuse_init_out`): 80 bytes, or 40 where the client speaks
+/// a minor version below 23.
+#[tactic(auto, unfolding(crate::specs::Replies::reply_with), using(crate::proofs::Sizes::sizes))]
+pub fn put_init<A: Allocator>(
+    out: &mut Vec<u8, A>,
+    unique: u64,
+    init: &InitOut,
+) -> Result<(), AllocError>
+    ensures { Appends result out.old out.new (reply_with unique (init_out init.now)) }
+{
+    let mut reply = Structure::new();
+    head(&mut reply, unique, init_out_size(init));
+    init_out(&mut reply, init);
+    out.extend_from_slice(reply.as_slice())
+}
+
+// The size of the answer to an INIT.
+#[tactic(auto, using(crate::proofs::Sizes::sizes))]
+fn init_out_size(init: &InitOut) -> usize
+    ensures size { result ≡ length (init_out init.now) }
+    ensures most { result ≤ 64 }
+{
+    match *init {
+        InitOut::Terms { minor, .. } if minor < 23 => COMPAT_22_INIT_OUT_SIZE,
+        _ => INIT_OUT_SIZE,
+    }
+}
+
+/// Appends the reply that names a node, of 144 bytes (`struct fuse_entry_out`).
+#[tactic(auto, unfolding(crate::specs::Replies::reply_with), using(crate::proofs::Sizes::sizes))]
+pub fn put_entry<A: Allocator>(
+    out: &mut Vec<u8, A>,
+    unique: u64,
+    node: &Attr,
+) -> Result<(), AllocError>
+    ensures { Appends result out.old out.new (reply_with unique (entry_out node.now)) }
+{
+    let mut reply = Structure::new();
+    head(&mut reply, unique, ENTRY_OUT_SIZE);
+    entry_out(&mut reply, node);
+    out.extend_from_slice(reply.as_slice())
+}
+
+/// Appends the reply with a node's attributes, of 120 bytes (`struct fuse_attr_out`).
+#[tactic(auto, unfolding(crate::specs::Replies::reply_with), using(crate::proofs::Sizes::sizes))]
+pub fn put_attr<A: Allocator>(
+    out: &mut Vec<u8, A>,
+    unique: u64,
+    node: &Attr,
+) -> Result<(), AllocError>
+    ensures { Appends result out.old out.new (reply_with unique (attr_out node.now)) }
+{
+    let mut reply = Structure::new();
+    head(&mut reply, unique, ATTR_OUT_SIZE);
+    attr_out(&mut reply, node);
+    out.extend_from_slice(reply.as_slice())
+}
+
+/// Appends the reply to an OPEN or OPENDIR, of 32 bytes (`struct fuse_open_out`), with handle 0 and these flags
+/// ([`FOPEN_KEEP_CACHE`](crate::flags::FOPEN_KEEP_CACHE) or none).
+#[tactic(auto, unfolding(crate::specs::Replies::reply_with), using(crate::proofs::Sizes::sizes))]
+pub fn put_open<A: Allocator>(
+    out: &mut Vec<u8, A>,
+    unique: u64,
+    open_flags: u32,
+) -> Result<(), AllocError>
+    ensures { Appends result out.old out.new (reply_with unique (open_out open_flags)) }
+{
+    let mut reply = Structure::new();
+    head(&mut reply, unique, OPEN_OUT_SIZE);
+    open_out(&mut reply, open_flags);
+    out.extend_from_slice(reply.as_slice())
+}
+
+/// Appends the reply to a STATFS, of 96 bytes (`struct fuse_statfs_out`): all blocks of 512 bytes, none free, and the
+/// number of nodes.
+#[tactic(auto, unfolding(crate::specs::Replies::reply_with), using(crate::proofs::Sizes::sizes))]
+pub fn put_statfs<A: Allocator>(
+    out: &mut Vec<u8, A>,
+    unique: u64,
+    blocks: u64,
+    files: u64,
+) -> Result<(), AllocError>
+    ensures { Appends result out.old out.new (reply_with unique (statfs_out blocks files)) }
+{
+    let mut reply = Structure::new();
+    head(&mut reply, unique, STATFS_OUT_SIZE);
+    statfs_out(&mut reply, blocks, files);
+    out.extend_from_slice(reply.as_slice())
+}
+
+/// The bytes of a row of READDIR whose name has this many bytes (`FUSE_DIRENT_SIZE`), a multiple of 8. A row of
+/// READDIRPLUS has 128 more.
+pub fn dirent_size(name_len: usize) -> usize
+    requires { name_len < 2 ^ 32 }
+    ensures { result ≡ dirent_size name_len }
+{
+    (DIRENT_FRONT_SIZE + name_len + 7) / 8 * 8
+}
+
+/// Appends a row of READDIR (`struct fuse_dirent`): 24 bytes, the name, and zeros up to a multiple of 8.
+#[tactic(auto, unfolding(crate::specs::Structures::dirent), using(crate::proofs::Sizes::sizes))]
+pub fn put_dirent<A: Allocator>(out: &mut Vec<u8, A>, row: &Dirent<'_>) -> Result<(), AllocError>
+    requires { length row.now.name.now < 2 ^ 32 }
+    ensures { Appends result out.old out.new (dirent row.now.ino row.now.off row.now.file_type row.now.name.now) }
+{
+    let mut front = Structure::new();
+    dirent_front(&mut front, row);
+    put_row(out, &front, row.name)
+}
+
+/// Appends a row of READDIRPLUS (`struct fuse_direntplus`): the node's entry, or 128 zeros for `.` and `..`, which
+/// have none, and the row of READDIR.
+#[tactic(auto, unfolding(crate::specs::Structures::direntplus, crate::specs::Structures::dirent), using(crate::proofs::Sizes::sizes))]
+pub fn put_direntplus<A: Allocator>(
+    out: &mut Vec<u8, A>,
+    entry: Option<&Attr>,
+    row: &Dirent<'_>,
+) -> Result<(), AllocError>
+    requires { length row.now.name.now < 2 ^ 32 }
+    ensures { Appends result out.old out.new (direntplus (option_copied entry.entry) row.now.ino row.now.off row.now.file_type row.now.name.now) }
+{
+    let mut front = Structure::new();
+    entry_or_zeros(&mut front, entry);
+    dirent_front(&mut front, row);
+    put_row(out, &front, row.name)
+}
+
+// `struct fuse_entry_out`, or as many zeros where there is no entry.
+#[tactic(auto, using(crate::proofs::Sizes::sizes))]
+fn entry_or_zeros(fields: &mut Structure, entry: Option<&Attr>)
+    requires { fields.old ≡ [] }
+    ensures fields { fields.new ≡ option_map_or entry_out (option_copied entry.entry) (zeros 128) }
+    ensures len { length fields.new ≡ 128 }
+{
+    match entry {
+        Some(node) => entry_out(fields, node),
+        None => fields.zeros::<ENTRY_OUT_SIZE>(),
+    }
+}
+
+// Appends the front of a row, its name, and zeros.
+fn put_row<A: Allocator>(
+    out: &mut Vec<u8, A>,
+    front: &Structure,
+    name: &[u8],
+) -> Result<(), AllocError>
+    requires { length name.now < 2 ^ 32 }
+    ensures { Appends result out.old out.new (front.now ++ name.now ++ zeros (dirent_size (length name.now) - (24 + length name.now))) }
+{
+    put_three(out, front.as_slice(), name, padding(name.len()))
+}
+
+// The zeros behind a name of this many bytes.
+#[tactic(auto, using(crate::proofs::Padding::padding_is))]
+fn padding(name_len: usize) -> &'static [u8]
+    requires { name_len < 2 ^ 32 }
+    ensures zeros { result.now ≡ zeros (dirent_size name_len - (24 + name_len)) }
+    ensures few { length result.now ≤ 7 }
+{
+    &PADDING[..dirent_size(name_len) - (DIRENT_FRONT_SIZE + name_len)]
+}
+
+// Appends three runs of bytes, one after another, in one growth.
+#[tactic(auto, using(std::proofs::lemmas::Grind::common_steps))]
+fn put_three<A: Allocator>(
+    out: &mut Vec<u8, A>,
+    first: &[u8],
+    second: &[u8],
+    third: &[u8],
+) -> Result<(), AllocError>
+    requires { length first.now + length second.now + length third.now < 2 ^ 33 }
+    ensures { Appends result out.old out.new (first.now ++ second.now ++ third.now) }
+{
+    out.reserve(first.len() + second.len() + third.len())?;
+    let _ = out.extend_from_slice(first);
+    let _ = out.extend_from_slice(second);
+    let _ = out.extend_from_slice(third);
+    Ok(())
+}
