@@ -35,61 +35,23 @@ use Rattle.reply_model.specs.Lookups.{looked_up}
 use Rattle.reply_model.specs.Rows.{Row, attr_of, dirent_of, direntplus_of, fitting}
 use Rattle.reply_model.specs.Refusals.{first_refusal, refuse_if, refused_by_session, refused_by_itself, asks_node, unless_link, refused_by_kind, is_too_large, refused_rows, refused_by_arguments, refused_at, refused_at_node, refusal}
 use Rattle.reply_model.specs.Replies.{is_silent, answer_at, answer, reply}
+use Rattle.fuse_wire.proofs.Sizes.{length-error_reply, length-reply_with, length-version, length-terms, length-entry_out, length-attr_out, length-open_out, length-statfs_out}
 use Rattle.reply_model.proofs.Fronts.{front}
+use Rattle.reply_model.proofs.Refused.{first_none, both_none, if_none}
 use Rattle.reply_model.proofs.Headers.{headed}
 
--- the structures of replies have fixed lengths
-length-init : (o : InitOut) → length (init_out o) ≤ 64
-unfolding init_out init_out_22 u16 u32 zeros
-length-init Version = lit≤ tt
-length-init (Terms minor readahead flags) = either (nat_lt minor 23)
+-- INIT is answered 64 bytes at most
+short_init : (o : InitOut) → length (init_out o) ≤ 64
+short_init Version = let l = length-version in omega arith
+short_init (Terms minor readahead flags) = either (nat_lt minor 23) (length-terms minor readahead flags)
   where
-    either : (b : Bool) → length (cond b (init_out_22 readahead flags) (init_out_22 readahead flags ++ u32 1 ++ u16 (max_pages flags) ++ u16 0 ++ zeros 32)) ≤ 64
-    either true = lit≤ tt
-    either false = lit≤ tt
-
-length-entry : (a : Attr) → length (entry_out a) ≡ 128
-unfolding entry_out attr u32 u64 zeros
-length-entry a = refl
-
-length-attr : (a : Attr) → length (attr_out a) ≡ 104
-unfolding attr_out attr u32 u64 zeros
-length-attr a = refl
-
-length-open : (flags : ℕ) → length (open_out flags) ≡ 16
-unfolding open_out u32 u64
-length-open flags = refl
-
-length-statfs : (blocks files : ℕ) → length (statfs_out blocks files) ≡ 80
-unfolding statfs_out u32 u64 zeros
-length-statfs blocks files = refl
-
--- a reply is as long as its header and its data
-length-error : (unique : ℕ) (errno : Errno) → length (error_reply unique errno) ≡ 16
-unfolding error_reply u32 u64
-length-error unique errno = refl
-
-length-with : (unique : ℕ) (bytes : List ℕ) → length (reply_with unique bytes) ≡ 16 + length bytes
-unfolding reply_with u32 u64
-length-with unique bytes = omega arith
+    either : (b : Bool) → length (init_out (Terms minor readahead flags)) ≡ cond b 24 64 → length (init_out (Terms minor readahead flags)) ≤ 64
+    either true e = omega arith
+    either false e = omega arith
 
 -- some first bytes are no more than asked
 length-front : (n : ℕ) (xs : List ℕ) → length (take n xs) ≤ n
 length-front n xs = let e = length-take n xs in omega arith
-
--- where nothing refuses, the first does not
-first_none : (o : Option Errno) (os : List (Option Errno)) → first_refusal (o ∷ os) ≡ None → (o ≡ None) × (first_refusal os ≡ None)
-first_none None os e = (refl, e)
-first_none (Some errno) os e = absurd (cc)
-
--- and where there are two, neither does
-both_none : (o p : Option Errno) → first_refusal (o ∷ p ∷ []) ≡ None → (o ≡ None) × (p ≡ None)
-both_none o p e = let r = first_none o (p ∷ []) e in (r.0, (first_none p [] r.1).0)
-
--- nor is what it refuses there
-if_none : (b : Bool) (errno : Errno) → refuse_if b errno ≡ None → b ≡ false
-if_none true errno e = absurd (cc)
-if_none false errno e = refl
 
 -- a size that is not too large
 not_large : (n : ℕ) → is_too_large n ≡ false → n ≤ 1048576
@@ -153,11 +115,11 @@ module _ (bs : List (List ℕ)) (entries : List Entry) (sound : All IsSound bs) 
     where
       found : (o : Option Place) → length (option_map_or (λ c. entry_out (attr_of layers entries c)) o []) ≤ 1048576
       found None = lit≤ tt
-      found (Some c) = let l = length-entry (attr_of layers entries c) in omega arith
-  short_at x node getattr p e r = let l = length-attr (attr_of layers entries p) in omega arith
+      found (Some c) = let l = length-entry_out (attr_of layers entries c) in omega arith
+  short_at x node getattr p e r = let l = length-attr_out (attr_of layers entries p) in omega arith
   short_at x node readlink p e r = let l = short_link node p e (is_link _ (by_kind x readlink p r)) in omega arith
-  short_at x node (open_file flags) p e r = let l = length-open 2 in omega arith
-  short_at x node opendir p e r = let l = length-open 0 in omega arith
+  short_at x node (open_file flags) p e r = let l = length-open_out 2 in omega arith
+  short_at x node opendir p e r = let l = length-open_out 0 in omega arith
   short_at x node (read offset n) p e r =
       let a = not_large n (if_none _ _ (by_arguments x (read offset n) p r)) in
       let f = length-front n (drop offset (data_of layers p)) in
@@ -173,8 +135,8 @@ module _ (bs : List (List ℕ)) (entries : List Entry) (sound : All IsSound bs) 
 
   -- the answer to a request that is not refused
   short_answer : (x : Bool) (node : ℕ) (op : Op) → refused_at_node layers entries x node op ≡ None → length (answer layers entries x node op) ≤ 1048576
-  short_answer x node (init major minor readahead flags) r = let l = length-init (cond (nat_lt 7 major) Version (Terms minor readahead flags)) in omega arith
-  short_answer x node statfs r = let l = length-statfs (blocks_all layers) (length (nodes entries)) in omega arith
+  short_answer x node (init major minor readahead flags) r = let l = short_init (cond (nat_lt 7 major) Version (Terms minor readahead flags)) in omega arith
+  short_answer x node statfs r = let l = length-statfs_out (blocks_all layers) (length (nodes entries)) in omega arith
   short_answer x node op r = short_node x node op (node_of entries node) refl r
 
   -- a reply is a header of 16 bytes and an answer
@@ -182,12 +144,12 @@ module _ (bs : List (List ℕ)) (entries : List Entry) (sound : All IsSound bs) 
   short s q = silent (is_silent q.op)
     where
       replied : (o : Option Errno) → refusal layers entries s q.node q.op ≡ o → length (option_map_or (error_reply q.unique) o (reply_with q.unique (answer layers entries (is_exported s) q.node q.op))) ≤ 1048592
-      replied (Some errno) e = let x = length-error q.unique errno in omega arith
+      replied (Some errno) e = let x = length-error_reply q.unique errno in omega arith
       replied None e =
           let there = refused_at_node layers entries (is_exported s) q.node q.op in
           let r = (first_none (refused_by_session s q.op) (refused_by_itself q.op ∷ there ∷ []) e).1 in
           let a = short_answer (is_exported s) q.node q.op (both_none (refused_by_itself q.op) there r).1 in
-          let x = length-with q.unique (answer layers entries (is_exported s) q.node q.op) in
+          let x = length-reply_with q.unique (answer layers entries (is_exported s) q.node q.op) in
           omega arith
 
       silent : (b : Bool) → length (cond b [] (option_map_or (error_reply q.unique) (refusal layers entries s q.node q.op) (reply_with q.unique (answer layers entries (is_exported s) q.node q.op)))) ≤ 1048592

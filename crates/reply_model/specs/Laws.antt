@@ -1,8 +1,16 @@
--- linux/fuse.h: what every reply begins with, and how rows fill a READDIR's size.
-use Rattle.std.specs.Prelude.{◌≡◌, ℕ, ◌+◌, ◌<◌, ◌≤◌, List, ◌++◌, length, take, slice_get, Some}
+-- What holds of replies and moves, whatever the layers.
+use Rattle.std.specs.Prelude.{◌≡◌, ℕ, ◌⊎◌, ◌+◌, ◌<◌, ◌≤◌, List, [], ◌∷◌, ◌++◌, length, map, filter, take, slice_get, Some, Bool, true, false}
 use Rattle.std.specs.List.{flat_map}
-use Rattle.fuse_wire.specs.Structures.{u32, u64}
-use Rattle.reply_model.specs.Rows.{Row}
+use Rattle.fuse_wire.specs.declared.errno.Errno.{Errno}
+use Rattle.fuse_wire.specs.Requests.{Op, Asked, lookup, forget, batch_forget, readdirplus}
+use Rattle.fuse_wire.specs.Structures.{u32, u64, entry_out}
+use Rattle.fuse_wire.specs.Replies.{reply_with, error_reply}
+use Rattle.stack_model.specs.Listing.{Entry}
+use Rattle.stack_model.specs.Numbers.{Place}
+use Rattle.reply_model.specs.declared.session.Session.{Session}
+use Rattle.reply_model.specs.Rows.{Row, is_child, attr_of, direntplus_of}
+use Rattle.reply_model.specs.Replies.{reply}
+use Rattle.reply_model.specs.Moves.{give, moves}
 
 -- the bytes begin with how many they are, as 32 bits, an error, and the request's unique
 pub record IsReplyTo (unique : ℕ) (bytes : List ℕ) : Type 0 where
@@ -16,3 +24,31 @@ pub record IsFront (form : Row → List ℕ) (room : ℕ) (all rows : List Row) 
   pub is : rows ≡ take count all
   pub fits : length (flat_map form rows) ≤ room
   pub full : (next : Row) → slice_get all count ≡ Some next → room < length (flat_map form rows) + length (form next)
+
+module _ (layers : List (List ℕ)) (entries : List Entry) where
+  -- the request is answered an error, and gives nothing
+  abbrev pub GivesNothing : Session → Asked → Type 0
+  GivesNothing s q =
+      ((errno : Errno) × (reply layers entries s q ≡ error_reply q.unique errno)) × (moves layers entries s q ≡ [])
+
+  -- a LOOKUP gives one lookup of the node whose entry it is answered, or nothing
+  abbrev pub GivesEntry : Session → Asked → Type 0
+  GivesEntry s q =
+      GivesNothing s q
+      ⊎ ((p : Place) × (reply layers entries s q ≡ reply_with q.unique (entry_out (attr_of layers entries p)))
+      × (moves layers entries s q ≡ give layers entries p ∷ []))
+
+  -- a READDIRPLUS gives one lookup of the node of each row that it is answered but . and .., or nothing
+  abbrev pub GivesRows : Session → Asked → Type 0
+  GivesRows s q =
+      GivesNothing s q
+      ⊎ ((rows : List Row) × (reply layers entries s q ≡ reply_with q.unique (flat_map (direntplus_of layers entries) rows))
+      × (moves layers entries s q ≡ map (λ r. give layers entries r.1.place) (filter is_child rows)))
+
+-- the requests that give or take
+abbrev pub is_moving : Op → Bool
+is_moving (lookup name) = true
+is_moving (forget nlookup) = true
+is_moving (batch_forget items) = true
+is_moving (readdirplus offset size) = true
+is_moving _ = false
