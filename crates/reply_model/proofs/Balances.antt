@@ -1,6 +1,6 @@
 -- Streams of requests in parts.
-use Rattle.std.proofs.Common.{◌≡◌, ◌∙◌, sym, ap, ℕ, List, [], ◌∷◌, ◌++◌, map, Bool, refl, append_assoc}
-use Rattle.std.specs.Prelude.{ℤ, pos, ◌+ℤ◌, ◌==◌, if◌then◌else◌}
+use Rattle.std.proofs.Common.{◌≡◌, ◌∙◌, sym, ap, ℕ, List, [], ◌∷◌, ◌++◌, refl, append_assoc}
+use Rattle.std.specs.Prelude.{pos, ◌+ℤ◌, ◌==◌, if◌then◌else◌}
 use Rattle.std.proofs.Math.IntN.{+ℤ_assoc, +ℤ_idl}
 use Rattle.fuse_wire.specs.Requests.{Asked}
 use Rattle.reply_model.specs.declared.session.Session.{Session}

@@ -1,24 +1,19 @@
 -- What requests give, beside what they are answered.
-use Rattle.std.proofs.Common.{◌≡◌, ◌∙◌, sym, ap, ℕ, inl, inr, List, [], ◌∷◌, ◌++◌, map, Bool, true, false, Option, Some, None, cond, refl}
-use Rattle.std.specs.Prelude.{is_some, filter}
-use Rattle.std.specs.List.{flat_map}
-use Rattle.std.specs.Option.{option_map_or, option_to_list}
+use Rattle.std.proofs.Common.{◌≡◌, ◌∙◌, ap, ℕ, inl, inr, List, [], ◌∷◌, ◌++◌, Bool, true, false, Option, Some, None, cond, refl}
+use Rattle.std.specs.Prelude.{is_some}
+use Rattle.std.specs.Option.{option_map_or}
 use Rattle.fuse_wire.specs.declared.errno.Errno.{Errno}
 use Rattle.fuse_wire.specs.Requests.{Op, Asked, lookup, forget, batch_forget, readdirplus, destroy}
-use Rattle.fuse_wire.specs.Structures.{entry_out}
-use Rattle.fuse_wire.specs.Replies.{reply_with, error_reply}
 use Rattle.stack_model.specs.Listing.{Entry}
 use Rattle.stack_model.specs.Numbers.{Place, node_of}
 use Rattle.reply_model.specs.declared.session.Session.{Session}
-use Rattle.reply_model.specs.declared.session.Session.TheVariants.{Fresh, Ready}
+use Rattle.reply_model.specs.declared.session.Session.TheVariants.{Fresh}
 use Rattle.reply_model.specs.declared.moves.Move.{Move}
 use Rattle.reply_model.specs.Sessions.{is_exported}
-use Rattle.reply_model.specs.Lookups.{looked_up}
-use Rattle.reply_model.specs.Rows.{Row, is_child, attr_of, rows_answered, direntplus_of}
+use Rattle.reply_model.specs.Rows.{rows_answered, direntplus_of}
 use Rattle.reply_model.specs.Refusals.{refusal}
-use Rattle.reply_model.specs.Replies.{answer_at, answer, reply}
-use Rattle.reply_model.specs.Moves.{give, gives_at, moved, moves}
-use Rattle.reply_model.specs.Laws.{GivesNothing, GivesEntry, GivesRows, is_moving}
+use Rattle.reply_model.specs.Moves.{moved, moves}
+use Rattle.reply_model.specs.Laws.{GivesEntry, GivesRows, is_moving}
 use Rattle.reply_model.specs.Moves.{balance}
 use Rattle.reply_model.specs.Streams.{session_at, moves_by}
 use Rattle.reply_model.proofs.Balances.{moves-append}

@@ -5,3 +5,4 @@ pub mod Lengths
 pub mod Refused
 pub mod Given
 pub mod Balances
+pub mod Widths

@@ -1,5 +1,5 @@
 -- What is known where nothing refuses a request.
-use Rattle.std.proofs.Common.{◌≡◌, ◌∙◌, sym, ap, ℕ, List, [], ◌∷◌, length, Bool, true, false, Option, Some, None, cond, refl}
+use Rattle.std.proofs.Common.{◌≡◌, ℕ, List, [], ◌∷◌, length, Bool, true, false, Option, Some, None, cond, refl}
 use Rattle.std.specs.Prelude.{nat_lt, is_none}
 use Rattle.std.specs.Option.{option_map_or}
 use Rattle.fuse_wire.specs.declared.errno.Errno.{Errno}
@@ -11,7 +11,7 @@ use Rattle.reply_model.specs.declared.session.Session.{Session}
 use Rattle.reply_model.specs.Sessions.{is_exported}
 use Rattle.reply_model.specs.Lookups.{looked_up}
 use Rattle.stack_model.specs.Attributes.{kind_at}
-use Rattle.reply_model.specs.Refusals.{first_refusal, refuse_if, refused_by_session, refused_by_itself, asks_node, refused_by_kind, refused_by_arguments, refused_at, refused_at_node, refusal}
+use Rattle.reply_model.specs.Refusals.{first_refusal, refuse_if, refused_by_session, refused_by_itself, refused_by_kind, refused_by_arguments, refused_at, refused_at_node, refusal}
 
 -- where nothing refuses, the first does not
 pub first_none : (o : Option Errno) (os : List (Option Errno)) → first_refusal (o ∷ os) ≡ None → (o ≡ None) × (first_refusal os ≡ None)

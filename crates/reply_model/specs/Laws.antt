@@ -1,7 +1,8 @@
 -- What holds of replies and moves, whatever the layers.
-use Rattle.std.specs.Prelude.{◌≡◌, ℕ, ◌⊎◌, ◌+◌, ◌<◌, ◌≤◌, List, [], ◌∷◌, ◌++◌, length, map, filter, take, slice_get, Some, Bool, true, false}
+use Rattle.std.specs.Prelude.{◌≡◌, ℕ, ◌⊎◌, ◌+◌, ◌<◌, ◌≤◌, List, [], ◌∷◌, ◌++◌, length, map, filter, take, slice_get, slice_index, slice_index_or, ◌^◌, Some, Bool, true, false}
 use Rattle.std.specs.List.{flat_map}
 use Rattle.fuse_wire.specs.declared.errno.Errno.{Errno}
+use Rattle.fuse_wire.specs.declared.reply.Attr.{Attr}
 use Rattle.fuse_wire.specs.Requests.{Op, Asked, lookup, forget, batch_forget, readdirplus}
 use Rattle.fuse_wire.specs.Structures.{u32, u64, entry_out}
 use Rattle.fuse_wire.specs.Replies.{reply_with, error_reply}
@@ -52,3 +53,15 @@ is_moving (forget nlookup) = true
 is_moving (batch_forget items) = true
 is_moving (readdirplus offset size) = true
 is_moving _ = false
+
+-- each layer is a list of bytes
+pub record AreBytes (layers : List (List ℕ)) : Type 0 where
+  pub each : (i k : ℕ) → slice_index (slice_index_or layers i []) k < 256
+
+-- the attributes fit the fields of an attr, where the number does
+pub record FitsFields (a : Attr) : Type 0 where
+  pub size : a.size < 2 ^ 64
+  pub blocks : a.blocks < 2 ^ 64
+  pub mode : a.mode < 2 ^ 32
+  pub nlink : a.nlink < 2 ^ 32
+  pub rdev : a.rdev < 2 ^ 32

@@ -12,8 +12,9 @@ ghost use Rattle.reply_model.specs.declared.session.Session.TheVariants.{Fresh};
 ghost use Rattle.reply_model.specs.declared.moves.Move.{Move};
 ghost use Rattle.reply_model.specs.Moves.{moves, balance};
 ghost use Rattle.reply_model.specs.Streams.{session_at, replies_by, moves_by};
-ghost use Rattle.reply_model.specs.Laws.{IsReplyTo, IsFront, GivesEntry, GivesRows, is_moving};
-ghost use Rattle.reply_model.specs.Rows.{Row, fitting};
+ghost use Rattle.reply_model.specs.Laws.{IsReplyTo, IsFront, GivesEntry, GivesRows, is_moving, AreBytes, FitsFields};
+ghost use Rattle.stack_model.specs.Numbers.{Place, nodes, number};
+ghost use Rattle.reply_model.specs.Rows.{Row, fitting, attr_of};
 
 /// A reply is empty, or it begins with its own length, as a word of 32 bits, and carries its request's unique.
 #[tactic(auto, using(crate::proofs::Headers::headed))]
@@ -69,4 +70,12 @@ pub fn destroy_leaves_balances()
     ensures { (layers : List (List ℕ)) (entries : List Entry) (s : Session) (qs : List Asked) (unique node n : ℕ) →
         balance n (moves_by (moves layers entries) s (qs ++ record { unique = unique; node = node; op = destroy } ∷ []))
         ≡ balance n (moves_by (moves layers entries) s qs) }
+{}
+
+/// Attributes fit their fields, and numbers are no more than the nodes.
+#[tactic(auto, using(crate::proofs::Widths::attributes_fit, crate::proofs::Widths::numbers_fit))]
+pub fn attributes_fit_their_fields()
+    ensures fields { (layers : List (List ℕ)) (entries : List Entry) (p : Place) →
+        AreBytes layers → FitsFields (attr_of layers entries p) }
+    ensures numbers { (entries : List Entry) (p : Place) → number entries p ≤ length (nodes entries) }
 {}
