@@ -5,7 +5,7 @@ use Rattle.std.specs.Option.{option_map_or}
 use Rattle.fuse_wire.specs.declared.errno.Errno.{Errno}
 use Rattle.fuse_wire.specs.declared.reply.Attr.{Attr}
 use Rattle.fuse_wire.specs.declared.reply.InitOut.TheVariants.{Version, Terms}
-use Rattle.fuse_wire.specs.Structures.{u16, u32, u64, zeros, init_out, init_out_22, max_pages, attr, entry_out, attr_out, open_out, statfs_out, dirent_size, dirent_front, dirent, direntplus}
+use Rattle.fuse_wire.specs.Structures.{u16, u32, u64, zeros, init_out, init_out_22, init_out_rest, attr, entry_out, attr_out, open_out, statfs_out, dirent_size, dirent_front, dirent, direntplus}
 use Rattle.fuse_wire.specs.Replies.{head_of, reply_with, error_reply}
 
 pub length-head : (unique n : ℕ) → length (head_of unique n) ≡ 16
@@ -30,10 +30,10 @@ unfolding init_out_22 u16 u32
 length-init_out_22 readahead flags = refl
 
 pub length-terms : (minor readahead flags : ℕ) → length (init_out (Terms minor readahead flags)) ≡ cond (nat_lt minor 23) 24 64
-unfolding init_out init_out_22 u16 u32 zeros
+unfolding init_out init_out_22 init_out_rest u16 u32 zeros
 length-terms minor readahead flags = either (nat_lt minor 23)
   where
-    either : (b : Bool) → length (cond b (init_out_22 readahead flags) (init_out_22 readahead flags ++ u32 1 ++ u16 (max_pages flags) ++ u16 0 ++ zeros 32)) ≡ cond b 24 64
+    either : (b : Bool) → length (cond b (init_out_22 readahead flags) (init_out_22 readahead flags ++ init_out_rest flags)) ≡ cond b 24 64
     either true = refl
     either false = refl
 

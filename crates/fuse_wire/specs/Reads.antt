@@ -1,5 +1,5 @@
 -- What a request that was read says, without where its names and items lie in memory.
-use Rattle.std.specs.Prelude.{◌/◌, List, length}
+use Rattle.std.specs.Prelude.{◌≡◌, ◌/◌, List, [], ◌∷◌, length, Option, MatchOption}
 use Rattle.fuse_wire.specs.declared.forget.Forget.{Forget}
 use Rattle.fuse_wire.specs.declared.forget.Forgets.{Forgets}
 use Rattle.fuse_wire.specs.declared.request.Op.{Op as Read}
@@ -10,6 +10,10 @@ use Rattle.fuse_wire.specs.Requests.{Op, lookup, forget, getattr, readlink, open
 -- the items, which lie side by side in their message
 abbrev pub items_of : Forgets → List Forget
 items_of f = forgets_in (length f.bytes.now / 16) f.bytes.now
+
+-- the first item, and those after it, if there is one
+abbrev pub SplitsFirst : Forgets → Option (Forget × Forgets) → Type 0
+SplitsFirst f split = MatchOption split (items_of f ≡ []) (λ x. items_of f ≡ x.0 ∷ items_of x.1)
 
 -- what is asked
 abbrev pub op_said : Read → Op

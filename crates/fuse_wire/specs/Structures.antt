@@ -6,6 +6,7 @@ use Rattle.fuse_wire.specs.declared.errno.Errno.{Errno}
 use Rattle.fuse_wire.specs.declared.errno.Errno.TheVariants.{ENOENT, EIO, ENOTDIR, EISDIR, EINVAL, EROFS, ENAMETOOLONG, ENOSYS, EPROTO, ESTALE}
 use Rattle.fuse_wire.specs.declared.limits.TheConstants.{MAX_DATA_SIZE, MAX_NAME_SIZE}
 use Rattle.fuse_wire.specs.declared.reply.Attr.{Attr}
+use Rattle.fuse_wire.specs.declared.reply.Dirent.{Dirent}
 use Rattle.fuse_wire.specs.declared.reply.InitOut.{InitOut}
 use Rattle.fuse_wire.specs.declared.reply.InitOut.TheVariants.{Version, Terms}
 
@@ -54,14 +55,16 @@ init_out_22 readahead flags =
     -- max_background, congestion_threshold, max_write
     ++ u16 12 ++ u16 9 ++ u32 131072
 
+-- init_out from there on: time_gran, max_pages, map_alignment, unused
+unfoldable pub init_out_rest : ℕ → List ℕ
+init_out_rest flags = u32 1 ++ u16 (max_pages flags) ++ u16 0 ++ zeros 32
+
 -- init_out: the version alone for a client of a later major version, else the session's terms
 unfoldable pub init_out : InitOut → List ℕ
 init_out Version = u32 7 ++ u32 31 ++ zeros 56
 init_out (Terms minor readahead flags) =
-    if nat_lt minor 23 then init_out_22 readahead flags else
-    init_out_22 readahead flags
-    -- time_gran, max_pages, map_alignment, unused
-    ++ u32 1 ++ u16 (max_pages flags) ++ u16 0 ++ zeros 32
+    if nat_lt minor 23 then init_out_22 readahead flags
+    else init_out_22 readahead flags ++ init_out_rest flags
 
 unfoldable pub attr : Attr → List ℕ
 attr a =
@@ -103,11 +106,24 @@ dirent_size n = (24 + n + 7) / 8 * 8
 unfoldable pub dirent_front : ℕ → ℕ → ℕ → List ℕ → List ℕ
 dirent_front ino off file_type name = u64 ino ++ u64 off ++ u32 (length name) ++ u32 file_type
 
+-- the zeros behind a name of n bytes
+abbrev pub padding : ℕ → List ℕ
+padding n = zeros (dirent_size n - (24 + n))
+
 -- dirent, its name, and zeros up to its size
 unfoldable pub dirent : ℕ → ℕ → ℕ → List ℕ → List ℕ
-dirent ino off file_type name =
-    dirent_front ino off file_type name ++ name ++ zeros (dirent_size (length name) - (24 + length name))
+dirent ino off file_type name = dirent_front ino off file_type name ++ name ++ padding (length name)
 
 -- direntplus: an entry_out, which is all zeros where the row has no entry, and the dirent
 unfoldable pub direntplus : Option Attr → ℕ → ℕ → ℕ → List ℕ → List ℕ
 direntplus entry ino off file_type name = option_map_or entry_out entry (zeros 128) ++ dirent ino off file_type name
+
+-- the same of a row
+abbrev pub front_of : Dirent → List ℕ
+front_of row = dirent_front row.ino row.off row.file_type row.name.now
+
+abbrev pub dirent_of : Dirent → List ℕ
+dirent_of row = dirent row.ino row.off row.file_type row.name.now
+
+abbrev pub direntplus_of : Option Attr → Dirent → List ℕ
+direntplus_of entry row = direntplus entry row.ino row.off row.file_type row.name.now

@@ -1,6 +1,6 @@
 //! What a `FUSE_BATCH_FORGET` forgets.
 
-ghost use Rattle.std.specs.Prelude.{◌≡◌, ◌*◌, ◌/◌, ◌%◌, ◌≤◌, [], ◌∷◌, length, take, min, MatchOption};
+ghost use Rattle.std.specs.Prelude.{◌≡◌, ◌*◌, ◌/◌, ◌%◌, ◌≤◌, length, take, min};
 ghost use Rattle.fuse_wire.specs.declared.limits.TheConstants.{MAX_FORGETS};
 
 use byteorder::{ByteOrder, LittleEndian};
@@ -49,7 +49,7 @@ pub struct Forgets<'a> {
 
 impl<'a> Forgets<'a> {
     ghost use Rattle.fuse_wire.specs.Requests.{forgets_of};
-    ghost use Rattle.fuse_wire.specs.Reads.{items_of};
+    ghost use Rattle.fuse_wire.specs.Reads.{items_of, SplitsFirst};
 
     // The items in the body of a message: as many as its count says and are whole.
     #[tactic(auto, unfolding(crate::specs::Requests::forgets_of), using(crate::proofs::Items::whole_items))]
@@ -75,7 +75,7 @@ impl<'a> Forgets<'a> {
     /// The first item and those after it; `None` where there is none.
     #[tactic(auto, using(crate::proofs::Items::first_item))]
     pub fn split_first(self) -> Option<(Forget, Self)>
-        ensures { MatchOption result (items_of self.entry ≡ []) (λ x. items_of self.entry ≡ x.0 ∷ items_of x.1) }
+        ensures { SplitsFirst self.entry result }
     {
         if self.bytes.is_empty() {
             return None;

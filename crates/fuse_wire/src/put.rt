@@ -3,7 +3,7 @@
 
 ghost use Rattle.std.specs.Prelude.{◌≡◌, ◌++◌, ◌<◌, ◌≤◌, ◌+◌, ◌-◌, ◌^◌, [], length};
 ghost use Rattle.std.specs.Option.{option_copied, option_map_or};
-ghost use Rattle.fuse_wire.specs.Structures.{init_out, entry_out, attr_out, open_out, statfs_out, dirent_size, dirent, direntplus, zeros};
+ghost use Rattle.fuse_wire.specs.Structures.{zeros, init_out, entry_out, attr_out, open_out, statfs_out, dirent_size, padding, dirent_of, direntplus_of};
 ghost use Rattle.fuse_wire.specs.Replies.{head_of, reply_with, error_reply};
 ghost use Rattle.fuse_wire.specs.Appends.{Appends};
 
@@ -65,14 +65,14 @@ pub fn put_error<A: Allocator>(
 pub fn put_data<A: Allocator>(
     out: &mut Vec<u8, A>,
     unique: u64,
-    data: &[u8],
+    bytes: &[u8],
 ) -> Result<(), AllocError>
-    requires { 16 + length data.now < 2 ^ 32 }
-    ensures { Appends result out.old out.new (reply_with unique data.now) }
+    requires { 16 + length bytes.now < 2 ^ 32 }
+    ensures { Appends result out.old out.new (reply_with unique bytes.now) }
 {
     let mut reply = Structure::new();
-    head(&mut reply, unique, data.len());
-    put_three(out, reply.as_slice(), data, &[])
+    head(&mut reply, unique, bytes.len());
+    put_three(out, reply.as_slice(), bytes, &[])
 }
 
 /// Appends the reply to an INIT that is not refused (`struct fuse_init_out`): 80 bytes, or 40 where the client speaks
@@ -179,7 +179,7 @@ pub fn dirent_size(name_len: usize) -> usize
 #[tactic(auto, unfolding(crate::specs::Structures::dirent), using(crate::proofs::Sizes::sizes))]
 pub fn put_dirent<A: Allocator>(out: &mut Vec<u8, A>, row: &Dirent<'_>) -> Result<(), AllocError>
     requires { length row.now.name.now < 2 ^ 32 }
-    ensures { Appends result out.old out.new (dirent row.now.ino row.now.off row.now.file_type row.now.name.now) }
+    ensures { Appends result out.old out.new (dirent_of row.now) }
 {
     let mut front = Structure::new();
     dirent_front(&mut front, row);
@@ -195,7 +195,7 @@ pub fn put_direntplus<A: Allocator>(
     row: &Dirent<'_>,
 ) -> Result<(), AllocError>
     requires { length row.now.name.now < 2 ^ 32 }
-    ensures { Appends result out.old out.new (direntplus (option_copied entry.entry) row.now.ino row.now.off row.now.file_type row.now.name.now) }
+    ensures { Appends result out.old out.new (direntplus_of (option_copied entry.entry) row.now) }
 {
     let mut front = Structure::new();
     entry_or_zeros(&mut front, entry);
@@ -223,7 +223,7 @@ fn put_row<A: Allocator>(
     name: &[u8],
 ) -> Result<(), AllocError>
     requires { length name.now < 2 ^ 32 }
-    ensures { Appends result out.old out.new (front.now ++ name.now ++ zeros (dirent_size (length name.now) - (24 + length name.now))) }
+    ensures { Appends result out.old out.new (front.now ++ name.now ++ padding (length name.now)) }
 {
     put_three(out, front.as_slice(), name, padding(name.len()))
 }
@@ -232,7 +232,7 @@ fn put_row<A: Allocator>(
 #[tactic(auto, using(crate::proofs::Padding::padding_is))]
 fn padding(name_len: usize) -> &'static [u8]
     requires { name_len < 2 ^ 32 }
-    ensures zeros { result.now ≡ zeros (dirent_size name_len - (24 + name_len)) }
+    ensures zeros { result.now ≡ padding name_len }
     ensures few { length result.now ≤ 7 }
 {
     &PADDING[..dirent_size(name_len) - (DIRENT_FRONT_SIZE + name_len)]

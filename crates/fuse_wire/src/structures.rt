@@ -1,7 +1,7 @@
 //! The structures of replies (linux/fuse.h), each put behind the fields that stand already, field by field in its order.
 
 ghost use Rattle.std.specs.Prelude.{◌≡◌, ◌++◌, ◌<◌, ◌≤◌, ◌+◌, ◌^◌, length};
-ghost use Rattle.fuse_wire.specs.Structures.{u16, u32, zeros, attr, entry_out, attr_out, init_out, init_out_22, max_pages, open_out, statfs_out, dirent_front};
+ghost use Rattle.fuse_wire.specs.Structures.{init_out, init_out_22, init_out_rest, max_pages, attr, entry_out, attr_out, open_out, statfs_out, front_of};
 ghost use Rattle.fuse_wire.specs.Replies.{head_of, error_reply};
 
 use crate::limits::{MAX_DATA_SIZE, MAX_NAME_SIZE};
@@ -128,10 +128,10 @@ fn init_out_22(fields: &mut Structure, max_readahead: u32, flags: u32)
 }
 
 // Its fields from `time_gran` on.
-#[tactic(auto, using(std::proofs::lemmas::Grind::common_steps))]
+#[tactic(auto, unfolding(crate::specs::Structures::init_out_rest), using(std::proofs::lemmas::Grind::common_steps))]
 fn init_out_rest(fields: &mut Structure, flags: u32)
     requires { length fields.old + 40 ≤ 152 }
-    ensures fields { fields.new ≡ fields.old ++ u32 1 ++ u16 (max_pages flags) ++ u16 0 ++ zeros 32 }
+    ensures fields { fields.new ≡ fields.old ++ init_out_rest flags }
     ensures len { length fields.new ≡ length fields.old + 40 }
 {
     fields.u32(TIME_GRANULARITY);
@@ -238,7 +238,7 @@ pub fn statfs_out(fields: &mut Structure, blocks: u64, files: u64)
 pub fn dirent_front(fields: &mut Structure, row: &Dirent<'_>)
     requires room { length fields.old + 24 ≤ 152 }
     requires named { length row.now.name.now < 2 ^ 32 }
-    ensures { fields.new ≡ fields.old ++ dirent_front row.now.ino row.now.off row.now.file_type row.now.name.now }
+    ensures { fields.new ≡ fields.old ++ front_of row.now }
 {
     fields.u64(row.ino);
     fields.u64(row.off);
