@@ -1,4 +1,9 @@
 pub mod Splits
 pub mod Begins
-pub mod Flags
+pub mod FlagBits
 pub mod Names
+pub mod Sizes
+pub mod Padding
+pub mod Items
+pub mod Bodies
+pub mod Worked

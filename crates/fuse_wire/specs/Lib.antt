@@ -4,3 +4,6 @@ pub mod Requests
 pub mod Reads
 pub mod Structures
 pub mod Replies
+pub mod Appends
+pub mod Laws
+pub mod Examples

@@ -1,28 +1,45 @@
--- linux/fuse.h, fuse_in_header: what is read of a message so far.
-use Rattle.std.specs.Prelude.{ℕ, List, [], ◌∷◌, drop, if◌then◌else◌}
-use Rattle.fuse_wire.specs.declared.opcode.TheConstants.{INIT, LOOKUP, GETATTR}
+-- What a request that was read says, without where its names and items lie in memory.
+use Rattle.std.specs.Prelude.{◌≡◌, ◌/◌, List, [], ◌∷◌, length, Option, MatchOption}
+use Rattle.fuse_wire.specs.declared.forget.Forget.{Forget}
+use Rattle.fuse_wire.specs.declared.forget.Forgets.{Forgets}
 use Rattle.fuse_wire.specs.declared.request.Op.{Op as Read}
-use Rattle.fuse_wire.specs.declared.request.Op.TheVariants.{Init, Lookup, Getattr, Other, Malformed}
+use Rattle.fuse_wire.specs.declared.request.Op.TheVariants.{Init, Lookup, Forget as ForgetOne, Getattr, Readlink, Open, Read as ReadFile, Statfs, Release, Fsync, Flush, Opendir, Readdir, Releasedir, Fsyncdir, Interrupt, Destroy, BatchForget, Readdirplus, Modify, Other, Malformed}
 use Rattle.fuse_wire.specs.declared.request.Request.{Request}
-use Rattle.fuse_wire.specs.Stream.{field}
-use Rattle.fuse_wire.specs.Requests.{Op, init, lookup, getattr, other, malformed, is_in, op_of, Asked}
+use Rattle.fuse_wire.specs.Requests.{Op, lookup, forget, getattr, readlink, open_file, read, statfs, release, fsync, flush, init, opendir, readdir, releasedir, fsyncdir, interrupt, destroy, batch_forget, readdirplus, modify, other, malformed, forgets_in, Asked}
 
--- the part of op_of that is read so far: every other opcode is as one that is not served
-unfoldable pub op_now : ℕ → List ℕ → Op
-op_now opcode body = if is_in opcode (INIT ∷ LOOKUP ∷ GETATTR ∷ []) then op_of opcode body else other
+-- the items, which lie side by side in their message
+abbrev pub items_of : Forgets → List Forget
+items_of f = forgets_in (length f.bytes.now / 16) f.bytes.now
 
--- the reading of a message, with that part
-abbrev pub asked_now : List ℕ → Asked
-asked_now m = record { unique = field 8 8 m; node = field 8 16 m; op = op_now (field 4 4 m) (drop 40 m) }
+-- the first item, and those after it, if there is one
+abbrev pub SplitsFirst : Forgets → Option (Forget × Forgets) → Type 0
+SplitsFirst f split = MatchOption split (items_of f ≡ []) (λ x. items_of f ≡ x.0 ∷ items_of x.1)
 
--- what is asked, without where its name lies in memory
+-- what is asked
 abbrev pub op_said : Read → Op
 op_said (Init major minor readahead flags) = init major minor readahead flags
 op_said (Lookup name) = lookup name.now
+op_said (ForgetOne nlookup) = forget nlookup
 op_said Getattr = getattr
+op_said Readlink = readlink
+op_said (Open flags) = open_file flags
+op_said (ReadFile offset size) = read offset size
+op_said Statfs = statfs
+op_said Release = release
+op_said Fsync = fsync
+op_said Flush = flush
+op_said Opendir = opendir
+op_said (Readdir offset size) = readdir offset size
+op_said Releasedir = releasedir
+op_said Fsyncdir = fsyncdir
+op_said Interrupt = interrupt
+op_said Destroy = destroy
+op_said (BatchForget items) = batch_forget (items_of items)
+op_said (Readdirplus offset size) = readdirplus offset size
+op_said Modify = modify
 op_said Other = other
 op_said (Malformed opcode) = malformed opcode
 
--- a request, without where its name lies in memory
+-- a request
 abbrev pub asked_of : Request → Asked
 asked_of r = record { unique = r.unique; node = r.node; op = op_said r.op }

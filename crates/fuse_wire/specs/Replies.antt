@@ -3,9 +3,13 @@ use Rattle.std.specs.Prelude.{ℕ, ◌+◌, ◌-◌, ◌^◌, List, ◌++◌, le
 use Rattle.fuse_wire.specs.declared.errno.Errno.{Errno}
 use Rattle.fuse_wire.specs.Structures.{u32, u64, errno_number}
 
+-- len, which counts the header too, error, unique: the header of a reply with n bytes of data
+unfoldable pub head_of : ℕ → ℕ → List ℕ
+head_of unique n = u32 (16 + n) ++ u32 0 ++ u64 unique
+
 -- a reply with data
 unfoldable pub reply_with : ℕ → List ℕ → List ℕ
-reply_with unique bytes = u32 (16 + length bytes) ++ u32 0 ++ u64 unique ++ bytes
+reply_with unique bytes = head_of unique (length bytes) ++ bytes
 
 -- the reply of an error: a header alone, with the negated number
 unfoldable pub error_reply : ℕ → Errno → List ℕ

@@ -1,7 +1,9 @@
 -- linux/fuse.h, fuse_in_header and the structures after it: what a message asks.
-use Rattle.std.specs.Prelude.{ℕ, List, [], ◌∷◌, length, drop, Bool, ◌==◌, nat_lt, Option, Some, None, find, if◌then◌else◌}
+use Rattle.std.specs.Prelude.{ℕ, zero, suc, ◌/◌, List, [], ◌∷◌, length, drop, min, Bool, ◌==◌, nat_lt, Option, Some, None, find, if◌then◌else◌}
 use Rattle.std.specs.List.{list_any}
 use Rattle.std.specs.Option.{option_map, option_map_or}
+use Rattle.fuse_wire.specs.declared.limits.TheConstants.{HEADER_SIZE}
+use Rattle.fuse_wire.specs.declared.forget.Forget.{Forget}
 use Rattle.fuse_wire.specs.declared.opcode.TheConstants.{LOOKUP, FORGET, GETATTR, SETATTR, READLINK, SYMLINK, MKNOD, MKDIR, UNLINK, RMDIR, RENAME, LINK, OPEN, READ, WRITE, STATFS, RELEASE, FSYNC, SETXATTR, REMOVEXATTR, FLUSH, INIT, OPENDIR, READDIR, RELEASEDIR, FSYNCDIR, CREATE, INTERRUPT, DESTROY, BATCH_FORGET, FALLOCATE, READDIRPLUS, RENAME2, COPY_FILE_RANGE}
 use Rattle.fuse_wire.specs.Stream.{field}
 
@@ -9,14 +11,16 @@ use Rattle.fuse_wire.specs.Stream.{field}
 -- shorter than its structure, or whose name is none
 pub data Op : Type 0 where
   lookup : (name : List ℕ) → Op
-  forget getattr readlink : Op
+  forget : (nlookup : ℕ) → Op
+  getattr readlink : Op
   open_file : (flags : ℕ) → Op
   read : (offset size : ℕ) → Op
   statfs release fsync flush : Op
   init : (major minor readahead flags : ℕ) → Op
   opendir : Op
   readdir : (offset size : ℕ) → Op
-  releasedir fsyncdir interrupt destroy batch_forget : Op
+  releasedir fsyncdir interrupt destroy : Op
+  batch_forget : (items : List Forget) → Op
   readdirplus : (offset size : ℕ) → Op
   modify other : Op
   malformed : (opcode : ℕ) → Op
@@ -42,11 +46,24 @@ sized opcode n op body = if nat_lt (length body) n then malformed opcode else op
 abbrev pub read_of : ℕ → (ℕ → ℕ → Op) → List ℕ → Op
 read_of opcode op = sized opcode 40 (λ body. op (field 8 8 body) (field 4 16 body))
 
+-- forget_one: nodeid and nlookup
+abbrev pub forget_one : List ℕ → Forget
+forget_one bytes = record { node = field 8 0 bytes; nlookup = field 8 8 bytes }
+
+-- the first n items of bytes that hold them one after another, 16 bytes each
+abbrev pub forgets_in : ℕ → List ℕ → List Forget
+forgets_in zero bytes = []
+forgets_in (suc n) bytes = forget_one bytes ∷ forgets_in n (drop 16 bytes)
+
+-- batch_forget_in: count and dummy, and then as many items as the count says and are whole in the body
+unfoldable pub forgets_of : List ℕ → List Forget
+forgets_of body = forgets_in (min (field 4 0 body) (length (drop 8 body) / 16)) (drop 8 body)
+
 -- the opcodes that are served, and what each asks with a body
 abbrev pub served : List (ℕ × (List ℕ → Op))
 served =
     (LOOKUP, lookup_of)
-    ∷ (FORGET, λ _. forget)
+    ∷ (FORGET, sized FORGET 8 (λ body. forget (field 8 0 body)))
     ∷ (GETATTR, sized GETATTR 16 (λ _. getattr))
     ∷ (READLINK, λ _. readlink)
     ∷ (OPEN, sized OPEN 8 (λ body. open_file (field 4 0 body)))
@@ -62,7 +79,7 @@ served =
     ∷ (FSYNCDIR, λ _. fsyncdir)
     ∷ (INTERRUPT, λ _. interrupt)
     ∷ (DESTROY, λ _. destroy)
-    ∷ (BATCH_FORGET, λ _. batch_forget)
+    ∷ (BATCH_FORGET, sized BATCH_FORGET 8 (λ body. batch_forget (forgets_of body)))
     ∷ (READDIRPLUS, read_of READDIRPLUS readdirplus)
     ∷ []
 
@@ -86,6 +103,6 @@ pub record Asked : Type 0 where
   pub node : ℕ
   pub op : Op
 
--- the reading of a message: fuse_in_header has 40 bytes
+-- the reading of a message: fuse_in_header has len, opcode, unique, nodeid, and 16 bytes more
 abbrev pub asked : List ℕ → Asked
-asked m = record { unique = field 8 8 m; node = field 8 16 m; op = op_of (field 4 4 m) (drop 40 m) }
+asked m = record { unique = field 8 8 m; node = field 8 16 m; op = op_of (field 4 4 m) (drop HEADER_SIZE m) }

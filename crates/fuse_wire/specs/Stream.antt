@@ -2,6 +2,7 @@
 use Rattle.std.specs.Prelude.{◌≡◌, ℕ, ◌<◌, ◌≤◌, ◌⊎◌, List, [], ◌++◌, length, drop}
 use Rattle.std.specs.List.{AllByRecursion, flat_map}
 use Rattle.byteorder.specs.Endian.{little_number}
+use Rattle.fuse_wire.specs.declared.limits.TheConstants.{HEADER_SIZE, MAX_MESSAGE_SIZE}
 
 -- the number in the n bytes from place p on, the lowest first
 abbrev pub field : ℕ → ℕ → List ℕ → ℕ
@@ -13,7 +14,7 @@ said_length m = little_number 4 m
 
 -- at least the header, at most the header with some of it and 1 MiB of data
 abbrev pub IsGoodLength : ℕ → Type 0
-IsGoodLength n = (40 ≤ n) × (n ≤ 1052672)
+IsGoodLength n = (HEADER_SIZE ≤ n) × (n ≤ MAX_MESSAGE_SIZE)
 
 -- a message says its own length
 pub record IsMessage (m : List ℕ) : Type 0 where

@@ -1,9 +1,12 @@
--- linux/fuse.h, the structures of replies, field by field. Numbers are little-endian, without gaps.
-use Rattle.std.specs.Prelude.{ℕ, ◌-◌, ◌%◌, ◌^◌, List, ◌++◌, length, min, replicate, bit_and, ◌==◌, if◌then◌else◌, ◌/◌}
+-- linux/fuse.h, the structures of replies, field by field, in their order. Numbers are little-endian, without gaps.
+use Rattle.std.specs.Prelude.{ℕ, ◌+◌, ◌-◌, ◌*◌, ◌/◌, ◌%◌, ◌^◌, List, ◌++◌, length, min, replicate, Bool, bit_and, ◌==◌, nat_lt, Option, if◌then◌else◌}
+use Rattle.std.specs.Option.{option_map_or}
 use Rattle.byteorder.specs.Endian.{little_bytes}
 use Rattle.fuse_wire.specs.declared.errno.Errno.{Errno}
 use Rattle.fuse_wire.specs.declared.errno.Errno.TheVariants.{ENOENT, EIO, ENOTDIR, EISDIR, EINVAL, EROFS, ENAMETOOLONG, ENOSYS, EPROTO, ESTALE}
+use Rattle.fuse_wire.specs.declared.limits.TheConstants.{MAX_DATA_SIZE, MAX_NAME_SIZE}
 use Rattle.fuse_wire.specs.declared.reply.Attr.{Attr}
+use Rattle.fuse_wire.specs.declared.reply.Dirent.{Dirent}
 use Rattle.fuse_wire.specs.declared.reply.InitOut.{InitOut}
 use Rattle.fuse_wire.specs.declared.reply.InitOut.TheVariants.{Version, Terms}
 
@@ -31,42 +34,96 @@ errno_number ENOSYS = 38
 errno_number EPROTO = 71
 errno_number ESTALE = 116
 
--- max_pages, where the client's flags have MAX_PAGES, which is bit 22
-abbrev pub max_pages : ℕ → ℕ
-max_pages flags = if flags / 2 ^ 22 % 2 == 1 then 32 else 0
+-- the bit of this place is set in the flags of an INIT
+abbrev pub has_bit : ℕ → ℕ → Bool
+has_bit place flags = flags / 2 ^ place % 2 == 1
 
--- major, minor, max_readahead, flags, max_background, congestion_threshold, max_write, time_gran, max_pages,
--- map_alignment, unused. The flags are ASYNC_READ, DO_READDIRPLUS, READDIRPLUS_AUTO, PARALLEL_DIROPS, MAX_PAGES
+-- EXPORT_SUPPORT
+abbrev pub has_export : ℕ → Bool
+has_export flags = has_bit 4 flags
+
+-- max_pages, where the client's flags have MAX_PAGES
+abbrev pub max_pages : ℕ → ℕ
+max_pages flags = if has_bit 22 flags then 32 else 0
+
+-- init_out up to max_write, which is all that clients of minor versions below 23 know. The flags are ASYNC_READ (bit 0),
+-- EXPORT_SUPPORT (4), DO_READDIRPLUS (13), READDIRPLUS_AUTO (14), PARALLEL_DIROPS (18) and MAX_PAGES (22)
+unfoldable pub init_out_22 : ℕ → ℕ → List ℕ
+init_out_22 readahead flags =
+    -- major, minor, max_readahead, flags
+    u32 7 ++ u32 31 ++ u32 (min readahead MAX_DATA_SIZE) ++ u32 (bit_and flags 0x00446011)
+    -- max_background, congestion_threshold, max_write
+    ++ u16 12 ++ u16 9 ++ u32 131072
+
+-- init_out from there on: time_gran, max_pages, map_alignment, unused
+unfoldable pub init_out_rest : ℕ → List ℕ
+init_out_rest flags = u32 1 ++ u16 (max_pages flags) ++ u16 0 ++ zeros 32
+
+-- init_out: the version alone for a client of a later major version, else the session's terms
 unfoldable pub init_out : InitOut → List ℕ
 init_out Version = u32 7 ++ u32 31 ++ zeros 56
-init_out (Terms readahead flags) =
-    u32 7 ++ u32 31 ++ u32 (min readahead 1048576) ++ u32 (bit_and flags 0x00446001) ++ u16 12 ++ u16 9
-    ++ u32 131072 ++ u32 1 ++ u16 (max_pages flags) ++ u16 0 ++ zeros 32
+init_out (Terms minor readahead flags) =
+    if nat_lt minor 23 then init_out_22 readahead flags
+    else init_out_22 readahead flags ++ init_out_rest flags
 
--- ino, size, blocks, the times, mode, nlink, uid and gid, rdev, blksize, padding
 unfoldable pub attr : Attr → List ℕ
 attr a =
-    u64 a.ino ++ u64 a.size ++ u64 a.blocks ++ zeros 36 ++ u32 a.mode ++ u32 a.nlink ++ zeros 8 ++ u32 a.rdev
-    ++ u32 4096 ++ u32 0
+    -- ino, size, blocks
+    u64 a.ino ++ u64 a.size ++ u64 a.blocks
+    -- atime, mtime, ctime, atimensec, mtimensec, ctimensec
+    ++ u64 0 ++ u64 0 ++ u64 0 ++ u32 0 ++ u32 0 ++ u32 0
+    -- mode, nlink, uid, gid, rdev, blksize, padding
+    ++ u32 a.mode ++ u32 a.nlink ++ u32 0 ++ u32 0 ++ u32 a.rdev ++ u32 4096 ++ u32 0
 
--- nodeid, generation, entry_valid, attr_valid, their nanoseconds, the attributes
 unfoldable pub entry_out : Attr → List ℕ
-entry_out a = u64 a.ino ++ u64 0 ++ u64 3600 ++ u64 3600 ++ u32 0 ++ u32 0 ++ attr a
+entry_out a =
+    -- nodeid, generation, entry_valid, attr_valid, entry_valid_nsec, attr_valid_nsec, attr
+    u64 a.ino ++ u64 0 ++ u64 3600 ++ u64 3600 ++ u32 0 ++ u32 0 ++ attr a
 
--- attr_valid, its nanoseconds, dummy, the attributes
 unfoldable pub attr_out : Attr → List ℕ
-attr_out a = u64 3600 ++ u32 0 ++ u32 0 ++ attr a
+attr_out a =
+    -- attr_valid, attr_valid_nsec, dummy, attr
+    u64 3600 ++ u32 0 ++ u32 0 ++ attr a
 
--- fh, open_flags, padding
 unfoldable pub open_out : ℕ → List ℕ
-open_out flags = u64 0 ++ u32 flags ++ u32 0
+open_out flags =
+    -- fh, open_flags, padding
+    u64 0 ++ u32 flags ++ u32 0
 
--- blocks, bfree and bavail, files, ffree, bsize, namelen, frsize, padding and spare
+-- statfs_out, which holds a kstatfs
 unfoldable pub statfs_out : ℕ → ℕ → List ℕ
 statfs_out blocks files =
-    u64 blocks ++ zeros 16 ++ u64 files ++ zeros 8 ++ u32 512 ++ u32 255 ++ u32 512 ++ zeros 28
+    -- blocks, bfree, bavail, files, ffree
+    u64 blocks ++ u64 0 ++ u64 0 ++ u64 files ++ u64 0
+    -- bsize, namelen, frsize, padding, spare
+    ++ u32 512 ++ u32 MAX_NAME_SIZE ++ u32 512 ++ u32 0 ++ zeros 24
 
--- ino, off, namelen, type, name, zeros up to a multiple of 8
+-- FUSE_DIRENT_SIZE: the bytes of a dirent whose name has n bytes, a multiple of 8
+abbrev pub dirent_size : ℕ → ℕ
+dirent_size n = (24 + n + 7) / 8 * 8
+
+-- dirent up to its name: ino, off, namelen, type
+unfoldable pub dirent_front : ℕ → ℕ → ℕ → List ℕ → List ℕ
+dirent_front ino off file_type name = u64 ino ++ u64 off ++ u32 (length name) ++ u32 file_type
+
+-- the zeros behind a name of n bytes
+abbrev pub padding : ℕ → List ℕ
+padding n = zeros (dirent_size n - (24 + n))
+
+-- dirent, its name, and zeros up to its size
 unfoldable pub dirent : ℕ → ℕ → ℕ → List ℕ → List ℕ
-dirent ino off file_type name =
-    u64 ino ++ u64 off ++ u32 (length name) ++ u32 file_type ++ name ++ zeros ((8 - length name % 8) % 8)
+dirent ino off file_type name = dirent_front ino off file_type name ++ name ++ padding (length name)
+
+-- direntplus: an entry_out, which is all zeros where the row has no entry, and the dirent
+unfoldable pub direntplus : Option Attr → ℕ → ℕ → ℕ → List ℕ → List ℕ
+direntplus entry ino off file_type name = option_map_or entry_out entry (zeros 128) ++ dirent ino off file_type name
+
+-- the same of a row
+abbrev pub front_of : Dirent → List ℕ
+front_of row = dirent_front row.ino row.off row.file_type row.name.now
+
+abbrev pub dirent_of : Dirent → List ℕ
+dirent_of row = dirent row.ino row.off row.file_type row.name.now
+
+abbrev pub direntplus_of : Option Attr → Dirent → List ℕ
+direntplus_of entry row = direntplus entry row.ino row.off row.file_type row.name.now

@@ -2,13 +2,8 @@
 
 ghost use Rattle.fuse_wire.specs.Frames.{Frames};
 
+use crate::limits::{HEADER_SIZE, MAX_MESSAGE_SIZE};
 use byteorder::{ByteOrder, LittleEndian};
-
-/// The least length of a message, the size of a `struct fuse_in_header`.
-pub const HEADER_SIZE: usize = 40;
-
-/// The greatest length of a message: 4,096 bytes for the header and what stands beside data, and 1 MiB of data.
-pub const MAX_MESSAGE_SIZE: usize = 1_052_672;
 
 /// The size of the field `len` of a `struct fuse_in_header`, the first four bytes of a message.
 const LEN_SIZE: usize = 4;

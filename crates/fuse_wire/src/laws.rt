@@ -1,21 +1,26 @@
 //! What holds of every stream, by the definitions alone.
 
-ghost use Rattle.std.specs.Prelude.{◌≡◌, ◌++◌, ◌∷◌, [], ℕ, List, take, drop};
+ghost use Rattle.std.specs.Prelude.{◌≡◌, ◌+◌, ◌≤◌, length, ◌++◌, ◌∷◌, [], ℕ, List, take, drop};
 ghost use Rattle.fuse_wire.specs.declared.framing.Framed.{Framed};
 ghost use Rattle.fuse_wire.specs.Frames.{Frames};
 ghost use Rattle.fuse_wire.specs.Stream.{BeginsMessage, IsBad, IsRest, IsSplit};
+ghost use Rattle.fuse_wire.specs.declared.limits.TheConstants.{HEADER_SIZE, MAX_MESSAGE_SIZE, MAX_FORGETS};
+ghost use Rattle.fuse_wire.specs.Requests.{forgets_of};
+ghost use Rattle.fuse_wire.specs.Laws.{BodySizes, ReplySizes, RowSizes};
 
 /// Every stream is cut into messages and a rest, in one way.
 #[tactic(auto, using(crate::proofs::Splits::one_split, crate::proofs::Splits::some_split))]
 pub fn one_split()
     ensures some { (stream : List ℕ) → (ms : List (List ℕ)) × (rest : List ℕ) × IsSplit stream ms rest }
-    ensures once { (stream : List ℕ) (ms ns : List (List ℕ)) (r q : List ℕ) → IsSplit stream ms r → IsSplit stream ns q → (ms ≡ ns) × (r ≡ q) }
+    ensures once { (stream : List ℕ) (ms ns : List (List ℕ)) (r q : List ℕ) →
+        IsSplit stream ms r → IsSplit stream ns q → (ms ≡ ns) × (r ≡ q) }
 {}
 
 /// A stream may be cut piece by piece: what a piece leaves over goes before the next one, and a bad length stays bad.
 #[tactic(auto, using(crate::proofs::Splits::split_goes_on, crate::proofs::Splits::bad_stays, crate::proofs::Begins::whole_stays))]
 pub fn pieces_do_not_matter()
-    ensures goes_on { (x y rest end : List ℕ) (ms ns : List (List ℕ)) → IsSplit x ms rest → IsSplit (rest ++ y) ns end → IsSplit (x ++ y) (ms ++ ns) end }
+    ensures goes_on { (x y rest end : List ℕ) (ms ns : List (List ℕ)) →
+        IsSplit x ms rest → IsSplit (rest ++ y) ns end → IsSplit (x ++ y) (ms ++ ns) end }
     ensures stays_whole { (bytes y : List ℕ) (n : ℕ) → BeginsMessage bytes n → BeginsMessage (bytes ++ y) n }
     ensures stays_bad { (rest y : List ℕ) (n : ℕ) → IsBad rest n → IsBad (rest ++ y) n }
 {}
@@ -24,6 +29,27 @@ pub fn pieces_do_not_matter()
 #[tactic(auto, using(crate::proofs::Begins::one_frame, crate::proofs::Begins::split_first, crate::proofs::Begins::split_none))]
 pub fn frames_make_the_split()
     ensures once { (bytes : List ℕ) (f g : Framed) → Frames bytes f → Frames bytes g → f ≡ g }
-    ensures first { (bytes rest : List ℕ) (n : ℕ) (ms : List (List ℕ)) → BeginsMessage bytes n → IsSplit (drop n bytes) ms rest → IsSplit bytes (take n bytes ∷ ms) rest }
+    ensures first { (bytes rest : List ℕ) (n : ℕ) (ms : List (List ℕ)) →
+        BeginsMessage bytes n → IsSplit (drop n bytes) ms rest → IsSplit bytes (take n bytes ∷ ms) rest }
     ensures last { (bytes : List ℕ) → IsRest bytes → IsSplit bytes [] bytes }
+{}
+
+/// Bodies of requests: shorter than their structure they are malformed, and else never, whatever follows it.
+#[tactic(auto, using(crate::proofs::Bodies::body_sizes))]
+pub fn bodies_hold_their_structures()
+    ensures { BodySizes }
+{}
+
+/// A message forgets at most 65,789 nodes.
+#[tactic(auto, using(crate::proofs::Bodies::few_forgets))]
+pub fn forgets_are_few()
+    ensures { (body : List ℕ) →
+        HEADER_SIZE + length body ≤ MAX_MESSAGE_SIZE → length (forgets_of body) ≤ MAX_FORGETS }
+{}
+
+/// The structures of replies have their sizes, and rows whole 8 bytes.
+#[tactic(auto, using(crate::proofs::Bodies::reply_sizes, crate::proofs::Bodies::row_sizes))]
+pub fn structures_have_their_sizes()
+    ensures replies { ReplySizes }
+    ensures rows { RowSizes }
 {}

@@ -1,94 +1,257 @@
-//! Replies as bytes. Each writer appends one whole reply, or where memory is lacking nothing.
+//! Replies and rows as bytes. Each writer appends exactly its bytes; where the vector has no room for them and gets
+//! none, it is as before.
 
-ghost use Rattle.std.specs.Prelude.{◌≡◌, ◌++◌, ◌<◌, ◌+◌, ◌^◌, [], length, vec_len, vec_capacity, OnOk, OnErr};
-ghost use Rattle.fuse_wire.specs.Structures.{init_out, entry_out, attr_out};
-ghost use Rattle.fuse_wire.specs.Replies.{reply_with, error_reply};
+ghost use Rattle.std.specs.Prelude.{◌≡◌, ◌++◌, ◌<◌, ◌≤◌, ◌+◌, ◌-◌, ◌^◌, [], length};
+ghost use Rattle.std.specs.Option.{option_copied, option_map_or};
+ghost use Rattle.fuse_wire.specs.Structures.{zeros, init_out, entry_out, attr_out, open_out, statfs_out, dirent_size, padding, dirent_of, direntplus_of};
+ghost use Rattle.fuse_wire.specs.Replies.{head_of, reply_with, error_reply};
+ghost use Rattle.fuse_wire.specs.Appends.{Appends};
 
-use crate::structures::{OUT_HEADER_SIZE, attr_out, entry_out, error_head, head, init_out};
-use crate::{Attr, Errno, InitOut};
+use crate::structure::Structure;
+use crate::structures::{
+    ATTR_OUT_SIZE, COMPAT_22_INIT_OUT_SIZE, ENTRY_OUT_SIZE, INIT_OUT_SIZE, OPEN_OUT_SIZE,
+    STATFS_OUT_SIZE, attr_out, dirent_front, entry_out, error_head, head, init_out, open_out,
+    statfs_out,
+};
+use crate::{Attr, Dirent, Errno, InitOut};
 use std::alloc::{AllocError, Allocator};
 
+/// The size of a `struct fuse_dirent` before its name.
+const DIRENT_FRONT_SIZE: usize = 24;
+
+/// What stands behind a name, up to a multiple of 8 bytes.
+const PADDING: [u8; 7] = [0; 7];
+
 /// Appends a reply without data: a `struct fuse_out_header` of 16 bytes alone, with no error.
-///
-/// Where `out` has no room and gets none, it is as before.
+#[tactic(auto, unfolding(crate::specs::Replies::reply_with), using(std::proofs::lemmas::Grind::common_steps))]
 pub fn put_head<A: Allocator>(out: &mut Vec<u8, A>, unique: u64) -> Result<(), AllocError>
-    ensures ok { OnOk result (out.new.items ≡ out.old.items ++ reply_with unique []) }
-    ensures err { OnErr result (out.new.items ≡ out.old.items) }
-    ensures full { OnErr result (vec_capacity out.old < vec_len out.old + 16) }
+    ensures { Appends result out.old out.new (reply_with unique []) }
 {
-    put_reply(out, unique, &[])
+    put_data_head(out, unique, 0)
+}
+
+/// Appends the header of a reply with `size` bytes of data, which are to follow: a `struct fuse_out_header` of 16
+/// bytes, with no error.
+#[tactic(auto, using(crate::proofs::Sizes::sizes))]
+pub fn put_data_head<A: Allocator>(
+    out: &mut Vec<u8, A>,
+    unique: u64,
+    size: usize,
+) -> Result<(), AllocError>
+    requires { 16 + size < 2 ^ 32 }
+    ensures { Appends result out.old out.new (head_of unique size) }
+{
+    let mut reply = Structure::new();
+    head(&mut reply, unique, size);
+    out.extend_from_slice(reply.as_slice())
 }
 
 /// Appends the reply of an error: a `struct fuse_out_header` of 16 bytes alone, with the negated number.
-///
-/// Where `out` has no room and gets none, it is as before.
+#[tactic(auto, using(crate::proofs::Sizes::sizes))]
 pub fn put_error<A: Allocator>(
     out: &mut Vec<u8, A>,
     unique: u64,
     errno: Errno,
 ) -> Result<(), AllocError>
-    ensures ok { OnOk result (out.new.items ≡ out.old.items ++ error_reply unique errno) }
-    ensures err { OnErr result (out.new.items ≡ out.old.items) }
-    ensures full { OnErr result (vec_capacity out.old < vec_len out.old + 16) }
+    ensures { Appends result out.old out.new (error_reply unique errno) }
 {
-    out.extend_from_slice(&error_head(unique, errno))
+    let mut reply = Structure::new();
+    error_head(&mut reply, unique, errno);
+    out.extend_from_slice(reply.as_slice())
 }
 
-/// Appends the reply to an INIT that is not refused, of 80 bytes (`struct fuse_init_out`).
-///
-/// Where `out` has no room and gets none, it is as before.
+/// Appends a reply with these bytes of data behind its header, in one growth.
+#[tactic(auto, unfolding(crate::specs::Replies::reply_with), using(crate::proofs::Sizes::sizes))]
+pub fn put_data<A: Allocator>(
+    out: &mut Vec<u8, A>,
+    unique: u64,
+    bytes: &[u8],
+) -> Result<(), AllocError>
+    requires { 16 + length bytes.now < 2 ^ 32 }
+    ensures { Appends result out.old out.new (reply_with unique bytes.now) }
+{
+    let mut reply = Structure::new();
+    head(&mut reply, unique, bytes.len());
+    put_three(out, reply.as_slice(), bytes, &[])
+}
+
+/// Appends the reply to an INIT that is not refused (`struct fuse_init_out`): 80 bytes, or 40 where the client speaks
+/// a minor version below 23.
+#[tactic(auto, unfolding(crate::specs::Replies::reply_with), using(crate::proofs::Sizes::sizes))]
 pub fn put_init<A: Allocator>(
     out: &mut Vec<u8, A>,
     unique: u64,
     init: &InitOut,
 ) -> Result<(), AllocError>
-    ensures ok { OnOk result (out.new.items ≡ out.old.items ++ reply_with unique (init_out init.now)) }
-    ensures err { OnErr result (out.new.items ≡ out.old.items) }
-    ensures full { OnErr result (vec_capacity out.old < vec_len out.old + 80) }
+    ensures { Appends result out.old out.new (reply_with unique (init_out init.now)) }
 {
-    put_reply(out, unique, &init_out(init))
+    let mut reply = Structure::new();
+    head(&mut reply, unique, init_out_size(init));
+    init_out(&mut reply, init);
+    out.extend_from_slice(reply.as_slice())
+}
+
+// The size of the answer to an INIT.
+#[tactic(auto, using(crate::proofs::Sizes::sizes))]
+fn init_out_size(init: &InitOut) -> usize
+    ensures size { result ≡ length (init_out init.now) }
+    ensures most { result ≤ 64 }
+{
+    match *init {
+        InitOut::Terms { minor, .. } if minor < 23 => COMPAT_22_INIT_OUT_SIZE,
+        _ => INIT_OUT_SIZE,
+    }
 }
 
 /// Appends the reply that names a node, of 144 bytes (`struct fuse_entry_out`).
-///
-/// Where `out` has no room and gets none, it is as before.
+#[tactic(auto, unfolding(crate::specs::Replies::reply_with), using(crate::proofs::Sizes::sizes))]
 pub fn put_entry<A: Allocator>(
     out: &mut Vec<u8, A>,
     unique: u64,
-    attr: &Attr,
+    node: &Attr,
 ) -> Result<(), AllocError>
-    ensures ok { OnOk result (out.new.items ≡ out.old.items ++ reply_with unique (entry_out attr.now)) }
-    ensures err { OnErr result (out.new.items ≡ out.old.items) }
-    ensures full { OnErr result (vec_capacity out.old < vec_len out.old + 144) }
+    ensures { Appends result out.old out.new (reply_with unique (entry_out node.now)) }
 {
-    put_reply(out, unique, &entry_out(attr))
+    let mut reply = Structure::new();
+    head(&mut reply, unique, ENTRY_OUT_SIZE);
+    entry_out(&mut reply, node);
+    out.extend_from_slice(reply.as_slice())
 }
 
 /// Appends the reply with a node's attributes, of 120 bytes (`struct fuse_attr_out`).
-///
-/// Where `out` has no room and gets none, it is as before.
+#[tactic(auto, unfolding(crate::specs::Replies::reply_with), using(crate::proofs::Sizes::sizes))]
 pub fn put_attr<A: Allocator>(
     out: &mut Vec<u8, A>,
     unique: u64,
-    attr: &Attr,
+    node: &Attr,
 ) -> Result<(), AllocError>
-    ensures ok { OnOk result (out.new.items ≡ out.old.items ++ reply_with unique (attr_out attr.now)) }
-    ensures err { OnErr result (out.new.items ≡ out.old.items) }
-    ensures full { OnErr result (vec_capacity out.old < vec_len out.old + 120) }
+    ensures { Appends result out.old out.new (reply_with unique (attr_out node.now)) }
 {
-    put_reply(out, unique, &attr_out(attr))
+    let mut reply = Structure::new();
+    head(&mut reply, unique, ATTR_OUT_SIZE);
+    attr_out(&mut reply, node);
+    out.extend_from_slice(reply.as_slice())
 }
 
-/// Appends a header without an error, and then these bytes, in one growth.
-#[tactic(auto, unfolding(crate::specs::Replies::reply_with), using(std::proofs::lemmas::Grind::common_steps))]
-fn put_reply<A: Allocator>(out: &mut Vec<u8, A>, unique: u64, body: &[u8]) -> Result<(), AllocError>
-    requires { 16 + length body.now < 2 ^ 32 }
-    ensures ok { OnOk result (out.new.items ≡ out.old.items ++ reply_with unique body.now) }
-    ensures err { OnErr result (out.new.items ≡ out.old.items) }
-    ensures full { OnErr result (vec_capacity out.old < vec_len out.old + (16 + length body.now)) }
+/// Appends the reply to an OPEN or OPENDIR, of 32 bytes (`struct fuse_open_out`), with handle 0 and these flags
+/// ([`FOPEN_KEEP_CACHE`](crate::flags::FOPEN_KEEP_CACHE) or none).
+#[tactic(auto, unfolding(crate::specs::Replies::reply_with), using(crate::proofs::Sizes::sizes))]
+pub fn put_open<A: Allocator>(
+    out: &mut Vec<u8, A>,
+    unique: u64,
+    open_flags: u32,
+) -> Result<(), AllocError>
+    ensures { Appends result out.old out.new (reply_with unique (open_out open_flags)) }
 {
-    out.reserve(OUT_HEADER_SIZE + body.len())?;
-    let _ = out.extend_from_slice(&head(unique, body.len()));
-    let _ = out.extend_from_slice(body);
+    let mut reply = Structure::new();
+    head(&mut reply, unique, OPEN_OUT_SIZE);
+    open_out(&mut reply, open_flags);
+    out.extend_from_slice(reply.as_slice())
+}
+
+/// Appends the reply to a STATFS, of 96 bytes (`struct fuse_statfs_out`): all blocks of 512 bytes, none free, and the
+/// number of nodes.
+#[tactic(auto, unfolding(crate::specs::Replies::reply_with), using(crate::proofs::Sizes::sizes))]
+pub fn put_statfs<A: Allocator>(
+    out: &mut Vec<u8, A>,
+    unique: u64,
+    blocks: u64,
+    files: u64,
+) -> Result<(), AllocError>
+    ensures { Appends result out.old out.new (reply_with unique (statfs_out blocks files)) }
+{
+    let mut reply = Structure::new();
+    head(&mut reply, unique, STATFS_OUT_SIZE);
+    statfs_out(&mut reply, blocks, files);
+    out.extend_from_slice(reply.as_slice())
+}
+
+/// The bytes of a row of READDIR whose name has this many bytes (`FUSE_DIRENT_SIZE`), a multiple of 8. A row of
+/// READDIRPLUS has 128 more.
+pub fn dirent_size(name_len: usize) -> usize
+    requires { name_len < 2 ^ 32 }
+    ensures { result ≡ dirent_size name_len }
+{
+    (DIRENT_FRONT_SIZE + name_len + 7) / 8 * 8
+}
+
+/// Appends a row of READDIR (`struct fuse_dirent`): 24 bytes, the name, and zeros up to a multiple of 8.
+#[tactic(auto, unfolding(crate::specs::Structures::dirent), using(crate::proofs::Sizes::sizes))]
+pub fn put_dirent<A: Allocator>(out: &mut Vec<u8, A>, row: &Dirent<'_>) -> Result<(), AllocError>
+    requires { length row.now.name.now < 2 ^ 32 }
+    ensures { Appends result out.old out.new (dirent_of row.now) }
+{
+    let mut front = Structure::new();
+    dirent_front(&mut front, row);
+    put_row(out, &front, row.name)
+}
+
+/// Appends a row of READDIRPLUS (`struct fuse_direntplus`): the node's entry, or 128 zeros for `.` and `..`, which
+/// have none, and the row of READDIR.
+#[tactic(auto, unfolding(crate::specs::Structures::direntplus, crate::specs::Structures::dirent), using(crate::proofs::Sizes::sizes))]
+pub fn put_direntplus<A: Allocator>(
+    out: &mut Vec<u8, A>,
+    entry: Option<&Attr>,
+    row: &Dirent<'_>,
+) -> Result<(), AllocError>
+    requires { length row.now.name.now < 2 ^ 32 }
+    ensures { Appends result out.old out.new (direntplus_of (option_copied entry.entry) row.now) }
+{
+    let mut front = Structure::new();
+    entry_or_zeros(&mut front, entry);
+    dirent_front(&mut front, row);
+    put_row(out, &front, row.name)
+}
+
+// `struct fuse_entry_out`, or as many zeros where there is no entry.
+#[tactic(auto, using(crate::proofs::Sizes::sizes))]
+fn entry_or_zeros(fields: &mut Structure, entry: Option<&Attr>)
+    requires { fields.old ≡ [] }
+    ensures fields { fields.new ≡ option_map_or entry_out (option_copied entry.entry) (zeros 128) }
+    ensures len { length fields.new ≡ 128 }
+{
+    match entry {
+        Some(node) => entry_out(fields, node),
+        None => fields.zeros::<ENTRY_OUT_SIZE>(),
+    }
+}
+
+// Appends the front of a row, its name, and zeros.
+fn put_row<A: Allocator>(
+    out: &mut Vec<u8, A>,
+    front: &Structure,
+    name: &[u8],
+) -> Result<(), AllocError>
+    requires { length name.now < 2 ^ 32 }
+    ensures { Appends result out.old out.new (front.now ++ name.now ++ padding (length name.now)) }
+{
+    put_three(out, front.as_slice(), name, padding(name.len()))
+}
+
+// The zeros behind a name of this many bytes.
+#[tactic(auto, using(crate::proofs::Padding::padding_is))]
+fn padding(name_len: usize) -> &'static [u8]
+    requires { name_len < 2 ^ 32 }
+    ensures zeros { result.now ≡ padding name_len }
+    ensures few { length result.now ≤ 7 }
+{
+    &PADDING[..dirent_size(name_len) - (DIRENT_FRONT_SIZE + name_len)]
+}
+
+// Appends three runs of bytes, one after another, in one growth.
+#[tactic(auto, using(std::proofs::lemmas::Grind::common_steps))]
+fn put_three<A: Allocator>(
+    out: &mut Vec<u8, A>,
+    first: &[u8],
+    second: &[u8],
+    third: &[u8],
+) -> Result<(), AllocError>
+    requires { length first.now + length second.now + length third.now < 2 ^ 33 }
+    ensures { Appends result out.old out.new (first.now ++ second.now ++ third.now) }
+{
+    out.reserve(first.len() + second.len() + third.len())?;
+    let _ = out.extend_from_slice(first);
+    let _ = out.extend_from_slice(second);
+    let _ = out.extend_from_slice(third);
     Ok(())
 }

@@ -23,10 +23,11 @@ pub struct Attr {
 pub struct Dirent<'a> {
     /// The node's number.
     pub ino: u64,
-    /// The row's place in its directory, from 1 on.
+    /// The row's place in its directory, from 1 on, from which a later request goes on.
     pub off: u64,
     /// The mode of the node, shifted right by 12.
     pub file_type: u32,
+    /// The row's name, of at most [`MAX_NAME_SIZE`](crate::limits::MAX_NAME_SIZE) bytes.
     pub name: &'a [u8],
 }
 
@@ -37,6 +38,8 @@ pub enum InitOut {
     Version,
     /// The session's terms, from what the client asked for.
     Terms {
+        /// The minor version that the client speaks: below 23 it knows the first 24 bytes alone.
+        minor: u32,
         /// The client's limit of bytes that it reads ahead.
         max_readahead: u32,
         /// The client's flags.

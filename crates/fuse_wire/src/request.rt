@@ -1,13 +1,13 @@
-//! What a message asks.
+//! Messages as they are read.
 
-ghost use Rattle.std.specs.Prelude.{◌≡◌, ◌+◌, ◌≤◌, ◌==◌, length, position};
-ghost use Rattle.std.specs.Option.{option_map};
-ghost use Rattle.fuse_wire.specs.Stream.{field};
-ghost use Rattle.fuse_wire.specs.Requests.{cut_at_zero, name_of, lookup_of};
-ghost use Rattle.fuse_wire.specs.Reads.{asked_now, asked_of, op_now, op_said};
+ghost use Rattle.std.specs.Prelude.{◌≡◌, length};
+ghost use Rattle.fuse_wire.specs.Stream.{IsGoodLength};
+ghost use Rattle.fuse_wire.specs.Requests.{asked};
+ghost use Rattle.fuse_wire.specs.Reads.{asked_of};
 
-use crate::framing::HEADER_SIZE;
-use crate::opcode;
+use crate::body::read_op;
+use crate::forget::Forgets;
+use crate::limits::HEADER_SIZE;
 use byteorder::{ByteOrder, LittleEndian};
 
 /// Where `opcode` lies in a `struct fuse_in_header`.
@@ -18,12 +18,6 @@ const UNIQUE: usize = 8;
 
 /// Where `nodeid` lies in a `struct fuse_in_header`.
 const NODEID: usize = 16;
-
-/// The size of a `struct fuse_init_in` of version 7.31. Later clients append fields, which are ignored.
-const INIT_IN_SIZE: usize = 16;
-
-/// The size of a `struct fuse_getattr_in`.
-const GETATTR_IN_SIZE: usize = 16;
 
 /// A message as it was read (linux/fuse.h, `struct fuse_in_header` and the structure after it).
 #[derive(Clone, Copy, Debug, PartialEq, Eq)]
@@ -47,7 +41,7 @@ pub enum Op<'a> {
         minor: u32,
         /// The client's limit of bytes that it reads ahead.
         max_readahead: u32,
-        /// What the client can do (`FUSE_ASYNC_READ` and so on).
+        /// What the client can do ([`flags`](crate::flags)).
         flags: u32,
     },
     /// The entry of this name in a directory (`FUSE_LOOKUP`).
@@ -55,8 +49,66 @@ pub enum Op<'a> {
         /// The name, without its zero byte. It is not empty.
         name: &'a [u8],
     },
+    /// Lookups of a node are forgotten (`FUSE_FORGET`).
+    Forget {
+        /// How many.
+        nlookup: u64,
+    },
     /// A node's attributes (`FUSE_GETATTR`).
     Getattr,
+    /// A symbolic link's target (`FUSE_READLINK`).
+    Readlink,
+    /// A file is opened (`FUSE_OPEN`).
+    Open {
+        /// The flags of open(2), whose lowest two bits are the access mode.
+        flags: u32,
+    },
+    /// Bytes of a file (`FUSE_READ`).
+    Read {
+        /// Where they begin in the file.
+        offset: u64,
+        /// How many at most.
+        size: u32,
+    },
+    /// Figures of the whole tree (`FUSE_STATFS`).
+    Statfs,
+    /// A file is closed (`FUSE_RELEASE`).
+    Release,
+    /// What was written to a file is to be kept (`FUSE_FSYNC`).
+    Fsync,
+    /// A file's descriptor is closed (`FUSE_FLUSH`).
+    Flush,
+    /// A directory is opened (`FUSE_OPENDIR`).
+    Opendir,
+    /// Rows of a directory (`FUSE_READDIR`).
+    Readdir {
+        /// The place of the row before the first one wanted; 0 for the first row of all.
+        offset: u64,
+        /// How many bytes of rows at most.
+        size: u32,
+    },
+    /// A directory is closed (`FUSE_RELEASEDIR`).
+    Releasedir,
+    /// What was written to a directory is to be kept (`FUSE_FSYNCDIR`).
+    Fsyncdir,
+    /// An earlier request is no longer wanted (`FUSE_INTERRUPT`).
+    Interrupt,
+    /// The session ends (`FUSE_DESTROY`).
+    Destroy,
+    /// Lookups of several nodes are forgotten (`FUSE_BATCH_FORGET`).
+    BatchForget {
+        /// The nodes, and how many lookups of each.
+        items: Forgets<'a>,
+    },
+    /// Rows of a directory, each with its node's entry (`FUSE_READDIRPLUS`).
+    Readdirplus {
+        /// The place of the row before the first one wanted; 0 for the first row of all.
+        offset: u64,
+        /// How many bytes of rows at most.
+        size: u32,
+    },
+    /// An opcode that would change the tree.
+    Modify,
     /// An opcode that is not served.
     Other,
     /// A body that is shorter than its structure, or no name.
@@ -67,10 +119,10 @@ pub enum Op<'a> {
 }
 
 impl<'a> Request<'a> {
-    /// Reads a message, which holds at least its header. A name is borrowed from it.
+    /// Reads a whole message, as [`frame`](crate::frame) found it. Names and items are borrowed from it.
     pub fn read(message: &'a [u8]) -> Self
-        requires { 40 ≤ length message.now }
-        ensures { asked_of result ≡ asked_now message.now }
+        requires { IsGoodLength (length message.now) }
+        ensures { asked_of result ≡ asked message.now }
     {
         Request {
             unique: LittleEndian::read_u64(&message[UNIQUE..]),
@@ -81,61 +133,4 @@ impl<'a> Request<'a> {
             ),
         }
     }
-}
-
-/// What an opcode asks with the bytes after the header.
-#[tactic(auto, unfolding(crate::specs::Reads::op_now, crate::specs::Requests::op_of))]
-fn read_op(opcode: u32, body: &[u8]) -> Op<'_>
-    ensures { op_said result ≡ op_now opcode body.now }
-{
-    match opcode {
-        opcode::INIT if INIT_IN_SIZE <= body.len() => Op::Init {
-            major: word(body, 0),
-            minor: word(body, 4),
-            max_readahead: word(body, 8),
-            flags: word(body, 12),
-        },
-        opcode::GETATTR if GETATTR_IN_SIZE <= body.len() => Op::Getattr,
-        opcode::INIT | opcode::GETATTR => Op::Malformed { opcode },
-        opcode::LOOKUP => read_lookup(body),
-        _ => Op::Other,
-    }
-}
-
-/// The number of 32 bits at a place of a body.
-fn word(body: &[u8], place: usize) -> u32
-    requires { place + 4 ≤ length body.now }
-    ensures { result ≡ field 4 place body.now }
-{
-    LittleEndian::read_u32(&body[place..])
-}
-
-/// What a LOOKUP asks with this body.
-fn read_lookup(body: &[u8]) -> Op<'_>
-    ensures { op_said result ≡ lookup_of body.now }
-{
-    match read_name(body) {
-        Some(name) => Op::Lookup { name },
-        None => Op::Malformed {
-            opcode: opcode::LOOKUP,
-        },
-    }
-}
-
-/// The name in a body, whose last byte is its only zero byte. A name is not empty.
-#[tactic(auto, using(crate::proofs::Names::named))]
-fn read_name(body: &[u8]) -> Option<&[u8]>
-    ensures { option_map (λ name. name.now) result ≡ name_of (cut_at_zero body.now) }
-{
-    match first_zero(body) {
-        Some(end) if 0 < end && end + 1 == body.len() => Some(&body[..end]),
-        _ => None,
-    }
-}
-
-/// The place of the first zero byte.
-fn first_zero(body: &[u8]) -> Option<usize>
-    ensures { result ≡ position (λ byte. byte == 0) body.now }
-{
-    body.iter().position(|byte| *byte == 0)
 }

@@ -1,27 +1,33 @@
-//! The structures of replies (linux/fuse.h), each as an array of its size. Numbers are little-endian.
+//! The structures of replies (linux/fuse.h), each put behind the fields that stand already, field by field in its order.
 
-ghost use Rattle.std.specs.Prelude.{◌≡◌, ◌++◌, ◌<◌, ◌+◌, ◌^◌, length};
-ghost use Rattle.fuse_wire.specs.Structures.{u16, u32, u64, zeros, attr, attr_out, entry_out, init_out, max_pages};
-ghost use Rattle.fuse_wire.specs.Replies.{error_reply};
+ghost use Rattle.std.specs.Prelude.{◌≡◌, ◌++◌, ◌<◌, ◌≤◌, ◌+◌, ◌^◌, length};
+ghost use Rattle.fuse_wire.specs.Structures.{init_out, init_out_22, init_out_rest, max_pages, attr, entry_out, attr_out, open_out, statfs_out, front_of};
+ghost use Rattle.fuse_wire.specs.Replies.{head_of, error_reply};
 
-use crate::fields::{joined, nothing, one_u64, three_u32, three_u64, two_u16, two_u32, two_u64};
-use crate::{Attr, Errno, InitOut};
-use byteorder::{ByteOrder, LittleEndian};
+use crate::limits::{MAX_DATA_SIZE, MAX_NAME_SIZE};
+use crate::structure::Structure;
+use crate::{Attr, Dirent, Errno, InitOut, flags};
 
 /// The size of a `struct fuse_out_header`.
 pub const OUT_HEADER_SIZE: usize = 16;
 
 /// The size of a `struct fuse_init_out`.
-const INIT_OUT_SIZE: usize = 64;
+pub const INIT_OUT_SIZE: usize = 64;
 
-/// The size of a `struct fuse_attr`.
-const ATTR_SIZE: usize = 88;
-
-/// The size of a `struct fuse_attr_out`.
-const ATTR_OUT_SIZE: usize = 104;
+/// The size of its front that clients of minor versions below 23 know (`FUSE_COMPAT_22_INIT_OUT_SIZE`).
+pub const COMPAT_22_INIT_OUT_SIZE: usize = 24;
 
 /// The size of a `struct fuse_entry_out`.
-const ENTRY_OUT_SIZE: usize = 128;
+pub const ENTRY_OUT_SIZE: usize = 128;
+
+/// The size of a `struct fuse_attr_out`.
+pub const ATTR_OUT_SIZE: usize = 104;
+
+/// The size of a `struct fuse_open_out`.
+pub const OPEN_OUT_SIZE: usize = 16;
+
+/// The size of a `struct fuse_statfs_out`.
+pub const STATFS_OUT_SIZE: usize = 80;
 
 /// The version of the protocol that is spoken (`FUSE_KERNEL_VERSION`).
 const MAJOR: u32 = 7;
@@ -29,18 +35,8 @@ const MAJOR: u32 = 7;
 /// The minor version that is spoken (`FUSE_KERNEL_MINOR_VERSION`).
 const MINOR: u32 = 31;
 
-/// The most bytes that a client may read ahead.
-const MAX_READAHEAD: u32 = 1_048_576;
-
-/// The flags that a session may have: `FUSE_ASYNC_READ`, `FUSE_DO_READDIRPLUS`, `FUSE_READDIRPLUS_AUTO`,
-/// `FUSE_PARALLEL_DIROPS` and `FUSE_MAX_PAGES`.
-const FLAGS: u32 = 0x0044_6001;
-
-/// `FUSE_MAX_PAGES`, by which a client asks for `max_pages`.
-const MAX_PAGES_FLAG: u32 = 0x0040_0000;
-
-/// How many pages of 4,096 bytes a request may have.
-const MAX_PAGES: u16 = 32;
+/// The flags that a session may have.
+const SERVED_FLAGS: u32 = 0x0044_6011;
 
 /// How many requests may wait in the background.
 const MAX_BACKGROUND: u16 = 12;
@@ -54,111 +50,198 @@ const MAX_WRITE: u32 = 131_072;
 /// The step of times, in nanoseconds.
 const TIME_GRANULARITY: u32 = 1;
 
+/// How many pages of 4,096 bytes a request may have.
+const MAX_PAGES: u16 = 32;
+
 /// How long an entry or attributes stay valid, in seconds.
 const VALID_SECONDS: u64 = 3_600;
 
 /// The size of a block for transfers, in bytes.
 const BLOCK_SIZE: u32 = 4_096;
 
-/// A `struct fuse_out_header` of a reply with this many bytes of data. Its length counts itself.
-#[tactic(auto, unfolding(crate::specs::Structures::u32, crate::specs::Structures::u64))]
-pub fn head(unique: u64, size: usize) -> [u8; OUT_HEADER_SIZE]
-    requires { 16 + size < 2 ^ 32 }
-    ensures { result ≡ u32 (16 + size) ++ u32 0 ++ u64 unique }
+/// The size of the blocks that STATFS counts, in bytes.
+const STATFS_BLOCK_SIZE: u32 = 512;
+
+// `struct fuse_out_header` of a reply without an error and with `size` bytes of data.
+#[tactic(auto, unfolding(crate::specs::Replies::head_of), using(std::proofs::lemmas::Grind::common_steps))]
+pub fn head(fields: &mut Structure, unique: u64, size: usize)
+    requires room { length fields.old + 16 ≤ 152 }
+    requires size { 16 + size < 2 ^ 32 }
+    ensures fields { fields.new ≡ fields.old ++ head_of unique size }
+    ensures len { length fields.new ≡ length fields.old + 16 }
 {
-    let mut bytes = [0; OUT_HEADER_SIZE];
-    LittleEndian::write_u32(&mut bytes, (OUT_HEADER_SIZE + size) as u32);
-    LittleEndian::write_u64(&mut bytes[8..], unique);
-    bytes
+    fields.u32((OUT_HEADER_SIZE + size) as u32); // len
+    fields.u32(0); // error
+    fields.u64(unique);
 }
 
-/// A `struct fuse_out_header` with a negated error number.
-#[tactic(auto, unfolding(crate::specs::Replies::error_reply, crate::specs::Structures::u32, crate::specs::Structures::u64))]
-pub fn error_head(unique: u64, errno: Errno) -> [u8; OUT_HEADER_SIZE]
-    ensures { result ≡ error_reply unique errno }
+// The same of a reply with an error.
+#[tactic(auto, unfolding(crate::specs::Replies::error_reply), using(std::proofs::lemmas::Grind::common_steps))]
+pub fn error_head(fields: &mut Structure, unique: u64, errno: Errno)
+    requires { length fields.old + 16 ≤ 152 }
+    ensures { fields.new ≡ fields.old ++ error_reply unique errno }
 {
-    let mut bytes = [0; OUT_HEADER_SIZE];
-    LittleEndian::write_u32(&mut bytes, OUT_HEADER_SIZE as u32);
-    LittleEndian::write_u32(&mut bytes[4..], errno.number().wrapping_neg());
-    LittleEndian::write_u64(&mut bytes[8..], unique);
-    bytes
+    fields.u32(OUT_HEADER_SIZE as u32); // len
+    fields.u32(errno.number().wrapping_neg()); // error
+    fields.u64(unique);
 }
 
-/// A `struct fuse_init_out`.
+// `struct fuse_init_out`, as far as the client knows it.
 #[tactic(auto, unfolding(crate::specs::Structures::init_out), using(std::proofs::lemmas::Grind::common_steps))]
-pub fn init_out(init: &InitOut) -> [u8; INIT_OUT_SIZE]
-    ensures { result ≡ init_out init.now }
+pub fn init_out(fields: &mut Structure, init: &InitOut)
+    requires { length fields.old + 64 ≤ 152 }
+    ensures { fields.new ≡ fields.old ++ init_out init.now }
 {
     match *init {
-        InitOut::Version => joined(&two_u32(MAJOR, MINOR), &nothing::<56>()),
+        InitOut::Version => {
+            fields.u32(MAJOR);
+            fields.u32(MINOR);
+            fields.zeros::<56>();
+        }
         InitOut::Terms {
+            minor,
             max_readahead,
             flags,
         } => {
-            let asked = two_u32(max_readahead.min(MAX_READAHEAD), flags & FLAGS);
-            let version: [u8; 16] = joined(&two_u32(MAJOR, MINOR), &asked);
-            let limits: [u8; 16] = init_limits(flags);
-            let named: [u8; 32] = joined(&version, &limits);
-            joined(&named, &nothing::<32>())
+            init_out_22(fields, max_readahead, flags);
+            if 23 <= minor {
+                init_out_rest(fields, flags);
+            }
         }
     }
 }
 
-/// The fields `max_background` to `map_alignment` of a `struct fuse_init_out`.
-#[tactic(auto, using(std::proofs::lemmas::Grind::common_steps))]
-fn init_limits(flags: u32) -> [u8; 16]
-    ensures { result ≡ u16 12 ++ u16 9 ++ u32 131072 ++ u32 1 ++ u16 (max_pages flags) ++ u16 0 }
+// Its fields up to `max_write`.
+#[tactic(auto, unfolding(crate::specs::Structures::init_out_22), using(std::proofs::lemmas::Grind::common_steps))]
+fn init_out_22(fields: &mut Structure, max_readahead: u32, flags: u32)
+    requires { length fields.old + 24 ≤ 152 }
+    ensures fields { fields.new ≡ fields.old ++ init_out_22 max_readahead flags }
+    ensures len { length fields.new ≡ length fields.old + 24 }
 {
-    let background: [u8; 12] = joined(
-        &two_u16(MAX_BACKGROUND, CONGESTION_THRESHOLD),
-        &two_u32(MAX_WRITE, TIME_GRANULARITY),
-    );
-    joined(&background, &two_u16(pages(flags), 0))
+    fields.u32(MAJOR);
+    fields.u32(MINOR);
+    fields.u32(max_readahead.min(MAX_DATA_SIZE));
+    fields.u32(flags & SERVED_FLAGS);
+    fields.u16(MAX_BACKGROUND);
+    fields.u16(CONGESTION_THRESHOLD);
+    fields.u32(MAX_WRITE);
 }
 
-/// How many pages a request may have, for a client with these flags.
-#[tactic(auto, using(crate::proofs::Flags::max_pages_bit))]
-fn pages(flags: u32) -> u16
+// Its fields from `time_gran` on.
+#[tactic(auto, unfolding(crate::specs::Structures::init_out_rest), using(std::proofs::lemmas::Grind::common_steps))]
+fn init_out_rest(fields: &mut Structure, flags: u32)
+    requires { length fields.old + 40 ≤ 152 }
+    ensures fields { fields.new ≡ fields.old ++ init_out_rest flags }
+    ensures len { length fields.new ≡ length fields.old + 40 }
+{
+    fields.u32(TIME_GRANULARITY);
+    fields.u16(max_pages(flags));
+    fields.u16(0); // map_alignment
+    fields.zeros::<32>(); // unused
+}
+
+// How many pages a request may have, for a client with these flags.
+#[tactic(auto, using(crate::proofs::FlagBits::max_pages_bit))]
+fn max_pages(flags: u32) -> u16
     ensures { result ≡ max_pages flags }
 {
-    if flags & MAX_PAGES_FLAG != 0 {
+    if flags & flags::MAX_PAGES != 0 {
         MAX_PAGES
     } else {
         0
     }
 }
 
-/// A `struct fuse_attr`.
+// `struct fuse_attr`. Owners and times are all 0.
 #[tactic(auto, unfolding(crate::specs::Structures::attr), using(std::proofs::lemmas::Grind::common_steps))]
-fn attr(node: &Attr) -> [u8; ATTR_SIZE]
-    ensures { result ≡ attr node.now }
+fn attr(fields: &mut Structure, node: &Attr)
+    requires { length fields.old + 88 ≤ 152 }
+    ensures fields { fields.new ≡ fields.old ++ attr node.now }
+    ensures len { length fields.new ≡ length fields.old + 88 }
 {
-    let sizes: [u8; 60] = joined(
-        &three_u64(node.ino, node.size, node.blocks),
-        &nothing::<36>(),
-    );
-    let links: [u8; 16] = joined(&two_u32(node.mode, node.nlink), &nothing::<8>());
-    let device: [u8; 12] = three_u32(node.rdev, BLOCK_SIZE, 0);
-    let last: [u8; 28] = joined(&links, &device);
-    joined(&sizes, &last)
+    fields.u64(node.ino);
+    fields.u64(node.size);
+    fields.u64(node.blocks);
+    fields.u64(0); // atime
+    fields.u64(0); // mtime
+    fields.u64(0); // ctime
+    fields.u32(0); // atimensec
+    fields.u32(0); // mtimensec
+    fields.u32(0); // ctimensec
+    fields.u32(node.mode);
+    fields.u32(node.nlink);
+    fields.u32(0); // uid
+    fields.u32(0); // gid
+    fields.u32(node.rdev);
+    fields.u32(BLOCK_SIZE); // blksize
+    fields.u32(0); // padding
 }
 
-/// A `struct fuse_entry_out`.
+// `struct fuse_entry_out`.
 #[tactic(auto, unfolding(crate::specs::Structures::entry_out), using(std::proofs::lemmas::Grind::common_steps))]
-pub fn entry_out(node: &Attr) -> [u8; ENTRY_OUT_SIZE]
-    ensures { result ≡ entry_out node.now }
+pub fn entry_out(fields: &mut Structure, node: &Attr)
+    requires { length fields.old + 128 ≤ 152 }
+    ensures { fields.new ≡ fields.old ++ entry_out node.now }
 {
-    let numbers = two_u64(node.ino, 0);
-    let valid: [u8; 24] = joined(&two_u64(VALID_SECONDS, VALID_SECONDS), &two_u32(0, 0));
-    let front: [u8; 40] = joined(&numbers, &valid);
-    joined(&front, &attr(node))
+    fields.u64(node.ino); // nodeid
+    fields.u64(0); // generation
+    fields.u64(VALID_SECONDS); // entry_valid
+    fields.u64(VALID_SECONDS); // attr_valid
+    fields.u32(0); // entry_valid_nsec
+    fields.u32(0); // attr_valid_nsec
+    attr(fields, node);
 }
 
-/// A `struct fuse_attr_out`.
+// `struct fuse_attr_out`.
 #[tactic(auto, unfolding(crate::specs::Structures::attr_out), using(std::proofs::lemmas::Grind::common_steps))]
-pub fn attr_out(node: &Attr) -> [u8; ATTR_OUT_SIZE]
-    ensures { result ≡ attr_out node.now }
+pub fn attr_out(fields: &mut Structure, node: &Attr)
+    requires { length fields.old + 104 ≤ 152 }
+    ensures { fields.new ≡ fields.old ++ attr_out node.now }
 {
-    let valid: [u8; 16] = joined(&one_u64(VALID_SECONDS), &two_u32(0, 0));
-    joined(&valid, &attr(node))
+    fields.u64(VALID_SECONDS); // attr_valid
+    fields.u32(0); // attr_valid_nsec
+    fields.u32(0); // dummy
+    attr(fields, node);
+}
+
+// `struct fuse_open_out`.
+#[tactic(auto, unfolding(crate::specs::Structures::open_out), using(std::proofs::lemmas::Grind::common_steps))]
+pub fn open_out(fields: &mut Structure, open_flags: u32)
+    requires { length fields.old + 16 ≤ 152 }
+    ensures { fields.new ≡ fields.old ++ open_out open_flags }
+{
+    fields.u64(0); // fh
+    fields.u32(open_flags);
+    fields.u32(0); // padding
+}
+
+// `struct fuse_statfs_out`, which holds a `struct fuse_kstatfs`.
+#[tactic(auto, unfolding(crate::specs::Structures::statfs_out), using(std::proofs::lemmas::Grind::common_steps))]
+pub fn statfs_out(fields: &mut Structure, blocks: u64, files: u64)
+    requires { length fields.old + 80 ≤ 152 }
+    ensures { fields.new ≡ fields.old ++ statfs_out blocks files }
+{
+    fields.u64(blocks);
+    fields.u64(0); // bfree
+    fields.u64(0); // bavail
+    fields.u64(files);
+    fields.u64(0); // ffree
+    fields.u32(STATFS_BLOCK_SIZE); // bsize
+    fields.u32(MAX_NAME_SIZE); // namelen
+    fields.u32(STATFS_BLOCK_SIZE); // frsize
+    fields.u32(0); // padding
+    fields.zeros::<24>(); // spare
+}
+
+// `struct fuse_dirent` up to its name.
+#[tactic(auto, unfolding(crate::specs::Structures::dirent_front), using(std::proofs::lemmas::Grind::common_steps))]
+pub fn dirent_front(fields: &mut Structure, row: &Dirent<'_>)
+    requires room { length fields.old + 24 ≤ 152 }
+    requires named { length row.now.name.now < 2 ^ 32 }
+    ensures { fields.new ≡ fields.old ++ front_of row.now }
+{
+    fields.u64(row.ino);
+    fields.u64(row.off);
+    fields.u32(row.name.len() as u32); // namelen
+    fields.u32(row.file_type); // type
 }

@@ -1,17 +1,29 @@
 -- As many rows as fit are a front of all of them, and fit.
-use Rattle.std.proofs.Common.{◌≡◌, ap, ℕ, suc, ◌-◌, ◌≤◌, List, [], ◌∷◌, ◌++◌, length, Bool, true, false, cond, refl, arith, length-append}
+use Rattle.std.proofs.Common.{◌≡◌, ap, ℕ, suc, ◌-◌, ◌<◌, ◌≤◌, List, [], ◌∷◌, length, Bool, true, false, cond, refl, arith, length-append}
 use Rattle.std.specs.Prelude.{nat_le}
-use Rattle.std.proofs.lemmas.Bool.{leb-true}
-use Rattle.reply_model.specs.Rows.{fitting}
+use Rattle.std.specs.List.{flat_map}
+use Rattle.std.proofs.lemmas.Bool.{leb-true, leb-false}
+use Rattle.reply_model.specs.Rows.{Row, fitting}
 use Rattle.reply_model.specs.Laws.{IsFront}
 
-step : (room : ℕ) (x : List ℕ) (xs : List (List ℕ)) → length x ≤ room → IsFront (room - length x) xs (fitting (room - length x) xs) → IsFront room (x ∷ xs) (x ++ fitting (room - length x) xs)
-step room x xs l f = record { count = suc f.count; is = ap (λ v. x ++ v) f.is; fits = (let e = length-append x (fitting (room - length x) xs) in let g = f.fits in omega arith) }
+module _ (form : Row → List ℕ) where
+  one_more : (room : ℕ) (r : Row) (rows : List Row) → length (form r) ≤ room → IsFront form (room - length (form r)) rows (fitting form (room - length (form r)) rows) → IsFront form room (r ∷ rows) (r ∷ fitting form (room - length (form r)) rows)
+  one_more room r rows l f =
+      let e = length-append (form r) (flat_map form (fitting form (room - length (form r)) rows)) in
+      record {
+        count = suc f.count;
+        is = ap (λ v. r ∷ v) f.is;
+        fits = (let g = f.fits in omega arith);
+        full = λ next is. (let g = f.full next is in omega arith);
+      }
 
-pub front : (room : ℕ) (xs : List (List ℕ)) → IsFront room xs (fitting room xs)
-front room [] = record { count = 0; is = refl; fits = omega arith }
-front room (x ∷ xs) = go (nat_le (length x) room) refl (front (room - length x) xs)
-  where
-    go : (b : Bool) → nat_le (length x) room ≡ b → IsFront (room - length x) xs (fitting (room - length x) xs) → IsFront room (x ∷ xs) (cond b (x ++ fitting (room - length x) xs) [])
-    go true e f = step room x xs (leb-true (length x) room e) f
-    go false e f = record { count = 0; is = refl; fits = omega arith }
+  none : (room : ℕ) (r : Row) (rows : List Row) → room < length (form r) → IsFront form room (r ∷ rows) []
+  none room r rows l = record { count = 0; is = refl; fits = omega arith; full = λ next is. (let e : r ≡ next = cc in let f = ap (λ v. length (form v)) e in omega arith) }
+
+  pub front : (room : ℕ) (rows : List Row) → IsFront form room rows (fitting form room rows)
+  front room [] = record { count = 0; is = refl; fits = omega arith; full = λ next is. absurd (cc) }
+  front room (r ∷ rows) = go (nat_le (length (form r)) room) refl (front (room - length (form r)) rows)
+    where
+      go : (b : Bool) → nat_le (length (form r)) room ≡ b → IsFront form (room - length (form r)) rows (fitting form (room - length (form r)) rows) → IsFront form room (r ∷ rows) (cond b (r ∷ fitting form (room - length (form r)) rows) [])
+      go true e f = one_more room r rows (leb-true (length (form r)) room e) f
+      go false e f = none room r rows (leb-false (length (form r)) room e)

@@ -1,6 +1,7 @@
 -- A reply over sound images is short, so its header says its length whole.
-use Rattle.std.proofs.Common.{◌≡◌, ◌∙◌, sym, ap, subst, ℕ, zero, suc, ◌+◌, ◌<◌, ◌≤◌, ◌^◌, ◌⊎◌, inl, inr, List, [], ◌∷◌, ◌++◌, length, map, take, drop, Bool, true, false, Option, Some, None, cond, refl, arith, lit≤, All}
+use Rattle.std.proofs.Common.{◌≡◌, ◌∙◌, sym, ap, subst, ℕ, zero, suc, ◌<◌, ◌≤◌, ◌^◌, ◌⊎◌, inl, inr, List, [], ◌∷◌, ◌++◌, length, map, take, drop, Bool, true, false, Option, Some, None, cond, refl, arith, lit≤, All}
 use Rattle.std.specs.Prelude.{slice_get, nat_lt}
+use Rattle.std.specs.List.{flat_map}
 use Rattle.std.specs.Option.{option_map_or}
 use Rattle.std.proofs.lemmas.Bool.{ltb-false, or_parts}
 use Rattle.std.proofs.lemmas.List.{length-take}
@@ -16,73 +17,40 @@ use Rattle.romfs_format.specs.Rules.{IsSound}
 use Rattle.romfs_format.proofs.Targets.{short_target}
 use Rattle.fuse_wire.specs.declared.errno.Errno.{Errno}
 use Rattle.fuse_wire.specs.declared.errno.Errno.TheVariants.{ESTALE}
-use Rattle.fuse_wire.specs.declared.reply.Attr.{Attr}
 use Rattle.fuse_wire.specs.declared.reply.InitOut.{InitOut}
 use Rattle.fuse_wire.specs.declared.reply.InitOut.TheVariants.{Version, Terms}
 use Rattle.fuse_wire.specs.Stream.{said_length}
 use Rattle.fuse_wire.specs.Requests.{Op, Asked, lookup, getattr, readlink, open_file, read, statfs, init, opendir, readdir, readdirplus}
-use Rattle.fuse_wire.specs.Structures.{u16, u32, u64, zeros, init_out, attr, entry_out, attr_out, open_out, statfs_out}
+use Rattle.fuse_wire.specs.Structures.{u32, u64, init_out, entry_out}
 use Rattle.fuse_wire.specs.Replies.{reply_with, error_reply}
 use Rattle.stack_model.specs.Listing.{Entry, IsListing}
-use Rattle.stack_model.specs.Numbers.{Place, nodes, node_of, child}
+use Rattle.stack_model.specs.Numbers.{Place, nodes, node_of}
 use Rattle.stack_model.specs.Attributes.{blocks_all, kind_at, size_at, layer_of, data_of}
 use Rattle.stack_model.proofs.Listings.{IsLedTo, led_to}
 use Rattle.stack_model.proofs.Numbering.{number_listed}
 use Rattle.reply_model.specs.declared.session.Session.{Session}
-use Rattle.reply_model.specs.Rows.{fitting, attr_of}
-use Rattle.reply_model.specs.Refusals.{first_refusal, refuse_if, refused_by_session, refused_by_itself, asks_node, unless_link, refused_by_kind, is_too_large, refused_rows, refused_by_arguments, refused_at, refused_at_node, refusal}
+use Rattle.reply_model.specs.Sessions.{is_exported}
+use Rattle.reply_model.specs.Lookups.{looked_up}
+use Rattle.reply_model.specs.Rows.{Row, attr_of, dirent_of, direntplus_of, fitting}
+use Rattle.reply_model.specs.Refusals.{refused_by_session, refused_by_itself, asks_node, unless_link, refused_by_kind, is_too_large, refused_rows, refused_by_arguments, refused_at, refused_at_node, refusal}
 use Rattle.reply_model.specs.Replies.{is_silent, answer_at, answer, reply}
+use Rattle.fuse_wire.proofs.Sizes.{length-error_reply, length-reply_with, length-version, length-terms, length-entry_out, length-attr_out, length-open_out, length-statfs_out}
 use Rattle.reply_model.proofs.Fronts.{front}
+use Rattle.reply_model.proofs.Refused.{first_none, both_none, if_none}
 use Rattle.reply_model.proofs.Headers.{headed}
 
--- the structures of replies have fixed lengths
-length-init : (o : InitOut) → length (init_out o) ≡ 64
-unfolding init_out u16 u32 zeros
-length-init Version = refl
-length-init (Terms readahead flags) = refl
-
-length-entry : (a : Attr) → length (entry_out a) ≡ 128
-unfolding entry_out attr u32 u64 zeros
-length-entry a = refl
-
-length-attr : (a : Attr) → length (attr_out a) ≡ 104
-unfolding attr_out attr u32 u64 zeros
-length-attr a = refl
-
-length-open : (flags : ℕ) → length (open_out flags) ≡ 16
-unfolding open_out u32 u64
-length-open flags = refl
-
-length-statfs : (blocks files : ℕ) → length (statfs_out blocks files) ≡ 80
-unfolding statfs_out u32 u64 zeros
-length-statfs blocks files = refl
-
--- a reply is as long as its header and its data
-length-error : (unique : ℕ) (errno : Errno) → length (error_reply unique errno) ≡ 16
-unfolding error_reply u32 u64
-length-error unique errno = refl
-
-length-with : (unique : ℕ) (bytes : List ℕ) → length (reply_with unique bytes) ≡ 16 + length bytes
-unfolding reply_with u32 u64
-length-with unique bytes = omega arith
+-- INIT is answered 64 bytes at most
+short_init : (o : InitOut) → length (init_out o) ≤ 64
+short_init Version = let l = length-version in omega arith
+short_init (Terms minor readahead flags) = either (nat_lt minor 23) (length-terms minor readahead flags)
+  where
+    either : (b : Bool) → length (init_out (Terms minor readahead flags)) ≡ cond b 24 64 → length (init_out (Terms minor readahead flags)) ≤ 64
+    either true e = omega arith
+    either false e = omega arith
 
 -- some first bytes are no more than asked
 length-front : (n : ℕ) (xs : List ℕ) → length (take n xs) ≤ n
 length-front n xs = let e = length-take n xs in omega arith
-
--- where nothing refuses, the first does not
-first_none : (o : Option Errno) (os : List (Option Errno)) → first_refusal (o ∷ os) ≡ None → (o ≡ None) × (first_refusal os ≡ None)
-first_none None os e = (refl, e)
-first_none (Some errno) os e = absurd (cc)
-
--- and where there are two, neither does
-both_none : (o p : Option Errno) → first_refusal (o ∷ p ∷ []) ≡ None → (o ≡ None) × (p ≡ None)
-both_none o p e = let r = first_none o (p ∷ []) e in (r.0, (first_none p [] r.1).0)
-
--- nor is what it refuses there
-if_none : (b : Bool) (errno : Errno) → refuse_if b errno ≡ None → b ≡ false
-if_none true errno e = absurd (cc)
-if_none false errno e = refl
 
 -- a size that is not too large
 not_large : (n : ℕ) → is_too_large n ≡ false → n ≤ 1048576
@@ -130,60 +98,60 @@ module _ (bs : List (List ℕ)) (entries : List Entry) (sound : All IsSound bs) 
       link_data layers p 4095 k (subst (λ a. size a p.1 ≤ 4095) (sym here) short)
 
   -- what is not refused at a node is refused neither by its kind nor by the arguments
-  by_kind : (op : Op) (p : Place) → refused_at layers entries op p ≡ None → refused_by_kind op (kind_at layers p) ≡ None
-  by_kind op p r = (both_none (refused_by_kind op (kind_at layers p)) (refused_by_arguments layers entries op p) r).0
+  by_kind : (x : Bool) (op : Op) (p : Place) → refused_at layers entries x op p ≡ None → refused_by_kind x op (kind_at layers p) ≡ None
+  by_kind x op p r = (both_none (refused_by_kind x op (kind_at layers p)) (refused_by_arguments layers entries x op p) r).0
 
-  by_arguments : (op : Op) (p : Place) → refused_at layers entries op p ≡ None → refused_by_arguments layers entries op p ≡ None
-  by_arguments op p r = (both_none (refused_by_kind op (kind_at layers p)) (refused_by_arguments layers entries op p) r).1
+  by_arguments : (x : Bool) (op : Op) (p : Place) → refused_at layers entries x op p ≡ None → refused_by_arguments layers entries x op p ≡ None
+  by_arguments x op p r = (both_none (refused_by_kind x op (kind_at layers p)) (refused_by_arguments layers entries x op p) r).1
 
   -- rows that are answered fit in 1 MiB
-  short_rows : (rows : List (List ℕ)) (n : ℕ) → refused_rows layers entries rows n ≡ None → length (fitting n rows) ≤ 1048576
-  short_rows rows n r = let a = not_large n (or_parts _ _ (if_none _ _ r)).0 in let f = (front n rows).fits in omega arith
+  short_rows : (form : Row → List ℕ) (rows : List Row) (n : ℕ) → refused_rows form n rows ≡ None → length (flat_map form (fitting form n rows)) ≤ 1048576
+  short_rows form rows n r = let a = not_large n (or_parts _ _ (if_none _ _ r)).0 in let f = (front form n rows).fits in omega arith
 
   -- the answer at a place that has a number
-  short_at : (node : ℕ) (op : Op) (p : Place) → node_of entries node ≡ Some p → cond (asks_node op) (refused_at layers entries op p) None ≡ None → length (answer_at layers entries op p) ≤ 1048576
-  short_at node (lookup name) p e r = found (child entries p name)
+  short_at : (x : Bool) (node : ℕ) (op : Op) (p : Place) → node_of entries node ≡ Some p → cond (asks_node op) (refused_at layers entries x op p) None ≡ None → length (answer_at layers entries x op p) ≤ 1048576
+  short_at x node (lookup name) p e r = found (looked_up entries x p name)
     where
       found : (o : Option Place) → length (option_map_or (λ c. entry_out (attr_of layers entries c)) o []) ≤ 1048576
       found None = lit≤ tt
-      found (Some c) = let x = length-entry (attr_of layers entries c) in omega arith
-  short_at node getattr p e r = let x = length-attr (attr_of layers entries p) in omega arith
-  short_at node readlink p e r = let x = short_link node p e (is_link _ (by_kind readlink p r)) in omega arith
-  short_at node (open_file flags) p e r = let x = length-open 2 in omega arith
-  short_at node opendir p e r = let x = length-open 0 in omega arith
-  short_at node (read offset n) p e r =
-      let a = not_large n (if_none _ _ (by_arguments (read offset n) p r)) in
+      found (Some c) = let l = length-entry_out (attr_of layers entries c) in omega arith
+  short_at x node getattr p e r = let l = length-attr_out (attr_of layers entries p) in omega arith
+  short_at x node readlink p e r = let l = short_link node p e (is_link _ (by_kind x readlink p r)) in omega arith
+  short_at x node (open_file flags) p e r = let l = length-open_out 2 in omega arith
+  short_at x node opendir p e r = let l = length-open_out 0 in omega arith
+  short_at x node (read offset n) p e r =
+      let a = not_large n (if_none _ _ (by_arguments x (read offset n) p r)) in
       let f = length-front n (drop offset (data_of layers p)) in
       omega arith
-  short_at node (readdir offset n) p e r = short_rows _ n (by_arguments (readdir offset n) p r)
-  short_at node (readdirplus offset n) p e r = short_rows _ n (by_arguments (readdirplus offset n) p r)
-  short_at node _ p e r = lit≤ tt
+  short_at x node (readdir offset n) p e r = short_rows (dirent_of layers entries) _ n (by_arguments x (readdir offset n) p r)
+  short_at x node (readdirplus offset n) p e r = short_rows (direntplus_of layers entries) _ n (by_arguments x (readdirplus offset n) p r)
+  short_at x node _ p e r = lit≤ tt
 
   -- the answer to a request about a node
-  short_node : (node : ℕ) (op : Op) (o : Option Place) → node_of entries node ≡ o → cond (asks_node op) (option_map_or (refused_at layers entries op) o (Some ESTALE)) None ≡ None → length (option_map_or (answer_at layers entries op) o []) ≤ 1048576
-  short_node node op None e r = lit≤ tt
-  short_node node op (Some p) e r = short_at node op p e r
+  short_node : (x : Bool) (node : ℕ) (op : Op) (o : Option Place) → node_of entries node ≡ o → cond (asks_node op) (option_map_or (refused_at layers entries x op) o (Some ESTALE)) None ≡ None → length (option_map_or (answer_at layers entries x op) o []) ≤ 1048576
+  short_node x node op None e r = lit≤ tt
+  short_node x node op (Some p) e r = short_at x node op p e r
 
   -- the answer to a request that is not refused
-  short_answer : (node : ℕ) (op : Op) → refused_at_node layers entries node op ≡ None → length (answer layers entries node op) ≤ 1048576
-  short_answer node (init major minor readahead flags) r = let x = length-init (cond (nat_lt 7 major) Version (Terms readahead flags)) in omega arith
-  short_answer node statfs r = let x = length-statfs (blocks_all layers) (length (nodes entries)) in omega arith
-  short_answer node op r = short_node node op (node_of entries node) refl r
+  short_answer : (x : Bool) (node : ℕ) (op : Op) → refused_at_node layers entries x node op ≡ None → length (answer layers entries x node op) ≤ 1048576
+  short_answer x node (init major minor readahead flags) r = let l = short_init (cond (nat_lt 7 major) Version (Terms minor readahead flags)) in omega arith
+  short_answer x node statfs r = let l = length-statfs_out (blocks_all layers) (length (nodes entries)) in omega arith
+  short_answer x node op r = short_node x node op (node_of entries node) refl r
 
   -- a reply is a header of 16 bytes and an answer
   pub short : (s : Session) (q : Asked) → length (reply layers entries s q) ≤ 1048592
   short s q = silent (is_silent q.op)
     where
-      replied : (o : Option Errno) → refusal layers entries s q.node q.op ≡ o → length (option_map_or (error_reply q.unique) o (reply_with q.unique (answer layers entries q.node q.op))) ≤ 1048592
-      replied (Some errno) e = let x = length-error q.unique errno in omega arith
+      replied : (o : Option Errno) → refusal layers entries s q.node q.op ≡ o → length (option_map_or (error_reply q.unique) o (reply_with q.unique (answer layers entries (is_exported s) q.node q.op))) ≤ 1048592
+      replied (Some errno) e = let x = length-error_reply q.unique errno in omega arith
       replied None e =
-          let there = refused_at_node layers entries q.node q.op in
+          let there = refused_at_node layers entries (is_exported s) q.node q.op in
           let r = (first_none (refused_by_session s q.op) (refused_by_itself q.op ∷ there ∷ []) e).1 in
-          let a = short_answer q.node q.op (both_none (refused_by_itself q.op) there r).1 in
-          let x = length-with q.unique (answer layers entries q.node q.op) in
+          let a = short_answer (is_exported s) q.node q.op (both_none (refused_by_itself q.op) there r).1 in
+          let x = length-reply_with q.unique (answer layers entries (is_exported s) q.node q.op) in
           omega arith
 
-      silent : (b : Bool) → length (cond b [] (option_map_or (error_reply q.unique) (refusal layers entries s q.node q.op) (reply_with q.unique (answer layers entries q.node q.op)))) ≤ 1048592
+      silent : (b : Bool) → length (cond b [] (option_map_or (error_reply q.unique) (refusal layers entries s q.node q.op) (reply_with q.unique (answer layers entries (is_exported s) q.node q.op)))) ≤ 1048592
       silent true = lit≤ tt
       silent false = replied (refusal layers entries s q.node q.op) refl
 

@@ -1,19 +1,22 @@
 -- Worked examples: images and requests written out, and what they are answered.
-use Rattle.std.specs.Prelude.{◌≡◌, ℕ, zero, suc, ◌+◌, ◌-◌, ◌%◌, ◌^◌, List, [], ◌∷◌, ◌++◌, length, take, drop, replicate, true, codes, Some}
+use Rattle.std.specs.Prelude.{◌≡◌, false, map, ℤ, pos, negsuc, ℕ, zero, suc, ◌+◌, ◌-◌, ◌%◌, ◌^◌, List, [], ◌∷◌, ◌++◌, length, take, drop, replicate, true, codes, Some}
 use Rattle.std.specs.List.{flat_map}
 use Rattle.byteorder.specs.Endian.{big_bytes}
 use Rattle.romfs_format.specs.declared.head.Kind.TheVariants.{HardLink, Directory}
 use Rattle.romfs_format.specs.declared.rule.Rule.TheVariants.{Short, Magic, FullSize, NoRoot, Outside, NameBad, DataOutside, Twice, SameName, MajorLarge, Deep}
 use Rattle.romfs_format.specs.Rules.{IsNamedBefore, IsFault}
 use Rattle.romfs_format.specs.Fields.{pad, image, root, kind, exec, next, spec, size, name}
-use Rattle.fuse_wire.specs.Requests.{asked}
+use Rattle.fuse_wire.specs.Requests.{init, destroy, asked}
 use Rattle.fuse_wire.specs.Stream.{IsMessage, IsUnfinished, IsBad}
 use Rattle.fuse_wire.specs.Structures.{u32, u64, zeros}
 use Rattle.stack_model.specs.Listing.{Entry}
 use Rattle.reply_model.specs.declared.session.Session.{Session}
 use Rattle.reply_model.specs.declared.session.Session.TheVariants.{Fresh, Ready}
+use Rattle.reply_model.specs.declared.moves.Move.{Move}
+use Rattle.reply_model.specs.Sessions.{session_after}
 use Rattle.reply_model.specs.Replies.{reply}
-use Rattle.reply_model.specs.Streams.{replies}
+use Rattle.reply_model.specs.Moves.{moves}
+use Rattle.reply_model.specs.Streams.{replies, balance_after}
 
 -- bytes as a dump prints them, four at a time
 abbrev pub dump : List ℕ → List ℕ
@@ -86,7 +89,7 @@ abbrev pub over_empty : Session → List ℕ → List ℕ
 over_empty s m = reply (empty_image ∷ []) empty_entries s (asked m)
 
 abbrev pub over_sample : List ℕ → List ℕ
-over_sample m = reply (sample_image ∷ []) sample_entries Ready (asked m)
+over_sample m = reply (sample_image ∷ []) sample_entries (Ready false) (asked m)
 
 -- which of two faults is named
 pub record FaultOrder : Type 0 where
@@ -145,12 +148,18 @@ init_reply = dump (
 -- INIT 7.39 with a longer body, all flags, and a max_readahead above the limit
 abbrev pub newer_init_reply : List ℕ
 newer_init_reply = dump (
-    0x50000000 ∷ 0x00000000 ∷ 0x01000000 ∷ 0x00000000 ∷ 0x07000000 ∷ 0x1f000000 ∷ 0x00001000 ∷ 0x01604400
+    0x50000000 ∷ 0x00000000 ∷ 0x01000000 ∷ 0x00000000 ∷ 0x07000000 ∷ 0x1f000000 ∷ 0x00001000 ∷ 0x11604400
     ∷ 0x0c000900 ∷ 0x00000200 ∷ 0x01000000 ∷ 0x20000000 ∷ []) ++ replicate 32 0
 
 -- a client of major version 8 is told the version
 abbrev pub version_reply : List ℕ
 version_reply = dump (0x50000000 ∷ 0x00000000 ∷ 0x01000000 ∷ 0x00000000 ∷ 0x07000000 ∷ 0x1f000000 ∷ []) ++ replicate 56 0
+
+-- a client of minor version 22 is told the first 24 bytes alone, and still minor version 31
+abbrev pub older_init_reply : List ℕ
+older_init_reply = dump (
+    0x28000000 ∷ 0x00000000 ∷ 0x01000000 ∷ 0x00000000 ∷ 0x07000000 ∷ 0x1f000000 ∷ 0x00000200 ∷ 0x01000000
+    ∷ 0x0c000900 ∷ 0x00000200 ∷ [])
 
 pub record InitExamples : Type 0 where
   pub accepted : over_empty Fresh init_request ≡ init_reply
@@ -159,12 +168,34 @@ pub record InitExamples : Type 0 where
       replies (empty_image ∷ []) empty_entries Fresh
       (request 26 1 0 (init_in 8 0 0 0) ∷ request 3 2 1 (zeros 16) ∷ request 26 3 0 (init_in 7 31 131072 0x6001) ∷ request 26 4 0 (init_in 7 31 131072 0x6001) ∷ [])
       ≡ version_reply ++ refused 2 0xfffffffb ++ headed 3 80 ++ drop 16 init_reply ++ refused 4 0xfffffffb
-  pub older_minor : over_empty Fresh (request 26 1 0 (init_in 7 22 131072 0x1)) ≡ refused 1 0xffffffb9
+  pub minor_22 : over_empty Fresh (request 26 1 0 (init_in 7 22 131072 0x1)) ≡ older_init_reply
+  pub after_minor_22 :
+      length (replies (empty_image ∷ []) empty_entries Fresh (request 26 1 0 (init_in 7 22 131072 0x1) ∷ request 3 2 1 (zeros 16) ∷ []))
+      ≡ 160
+  pub minor_12 : length (over_empty Fresh (request 26 1 0 (init_in 7 12 131072 0x1))) ≡ 40
+  pub minor_23 : length (over_empty Fresh (request 26 1 0 (init_in 7 23 131072 0x1))) ≡ 80
+  pub exported : take 4 (drop 28 (over_empty Fresh (request 26 1 0 (init_in 7 31 131072 0x10)))) ≡ u32 0x10
+  pub older_minor : over_empty Fresh (request 26 1 0 (init_in 7 11 131072 0x1)) ≡ refused 1 0xffffffb9
   pub older_major : over_empty Fresh (request 26 1 0 (init_in 6 31 131072 0x1)) ≡ refused 1 0xffffffb9
   pub fresh_write : over_empty Fresh (request 16 1 1 (zeros 40)) ≡ refused 1 0xfffffffb
   pub fresh_release : over_empty Fresh (request 18 1 1 (zeros 24)) ≡ refused 1 0xfffffffb
   pub fresh_forget : over_empty Fresh (request 2 1 1 (zeros 8)) ≡ []
   pub short : over_empty Fresh (request 26 1 0 (take 15 (init_in 7 31 131072 0x1))) ≡ refused 1 0xffffffea
+
+-- when sessions begin and end, and that the accepted INIT alone says whether . and .. are looked up
+pub record SessionExamples : Type 0 where
+  pub begins : session_after Fresh (init 7 31 131072 0x6001) ≡ Ready false
+  pub exports : session_after Fresh (init 7 12 0 0x10) ≡ Ready true
+  pub other_flags : session_after Fresh (init 7 31 0 0xffffffef) ≡ Ready false
+  pub minor_11 : session_after Fresh (init 7 11 0 0x10) ≡ Fresh
+  pub major_8 : session_after Fresh (init 8 31 0 0x10) ≡ Fresh
+  pub destroyed_fresh : session_after Fresh destroy ≡ Fresh
+  pub init_again : session_after (Ready true) (init 7 31 0 0) ≡ Ready true
+  pub destroyed : session_after (Ready true) destroy ≡ Fresh
+  pub ended :
+      replies (empty_image ∷ []) empty_entries (Ready false)
+      (request 38 1 0 [] ∷ request 3 2 1 (zeros 16) ∷ request 38 3 0 [] ∷ [])
+      ≡ headed 1 16 ++ refused 2 0xfffffffb ++ refused 3 0xfffffffb
 
 -- GETATTR of the root of the empty image, in use by two names
 abbrev pub root_attr_reply : List ℕ
@@ -176,10 +207,10 @@ root_attr_reply = dump (
     ∷ 0x00000000 ∷ 0x00000000 ∷ 0x00000000 ∷ 0x00100000 ∷ 0x00000000 ∷ [])
 
 pub record GetattrExamples : Type 0 where
-  pub of_root : over_empty Ready (request 3 2 1 (zeros 16)) ≡ root_attr_reply
-  pub of_two : over_empty Ready (request 3 3 2 (zeros 16)) ≡ dump (0x10000000 ∷ 0x8cffffff ∷ 0x03000000 ∷ 0x00000000 ∷ [])
-  pub of_zero : over_empty Ready (request 3 4 0 (zeros 16)) ≡ refused 4 0xffffff8c
-  pub short : over_empty Ready (request 3 5 2 (zeros 15)) ≡ refused 5 0xffffffea
+  pub of_root : over_empty (Ready false) (request 3 2 1 (zeros 16)) ≡ root_attr_reply
+  pub of_two : over_empty (Ready false) (request 3 3 2 (zeros 16)) ≡ dump (0x10000000 ∷ 0x8cffffff ∷ 0x03000000 ∷ 0x00000000 ∷ [])
+  pub of_zero : over_empty (Ready false) (request 3 4 0 (zeros 16)) ≡ refused 4 0xffffff8c
+  pub short : over_empty (Ready false) (request 3 5 2 (zeros 15)) ≡ refused 5 0xffffffea
 
 -- the rows . and .. of the root of the empty image
 abbrev pub own_row : List ℕ
@@ -189,12 +220,12 @@ abbrev pub upper_row : List ℕ
 upper_row = dump (0x01000000 ∷ 0x00000000 ∷ 0x02000000 ∷ 0x00000000 ∷ 0x02000000 ∷ 0x04000000 ∷ 0x2e2e0000 ∷ 0x00000000 ∷ [])
 
 pub record ReaddirExamples : Type 0 where
-  pub both : over_empty Ready (request 28 2 1 (read_in 0 4096)) ≡ headed 2 80 ++ own_row ++ upper_row
-  pub one : over_empty Ready (request 28 2 1 (read_in 0 63)) ≡ headed 2 48 ++ own_row
-  pub too_small : over_empty Ready (request 28 2 1 (read_in 0 31)) ≡ refused 2 0xffffffea
-  pub no_room : over_empty Ready (request 28 2 1 (read_in 0 0)) ≡ refused 2 0xffffffea
-  pub too_large : over_empty Ready (request 28 2 1 (read_in 0 1048577)) ≡ refused 2 0xffffffea
-  pub at_end : over_empty Ready (request 28 2 1 (read_in 2 0)) ≡ headed 2 16
+  pub both : over_empty (Ready false) (request 28 2 1 (read_in 0 4096)) ≡ headed 2 80 ++ own_row ++ upper_row
+  pub one : over_empty (Ready false) (request 28 2 1 (read_in 0 63)) ≡ headed 2 48 ++ own_row
+  pub too_small : over_empty (Ready false) (request 28 2 1 (read_in 0 31)) ≡ refused 2 0xffffffea
+  pub no_room : over_empty (Ready false) (request 28 2 1 (read_in 0 0)) ≡ refused 2 0xffffffea
+  pub too_large : over_empty (Ready false) (request 28 2 1 (read_in 0 1048577)) ≡ refused 2 0xffffffea
+  pub at_end : over_empty (Ready false) (request 28 2 1 (read_in 2 0)) ≡ headed 2 16
 
 pub record ReaddirplusExamples : Type 0 where
   pub three : length (over_sample (request 44 2 3 (read_in 0 4096))) ≡ 496
@@ -236,6 +267,49 @@ pub record LookupExamples : Type 0 where
   pub upper : over_sample (request 1 2 1 (codes ".." ++ zeros 1)) ≡ refused 2 0xfffffffe
   pub in_file : over_sample (request 1 2 2 (replicate 256 0x71 ++ zeros 1)) ≡ refused 2 0xffffffec
 
+-- with EXPORT_SUPPORT the name . finds the node itself, whatever its kind, and .. the directory above it
+abbrev pub over_exported : List ℕ → List ℕ
+over_exported m = reply (sample_image ∷ []) sample_entries (Ready true) (asked m)
+
+abbrev pub itself : List ℕ
+itself = codes "." ++ zeros 1
+
+abbrev pub upper : List ℕ
+upper = codes ".." ++ zeros 1
+
+pub record ExportExamples : Type 0 where
+  pub directory : over_exported (request 1 2 3 itself) ≡ over_sample (request 1 2 1 (codes "d" ++ zeros 1))
+  pub file : over_exported (request 1 2 2 itself) ≡ over_sample (request 1 2 1 (codes "big" ++ zeros 1))
+  pub above : over_exported (request 1 2 3 upper) ≡ over_exported (request 1 2 1 itself)
+  pub above_root : over_exported (request 1 2 1 upper) ≡ over_exported (request 1 2 1 itself)
+  pub root : take 48 (over_exported (request 1 2 1 itself)) ≡ headed 2 144 ++ u64 1 ++ u64 0 ++ u64 3600 ++ u64 3600
+  pub above_file : over_exported (request 1 2 2 upper) ≡ refused 2 0xffffffec
+  pub of_no_node : over_exported (request 1 2 7 itself) ≡ refused 2 0xffffff8c
+  pub other_name : over_exported (request 1 10 3 (codes "x" ++ zeros 1)) ≡ x_entry_reply
+  pub three_dots : over_exported (request 1 2 1 (codes "..." ++ zeros 1)) ≡ refused 2 0xfffffffe
+  pub not_exported : over_sample (request 1 2 3 itself) ≡ refused 2 0xfffffffe
+  pub file_not_exported : over_sample (request 1 2 2 itself) ≡ refused 2 0xffffffec
+
+-- requests that have no reply, fresh and ready, whatever their body
+pub record SilentExamples : Type 0 where
+  pub interrupt : over_sample (request 36 2 0 (zeros 8)) ≡ []
+  pub interrupt_fresh : over_empty Fresh (request 36 2 0 []) ≡ []
+  pub batch_forget : over_sample (request 42 2 0 (u32 0xffffffff ++ zeros 4)) ≡ []
+  pub batch_forget_fresh : over_empty Fresh (request 42 2 0 (zeros 8)) ≡ []
+  pub short_forget : over_sample (request 2 2 2 (zeros 7)) ≡ []
+  pub short_batch_forget : over_empty Fresh (request 42 2 0 (zeros 7)) ≡ []
+
+-- which of two refusals is answered
+pub record RefusalOrder : Type 0 where
+  pub session_first : over_empty Fresh (request 99 1 1 []) ≡ refused 1 0xfffffffb
+  pub init_again_short : over_sample (request 26 2 0 []) ≡ refused 2 0xfffffffb
+  pub modify_before_body : over_sample (request 16 2 99 []) ≡ refused 2 0xffffffe2
+  pub body_before_node : over_sample (request 14 2 99 (zeros 7)) ≡ refused 2 0xffffffea
+  pub node_before_kind : over_sample (request 15 2 99 (read_in 0 1048577)) ≡ refused 2 0xffffff8c
+  pub kind_before_arguments : over_sample (request 15 2 3 (read_in 0 1048577)) ≡ refused 2 0xffffffeb
+  pub kind_before_access : over_sample (request 14 2 3 (u32 2 ++ zeros 4)) ≡ refused 2 0xffffffeb
+  pub kind_before_rows : over_sample (request 28 2 2 (read_in 0 0)) ≡ refused 2 0xffffffec
+
 -- mode 0x2180 and rdev 0x103 of the device; the root has one directory; 11 blocks and 6 nodes
 pub record NodeExamples : Type 0 where
   pub device_mode : take 4 (drop 92 (over_sample (request 3 2 6 (zeros 16)))) ≡ dump (0x80210000 ∷ [])
@@ -244,14 +318,106 @@ pub record NodeExamples : Type 0 where
   pub statfs :
       over_sample (request 17 2 0 [])
       ≡ headed 2 96 ++ u64 11 ++ zeros 16 ++ u64 6 ++ zeros 8 ++ u32 512 ++ u32 255 ++ u32 512 ++ zeros 28
-  pub open_file : over_sample (request 14 2 2 (zeros 8)) ≡ headed 2 32 ++ zeros 8 ++ u32 2 ++ zeros 4
-  pub open_to_write : over_sample (request 14 2 2 (u32 1 ++ zeros 4)) ≡ refused 2 0xffffffe2
-  pub open_directory : over_sample (request 14 2 3 (zeros 8)) ≡ refused 2 0xffffffeb
-  pub opendir : over_sample (request 27 2 3 (zeros 8)) ≡ headed 2 32 ++ zeros 16
-  pub opendir_of_file : over_sample (request 27 2 2 (zeros 8)) ≡ refused 2 0xffffffec
+  pub readdir_of_file : over_sample (request 28 2 2 (read_in 0 4096)) ≡ refused 2 0xffffffec
+  pub readdirplus_of_link : over_sample (request 44 2 5 (read_in 0 4096)) ≡ refused 2 0xffffffec
+  pub file_mode : take 4 (drop 92 (over_sample (request 3 2 2 (zeros 16)))) ≡ dump (0xa4810000 ∷ [])
+  pub directory_mode : take 4 (drop 92 (over_sample (request 3 2 3 (zeros 16)))) ≡ dump (0xed410000 ∷ [])
+  pub link_mode : take 4 (drop 92 (over_sample (request 3 2 5 (zeros 16)))) ≡ dump (0xffa10000 ∷ [])
   pub readlink : over_sample (request 5 2 5 []) ≡ headed 2 19 ++ codes "d/x"
   pub readlink_of_file : over_sample (request 5 2 2 []) ≡ refused 2 0xffffffea
   pub release : over_sample (request 18 2 99 []) ≡ headed 2 16
   pub forget : over_sample (request 2 2 2 (zeros 8)) ≡ []
   pub write : over_sample (request 16 2 2 (zeros 40)) ≡ refused 2 0xffffffe2
   pub unserved : over_sample (request 99 2 2 []) ≡ refused 2 0xffffffda
+
+-- OPEN answers open_flags FOPEN_KEEP_CACHE, which is 2, and refuses each access mode but O_RDONLY; OPENDIR answers none
+pub record OpenExamples : Type 0 where
+  pub open_file : over_sample (request 14 2 2 (zeros 8)) ≡ headed 2 32 ++ zeros 8 ++ u32 2 ++ zeros 4
+  pub open_to_write : over_sample (request 14 2 2 (u32 1 ++ zeros 4)) ≡ refused 2 0xffffffe2
+  pub open_to_read_and_write : over_sample (request 14 2 2 (u32 2 ++ zeros 4)) ≡ refused 2 0xffffffe2
+  pub open_to_execute : over_sample (request 14 2 2 (u32 3 ++ zeros 4)) ≡ refused 2 0xffffffe2
+  pub open_with_flags : over_sample (request 14 2 2 (u32 0x8800 ++ zeros 4)) ≡ headed 2 32 ++ zeros 8 ++ u32 2 ++ zeros 4
+  pub open_link : over_sample (request 14 2 5 (zeros 8)) ≡ refused 2 0xffffffea
+  pub open_directory : over_sample (request 14 2 3 (zeros 8)) ≡ refused 2 0xffffffeb
+  pub opendir : over_sample (request 27 2 3 (zeros 8)) ≡ headed 2 32 ++ zeros 16
+  pub opendir_of_file : over_sample (request 27 2 2 (zeros 8)) ≡ refused 2 0xffffffec
+
+-- a row of a directory, whose name and padding fill 8 bytes
+abbrev pub row : ℕ → ℕ → ℕ → List ℕ → List ℕ
+row ino off file_type name = u64 ino ++ u64 off ++ u32 (length name) ++ u32 file_type ++ name ++ zeros (8 - length name)
+
+-- twelve requests, the session's first and last among them, and their 1,531 bytes of replies
+abbrev pub twelve_requests : List (List ℕ)
+twelve_requests =
+    init_request
+    ∷ request 1 2 1 (codes "big" ++ zeros 1)
+    ∷ request 15 3 2 (read_in 4096 4096)
+    ∷ request 2 4 2 (u64 1)
+    ∷ request 36 5 0 (zeros 8)
+    ∷ request 16 6 2 (zeros 40)
+    ∷ request 99 7 0 []
+    ∷ request 5 8 5 []
+    ∷ request 28 9 1 (read_in 0 4096)
+    ∷ request 17 10 0 []
+    ∷ request 38 11 0 []
+    ∷ request 3 12 1 (zeros 16)
+    ∷ []
+
+pub record TwelveRequests : Type 0 where
+  pub replies_are :
+      replies (sample_image ∷ []) sample_entries Fresh twelve_requests
+      ≡ init_reply
+      ++ over_sample (request 1 2 1 (codes "big" ++ zeros 1))
+      ++ headed 3 920 ++ drop 4096 (counted 5000 0)
+      ++ refused 6 0xffffffe2
+      ++ refused 7 0xffffffda
+      ++ headed 8 19 ++ codes "d/x"
+      ++ headed 9 208 ++ row 1 1 4 (codes ".") ++ row 1 2 4 (codes "..") ++ row 2 3 8 (codes "big") ++ row 3 4 4 (codes "d")
+      ++ row 5 5 10 (codes "l") ++ row 6 6 2 (codes "null")
+      ++ headed 10 96 ++ u64 11 ++ zeros 16 ++ u64 6 ++ zeros 8 ++ u32 512 ++ u32 255 ++ u32 512 ++ zeros 28
+      ++ headed 11 16
+      ++ refused 12 0xfffffffb
+  pub sized : length (replies (sample_image ∷ []) sample_entries Fresh twelve_requests) ≡ 1531
+
+-- a session with EXPORT_SUPPORT that looks up, lists and forgets. Of the items of the BATCH_FORGET the count says
+-- three, two are there, and one of these is of no node; the last FORGET has no whole body
+abbrev pub looking_up : List (List ℕ)
+looking_up =
+    request 26 1 0 (init_in 7 31 131072 0x10)
+    ∷ request 1 2 1 (codes "big" ++ zeros 1)
+    ∷ request 1 3 3 itself
+    ∷ request 1 4 3 upper
+    ∷ request 1 5 2 itself
+    ∷ request 1 6 2 upper
+    ∷ request 44 7 1 (read_in 0 4096)
+    ∷ request 42 8 0 (u32 3 ++ u32 0 ++ u64 2 ++ u64 2 ++ u64 9 ++ u64 1)
+    ∷ request 2 9 6 (u64 5)
+    ∷ request 2 10 3 (zeros 7)
+    ∷ []
+
+-- the balance of a node after them
+abbrev pub held : ℕ → ℤ
+held node = balance_after (sample_image ∷ []) sample_entries looking_up node
+
+-- what one request of a session gives and takes
+abbrev pub moved_by : Session → List ℕ → List Move
+moved_by s m = moves (sample_image ∷ []) sample_entries s (asked m)
+
+pub record BalanceExamples : Type 0 where
+  pub replies_sized : length (replies (sample_image ∷ []) sample_entries Fresh looking_up) ≡ 1648
+  pub balances :
+      map held (1 ∷ 2 ∷ 3 ∷ 4 ∷ 5 ∷ 6 ∷ 7 ∷ 9 ∷ [])
+      ≡ pos 1 ∷ pos 1 ∷ pos 2 ∷ pos 0 ∷ pos 1 ∷ negsuc 3 ∷ pos 0 ∷ pos 0 ∷ []
+  pub rows_in_order :
+      moved_by (Ready false) (request 44 7 1 (read_in 0 4096))
+      ≡ record { node = 2; amount = pos 1 } ∷ record { node = 3; amount = pos 1 }
+      ∷ record { node = 5; amount = pos 1 } ∷ record { node = 6; amount = pos 1 } ∷ []
+  pub later_rows :
+      moved_by (Ready false) (request 44 7 1 (read_in 2 320))
+      ≡ record { node = 2; amount = pos 1 } ∷ record { node = 3; amount = pos 1 } ∷ []
+  pub listed : moved_by (Ready false) (request 28 7 1 (read_in 0 4096)) ≡ []
+  pub forgotten : moved_by (Ready false) (request 2 7 4 (u64 3)) ≡ record { node = 4; amount = negsuc 2 } ∷ []
+  pub counted_items :
+      moved_by (Ready false) (request 42 8 0 (u32 1 ++ u32 0 ++ u64 2 ++ u64 2 ++ u64 3 ++ u64 1))
+      ≡ record { node = 2; amount = negsuc 1 } ∷ []
+  pub fresh : moved_by Fresh (request 2 7 4 (u64 3)) ≡ []

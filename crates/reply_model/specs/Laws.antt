@@ -1,7 +1,17 @@
--- linux/fuse.h: what every reply begins with, and how rows fill a READDIR's size.
-use Rattle.std.specs.Prelude.{◌≡◌, ℕ, ◌≤◌, List, ◌++◌, length, take}
+-- What holds of replies and moves, whatever the layers.
+use Rattle.std.specs.Prelude.{◌≡◌, ℕ, ◌⊎◌, ◌+◌, ◌<◌, ◌≤◌, List, [], ◌∷◌, ◌++◌, length, map, filter, take, slice_get, slice_index, slice_index_or, ◌^◌, Some, Bool, true, false}
 use Rattle.std.specs.List.{flat_map}
-use Rattle.fuse_wire.specs.Structures.{u32, u64}
+use Rattle.fuse_wire.specs.declared.errno.Errno.{Errno}
+use Rattle.fuse_wire.specs.declared.reply.Attr.{Attr}
+use Rattle.fuse_wire.specs.Requests.{Op, Asked, lookup, forget, batch_forget, readdirplus}
+use Rattle.fuse_wire.specs.Structures.{u32, u64, entry_out}
+use Rattle.fuse_wire.specs.Replies.{reply_with, error_reply}
+use Rattle.stack_model.specs.Listing.{Entry}
+use Rattle.stack_model.specs.Numbers.{Place}
+use Rattle.reply_model.specs.declared.session.Session.{Session}
+use Rattle.reply_model.specs.Rows.{Row, is_child, attr_of, direntplus_of}
+use Rattle.reply_model.specs.Replies.{reply}
+use Rattle.reply_model.specs.Moves.{give, moves}
 
 -- the bytes begin with how many they are, as 32 bits, an error, and the request's unique
 pub record IsReplyTo (unique : ℕ) (bytes : List ℕ) : Type 0 where
@@ -9,8 +19,49 @@ pub record IsReplyTo (unique : ℕ) (bytes : List ℕ) : Type 0 where
   pub rest : List ℕ
   pub is : bytes ≡ u32 (length bytes) ++ u32 error ++ u64 unique ++ rest
 
--- the bytes are the first count of the pieces, whole, and fit in the room
-pub record IsFront (room : ℕ) (pieces : List (List ℕ)) (bytes : List ℕ) : Type 0 where
+-- the rows are the first ones of all, they fit in the room, and with the next one they would not
+pub record IsFront (form : Row → List ℕ) (room : ℕ) (all rows : List Row) : Type 0 where
   pub count : ℕ
-  pub is : bytes ≡ flat_map (λ piece. piece) (take count pieces)
-  pub fits : length bytes ≤ room
+  pub is : rows ≡ take count all
+  pub fits : length (flat_map form rows) ≤ room
+  pub full : (next : Row) → slice_get all count ≡ Some next → room < length (flat_map form rows) + length (form next)
+
+module _ (layers : List (List ℕ)) (entries : List Entry) where
+  -- the request is answered an error, and gives nothing
+  abbrev pub GivesNothing : Session → Asked → Type 0
+  GivesNothing s q =
+      ((errno : Errno) × (reply layers entries s q ≡ error_reply q.unique errno)) × (moves layers entries s q ≡ [])
+
+  -- a LOOKUP gives one lookup of the node whose entry it is answered, or nothing
+  abbrev pub GivesEntry : Session → Asked → Type 0
+  GivesEntry s q =
+      GivesNothing s q
+      ⊎ ((p : Place) × (reply layers entries s q ≡ reply_with q.unique (entry_out (attr_of layers entries p)))
+      × (moves layers entries s q ≡ give layers entries p ∷ []))
+
+  -- a READDIRPLUS gives one lookup of the node of each row that it is answered but . and .., or nothing
+  abbrev pub GivesRows : Session → Asked → Type 0
+  GivesRows s q =
+      GivesNothing s q
+      ⊎ ((rows : List Row) × (reply layers entries s q ≡ reply_with q.unique (flat_map (direntplus_of layers entries) rows))
+      × (moves layers entries s q ≡ map (λ r. give layers entries r.1.place) (filter is_child rows)))
+
+-- the requests that give or take
+abbrev pub is_moving : Op → Bool
+is_moving (lookup name) = true
+is_moving (forget nlookup) = true
+is_moving (batch_forget items) = true
+is_moving (readdirplus offset size) = true
+is_moving _ = false
+
+-- each layer is a list of bytes
+pub record AreBytes (layers : List (List ℕ)) : Type 0 where
+  pub each : (i k : ℕ) → slice_index (slice_index_or layers i []) k < 256
+
+-- the attributes fit the fields of an attr, where the number does
+pub record FitsFields (a : Attr) : Type 0 where
+  pub size : a.size < 2 ^ 64
+  pub blocks : a.blocks < 2 ^ 64
+  pub mode : a.mode < 2 ^ 32
+  pub nlink : a.nlink < 2 ^ 32
+  pub rdev : a.rdev < 2 ^ 32

@@ -1,7 +1,9 @@
 pub mod Sessions
+pub mod Lookups
 pub mod Rows
 pub mod Refusals
 pub mod Replies
+pub mod Moves
 pub mod Streams
 pub mod Examples
 pub mod Laws

@@ -5,15 +5,17 @@ use Rattle.romfs_format.specs.declared.head.Kind.{Kind}
 use Rattle.romfs_format.specs.declared.head.Kind.TheVariants.{Directory, Regular, SymLink}
 use Rattle.fuse_wire.specs.declared.errno.Errno.{Errno}
 use Rattle.fuse_wire.specs.declared.errno.Errno.TheVariants.{ENOENT, EIO, ENOTDIR, EISDIR, EINVAL, EROFS, ENAMETOOLONG, ENOSYS, EPROTO, ESTALE}
+use Rattle.fuse_wire.specs.declared.limits.TheConstants.{MAX_DATA_SIZE, MAX_NAME_SIZE}
 use Rattle.fuse_wire.specs.declared.opcode.TheConstants.{INIT}
 use Rattle.fuse_wire.specs.Requests.{Op, lookup, getattr, readlink, open_file, read, init, opendir, readdir, readdirplus, modify, other, malformed}
 use Rattle.stack_model.specs.Listing.{Entry}
-use Rattle.stack_model.specs.Numbers.{Place, node_of, child}
+use Rattle.stack_model.specs.Numbers.{Place, node_of}
 use Rattle.stack_model.specs.Attributes.{is_directory, kind_at}
 use Rattle.reply_model.specs.declared.session.Session.{Session}
 use Rattle.reply_model.specs.declared.session.Session.TheVariants.{Fresh, Ready}
-use Rattle.reply_model.specs.Sessions.{is_spoken}
-use Rattle.reply_model.specs.Rows.{is_too_small, rows_from, dirent_of, direntplus_of}
+use Rattle.reply_model.specs.Sessions.{is_spoken, is_exported}
+use Rattle.reply_model.specs.Lookups.{is_itself, looked_up}
+use Rattle.reply_model.specs.Rows.{Row, is_too_small, rows_after, dirent_of, direntplus_of}
 
 -- the first of the refusals
 abbrev pub first_refusal : List (Option Errno) → Option Errno
@@ -33,7 +35,7 @@ is_init _ = false
 -- a fresh session answers INIT alone, one that is ready anything else
 abbrev pub refused_by_session : Session → Op → Option Errno
 refused_by_session Fresh op = refuse_if (not (is_init op)) EIO
-refused_by_session Ready op = refuse_if (is_init op) EIO
+refused_by_session (Ready export) op = refuse_if (is_init op) EIO
 
 -- requests that would change the tree, that are not served, that are malformed, and versions that are not spoken;
 -- a client of a later major version is told the version instead
@@ -68,43 +70,48 @@ abbrev pub unless_link : Kind → Option Errno
 unless_link SymLink = None
 unless_link _ = Some EINVAL
 
--- a node of the wrong kind
-abbrev pub refused_by_kind : Op → Kind → Option Errno
-refused_by_kind (lookup name) k = unless_directory k
-refused_by_kind readlink k = unless_link k
-refused_by_kind (open_file flags) k = unless_regular k
-refused_by_kind (read offset size) k = unless_regular k
-refused_by_kind opendir k = unless_directory k
-refused_by_kind (readdir offset size) k = unless_directory k
-refused_by_kind (readdirplus offset size) k = unless_directory k
-refused_by_kind _ k = None
+-- a node of the wrong kind; with EXPORT_SUPPORT the name . finds a node of any kind
+abbrev pub refused_by_kind : Bool → Op → Kind → Option Errno
+refused_by_kind export (lookup name) k = if is_itself export name then None else unless_directory k
+refused_by_kind export readlink k = unless_link k
+refused_by_kind export (open_file flags) k = unless_regular k
+refused_by_kind export (read offset size) k = unless_regular k
+refused_by_kind export opendir k = unless_directory k
+refused_by_kind export (readdir offset size) k = unless_directory k
+refused_by_kind export (readdirplus offset size) k = unless_directory k
+refused_by_kind export _ k = None
 
--- the greatest size that READ, READDIR and READDIRPLUS may ask for, 1 MiB
+-- more bytes than a READ, READDIR or READDIRPLUS may ask for
 abbrev pub is_too_large : ℕ → Bool
-is_too_large size = nat_lt 1048576 size
+is_too_large size = nat_lt MAX_DATA_SIZE size
+
+-- a size that is too large, or too small for the next row
+abbrev pub refused_rows : (Row → List ℕ) → ℕ → List Row → Option Errno
+refused_rows form size rows = refuse_if (is_too_large size || is_too_small form size rows) EINVAL
 
 module _ (layers : List (List ℕ)) (entries : List Entry) where
-  -- a size that is too large, or too small for the next row
-  abbrev pub refused_rows : List (List ℕ) → ℕ → Option Errno
-  refused_rows rows size = refuse_if (is_too_large size || is_too_small size rows) EINVAL
-
   -- arguments that the node does not allow; an access mode other than 0 is not O_RDONLY
-  abbrev pub refused_by_arguments : Op → Place → Option Errno
-  refused_by_arguments (lookup name) p =
-      if nat_lt 255 (length name) then Some ENAMETOOLONG else refuse_if (is_none (child entries p name)) ENOENT
-  refused_by_arguments (open_file flags) p = refuse_if (not (flags % 4 == 0)) EROFS
-  refused_by_arguments (read offset size) p = refuse_if (is_too_large size) EINVAL
-  refused_by_arguments (readdir offset size) p = refused_rows (rows_from layers entries (dirent_of layers entries) p offset) size
-  refused_by_arguments (readdirplus offset size) p = refused_rows (rows_from layers entries (direntplus_of layers entries) p offset) size
-  refused_by_arguments _ p = None
+  abbrev pub refused_by_arguments : Bool → Op → Place → Option Errno
+  refused_by_arguments export (lookup name) p =
+      if nat_lt MAX_NAME_SIZE (length name) then Some ENAMETOOLONG
+      else refuse_if (is_none (looked_up entries export p name)) ENOENT
+  refused_by_arguments export (open_file flags) p = refuse_if (not (flags % 4 == 0)) EROFS
+  refused_by_arguments export (read offset size) p = refuse_if (is_too_large size) EINVAL
+  refused_by_arguments export (readdir offset size) p =
+      refused_rows (dirent_of layers entries) size (rows_after entries p offset)
+  refused_by_arguments export (readdirplus offset size) p =
+      refused_rows (direntplus_of layers entries) size (rows_after entries p offset)
+  refused_by_arguments export _ p = None
 
-  abbrev pub refused_at : Op → Place → Option Errno
-  refused_at op p = first_refusal (refused_by_kind op (kind_at layers p) ∷ refused_by_arguments op p ∷ [])
+  abbrev pub refused_at : Bool → Op → Place → Option Errno
+  refused_at export op p =
+      first_refusal (refused_by_kind export op (kind_at layers p) ∷ refused_by_arguments export op p ∷ [])
 
   -- a number that is not in use, or a refusal at its node
-  abbrev pub refused_at_node : ℕ → Op → Option Errno
-  refused_at_node node op =
-      if asks_node op then option_map_or (refused_at op) (node_of entries node) (Some ESTALE) else None
+  abbrev pub refused_at_node : Bool → ℕ → Op → Option Errno
+  refused_at_node export node op =
+      if asks_node op then option_map_or (refused_at export op) (node_of entries node) (Some ESTALE) else None
 
   abbrev pub refusal : Session → ℕ → Op → Option Errno
-  refusal s node op = first_refusal (refused_by_session s op ∷ refused_by_itself op ∷ refused_at_node node op ∷ [])
+  refusal s node op =
+      first_refusal (refused_by_session s op ∷ refused_by_itself op ∷ refused_at_node (is_exported s) node op ∷ [])

@@ -1,21 +1,45 @@
 -- Attributes as linux/fuse.h has them, and the rows of directories (readdir(3): . and .. come first).
-use Rattle.std.specs.Prelude.{ℕ, ◌-◌, ◌/◌, ◌^◌, List, [], ◌∷◌, ◌++◌, length, map, drop, Bool, false, nat_lt, nat_le, if◌then◌else◌, codes}
+use Rattle.std.specs.Prelude.{ℕ, ◌-◌, ◌/◌, ◌^◌, List, [], ◌∷◌, length, drop, Bool, false, nat_lt, nat_le, Some, None, if◌then◌else◌, codes}
 use Rattle.std.specs.List.{enumerate_from}
 use Rattle.fuse_wire.specs.declared.reply.Attr.{Attr}
-use Rattle.fuse_wire.specs.Structures.{zeros, entry_out, dirent}
+use Rattle.fuse_wire.specs.Structures.{dirent, direntplus}
 use Rattle.stack_model.specs.Listing.{Entry}
 use Rattle.stack_model.specs.Numbers.{Place, Child, number, parent, children}
 use Rattle.stack_model.specs.Attributes.{mode, size_at, blocks_of, nlink, rdev}
 
--- as many of the pieces as fit whole in the room
-abbrev pub fitting : ℕ → List (List ℕ) → List ℕ
-fitting room [] = []
-fitting room (x ∷ xs) = if nat_le (length x) room then x ++ fitting (room - length x) xs else []
+-- a row: its place in its directory, counted from 1, and its name with the place of its node
+abbrev pub Row : Type 0
+Row = ℕ × Child
 
--- there is a first piece, and it does not fit
-abbrev pub is_too_small : ℕ → List (List ℕ) → Bool
-is_too_small room [] = false
-is_too_small room (x ∷ xs) = nat_lt room (length x)
+-- as many of the rows as fit whole in the room, where they are written in this form
+abbrev pub fitting : (Row → List ℕ) → ℕ → List Row → List Row
+fitting form room [] = []
+fitting form room (r ∷ rows) =
+    if nat_le (length (form r)) room then r ∷ fitting form (room - length (form r)) rows else []
+
+-- there is a first row, and it does not fit
+abbrev pub is_too_small : (Row → List ℕ) → ℕ → List Row → Bool
+is_too_small form room [] = false
+is_too_small form room (r ∷ rows) = nat_lt room (length (form r))
+
+-- a row that is neither . nor .., which come first
+abbrev pub is_child : Row → Bool
+is_child r = nat_lt 2 r.0
+
+-- the rows of the directory at a place: itself, the one above it, and its children
+unfoldable pub rows : List Entry → Place → List Child
+rows entries p =
+    record { name = codes "."; place = p }
+    ∷ record { name = codes ".."; place = parent entries p }
+    ∷ children entries p
+
+-- the rows after the first offset ones
+unfoldable pub rows_after : List Entry → Place → ℕ → List Row
+rows_after entries p offset = drop offset (enumerate_from 1 (rows entries p))
+
+-- those of them that a size has room for
+abbrev pub rows_answered : List Entry → (Row → List ℕ) → Place → ℕ → ℕ → List Row
+rows_answered entries form p offset size = fitting form size (rows_after entries p offset)
 
 module _ (layers : List (List ℕ)) (entries : List Entry) where
   -- the attributes of a node
@@ -29,21 +53,12 @@ module _ (layers : List (List ℕ)) (entries : List Entry) where
     rdev = rdev layers p;
   }
 
-  -- the rows of the directory at a place: itself, the one above it, and its children
-  unfoldable pub rows : Place → List Child
-  rows p =
-      record { name = codes "."; place = p }
-      ∷ record { name = codes ".."; place = parent entries p }
-      ∷ children entries p
+  -- a row as READDIR gives it: off is its place, and its type the upper bits of the node's mode
+  unfoldable pub dirent_of : Row → List ℕ
+  dirent_of r = dirent (number entries r.1.place) r.0 (mode layers r.1.place / 2 ^ 12) r.1.name
 
-  -- the row with the place off in its directory, for READDIR; its type is the upper bits of the mode
-  unfoldable pub dirent_of : ℕ → Child → List ℕ
-  dirent_of off r = dirent (number entries r.place) off (mode layers r.place / 2 ^ 12) r.name
-
-  -- the same for READDIRPLUS, with the node's entry; that of the first two rows is empty
-  unfoldable pub direntplus_of : ℕ → Child → List ℕ
-  direntplus_of off r = (if nat_le off 2 then zeros 128 else entry_out (attr_of r.place)) ++ dirent_of off r
-
-  -- the rows after the first offset ones, as bytes; the first row of all has off 1
-  unfoldable pub rows_from : (ℕ → Child → List ℕ) → Place → ℕ → List (List ℕ)
-  rows_from form p offset = drop offset (map (λ r. form r.0 r.1) (enumerate_from 1 (rows p)))
+  -- the same as READDIRPLUS gives it, with the node's entry; . and .. have none
+  unfoldable pub direntplus_of : Row → List ℕ
+  direntplus_of r =
+      direntplus (if is_child r then Some (attr_of r.1.place) else None)
+      (number entries r.1.place) r.0 (mode layers r.1.place / 2 ^ 12) r.1.name

@@ -1,6 +1,6 @@
 //! Worked examples: over the empty image and the sample image, what requests are answered, by computation.
 
-ghost use Rattle.reply_model.specs.Examples.{StreamExamples, FaultOrder, FaultExamples, EmptyImageFields, InitExamples, GetattrExamples, ReaddirExamples, ReaddirplusExamples, ReadExamples, LookupExamples, NodeExamples};
+ghost use Rattle.reply_model.specs.Examples.{StreamExamples, FaultOrder, FaultExamples, EmptyImageFields, InitExamples, GetattrExamples, ReaddirExamples, ReaddirplusExamples, ReadExamples, LookupExamples, NodeExamples, OpenExamples, SessionExamples, ExportExamples, SilentExamples, RefusalOrder, TwelveRequests, BalanceExamples};
 
 /// The fields of the empty image.
 #[tactic(auto, using(crate::proofs::Worked::the_empty_image))]
@@ -48,6 +48,48 @@ pub fn lookup_example()
 #[tactic(auto, using(crate::proofs::Worked::node_requests))]
 pub fn node_requests_example()
     ensures { NodeExamples }
+{}
+
+/// OPEN and OPENDIR over the sample image.
+#[tactic(auto, using(crate::proofs::Worked::opens))]
+pub fn open_example()
+    ensures { OpenExamples }
+{}
+
+/// When sessions begin and end.
+#[tactic(auto, using(crate::proofs::Worked::sessions))]
+pub fn sessions_example()
+    ensures { SessionExamples }
+{}
+
+/// LOOKUP of . and .. in a session with `FUSE_EXPORT_SUPPORT`.
+#[tactic(auto, using(crate::proofs::Worked::exported))]
+pub fn export_example()
+    ensures { ExportExamples }
+{}
+
+/// Requests without a reply.
+#[tactic(auto, using(crate::proofs::Worked::silent))]
+pub fn silent_example()
+    ensures { SilentExamples }
+{}
+
+/// Which of two refusals is answered.
+#[tactic(auto, using(crate::proofs::Worked::refusals))]
+pub fn order_of_refusals_example()
+    ensures { RefusalOrder }
+{}
+
+/// A whole session of twelve requests over the sample image.
+#[tactic(auto, using(crate::proofs::Worked::twelve))]
+pub fn twelve_requests_example()
+    ensures { TwelveRequests }
+{}
+
+/// What requests give and take, and what a client holds after them.
+#[tactic(auto, using(crate::proofs::Worked::balances))]
+pub fn balances_example()
+    ensures { BalanceExamples }
 {}
 
 /// Lengths of messages.

@@ -1,15 +1,20 @@
 //! What holds of every reply.
 
-ghost use Rattle.std.specs.Prelude.{◌≡◌, ◌⊎◌, ◌≤◌, [], ℕ, List, length, map, All};
+ghost use Rattle.std.specs.Prelude.{◌≡◌, ◌⊎◌, ◌≤◌, [], ◌∷◌, ◌++◌, ℕ, List, length, map, All, false, ◌+ℤ◌};
 ghost use Rattle.romfs_format.specs.Fields.{image};
 ghost use Rattle.romfs_format.specs.Rules.{IsSound};
-ghost use Rattle.fuse_wire.specs.Requests.{Asked};
+ghost use Rattle.fuse_wire.specs.Requests.{Asked, lookup, readdirplus, destroy};
 ghost use Rattle.fuse_wire.specs.Stream.{said_length};
 ghost use Rattle.stack_model.specs.Listing.{Entry, IsListing};
 ghost use Rattle.reply_model.specs.declared.session.Session.{Session};
 ghost use Rattle.reply_model.specs.Replies.{reply};
-ghost use Rattle.reply_model.specs.Laws.{IsReplyTo, IsFront};
-ghost use Rattle.reply_model.specs.Rows.{fitting};
+ghost use Rattle.reply_model.specs.declared.session.Session.TheVariants.{Fresh};
+ghost use Rattle.reply_model.specs.declared.moves.Move.{Move};
+ghost use Rattle.reply_model.specs.Moves.{moves, balance};
+ghost use Rattle.reply_model.specs.Streams.{session_at, replies_by, moves_by};
+ghost use Rattle.reply_model.specs.Laws.{IsReplyTo, IsFront, GivesEntry, GivesRows, is_moving, AreBytes, FitsFields};
+ghost use Rattle.stack_model.specs.Numbers.{Place, nodes, number};
+ghost use Rattle.reply_model.specs.Rows.{Row, fitting, attr_of};
 
 /// A reply is empty, or it begins with its own length, as a word of 32 bits, and carries its request's unique.
 #[tactic(auto, using(crate::proofs::Headers::headed))]
@@ -29,8 +34,48 @@ pub fn replies_are_short()
         ⊎ (said_length (reply (map image bs) entries s q) ≡ length (reply (map image bs) entries s q)) }
 {}
 
-/// The rows that fit in a size are the first ones, whole, and no longer than it.
+/// The rows that fit in a size are the first ones, whole, and as many as fit.
 #[tactic(auto, using(crate::proofs::Fronts::front))]
 pub fn fitting_rows_are_the_first()
-    ensures { (room : ℕ) (rows : List (List ℕ)) → IsFront room rows (fitting room rows) }
+    ensures { (form : Row → List ℕ) (room : ℕ) (rows : List Row) → IsFront form room rows (fitting form room rows) }
+{}
+
+/// A lookup is given exactly where an entry is answered: LOOKUP gives one of the node whose entry its reply holds, and
+/// READDIRPLUS one of the node of each row in its reply but `.` and `..`; where they are answered an error, nothing.
+#[tactic(auto, using(crate::proofs::Given::given))]
+pub fn entries_are_given()
+    ensures lookup { (layers : List (List ℕ)) (entries : List Entry) (s : Session) (unique node : ℕ) (name : List ℕ) →
+        GivesEntry layers entries s (record { unique = unique; node = node; op = lookup name }) }
+    ensures readdirplus { (layers : List (List ℕ)) (entries : List Entry) (s : Session) (unique node offset size : ℕ) →
+        GivesRows layers entries s (record { unique = unique; node = node; op = readdirplus offset size }) }
+    ensures others { (layers : List (List ℕ)) (entries : List Entry) (s : Session) (q : Asked) →
+        is_moving q.op ≡ false → moves layers entries s q ≡ [] }
+    ensures fresh { (layers : List (List ℕ)) (entries : List Entry) (q : Asked) → moves layers entries Fresh q ≡ [] }
+{}
+
+/// Requests may be taken in parts: their replies and moves are those of the parts, the session carried along, and a
+/// balance is the sum of the parts' balances.
+#[tactic(auto, using(crate::proofs::Balances::parts))]
+pub fn parts_of_a_stream_add_up()
+    ensures replies { (answered : Session → Asked → List ℕ) (s : Session) (qs rs : List Asked) →
+        replies_by answered s (qs ++ rs) ≡ replies_by answered s qs ++ replies_by answered (session_at s qs) rs }
+    ensures moves { (moved : Session → Asked → List Move) (s : Session) (qs rs : List Asked) →
+        moves_by moved s (qs ++ rs) ≡ moves_by moved s qs ++ moves_by moved (session_at s qs) rs }
+    ensures sum { (node : ℕ) (ms ns : List Move) → balance node (ms ++ ns) ≡ balance node ms +ℤ balance node ns }
+{}
+
+/// A DESTROY leaves all balances.
+#[tactic(auto, using(crate::proofs::Given::destroy_leaves))]
+pub fn destroy_leaves_balances()
+    ensures { (layers : List (List ℕ)) (entries : List Entry) (s : Session) (qs : List Asked) (unique node n : ℕ) →
+        balance n (moves_by (moves layers entries) s (qs ++ record { unique = unique; node = node; op = destroy } ∷ []))
+        ≡ balance n (moves_by (moves layers entries) s qs) }
+{}
+
+/// Attributes fit their fields, and numbers are no more than the nodes.
+#[tactic(auto, using(crate::proofs::Widths::attributes_fit, crate::proofs::Widths::numbers_fit))]
+pub fn attributes_fit_their_fields()
+    ensures fields { (layers : List (List ℕ)) (entries : List Entry) (p : Place) →
+        AreBytes layers → FitsFields (attr_of layers entries p) }
+    ensures numbers { (entries : List Entry) (p : Place) → number entries p ≤ length (nodes entries) }
 {}

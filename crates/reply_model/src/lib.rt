@@ -8,6 +8,8 @@
 
 pub mod examples;
 pub mod laws;
+pub mod moves;
 pub mod session;
 
+pub use moves::Move;
 pub use session::Session;

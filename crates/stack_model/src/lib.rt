@@ -5,4 +5,5 @@
 //! A layer is the list of an image's accessible bytes; layers are numbered from 0, the lowest.
 #![tactic(auto)]
 
+pub mod examples;
 pub mod laws;

@@ -4,3 +4,6 @@ use Rattle.std.proofs.lemmas.Nat.Bits.{and_pow}
 
 pub max_pages_bit : (flags : ℕ) → bit_and flags 4194304 ≡ flags / 4194304 % 2 * 4194304
 max_pages_bit flags = and_pow flags 22
+
+pub export_bit : (flags : ℕ) → bit_and flags 16 ≡ flags / 16 % 2 * 16
+export_bit flags = and_pow flags 4

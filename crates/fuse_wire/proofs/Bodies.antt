@@ -1,0 +1,54 @@
+-- Which bodies are too short, and how long replies are.
+use Rattle.std.proofs.Common.{◌≡◌, ◌≢◌, ◌∙◌, sym, ap, ℕ, ◌/◌, ◌≤◌, List, length, drop, min, Bool, true, false, cond, refl, arith, length-drop}
+use Rattle.std.specs.Prelude.{nat_lt}
+use Rattle.std.proofs.lemmas.Bool.{lt-ltb, le-ltb}
+use Rattle.fuse_wire.specs.Stream.{field}
+use Rattle.fuse_wire.specs.Requests.{Op, forget, getattr, open_file, read, init, opendir, readdir, readdirplus, batch_forget, malformed, forgets_of, op_of}
+use Rattle.fuse_wire.specs.Laws.{Needs, BodySizes, ReplySizes, RowSizes}
+use Rattle.fuse_wire.proofs.Items.{counted}
+use Rattle.fuse_wire.proofs.Sizes.{length-version, length-terms, length-entry_out, length-attr_out, length-open_out, length-statfs_out, length-dirent, length-direntplus}
+
+is_malformed : Op → Bool
+is_malformed (malformed opcode) = true
+is_malformed _ = false
+
+-- an opcode that asks one thing with a body of n bytes, and else is malformed
+needs : (opcode n : ℕ) (op : List ℕ → Op) → ((body : List ℕ) → op_of opcode body ≡ cond (nat_lt (length body) n) (malformed opcode) (op body)) → ((body : List ℕ) → op body ≢ malformed opcode) → Needs opcode n
+needs opcode n op is good = record {
+  short = λ body l. is body ∙ ap (λ b. cond b (malformed opcode) (op body)) (lt-ltb (length body) n l);
+  whole = λ body l e. good body (sym (is body ∙ ap (λ b. cond b (malformed opcode) (op body)) (le-ltb (length body) n l)) ∙ e);
+}
+
+pub body_sizes : BodySizes
+unfolding op_of
+body_sizes = record {
+  forget = needs 2 8 (λ body. forget (field 8 0 body)) (λ body. refl) (λ body e. absurd (cc));
+  getattr = needs 3 16 (λ body. getattr) (λ body. refl) (λ body e. absurd (cc));
+  open_file = needs 14 8 (λ body. open_file (field 4 0 body)) (λ body. refl) (λ body e. absurd (cc));
+  read = needs 15 40 (λ body. read (field 8 8 body) (field 4 16 body)) (λ body. refl) (λ body e. absurd (cc));
+  init = needs 26 16 (λ body. init (field 4 0 body) (field 4 4 body) (field 4 8 body) (field 4 12 body)) (λ body. refl) (λ body e. absurd (cc));
+  opendir = needs 27 8 (λ body. opendir) (λ body. refl) (λ body e. absurd (cc));
+  readdir = needs 28 40 (λ body. readdir (field 8 8 body) (field 4 16 body)) (λ body. refl) (λ body e. absurd (cc));
+  batch_forget = needs 42 8 (λ body. batch_forget (forgets_of body)) (λ body. refl) (λ body e. absurd (cc));
+  readdirplus = needs 44 40 (λ body. readdirplus (field 8 8 body) (field 4 16 body)) (λ body. refl) (λ body e. absurd (cc));
+}
+
+pub reply_sizes : ReplySizes
+reply_sizes = record { version = length-version; terms = length-terms; entry = length-entry_out; attr = length-attr_out; open_file = length-open_out; statfs = length-statfs_out }
+
+pub row_sizes : RowSizes
+row_sizes = record {
+  dirent = length-dirent;
+  plus = length-direntplus;
+  whole = λ n. (omega arith);
+  holds = λ n. (omega arith);
+  tight = λ n. (omega arith);
+}
+
+-- the items of a BATCH_FORGET are no more than its body has room for
+pub few_forgets : (body : List ℕ) → length body ≤ 1052632 → length (forgets_of body) ≤ 65789
+unfolding forgets_of
+few_forgets body l =
+    let n = counted (min (field 4 0 body) (length (drop 8 body) / 16)) (drop 8 body) in
+    let d = length-drop 8 body in
+    omega arith

@@ -1,0 +1,91 @@
+-- The sizes of structures, in bytes.
+use Rattle.std.proofs.Common.{◌≡◌, ◌∙◌, ap, ℕ, zero, suc, ◌+◌, ◌-◌, List, ◌++◌, length, Bool, true, false, Option, Some, None, cond, refl, arith, length-append}
+use Rattle.std.specs.Prelude.{nat_lt, replicate}
+use Rattle.std.specs.Option.{option_map_or}
+use Rattle.fuse_wire.specs.declared.errno.Errno.{Errno}
+use Rattle.fuse_wire.specs.declared.reply.Attr.{Attr}
+use Rattle.fuse_wire.specs.declared.reply.InitOut.TheVariants.{Version, Terms}
+use Rattle.fuse_wire.specs.Structures.{u16, u32, u64, zeros, init_out, init_out_22, init_out_rest, attr, entry_out, attr_out, open_out, statfs_out, dirent_size, dirent_front, dirent, direntplus}
+use Rattle.fuse_wire.specs.Replies.{head_of, reply_with, error_reply}
+
+pub length-head : (unique n : ℕ) → length (head_of unique n) ≡ 16
+unfolding head_of u32 u64
+length-head unique n = refl
+
+pub length-error_reply : (unique : ℕ) (errno : Errno) → length (error_reply unique errno) ≡ 16
+unfolding error_reply u32 u64
+length-error_reply unique errno = refl
+
+pub length-reply_with : (unique : ℕ) (bytes : List ℕ) → length (reply_with unique bytes) ≡ 16 + length bytes
+unfolding reply_with
+length-reply_with unique bytes = length-append (head_of unique (length bytes)) bytes ∙ ap (λ n. n + length bytes) (length-head unique (length bytes))
+
+-- INIT's reply has 24 bytes for clients of minor versions below 23, else 64
+pub length-version : length (init_out Version) ≡ 64
+unfolding init_out u32 zeros
+length-version = refl
+
+pub length-init_out_22 : (readahead flags : ℕ) → length (init_out_22 readahead flags) ≡ 24
+unfolding init_out_22 u16 u32
+length-init_out_22 readahead flags = refl
+
+pub length-terms : (minor readahead flags : ℕ) → length (init_out (Terms minor readahead flags)) ≡ cond (nat_lt minor 23) 24 64
+unfolding init_out init_out_22 init_out_rest u16 u32 zeros
+length-terms minor readahead flags = either (nat_lt minor 23)
+  where
+    either : (b : Bool) → length (cond b (init_out_22 readahead flags) (init_out_22 readahead flags ++ init_out_rest flags)) ≡ cond b 24 64
+    either true = refl
+    either false = refl
+
+pub length-attr : (a : Attr) → length (attr a) ≡ 88
+unfolding attr u32 u64
+length-attr a = refl
+
+pub length-entry_out : (a : Attr) → length (entry_out a) ≡ 128
+unfolding entry_out attr u32 u64
+length-entry_out a = refl
+
+pub length-attr_out : (a : Attr) → length (attr_out a) ≡ 104
+unfolding attr_out attr u32 u64
+length-attr_out a = refl
+
+pub length-open_out : (flags : ℕ) → length (open_out flags) ≡ 16
+unfolding open_out u32 u64
+length-open_out flags = refl
+
+pub length-statfs_out : (blocks files : ℕ) → length (statfs_out blocks files) ≡ 80
+unfolding statfs_out u32 u64 zeros
+length-statfs_out blocks files = refl
+
+length-copies : (n k : ℕ) → length (replicate n k) ≡ n
+length-copies zero k = refl
+length-copies (suc n) k = ap (λ (m : ℕ). suc m) (length-copies n k)
+
+pub length-zeros : (n : ℕ) → length (zeros n) ≡ n
+unfolding zeros
+length-zeros n = length-copies n 0
+
+pub length-dirent_front : (ino off file_type : ℕ) (name : List ℕ) → length (dirent_front ino off file_type name) ≡ 24
+unfolding dirent_front u32 u64
+length-dirent_front ino off file_type name = refl
+
+pub length-dirent : (ino off file_type : ℕ) (name : List ℕ) → length (dirent ino off file_type name) ≡ dirent_size (length name)
+unfolding dirent
+length-dirent ino off file_type name =
+    let front = length-dirent_front ino off file_type name in
+    let named = length-append (dirent_front ino off file_type name) name in
+    let rest = length-zeros (dirent_size (length name) - (24 + length name)) in
+    let padded = length-append (dirent_front ino off file_type name ++ name) (zeros (dirent_size (length name) - (24 + length name))) in
+    omega arith
+
+pub length-direntplus : (entry : Option Attr) (ino off file_type : ℕ) (name : List ℕ) → length (direntplus entry ino off file_type name) ≡ 128 + dirent_size (length name)
+unfolding direntplus
+length-direntplus entry ino off file_type name =
+    length-append (option_map_or entry_out entry (zeros 128)) (dirent ino off file_type name)
+    ∙ (let front = given entry in let row = length-dirent ino off file_type name in omega arith)
+  where
+    given : (entry : Option Attr) → length (option_map_or entry_out entry (zeros 128)) ≡ 128
+    given None = length-zeros 128
+    given (Some a) = length-entry_out a
+
+pub ruleset sizes = (length-head, length-error_reply, length-reply_with, length-version, length-init_out_22, length-terms, length-attr, length-entry_out, length-attr_out, length-open_out, length-statfs_out, length-zeros, length-dirent_front, length-dirent, length-direntplus)

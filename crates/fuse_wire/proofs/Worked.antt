@@ -1,0 +1,21 @@
+-- The worked examples, by computation.
+use Rattle.std.proofs.Common.{refl}
+use Rattle.fuse_wire.specs.Requests.{op_of, forgets_of}
+use Rattle.fuse_wire.specs.Structures.{u32, u64, zeros, dirent_front, dirent}
+use Rattle.fuse_wire.specs.Examples.{OpcodeExamples, MessageExamples, ForgetExamples, DirentExamples}
+
+pub opcodes : OpcodeExamples
+unfolding op_of forgets_of u32 u64 zeros dirent_front dirent
+opcodes = record { lookup_1 = refl; forget_2 = refl; getattr_3 = refl; readlink_5 = refl; open_14 = refl; read_15 = refl; statfs_17 = refl; release_18 = refl; fsync_20 = refl; flush_25 = refl; init_26 = refl; opendir_27 = refl; readdir_28 = refl; releasedir_29 = refl; fsyncdir_30 = refl; interrupt_36 = refl; destroy_38 = refl; batch_forget_42 = refl; readdirplus_44 = refl; modifying = refl; others = refl }
+
+pub messages : MessageExamples
+unfolding op_of forgets_of u32 u64 zeros dirent_front dirent
+messages = record { header = refl }
+
+pub forgets : ForgetExamples
+unfolding op_of forgets_of u32 u64 zeros dirent_front dirent
+forgets = record { no_items = refl; count_zero = refl; half_an_item = refl; short = refl }
+
+pub dirents : DirentExamples
+unfolding op_of forgets_of u32 u64 zeros dirent_front dirent
+dirents = record { one_byte = refl; seven_bytes = refl; eight_bytes = refl; nine_bytes = refl }

@@ -1,0 +1,151 @@
+//! What an opcode asks with the bytes after a message's header. Bytes after a structure are ignored: later clients
+//! append fields.
+
+ghost use Rattle.std.specs.Prelude.{◌≡◌, ◌+◌, ◌≤◌, ◌==◌, length, position};
+ghost use Rattle.std.specs.Option.{option_map};
+ghost use Rattle.fuse_wire.specs.Stream.{field};
+ghost use Rattle.fuse_wire.specs.Requests.{op_of, cut_at_zero, name_of, lookup_of};
+ghost use Rattle.fuse_wire.specs.Reads.{op_said};
+
+use crate::forget::Forgets;
+use crate::opcode;
+use crate::request::Op;
+use byteorder::{ByteOrder, LittleEndian};
+
+/// The size of a `struct fuse_init_in` of version 7.31.
+const INIT_IN_SIZE: usize = 16;
+
+/// The size of a `struct fuse_forget_in`.
+const FORGET_IN_SIZE: usize = 8;
+
+/// The size of a `struct fuse_getattr_in`.
+const GETATTR_IN_SIZE: usize = 16;
+
+/// The size of a `struct fuse_open_in`.
+const OPEN_IN_SIZE: usize = 8;
+
+/// The size of a `struct fuse_read_in`.
+const READ_IN_SIZE: usize = 40;
+
+/// The size of a `struct fuse_batch_forget_in`, before its items.
+const BATCH_FORGET_IN_SIZE: usize = 8;
+
+// What an opcode asks with this body.
+#[tactic(auto, unfolding(crate::specs::Requests::op_of))]
+pub fn read_op(opcode: u32, body: &[u8]) -> Op<'_>
+    requires { length body.now ≤ 1052632 }
+    ensures { op_said result ≡ op_of opcode body.now }
+{
+    match opcode {
+        opcode::LOOKUP => read_lookup(body),
+        opcode::FORGET if FORGET_IN_SIZE <= body.len() => Op::Forget {
+            nlookup: wide(body, 0),
+        },
+        opcode::GETATTR if GETATTR_IN_SIZE <= body.len() => Op::Getattr,
+        opcode::READLINK => Op::Readlink,
+        opcode::OPEN if OPEN_IN_SIZE <= body.len() => Op::Open {
+            flags: word(body, 0),
+        },
+        opcode::READ if READ_IN_SIZE <= body.len() => Op::Read {
+            offset: wide(body, 8),
+            size: word(body, 16),
+        },
+        opcode::STATFS => Op::Statfs,
+        opcode::RELEASE => Op::Release,
+        opcode::FSYNC => Op::Fsync,
+        opcode::FLUSH => Op::Flush,
+        opcode::INIT if INIT_IN_SIZE <= body.len() => Op::Init {
+            major: word(body, 0),
+            minor: word(body, 4),
+            max_readahead: word(body, 8),
+            flags: word(body, 12),
+        },
+        opcode::OPENDIR if OPEN_IN_SIZE <= body.len() => Op::Opendir,
+        opcode::READDIR if READ_IN_SIZE <= body.len() => Op::Readdir {
+            offset: wide(body, 8),
+            size: word(body, 16),
+        },
+        opcode::RELEASEDIR => Op::Releasedir,
+        opcode::FSYNCDIR => Op::Fsyncdir,
+        opcode::INTERRUPT => Op::Interrupt,
+        opcode::DESTROY => Op::Destroy,
+        opcode::BATCH_FORGET if BATCH_FORGET_IN_SIZE <= body.len() => Op::BatchForget {
+            items: Forgets::read(body),
+        },
+        opcode::READDIRPLUS if READ_IN_SIZE <= body.len() => Op::Readdirplus {
+            offset: wide(body, 8),
+            size: word(body, 16),
+        },
+        opcode::FORGET
+        | opcode::GETATTR
+        | opcode::OPEN
+        | opcode::READ
+        | opcode::INIT
+        | opcode::OPENDIR
+        | opcode::READDIR
+        | opcode::BATCH_FORGET
+        | opcode::READDIRPLUS => Op::Malformed { opcode },
+        opcode::SETATTR
+        | opcode::SYMLINK
+        | opcode::MKNOD
+        | opcode::MKDIR
+        | opcode::UNLINK
+        | opcode::RMDIR
+        | opcode::RENAME
+        | opcode::LINK
+        | opcode::WRITE
+        | opcode::SETXATTR
+        | opcode::REMOVEXATTR
+        | opcode::CREATE
+        | opcode::FALLOCATE
+        | opcode::RENAME2
+        | opcode::COPY_FILE_RANGE => Op::Modify,
+        _ => Op::Other,
+    }
+}
+
+// The number of 32 bits at a place of a body.
+fn word(body: &[u8], place: usize) -> u32
+    requires { place + 4 ≤ length body.now }
+    ensures { result ≡ field 4 place body.now }
+{
+    LittleEndian::read_u32(&body[place..])
+}
+
+// The number of 64 bits at a place of a body.
+fn wide(body: &[u8], place: usize) -> u64
+    requires { place + 8 ≤ length body.now }
+    ensures { result ≡ field 8 place body.now }
+{
+    LittleEndian::read_u64(&body[place..])
+}
+
+// What a LOOKUP asks with this body.
+fn read_lookup(body: &[u8]) -> Op<'_>
+    ensures { op_said result ≡ lookup_of body.now }
+{
+    match read_name(body) {
+        Some(name) => Op::Lookup { name },
+        None => Op::Malformed {
+            opcode: opcode::LOOKUP,
+        },
+    }
+}
+
+// The name in a body, whose last byte is its only zero byte. A name is not empty.
+#[tactic(auto, using(crate::proofs::Names::named))]
+fn read_name(body: &[u8]) -> Option<&[u8]>
+    ensures { option_map (λ name. name.now) result ≡ name_of (cut_at_zero body.now) }
+{
+    match first_zero(body) {
+        Some(end) if 0 < end && end + 1 == body.len() => Some(&body[..end]),
+        _ => None,
+    }
+}
+
+// The place of the first zero byte.
+fn first_zero(body: &[u8]) -> Option<usize>
+    ensures { result ≡ position (λ byte. byte == 0) body.now }
+{
+    body.iter().position(|byte| *byte == 0)
+}

@@ -1,0 +1,24 @@
+-- Streams of requests in parts.
+use Rattle.std.proofs.Common.{◌≡◌, ◌∙◌, sym, ap, ℕ, List, [], ◌∷◌, ◌++◌, refl, append_assoc}
+use Rattle.std.specs.Prelude.{pos, ◌+ℤ◌, ◌==◌, if◌then◌else◌}
+use Rattle.std.proofs.Math.IntN.{+ℤ_assoc, +ℤ_idl}
+use Rattle.fuse_wire.specs.Requests.{Asked}
+use Rattle.reply_model.specs.declared.session.Session.{Session}
+use Rattle.reply_model.specs.declared.moves.Move.{Move}
+use Rattle.reply_model.specs.Sessions.{session_after}
+use Rattle.reply_model.specs.Moves.{balance}
+use Rattle.reply_model.specs.Streams.{session_at, replies_by, moves_by}
+
+pub replies-append : (answered : Session → Asked → List ℕ) (s : Session) (qs rs : List Asked) → replies_by answered s (qs ++ rs) ≡ replies_by answered s qs ++ replies_by answered (session_at s qs) rs
+replies-append answered s [] rs = refl
+replies-append answered s (q ∷ qs) rs = ap (λ v. answered s q ++ v) (replies-append answered (session_after s q.op) qs rs) ∙ sym (append_assoc (answered s q) _ _)
+
+pub moves-append : (moved : Session → Asked → List Move) (s : Session) (qs rs : List Asked) → moves_by moved s (qs ++ rs) ≡ moves_by moved s qs ++ moves_by moved (session_at s qs) rs
+moves-append moved s [] rs = refl
+moves-append moved s (q ∷ qs) rs = ap (λ v. moved s q ++ v) (moves-append moved (session_after s q.op) qs rs) ∙ sym (append_assoc (moved s q) _ _)
+
+pub balance-append : (node : ℕ) (ms ns : List Move) → balance node (ms ++ ns) ≡ balance node ms +ℤ balance node ns
+balance-append node [] ns = sym (+ℤ_idl (balance node ns))
+balance-append node (m ∷ ms) ns = ap (λ v. (if m.node == node then m.amount else pos 0) +ℤ v) (balance-append node ms ns) ∙ sym (+ℤ_assoc _ (balance node ms) (balance node ns))
+
+pub ruleset parts = (replies-append, moves-append, balance-append)

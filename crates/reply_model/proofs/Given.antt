@@ -1,0 +1,91 @@
+-- What requests give, beside what they are answered.
+use Rattle.std.proofs.Common.{◌≡◌, ◌∙◌, ap, ℕ, inl, inr, List, [], ◌∷◌, ◌++◌, Bool, true, false, Option, Some, None, cond, refl}
+use Rattle.std.specs.Prelude.{is_some}
+use Rattle.std.specs.Option.{option_map_or}
+use Rattle.fuse_wire.specs.declared.errno.Errno.{Errno}
+use Rattle.fuse_wire.specs.Requests.{Op, Asked, lookup, forget, batch_forget, readdirplus, destroy}
+use Rattle.stack_model.specs.Listing.{Entry}
+use Rattle.stack_model.specs.Numbers.{Place, node_of}
+use Rattle.reply_model.specs.declared.session.Session.{Session}
+use Rattle.reply_model.specs.declared.session.Session.TheVariants.{Fresh}
+use Rattle.reply_model.specs.declared.moves.Move.{Move}
+use Rattle.reply_model.specs.Sessions.{is_exported}
+use Rattle.reply_model.specs.Rows.{rows_answered, direntplus_of}
+use Rattle.reply_model.specs.Refusals.{refusal}
+use Rattle.reply_model.specs.Moves.{moved, moves}
+use Rattle.reply_model.specs.Laws.{GivesEntry, GivesRows, is_moving}
+use Rattle.reply_model.specs.Moves.{balance}
+use Rattle.reply_model.specs.Streams.{session_at, moves_by}
+use Rattle.reply_model.proofs.Balances.{moves-append}
+use Rattle.std.proofs.lemmas.List.{append-nil}
+use Rattle.reply_model.proofs.Refused.{lookup_finds, rows_found}
+
+module _ (layers : List (List ℕ)) (entries : List Entry) where
+  abbrev looking : ℕ → ℕ → List ℕ → Asked
+  looking unique node name = record { unique = unique; node = node; op = lookup name }
+
+  abbrev listing : ℕ → ℕ → ℕ → ℕ → Asked
+  listing unique node offset size = record { unique = unique; node = node; op = readdirplus offset size }
+
+  pub lookup_gives : (s : Session) (unique node : ℕ) (name : List ℕ) → GivesEntry layers entries s (looking unique node name)
+  lookup_gives s unique node name = go (refusal layers entries s node (lookup name)) refl
+    where
+      go : (o : Option Errno) → refusal layers entries s node (lookup name) ≡ o → GivesEntry layers entries s (looking unique node name)
+      go (Some errno) e = inl ((errno, rw (e) refl), rw (e) refl)
+      go None e =
+          let f = lookup_finds layers entries s node name e in
+          inr (f.1, rw (e, f.2, f.3) refl, rw (e, f.2, f.3) refl)
+
+  pub readdirplus_gives : (s : Session) (unique node offset size : ℕ) → GivesRows layers entries s (listing unique node offset size)
+  readdirplus_gives s unique node offset size = go (refusal layers entries s node (readdirplus offset size)) refl
+    where
+      go : (o : Option Errno) → refusal layers entries s node (readdirplus offset size) ≡ o → GivesRows layers entries s (listing unique node offset size)
+      go (Some errno) e = inl ((errno, rw (e) refl), rw (e) refl)
+      go None e =
+          let f = rows_found layers entries s node offset size e in
+          inr (rows_answered entries (direntplus_of layers entries) f.0 offset size, rw (e, f.1) refl, rw (e, f.1) refl)
+
+  abbrev no_moves : List Move
+  no_moves = []
+
+  -- what moves nothing at any place moves nothing
+  nowhere : (o : Option Place) → option_map_or (λ (p : Place). no_moves) o no_moves ≡ no_moves
+  nowhere None = refl
+  nowhere (Some p) = refl
+
+  unless : (b : Bool) (ms : List Move) → ms ≡ [] → cond b [] ms ≡ []
+  unless true ms e = refl
+  unless false ms e = e
+
+  moved_nothing : (x : Bool) (node : ℕ) (op : Op) → is_moving op ≡ false → moved layers entries x node op ≡ []
+  moved_nothing x node (lookup name) e = absurd (cc)
+  moved_nothing x node (forget nlookup) e = absurd (cc)
+  moved_nothing x node (batch_forget items) e = absurd (cc)
+  moved_nothing x node (readdirplus offset size) e = absurd (cc)
+  moved_nothing x node _ e = nowhere (node_of entries node)
+
+  -- the other requests move nothing, DESTROY among them
+  pub others_move_nothing : (s : Session) (q : Asked) → is_moving q.op ≡ false → moves layers entries s q ≡ []
+  others_move_nothing s q e = unless (is_some (refusal layers entries s q.node q.op)) (moved layers entries (is_exported s) q.node q.op) (moved_nothing (is_exported s) q.node q.op e)
+
+  -- nor does any request in a fresh session
+  fresh_op : (unique node : ℕ) (op : Op) → moves layers entries Fresh (record { unique = unique; node = node; op = op }) ≡ []
+  fresh_op unique node (lookup name) = refl
+  fresh_op unique node (forget nlookup) = refl
+  fresh_op unique node (batch_forget items) = refl
+  fresh_op unique node (readdirplus offset size) = refl
+  fresh_op unique node op = others_move_nothing Fresh (record { unique = unique; node = node; op = op }) refl
+
+  pub fresh_moves_nothing : (q : Asked) → moves layers entries Fresh q ≡ []
+  fresh_moves_nothing q = fresh_op q.unique q.node q.op
+
+  -- so a request that moves nothing leaves all balances
+  pub balances_stay : (s : Session) (qs : List Asked) (q : Asked) (node : ℕ) → is_moving q.op ≡ false → balance node (moves_by (moves layers entries) s (qs ++ q ∷ [])) ≡ balance node (moves_by (moves layers entries) s qs)
+  balances_stay s qs q node e =
+      let moved_by = moves_by (moves layers entries) s qs in
+      ap (balance node) (moves-append (moves layers entries) s qs (q ∷ []) ∙ rw (others_move_nothing (session_at s qs) q e) (append-nil moved_by))
+
+  pub destroy_leaves : (s : Session) (qs : List Asked) (unique node n : ℕ) → balance n (moves_by (moves layers entries) s (qs ++ record { unique = unique; node = node; op = destroy } ∷ [])) ≡ balance n (moves_by (moves layers entries) s qs)
+  destroy_leaves s qs unique node n = balances_stay s qs (record { unique = unique; node = node; op = destroy }) n refl
+
+pub ruleset given = (lookup_gives, readdirplus_gives, others_move_nothing, fresh_moves_nothing)

@@ -1,0 +1,10 @@
+//! Lookups, which a client holds until it forgets them.
+
+/// What a request does to the number of lookups of a node that the client holds.
+#[derive(Clone, Copy, Debug, PartialEq, Eq)]
+pub struct Move {
+    /// The node's number.
+    pub node: u64,
+    /// How many lookups it gives; below 0 where it takes some back.
+    pub amount: i128,
+}

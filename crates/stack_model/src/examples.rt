@@ -1,0 +1,21 @@
+//! Worked examples: attributes, by computation.
+
+ghost use Rattle.stack_model.specs.Examples.{ModeExamples, DeviceExamples, SizeExamples};
+
+/// The mode of each kind.
+#[tactic(auto, using(crate::proofs::Worked::modes))]
+pub fn modes_example()
+    ensures { ModeExamples }
+{}
+
+/// The numbers of devices.
+#[tactic(auto, using(crate::proofs::Worked::devices))]
+pub fn devices_example()
+    ensures { DeviceExamples }
+{}
+
+/// Sizes and blocks.
+#[tactic(auto, using(crate::proofs::Worked::sizes))]
+pub fn sizes_example()
+    ensures { SizeExamples }
+{}
