@@ -1,0 +1,5 @@
+use Rattle.layer_tree.proofs.Listed.{is_listing}
+use Rattle.layer_tree.proofs.laws.entries_are_the_listing.Goals as goal
+
+pub returns : goal.returns
+returns c layers t is = is_listing layers t is

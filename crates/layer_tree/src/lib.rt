@@ -1,0 +1,21 @@
+//! Layers as trees: what a run of layers shows, and what it removes from those below it.
+//!
+//! A tree has two parts, both of one kind ([`path_tree::Branch`]): its entries and its marks, each at a path. An
+//! entry has the kind and the place of what a path shows. A mark cuts its path with all below it, or all below it
+//! alone; whiteouts leave marks, and so does each entry that is no directory.
+//!
+//! One relation says what a tree is, for any run of adjacent layers (`IsTreeOf` in `specs/Trees.antt`): it has an
+//! entry exactly at each path that the run shows, and it cuts exactly what the run cuts. The readers take no
+//! memory. An entry takes 64 bytes beside its name, and a mark no more.
+//!
+//! The crate stands on `path_tree` for trees, on `romfs_image` for images and on `stack_model` for what stacks
+//! show.
+#![tactic(auto)]
+
+pub mod laws;
+pub mod place;
+mod tree;
+
+pub use path_tree::Branch;
+pub use place::{Entry, Mark, Place};
+pub use tree::{Child, Tree};

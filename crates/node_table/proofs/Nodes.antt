@@ -1,0 +1,177 @@
+-- What a table's parts say of the node with a number.
+use Rattle.std.proofs.Common.{◌≡◌, ◌∙◌, sym, ap, ℕ, zero, suc, ◌<◌, List, [], ◌∷◌, length, map, Bool, true, false, Option, Some, None, Bor, MatchOption, cond, refl, arith}
+use Rattle.std.specs.Prelude.{slice_get, slice_range, find, unwrap_or}
+use Rattle.std.specs.List.{slice_index_or}
+use Rattle.std.specs.Option.{option_map}
+use Rattle.romfs_format.specs.declared.head.Kind.{Kind}
+use Rattle.romfs_format.specs.declared.head.Kind.TheVariants.{HardLink, Directory, Regular, SymLink, Block, Character, Socket, Fifo}
+use Rattle.romfs_image.specs.Readers.{IsGiven, data_of as data_in}
+use Rattle.stack_model.specs.Listing.{Entry}
+use Rattle.stack_model.specs.Numbers.{Place, Child, nodes, node_of, number_of, number, same_name, parent, children, child}
+use Rattle.stack_model.specs.Attributes.{is_directory, is_directory_at, kind_at}
+use Rattle.stack_model.proofs.Numbering.{number_used}
+use Rattle.node_table.specs.declared.node.Node.{Node}
+use Rattle.node_table.specs.Stacked.{Stacked}
+use Rattle.node_table.specs.Rows.{Line, number_named}
+use Rattle.node_table.specs.Readers.{TellsNode, attr_of, attr_at, parent_of, parent_at, child_of, child_at, rows_of, rows_at, data_at}
+use Rattle.node_table.specs.Held.{held_at, attr_held, IsNode, IsTable}
+
+-- an element that is there stands below the length
+below : {X : Type 0} (xs : List X) (k : ℕ) (x : X) → slice_get xs k ≡ Some x → k < length xs
+below [] k x e = absurd (cc)
+below (y ∷ xs) zero x e = omega arith
+below (y ∷ xs) (suc k) x e = let l = below xs k x e in omega arith
+
+-- and one below the length is there
+there : {X : Type 0} (xs : List X) (k : ℕ) → k < length xs → (x : X) × (slice_get xs k ≡ Some x)
+there [] k l = absurd (omega arith)
+there (x ∷ xs) zero l = (x, refl)
+there (x ∷ xs) (suc k) l = there xs k (omega arith)
+
+-- a place that is there is the one that is read
+indexed : {X : Type 0} (xs : List X) (k : ℕ) (x d : X) → slice_get xs k ≡ Some x → slice_index_or xs k d ≡ x
+indexed [] k x d e = absurd (cc)
+indexed (y ∷ xs) zero x d e = cc
+indexed (y ∷ xs) (suc k) x d e = indexed xs k x d e
+
+-- the number of a place that has one
+number_is : (entries : List Entry) (n : ℕ) (p : Place) → node_of entries n ≡ Some p → number entries p ≡ n
+number_is entries n p e = let i : number_of entries p ≡ Some n = (number_used entries n p).1 e in ap (λ o. unwrap_or o 0) i
+
+-- a row with a child's number and name
+abbrev row_of : (Place → ℕ) → Child → Line
+row_of f c = record { number = f c.place; name = c.name }
+
+abbrev IsNamedAlike : (Place → ℕ) → List ℕ → List Child → Type 0
+IsNamedAlike f name cs = number_named name (map (row_of f) cs) ≡ option_map f (option_map (λ c. c.place) (find (λ c. same_name name c.name) cs))
+
+step : (f : Place → ℕ) (name : List ℕ) (c : Child) (cs : List Child) (b : Bool) → same_name name c.name ≡ b → IsNamedAlike f name cs → IsNamedAlike f name (c ∷ cs)
+step f name c cs true e i = rw e refl
+step f name c cs false e i = rw e i
+
+-- the row with a name among rows made of children
+named_child : (f : Place → ℕ) (name : List ℕ) (cs : List Child) → IsNamedAlike f name cs
+named_child f name [] = refl
+named_child f name (c ∷ cs) = step f name c cs (same_name name c.name) refl (named_child f name cs)
+
+module _ (layers : List (List ℕ)) (entries : List Entry) (held : List Node) (rows : List Line) (blocks : ℕ) (t : IsTable layers entries held rows blocks) where
+  abbrev stack : Stacked
+  stack = record { layers = layers; entries = entries }
+
+  -- a number that is held is in use, and the node says what it should
+  pub record IsHere (n : ℕ) (node : Node) : Type 0 where
+    pub at : Place
+    pub is : node_of entries n ≡ Some at
+    pub holds : IsNode layers entries rows node at
+
+  pub here : (n : ℕ) (node : Node) → held_at held n ≡ Some node → IsHere n node
+  here zero node e = absurd (cc)
+  here (suc k) node e =
+      let level = t.are.level in
+      let l = below held k node e in
+      let p = there (nodes entries) k (omega arith) in
+      record { at = p.0; is = p.1; holds = t.are.each k node p.0 e p.1 }
+
+  -- a number that is not held is not in use
+  pub nowhere : (n : ℕ) → held_at held n ≡ None → node_of entries n ≡ None
+  nowhere zero e = refl
+  nowhere (suc k) e = test (slice_get (nodes entries) k) refl
+    where
+      test : (o : Option Place) → slice_get (nodes entries) k ≡ o → o ≡ None
+      test None f = refl
+      test (Some p) f = absurd (
+          let level = t.are.level in
+          let l = below (nodes entries) k p f in
+          let x = there held k (omega arith) in
+          let z : Some x.0 ≡ None = sym x.1 ∙ e in cc)
+
+  pub node_is : (n : ℕ) (o : Option (Bor Node)) → MatchOption o (held_at held n ≡ None) (λ node. held_at held n ≡ Some node.now) → TellsNode stack n o
+  node_is n None e = nowhere n e
+  node_is n (Some node) e =
+      let h = here n node.now e in
+      record { place_is = h.is ∙ ap Some (sym h.holds.place); kind_is = h.holds.kind ∙ ap (kind_at layers) (sym h.holds.place) }
+
+  attr_same : (n : ℕ) (node : Node) (p : Place) → IsNode layers entries rows node p → number entries p ≡ n → attr_held n node ≡ attr_of layers entries p
+  attr_same n node p h i =
+      let size = h.size in
+      let mode_is = h.mode_is in
+      let nlink_is = h.nlink_is in
+      let rdev_is = h.rdev_is in
+      cc
+
+  pub attr_is : (n : ℕ) (node : Node) → held_at held n ≡ Some node → Some (attr_held n node) ≡ attr_at stack n
+  attr_is n node e =
+      let h = here n node e in
+      rw h.is (ap Some (attr_same n node h.at h.holds (number_is entries n h.at h.is)))
+
+  pub attr_none : (n : ℕ) → held_at held n ≡ None → None ≡ attr_at stack n
+  attr_none n e = rw (nowhere n e) refl
+
+  pub rows_are : (n : ℕ) (node : Node) → held_at held n ≡ Some node → slice_range rows node.rows_start node.rows_end ≡ rows_at stack n
+  rows_are n node e = let h = here n node e in rw h.is h.holds.rows_are
+
+  pub rows_none : (n : ℕ) → held_at held n ≡ None → [] ≡ rows_at stack n
+  rows_none n e = rw (nowhere n e) refl
+
+  named_of : (p : Place) (name : List ℕ) → number_named name (rows_of layers entries p) ≡ child_of layers entries p name
+  named_of p name = go (is_directory_at layers p)
+    where
+      go : (b : Bool) → number_named name (cond b (map (λ c. record { number = number entries c.place; name = c.name }) (children entries p)) []) ≡ cond b (option_map (number entries) (child entries p name)) None
+      go true = named_child (number entries) name (children entries p)
+      go false = refl
+
+  pub child_is : (n : ℕ) (node : Node) (name : List ℕ) → held_at held n ≡ Some node → number_named name (slice_range rows node.rows_start node.rows_end) ≡ child_at stack n name
+  child_is n node name e = let h = here n node e in rw (h.is, h.holds.rows_are) (named_of h.at name)
+
+  pub child_none : (n : ℕ) (name : List ℕ) → held_at held n ≡ None → None ≡ child_at stack n name
+  child_none n name e = rw (nowhere n e) refl
+
+  not_directory : (k : Kind) → (k ≡ Directory → ⊥) → is_directory k ≡ false
+  not_directory Directory f = absurd (f refl)
+  not_directory HardLink f = refl
+  not_directory Regular f = refl
+  not_directory SymLink f = refl
+  not_directory Block f = refl
+  not_directory Character f = refl
+  not_directory Socket f = refl
+  not_directory Fifo f = refl
+
+  -- the parent of a place that is a directory, or is not
+  parent_go : (p : Place) (b : Bool) → is_directory_at layers p ≡ b → parent_of layers entries p ≡ cond b (Some (number entries (parent entries p))) None
+  parent_go p b e = rw e refl
+
+  pub parent_is : (n : ℕ) (node : Node) → held_at held n ≡ Some node → node.kind ≡ Directory → Some node.parent ≡ parent_at stack n
+  parent_is n node e k =
+      let h = here n node e in
+      let d : is_directory node.kind ≡ true = ap is_directory k in
+      let f : is_directory_at layers h.at ≡ true = ap is_directory (sym h.holds.kind) ∙ d in
+      let q = parent_go h.at true f in
+      rw h.is (ap Some (h.holds.parent_is d) ∙ sym q)
+
+  pub parent_other : (n : ℕ) (node : Node) → held_at held n ≡ Some node → (node.kind ≡ Directory → ⊥) → None ≡ parent_at stack n
+  parent_other n node e k =
+      let h = here n node e in
+      let f : is_directory_at layers h.at ≡ false = ap is_directory (sym h.holds.kind) ∙ not_directory node.kind k in
+      let q = parent_go h.at false f in
+      rw h.is (sym q)
+
+  pub parent_none : (n : ℕ) → held_at held n ≡ None → None ≡ parent_at stack n
+  parent_none n e = rw (nowhere n e) refl
+
+  pub data_is : (n : ℕ) (node : Node) (image : List ℕ) → held_at held n ≡ Some node → image ≡ slice_index_or layers node.place.layer image → data_in image node.head.offset ≡ data_at stack n
+  data_is n node image e i =
+      let h = here n node e in
+      let a = h.holds.headed in
+      let same : image ≡ a.image = i ∙ indexed layers node.place.layer a.image image a.is in
+      rw (h.is, same) a.data_is
+
+  pub data_none : (n : ℕ) → held_at held n ≡ None → [] ≡ data_at stack n
+  data_none n e = rw (nowhere n e) refl
+
+  pub image_there : (n : ℕ) (node : Node) → held_at held n ≡ Some node → node.place.layer < length layers
+  image_there n node e = let a = (here n node e).holds.headed in below layers node.place.layer a.image a.is
+
+  pub image_gives : (n : ℕ) (node : Node) (image : List ℕ) → held_at held n ≡ Some node → image ≡ slice_index_or layers node.place.layer image → IsGiven image node.head
+  image_gives n node image e i =
+      let a = (here n node e).holds.headed in
+      rw (i ∙ indexed layers node.place.layer a.image image a.is) a.given

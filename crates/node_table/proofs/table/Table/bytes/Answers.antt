@@ -1,0 +1,17 @@
+use Rattle.std.proofs.Common.{rules}
+use Rattle.node_table.proofs.Nodes.{data_is, data_none, image_there, image_gives}
+use Rattle.node_table.proofs.table.Table.bytes.Goals as goal
+
+pub index-image-requires : goal.index-image-requires
+index-image-requires g c =
+    let l = image_there _ _ _ _ _ c.self.invariant c.args.number _ (rw c.deref.ensures.value at c.in-Some.ensures) in
+    search (rules, l)
+
+pub body-requires : goal.body-requires
+body-requires g c = image_gives _ _ _ _ _ c.self.invariant c.args.number _ _ (rw c.deref.ensures.value at c.in-Some.ensures) c.index-image.ensures
+
+pub returns-in-Some : goal.returns-in-Some
+returns-in-Some g c = rw (c.body.ensures, ← c.self.view_is) (data_is _ _ _ _ _ c.self.invariant c.args.number _ _ (rw c.deref.ensures.value at c.in-Some.ensures) c.index-image.ensures)
+
+pub returns-in-None : goal.returns-in-None
+returns-in-None g c = rw (← c.self.view_is) (data_none _ _ _ _ _ c.self.invariant c.args.number (rw c.deref.ensures.value at c.in-None.ensures))

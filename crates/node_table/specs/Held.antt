@@ -1,0 +1,63 @@
+-- What a table holds, and what of it agrees with the listing of its layers.
+use Rattle.std.specs.Prelude.{◌≡◌, ℕ, zero, suc, ◌≤◌, List, length, slice_get, slice_range, Option, Some, None, true}
+use Rattle.romfs_image.specs.Readers.{IsGiven, data_of as data_in}
+use Rattle.stack_model.specs.Listing.{Entry, IsListing}
+use Rattle.stack_model.specs.Numbers.{Place, nodes, number, parent}
+use Rattle.stack_model.specs.Attributes.{is_directory, kind_at, mode, size_at, rdev, nlink, blocks_of, blocks_all, data_of}
+use Rattle.node_table.specs.declared.node.Attr.{Attr}
+use Rattle.node_table.specs.declared.node.Node.{Node}
+use Rattle.node_table.specs.Rows.{Line, NamesRise}
+use Rattle.node_table.specs.Readers.{placed, rows_of}
+
+-- the node of a number, counted from 1
+abbrev pub held_at : List Node → ℕ → Option Node
+held_at held zero = None
+held_at held (suc k) = slice_get held k
+
+-- the attributes that a node holds
+abbrev pub attr_held : ℕ → Node → Attr
+attr_held n node = record {
+  ino = n;
+  size = node.size;
+  blocks = blocks_of node.size;
+  mode = node.mode;
+  nlink = node.nlink;
+  rdev = node.rdev;
+}
+
+-- the header is one that the place's layer gives, and its data are the place's
+pub record IsHeaded (layers : List (List ℕ)) (layer : ℕ) (node : Node) (p : Place) : Type 0 where
+  pub image : List ℕ
+  pub is : slice_get layers layer ≡ Some image
+  pub given : IsGiven image node.head
+  pub data_is : data_in image node.head.offset ≡ data_of layers p
+
+-- the node holds what the definitions say of its place
+pub record IsNode (layers : List (List ℕ)) (entries : List Entry) (rows : List Line) (node : Node) (p : Place) : Type 0 where
+  pub place : placed node.place ≡ p
+  pub headed : IsHeaded layers node.place.layer node p
+  pub kind : node.kind ≡ kind_at layers p
+  pub size : node.size ≡ size_at layers p
+  pub mode_is : node.mode ≡ mode layers p
+  pub nlink_is : node.nlink ≡ nlink layers entries p
+  pub rdev_is : node.rdev ≡ rdev layers p
+  pub parent_is : is_directory node.kind ≡ true → node.parent ≡ number entries (parent entries p)
+  pub start : node.rows_start ≤ node.rows_end
+  pub end : node.rows_end ≤ length rows
+  pub rows_are : slice_range rows node.rows_start node.rows_end ≡ rows_of layers entries p
+  pub rising : NamesRise (slice_range rows node.rows_start node.rows_end)
+
+-- the nodes in the order of their numbers
+pub record AreNodes (layers : List (List ℕ)) (entries : List Entry) (held : List Node) (rows : List Line) : Type 0 where
+  pub level : length held ≡ length (nodes entries)
+  pub each : (k : ℕ) (node : Node) (p : Place) → slice_get held k ≡ Some node → slice_get (nodes entries) k ≡ Some p → IsNode layers entries rows node p
+
+-- a table of these layers and their listing
+pub record IsTable (layers : List (List ℕ)) (entries : List Entry) (held : List Node) (rows : List Line) (blocks : ℕ) : Type 0 where
+  pub listing : IsListing layers entries
+  pub are : AreNodes layers entries held rows
+  pub blocks_are : blocks ≡ blocks_all layers
+
+-- some listing of the layers makes it a table
+abbrev pub IsSomeTable : List (List ℕ) → List Node → List Line → ℕ → Type 0
+IsSomeTable layers held rows blocks = (entries : List Entry) × IsTable layers entries held rows blocks

@@ -1,0 +1,31 @@
+//! The nodes of a stack of layers by number: kinds and places, attributes, rows and data.
+//!
+//! A [`Table`] stands for a stack: its layers, and the listing of the paths that they show (`stack_model`). Each
+//! reader answers by the definitions of that crate, as `specs/Readers.antt` puts them together, for every number up
+//! to 2^64 - 1, and takes no memory:
+//!
+//! ```text
+//! if let Some(number) = table.child(1, b"etc") {
+//!     for row in table.rows(number) {
+//!         show(&row.name, table.attr(row.number));
+//!     }
+//! }
+//! ```
+//!
+//! All nodes lie in one vector by their numbers, and all rows in another, those of a directory together. A node
+//! keeps its header as it was read once, so no answer parses one. What these parts have to say of the listing is
+//! the table's invariant (`specs/Held.antt`).
+//!
+//! The crate stands on `layer_tree` for the tree of a stack, on `romfs_image` for its images, and on `rayon`.
+#![tactic(auto)]
+
+mod lookup;
+mod node;
+mod row;
+mod table;
+
+pub use layer_tree::Place;
+pub use node::{Attr, Node};
+pub use romfs_image::Kind;
+pub use row::Row;
+pub use table::Table;

@@ -1,0 +1,39 @@
+//! What a table holds of a node.
+
+use layer_tree::Place;
+use romfs_image::{Head, Kind};
+
+/// The attributes of a node, as stat(2) has them. Owners and times are 0 for all nodes.
+#[derive(Clone, Copy, Debug, PartialEq, Eq)]
+pub struct Attr {
+    /// The node's number.
+    pub ino: u64,
+    /// In bytes.
+    pub size: u64,
+    /// In blocks of 512 bytes, rounded up.
+    pub blocks: u64,
+    /// Type and permissions.
+    pub mode: u32,
+    /// How many paths show the node; for a directory 2 more than the directories in it.
+    pub nlink: u32,
+    /// The numbers of a device, as the kernel's new_encode_dev lays them; 0 for other kinds.
+    pub rdev: u32,
+}
+
+/// A node: what stands at one place of the stack, under however many paths.
+#[derive(Clone, Copy, Debug)]
+pub struct Node {
+    /// Its kind, which is never a hard link.
+    pub kind: Kind,
+    pub place: Place,
+    pub(crate) head: Head,
+    pub(crate) size: u32,
+    pub(crate) mode: u32,
+    pub(crate) nlink: u32,
+    pub(crate) rdev: u32,
+    pub(crate) parent: u64,
+    pub(crate) rows_start: usize,
+    pub(crate) rows_end: usize,
+}
+
+const _: () = prove!(size_of::<Node>() <= 88);

@@ -1,0 +1,118 @@
+//! The table of a stack.
+
+ghost use Rattle.std.specs.Prelude.{◌≡◌, length};
+ghost use Rattle.stack_model.specs.Listing.{IsListing};
+ghost use Rattle.stack_model.specs.Numbers.{nodes};
+ghost use Rattle.stack_model.specs.Attributes.{blocks_all};
+ghost use Rattle.node_table.specs.Stacked.{Listed, listed_once};
+ghost use Rattle.node_table.specs.Readers.{TellsNode, attr_at, parent_at, child_at, rows_at, data_at};
+
+use crate::lookup::{attr_of, node_at, number_named, rows_of};
+use crate::node::{Attr, Node};
+use crate::row::Row;
+use romfs_image::{Image, Kind};
+use std::alloc::Allocator;
+use std::marker::Model;
+
+/// The nodes of a stack of layers, by number: attributes, rows and data.
+///
+/// A clause sees the layers and their listing. Each node and row takes at most 128 bytes beside its name. No reader
+/// takes memory, and each answers for every number: 1 is the root, and a number that is not in use has nothing.
+#[derive(Drop)]
+pub struct Table<A: Allocator> {
+    images: Vec<Image<A>, A>,
+    nodes: Vec<Node, A>,
+    rows: Vec<Row<A>, A>,
+    blocks: u64,
+    ghost listing: { Listed images.items } by { listed_once images.items },
+}
+
+impl<A: Allocator> Model for Table<A> {
+    ghost use Rattle.node_table.specs.Stacked.{Stacked};
+    ghost use Rattle.node_table.specs.Held.{IsTable};
+
+    ghost Value = { Stacked };
+
+    ghost view = { λ held. record { layers = held.images.items; entries = held.listing.0 } };
+
+    ghost invariant = { λ held. IsTable held.images.items held.listing.0 held.nodes.items held.rows.items held.blocks };
+}
+
+impl<A: Allocator> Table<A> {
+    /// How many nodes there are. They have the numbers from 1 on.
+    pub fn len(&self) -> u64
+        ensures value { result ≡ length (nodes self.now.entries) }
+        ensures listing { IsListing self.now.layers self.now.entries }
+    {
+        self.nodes.len() as u64
+    }
+
+    /// The node of a number; none where the number is not in use.
+    pub fn node(&self, number: u64) -> Option<&Node>
+        ensures { TellsNode self.now number result }
+    {
+        node_at(&self.nodes, number)
+    }
+
+    /// The number of the child with this name in a directory; none where the number is no directory that shows
+    /// such a child. Names compare byte by byte, and neither `.` nor `..` is a child.
+    ///
+    /// It takes as many steps as the number of the directory's rows has binary digits.
+    pub fn child(&self, number: u64, name: &[u8]) -> Option<u64>
+        ensures { result ≡ child_at self.now number name.now }
+    {
+        let node = node_at(&self.nodes, number)?;
+        number_named(rows_of(&self.rows, node), name)
+    }
+
+    /// The children of a directory in the order of their names, without `.` and `..`; empty where the number is no
+    /// directory.
+    pub fn rows(&self, number: u64) -> &[Row<A>]
+        ensures { result.now ≡ rows_at self.now number }
+    {
+        match node_at(&self.nodes, number) {
+            Some(node) => rows_of(&self.rows, node),
+            None => &[],
+        }
+    }
+
+    /// The number of the directory above a directory, that of the root being the root's; none where the number is no
+    /// directory.
+    pub fn parent(&self, number: u64) -> Option<u64>
+        ensures { result ≡ parent_at self.now number }
+    {
+        let node = node_at(&self.nodes, number)?;
+        match node.kind {
+            Kind::Directory => Some(node.parent),
+            _ => None,
+        }
+    }
+
+    /// The attributes of a node; none where the number is not in use.
+    pub fn attr(&self, number: u64) -> Option<Attr>
+        ensures { result ≡ attr_at self.now number }
+    {
+        let node = node_at(&self.nodes, number)?;
+        Some(attr_of(number, node))
+    }
+
+    /// The data of a regular file, or the target of a symbolic link; empty where the number is neither.
+    pub fn bytes(&self, number: u64) -> &[u8]
+        ensures { result.now ≡ data_at self.now number }
+    {
+        match node_at(&self.nodes, number) {
+            Some(node) => {
+                let image = &self.images[node.place.layer as usize];
+                image.body(&node.head)
+            }
+            None => &[],
+        }
+    }
+
+    /// The full sizes of all layers in blocks of 512 bytes, each rounded up, then summed.
+    pub fn blocks_all(&self) -> u64
+        ensures { result ≡ blocks_all self.now.layers }
+    {
+        self.blocks
+    }
+}

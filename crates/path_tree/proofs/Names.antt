@@ -1,0 +1,100 @@
+-- Branches by the order of their names.
+use Rattle.std.proofs.Common.{◌≡◌, ◌≢◌, ◌∙◌, sym, ap, subst, ℕ, zero, suc, ◌<◌, ◌≤◌, ◌⊎◌, inl, inr, List, [], ◌∷◌, length, get_or, refl, arith, Bool, true, false, Some, None}
+use Rattle.std.specs.declared.cmp.Ordering.{Ordering}
+use Rattle.std.specs.declared.cmp.Ordering.TheVariants.{Less, Equal, Greater}
+use Rattle.std.specs.Ordering.{ordering_reverse, ordering_index}
+use Rattle.std.specs.List.{AllByRecursion}
+use Rattle.std.specs.List.Sorted.{IsNonDecreasingBy}
+use Rattle.std.specs.Prelude.{nat_eq}
+use Rattle.std.specs.Cmp.Lexicographic.{pointwise, same_text, other_text}
+use Rattle.std.proofs.lemmas.Bool.{cases_lt}
+use Rattle.std.proofs.lemmas.Cmp.{nat_list_cmp_total}
+use Rattle.std.proofs.lemmas.Map.Lookups.{exact_bytes}
+use Rattle.path_tree.specs.Rows.{Shoot, name_cmp, named, NamesRise}
+
+abbrev pub IsSameOrNot : List ℕ → List ℕ → Type 0
+IsSameOrNot a b = ((a ≡ b) × (pointwise nat_eq a b ≡ true)) ⊎ ((a ≢ b) × (pointwise nat_eq a b ≡ false))
+
+pub same_or_not : (a b : List ℕ) → IsSameOrNot a b
+same_or_not a b = pick (pointwise nat_eq a b) refl
+  where
+    pick : (r : Bool) → r ≡ pointwise nat_eq a b → IsSameOrNot a b
+    pick true e = inl (same_text a b e, sym e)
+    pick false e = inr (other_text a b e, sym e)
+
+pub not_below_itself : (a : List ℕ) → name_cmp a a ≡ Less → ⊥
+not_below_itself a e = let s = nat_list_cmp_total.antisymm a a in let r : Less ≡ Greater = sym e ∙ s ∙ ap ordering_reverse e in cc
+
+pub below_differs : (a b : List ℕ) → name_cmp a b ≡ Less → a ≢ b
+below_differs a b l e = not_below_itself a (subst (λ x. name_cmp a x ≡ Less) (sym e) l)
+
+pub above_of : (a b : List ℕ) → name_cmp a b ≡ Greater → name_cmp b a ≡ Less
+above_of a b e = nat_list_cmp_total.antisymm b a ∙ ap ordering_reverse e
+
+pub itself : (a : List ℕ) → name_cmp a a ≡ Equal
+itself a = by_case (name_cmp a a) refl (nat_list_cmp_total.antisymm a a)
+  where
+    by_case : (o : Ordering) → o ≡ name_cmp a a → o ≡ ordering_reverse o → o ≡ Equal
+    by_case Less e s = absurd (not_below_itself a (sym e))
+    by_case Equal e s = refl
+    by_case Greater e s = absurd (cc)
+
+pub all_above : {T : Type 0} (n m : List ℕ) (ss : List (Shoot T)) → name_cmp n m ≡ Less → AllByRecursion (λ t. name_cmp m t.name ≡ Less) ss → AllByRecursion (λ t. name_cmp n t.name ≡ Less) ss
+all_above n m [] l a = tt
+all_above n m (s ∷ ss) l a = (nat_list_cmp_total.trans n m s.name l a.0, all_above n m ss l a.1)
+
+-- no branch has a name that comes before them all
+pub named_below : {T : Type 0} (n : List ℕ) (ss : List (Shoot T)) → AllByRecursion (λ t. name_cmp n t.name ≡ Less) ss → named n ss ≡ None
+named_below n [] a = refl
+named_below n (s ∷ ss) a = elim (same_or_not s.name n) [ inl x ↦ absurd (below_differs n s.name a.0 (sym x.0)) | inr x ↦ rw x.1 (named_below n ss a.1) ]
+
+all_at : {T : Type 0} (n : List ℕ) (ss : List (Shoot T)) → AllByRecursion (λ t. name_cmp n t.name ≡ Less) ss → (i : ℕ) (d : Shoot T) → i < length ss → name_cmp n (get_or ss i d).name ≡ Less
+all_at n [] a i d l = absurd (omega arith)
+all_at n (s ∷ ss) a zero d l = a.0
+all_at n (s ∷ ss) a (suc i) d l = all_at n ss a.1 i d (omega arith)
+
+pub named_at : {T : Type 0} (n : List ℕ) (ss : List (Shoot T)) → NamesRise ss → (i : ℕ) (d : Shoot T) → i < length ss → name_cmp (get_or ss i d).name n ≡ Equal → named n ss ≡ Some (get_or ss i d)
+named_at n [] r i d l e = absurd (omega arith)
+named_at n (s ∷ ss) r zero d l e = elim (same_or_not s.name n) [ inl x ↦ rw x.1 | inr x ↦ absurd (x.0 (exact_bytes s.name n e)) ]
+named_at n (s ∷ ss) r (suc i) d l e =
+    let lt : i < length ss = omega arith in
+    elim (same_or_not s.name n) [
+      | inl x ↦ absurd (below_differs s.name _ (all_at s.name ss r.0 i d lt) (x.0 ∙ sym (exact_bytes _ n e)))
+      | inr x ↦ rw x.1 (named_at n ss r.1 i d lt e)
+    ]
+
+named_nowhere : {T : Type 0} (n : List ℕ) (ss : List (Shoot T)) → ((i : ℕ) (d : Shoot T) → i < length ss → name_cmp (get_or ss i d).name n ≢ Equal) → named n ss ≡ None
+named_nowhere n [] f = refl
+named_nowhere n (s ∷ ss) f = elim (same_or_not s.name n) [
+  | inl x ↦ absurd (f 0 s (omega arith) (rw x.0 (itself n)))
+  | inr x ↦ rw x.1 (named_nowhere n ss (λ i d l. f (suc i) d (omega arith)))
+]
+
+-- names before i come first, and names from i on come later
+abbrev pub IsParted : {T : Type 0} → List ℕ → List (Shoot T) → ℕ → Type 0
+IsParted {T} n ss i =
+    ((k : ℕ) (d : Shoot T) → 0 ≤ k → k < i → name_cmp (get_or ss k d).name n ≡ Less)
+    × ((k : ℕ) (d : Shoot T) → i ≤ k → k < length ss → name_cmp (get_or ss k d).name n ≡ Greater)
+
+pub named_between : {T : Type 0} (n : List ℕ) (ss : List (Shoot T)) (i : ℕ) → IsParted n ss i → named n ss ≡ None
+named_between n ss i p = named_nowhere n ss (λ k d l e. elim (cases_lt k i) [
+  | inl lt ↦ absurd (let f = p.0 k d (omega arith) lt in cc)
+  | inr ge ↦ absurd (let f = p.1 k d ge l in cc)
+])
+
+keeps : (a b n : List ℕ) → name_cmp a b ≡ Less → (o p : Ordering) → o ≡ name_cmp a n → p ≡ name_cmp b n → ordering_index o ≤ ordering_index p
+keeps a b n l Less p d e = omega arith
+keeps a b n l Equal Less d e = absurd (not_below_itself b (nat_list_cmp_total.trans b a b (subst (λ x. name_cmp b x ≡ Less) (sym (exact_bytes a n (sym d))) (sym e)) l))
+keeps a b n l Equal Equal d e = omega arith
+keeps a b n l Equal Greater d e = omega arith
+keeps a b n l Greater Less d e = absurd (not_below_itself a (nat_list_cmp_total.trans a b a l (nat_list_cmp_total.trans b n a (sym e) (above_of a n (sym d)))))
+keeps a b n l Greater Equal d e = absurd (not_below_itself a (nat_list_cmp_total.trans a b a l (subst (λ x. name_cmp x a ≡ Less) (sym (exact_bytes b n (sym e))) (above_of a n (sym d)))))
+keeps a b n l Greater Greater d e = omega arith
+
+-- seen from any name, branches in order go from those before it to those after it
+pub from_name : {T : Type 0} (n : List ℕ) (ss : List (Shoot T)) → NamesRise ss → IsNonDecreasingBy (λ s. ordering_index (name_cmp s.name n)) ss
+from_name n [] r i j d le lt = absurd (omega arith)
+from_name n (s ∷ ss) r zero zero d le lt = omega arith
+from_name n (s ∷ ss) r zero (suc j) d le lt = keeps s.name (get_or ss j d).name n (all_at s.name ss r.0 j d (omega arith)) _ _ refl refl
+from_name n (s ∷ ss) r (suc i) zero d le lt = absurd (omega arith)
+from_name n (s ∷ ss) r (suc i) (suc j) d le lt = from_name n ss r.1 i j d (omega arith) (omega arith)

@@ -1,0 +1,104 @@
+//! A branch of a tree, and what is found below it.
+
+ghost use Rattle.std.specs.Prelude.{◌≡◌, [], map, MatchOption, Some, None};
+ghost use Rattle.path_tree.specs.Rows.{spread, whole, name_cmp, named, NamesRise, IsForest, IsUnder};
+
+use std::alloc::Allocator;
+use std::cmp::Ordering;
+use std::marker::Model;
+
+/// A value with a name, and the branches below it in the order of their names.
+#[derive(Drop)]
+pub struct Branch<T: Copy + Drop, A: Allocator> {
+    name: Vec<u8, A>,
+    value: T,
+    children: Vec<Branch<T, A>, A>,
+}
+
+impl<T: Copy + Drop, A: Allocator> Model for Branch<T, A> {
+    ghost use Rattle.std.specs.Prelude.{ℕ, length};
+    ghost use Rattle.path_tree.specs.Rows.{Shoot, spread, IsForest, falls};
+
+    ghost Value = { Shoot T };
+
+    ghost view = { λ b. record { name = b.name.items; value = b.value; below = spread b.children.items } };
+
+    ghost invariant = { λ b. IsForest b.children.items };
+
+    ghost size = { λ s. length s.below };
+
+    ghost size_decreases = { λ b h. falls b.children.items };
+}
+
+impl<T: Copy + Drop, A: Allocator> Branch<T, A> {
+    /// A branch of its parts.
+    pub fn new(name: Vec<u8, A>, value: T, children: Vec<Branch<T, A>, A>) -> Branch<T, A>
+        requires { IsForest children.items }
+        ensures { result ≡ record { name = name.items; value = value; below = spread children.items } }
+    {
+        Branch {
+            name,
+            value,
+            children,
+        }
+    }
+
+    /// The branch's name.
+    pub fn name(&self) -> &[u8]
+        ensures { result.now ≡ self.now.name }
+    {
+        self.name.as_slice()
+    }
+
+    /// The branch's value.
+    pub fn value(&self) -> T
+        ensures { result ≡ self.now.value }
+    {
+        self.value
+    }
+
+    /// The branches below it.
+    pub fn children(&self) -> &[Branch<T, A>]
+        ensures below { self.now.below ≡ spread result.now }
+        ensures forest { IsForest result.now }
+    {
+        self.children.as_slice()
+    }
+
+    /// The branch at a path from this one.
+    pub fn find(&self, path: &[&[u8]]) -> Option<&Branch<T, A>>
+        ensures { MatchOption result
+            (IsUnder (whole self.now) (map (λ n. n.now) path.now) [])
+            (λ b. IsUnder (whole self.now) (map (λ n. n.now) path.now) (whole b.now)) }
+    {
+        let mut here = self;
+        for name in path {
+            match child(&here.children, name) {
+                Some(next) => here = next,
+                None => return None,
+            }
+        }
+        Some(here)
+    }
+}
+
+/// How the branch's name stands to a name.
+fn compare<T: Copy + Drop, A: Allocator>(branch: &Branch<T, A>, name: &[u8]) -> Ordering
+    ensures { result ≡ name_cmp branch.now.name name.now }
+{
+    branch.name.as_slice().cmp(name)
+}
+
+/// The branch of that name, by halves.
+pub fn child<'a, T: Copy + Drop, A: Allocator>(
+    children: &'a [Branch<T, A>],
+    name: &[u8],
+) -> Option<&'a Branch<T, A>>
+    requires { NamesRise children.now }
+    ensures { MatchOption result (named name.now children.now ≡ None) (λ c. named name.now children.now ≡ Some c.now) }
+{
+    match children.binary_search_by(|c| compare(c, name)) {
+        Ok(i) => Some(&children[i]),
+        Err(_) => None,
+    }
+}
