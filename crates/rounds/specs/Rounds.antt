@@ -23,6 +23,10 @@ pub record Balances : Type 0 where
   pub old : List ℤ
   pub new : List ℤ
 
+-- how balances changed
+abbrev pub change : List ℤ → List ℤ → Balances
+change old new = record { old = old; new = new }
+
 -- one message is answered with these bytes, and leaves this session
 pub record IsAnswered (by : Answering) (s : Session) (m : List ℕ) (after : Session) (put : List ℕ) (b : Balances) : Type 0 where
   pub session : after ≡ session_after s (asked m).op

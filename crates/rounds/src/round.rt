@@ -3,7 +3,7 @@
 ghost use Rattle.std.specs.Prelude.{◌≡◌, ◌≤◌, ◌^◌, ◌++◌, ℕ, List, length, IfOk};
 ghost use Rattle.reply_model.specs.declared.session.Session.{Session};
 ghost use Rattle.rounds.specs.Moves.{AreWithin, IsLight};
-ghost use Rattle.rounds.specs.Rounds.{Answering, IsRound};
+ghost use Rattle.rounds.specs.Rounds.{Answering, change, IsRound};
 
 use reply_model::Session;
 use std::alloc::{AllocError, Allocator};
@@ -44,7 +44,7 @@ pub trait Rounds {
         requires within { AreWithin (2 ^ 122) balances.old }
         requires short { length stream.now ≤ 2 ^ 57 }
         ensures { IfOk result (λ round. (put : List ℕ) × (replies.new.items ≡ replies.old.items ++ put)
-            × IsRound (answering self.now) session stream.now round put (record { old = balances.old; new = balances.new })) };
+            × IsRound (answering self.now) session stream.now round put (change balances.old balances.new)) };
 
     ghost light: { (x : Self) → IsLight (answering x).moved };
 }

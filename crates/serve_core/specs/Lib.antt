@@ -1,0 +1,3 @@
+pub mod Serving
+pub mod Steps
+pub mod Buffers
