@@ -8,7 +8,11 @@ ghost use Rattle.serve_core.specs.Steps.{view};
 use crate::buffer::Buffer;
 use crate::done::Done;
 use reply_model::Session;
+use rounds::ENOUGH_REPLIES;
 use std::alloc::{AllocError, Allocator};
+
+/// A round has less replies than end it, and one more: a header of 16 bytes and 1 MiB of data at most.
+const MOST_REPLIES: usize = ENOUGH_REPLIES + 1_048_592;
 
 /// How far a stream is answered.
 #[derive(Drop)]
@@ -42,7 +46,7 @@ impl<A: Allocator + Copy> Progress<A> {
             messages: 0,
             written: 0,
             balances: vec![in alloc; 0i128; nodes as usize]?,
-            replies: Vec::new(alloc),
+            replies: Vec::with_capacity(alloc, MOST_REPLIES)?,
         })
     }
 }

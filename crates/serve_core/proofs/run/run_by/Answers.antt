@@ -4,7 +4,8 @@ use Rattle.fuse_wire.specs.Stream.{IsBad, IsOpen}
 use Rattle.serve_core.specs.Buffers.{held_in}
 use Rattle.serve_core.specs.Serving.{Trace}
 use Rattle.serve_core.specs.Steps.{view, IsSmall}
-use Rattle.serve_core.proofs.Runs.{ends_bad, ends_clean, ends_cut, ends_halt, ends_memory, ends_read, ends_turns, fed, no_memory, no_turns, none_left, run_memory, runs_first, small_fed, small_first, some_left, start, went_round, IsRunning}
+use Rattle.serve_core.proofs.Traces.{none_left, small_first, some_left, start, IsRunning}
+use Rattle.serve_core.proofs.Runs.{ends_bad, ends_clean, ends_cut, ends_halt, ends_memory, ends_read, ends_turns, fed, no_memory, no_turns, run_memory, runs_first, small_fed, went_round}
 use Rattle.serve_core.proofs.run.run_by.Goals as goal
 
 pub returns-then-turns-eq0 : goal.returns-then-turns-eq0

@@ -2,7 +2,7 @@ use Rattle.std.proofs.Common.{ℕ, List}
 use Rattle.std.specs.Io.KnownBytes.{Appends, Consumes}
 use Rattle.serve_core.specs.Buffers.{IsInRange}
 use Rattle.serve_core.specs.Steps.{view, IsSmall}
-use Rattle.serve_core.proofs.Runs.{IsRunning}
+use Rattle.serve_core.proofs.Traces.{IsRunning}
 use Rattle.serve_core.proofs.run.run_by.Given as goal
 
 -- all that is whole was answered
