@@ -1,0 +1,112 @@
+//! The counts that devices keep. A count that has come to 2^64 - 1 stays there.
+
+ghost use Rattle.std.specs.Prelude.{◌≡◌};
+ghost use Rattle.devices.specs.Counting.{no_pulls, no_pushes, pulled, pushed, flushed};
+
+use crate::failed::Failed;
+
+/// What a pull was.
+#[derive(Debug, Clone, Copy, PartialEq, Eq)]
+pub enum LastPull {
+    /// It gave so many bytes, at least one.
+    Bytes(u64),
+    /// It met the end of the stream.
+    End,
+    /// It failed.
+    Failure,
+}
+
+/// The counts of a source.
+#[derive(Debug, Clone, Copy, PartialEq, Eq)]
+pub struct Pulls {
+    /// How often it was pulled.
+    pub pulls: u64,
+    /// How often a pull met the end.
+    pub ends: u64,
+    /// How often a pull failed.
+    pub failures: u64,
+    /// What the last pull was. There is none before the first.
+    pub last: Option<LastPull>,
+}
+
+/// The counts of a sink.
+#[derive(Debug, Clone, Copy, PartialEq, Eq)]
+pub struct Pushes {
+    /// How often it was flushed.
+    pub flushes: u64,
+    /// How often a push or a flush failed. A push that takes none of some bytes is a failure too.
+    pub failures: u64,
+    /// How many bytes it took since its last flush that succeeded, or since it was made.
+    pub unflushed: u64,
+}
+
+impl Pulls {
+    /// The counts of a source that was never pulled.
+    pub fn none() -> Pulls
+        ensures { result ≡ no_pulls }
+    {
+        Pulls {
+            pulls: 0,
+            ends: 0,
+            failures: 0,
+            last: None,
+        }
+    }
+
+    /// Counts a pull into a room that is not empty, by the number of bytes that it gave.
+    pub fn note(&mut self, got: &Result<usize, Failed>)
+        ensures { self.new ≡ pulled self.old got.now }
+    {
+        self.pulls = self.pulls.saturating_add(1);
+        match got {
+            Ok(0) => {
+                self.ends = self.ends.saturating_add(1);
+                self.last = Some(LastPull::End);
+            }
+            Ok(n) => self.last = Some(LastPull::Bytes(*n as u64)),
+            Err(_) => {
+                self.failures = self.failures.saturating_add(1);
+                self.last = Some(LastPull::Failure);
+            }
+        }
+    }
+}
+
+impl Pushes {
+    /// The counts of a sink to which nothing was pushed.
+    pub fn none() -> Pushes
+        ensures { result ≡ no_pushes }
+    {
+        Pushes {
+            flushes: 0,
+            failures: 0,
+            unflushed: 0,
+        }
+    }
+
+    /// Counts a push of `size` bytes, by the number of bytes that were taken.
+    pub fn note_push(&mut self, size: usize, taken: &Result<usize, Failed>)
+        ensures { self.new ≡ pushed self.old size taken.now }
+    {
+        match taken {
+            Ok(n) => {
+                if *n == 0 && size != 0 {
+                    self.failures = self.failures.saturating_add(1);
+                }
+                self.unflushed = self.unflushed.saturating_add(*n as u64);
+            }
+            Err(_) => self.failures = self.failures.saturating_add(1),
+        }
+    }
+
+    /// Counts a flush.
+    pub fn note_flush(&mut self, done: &Result<(), Failed>)
+        ensures { self.new ≡ flushed self.old done.now }
+    {
+        self.flushes = self.flushes.saturating_add(1);
+        match done {
+            Ok(_) => self.unflushed = 0,
+            Err(_) => self.failures = self.failures.saturating_add(1),
+        }
+    }
+}

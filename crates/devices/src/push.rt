@@ -1,0 +1,42 @@
+//! Bytes to a sink, all of them.
+
+ghost use Rattle.std.specs.Prelude.{◌<◌, ◌^◌, ℕ, List};
+ghost use Rattle.devices.specs.Pushing.{PutsFront, IsPushed, IsHandedOn};
+
+use crate::failed::Failed;
+use crate::sink::Sink;
+
+/// Pushes all of the bytes, whatever number of them each push takes, and then flushes once, if there were any.
+///
+/// `Failed` comes where a push or the flush failed, or a push took none of some bytes. The sink has then taken some
+/// of the first bytes, each once, and is not called again.
+pub fn hand_on<K: Sink>(sink: &mut K, bytes: &[u8]) -> Result<(), Failed>
+    requires { (K.counts sink.old).failures < 2 ^ 63 }
+    ensures { (put : List ℕ)
+        × PutsFront bytes.now put (K.held sink.old) (K.held sink.new) (K.counts sink.old) (K.counts sink.new)
+        × IsHandedOn bytes.now put (K.counts sink.old) (K.counts sink.new) result }
+{
+    if bytes.is_empty() {
+        return Ok(());
+    }
+    push_all(sink, bytes)?;
+    sink.flush()
+}
+
+// Pushes all of the bytes.
+fn push_all<K: Sink>(sink: &mut K, bytes: &[u8]) -> Result<(), Failed>
+    requires { (K.counts sink.old).failures < 2 ^ 63 }
+    ensures { (put : List ℕ)
+        × PutsFront bytes.now put (K.held sink.old) (K.held sink.new) (K.counts sink.old) (K.counts sink.new)
+        × IsPushed bytes.now put (K.counts sink.old) (K.counts sink.new) result }
+{
+    let mut rest = bytes;
+    while !rest.is_empty() {
+        match sink.push(rest) {
+            Ok(0) => return Err(Failed),
+            Ok(n) => rest = &rest[n..],
+            Err(failed) => return Err(failed),
+        }
+    }
+    Ok(())
+}

@@ -1,0 +1,5 @@
+pub mod Parts
+pub mod Rounding
+pub mod Traces
+pub mod Runs
+pub mod Ends

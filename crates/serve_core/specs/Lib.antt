@@ -1,0 +1,4 @@
+pub mod Serving
+pub mod Steps
+pub mod Buffers
+pub mod Laws

@@ -1,0 +1,25 @@
+//! Serving a stream of FUSE requests from a source to a sink.
+//!
+//! [`run_by`] answers first what is whole in its buffer, in rounds, each round's replies pushed and flushed before the
+//! next; where no whole message is left it makes one pull. So each pull finds all earlier replies written and flushed, and
+//! a client that waits for a reply before it asks again is served. What it promises at each end is said once, by `IsRun`
+//! in `specs/Serving`, whatever answers the rounds; [`laws`] draw from it what each end means.
+//!
+//! It takes memory for the balances, one number of 128 bits a node, for a buffer of one message and two pulls, and for
+//! the replies of one round: each of the latter two grows up to about 1.25 MiB, whatever the stream.
+//!
+//! The private parts: `buffer` holds what was pulled and is not answered, `progress` how far the stream is answered,
+//! `rounds_on` goes on by one round and by all.
+#![tactic(auto)]
+
+mod buffer;
+pub mod done;
+pub mod laws;
+mod progress;
+mod rounds_on;
+mod run;
+pub mod stop;
+
+pub use done::Done;
+pub use run::run_by;
+pub use stop::Stop;

@@ -1,0 +1,67 @@
+//! How far a stream is answered.
+
+ghost use Rattle.std.specs.Prelude.{◌≡◌, ◌+◌, ◌<◌, [], ℕ, List, replicate, pos, IfOk};
+ghost use Rattle.reply_model.specs.declared.session.Session.TheVariants.{Fresh};
+ghost use Rattle.serve_core.specs.Buffers.{IsInRange};
+ghost use Rattle.serve_core.specs.Steps.{view};
+
+use crate::buffer::Buffer;
+use crate::done::Done;
+use reply_model::Session;
+use rounds::ENOUGH_REPLIES;
+use std::alloc::{AllocError, Allocator};
+
+/// A round has less replies than end it, and one more: a header of 16 bytes and 1 MiB of data at most.
+const MOST_REPLIES: usize = ENOUGH_REPLIES + 1_048_592;
+
+/// How far a stream is answered.
+#[derive(Drop)]
+pub(crate) struct Progress<A: Allocator> {
+    // What was pulled and is not answered yet.
+    pub buffer: Buffer<A>,
+    // The session after the messages so far.
+    pub session: Session,
+    // How many bytes they have.
+    pub at: u64,
+    // How many they are.
+    pub messages: u64,
+    // How many bytes their replies have.
+    pub written: u128,
+    // What they gave to each node, less what they took.
+    pub balances: Vec<i128, A>,
+    // Room for the replies of one round.
+    pub replies: Vec<u8, A>,
+}
+
+impl<A: Allocator + Copy> Progress<A> {
+    // Nothing is answered yet of a stream to so many nodes.
+    pub(crate) fn new(alloc: A, nodes: u64) -> Result<Progress<A>, AllocError>
+        ensures { IfOk result (λ p. IsInRange p.buffer
+            × (view p ≡ record { rest = []; session = Fresh; at = 0; messages = 0; written = 0; balances = replicate nodes (pos 0) })) }
+    {
+        Ok(Progress {
+            buffer: Buffer::new(alloc),
+            session: Session::Fresh,
+            at: 0,
+            messages: 0,
+            written: 0,
+            balances: vec![in alloc; 0i128; nodes as usize]?,
+            replies: Vec::with_capacity(alloc, MOST_REPLIES)?,
+        })
+    }
+}
+
+impl<A: Allocator> Progress<A> {
+    // What the stream came to.
+    pub(crate) fn done(self) -> Done<A>
+        ensures messages { result.messages ≡ self.messages }
+        ensures written { result.written ≡ self.written }
+        ensures balances { result.balances.items ≡ self.balances.items }
+    {
+        Done {
+            messages: self.messages,
+            written: self.written,
+            balances: self.balances,
+        }
+    }
+}
