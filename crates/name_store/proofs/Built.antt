@@ -25,7 +25,7 @@ module _ {X Y : Type 0} (f : X → Y) where
   All_mapped : (P : Y → Type 0) (xs : List X) → All P (map f xs) → All (λ x. P (f x)) xs
   All_mapped P xs p k d l = let m = length-map xs f in rw (← get_or-map f xs k d (f d) l) (p k (f d) (omega arith))
 
-  pairs_mapped : (R : Y → Y → Type 0) (xs : List X) → AllPairs R (map f xs) → AllPairs (λ x y. R (f x) (f y)) xs
+  pub pairs_mapped : (R : Y → Y → Type 0) (xs : List X) → AllPairs R (map f xs) → AllPairs (λ x y. R (f x) (f y)) xs
   pairs_mapped R xs p i j d l n =
       let m = length-map xs f in
       rw (← get_or-map f xs i d (f d) (omega arith), ← get_or-map f xs j d (f d) n) (p i j (f d) l (omega arith))

@@ -6,3 +6,4 @@ pub mod Narrow
 pub mod Shown
 pub mod Fronts
 pub mod Built
+pub mod Neighbours

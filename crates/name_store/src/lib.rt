@@ -30,9 +30,11 @@
 
 mod build;
 mod key;
+mod rising;
 mod row;
 mod run;
 mod search;
 mod store;
 
+pub use rising::names_rise;
 pub use store::NameStore;
