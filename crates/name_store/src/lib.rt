@@ -1,8 +1,8 @@
 //! The names of many directories, in one place, with a look-up that does not grow slow by what a stranger names.
 //!
-//! A [`NameStore`] is made directory by directory, each from its names in the order of their bytes, and is then read:
-//! which name stands at a place of a directory, and at which place of a directory a name stands. It knows nothing of
-//! what the names stand for. Whoever makes one keeps that beside it, by the same places.
+//! A [`NameStore`] is made directory by directory, each from its names in the order of their bytes ([`names_rise`]), and
+//! is then read: which name stands at a place of a directory, and at which place of a directory a name stands. It knows
+//! nothing of what the names stand for. Whoever makes one keeps that beside it, by the same places.
 //!
 //! # How a name is found
 //!
@@ -22,10 +22,13 @@
 //!
 //! # What it costs
 //!
-//! To add a directory takes time in proportion to the bytes of its names. To find a name takes as many steps over keys
-//! as the number of names has binary digits, and where keys are equal at most as many over keys and over names again:
-//! no choice of names makes it slower than a search by halves over the names, but by a constant factor. Nothing is
-//! hashed. Readers take no memory. A name takes 24 bytes beside its own, and a directory 32.
+//! Adding a directory takes time in proportion to the bytes of its names. Finding a name takes as many steps over keys
+//! as the number of names has binary digits. Only where keys are equal does it take at most as many over keys and over
+//! names again, so no choice of names makes it slower than a search by halves over the names, but for a constant
+//! factor. Nothing is hashed, and no reader takes memory. A name takes 24 bytes beside its own, a directory 32; the
+//! vectors that hold them grow by doubling.
+//!
+//! The crate stands on `std` alone.
 #![tactic(auto)]
 
 mod build;

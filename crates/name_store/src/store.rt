@@ -47,8 +47,8 @@ impl<A: Allocator + Copy> NameStore<A> {
 }
 
 impl<A: Allocator> NameStore<A> {
-    /// Adds a directory, at the end, of names that rise in the order of their bytes, so that none stands there twice.
-    /// Any bytes make a name, and so do none. Where memory is refused the store is as it was.
+    /// Adds a directory at the end, so that its index is the [`len`](Self::len) of before. Its names come in the order of
+    /// their bytes, each once; they may be any bytes, of any number. Where memory is refused the store is as it was.
     pub fn push(&mut self, names: &[&[u8]]) -> Result<(), AllocError>
         requires { Rise (shown names.now) }
         ensures { self.new ≡ (if is_ok result then self.old ++ shown names.now ∷ [] else self.old) }
@@ -100,8 +100,8 @@ impl<A: Allocator> NameStore<A> {
         &self.bytes[row.start..row.start + row.len]
     }
 
-    /// The place of a name in a directory: None where the directory has no such name, or there is no directory of this
-    /// index. The name may be of any length, and takes no memory to find.
+    /// The place of a name in a directory: None where the directory has no such name, or where there is no directory of
+    /// this index. The name may be any bytes, of any number.
     pub fn find(&self, directory: usize, name: &[u8]) -> Option<usize>
         ensures { result ≡ place_of name.now (names_in self.now directory) }
     {
