@@ -1,0 +1,5 @@
+pub mod Names
+pub mod Keys
+pub mod Runs
+pub mod Held
+pub mod Building
