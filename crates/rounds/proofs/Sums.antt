@@ -9,7 +9,10 @@ use Rattle.fuse_wire.specs.Stream.{IsMessage}
 use Rattle.fuse_wire.specs.Requests.{Asked, asked}
 use Rattle.reply_model.specs.declared.session.Session.{Session}
 use Rattle.reply_model.specs.Sessions.{session_after}
-use Rattle.rounds.specs.Moves.{Move, balance, balance_at, moves_by, weight, IsLight, IsMoved, AreWithin}
+use Rattle.rounds.specs.Moves.{balance_at, weight, IsLight, IsMoved, AreWithin}
+use Rattle.reply_model.specs.declared.moves.Move.{Move}
+use Rattle.reply_model.specs.Moves.{balance}
+use Rattle.reply_model.specs.Streams.{moves_by}
 use Rattle.rounds.specs.Rounds.{joined}
 
 abs_add : (a b : ℤ) → unsigned_abs (a +ℤ b) ≤ unsigned_abs a + unsigned_abs b

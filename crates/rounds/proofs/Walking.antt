@@ -9,7 +9,9 @@ use Rattle.reply_model.specs.declared.session.Session.{Session}
 use Rattle.reply_model.specs.Sessions.{session_after}
 use Rattle.reply_model.specs.Streams.{replies_by, session_at}
 use Rattle.rounds.specs.declared.round.Round.{Round}
-use Rattle.rounds.specs.Moves.{Move, moves_by, IsLight, IsMoved, AreWithin}
+use Rattle.rounds.specs.Moves.{IsLight, IsMoved, AreWithin}
+use Rattle.reply_model.specs.declared.moves.Move.{Move}
+use Rattle.reply_model.specs.Streams.{moves_by}
 use Rattle.rounds.specs.Rounds.{Answering, Balances, joined, IsAnswered, AreFirst, AreAnswered, IsRound}
 use Rattle.rounds.proofs.Sums.{none_moved, moved_on, within_moved, within_less, light}
 

@@ -3,22 +3,8 @@ use Rattle.std.specs.Prelude.{◌≡◌, ℕ, ◌+◌, ◌*◌, ◌<◌, ◌≤�
 use Rattle.fuse_wire.specs.Stream.{IsMessage}
 use Rattle.fuse_wire.specs.Requests.{Asked, asked}
 use Rattle.reply_model.specs.declared.session.Session.{Session}
-use Rattle.reply_model.specs.Sessions.{session_after}
-
--- so many lookups of a node are given, or taken where the amount is below 0
-pub record Move : Type 0 where
-  pub node : ℕ
-  pub amount : ℤ
-
--- what is given less what is taken of one node
-abbrev pub balance : ℕ → List Move → ℤ
-balance node [] = pos 0
-balance node (m ∷ moves) = (if m.node == node then m.amount else pos 0) +ℤ balance node moves
-
--- the moves of requests one after another, whatever one of them moves
-abbrev pub moves_by : (Session → Asked → List Move) → Session → List Asked → List Move
-moves_by moved s [] = []
-moves_by moved s (q ∷ qs) = moved s q ++ moves_by moved (session_after s q.op) qs
+use Rattle.reply_model.specs.declared.moves.Move.{Move}
+use Rattle.reply_model.specs.Moves.{balance}
 
 -- how much is given and taken in all
 abbrev pub weight : List Move → ℕ

@@ -7,7 +7,9 @@ use Rattle.reply_model.specs.declared.session.Session.{Session}
 use Rattle.reply_model.specs.Sessions.{session_after}
 use Rattle.reply_model.specs.Streams.{replies_by, session_at}
 use Rattle.rounds.specs.declared.round.Round.{Round}
-use Rattle.rounds.specs.Moves.{Move, moves_by, IsMoved}
+use Rattle.rounds.specs.Moves.{IsMoved}
+use Rattle.reply_model.specs.declared.moves.Move.{Move}
+use Rattle.reply_model.specs.Streams.{moves_by}
 
 -- the bytes of messages one after another
 abbrev pub joined : List (List ℕ) → List ℕ

@@ -9,7 +9,8 @@ use Rattle.reply_model.specs.Streams.{replies_by}
 use Rattle.devices.specs.declared.counts.Pushes.{Pushes}
 use Rattle.devices.specs.Pushing.{HasFlushed}
 use Rattle.rounds.specs.declared.round.Round.{Round}
-use Rattle.rounds.specs.Moves.{IsLight, moves_by}
+use Rattle.rounds.specs.Moves.{IsLight}
+use Rattle.reply_model.specs.Streams.{moves_by}
 use Rattle.rounds.specs.Rounds.{Answering, joined, AreAnswered, IsRound}
 use Rattle.rounds.proofs.Sums.{within_moved, within_less, light}
 use Rattle.rounds.proofs.Walking.{replies_append, joined_append, both, none_answered, answered_on, first_within}

@@ -11,7 +11,8 @@ use Rattle.devices.specs.declared.counts.Pulls.{Pulls}
 use Rattle.devices.specs.declared.counts.Pushes.{Pushes}
 use Rattle.devices.specs.Counting.{pulled}
 use Rattle.devices.specs.Pushing.{HasFlushed}
-use Rattle.rounds.specs.Moves.{Move, balance_at, IsMoved}
+use Rattle.rounds.specs.Moves.{balance_at, IsMoved}
+use Rattle.reply_model.specs.declared.moves.Move.{Move}
 use Rattle.rounds.specs.Rounds.{Answering}
 use Rattle.serve_core.specs.Serving.{Trace, all_but, before, flushed, Begins, AreBalances, IsPrompt}
 use Rattle.serve_core.specs.Steps.{View, IsSmall, Goes}

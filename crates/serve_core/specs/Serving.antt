@@ -8,7 +8,10 @@ use Rattle.devices.specs.declared.counts.LastPull.{LastPull}
 use Rattle.devices.specs.declared.counts.LastPull.TheVariants.{Bytes, End, Failure}
 use Rattle.devices.specs.declared.counts.Pulls.{Pulls}
 use Rattle.devices.specs.declared.counts.Pushes.{Pushes}
-use Rattle.rounds.specs.Moves.{Move, balance, balance_at, moves_by}
+use Rattle.rounds.specs.Moves.{balance_at}
+use Rattle.reply_model.specs.declared.moves.Move.{Move}
+use Rattle.reply_model.specs.Moves.{balance}
+use Rattle.reply_model.specs.Streams.{moves_by}
 use Rattle.rounds.specs.Rounds.{Answering, joined}
 use Rattle.serve_core.specs.declared.stop.Stop.{Stop}
 use Rattle.serve_core.specs.declared.stop.Stop.TheVariants.{Layer, Layers, BadLength, CutOff, Read, Write, Turns, Memory}
