@@ -13,7 +13,8 @@ use crate::sink::Sink;
 pub fn hand_on<K: Sink>(sink: &mut K, bytes: &[u8]) -> Result<(), Failed>
     requires { (K.counts sink.old).failures < 2 ^ 63 }
     ensures { (put : List ℕ)
-        × PutsFront bytes.now put (K.held sink.old) (K.held sink.new) (K.counts sink.old) (K.counts sink.new)
+        × PutsFront bytes.now put (K.held sink.old) (K.held sink.new)
+        (K.counts sink.old) (K.counts sink.new)
         × IsHandedOn bytes.now put (K.counts sink.old) (K.counts sink.new) result }
 {
     if bytes.is_empty() {
@@ -27,7 +28,8 @@ pub fn hand_on<K: Sink>(sink: &mut K, bytes: &[u8]) -> Result<(), Failed>
 fn push_all<K: Sink>(sink: &mut K, bytes: &[u8]) -> Result<(), Failed>
     requires { (K.counts sink.old).failures < 2 ^ 63 }
     ensures { (put : List ℕ)
-        × PutsFront bytes.now put (K.held sink.old) (K.held sink.new) (K.counts sink.old) (K.counts sink.new)
+        × PutsFront bytes.now put (K.held sink.old) (K.held sink.new)
+        (K.counts sink.old) (K.counts sink.new)
         × IsPushed bytes.now put (K.counts sink.old) (K.counts sink.new) result }
 {
     let mut rest = bytes;

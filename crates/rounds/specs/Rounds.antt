@@ -54,3 +54,11 @@ pub record IsRound (by : Answering) (s : Session) (stream : List ℕ) (round : R
   pub count : round.messages ≡ length messages
   pub answered : AreAnswered by s messages round.session put b
   pub some : (0 < length messages) ⊎ IsRest (drop round.used stream)
+
+-- the reply to a message was appended to what there was before, and what it moves added to the balances
+abbrev pub AppendsAnswer : Answering → Session → List ℕ → Session → List ℕ → List ℕ → Balances → Type 0
+AppendsAnswer by s m after old new b = (put : List ℕ) × (new ≡ old ++ put) × IsAnswered by s m after put b
+
+-- the same for the messages of a round
+abbrev pub AppendsRound : Answering → Session → List ℕ → Round → List ℕ → List ℕ → Balances → Type 0
+AppendsRound by s stream round old new b = (put : List ℕ) × (new ≡ old ++ put) × IsRound by s stream round put b

@@ -4,7 +4,7 @@ ghost use Rattle.std.specs.Prelude.{◌≡◌, ◌^◌, ◌++◌, ℕ, List, len
 ghost use Rattle.fuse_wire.specs.Stream.{IsMessage};
 ghost use Rattle.reply_model.specs.declared.session.Session.{Session};
 ghost use Rattle.rounds.specs.Moves.{AreWithin, IsLight};
-ghost use Rattle.rounds.specs.Rounds.{Answering, change, IsAnswered};
+ghost use Rattle.rounds.specs.Rounds.{Answering, change, AppendsAnswer};
 
 use reply_model::Session;
 use std::alloc::{AllocError, Allocator};
@@ -34,8 +34,8 @@ pub trait Answers {
         requires message { IsMessage message.now }
         requires nodes { length balances.old ≡ nodes self.now }
         requires within { AreWithin (2 ^ 123) balances.old }
-        ensures { IfOk result (λ after. (put : List ℕ) × (replies.new.items ≡ replies.old.items ++ put)
-            × IsAnswered (answering self.now) session message.now after put (change balances.old balances.new)) };
+        ensures { IfOk result (λ after. AppendsAnswer (answering self.now) session message.now after
+            replies.old.items replies.new.items (change balances.old balances.new)) };
 
     ghost light: { (x : Self) → IsLight (answering x).moved };
 }

@@ -2,7 +2,7 @@
 
 ghost use Rattle.std.specs.Prelude.{◌≡◌, ◌≤◌, ◌^◌, ◌++◌, ℕ, List, length, IfOk};
 ghost use Rattle.rounds.specs.Moves.{AreWithin};
-ghost use Rattle.rounds.specs.Rounds.{change, IsRound};
+ghost use Rattle.rounds.specs.Rounds.{change, AppendsRound};
 
 use crate::answers::Answers;
 use crate::round::Round;
@@ -30,8 +30,8 @@ pub fn walk<T: Answers, A: Allocator>(
     requires nodes { length balances.old ≡ T.nodes answers.now }
     requires within { AreWithin (2 ^ 122) balances.old }
     requires short { length stream.now ≤ 2 ^ 57 }
-    ensures { IfOk result (λ round. (put : List ℕ) × (replies.new.items ≡ replies.old.items ++ put)
-        × IsRound (T.answering answers.now) session stream.now round put (change balances.old balances.new)) }
+    ensures { IfOk result (λ round. AppendsRound (T.answering answers.now) session stream.now round
+        replies.old.items replies.new.items (change balances.old balances.new)) }
 {
     let begun = replies.len();
     let mut round = Round {

@@ -3,7 +3,7 @@
 ghost use Rattle.std.specs.Prelude.{◌≡◌, ◌≤◌, ◌^◌, ◌++◌, ℕ, List, length, IfOk};
 ghost use Rattle.reply_model.specs.declared.session.Session.{Session};
 ghost use Rattle.rounds.specs.Moves.{AreWithin, IsLight};
-ghost use Rattle.rounds.specs.Rounds.{Answering, change, IsRound};
+ghost use Rattle.rounds.specs.Rounds.{Answering, change, AppendsRound};
 
 use reply_model::Session;
 use std::alloc::{AllocError, Allocator};
@@ -43,8 +43,8 @@ pub trait Rounds {
         requires nodes { length balances.old ≡ nodes self.now }
         requires within { AreWithin (2 ^ 122) balances.old }
         requires short { length stream.now ≤ 2 ^ 57 }
-        ensures { IfOk result (λ round. (put : List ℕ) × (replies.new.items ≡ replies.old.items ++ put)
-            × IsRound (answering self.now) session stream.now round put (change balances.old balances.new)) };
+        ensures { IfOk result (λ round. AppendsRound (answering self.now) session stream.now round
+            replies.old.items replies.new.items (change balances.old balances.new)) };
 
     ghost light: { (x : Self) → IsLight (answering x).moved };
 }

@@ -1,9 +1,10 @@
 -- What the steps of serving a stream do.
-use Rattle.std.specs.Prelude.{◌≡◌, ℕ, ◌+◌, ◌*◌, ◌^◌, ◌<◌, ◌≤◌, Bool, true, false, ℤ, List, ◌++◌, length, map}
+use Rattle.std.specs.Prelude.{◌≡◌, ℕ, ◌+◌, ◌*◌, ◌^◌, ◌<◌, ◌≤◌, Bool, true, false, ℤ, pos, List, [], ◌++◌, length, map, replicate}
 use Rattle.std.specs.List.{AllByRecursion}
 use Rattle.fuse_wire.specs.Stream.{IsMessage, IsRest}
 use Rattle.fuse_wire.specs.Requests.{asked}
 use Rattle.reply_model.specs.declared.session.Session.{Session}
+use Rattle.reply_model.specs.declared.session.Session.TheVariants.{Fresh}
 use Rattle.reply_model.specs.Streams.{replies_by}
 use Rattle.devices.specs.declared.counts.Pushes.{Pushes}
 use Rattle.rounds.specs.Moves.{AreWithin}
@@ -32,6 +33,10 @@ view p = record {
   written = p.written;
   balances = p.balances.items;
 }
+
+-- nothing is answered yet of a stream to so many nodes
+abbrev pub beginning : ℕ → View
+beginning nodes = record { rest = []; session = Fresh; at = 0; messages = 0; written = 0; balances = replicate nodes (pos 0) }
 
 -- the counts stay far below their types' limits: a stream has less than 2^57 bytes
 pub record IsSmall (nodes : ℕ) (v : View) : Type 0 where

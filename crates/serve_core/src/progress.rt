@@ -1,9 +1,8 @@
 //! How far a stream is answered.
 
-ghost use Rattle.std.specs.Prelude.{◌≡◌, ◌+◌, ◌<◌, [], ℕ, List, replicate, pos, IfOk};
-ghost use Rattle.reply_model.specs.declared.session.Session.TheVariants.{Fresh};
+ghost use Rattle.std.specs.Prelude.{◌≡◌, IfOk};
 ghost use Rattle.serve_core.specs.Buffers.{IsInRange};
-ghost use Rattle.serve_core.specs.Steps.{view};
+ghost use Rattle.serve_core.specs.Steps.{view, beginning};
 
 use crate::buffer::Buffer;
 use crate::done::Done;
@@ -36,8 +35,7 @@ pub(crate) struct Progress<A: Allocator> {
 impl<A: Allocator + Copy> Progress<A> {
     // Nothing is answered yet of a stream to so many nodes.
     pub(crate) fn new(alloc: A, nodes: u64) -> Result<Progress<A>, AllocError>
-        ensures { IfOk result (λ p. IsInRange p.buffer
-            × (view p ≡ record { rest = []; session = Fresh; at = 0; messages = 0; written = 0; balances = replicate nodes (pos 0) })) }
+        ensures { IfOk result (λ p. IsInRange p.buffer × (view p ≡ beginning nodes)) }
     {
         Ok(Progress {
             buffer: Buffer::new(alloc),

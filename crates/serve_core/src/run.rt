@@ -39,7 +39,8 @@ pub fn run_by<T: Rounds, S: Source, K: Sink, A: Allocator + Copy>(
         × Consumes (S.left source.old) (S.left source.new) got
         × Appends (K.held sink.old) (K.held sink.new) put
         × IsRun (T.answering answers.now) (T.nodes answers.now) turns (trace got put
-        (S.counts source.old) (S.counts source.new) (K.counts sink.old) (K.counts sink.new)) result }
+        (S.counts source.old) (S.counts source.new)
+        (K.counts sink.old) (K.counts sink.new)) result }
 {
     if turns == 0 {
         return Err(Stop::Turns);
