@@ -1,2 +1,5 @@
 pub mod Cutting
 pub mod Listed
+pub mod Plain
+pub mod Stepping
+pub mod Joining

@@ -1,2 +1,3 @@
 pub mod Marks
 pub mod Trees
+pub mod Laying

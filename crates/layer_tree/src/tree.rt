@@ -21,17 +21,21 @@ const MARKER: &[u8; 4] = b".wh.";
 /// What a run of layers shows and cuts.
 #[derive(Drop)]
 pub struct Tree<A: Allocator> {
-    entries: Branch<Entry, A>,
-    marks: Branch<Mark, A>,
+    pub(crate) entries: Branch<Entry, A>,
+    pub(crate) marks: Branch<Mark, A>,
 }
 
 impl<A: Allocator> Model for Tree<A> {
+    ghost use Rattle.std.specs.Prelude.{◌≡◌, false};
     ghost use Rattle.path_tree.specs.Rows.{whole};
     ghost use Rattle.layer_tree.specs.Trees.{TreeRows};
 
     ghost Value = { TreeRows };
 
     ghost view = { λ t. record { entries = whole t.entries; marks = whole t.marks } };
+
+    // no mark cuts the root
+    ghost invariant = { λ t. t.marks.value.cut ≡ false };
 }
 
 impl<A: Allocator> Tree<A> {
