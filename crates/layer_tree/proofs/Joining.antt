@@ -45,7 +45,7 @@ and_or : (p a b : Bool) → (p && (a || b)) ≡ ((p && a) || (p && b))
 and_or true a b = refl
 and_or false a b = refl
 
-or_true : (a b : Bool) → (a || b) ≡ true → (a ≡ true) ⊎ (b ≡ true)
+pub or_true : (a b : Bool) → (a || b) ≡ true → (a ≡ true) ⊎ (b ≡ true)
 or_true true b e = inl refl
 or_true false b e = inr e
 

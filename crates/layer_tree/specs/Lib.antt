@@ -1,3 +1,5 @@
 pub mod Marks
 pub mod Trees
 pub mod Laying
+pub mod Members
+pub mod Reading
