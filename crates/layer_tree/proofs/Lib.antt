@@ -7,3 +7,6 @@ pub mod ByName
 pub mod Layered
 pub mod Building
 pub mod Folding
+pub mod Agreeing
+pub mod Directories
+pub mod Children

@@ -3,3 +3,4 @@ pub mod Trees
 pub mod Laying
 pub mod Members
 pub mod Reading
+pub mod Merging
