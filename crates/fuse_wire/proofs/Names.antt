@@ -5,7 +5,7 @@ use Rattle.std.specs.Option.{option_map}
 use Rattle.std.proofs.lemmas.Bool.{cases_lt}
 use Rattle.std.proofs.lemmas.Bool.Decides.{nat_tests}
 use Rattle.std.proofs.lemmas.List.{drop_all, length-take-le}
-use Rattle.fuse_wire.specs.Requests.{cut_at_zero, name_of}
+use Rattle.fuse_wire.specs.Requests.{cut_at_zero, body_name}
 
 -- how many bytes stand before the first zero byte
 abbrev before : List ℕ → ℕ
@@ -33,12 +33,12 @@ uncut : (body : List ℕ) → length body ≤ before body → cut_at_zero body �
 uncut [] h = refl
 uncut (b ∷ body) h = uncut_step b body (b == 0) h (uncut body)
 
-name_whole : (xs ys : List ℕ) → 0 < length xs → ys ≡ [] → name_of (Some (xs, ys)) ≡ Some xs
+name_whole : (xs ys : List ℕ) → 0 < length xs → ys ≡ [] → body_name (Some (xs, ys)) ≡ Some xs
 name_whole [] ys h e = absurd (omega arith)
 name_whole (b ∷ xs) [] h e = refl
 name_whole (b ∷ xs) (y ∷ ys) h e = cc
 
-unnamed : (xs ys : List ℕ) → 0 < length ys → name_of (Some (xs, ys)) ≡ None
+unnamed : (xs ys : List ℕ) → 0 < length ys → body_name (Some (xs, ys)) ≡ None
 unnamed [] ys h = refl
 unnamed (b ∷ xs) [] h = absurd (omega arith)
 unnamed (b ∷ xs) (y ∷ ys) h = refl
@@ -62,27 +62,27 @@ cut_found body i e =
     (omega (arith, f.0, f.1), at i f.0)
 
 -- the only zero byte is the last, and not the first
-pub name_found : (body : List ℕ) (i : ℕ) → position (λ byte. byte == 0) body ≡ Some i → 0 < i → i + 1 ≡ length body → Some (take i body) ≡ name_of (cut_at_zero body)
+pub name_found : (body : List ℕ) (i : ℕ) → position (λ byte. byte == 0) body ≡ Some i → 0 < i → i + 1 ≡ length body → Some (take i body) ≡ body_name (cut_at_zero body)
 name_found body i e some last =
     let f = cut_found body i e in
     let t : length (take i body) ≡ i = length-take-le i body (omega (arith, f.0)) in
-    sym (ap name_of f.1 ∙ name_whole (take i body) (drop (i + 1) body) (omega arith) (drop_all (i + 1) body (omega arith)))
+    sym (ap body_name f.1 ∙ name_whole (take i body) (drop (i + 1) body) (omega arith) (drop_all (i + 1) body (omega arith)))
 
 -- bytes stand behind the first zero byte
-pub name_more : (body : List ℕ) (i : ℕ) → position (λ byte. byte == 0) body ≡ Some i → i + 1 ≢ length body → None ≡ name_of (cut_at_zero body)
+pub name_more : (body : List ℕ) (i : ℕ) → position (λ byte. byte == 0) body ≡ Some i → i + 1 ≢ length body → None ≡ body_name (cut_at_zero body)
 name_more body i e more =
     let f = cut_found body i e in
-    sym (ap name_of f.1 ∙ unnamed (take i body) (drop (i + 1) body) (let l = length-drop (i + 1) body in omega (arith, f.0)))
+    sym (ap body_name f.1 ∙ unnamed (take i body) (drop (i + 1) body) (let l = length-drop (i + 1) body in omega (arith, f.0)))
 
 -- nothing stands before the first zero byte
-pub name_empty : (body : List ℕ) (i : ℕ) → position (λ byte. byte == 0) body ≡ Some i → i ≤ 0 → None ≡ name_of (cut_at_zero body)
+pub name_empty : (body : List ℕ) (i : ℕ) → position (λ byte. byte == 0) body ≡ Some i → i ≤ 0 → None ≡ body_name (cut_at_zero body)
 name_empty body i e none =
     let z : i ≡ 0 = omega arith in
     let f = cut_found body 0 (e ∙ ap (λ (v : ℕ). Some v) z) in
-    sym (ap name_of f.1)
+    sym (ap body_name f.1)
 
 -- there is no zero byte
-pub name_open : (body : List ℕ) → position (λ byte. byte == 0) body ≡ None → None ≡ name_of (cut_at_zero body)
-name_open body e = sym (ap name_of (uncut body (not_found (before body) (length body) e)))
+pub name_open : (body : List ℕ) → position (λ byte. byte == 0) body ≡ None → None ≡ body_name (cut_at_zero body)
+name_open body e = sym (ap body_name (uncut body (not_found (before body) (length body) e)))
 
 pub ruleset named = (name_found, name_more, name_empty, name_open)

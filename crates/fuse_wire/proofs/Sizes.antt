@@ -6,10 +6,10 @@ use Rattle.fuse_wire.specs.declared.errno.Errno.{Errno}
 use Rattle.fuse_wire.specs.declared.reply.Attr.{Attr}
 use Rattle.fuse_wire.specs.declared.reply.InitOut.TheVariants.{Version, Terms}
 use Rattle.fuse_wire.specs.Structures.{u16, u32, u64, zeros, init_out, init_out_22, init_out_rest, attr, entry_out, attr_out, open_out, statfs_out, dirent_size, dirent_front, dirent, direntplus}
-use Rattle.fuse_wire.specs.Replies.{head_of, reply_with, error_reply}
+use Rattle.fuse_wire.specs.Replies.{reply_head, reply_with, error_reply}
 
-pub length-head : (unique n : ℕ) → length (head_of unique n) ≡ 16
-unfolding head_of u32 u64
+pub length-head : (unique n : ℕ) → length (reply_head unique n) ≡ 16
+unfolding reply_head u32 u64
 length-head unique n = refl
 
 pub length-error_reply : (unique : ℕ) (errno : Errno) → length (error_reply unique errno) ≡ 16
@@ -18,7 +18,7 @@ length-error_reply unique errno = refl
 
 pub length-reply_with : (unique : ℕ) (bytes : List ℕ) → length (reply_with unique bytes) ≡ 16 + length bytes
 unfolding reply_with
-length-reply_with unique bytes = length-append (head_of unique (length bytes)) bytes ∙ ap (λ n. n + length bytes) (length-head unique (length bytes))
+length-reply_with unique bytes = length-append (reply_head unique (length bytes)) bytes ∙ ap (λ n. n + length bytes) (length-head unique (length bytes))
 
 -- INIT's reply has 24 bytes for clients of minor versions below 23, else 64
 pub length-version : length (init_out Version) ≡ 64

@@ -4,12 +4,12 @@ use Rattle.fuse_wire.specs.declared.errno.Errno.{Errno}
 use Rattle.fuse_wire.specs.Structures.{u32, u64, errno_number}
 
 -- len, which counts the header too, error, unique: the header of a reply with n bytes of data
-unfoldable pub head_of : ℕ → ℕ → List ℕ
-head_of unique n = u32 (16 + n) ++ u32 0 ++ u64 unique
+unfoldable pub reply_head : ℕ → ℕ → List ℕ
+reply_head unique n = u32 (16 + n) ++ u32 0 ++ u64 unique
 
 -- a reply with data
 unfoldable pub reply_with : ℕ → List ℕ → List ℕ
-reply_with unique bytes = head_of unique (length bytes) ++ bytes
+reply_with unique bytes = reply_head unique (length bytes) ++ bytes
 
 -- the reply of an error: a header alone, with the negated number
 unfoldable pub error_reply : ℕ → Errno → List ℕ

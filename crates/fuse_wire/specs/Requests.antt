@@ -31,12 +31,12 @@ cut_at_zero [] = None
 cut_at_zero (b ∷ bytes) = if b == 0 then Some ([], bytes) else option_map (λ cut. (b ∷ cut.0, cut.1)) (cut_at_zero bytes)
 
 -- a name is not empty, and its zero byte is the last of the body
-abbrev pub name_of : Option (List ℕ × List ℕ) → Option (List ℕ)
-name_of (Some (b ∷ name, [])) = Some (b ∷ name)
-name_of _ = None
+abbrev pub body_name : Option (List ℕ × List ℕ) → Option (List ℕ)
+body_name (Some (b ∷ name, [])) = Some (b ∷ name)
+body_name _ = None
 
 abbrev pub lookup_of : List ℕ → Op
-lookup_of body = option_map_or lookup (name_of (cut_at_zero body)) (malformed LOOKUP)
+lookup_of body = option_map_or lookup (body_name (cut_at_zero body)) (malformed LOOKUP)
 
 -- a body that holds a structure of n bytes; what follows it is ignored
 abbrev pub sized : ℕ → ℕ → (List ℕ → Op) → List ℕ → Op

@@ -118,12 +118,12 @@ dirent ino off file_type name = dirent_front ino off file_type name ++ name ++ p
 unfoldable pub direntplus : Option Attr → ℕ → ℕ → ℕ → List ℕ → List ℕ
 direntplus entry ino off file_type name = option_map_or entry_out entry (zeros 128) ++ dirent ino off file_type name
 
--- the same of a row
-abbrev pub front_of : Dirent → List ℕ
-front_of row = dirent_front row.ino row.off row.file_type row.name.now
+-- the same of a row as the code has it: its front, READDIR's, and READDIRPLUS's
+abbrev pub row_front : Dirent → List ℕ
+row_front row = dirent_front row.ino row.off row.file_type row.name.now
 
-abbrev pub dirent_of : Dirent → List ℕ
-dirent_of row = dirent row.ino row.off row.file_type row.name.now
+abbrev pub row_bytes : Dirent → List ℕ
+row_bytes row = dirent row.ino row.off row.file_type row.name.now
 
-abbrev pub direntplus_of : Option Attr → Dirent → List ℕ
-direntplus_of entry row = direntplus entry row.ino row.off row.file_type row.name.now
+abbrev pub plus_row_bytes : Option Attr → Dirent → List ℕ
+plus_row_bytes entry row = direntplus entry row.ino row.off row.file_type row.name.now

@@ -3,8 +3,9 @@
 
 ghost use Rattle.std.specs.Prelude.{◌≡◌, ◌+◌, ◌≤◌, ◌==◌, length, position};
 ghost use Rattle.std.specs.Option.{option_map};
+ghost use Rattle.fuse_wire.specs.declared.limits.TheConstants.{HEADER_SIZE, MAX_MESSAGE_SIZE};
 ghost use Rattle.fuse_wire.specs.Stream.{field};
-ghost use Rattle.fuse_wire.specs.Requests.{op_of, cut_at_zero, name_of, lookup_of};
+ghost use Rattle.fuse_wire.specs.Requests.{op_of, cut_at_zero, body_name, lookup_of};
 ghost use Rattle.fuse_wire.specs.Reads.{op_said};
 
 use crate::forget::Forgets;
@@ -33,7 +34,7 @@ const BATCH_FORGET_IN_SIZE: usize = 8;
 // What an opcode asks with this body.
 #[tactic(auto, unfolding(crate::specs::Requests::op_of))]
 pub fn read_op(opcode: u32, body: &[u8]) -> Op<'_>
-    requires { length body.now ≤ 1052632 }
+    requires { HEADER_SIZE + length body.now ≤ MAX_MESSAGE_SIZE }
     ensures { op_said result ≡ op_of opcode body.now }
 {
     match opcode {
@@ -135,7 +136,7 @@ fn read_lookup(body: &[u8]) -> Op<'_>
 // The name in a body, whose last byte is its only zero byte. A name is not empty.
 #[tactic(auto, using(crate::proofs::Names::named))]
 fn read_name(body: &[u8]) -> Option<&[u8]>
-    ensures { option_map (λ name. name.now) result ≡ name_of (cut_at_zero body.now) }
+    ensures { option_map (λ name. name.now) result ≡ body_name (cut_at_zero body.now) }
 {
     match first_zero(body) {
         Some(end) if 0 < end && end + 1 == body.len() => Some(&body[..end]),

@@ -1,7 +1,7 @@
 //! What a `FUSE_BATCH_FORGET` forgets.
 
-ghost use Rattle.std.specs.Prelude.{◌≡◌, ◌*◌, ◌/◌, ◌%◌, ◌≤◌, length, take, min};
-ghost use Rattle.fuse_wire.specs.declared.limits.TheConstants.{MAX_FORGETS};
+ghost use Rattle.std.specs.Prelude.{◌≡◌, ◌+◌, ◌*◌, ◌/◌, ◌%◌, ◌≤◌, length, take, min};
+ghost use Rattle.fuse_wire.specs.declared.limits.TheConstants.{HEADER_SIZE, MAX_MESSAGE_SIZE, MAX_FORGETS};
 
 use byteorder::{ByteOrder, LittleEndian};
 
@@ -55,7 +55,7 @@ impl<'a> Forgets<'a> {
     #[tactic(auto, unfolding(crate::specs::Requests::forgets_of), using(crate::proofs::Items::whole_items))]
     pub fn read(body: &'a [u8]) -> Self
         requires long { 8 ≤ length body.now }
-        requires short { length body.now ≤ 1052632 }
+        requires short { HEADER_SIZE + length body.now ≤ MAX_MESSAGE_SIZE }
         ensures { items_of result ≡ forgets_of body.now }
     {
         let count = LittleEndian::read_u32(body) as usize;

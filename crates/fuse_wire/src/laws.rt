@@ -11,7 +11,8 @@ ghost use Rattle.fuse_wire.specs.Laws.{BodySizes, ReplySizes, RowSizes};
 /// Every stream is cut into messages and a rest, in one way.
 #[tactic(auto, using(crate::proofs::Splits::one_split, crate::proofs::Splits::some_split))]
 pub fn one_split()
-    ensures some { (stream : List ℕ) → (ms : List (List ℕ)) × (rest : List ℕ) × IsSplit stream ms rest }
+    ensures some { (stream : List ℕ) → (ms : List (List ℕ)) × (rest : List ℕ)
+        × IsSplit stream ms rest }
     ensures once { (stream : List ℕ) (ms ns : List (List ℕ)) (r q : List ℕ) →
         IsSplit stream ms r → IsSplit stream ns q → (ms ≡ ns) × (r ≡ q) }
 {}
@@ -21,7 +22,8 @@ pub fn one_split()
 pub fn pieces_do_not_matter()
     ensures goes_on { (x y rest end : List ℕ) (ms ns : List (List ℕ)) →
         IsSplit x ms rest → IsSplit (rest ++ y) ns end → IsSplit (x ++ y) (ms ++ ns) end }
-    ensures stays_whole { (bytes y : List ℕ) (n : ℕ) → BeginsMessage bytes n → BeginsMessage (bytes ++ y) n }
+    ensures stays_whole { (bytes y : List ℕ) (n : ℕ) → BeginsMessage bytes n →
+        BeginsMessage (bytes ++ y) n }
     ensures stays_bad { (rest y : List ℕ) (n : ℕ) → IsBad rest n → IsBad (rest ++ y) n }
 {}
 
@@ -30,7 +32,8 @@ pub fn pieces_do_not_matter()
 pub fn frames_make_the_split()
     ensures once { (bytes : List ℕ) (f g : Framed) → Frames bytes f → Frames bytes g → f ≡ g }
     ensures first { (bytes rest : List ℕ) (n : ℕ) (ms : List (List ℕ)) →
-        BeginsMessage bytes n → IsSplit (drop n bytes) ms rest → IsSplit bytes (take n bytes ∷ ms) rest }
+        BeginsMessage bytes n → IsSplit (drop n bytes) ms rest →
+        IsSplit bytes (take n bytes ∷ ms) rest }
     ensures last { (bytes : List ℕ) → IsRest bytes → IsSplit bytes [] bytes }
 {}
 

@@ -3,8 +3,8 @@
 
 ghost use Rattle.std.specs.Prelude.{◌≡◌, ◌++◌, ◌<◌, ◌≤◌, ◌+◌, ◌-◌, ◌^◌, [], length};
 ghost use Rattle.std.specs.Option.{option_copied, option_map_or};
-ghost use Rattle.fuse_wire.specs.Structures.{zeros, init_out, entry_out, attr_out, open_out, statfs_out, dirent_size, padding, dirent_of, direntplus_of};
-ghost use Rattle.fuse_wire.specs.Replies.{head_of, reply_with, error_reply};
+ghost use Rattle.fuse_wire.specs.Structures.{zeros, init_out, entry_out, attr_out, open_out, statfs_out, dirent_size, padding, row_bytes, plus_row_bytes};
+ghost use Rattle.fuse_wire.specs.Replies.{reply_head, reply_with, error_reply};
 ghost use Rattle.fuse_wire.specs.Appends.{Appends};
 
 use crate::structure::Structure;
@@ -39,7 +39,7 @@ pub fn put_data_head<A: Allocator>(
     size: usize,
 ) -> Result<(), AllocError>
     requires { 16 + size < 2 ^ 32 }
-    ensures { Appends result out.old out.new (head_of unique size) }
+    ensures { Appends result out.old out.new (reply_head unique size) }
 {
     let mut reply = Structure::new();
     head(&mut reply, unique, size);
@@ -179,7 +179,7 @@ pub fn dirent_size(name_len: usize) -> usize
 #[tactic(auto, unfolding(crate::specs::Structures::dirent), using(crate::proofs::Sizes::sizes))]
 pub fn put_dirent<A: Allocator>(out: &mut Vec<u8, A>, row: &Dirent<'_>) -> Result<(), AllocError>
     requires { length row.now.name.now < 2 ^ 32 }
-    ensures { Appends result out.old out.new (dirent_of row.now) }
+    ensures { Appends result out.old out.new (row_bytes row.now) }
 {
     let mut front = Structure::new();
     dirent_front(&mut front, row);
@@ -195,7 +195,7 @@ pub fn put_direntplus<A: Allocator>(
     row: &Dirent<'_>,
 ) -> Result<(), AllocError>
     requires { length row.now.name.now < 2 ^ 32 }
-    ensures { Appends result out.old out.new (direntplus_of (option_copied entry.entry) row.now) }
+    ensures { Appends result out.old out.new (plus_row_bytes (option_copied entry.entry) row.now) }
 {
     let mut front = Structure::new();
     entry_or_zeros(&mut front, entry);

@@ -1,6 +1,7 @@
 //! A structure that is put together field by field, in the order of its declaration. Numbers are little-endian.
 
 ghost use Rattle.std.specs.Prelude.{◌≡◌, ◌+◌, ◌≤◌, ◌++◌, [], ℕ, List, length, take};
+ghost use Rattle.fuse_wire.specs.declared.structure.TheConstants.{ROOM};
 ghost use Rattle.fuse_wire.specs.Structures.{u16, u32, u64, zeros};
 
 use std::marker::Model;
@@ -20,7 +21,7 @@ impl Model for Structure {
 
     ghost view = { λ s. take s.len s.bytes };
 
-    ghost invariant = { λ s. s.len ≤ 152 };
+    ghost invariant = { λ s. s.len ≤ ROOM };
 }
 
 impl Structure {
@@ -37,7 +38,7 @@ impl Structure {
     // A number of 16 bits.
     #[tactic(auto, unfolding(crate::specs::Structures::u16))]
     pub fn u16(&mut self, number: u16)
-        requires { length self.old + 2 ≤ 152 }
+        requires { length self.old + 2 ≤ ROOM }
         ensures fields { self.new ≡ self.old ++ u16 number }
         ensures len { length self.new ≡ length self.old + 2 }
     {
@@ -47,7 +48,7 @@ impl Structure {
     // A number of 32 bits.
     #[tactic(auto, unfolding(crate::specs::Structures::u32))]
     pub fn u32(&mut self, number: u32)
-        requires { length self.old + 4 ≤ 152 }
+        requires { length self.old + 4 ≤ ROOM }
         ensures fields { self.new ≡ self.old ++ u32 number }
         ensures len { length self.new ≡ length self.old + 4 }
     {
@@ -57,7 +58,7 @@ impl Structure {
     // A number of 64 bits.
     #[tactic(auto, unfolding(crate::specs::Structures::u64))]
     pub fn u64(&mut self, number: u64)
-        requires { length self.old + 8 ≤ 152 }
+        requires { length self.old + 8 ≤ ROOM }
         ensures fields { self.new ≡ self.old ++ u64 number }
         ensures len { length self.new ≡ length self.old + 8 }
     {
@@ -67,7 +68,7 @@ impl Structure {
     // Fields that are not used.
     #[tactic(auto, unfolding(crate::specs::Structures::zeros))]
     pub fn zeros<const N: usize>(&mut self)
-        requires { length self.old + N ≤ 152 }
+        requires { length self.old + N ≤ ROOM }
         ensures fields { self.new ≡ self.old ++ zeros N }
         ensures len { length self.new ≡ length self.old + N }
     {
@@ -76,7 +77,7 @@ impl Structure {
 
     // Bytes of other fields.
     pub fn bytes(&mut self, bytes: &[u8])
-        requires { length self.old + length bytes.now ≤ 152 }
+        requires { length self.old + length bytes.now ≤ ROOM }
         ensures fields { self.new ≡ self.old ++ bytes.now }
         ensures len { length self.new ≡ length self.old + length bytes.now }
     {
@@ -88,7 +89,7 @@ impl Structure {
     // All bytes so far.
     pub fn as_slice(&self) -> &[u8]
         ensures fields { result.now ≡ self.now }
-        ensures most { length result.now ≤ 152 }
+        ensures most { length result.now ≤ ROOM }
     {
         &self.bytes[..self.len]
     }

@@ -1,8 +1,9 @@
 //! The structures of replies (linux/fuse.h), each put behind the fields that stand already, field by field in its order.
 
 ghost use Rattle.std.specs.Prelude.{◌≡◌, ◌++◌, ◌<◌, ◌≤◌, ◌+◌, ◌^◌, length};
-ghost use Rattle.fuse_wire.specs.Structures.{init_out, init_out_22, init_out_rest, max_pages, attr, entry_out, attr_out, open_out, statfs_out, front_of};
-ghost use Rattle.fuse_wire.specs.Replies.{head_of, error_reply};
+ghost use Rattle.fuse_wire.specs.declared.structure.TheConstants.{ROOM};
+ghost use Rattle.fuse_wire.specs.Structures.{init_out, init_out_22, init_out_rest, max_pages, attr, entry_out, attr_out, open_out, statfs_out, row_front};
+ghost use Rattle.fuse_wire.specs.Replies.{reply_head, error_reply};
 
 use crate::limits::{MAX_DATA_SIZE, MAX_NAME_SIZE};
 use crate::structure::Structure;
@@ -63,11 +64,11 @@ const BLOCK_SIZE: u32 = 4_096;
 const STATFS_BLOCK_SIZE: u32 = 512;
 
 // `struct fuse_out_header` of a reply without an error and with `size` bytes of data.
-#[tactic(auto, unfolding(crate::specs::Replies::head_of), using(std::proofs::lemmas::Grind::common_steps))]
+#[tactic(auto, unfolding(crate::specs::Replies::reply_head), using(std::proofs::lemmas::Grind::common_steps))]
 pub fn head(fields: &mut Structure, unique: u64, size: usize)
-    requires room { length fields.old + 16 ≤ 152 }
+    requires room { length fields.old + 16 ≤ ROOM }
     requires size { 16 + size < 2 ^ 32 }
-    ensures fields { fields.new ≡ fields.old ++ head_of unique size }
+    ensures fields { fields.new ≡ fields.old ++ reply_head unique size }
     ensures len { length fields.new ≡ length fields.old + 16 }
 {
     fields.u32((OUT_HEADER_SIZE + size) as u32); // len
@@ -78,7 +79,7 @@ pub fn head(fields: &mut Structure, unique: u64, size: usize)
 // The same of a reply with an error.
 #[tactic(auto, unfolding(crate::specs::Replies::error_reply), using(std::proofs::lemmas::Grind::common_steps))]
 pub fn error_head(fields: &mut Structure, unique: u64, errno: Errno)
-    requires { length fields.old + 16 ≤ 152 }
+    requires { length fields.old + 16 ≤ ROOM }
     ensures { fields.new ≡ fields.old ++ error_reply unique errno }
 {
     fields.u32(OUT_HEADER_SIZE as u32); // len
@@ -89,7 +90,7 @@ pub fn error_head(fields: &mut Structure, unique: u64, errno: Errno)
 // `struct fuse_init_out`, as far as the client knows it.
 #[tactic(auto, unfolding(crate::specs::Structures::init_out), using(std::proofs::lemmas::Grind::common_steps))]
 pub fn init_out(fields: &mut Structure, init: &InitOut)
-    requires { length fields.old + 64 ≤ 152 }
+    requires { length fields.old + 64 ≤ ROOM }
     ensures { fields.new ≡ fields.old ++ init_out init.now }
 {
     match *init {
@@ -114,7 +115,7 @@ pub fn init_out(fields: &mut Structure, init: &InitOut)
 // Its fields up to `max_write`.
 #[tactic(auto, unfolding(crate::specs::Structures::init_out_22), using(std::proofs::lemmas::Grind::common_steps))]
 fn init_out_22(fields: &mut Structure, max_readahead: u32, flags: u32)
-    requires { length fields.old + 24 ≤ 152 }
+    requires { length fields.old + 24 ≤ ROOM }
     ensures fields { fields.new ≡ fields.old ++ init_out_22 max_readahead flags }
     ensures len { length fields.new ≡ length fields.old + 24 }
 {
@@ -130,7 +131,7 @@ fn init_out_22(fields: &mut Structure, max_readahead: u32, flags: u32)
 // Its fields from `time_gran` on.
 #[tactic(auto, unfolding(crate::specs::Structures::init_out_rest), using(std::proofs::lemmas::Grind::common_steps))]
 fn init_out_rest(fields: &mut Structure, flags: u32)
-    requires { length fields.old + 40 ≤ 152 }
+    requires { length fields.old + 40 ≤ ROOM }
     ensures fields { fields.new ≡ fields.old ++ init_out_rest flags }
     ensures len { length fields.new ≡ length fields.old + 40 }
 {
@@ -155,7 +156,7 @@ fn max_pages(flags: u32) -> u16
 // `struct fuse_attr`. Owners and times are all 0.
 #[tactic(auto, unfolding(crate::specs::Structures::attr), using(std::proofs::lemmas::Grind::common_steps))]
 fn attr(fields: &mut Structure, node: &Attr)
-    requires { length fields.old + 88 ≤ 152 }
+    requires { length fields.old + 88 ≤ ROOM }
     ensures fields { fields.new ≡ fields.old ++ attr node.now }
     ensures len { length fields.new ≡ length fields.old + 88 }
 {
@@ -180,7 +181,7 @@ fn attr(fields: &mut Structure, node: &Attr)
 // `struct fuse_entry_out`.
 #[tactic(auto, unfolding(crate::specs::Structures::entry_out), using(std::proofs::lemmas::Grind::common_steps))]
 pub fn entry_out(fields: &mut Structure, node: &Attr)
-    requires { length fields.old + 128 ≤ 152 }
+    requires { length fields.old + 128 ≤ ROOM }
     ensures { fields.new ≡ fields.old ++ entry_out node.now }
 {
     fields.u64(node.ino); // nodeid
@@ -195,7 +196,7 @@ pub fn entry_out(fields: &mut Structure, node: &Attr)
 // `struct fuse_attr_out`.
 #[tactic(auto, unfolding(crate::specs::Structures::attr_out), using(std::proofs::lemmas::Grind::common_steps))]
 pub fn attr_out(fields: &mut Structure, node: &Attr)
-    requires { length fields.old + 104 ≤ 152 }
+    requires { length fields.old + 104 ≤ ROOM }
     ensures { fields.new ≡ fields.old ++ attr_out node.now }
 {
     fields.u64(VALID_SECONDS); // attr_valid
@@ -207,7 +208,7 @@ pub fn attr_out(fields: &mut Structure, node: &Attr)
 // `struct fuse_open_out`.
 #[tactic(auto, unfolding(crate::specs::Structures::open_out), using(std::proofs::lemmas::Grind::common_steps))]
 pub fn open_out(fields: &mut Structure, open_flags: u32)
-    requires { length fields.old + 16 ≤ 152 }
+    requires { length fields.old + 16 ≤ ROOM }
     ensures { fields.new ≡ fields.old ++ open_out open_flags }
 {
     fields.u64(0); // fh
@@ -218,7 +219,7 @@ pub fn open_out(fields: &mut Structure, open_flags: u32)
 // `struct fuse_statfs_out`, which holds a `struct fuse_kstatfs`.
 #[tactic(auto, unfolding(crate::specs::Structures::statfs_out), using(std::proofs::lemmas::Grind::common_steps))]
 pub fn statfs_out(fields: &mut Structure, blocks: u64, files: u64)
-    requires { length fields.old + 80 ≤ 152 }
+    requires { length fields.old + 80 ≤ ROOM }
     ensures { fields.new ≡ fields.old ++ statfs_out blocks files }
 {
     fields.u64(blocks);
@@ -236,9 +237,9 @@ pub fn statfs_out(fields: &mut Structure, blocks: u64, files: u64)
 // `struct fuse_dirent` up to its name.
 #[tactic(auto, unfolding(crate::specs::Structures::dirent_front), using(std::proofs::lemmas::Grind::common_steps))]
 pub fn dirent_front(fields: &mut Structure, row: &Dirent<'_>)
-    requires room { length fields.old + 24 ≤ 152 }
+    requires room { length fields.old + 24 ≤ ROOM }
     requires named { length row.now.name.now < 2 ^ 32 }
-    ensures { fields.new ≡ fields.old ++ front_of row.now }
+    ensures { fields.new ≡ fields.old ++ row_front row.now }
 {
     fields.u64(row.ino);
     fields.u64(row.off);

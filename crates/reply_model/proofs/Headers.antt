@@ -5,7 +5,7 @@ use Rattle.std.specs.Option.{option_map_or}
 use Rattle.fuse_wire.specs.declared.errno.Errno.{Errno}
 use Rattle.fuse_wire.specs.Requests.{Asked}
 use Rattle.fuse_wire.specs.Structures.{u32, u64, errno_number}
-use Rattle.fuse_wire.specs.Replies.{head_of, reply_with, error_reply}
+use Rattle.fuse_wire.specs.Replies.{reply_head, reply_with, error_reply}
 use Rattle.stack_model.specs.Listing.{Entry}
 use Rattle.reply_model.specs.declared.session.Session.{Session}
 use Rattle.reply_model.specs.Sessions.{is_exported}
@@ -28,7 +28,7 @@ length-header n e unique bytes =
     ∙ (let a = length-u32 n in let b = length-u32 e in let c = length-u64 unique in omega arith)
 
 with_data : (unique : ℕ) (bytes : List ℕ) → IsReplyTo unique (reply_with unique bytes)
-unfolding reply_with head_of
+unfolding reply_with reply_head
 with_data unique bytes = record { error = 0; rest = bytes; is = ap (λ n. u32 n ++ u32 0 ++ u64 unique ++ bytes) (sym (length-header (16 + length bytes) 0 unique bytes)) }
 
 with_error : (unique : ℕ) (errno : Errno) → IsReplyTo unique (error_reply unique errno)

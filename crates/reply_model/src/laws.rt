@@ -27,30 +27,38 @@ pub fn replies_are_headed()
 /// begins with is its length itself, whole in its 32 bits.
 #[tactic(auto, using(crate::proofs::Lengths::short, crate::proofs::Lengths::said))]
 pub fn replies_are_short()
-    ensures short { (bs : List (List ℕ)) (entries : List Entry) → All IsSound bs → IsListing (map image bs) entries →
+    ensures short { (bs : List (List ℕ)) (entries : List Entry) → All IsSound bs →
+        IsListing (map image bs) entries →
         (s : Session) (q : Asked) → length (reply (map image bs) entries s q) ≤ 1048592 }
-    ensures said { (bs : List (List ℕ)) (entries : List Entry) → All IsSound bs → IsListing (map image bs) entries →
+    ensures said { (bs : List (List ℕ)) (entries : List Entry) → All IsSound bs →
+        IsListing (map image bs) entries →
         (s : Session) (q : Asked) → (reply (map image bs) entries s q ≡ [])
-        ⊎ (said_length (reply (map image bs) entries s q) ≡ length (reply (map image bs) entries s q)) }
+        ⊎ (said_length (reply (map image bs) entries s q)
+        ≡ length (reply (map image bs) entries s q)) }
 {}
 
 /// The rows that fit in a size are the first ones, whole, and as many as fit.
 #[tactic(auto, using(crate::proofs::Fronts::front))]
 pub fn fitting_rows_are_the_first()
-    ensures { (form : Row → List ℕ) (room : ℕ) (rows : List Row) → IsFront form room rows (fitting form room rows) }
+    ensures { (form : Row → List ℕ) (room : ℕ) (rows : List Row) →
+        IsFront form room rows (fitting form room rows) }
 {}
 
 /// A lookup is given exactly where an entry is answered: LOOKUP gives one of the node whose entry its reply holds, and
 /// READDIRPLUS one of the node of each row in its reply but `.` and `..`; where they are answered an error, nothing.
 #[tactic(auto, using(crate::proofs::Given::given))]
 pub fn entries_are_given()
-    ensures lookup { (layers : List (List ℕ)) (entries : List Entry) (s : Session) (unique node : ℕ) (name : List ℕ) →
+    ensures lookup { (layers : List (List ℕ)) (entries : List Entry) (s : Session)
+        (unique node : ℕ) (name : List ℕ) →
         GivesEntry layers entries s (record { unique = unique; node = node; op = lookup name }) }
-    ensures readdirplus { (layers : List (List ℕ)) (entries : List Entry) (s : Session) (unique node offset size : ℕ) →
-        GivesRows layers entries s (record { unique = unique; node = node; op = readdirplus offset size }) }
+    ensures readdirplus { (layers : List (List ℕ)) (entries : List Entry) (s : Session)
+        (unique node offset size : ℕ) →
+        GivesRows layers entries s
+        (record { unique = unique; node = node; op = readdirplus offset size }) }
     ensures others { (layers : List (List ℕ)) (entries : List Entry) (s : Session) (q : Asked) →
         is_moving q.op ≡ false → moves layers entries s q ≡ [] }
-    ensures fresh { (layers : List (List ℕ)) (entries : List Entry) (q : Asked) → moves layers entries Fresh q ≡ [] }
+    ensures fresh { (layers : List (List ℕ)) (entries : List Entry) (q : Asked) →
+        moves layers entries Fresh q ≡ [] }
 {}
 
 /// Requests may be taken in parts: their replies and moves are those of the parts, the session carried along, and a
@@ -58,17 +66,21 @@ pub fn entries_are_given()
 #[tactic(auto, using(crate::proofs::Balances::parts))]
 pub fn parts_of_a_stream_add_up()
     ensures replies { (answered : Session → Asked → List ℕ) (s : Session) (qs rs : List Asked) →
-        replies_by answered s (qs ++ rs) ≡ replies_by answered s qs ++ replies_by answered (session_at s qs) rs }
+        replies_by answered s (qs ++ rs)
+        ≡ replies_by answered s qs ++ replies_by answered (session_at s qs) rs }
     ensures moves { (moved : Session → Asked → List Move) (s : Session) (qs rs : List Asked) →
         moves_by moved s (qs ++ rs) ≡ moves_by moved s qs ++ moves_by moved (session_at s qs) rs }
-    ensures sum { (node : ℕ) (ms ns : List Move) → balance node (ms ++ ns) ≡ balance node ms +ℤ balance node ns }
+    ensures sum { (node : ℕ) (ms ns : List Move) →
+        balance node (ms ++ ns) ≡ balance node ms +ℤ balance node ns }
 {}
 
 /// A DESTROY leaves all balances.
 #[tactic(auto, using(crate::proofs::Given::destroy_leaves))]
 pub fn destroy_leaves_balances()
-    ensures { (layers : List (List ℕ)) (entries : List Entry) (s : Session) (qs : List Asked) (unique node n : ℕ) →
-        balance n (moves_by (moves layers entries) s (qs ++ record { unique = unique; node = node; op = destroy } ∷ []))
+    ensures { (layers : List (List ℕ)) (entries : List Entry) (s : Session)
+        (qs : List Asked) (unique node n : ℕ) →
+        balance n (moves_by (moves layers entries) s
+        (qs ++ record { unique = unique; node = node; op = destroy } ∷ []))
         ≡ balance n (moves_by (moves layers entries) s qs) }
 {}
 
@@ -77,5 +89,6 @@ pub fn destroy_leaves_balances()
 pub fn attributes_fit_their_fields()
     ensures fields { (layers : List (List ℕ)) (entries : List Entry) (p : Place) →
         AreBytes layers → FitsFields (attr_of layers entries p) }
-    ensures numbers { (entries : List Entry) (p : Place) → number entries p ≤ length (nodes entries) }
+    ensures numbers { (entries : List Entry) (p : Place) →
+        number entries p ≤ length (nodes entries) }
 {}

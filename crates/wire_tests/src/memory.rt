@@ -1,0 +1,91 @@
+//! Each writer with its request for memory refused: what stood before is unchanged, and the next call goes through.
+
+use fuse_wire::{
+    Attr, Dirent, Errno, InitOut, put_attr, put_data, put_data_head, put_dirent, put_direntplus,
+    put_entry, put_error, put_head, put_init, put_open, put_statfs,
+};
+use refusing::Refusing;
+use std::alloc::{AllocError, Allocator};
+use std::test::Fail;
+
+const NODE: Attr = Attr {
+    ino: 2,
+    size: 2,
+    blocks: 1,
+    mode: 0x81a4,
+    nlink: 1,
+    rdev: 0,
+};
+
+const OLDER: InitOut = InitOut::Terms {
+    minor: 22,
+    max_readahead: 131_072,
+    flags: 1,
+};
+
+fn put_reply<A: Allocator>(writer: u8, out: &mut Vec<u8, A>) -> Result<(), AllocError> {
+    match writer {
+        0 => put_head(out, 1),
+        1 => put_error(out, 1, Errno::EIO),
+        2 => put_data(out, 1, b"data"),
+        3 => put_init(out, 1, &InitOut::Version),
+        4 => put_init(out, 1, &OLDER),
+        5 => put_entry(out, 1, &NODE),
+        6 => put_attr(out, 1, &NODE),
+        7 => put_open(out, 1, 0),
+        _ => put_statfs(out, 1, 11, 6),
+    }
+}
+
+fn put_row<A: Allocator>(writer: u8, out: &mut Vec<u8, A>) -> Result<(), AllocError> {
+    let row = Dirent {
+        ino: 2,
+        off: 3,
+        file_type: 8,
+        name: b"big",
+    };
+    match writer {
+        9 => put_data_head(out, 1, 32),
+        10 => put_dirent(out, &row),
+        11 => put_direntplus(out, None, &row),
+        _ => put_direntplus(out, Some(&NODE), &row),
+    }
+}
+
+fn put_one<A: Allocator>(writer: u8, out: &mut Vec<u8, A>) -> Result<(), AllocError> {
+    if writer < 9 {
+        put_reply(writer, out)
+    } else {
+        put_row(writer, out)
+    }
+}
+
+#[test]
+fn a_refused_writer_appends_nothing(rt: HostRuntime) -> Result<(), Fail> {
+    for (writer, whole) in [
+        (0, 20),
+        (1, 20),
+        (2, 24),
+        (3, 84),
+        (4, 44),
+        (5, 148),
+        (6, 124),
+        (7, 36),
+        (8, 100),
+        (9, 20),
+        (10, 36),
+        (11, 164),
+        (12, 164),
+    ] {
+        let refusing = Refusing::new(rt.alloc(), 2);
+        let mut out = Vec::new(&refusing);
+        out.extend_from_slice(b"kept")?;
+        assert!(rt; put_one(writer, &mut out).is_err(), "writer {writer}");
+        assert!(rt; refusing.refused());
+        assert_eq!(rt; out.as_slice(), b"kept".as_slice());
+        put_one(writer, &mut out)?;
+        assert_eq!(rt; out.len(), whole);
+        assert_eq!(rt; refusing.requests(), 3, "one request a reply");
+    }
+    Ok(())
+}
