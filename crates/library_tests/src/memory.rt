@@ -1,7 +1,7 @@
 //! Each request for memory is refused in turn: what a call answers, and what it leaves.
 
 use flat_server::{First, first};
-use fuse_wire::{Attr, Errno, InitOut, put_attr, put_entry, put_error, put_head, put_init};
+use flat_wire::{Attr, Errno, InitOut, put_attr, put_entry, put_error, put_head, put_init};
 use romfs_image::sample::BuildFault;
 use romfs_image::{CheckFault, Image};
 use std::alloc::{AllocError, Allocator, Global};

@@ -3,3 +3,4 @@ pub mod Rounding
 pub mod Traces
 pub mod Runs
 pub mod Ends
+pub mod Checked

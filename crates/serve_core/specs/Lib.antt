@@ -2,3 +2,4 @@ pub mod Serving
 pub mod Steps
 pub mod Buffers
 pub mod Laws
+pub mod Preparing

@@ -15,6 +15,7 @@
 mod buffer;
 pub mod done;
 pub mod laws;
+mod checking;
 mod progress;
 mod rounds_on;
 mod run;

@@ -1,0 +1,10 @@
+pub mod RootFiles
+pub mod Members
+pub mod Listed
+pub mod Numbered
+pub mod Nodes
+pub mod Answering
+pub mod Ordered
+pub mod Searched
+pub mod Served
+pub mod Endings

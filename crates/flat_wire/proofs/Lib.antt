@@ -1,0 +1,4 @@
+pub mod Splits
+pub mod Begins
+pub mod Flags
+pub mod Names

@@ -1,0 +1,11 @@
+-- linux/fuse.h, fuse_in_header.len: what some bytes of a stream begin with.
+use Rattle.std.specs.Prelude.{ℕ, List}
+use Rattle.flat_wire.specs.declared.framing.Framed.{Framed}
+use Rattle.flat_wire.specs.declared.framing.Framed.TheVariants.{More, Bad, Whole}
+use Rattle.flat_wire.specs.Stream.{BeginsMessage, IsBad, IsOpen}
+
+-- the bytes begin with a message, or say a length that no message has, or are open. One of these holds, and in one way
+abbrev pub Frames : List ℕ → Framed → Type 0
+Frames bytes (Whole n) = BeginsMessage bytes n
+Frames bytes (Bad n) = IsBad bytes n
+Frames bytes More = IsOpen bytes

@@ -1,0 +1,38 @@
+//! Error numbers.
+
+ghost use Rattle.std.specs.Prelude.{◌≡◌};
+ghost use Rattle.flat_wire.specs.Structures.{errno_number};
+
+/// What a reply's error field may say, negated (Linux's asm-generic/errno.h).
+#[derive(Clone, Copy, Debug, PartialEq, Eq)]
+pub enum Errno {
+    /// No such entry, 2.
+    ENOENT = 2,
+    /// The session does not allow it, 5.
+    EIO = 5,
+    /// Not a directory, 20.
+    ENOTDIR = 20,
+    /// A directory, 21.
+    EISDIR = 21,
+    /// A request that cannot be meant, 22.
+    EINVAL = 22,
+    /// The tree is read-only, 30.
+    EROFS = 30,
+    /// A name above 255 bytes, 36.
+    ENAMETOOLONG = 36,
+    /// A request that is not served, 38.
+    ENOSYS = 38,
+    /// A protocol version that is not spoken, 71.
+    EPROTO = 71,
+    /// A node number that is not in use, 116.
+    ESTALE = 116,
+}
+
+impl Errno {
+    /// The number that Linux gives to the error.
+    pub fn number(self) -> u32
+        ensures { result ≡ errno_number self }
+    {
+        self as u32
+    }
+}

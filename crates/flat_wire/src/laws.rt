@@ -1,0 +1,29 @@
+//! What holds of every stream, by the definitions alone.
+
+ghost use Rattle.std.specs.Prelude.{◌≡◌, ◌++◌, ◌∷◌, [], ℕ, List, take, drop};
+ghost use Rattle.flat_wire.specs.declared.framing.Framed.{Framed};
+ghost use Rattle.flat_wire.specs.Frames.{Frames};
+ghost use Rattle.flat_wire.specs.Stream.{BeginsMessage, IsBad, IsRest, IsSplit};
+
+/// Every stream is cut into messages and a rest, in one way.
+#[tactic(auto, using(crate::proofs::Splits::one_split, crate::proofs::Splits::some_split))]
+pub fn one_split()
+    ensures some { (stream : List ℕ) → (ms : List (List ℕ)) × (rest : List ℕ) × IsSplit stream ms rest }
+    ensures once { (stream : List ℕ) (ms ns : List (List ℕ)) (r q : List ℕ) → IsSplit stream ms r → IsSplit stream ns q → (ms ≡ ns) × (r ≡ q) }
+{}
+
+/// A stream may be cut piece by piece: what a piece leaves over goes before the next one, and a bad length stays bad.
+#[tactic(auto, using(crate::proofs::Splits::split_goes_on, crate::proofs::Splits::bad_stays, crate::proofs::Begins::whole_stays))]
+pub fn pieces_do_not_matter()
+    ensures goes_on { (x y rest end : List ℕ) (ms ns : List (List ℕ)) → IsSplit x ms rest → IsSplit (rest ++ y) ns end → IsSplit (x ++ y) (ms ++ ns) end }
+    ensures stays_whole { (bytes y : List ℕ) (n : ℕ) → BeginsMessage bytes n → BeginsMessage (bytes ++ y) n }
+    ensures stays_bad { (rest y : List ℕ) (n : ℕ) → IsBad rest n → IsBad (rest ++ y) n }
+{}
+
+/// Bytes frame in one way, and the frames of a stream, one after another, are its split.
+#[tactic(auto, using(crate::proofs::Begins::one_frame, crate::proofs::Begins::split_first, crate::proofs::Begins::split_none))]
+pub fn frames_make_the_split()
+    ensures once { (bytes : List ℕ) (f g : Framed) → Frames bytes f → Frames bytes g → f ≡ g }
+    ensures first { (bytes rest : List ℕ) (n : ℕ) (ms : List (List ℕ)) → BeginsMessage bytes n → IsSplit (drop n bytes) ms rest → IsSplit bytes (take n bytes ∷ ms) rest }
+    ensures last { (bytes : List ℕ) → IsRest bytes → IsSplit bytes [] bytes }
+{}

@@ -1,0 +1,45 @@
+//! What replies say.
+
+/// A node's attributes (linux/fuse.h, `struct fuse_attr`); the fields that are left out are the same in
+/// every reply.
+#[derive(Clone, Copy, Debug, PartialEq, Eq)]
+pub struct Attr {
+    /// The node's number.
+    pub ino: u64,
+    /// Bytes of data.
+    pub size: u64,
+    /// The same in blocks of 512 bytes, rounded up.
+    pub blocks: u64,
+    /// Type and permissions, as `st_mode` has them.
+    pub mode: u32,
+    /// How many names the node has.
+    pub nlink: u32,
+    /// A device's numbers, else 0.
+    pub rdev: u32,
+}
+
+/// A row of a directory (linux/fuse.h, `struct fuse_dirent`).
+#[derive(Clone, Copy, Debug)]
+pub struct Dirent<'a> {
+    /// The node's number.
+    pub ino: u64,
+    /// The row's place in its directory, from 1 on.
+    pub off: u64,
+    /// The mode of the node, shifted right by 12.
+    pub file_type: u32,
+    pub name: &'a [u8],
+}
+
+/// What an INIT that is not refused is answered (linux/fuse.h, `struct fuse_init_out`).
+#[derive(Clone, Copy, Debug, PartialEq, Eq)]
+pub enum InitOut {
+    /// The version alone, for a client of a later major version.
+    Version,
+    /// The session's terms, from what the client asked for.
+    Terms {
+        /// The client's limit of bytes that it reads ahead.
+        max_readahead: u32,
+        /// The client's flags.
+        flags: u32,
+    },
+}
