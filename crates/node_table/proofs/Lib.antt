@@ -1,2 +1,11 @@
 pub mod Names
 pub mod Nodes
+pub mod Paths
+pub mod Walking
+pub mod Counting
+pub mod Built
+pub mod Seeded
+pub mod Shown
+pub mod Planted
+pub mod Completed
+pub mod Made

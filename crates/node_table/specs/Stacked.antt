@@ -1,5 +1,5 @@
 -- What a table stands for: a stack of layers, and the paths that it shows.
-use Rattle.std.specs.Prelude.{ℕ, List, refl}
+use Rattle.std.specs.Prelude.{◌≡◌, ℕ, List, refl}
 use Rattle.std.specs.Coded.{Coded, Coded-set, code_by, coded×, coded_ℕ, coded_list}
 use mathlib.Core.HLevel.{Σ_prop_path}
 use mathlib.Core.Logic.{∥∥₁_elim, ∥∥₁_prop}
@@ -10,6 +10,11 @@ use Rattle.stack_model.proofs.Listings.{one_listing}
 pub record Stacked : Type 0 where
   pub layers : List (List ℕ)
   pub entries : List Entry
+
+-- the stack of these layers
+pub record IsTableOf (layers : List (List ℕ)) (stack : Stacked) : Type 0 where
+  pub layers_are : stack.layers ≡ layers
+  pub listing : IsListing stack.layers stack.entries
 
 -- a listing of the layers
 abbrev pub Listed : List (List ℕ) → Type 0

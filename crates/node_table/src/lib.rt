@@ -19,10 +19,14 @@
 //! The crate stands on `layer_tree` for the tree of a stack, on `romfs_image` for its images, and on `rayon`.
 #![tactic(auto)]
 
+mod building;
+mod completing;
 mod lookup;
 mod node;
+mod numbering;
 mod row;
 mod table;
+mod walk;
 
 pub use layer_tree::Place;
 pub use node::{Attr, Node};

@@ -36,4 +36,4 @@ pub struct Node {
     pub(crate) rows_end: usize,
 }
 
-const _: () = prove!(size_of::<Node>() <= 88);
+const _: () = prove!(size_of::<Node>() <= 80);

@@ -1,6 +1,6 @@
 //! A child of a directory.
 
-use std::alloc::Allocator;
+use std::alloc::{Allocator, Global};
 use std::marker::Model;
 
 /// A child of a directory: its number, and its name there.
@@ -17,3 +17,5 @@ impl<A: Allocator> Model for Row<A> {
 
     ghost view = { λ row. record { number = row.number; name = row.name.items } };
 }
+
+const _: () = prove!(size_of::<Row<Global>>() <= 48);

@@ -1,18 +1,28 @@
 //! The table of a stack.
 
-ghost use Rattle.std.specs.Prelude.{◌≡◌, length};
+ghost use Rattle.std.specs.Prelude.{◌≡◌, ◌≤◌, length, IfOk};
+ghost use Rattle.std.specs.List.{AllByRecursion};
+ghost use Rattle.romfs_image.specs.Images.{IsImage};
+ghost use Rattle.layer_tree.specs.Trees.{IsTreeOf};
 ghost use Rattle.stack_model.specs.Listing.{IsListing};
 ghost use Rattle.stack_model.specs.Numbers.{nodes};
 ghost use Rattle.stack_model.specs.Attributes.{blocks_all};
-ghost use Rattle.node_table.specs.Stacked.{Listed, listed_once};
+ghost use Rattle.node_table.specs.Stacked.{Listed, listed_once, IsTableOf};
+ghost use Rattle.node_table.specs.Seeds.{AreMade};
 ghost use Rattle.node_table.specs.Readers.{TellsNode, attr_at, parent_at, child_at, rows_at, data_at};
 
+use crate::building::make;
+use crate::completing::{blocks_of, complete_all};
 use crate::lookup::{attr_of, node_at, number_named, rows_of};
 use crate::node::{Attr, Node};
+use crate::numbering::number_places;
 use crate::row::Row;
+use crate::walk::walk;
+use layer_tree::Tree;
 use romfs_image::{Image, Kind};
-use std::alloc::Allocator;
+use std::alloc::{AllocError, Allocator};
 use std::marker::Model;
+use std::thread::Threads;
 
 /// The nodes of a stack of layers, by number: attributes, rows and data.
 ///
@@ -36,6 +46,50 @@ impl<A: Allocator> Model for Table<A> {
     ghost view = { λ held. record { layers = held.images.items; entries = held.listing.0 } };
 
     ghost invariant = { λ held. IsTable held.images.items held.listing.0 held.nodes.items held.rows.items held.blocks };
+}
+
+impl<A: Allocator + Copy> Table<A> {
+    /// The table of a stack of images, from its tree. The images are the layers, the lowest first.
+    ///
+    /// It takes n log n steps in the paths that the stack shows. Attributes are worked out in several threads where
+    /// there are many. An error comes only where memory was refused.
+    pub fn of<R: Threads + Sync>(
+        rt: &R,
+        alloc: A,
+        tree: Tree<A>,
+        images: Vec<Image<A>, A>,
+    ) -> Result<Self, AllocError>
+        requires tree { IsTreeOf 0 images.items tree }
+        requires few { length images.items ≤ 128 }
+        ensures { IfOk result (λ table. IsTableOf images.items table) }
+    {
+        let blocks = blocks_of(&images);
+        let (mut nodes, rows) = nodes_and_rows(alloc, &tree, &images)?;
+        complete_all(rt, &mut nodes);
+        Ok(Table {
+            images,
+            nodes,
+            rows,
+            blocks,
+        })
+    }
+}
+
+// The nodes of a tree, but for what their headers say, and their rows.
+fn nodes_and_rows<A: Allocator + Copy>(
+    alloc: A,
+    tree: &Tree<A>,
+    images: &[Image<A>],
+) -> Result<(Vec<Node, A>, Vec<Row<A>, A>), AllocError>
+    requires tree { IsTreeOf 0 images.now tree.now }
+    requires sound { AllByRecursion IsImage images.now }
+    ensures { IfOk result (λ made. AreMade images.now made.0.items made.1.items) }
+{
+    let root = tree.root();
+    let mut spots = Vec::new(alloc);
+    walk(root, root.value(), &mut spots)?;
+    let numbered = number_places(alloc, &spots)?;
+    make(alloc, images, &numbered)
 }
 
 impl<A: Allocator> Table<A> {

@@ -1,0 +1,359 @@
+-- Places numbered one after another.
+use Rattle.std.proofs.Common.{◌≡◌, ◌≢◌, ◌∙◌, sym, ap, subst, ℕ, zero, suc, ◌+◌, ◌-◌, ◌^◌, ◌<◌, ◌≤◌, ◌⊎◌, inl, inr, List, [], ◌∷◌, ◌++◌, length, get_or, map, refl, arith, Bool, true, false, cond, Option, Some, None, IsSome, get_or-set_other, get_or-set_same, length-set}
+use Rattle.std.specs.Prelude.{slice_get, slice_index, slice_set, fold, nat_eq, min, count_by}
+use Rattle.std.specs.List.{list_any, position_from}
+use Rattle.std.specs.Ordering.{nat_cmp, is_eq}
+use Rattle.std.proofs.lemmas.Bool.{eqb-true, eq-eqb, and_parts}
+use Rattle.std.proofs.lemmas.Bool.Decides.{nat_tests}
+use Rattle.std.proofs.lemmas.List.Recursion.{is_count_by}
+use Rattle.stack_model.specs.Listing.{Entry as Listed, IsAmong}
+use Rattle.stack_model.specs.Numbers.{Place as ModelPlace, place, same_place, noted, nodes, number_of, node_of}
+use Rattle.stack_model.proofs.Numbering.{number_used, entries_numbered}
+use Rattle.layer_tree.specs.declared.place.Place.{Place}
+use Rattle.layer_tree.specs.declared.place.Entry.{Entry}
+use Rattle.node_table.specs.Readers.{placed}
+use Rattle.node_table.specs.Walks.{Spot}
+use Rattle.node_table.specs.Numbering.{key, one_more, place_of, bare, seen, paths_of, IsFirst, IsNumbered}
+
+pub same_itself : (p : ModelPlace) → same_place p p ≡ true
+same_itself p = rw (eq-eqb p.0 p.0 refl, eq-eqb p.1 p.1 refl) refl
+
+pub same_is : (p q : ModelPlace) → same_place p q ≡ true → p ≡ q
+same_is p q e =
+    let b = and_parts (nat_eq p.0 q.0) (nat_eq p.1 q.1) e in
+    let f = eqb-true p.0 q.0 b.0 in
+    let g = eqb-true p.1 q.1 b.1 in
+    ap (λ x. (x, p.1)) f ∙ ap (λ y. (q.0, y)) g
+
+pub same_or_other : (p q : ModelPlace) → ((p ≡ q) × (same_place p q ≡ true)) ⊎ (same_place p q ≡ false)
+same_or_other p q = go (same_place p q) refl
+  where
+    go : (b : Bool) → same_place p q ≡ b → ((p ≡ q) × (same_place p q ≡ true)) ⊎ (same_place p q ≡ false)
+    go true e = inl (same_is p q e, e)
+    go false e = inr e
+
+-- positions among places
+step : (n : ℕ) (t : ModelPlace → Bool) (q : ModelPlace) (qs : List ModelPlace) (b : Bool) → t q ≡ b → position_from t n (q ∷ qs) ≡ cond b (Some n) (position_from t (n + 1) qs)
+step n t q qs true e = rw e refl
+step n t q qs false e = rw e refl
+
+some_any : (n m : ℕ) (t : ModelPlace → Bool) (qs : List ModelPlace) → position_from t n qs ≡ Some m → list_any t qs ≡ true
+some_any n m t [] e = absurd (cc)
+some_any n m t (q ∷ qs) e = go (t q) refl (some_any (n + 1) m t qs)
+  where
+    go : (b : Bool) → t q ≡ b → (position_from t (n + 1) qs ≡ Some m → list_any t qs ≡ true) → list_any t (q ∷ qs) ≡ true
+    go true f later = rw f refl
+    go false f later = rw f (later (sym (step n t q qs false f) ∙ e))
+
+none_any : (n : ℕ) (t : ModelPlace → Bool) (qs : List ModelPlace) → position_from t n qs ≡ None → list_any t qs ≡ false
+none_any n t [] e = refl
+none_any n t (q ∷ qs) e = go (t q) refl (none_any (n + 1) t qs)
+  where
+    go : (b : Bool) → t q ≡ b → (position_from t (n + 1) qs ≡ None → list_any t qs ≡ false) → list_any t (q ∷ qs) ≡ false
+    go true f later = absurd (let z : Some n ≡ None = sym (step n t q qs true f) ∙ e in cc)
+    go false f later = rw f (later (sym (step n t q qs false f) ∙ e))
+
+last_here : (n : ℕ) (t : ModelPlace → Bool) (qs : List ModelPlace) (p : ModelPlace) → t p ≡ true → position_from t n qs ≡ None → position_from t n (qs ++ p ∷ []) ≡ Some (n + length qs)
+last_here n t [] p f e = step n t p [] true f ∙ ap Some (omega arith)
+last_here n t (q ∷ qs) p f e = go (t q) refl (last_here (n + 1) t qs p f)
+  where
+    go : (b : Bool) → t q ≡ b → (position_from t (n + 1) qs ≡ None → position_from t (n + 1) (qs ++ p ∷ []) ≡ Some (n + 1 + length qs)) → position_from t n (q ∷ qs ++ p ∷ []) ≡ Some (n + length (q ∷ qs))
+    go true g later = absurd (let z : Some n ≡ None = sym (step n t q qs true g) ∙ e in cc)
+    go false g later = step n t q (qs ++ p ∷ []) false g ∙ later (sym (step n t q qs false g) ∙ e) ∙ ap Some (omega arith)
+
+last_other : (n : ℕ) (t : ModelPlace → Bool) (qs : List ModelPlace) (p : ModelPlace) → t p ≡ false → position_from t n (qs ++ p ∷ []) ≡ position_from t n qs
+last_other n t [] p f = step n t p [] false f
+last_other n t (q ∷ qs) p f = ap (λ o. cond (t q) (Some n) o) (last_other (n + 1) t qs p f)
+
+fold_last : (ps qs : List ModelPlace) (p : ModelPlace) → fold noted ps (qs ++ p ∷ []) ≡ noted (fold noted ps qs) p
+fold_last ps [] p = refl
+fold_last ps (q ∷ qs) p = fold_last (noted ps q) qs p
+
+map_last : (es : List Listed) (e : Listed) → map place (es ++ e ∷ []) ≡ map place es ++ place e ∷ []
+map_last [] e = refl
+map_last (f ∷ es) e = ap (λ r. place f ∷ r) (map_last es e)
+
+nodes_last : (es : List Listed) (e : Listed) → nodes (es ++ e ∷ []) ≡ noted (nodes es) (place e)
+unfolding nodes
+nodes_last es e = ap (fold noted []) (map_last es e) ∙ fold_last [] (map place es) (place e)
+
+noted_known : (ps : List ModelPlace) (p : ModelPlace) → list_any (same_place p) ps ≡ true → noted ps p ≡ ps
+noted_known ps p e = rw e refl
+
+noted_new : (ps : List ModelPlace) (p : ModelPlace) → list_any (same_place p) ps ≡ false → noted ps p ≡ ps ++ p ∷ []
+noted_new ps p e = rw e refl
+
+-- an entry whose place is known adds no node
+pub nodes_known : (es : List Listed) (e : Listed) (n : ℕ) → number_of es (place e) ≡ Some n → nodes (es ++ e ∷ []) ≡ nodes es
+unfolding number_of
+nodes_known es e n k = nodes_last es e ∙ noted_known (nodes es) (place e) (some_any 1 n (same_place (place e)) (nodes es) k)
+
+-- and one whose place is new adds that
+pub nodes_new : (es : List Listed) (e : Listed) → number_of es (place e) ≡ None → nodes (es ++ e ∷ []) ≡ nodes es ++ place e ∷ []
+unfolding number_of
+nodes_new es e k = nodes_last es e ∙ noted_new (nodes es) (place e) (none_any 1 (same_place (place e)) (nodes es) k)
+
+pub number_by : (es fs : List Listed) (q : ModelPlace) → nodes es ≡ nodes fs → number_of es q ≡ number_of fs q
+unfolding number_of
+number_by es fs q e = ap (position_from (same_place q) 1) e
+
+pub number_new : (es : List Listed) (e : Listed) → number_of es (place e) ≡ None → number_of (es ++ e ∷ []) (place e) ≡ Some (length (nodes es) + 1)
+unfolding number_of
+number_new es e k =
+    ap (position_from (same_place (place e)) 1) (nodes_new es e k)
+    ∙ last_here 1 (same_place (place e)) (nodes es) (place e) (same_itself (place e)) k
+    ∙ ap Some (omega arith)
+
+pub number_other : (es : List Listed) (e : Listed) (q : ModelPlace) → number_of es (place e) ≡ None → same_place q (place e) ≡ false → number_of (es ++ e ∷ []) q ≡ number_of es q
+unfolding number_of
+number_other es e q k f = ap (position_from (same_place q) 1) (nodes_new es e k) ∙ last_other 1 (same_place q) (nodes es) (place e) f
+
+-- how many elements pass a test, counted from the front
+abbrev pub count : {X : Type 0} → (X → Bool) → List X → ℕ
+count t [] = 0
+count t (x ∷ xs) = cond (t x) (1 + count t xs) (count t xs)
+
+pub counted : {X : Type 0} (t : X → Bool) (xs : List X) → count t xs ≡ count_by t xs
+counted t xs = is_count_by (count t) t refl (λ x xs. refl) xs
+
+count_last : {X : Type 0} (t : X → Bool) (xs : List X) (x : X) → count t (xs ++ x ∷ []) ≡ count t xs + cond (t x) 1 0
+count_last t [] x = go (t x)
+  where
+    go : (b : Bool) → cond b (1 + 0) 0 ≡ 0 + cond b 1 0
+    go true = refl
+    go false = refl
+count_last t (y ∷ xs) x = go (t y) (count_last t xs x)
+  where
+    go : (b : Bool) → count t (xs ++ x ∷ []) ≡ count t xs + cond (t x) 1 0 → cond b (1 + count t (xs ++ x ∷ [])) (count t (xs ++ x ∷ [])) ≡ cond b (1 + count t xs) (count t xs) + cond (t x) 1 0
+    go true i = omega arith
+    go false i = i
+
+-- how many entries have a place
+paths_last : (es : List Listed) (e : Listed) (p : ModelPlace) → paths_of (es ++ e ∷ []) p ≡ paths_of es p + cond (same_place p (place e)) 1 0
+paths_last es e p =
+    let t = (λ (f : Listed). same_place p (place f)) in
+    sym (counted t (es ++ e ∷ [])) ∙ count_last t es e ∙ ap (λ n. n + cond (same_place p (place e)) 1 0) (counted t es)
+
+-- a place that has no number is no entry's
+pub not_among : (es : List Listed) (p : ModelPlace) → number_of es p ≡ None → (e : Listed) → IsAmong e es → same_place p (place e) ≡ false
+not_among es p k e a = elim (same_or_other p (place e)) [
+  | inr f ↦ f
+  | inl x ↦ absurd (let s : IsSome (number_of es (place e)) = (entries_numbered es e e a a).0 in let t : IsSome (number_of es p) = subst (λ q. IsSome (number_of es q)) (sym x.0) s in let u = rw k at t in cc)
+]
+
+none_paths : (es : List Listed) (p : ModelPlace) → ((e : Listed) → IsAmong e es → same_place p (place e) ≡ false) → paths_of es p ≡ 0
+none_paths es p f = sym (counted (λ (e : Listed). same_place p (place e)) es) ∙ go es f
+  where
+    go : (es : List Listed) → ((e : Listed) → IsAmong e es → same_place p (place e) ≡ false) → count (λ (e : Listed). same_place p (place e)) es ≡ 0
+    go [] f = refl
+    go (e ∷ es) f = rw (f e (inl refl)) (go es (λ g a. f g (inr a)))
+
+-- one more spot
+seen_last : (spots : List (Spot Entry)) (i : ℕ) (spot : Spot Entry) → i < length spots → spot ≡ get_or spots i spot → seen spots (i + 1) ≡ seen spots i ++ bare spot ∷ []
+seen_last spots i spot l e = let n : suc i ≡ i + 1 = omega arith in subst (λ n. seen spots n ≡ seen spots i ++ bare spot ∷ []) n (go spots i l e)
+  where
+    go : (spots : List (Spot Entry)) (i : ℕ) → i < length spots → spot ≡ get_or spots i spot → seen spots (suc i) ≡ seen spots i ++ bare spot ∷ []
+    go [] i l e = absurd (omega arith)
+    go (x ∷ spots) zero l e = ap (λ (y : Spot Entry). bare y ∷ []) (sym e)
+    go (x ∷ spots) (suc i) l e = ap (λ r. bare x ∷ r) (go spots i (omega arith) e)
+
+spot_there : (spots : List (Spot Entry)) (i : ℕ) (spot : Spot Entry) → i < length spots → spot ≡ get_or spots i spot → slice_get spots i ≡ Some spot
+spot_there [] i spot l e = absurd (omega arith)
+spot_there (x ∷ spots) zero spot l e = ap Some (sym e)
+spot_there (x ∷ spots) (suc i) spot l e = spot_there spots i spot (omega arith) e
+
+get_map : (spots : List (Spot Entry)) (k : ℕ) (spot : Spot Entry) → slice_get spots k ≡ Some spot → slice_get (map place_of spots) k ≡ Some (place_of spot)
+get_map [] k spot e = absurd (cc)
+get_map (x ∷ spots) zero spot e = let f : x ≡ spot = cc in ap (λ (y : Spot Entry). Some (place_of y)) f
+get_map (x ∷ spots) (suc k) spot e = get_map spots k spot e
+
+get_below : {X : Type 0} (xs : List X) (k : ℕ) (x : X) → slice_get xs k ≡ Some x → k < length xs
+get_below [] k x e = absurd (cc)
+get_below (y ∷ xs) zero x e = omega arith
+get_below (y ∷ xs) (suc k) x e = let l = get_below xs k x e in omega arith
+
+-- the last of a list, or one before it
+get_last : {X : Type 0} (xs : List X) (y : X) (k : ℕ) (x : X) → slice_get (xs ++ y ∷ []) k ≡ Some x → (slice_get xs k ≡ Some x) ⊎ ((k ≡ length xs) × (y ≡ x))
+get_last [] y zero x e = inr (refl, (let f : y ≡ x = cc in f))
+get_last [] y (suc k) x e = absurd (cc)
+get_last (z ∷ xs) y zero x e = inl e
+get_last (z ∷ xs) y (suc k) x e = elim (get_last xs y k x e) [ inl f ↦ inl f | inr f ↦ inr (ap suc f.0, f.1) ]
+
+index_last : (xs : List ℕ) (y k : ℕ) → k < length xs → slice_index (xs ++ y ∷ []) k ≡ slice_index xs k
+index_last [] y k l = absurd (omega arith)
+index_last (x ∷ xs) y zero l = refl
+index_last (x ∷ xs) y (suc k) l = index_last xs y k (omega arith)
+
+index_end : (xs : List ℕ) (y : ℕ) → slice_index (xs ++ y ∷ []) (length xs) ≡ y
+index_end [] y = refl
+index_end (x ∷ xs) y = index_end xs y
+
+length_map : (spots : List (Spot Entry)) → length (map place_of spots) ≡ length spots
+length_map [] = refl
+length_map (x ∷ spots) = ap suc (length_map spots)
+
+map_more : (spots : List (Spot Entry)) (spot : Spot Entry) → map place_of (spots ++ spot ∷ []) ≡ map place_of spots ++ place_of spot ∷ []
+map_more [] spot = refl
+map_more (x ∷ spots) spot = ap (λ r. place_of x ∷ r) (map_more spots spot)
+
+-- two places with one key are one
+key_tells : (q r : Place) → q.header < 2 ^ 32 → r.header < 2 ^ 32 → key q ≡ key r → placed q ≡ placed r
+key_tells q r l m e =
+    let a : q.layer ≡ r.layer = omega arith in
+    let b : q.header ≡ r.header = omega arith in
+    cc
+
+pub begins : (spots first : List (Spot Entry)) (paths : List ℕ) (get : ℕ → Option ℕ) → first ≡ [] → paths ≡ [] → ((k : ℕ) → get k ≡ None) → IsNumbered spots 0 first paths get
+unfolding number_of nodes
+begins spots first paths get e f none = record {
+  known = λ q l. none (key q) ∙ nothing (placed q);
+  places = ap (map place_of) e ∙ empty;
+  level = ap length f ∙ sym (ap length e);
+  each = λ k x g. absurd (let h = rw e at g in cc);
+  counted = λ k x g. absurd (let h = rw e at g in cc);
+}
+  where
+    nothing : (q : ModelPlace) → None ≡ number_of [] q
+    nothing q = refl
+
+    empty : [] ≡ nodes []
+    empty = refl
+
+module _ (spots : List (Spot Entry)) (i : ℕ) (spot : Spot Entry) (first : List (Spot Entry)) (paths : List ℕ) (get get' : ℕ → Option ℕ) (lt : i < length spots) (here : spot ≡ get_or spots i spot) (inv : IsNumbered spots i first paths get) (small : spot.0.now.value.place.header < 2 ^ 32) where
+  D : List Listed
+  D = seen spots i
+
+  p : ModelPlace
+  p = place_of spot
+
+  more : seen spots (i + 1) ≡ seen spots i ++ bare spot ∷ []
+  more = seen_last spots i spot lt here
+
+  -- the number of the place of a first spot
+  number_of_first : (k : ℕ) (x : Spot Entry) → slice_get first k ≡ Some x → number_of (seen spots i) (place_of x) ≡ Some (suc k)
+  number_of_first k x e = (number_used (seen spots i) (suc k) (place_of x)).1 (subst (λ ps. slice_get ps k ≡ Some (place_of x)) inv.places (get_map first k x e))
+
+  pub number_positive : (n : ℕ) → get (key spot.0.now.value.place) ≡ Some n → (1 ≤ n) × (n - 1 < length paths)
+  number_positive zero e =
+      let f : number_of (seen spots i) (place_of spot) ≡ Some 0 = sym (inv.known spot.0.now.value.place small) ∙ e in
+      absurd (let z = (number_used (seen spots i) 0 (place_of spot)).0 f in cc)
+  number_positive (suc k) e =
+      let f : number_of (seen spots i) (place_of spot) ≡ Some (suc k) = sym (inv.known spot.0.now.value.place small) ∙ e in
+      let z = (number_used (seen spots i) (suc k) (place_of spot)).0 f in
+      let l = get_below (nodes (seen spots i)) k (place_of spot) z in
+      let m = ap length inv.places in
+      let n = length_map first in
+      let v = inv.level in
+      (omega arith, omega arith)
+
+  -- one entry more with the place p, or with another
+  paths_more : (q : ModelPlace) → paths_of (seen spots (i + 1)) q ≡ paths_of (seen spots i) q + cond (same_place q (place_of spot)) 1 0
+  paths_more q = ap (λ es. paths_of es q) more ∙ paths_last (seen spots i) (bare spot) q
+
+  held : (a b c d : ℕ) → d ≡ one_more c → c ≡ min a (2 ^ 32 - 1) → b ≡ a + 1 → d ≡ min b (2 ^ 32 - 1)
+  held a b c d e f g = omega arith
+
+  pub was_known : (n : ℕ) (paths' : List ℕ) → get (key spot.0.now.value.place) ≡ Some n → paths' ≡ slice_set paths (n - 1) (one_more (slice_index paths (n - 1))) → IsNumbered spots (i + 1) first paths' get
+  was_known n paths' e s = record {
+    known = λ q l. inv.known q l ∙ number_by (seen spots i) (seen spots (i + 1)) (placed q) (sym same);
+    places = inv.places ∙ sym same;
+    level = ap length s ∙ simp length-set inv.level;
+    each = inv.each;
+    counted = counts;
+  }
+    where
+      k0 : number_of (seen spots i) (place_of spot) ≡ Some n
+      k0 = sym (inv.known spot.0.now.value.place small) ∙ e
+
+      same : nodes (seen spots (i + 1)) ≡ nodes (seen spots i)
+      same = ap nodes more ∙ nodes_known (seen spots i) (bare spot) n k0
+
+      counts : (k : ℕ) (x : Spot Entry) → slice_get first k ≡ Some x → slice_index paths' k ≡ min (paths_of (seen spots (i + 1)) (place_of x)) (2 ^ 32 - 1)
+      counts k x f = elim (same_or_other (place_of x) (place_of spot)) [
+        | inl (q, t) ↦
+            let z : Some (suc k) ≡ Some n = sym (number_of_first k x f) ∙ ap (number_of (seen spots i)) q ∙ k0 in
+            let y : suc k ≡ n = cc in
+            let j : n - 1 ≡ k = omega arith in
+            let b = number_positive n e in
+            let b1 = b.1 in
+            let lt : k < length paths = omega arith in
+            let set_is : paths' ≡ slice_set paths k (one_more (slice_index paths k)) = subst (λ m. paths' ≡ slice_set paths m (one_more (slice_index paths m))) j s in
+            let at : slice_index paths' k ≡ one_more (slice_index paths k) = ap (λ xs. slice_index xs k) set_is ∙ rw get_or-set_same refl in
+            held (paths_of (seen spots i) (place_of x)) (paths_of (seen spots (i + 1)) (place_of x)) (slice_index paths k) (slice_index paths' k) at (inv.counted k x f) (paths_more (place_of x) ∙ ap (λ c. paths_of (seen spots i) (place_of x) + cond c 1 0) t)
+        | inr t ↦
+            let ne : k ≢ n - 1 = apart k x f t in
+            let at : slice_index paths' k ≡ slice_index paths k = ap (λ xs. slice_index xs k) s ∙ rw get_or-set_other refl in
+            at ∙ inv.counted k x f ∙ ap (λ c. min c (2 ^ 32 - 1)) (sym (paths_more (place_of x) ∙ ap (λ c. paths_of (seen spots i) (place_of x) + cond c 1 0) t ∙ omega arith))
+      ]
+        where
+          apart : (k : ℕ) (x : Spot Entry) → slice_get first k ≡ Some x → same_place (place_of x) (place_of spot) ≡ false → k ≢ n - 1
+          apart k x f t q =
+              let b = (number_positive n e).0 in
+              let y : suc k ≡ n = omega arith in
+              let u = (number_used (seen spots i) n (place_of spot)).0 k0 in
+              let v = (number_used (seen spots i) (suc k) (place_of x)).0 (number_of_first k x f) in
+              let w : Some (place_of x) ≡ Some (place_of spot) = sym v ∙ ap (node_of (seen spots i)) y ∙ u in
+              let z : place_of x ≡ place_of spot = cc in
+              let r : same_place (place_of x) (place_of spot) ≡ true = ap (λ q. same_place q (place_of spot)) z ∙ same_itself (place_of spot) in
+              cc
+
+  pub is_new : (n : ℕ) (first' : List (Spot Entry)) (paths' : List ℕ) → get (key spot.0.now.value.place) ≡ None → n ≡ length first + 1 → ((q : ℕ) → get' q ≡ cond (is_eq (nat_cmp (key spot.0.now.value.place) q)) (Some n) (get q)) → first' ≡ first ++ spot ∷ [] → paths' ≡ paths ++ 1 ∷ [] → IsNumbered spots (i + 1) first' paths' get'
+  is_new n first' paths' e l up m o = record {
+    known = λ q small_q. up (key q) ∙ ap (λ b. cond b (Some n) (get (key q))) (tie (key spot.0.now.value.place) (key q)) ∙ learnt q small_q (nat_eq (key spot.0.now.value.place) (key q)) refl;
+    places = ap (map place_of) m ∙ map_more first spot ∙ ap (λ ps. ps ++ place_of spot ∷ []) inv.places ∙ sym grown;
+    level = ap length o ∙ ends paths 1 ∙ ap (λ k. k + 1) inv.level ∙ sym (ap length m ∙ ends first spot);
+    each = λ k x f. elim (get_last first spot k x (subst (λ xs. slice_get xs k ≡ Some x) m f)) [
+      | inl g ↦ inv.each k x g
+      | inr (a, b) ↦ subst (IsFirst spots) b (record { at = i; is = spot_there spots i spot lt here; new = k0 })
+    ];
+    counted = λ k x f. counts k x (get_last first spot k x (subst (λ xs. slice_get xs k ≡ Some x) m f));
+  }
+    where
+      tie : (a b : ℕ) → is_eq (nat_cmp a b) ≡ nat_eq a b
+      tie a b = grind (arith, nat_tests)
+
+      ends : {X : Type 0} (xs : List X) (x : X) → length (xs ++ x ∷ []) ≡ length xs + 1
+      ends [] x = omega arith
+      ends (y ∷ xs) x = omega (arith, ends xs x)
+
+      k0 : number_of (seen spots i) (place_of spot) ≡ None
+      k0 = sym (inv.known spot.0.now.value.place small) ∙ e
+
+      grown : nodes (seen spots (i + 1)) ≡ nodes (seen spots i) ++ place_of spot ∷ []
+      grown = ap nodes more ∙ nodes_new (seen spots i) (bare spot) k0
+
+      n_is : n ≡ length (nodes (seen spots i)) + 1
+      n_is = l ∙ ap (λ k. k + 1) (sym (length_map first) ∙ ap length inv.places)
+
+      learnt : (q : Place) → q.header < 2 ^ 32 → (b : Bool) → nat_eq (key spot.0.now.value.place) (key q) ≡ b → cond b (Some n) (get (key q)) ≡ number_of (seen spots (i + 1)) (placed q)
+      learnt q small_q true f =
+          let g : placed spot.0.now.value.place ≡ placed q = key_tells spot.0.now.value.place q small small_q (eqb-true _ _ f) in
+          ap Some n_is ∙ sym (ap (λ es. number_of es (place_of spot)) more ∙ number_new (seen spots i) (bare spot) k0) ∙ ap (number_of (seen spots (i + 1))) g
+      learnt q small_q false f = elim (same_or_other (placed q) (place_of spot)) [
+        | inl x ↦ absurd (
+            let a : q.layer ≡ spot.0.now.value.place.layer = ap (λ (p : ModelPlace). p.0) x.0 in
+            let b : q.header ≡ spot.0.now.value.place.header = ap (λ (p : ModelPlace). p.1) x.0 in
+            let g : nat_eq (key spot.0.now.value.place) (key q) ≡ true = eq-eqb _ _ (omega arith) in
+            cc)
+        | inr t ↦ inv.known q small_q ∙ sym (ap (λ es. number_of es (placed q)) more ∙ number_other (seen spots i) (bare spot) (placed q) k0 t)
+      ]
+
+      counts : (k : ℕ) (x : Spot Entry) → (slice_get first k ≡ Some x) ⊎ ((k ≡ length first) × (spot ≡ x)) → slice_index paths' k ≡ min (paths_of (seen spots (i + 1)) (place_of x)) (2 ^ 32 - 1)
+      counts k x (inl f) =
+          let b = get_below first k x f in
+          let v = inv.level in
+          let t : same_place (place_of x) (place_of spot) ≡ false = other k x f in
+          ap (λ xs. slice_index xs k) o ∙ index_last paths 1 k (omega arith) ∙ inv.counted k x f
+          ∙ ap (λ c. min c (2 ^ 32 - 1)) (sym (paths_more (place_of x) ∙ ap (λ c. paths_of (seen spots i) (place_of x) + cond c 1 0) t ∙ omega arith))
+        where
+          other : (k : ℕ) (x : Spot Entry) → slice_get first k ≡ Some x → same_place (place_of x) (place_of spot) ≡ false
+          other k x f = elim (same_or_other (place_of x) (place_of spot)) [
+            | inr t ↦ t
+            | inl q ↦ absurd (let z : Some (suc k) ≡ None = sym (number_of_first k x f) ∙ ap (number_of (seen spots i)) q.0 ∙ k0 in cc)
+          ]
+      counts k x (inr (a, b)) =
+          let zero_paths : paths_of (seen spots i) (place_of spot) ≡ 0 = none_paths (seen spots i) (place_of spot) (not_among (seen spots i) (place_of spot) k0) in
+          let one : paths_of (seen spots (i + 1)) (place_of spot) ≡ 1 = paths_more (place_of spot) ∙ ap (λ c. paths_of (seen spots i) (place_of spot) + cond c 1 0) (same_itself (place_of spot)) ∙ ap (λ c. c + 1) zero_paths in
+          let j : k ≡ length paths = a ∙ sym inv.level in
+          ap (λ xs. slice_index xs k) o ∙ ap (slice_index (paths ++ 1 ∷ [])) j ∙ index_end paths 1
+          ∙ sym (ap (λ (y : Spot Entry). min (paths_of (seen spots (i + 1)) (place_of y)) (2 ^ 32 - 1)) (sym b) ∙ ap (λ c. min c (2 ^ 32 - 1)) one)

@@ -1,0 +1,241 @@
+-- Nodes and rows made one after another are those of a table.
+use Rattle.std.proofs.Common.{◌≡◌, ◌∙◌, sym, ap, subst, ℕ, zero, suc, ◌+◌, ◌-◌, ◌^◌, ◌<◌, ◌≤◌, ◌⊎◌, inl, inr, List, [], ◌∷◌, ◌++◌, length, take, drop, get_or, map, refl, arith, length-append, Bool, true, false, cond, Option, Some}
+use Rattle.std.specs.Prelude.{slice_get, slice_index, slice_range, min, count_by}
+use Rattle.std.specs.List.{AllByRecursion, slice_index_or}
+use Rattle.std.specs.declared.cmp.Ordering.TheVariants.{Less}
+use Rattle.romfs_format.specs.declared.head.Head.{Head}
+use Rattle.romfs_format.specs.Heads.{head_of}
+use Rattle.romfs_format.specs.Fields.{exec, size, spec}
+use Rattle.romfs_image.specs.Readers.{IsGiven, data_of as data_in}
+use Rattle.stack_model.specs.Listing.{Entry as Listed}
+use Rattle.stack_model.specs.Numbers.{Place as ModelPlace, Child, place, same_place, nodes, children}
+use Rattle.stack_model.specs.Attributes.{is_directory, is_directory_at, kind_at, mode_of, mode, size_of, size_at, rdev_of, rdev, nlink, blocks_all}
+use Rattle.path_tree.specs.Rows.{Shoot, NamesRise as ForestRises}
+use Rattle.layer_tree.specs.declared.place.Place.{Place}
+use Rattle.layer_tree.specs.declared.place.Entry.{Entry}
+use Rattle.node_table.specs.declared.node.Node.{Node}
+use Rattle.node_table.specs.Rows.{Line, NamesRise, name_cmp}
+use Rattle.node_table.specs.Readers.{placed, rows_of}
+use Rattle.node_table.specs.Walks.{Spot}
+use Rattle.node_table.specs.Numbering.{place_of}
+use Rattle.node_table.specs.Building.{line_in, directories, AddsNode, completed}
+use Rattle.node_table.specs.Seeds.{AreSeedlings, IsSeed, AreSeeds, AreMade}
+use Rattle.node_table.specs.Held.{IsNode, AreNodes, IsSomeTable}
+
+-- how far the making of nodes has come
+pub record Making (layers : List (List ℕ)) (entries : List Listed) (held : List Node) (rows : List Line) (i : ℕ) : Type 0 where
+  pub level : length held ≡ i
+  pub each : (k : ℕ) (node : Node) (p : ModelPlace) → slice_get held k ≡ Some node → slice_get (nodes entries) k ≡ Some p → IsNode layers entries rows (completed node) p
+
+get_map : {X Y : Type 0} (f : X → Y) (xs : List X) (k : ℕ) (x : X) → slice_get xs k ≡ Some x → slice_get (map f xs) k ≡ Some (f x)
+get_map f [] k x e = absurd (cc)
+get_map f (y ∷ xs) zero x e = let g : y ≡ x = cc in ap (λ z. Some (f z)) g
+get_map f (y ∷ xs) (suc k) x e = get_map f xs k x e
+
+get_of_map : {X Y : Type 0} (f : X → Y) (xs : List X) (k : ℕ) (y : Y) → slice_get (map f xs) k ≡ Some y → (x : X) × (slice_get xs k ≡ Some x) × (f x ≡ y)
+get_of_map f [] k y e = absurd (cc)
+get_of_map f (x ∷ xs) zero y e = (x, refl, (let g : f x ≡ y = cc in g))
+get_of_map f (x ∷ xs) (suc k) y e = get_of_map f xs k y e
+
+length_map : {X Y : Type 0} (f : X → Y) (xs : List X) → length (map f xs) ≡ length xs
+length_map f [] = refl
+length_map f (x ∷ xs) = ap suc (length_map f xs)
+
+pub get_there : {X : Type 0} (xs : List X) (k : ℕ) (x : X) → k < length xs → x ≡ get_or xs k x → slice_get xs k ≡ Some x
+get_there [] k x l e = absurd (omega arith)
+get_there (y ∷ xs) zero x l e = ap Some (sym e)
+get_there (y ∷ xs) (suc k) x l e = get_there xs k x (omega arith) e
+
+get_last : {X : Type 0} (xs : List X) (y : X) (k : ℕ) (x : X) → slice_get (xs ++ y ∷ []) k ≡ Some x → (slice_get xs k ≡ Some x) ⊎ ((k ≡ length xs) × (y ≡ x))
+get_last [] y zero x e = inr (refl, (let f : y ≡ x = cc in f))
+get_last [] y (suc k) x e = absurd (cc)
+get_last (z ∷ xs) y zero x e = inl e
+get_last (z ∷ xs) y (suc k) x e = elim (get_last xs y k x e) [ inl f ↦ inl f | inr f ↦ inr (ap suc f.0, f.1) ]
+
+-- rows that stand stay as more are added
+nothing : {X : Type 0} (ys : List X) → take 0 ys ≡ []
+nothing [] = refl
+nothing (y ∷ ys) = refl
+
+front_stays : {X : Type 0} (xs ys : List X) (b : ℕ) → b ≤ length xs → take b (xs ++ ys) ≡ take b xs
+front_stays [] ys zero m = nothing ys ∙ sym (nothing [])
+front_stays [] ys (suc b) m = absurd (omega arith)
+front_stays (x ∷ xs) ys zero m = refl
+front_stays (x ∷ xs) ys (suc b) m = ap (λ r. x ∷ r) (front_stays xs ys b (omega arith))
+
+range_stays : {X : Type 0} (xs ys : List X) (a b : ℕ) → a ≤ b → b ≤ length xs → slice_range (xs ++ ys) a b ≡ slice_range xs a b
+range_stays xs ys zero b l m = go xs ys b m
+  where
+    go : {X : Type 0} (xs ys : List X) (b : ℕ) → b ≤ length xs → slice_range (xs ++ ys) 0 b ≡ slice_range xs 0 b
+    go [] [] b m = refl
+    go [] (y ∷ ys) b m = let z : b - 0 ≡ b = omega arith in ap (λ n. take n (y ∷ ys)) z ∙ front_stays [] (y ∷ ys) b m ∙ sym (ap (λ n. take n []) z)
+    go (x ∷ xs) ys b m = let z : b - 0 ≡ b = omega arith in ap (λ n. take n (x ∷ xs ++ ys)) z ∙ front_stays (x ∷ xs) ys b m ∙ sym (ap (λ n. take n (x ∷ xs)) z)
+range_stays [] ys (suc a) b l m = absurd (omega arith)
+range_stays (x ∷ xs) ys (suc a) zero l m = absurd (omega arith)
+range_stays (x ∷ xs) ys (suc a) (suc b) l m =
+    let z : suc b - suc a ≡ b - a = omega arith in
+    ap (λ n. take n (drop a (xs ++ ys))) z ∙ range_stays xs ys a b (omega arith) (omega arith) ∙ sym (ap (λ n. take n (drop a xs)) z)
+
+-- and those that were added last are a range
+take_all : {X : Type 0} (ys : List X) → take (length ys) ys ≡ ys
+take_all [] = refl
+take_all (y ∷ ys) = ap (λ r. y ∷ r) (take_all ys)
+
+range_last : {X : Type 0} (xs ys : List X) → slice_range (xs ++ ys) (length xs) (length (xs ++ ys)) ≡ ys
+range_last [] [] = refl
+range_last [] (y ∷ ys) = let z : length (y ∷ ys) - 0 ≡ length (y ∷ ys) = omega arith in ap (λ n. take n (y ∷ ys)) z ∙ take_all (y ∷ ys)
+range_last (x ∷ xs) ys = let z : suc (length (xs ++ ys)) - suc (length xs) ≡ length (xs ++ ys) - length xs = omega arith in ap (λ n. take n (drop (length xs) (xs ++ ys))) z ∙ range_last xs ys
+
+names_rise : (get : ℕ → Option ℕ) (cs : List (Shoot Entry)) → ForestRises cs → NamesRise (map (line_in get) cs)
+names_rise get [] r = tt
+names_rise get (c ∷ cs) r = (after cs r.0, names_rise get cs r.1)
+  where
+    after : (cs : List (Shoot Entry)) → AllByRecursion (λ (d : Shoot Entry). name_cmp c.name d.name ≡ Less) cs → AllByRecursion (λ (l : Line). name_cmp c.name l.name ≡ Less) (map (line_in get) cs)
+    after [] a = tt
+    after (d ∷ cs) a = (a.0, after cs a.1)
+
+layer_is : (layers : List (List ℕ)) (k : ℕ) (image : List ℕ) → slice_get layers k ≡ Some image → slice_index_or layers k [] ≡ image
+layer_is [] k image e = absurd (cc)
+layer_is (x ∷ layers) zero image e = cc
+layer_is (x ∷ layers) (suc k) image e = layer_is layers k image e
+
+grown : (layers : List (List ℕ)) (entries : List Listed) (rows more : List Line) (node : Node) (p : ModelPlace) → IsNode layers entries rows node p → IsNode layers entries (rows ++ more) node p
+grown layers entries rows more node p n =
+    let r = range_stays rows more node.rows_start node.rows_end n.start n.end in
+    record {
+      place = n.place;
+      headed = n.headed;
+      kind = n.kind;
+      size = n.size;
+      mode_is = n.mode_is;
+      nlink_is = n.nlink_is;
+      rdev_is = n.rdev_is;
+      parent_is = n.parent_is;
+      start = n.start;
+      end = (let e = n.end in omega (arith, length-append rows more));
+      rows_are = r ∙ n.rows_are;
+      rising = subst NamesRise (sym r) n.rising;
+    }
+
+module _ (layers : List (List ℕ)) (entries : List Listed) (get : ℕ → Option ℕ) (paths : ℕ) (spot : Spot Entry) (seed : IsSeed layers entries get paths spot) (old new : List Line) (node : Node) (a : AddsNode layers get spot paths old new node) where
+  p : ModelPlace
+  p = place_of spot
+
+  q : Place
+  q = spot.0.now.value.place
+
+  image : List ℕ
+  image = seed.seat.image
+
+  here : slice_get layers node.place.layer ≡ Some seed.seat.image
+  here = ap (λ (x : Place). slice_get layers x.layer) a.place_is ∙ seed.seat.is
+
+  head : node.head ≡ head_of seed.seat.image spot.0.now.value.place.header
+  head = a.head_is seed.seat.image here ∙ ap (λ (x : Place). head_of seed.seat.image x.header) a.place_is
+
+  layer : slice_index_or layers spot.0.now.value.place.layer [] ≡ seed.seat.image
+  layer = layer_is layers spot.0.now.value.place.layer seed.seat.image seed.seat.is
+
+  kind_is : node.kind ≡ kind_at layers (place_of spot)
+  kind_is = a.kind_is ∙ seed.kind_is
+
+  directory_is : is_directory node.kind ≡ is_directory_at layers (place_of spot)
+  directory_is = ap is_directory kind_is
+
+  size_is : size_of node.kind node.head.size ≡ size_at layers (place_of spot)
+  size_is = ap (λ k. size_of k node.head.size) kind_is ∙ ap (λ (h : Head). size_of (kind_at layers (place_of spot)) h.size) head ∙ ap (λ x. size_of (kind_at layers (place_of spot)) (size x spot.0.now.value.place.header)) (sym layer)
+
+  mode_is : mode_of node.kind node.head.exec ≡ mode layers (place_of spot)
+  mode_is = ap (λ k. mode_of k node.head.exec) kind_is ∙ ap (λ (h : Head). mode_of (kind_at layers (place_of spot)) h.exec) head ∙ ap (λ x. mode_of (kind_at layers (place_of spot)) (exec x spot.0.now.value.place.header)) (sym layer)
+
+  rdev_is : rdev_of node.kind node.head.spec ≡ rdev layers (place_of spot)
+  rdev_is = ap (λ k. rdev_of k node.head.spec) kind_is ∙ ap (λ (h : Head). rdev_of (kind_at layers (place_of spot)) h.spec) head ∙ ap (λ x. rdev_of (kind_at layers (place_of spot)) (spec x spot.0.now.value.place.header)) (sym layer)
+
+  below : AreSeedlings layers entries get (place_of spot) a.children
+  below = seed.below a.children a.below a.forest
+
+  nlink_is : node.nlink ≡ nlink layers entries (place_of spot)
+  nlink_is = a.nlink_is ∙ ap (λ b. cond b (min (2 + directories a.children) (2 ^ 32 - 1)) paths) directory_is ∙ go (is_directory_at layers (place_of spot)) refl
+    where
+      go : (b : Bool) → is_directory_at layers (place_of spot) ≡ b → cond b (min (2 + directories a.children) (2 ^ 32 - 1)) paths ≡ nlink layers entries (place_of spot)
+      go true e = ap (λ n. min (2 + n) (2 ^ 32 - 1)) below.count_is ∙ sym (ap (λ b. min (cond b (2 + count_by (λ (c : Child). is_directory_at layers c.place) (children entries (place_of spot))) (count_by (λ (f : Listed). same_place (place_of spot) (place f)) entries)) (2 ^ 32 - 1)) e)
+      go false e = seed.paths_are e
+
+  range_is : slice_range new node.rows_start node.rows_end ≡ cond (is_directory node.kind) (map (line_in get) a.children) []
+  range_is =
+      ap (λ n. slice_range new n node.rows_end) a.start_is ∙ ap (slice_range new (length old)) a.end_is
+      ∙ ap (λ xs. slice_range xs (length old) (length xs)) a.rows_are
+      ∙ range_last old (cond (is_directory node.kind) (map (line_in get) a.children) [])
+
+  rows_are : cond (is_directory node.kind) (map (line_in get) a.children) [] ≡ rows_of layers entries (place_of spot)
+  rows_are = ap (λ b. cond b (map (line_in get) a.children) []) directory_is ∙ ap (λ r. cond (is_directory_at layers (place_of spot)) r []) below.rows_are
+
+  rising : (b : Bool) → NamesRise (cond b (map (line_in get) a.children) [])
+  rising true = names_rise get a.children a.forest.names
+  rising false = tt
+
+  pub is_node : IsNode layers entries new (completed node) (place_of spot)
+  is_node = record {
+    place = ap placed a.place_is;
+    headed = record {
+      image = seed.seat.image;
+      is = here;
+      given = subst (IsGiven seed.seat.image) (sym head) seed.seat.given;
+      data_is = ap (λ (h : Head). data_in seed.seat.image h.offset) head ∙ seed.data_is seed.seat.image seed.seat.is;
+    };
+    kind = kind_is;
+    size = size_is;
+    mode_is = mode_is;
+    nlink_is = nlink_is;
+    rdev_is = rdev_is;
+    parent_is = λ d. a.parent_is ∙ seed.parent_is;
+    start = (let s = a.start_is in let e = a.end_is in let r = ap length a.rows_are in omega (arith, length-append old (cond (is_directory node.kind) (map (line_in get) a.children) [])));
+    end = (let e = a.end_is in omega arith);
+    rows_are = range_is ∙ rows_are;
+    rising = subst NamesRise (sym range_is) (rising (is_directory node.kind));
+  }
+
+pub begins : (layers : List (List ℕ)) (entries : List Listed) (held : List Node) (rows : List Line) → held ≡ [] → Making layers entries held rows 0
+begins layers entries held rows e = record { level = ap length e; each = λ k node p f g. absurd (let h = rw e at f in cc) }
+
+pub goes_on : (layers : List (List ℕ)) (entries : List Listed) (get : ℕ → Option ℕ) (first : List (Spot Entry)) (paths : List ℕ) (s : AreSeeds layers entries get first paths) (held held' : List Node) (rows rows' : List Line) (i : ℕ) (spot : Spot Entry) → i < length first → spot ≡ get_or first i spot → Making layers entries held rows i → (node : Node) → AddsNode layers get spot (slice_index paths i) rows rows' node → held' ≡ held ++ node ∷ [] → Making layers entries held' rows' (i + 1)
+goes_on layers entries get first paths s held held' rows rows' i spot lt at m node a push = record {
+  level = (let l = ap length push in let v = m.level in omega (arith, length-append held (node ∷ [])));
+  each = λ k n p e f. elim (get_last held node k n (subst (λ x. slice_get x k ≡ Some n) push e)) [
+    | inl g ↦ subst (λ r. IsNode layers entries r (completed n) p) (sym a.rows_are) (grown layers entries rows (cond (is_directory node.kind) (map (line_in get) a.children) []) (completed n) p (m.each k n p g f))
+    | inr (j, g) ↦
+        let h = get_there first i spot lt at in
+        let k_is : k ≡ i = j ∙ m.level in
+        let z : Some p ≡ Some (place_of spot) = sym f ∙ ap (slice_get (nodes entries)) k_is ∙ subst (λ ps. slice_get ps i ≡ Some (place_of spot)) s.places (get_map place_of first i spot h) in
+        let p_is : place_of spot ≡ p = cc in
+        subst (λ (x : Node). IsNode layers entries rows' (completed x) p) g (subst (IsNode layers entries rows' (completed node)) p_is (is_node layers entries get (slice_index paths i) spot (s.each i spot h) rows rows' node a))
+  ];
+}
+
+pub ends : (layers : List (List ℕ)) (entries : List Listed) (get : ℕ → Option ℕ) (first : List (Spot Entry)) (paths : List ℕ) (s : AreSeeds layers entries get first paths) (held : List Node) (rows : List Line) (i : ℕ) → i ≡ length first → Making layers entries held rows i → AreMade layers held rows
+ends layers entries get first paths s held rows i e m = (
+  entries,
+  s.listing,
+  record {
+    level = length_map completed held ∙ m.level ∙ e ∙ sym (length_map place_of first) ∙ ap length s.places;
+    each = λ k node p f g. let x = get_of_map completed held k node f in subst (λ (n : Node). IsNode layers entries rows n p) x.2 (m.each k x.0 p x.1 g);
+  },
+)
+
+-- a part that is as long as asked for is whole
+front_whole : {X : Type 0} (xs tail : List X) (n : ℕ) → n ≡ length xs → take n (xs ++ tail) ≡ xs
+front_whole xs tail n e = ap (λ k. take k (xs ++ tail)) e ∙ go xs tail
+  where
+    go : {X : Type 0} (xs tail : List X) → take (length xs) (xs ++ tail) ≡ xs
+    go [] tail = nothing tail
+    go (x ∷ xs) tail = ap (λ r. x ∷ r) (go xs tail)
+
+pub table_made : (layers : List (List ℕ)) (held new tail : List Node) (rows : List Line) (n blocks : ℕ) → AreMade layers held rows → new ≡ map completed held → n ≡ length new → blocks ≡ blocks_all layers → IsSomeTable layers (take n (new ++ tail)) rows blocks
+table_made layers held new tail rows n blocks (entries, listing, are) e l b = (
+  entries,
+  record {
+    listing = listing;
+    are = subst (λ x. AreNodes layers entries x rows) (sym (front_whole new tail n l ∙ e)) are;
+    blocks_are = b;
+  },
+)

@@ -1,0 +1,5 @@
+use Rattle.node_table.proofs.Completed.{Summing}
+use Rattle.node_table.proofs.completing.blocks_of.Given as goal
+
+abbrev pub invariant-loop-image : goal.invariant-loop-image
+invariant-loop-image g l = Summing l.images l.blocks l.image-index

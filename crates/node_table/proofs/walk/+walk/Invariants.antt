@@ -1,0 +1,9 @@
+use Rattle.std.proofs.Common.{length}
+use Rattle.node_table.proofs.Walking.{Walking}
+use Rattle.node_table.proofs.walk.+walk.Given as goal
+
+abbrev pub decreases-walk : goal.decreases-walk
+decreases-walk g l = length l.branch.now.below
+
+abbrev pub invariant-loop-child : goal.invariant-loop-child
+invariant-loop-child g l = Walking l.branch l.fn.above l.child-items l.fn.out.items l.out.items l.child-index

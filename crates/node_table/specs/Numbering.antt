@@ -1,0 +1,46 @@
+-- Numbers of the places of branches.
+use Rattle.std.specs.Prelude.{◌≡◌, ℕ, ◌+◌, ◌-◌, ◌*◌, ◌^◌, ◌<◌, List, [], length, map, take, min, count_by, slice_get, slice_index, Option, Some, None}
+use Rattle.stack_model.specs.Listing.{Entry as Listed}
+use Rattle.stack_model.specs.Numbers.{Place as ModelPlace, place, same_place, nodes, number_of}
+use Rattle.layer_tree.specs.declared.place.Place.{Place}
+use Rattle.layer_tree.specs.declared.place.Entry.{Entry}
+use Rattle.node_table.specs.Readers.{placed}
+use Rattle.node_table.specs.Walks.{Spot}
+
+-- a place as one number
+abbrev pub key : Place → ℕ
+key q = q.layer * 0x100000000 + q.header
+
+-- a number of paths and one more, held at the greatest 32-bit number
+abbrev pub one_more : ℕ → ℕ
+one_more n = min (n + 1) (2 ^ 32 - 1)
+
+-- the place of a branch's value
+abbrev pub place_of : Spot Entry → ModelPlace
+place_of spot = placed spot.0.now.value.place
+
+-- an entry with the branch's place
+abbrev pub bare : Spot Entry → Listed
+bare spot = record { path = []; layer = spot.0.now.value.place.layer; header = spot.0.now.value.place.header }
+
+-- as many of the first spots as entries
+abbrev pub seen : List (Spot Entry) → ℕ → List Listed
+seen spots i = map bare (take i spots)
+
+-- how many entries have the place
+abbrev pub paths_of : List Listed → ModelPlace → ℕ
+paths_of entries p = count_by (λ e. same_place p (place e)) entries
+
+-- the spot is the first with its place
+pub record IsFirst (spots : List (Spot Entry)) (spot : Spot Entry) : Type 0 where
+  pub at : ℕ
+  pub is : slice_get spots at ≡ Some spot
+  pub new : number_of (seen spots at) (place_of spot) ≡ None
+
+-- the first i places are numbered
+pub record IsNumbered (spots : List (Spot Entry)) (i : ℕ) (first : List (Spot Entry)) (paths : List ℕ) (get : ℕ → Option ℕ) : Type 0 where
+  pub known : (q : Place) → q.header < 2 ^ 32 → get (key q) ≡ number_of (seen spots i) (placed q)
+  pub places : map place_of first ≡ nodes (seen spots i)
+  pub level : length paths ≡ length first
+  pub each : (k : ℕ) (spot : Spot Entry) → slice_get first k ≡ Some spot → IsFirst spots spot
+  pub counted : (k : ℕ) (spot : Spot Entry) → slice_get first k ≡ Some spot → slice_index paths k ≡ min (paths_of (seen spots i) (place_of spot)) (2 ^ 32 - 1)
