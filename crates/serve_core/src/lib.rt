@@ -16,11 +16,13 @@ mod buffer;
 pub mod done;
 pub mod laws;
 mod checking;
+mod preparing;
 mod progress;
 mod rounds_on;
 mod run;
 pub mod stop;
 
 pub use done::Done;
+pub use preparing::{prepare, prepare_as};
 pub use run::run_by;
 pub use stop::Stop;

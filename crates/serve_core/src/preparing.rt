@@ -1,0 +1,49 @@
+//! Images, checked and stacked.
+
+ghost use Rattle.std.specs.Prelude.{map, IfOk, IfErr};
+ghost use Rattle.serve_core.specs.Preparing.{AreLayers, AreRefused};
+
+use crate::stop::Stop;
+use crate::checking::check_all;
+use node_table::Table;
+use romfs_format::Profile;
+
+use stack_core::{Gate, stack};
+use std::alloc::Allocator;
+use std::thread::Threads;
+
+/// Checks images by the usual profile's rules and stacks them, the lowest layer first, into one table.
+///
+/// `Layers` comes exactly where there are none or more than 128, before anything else is done; else `Layer` names the
+/// lowest image that breaks a rule, and its fault. The gate is passed before each check and each tree.
+pub fn prepare<R: Threads + Sync, A: Allocator + Copy + Send + Sync, G: Gate + Sync>(
+    rt: &R,
+    alloc: A,
+    images: Vec<Vec<u8, A>, A>,
+    gate: &G,
+) -> Result<Table<A>, Stop>
+    ensures ok { IfOk result (λ table. AreLayers Profile.Usual (map (λ image. image.items) images.items) table.layers) }
+    ensures err { IfErr result (λ stop. AreRefused Profile.Usual (map (λ image. image.items) images.items) stop) }
+{
+    prepare_as(rt, alloc, images, Profile::Usual, gate)
+}
+
+/// The same, by the rules of a profile.
+pub fn prepare_as<R: Threads + Sync, A: Allocator + Copy + Send + Sync, G: Gate + Sync>(
+    rt: &R,
+    alloc: A,
+    images: Vec<Vec<u8, A>, A>,
+    profile: Profile,
+    gate: &G,
+) -> Result<Table<A>, Stop>
+    ensures ok { IfOk result (λ table. AreLayers profile (map (λ image. image.items) images.items) table.layers) }
+    ensures err { IfErr result (λ stop. AreRefused profile (map (λ image. image.items) images.items) stop) }
+{
+    let count = images.len() as u64;
+    if count == 0 || 128 < count {
+        return Err(Stop::Layers { count });
+    }
+    let images = check_all(alloc, images, profile, gate)?;
+    let tree = stack(rt, alloc, &images, gate)?;
+    Ok(Table::of(rt, alloc, tree, images)?)
+}
