@@ -1,11 +1,11 @@
 -- Walks over sets of slots: what holds below a slot, and the slots between that are not in the set.
-use Rattle.std.proofs.Common.{◌≡◌, ◌∙◌, sym, subst, ℕ, zero, suc, ◌+◌, ◌-◌, ◌*◌, ◌/◌, ◌<◌, ◌≤◌, ◌⊎◌, inl, inr, List, length, Bool, true, false, get_or, set, refl, arith}
+use Rattle.std.proofs.Common.{◌≡◌, ◌∙◌, sym, subst, ℕ, zero, suc, ◌+◌, ◌-◌, ◌*◌, ◌/◌, ◌<◌, ◌≤◌, ◌⊎◌, inl, inr, List, length, Bool, true, false, get_or, set, replicate, Option, Some, None, refl, arith}
 use Rattle.std.proofs.lemmas.Bool.{cases_eq, cases_lt, true≢false}
-use Rattle.std.proofs.lemmas.List.{length-set, get_or_past}
-use Rattle.romfs_rules.specs.SlotSets.{IsClear, IsNextIn, IsUnion}
+use Rattle.std.proofs.lemmas.List.{length-set, length-replicate, get_or_past}
+use Rattle.romfs_rules.specs.SlotSets.{IsClear, IsNextIn, IsNext, IsNextOfEither, IsUnion}
 use Rattle.romfs_format.specs.Fields.{IsInside}
 use Rattle.romfs_rules.specs.Marks.{AreMarks}
-use Rattle.romfs_rules.proofs.MarkLists.{was_set, still_set, newly_set}
+use Rattle.romfs_rules.proofs.MarkLists.{no_marks, was_set, still_set, newly_set}
 
 -- what goes on from each slot to the next goes on over any number of slots
 pub over : (P : ℕ → Type 0) (low count : ℕ) → P low → ((k : ℕ) → low ≤ k → k < low + count → P k → P (k + 1)) → P (low + count)
@@ -20,6 +20,13 @@ pub over_to : (P : ℕ → Type 0) (low high : ℕ) → low ≤ high → P low �
 over_to P low high l p step =
     let e : low + (high - low) ≡ high = omega arith in
     subst P e (over P low (high - low) p (λ k m n x. step k m (omega arith) x))
+
+unset : (set : List Bool) (k : ℕ) → ¬ (get_or set k false ≡ true) → get_or set k false ≡ false
+unset set k n = go (get_or set k false) refl
+  where
+    go : (b : Bool) → get_or set k false ≡ b → get_or set k false ≡ false
+    go true e = absurd (n e)
+    go false e = e
 
 -- both holds the slots of one, and those of other below n
 pub record IsUnionBelow (n : ℕ) (one other both : List Bool) : Type 0 where
@@ -76,3 +83,33 @@ united_marks a P Q one other both m n u = record {
   each = λ k x. elim (u.each k x) [ inl y ↦ (let z = m.each k y in (inr z.0, z.1)) | inr y ↦ (let z = n.each k y in (inl z.0, z.1)) ];
   all = λ h p i. elim p [ inl q ↦ u.new (h / 16) (n.all h q i) | inr q ↦ u.old (h / 16) (m.all h q i) ];
 }
+
+-- an empty set joined with two
+pub united_empty : (n : ℕ) (one other first both : List Bool) → n ≡ length one → IsUnion (replicate n false) one first → IsUnion first other both → IsUnion one other both
+united_empty n one other first both e u w = record {
+  sized = w.sized ∙ u.sized ∙ length-replicate n false ∙ e;
+  each = λ k m. elim (w.each k m) [
+    | inl x ↦ elim (u.each k x) [ inl y ↦ absurd (true≢false (sym y ∙ no_marks (replicate n false) n refl k)) | inr y ↦ inl y ]
+    | inr x ↦ inr x
+  ];
+  old = λ k m. w.old k (u.new k m);
+  new = w.new;
+}
+
+-- the next slot of the joined set is that of either
+module _ (one other both : List Bool) (u : IsUnion one other both) where
+  clear_one : (low high : ℕ) → IsClear both low high → IsClear one low high
+  clear_one low high c = record { each = λ k l h. unset one k (λ m. true≢false (sym (u.old k m) ∙ c.each k l h)) }
+
+  clear_other : (low high : ℕ) → IsClear both low high → IsClear other low high
+  clear_other low high c = record { each = λ k l h. unset other k (λ m. true≢false (sym (u.new k m) ∙ c.each k l h)) }
+
+  pub next_united : (from : ℕ) (next : Option ℕ) → IsNext both from next → IsNextOfEither one other from next
+  next_united from None c = (clear_one from (length one) (subst (IsClear both from) u.sized c), clear_other from (length one) (subst (IsClear both from) u.sized c))
+  next_united from (Some k) n = record {
+    low = n.low;
+    high = subst (λ x. k < x) u.sized n.high;
+    is = u.each k n.is;
+    one_clear = clear_one from k n.clear;
+    other_clear = clear_other from k n.clear;
+  }

@@ -10,6 +10,7 @@ use Rattle.romfs_format.specs.Links.{IsTarget}
 use Rattle.romfs_format.specs.Rules.{BreaksHeader, BreaksHeaderAs, number, IsNamedBefore, IsLinkedTwice}
 use Rattle.romfs_rules.specs.Marks.{AreMarks, IsElsewhere}
 use Rattle.romfs_rules.specs.InChains.{AreChains}
+use Rattle.romfs_rules.specs.SlotSets.{IsUnion}
 use Rattle.romfs_rules.specs.Ends.{AreEnds}
 use Rattle.romfs_rules.specs.Outside.{IsLeast}
 use Rattle.romfs_rules.specs.Namesakes.{AreNamesakes}
@@ -18,6 +19,7 @@ use Rattle.romfs_rules.specs.Namesakes.{AreNamesakes}
 pub record AreSets {A : Type 0} (a : List ℕ) (sets : Sets A) : Type 0 where
   pub chains : AreChains a sets.chains.now
   pub targets : AreMarks a (IsTarget a) sets.targets.now
+  pub reached : IsUnion sets.chains.now.headers sets.targets.now sets.reached.now
   pub twice : AreMarks a (IsLinkedTwice a) sets.twice.now
   pub namesakes : ¬ IsElsewhere a (root a) → AreNamesakes a sets.namesakes.now
   pub ends : AreEnds a sets.ends.now.walks.items sets.ends.now.ends.items

@@ -15,6 +15,7 @@ use crate::ends::find_ends;
 use crate::judge::{Sets, fault_of, header_fault};
 use crate::namesakes::find_namesakes;
 use crate::outside::find_outside;
+use crate::reached::find_reached;
 use crate::targets::mark_targets;
 use crate::twice::mark_twice;
 use crate::volume::{image_of, volume_fault};
@@ -58,10 +59,12 @@ fn header_fault_in<A: Allocator + Copy>(
     let ends = find_ends(alloc, bytes, top, &chains)?;
     let targets = mark_targets(alloc, bytes, top, &chains)?;
     let twice = mark_twice(alloc, bytes, top, &chains)?;
-    let outside = find_outside(bytes, top, &chains, &targets);
+    let reached = find_reached(alloc, &chains, &targets)?;
+    let outside = find_outside(bytes, top, &chains, &targets, &reached);
     let sets = Sets {
         chains: &chains,
         targets: &targets,
+        reached: &reached,
         twice: &twice,
         namesakes: &namesakes,
         ends: &ends,

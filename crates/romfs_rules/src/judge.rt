@@ -30,6 +30,8 @@ pub(crate) struct Sets<'s, A: Allocator> {
     pub(crate) chains: &'s Chains<A>,
     /// Those that the hard links of members lead over.
     pub(crate) targets: &'s SlotSet<A>,
+    /// Both together.
+    pub(crate) reached: &'s SlotSet<A>,
     /// Those that two links name.
     pub(crate) twice: &'s SlotSet<A>,
     /// Those whose name a member of the same directory has at a lower place. It may be empty
@@ -381,7 +383,7 @@ fn fault_inside<A: Allocator>(
         return Some(fault);
     }
     let mut from = top / 16 + 1;
-    while let Some(slot) = next_reached(sets.chains, sets.targets, from) {
+    while let Some(slot) = next_reached(sets.chains, sets.targets, sets.reached, from) {
         if let Some(fault) = fault_at(image, top, profile, sets, slot * 16) {
             return Some(fault);
         }
