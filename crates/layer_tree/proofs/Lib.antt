@@ -10,3 +10,4 @@ pub mod Folding
 pub mod Agreeing
 pub mod Directories
 pub mod Children
+pub mod Parents

@@ -1,6 +1,9 @@
 //! Laws of trees.
 
-ghost use Rattle.std.specs.Prelude.{◌≡◌, ℕ, List, [], ◌∷◌, ◌++◌};
+ghost use Rattle.std.specs.Prelude.{◌≡◌, ℕ, List, [], ◌∷◌, ◌++◌, Some, IsSomeAnd};
+ghost use Rattle.std.specs.List.{AllByRecursion};
+ghost use Rattle.romfs_format.specs.declared.head.Kind.TheVariants.{Directory};
+ghost use Rattle.romfs_image.specs.Images.{IsImage};
 ghost use Rattle.romfs_format.specs.Chains.{Has};
 ghost use Rattle.stack_model.specs.Listing.{IsListing};
 ghost use Rattle.stack_model.specs.Stack.{Path, IsPlain, IsIn, Shows};
@@ -42,4 +45,12 @@ pub fn directories_merge()
         IsPlain path → Has high path h → Shows (low ∷ high ∷ []) path 1 h }
     ensures lower { (low high : List ℕ) (path : Path) (h : ℕ) →
         IsPlain path → Has low path h → ¬ IsIn high path → IsUnremoved high path → Shows (low ∷ high ∷ []) path 0 h }
+{}
+
+/// What stands one name below a path stands in a directory: where a path is no directory, or is not shown, it has no
+/// children.
+pub fn children_stand_in_directories()
+    ensures { (first : ℕ) (layers : List (List ℕ)) → AllByRecursion IsImage layers → (t : TreeRows) →
+        IsTreeOf first layers t → (path : Path) (name : List ℕ) (e : Entry) →
+        entry_at t (path ++ name ∷ []) ≡ Some e → IsSomeAnd (entry_at t path) (λ d. d.kind ≡ Directory) }
 {}
