@@ -1,8 +1,8 @@
 //! One thread draws through one hand or two, and memory that is refused.
 
 use draw_board::{Board, Few};
-use test_kit::refusing::Refusing;
 use std::test::Fail;
+use test_kit::refusing::Refusing;
 
 #[test]
 fn two_hands_share_three_numbers(rt: HostRuntime) -> Result<(), Fail> {

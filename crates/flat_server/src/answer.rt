@@ -10,10 +10,10 @@ ghost use Rattle.flat_model.specs.Sessions.{is_spoken, session_after};
 ghost use Rattle.flat_server.specs.Answered.{reply_over, Tells};
 
 use crate::files::{Files, attr_by};
+use flat_model::Session;
 use flat_wire::{
     Attr, Errno, InitOut, Op, Request, opcode, put_attr, put_entry, put_error, put_init,
 };
-use flat_model::Session;
 use romfs_image::{Head, Kind};
 use std::alloc::{AllocError, Allocator};
 

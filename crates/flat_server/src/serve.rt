@@ -6,8 +6,8 @@ ghost use Rattle.flat_server.specs.Serving.{HasServedAll, HasStopped};
 use crate::answer::{after, answer};
 use crate::fault::First;
 use crate::files::Files;
-use flat_wire::{Framed, Request, frame};
 use flat_model::Session;
+use flat_wire::{Framed, Request, frame};
 use std::alloc::Allocator;
 
 /// Appends the replies to all messages of a stream, and counts the messages.

@@ -13,9 +13,9 @@
 #![tactic(auto)]
 
 mod buffer;
+mod checking;
 pub mod done;
 pub mod laws;
-mod checking;
 mod preparing;
 mod progress;
 mod rounds_on;

@@ -3,11 +3,10 @@
 ghost use Rattle.std.specs.Prelude.{map, IfOk, IfErr};
 ghost use Rattle.serve_core.specs.Preparing.{AreLayers, AreRefused};
 
-use crate::stop::Stop;
 use crate::checking::check_all;
+use crate::stop::Stop;
 use node_table::Table;
 use romfs_format::Profile;
-
 use stack_core::{Gate, stack};
 use std::alloc::Allocator;
 use std::thread::Threads;

@@ -4,9 +4,9 @@ use fuse_wire::{
     Attr, Dirent, Errno, InitOut, put_attr, put_data, put_data_head, put_dirent, put_direntplus,
     put_entry, put_error, put_head, put_init, put_open, put_statfs,
 };
-use test_kit::refusing::Refusing;
 use std::alloc::{AllocError, Allocator};
 use std::test::Fail;
+use test_kit::refusing::Refusing;
 
 const NODE: Attr = Attr {
     ino: 2,
