@@ -6,7 +6,7 @@ use Rattle.std.proofs.Math.Seq.{drop-cons}
 use Rattle.std.proofs.lemmas.List.{drop_all}
 use Rattle.path_tree.specs.Rows.{Shoot, spread, whole, named, NamesRise, at_path}
 use Rattle.path_tree.proofs.Under.{step}
-use Rattle.path_tree.proofs.Spread.{through}
+use Rattle.path_tree.proofs.Spread.{through, at_spread}
 use Rattle.stack_model.specs.Stack.{marker}
 use Rattle.layer_tree.specs.declared.place.Mark.{Mark}
 use Rattle.layer_tree.specs.Marks.{cuts_itself, cuts_below, cut_by, is_plain}
@@ -35,9 +35,13 @@ abbrev pub cut_through : Option (Shoot Mark) → List (List ℕ) → Bool
 cut_through None path = false
 cut_through (Some s) path = cut_by (at_path (whole s)) path
 
-by_through : (o : Option (Shoot Mark)) (path : List (List ℕ)) → cut_by (through o) path ≡ cut_through o path
+pub by_through : (o : Option (Shoot Mark)) (path : List (List ℕ)) → cut_by (through o) path ≡ cut_through o path
 by_through None path = nothing_cut path
 by_through (Some s) path = refl
+
+-- what the marks below a name cut
+pub by_name : (ms : List (Shoot Mark)) → NamesRise ms → (n : List ℕ) (path : List (List ℕ)) → cut_by (λ q. at_path (spread ms) (n ∷ q)) path ≡ cut_through (named n ms) path
+by_name ms r n path = cut_same (λ q. at_path (spread ms) (n ∷ q)) (through (named n ms)) (λ q. at_spread ms r n q) path ∙ by_through (named n ms) path
 
 -- a path is cut by the mark above all of it, or by the branch of its first name
 pub cut_step : (s : Shoot Mark) (ss : List (Shoot Mark)) (o : Option (Shoot Mark)) (n : List ℕ) (path : List (List ℕ)) → s.below ≡ spread ss → NamesRise ss → named n ss ≡ o → cut_by (at_path (whole s)) (n ∷ path) ≡ (cuts_below (Some s.value) || cut_through o path)

@@ -1,2 +1,12 @@
 pub mod Cutting
 pub mod Listed
+pub mod Plain
+pub mod Stepping
+pub mod Joining
+pub mod ByName
+pub mod Layered
+pub mod Building
+pub mod Folding
+pub mod Agreeing
+pub mod Directories
+pub mod Children

@@ -18,7 +18,7 @@ not_before_itself : (p : Path) → path_cmp p p ≡ Less → ⊥
 not_before_itself p e = let s = (lists_total nat_list_cmp_total).antisymm p p in let r : Less ≡ Greater = sym e ∙ s ∙ ap ordering_reverse e in cc
 
 -- hard links end at one header
-one_end : (a : List ℕ) (h e f : ℕ) → IsFinal a h e → IsFinal a h f → e ≡ f
+pub one_end : (a : List ℕ) (h e f : ℕ) → IsFinal a h e → IsFinal a h f → e ≡ f
 one_end a h e f (stays n) (stays m) = refl
 one_end a h e f (stays n) (follows l r) = absurd (n l)
 one_end a h e f (follows l r) (stays m) = absurd (m l)

@@ -1,11 +1,45 @@
 //! Laws of trees.
 
-ghost use Rattle.std.specs.Prelude.{ℕ, List};
+ghost use Rattle.std.specs.Prelude.{◌≡◌, ℕ, List, [], ◌∷◌, ◌++◌};
+ghost use Rattle.romfs_format.specs.Chains.{Has};
 ghost use Rattle.stack_model.specs.Listing.{IsListing};
-ghost use Rattle.layer_tree.specs.Trees.{TreeRows, IsTreeOf, listing};
+ghost use Rattle.stack_model.specs.Stack.{Path, IsPlain, IsIn, Shows};
+ghost use Rattle.path_tree.specs.Rows.{Shoot, spread, named, at_path};
+ghost use Rattle.layer_tree.specs.declared.place.Entry.{Entry};
+ghost use Rattle.layer_tree.specs.Merging.{IsUnremoved, value_of};
+ghost use Rattle.layer_tree.specs.Trees.{TreeRows, entry_at, cuts_at, AreChildren, IsTreeOf, listing};
 
 /// The entries of a tree whose layers are numbered from 0, in the order of their paths, are the listing of these
 /// layers.
 pub fn entries_are_the_listing()
     ensures { (layers : List (List ℕ)) (t : TreeRows) → IsTreeOf 0 layers t → IsListing layers (listing t) }
+{}
+
+/// Trees of one run of layers have the same entries, cut the same paths and have the same children, with the same
+/// entries below them. So every bracketing of a list of layers gives one answer.
+pub fn one_tree()
+    ensures entries { (first : ℕ) (layers : List (List ℕ)) (s t : TreeRows) →
+        IsTreeOf first layers s → IsTreeOf first layers t → (path : Path) → entry_at s path ≡ entry_at t path }
+    ensures cuts { (first : ℕ) (layers : List (List ℕ)) (s t : TreeRows) →
+        IsTreeOf first layers s → IsTreeOf first layers t → (path : Path) → cuts_at s path ≡ cuts_at t path }
+    ensures children { (first : ℕ) (layers : List (List ℕ)) (s t : TreeRows) →
+        IsTreeOf first layers s → IsTreeOf first layers t → (path : Path) (cs ds : List (Shoot Entry)) →
+        AreChildren s path cs → AreChildren t path ds →
+        (name : List ℕ) (q : Path) → at_path (spread cs) (name ∷ q) ≡ at_path (spread ds) (name ∷ q) }
+{}
+
+/// The children of a directory are, by their names, what is one name below it.
+pub fn children_are_one_name_below()
+    ensures { (t : TreeRows) (path : Path) (children : List (Shoot Entry)) → AreChildren t path children →
+        (name : List ℕ) → value_of (named name children) ≡ entry_at t (path ++ name ∷ []) }
+{}
+
+/// Directories of two layers are merged: all of the upper layer is shown, and of the lower one each path that the
+/// upper one has not, unless on the way to it the upper one has a marker for a name, a marker of a whole directory,
+/// or an entry that is no directory. Nothing else is removed.
+pub fn directories_merge()
+    ensures upper { (low high : List ℕ) (path : Path) (h : ℕ) →
+        IsPlain path → Has high path h → Shows (low ∷ high ∷ []) path 1 h }
+    ensures lower { (low high : List ℕ) (path : Path) (h : ℕ) →
+        IsPlain path → Has low path h → ¬ IsIn high path → IsUnremoved high path → Shows (low ∷ high ∷ []) path 0 h }
 {}

@@ -5,17 +5,21 @@
 //! alone; whiteouts leave marks, and so does each entry that is no directory.
 //!
 //! One relation says what a tree is, for any run of adjacent layers (`IsTreeOf` in `specs/Trees.antt`): it has an
-//! entry exactly at each path that the run shows, and it cuts exactly what the run cuts. The readers take no
-//! memory. An entry takes 64 bytes beside its name, and a mark no more.
+//! entry exactly at each path that the run shows, and it cuts exactly what the run cuts. [`Tree::of`] gives the
+//! tree of one layer, and [`lay`] that of two runs from theirs. The readers take no memory. An entry takes 64 bytes beside its name, and a mark no more.
 //!
 //! The crate stands on `path_tree` for trees, on `romfs_image` for images and on `stack_model` for what stacks
 //! show.
 #![tactic(auto)]
 
 pub mod laws;
+mod laying;
+mod members;
 pub mod place;
+mod reading;
 mod tree;
 
+pub use laying::lay;
 pub use path_tree::Branch;
 pub use place::{Entry, Mark, Place};
 pub use tree::{Child, Tree};

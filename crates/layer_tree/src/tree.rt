@@ -1,12 +1,11 @@
 //! The tree of a run of layers.
 
-ghost use Rattle.std.specs.Prelude.{◌≡◌, map, nat_eq};
-ghost use Rattle.std.specs.List.{starts_with};
-ghost use Rattle.stack_model.specs.Stack.{marker};
+ghost use Rattle.std.specs.Prelude.{◌≡◌, map};
 ghost use Rattle.path_tree.specs.Rows.{whole, at_path};
 ghost use Rattle.layer_tree.specs.Marks.{cut_by, is_plain};
 ghost use Rattle.layer_tree.specs.Trees.{entry_at, cuts_at, AreChildren};
 
+use crate::members::is_marker;
 use crate::place::{Entry, Mark};
 use path_tree::{Branch, child};
 use std::alloc::Allocator;
@@ -15,23 +14,24 @@ use std::marker::Model;
 /// An entry with its name, and all below it in the order of names.
 pub type Child<A> = Branch<Entry, A>;
 
-/// The names of markers begin with this.
-const MARKER: &[u8; 4] = b".wh.";
-
 /// What a run of layers shows and cuts.
 #[derive(Drop)]
 pub struct Tree<A: Allocator> {
-    entries: Branch<Entry, A>,
-    marks: Branch<Mark, A>,
+    pub(crate) entries: Branch<Entry, A>,
+    pub(crate) marks: Branch<Mark, A>,
 }
 
 impl<A: Allocator> Model for Tree<A> {
+    ghost use Rattle.std.specs.Prelude.{◌≡◌, false};
     ghost use Rattle.path_tree.specs.Rows.{whole};
     ghost use Rattle.layer_tree.specs.Trees.{TreeRows};
 
     ghost Value = { TreeRows };
 
     ghost view = { λ t. record { entries = whole t.entries; marks = whole t.marks } };
+
+    // no mark cuts the root
+    ghost invariant = { λ t. t.marks.value.cut ≡ false };
 }
 
 impl<A: Allocator> Tree<A> {
@@ -70,13 +70,6 @@ impl<A: Allocator> Tree<A> {
     {
         is_plain(path) && cut_by(&self.marks, path)
     }
-}
-
-/// Whether a name is a marker's.
-fn is_marker(name: &[u8]) -> bool
-    ensures { result ≡ starts_with nat_eq name.now marker }
-{
-    name.starts_with(MARKER)
 }
 
 /// Whether no name of a path is a marker's.

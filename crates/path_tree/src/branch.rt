@@ -43,6 +43,16 @@ impl<T: Copy + Drop, A: Allocator> Branch<T, A> {
         }
     }
 
+    /// The branch's name, value and children.
+    pub fn into_parts(self) -> (Vec<u8, A>, T, Vec<Branch<T, A>, A>)
+        ensures name { result.0.items ≡ self.name }
+        ensures value { result.1 ≡ self.value }
+        ensures below { self.below ≡ spread result.2.items }
+        ensures forest { IsForest result.2.items }
+    {
+        (self.name, self.value, self.children)
+    }
+
     /// The branch's name.
     pub fn name(&self) -> &[u8]
         ensures { result.now ≡ self.now.name }

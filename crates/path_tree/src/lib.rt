@@ -8,5 +8,7 @@
 #![tactic(auto)]
 
 mod branch;
+mod laying;
 
 pub use branch::{Branch, child};
+pub use laying::{Lay, cover, merge};

@@ -1,0 +1,201 @@
+-- The branches of a directory's members are those of all paths from it.
+use Rattle.std.proofs.Common.{◌≡◌, ◌≢◌, ◌∙◌, sym, ap, subst, ℕ, zero, suc, ◌+◌, ◌-◌, ◌<◌, ◌≤◌, inl, inr, List, [], ◌∷◌, ◌++◌, append_assoc, length, length-append, get_or, drop, refl, arith, add-one, Some, None, true, false}
+use Rattle.std.specs.Prelude.{slice_get}
+use Rattle.std.specs.List.{AllByRecursion}
+use Rattle.std.specs.declared.cmp.Ordering.TheVariants.{Less}
+use Rattle.std.proofs.Math.Seq.{drop-cons}
+use Rattle.std.proofs.lemmas.List.{append-nil, drop_all}
+use Rattle.romfs_format.specs.declared.head.Kind.TheVariants.{HardLink}
+use Rattle.romfs_format.specs.Fields.{root}
+use Rattle.romfs_format.specs.Chains.{Has}
+use Rattle.romfs_image.specs.Images.{IsImage}
+use Rattle.romfs_image.proofs.Paths.{short}
+use Rattle.stack_model.specs.Stack.{Path, IsMarker, marker}
+use Rattle.path_tree.specs.Rows.{Shoot, name_cmp, named, IsRising, IsForest}
+use Rattle.path_tree.proofs.Names.{same_or_not}
+use Rattle.layer_tree.specs.declared.place.Entry.{Entry}
+use Rattle.layer_tree.specs.declared.place.Mark.{Mark}
+use Rattle.layer_tree.specs.declared.members.Named.{Named}
+use Rattle.layer_tree.specs.Reading.{IsBefore, NamedRise, IsNamedMember, IsAtDepth, AreMembersAt, AreBranchesOf, AreBuilt, none_built, hidden, built, AreWhiteouts, none_white, other, white}
+use Rattle.layer_tree.proofs.Layered.{leads_on}
+
+-- members from the i-th on are left
+pub record Building (a : List ℕ) (layer : ℕ) (all left : List Named) (es : List (Shoot Entry)) (ks : List (Shoot Mark)) : Type 0 where
+  pub more : (es' : List (Shoot Entry)) (ks' : List (Shoot Mark)) → AreBuilt a layer left es' ks' → AreBuilt a layer all (es ++ es') (ks ++ ks')
+
+pub record Whitening (all left : List Named) (ks : List (Shoot Mark)) : Type 0 where
+  pub more : (ks' : List (Shoot Mark)) → AreWhiteouts left ks' → AreWhiteouts all (ks ++ ks')
+
+pub building_begun : (a : List ℕ) (layer : ℕ) (all : List Named) → Building a layer all all [] []
+building_begun a layer all = record { more = λ es ks b. b }
+
+pub whitening_begun : (all : List Named) → Whitening all all []
+whitening_begun all = record { more = λ ks b. b }
+
+-- what is past the end of members
+abbrev pub nothing : Named
+nothing = record {
+  name = record { ref_ptr = (0, 0); now = [] };
+  head = record { offset = 0; next = 0; kind = HardLink; exec = false; spec = 0; size = 0; name_at = 0; name_len = 0 };
+}
+
+abbrev pub at_index : List Named → ℕ → Named
+at_index all i = get_or all i nothing
+
+next : (all : List Named) (i : ℕ) → i < length all → drop i all ≡ at_index all i ∷ drop (i + 1) all
+next all i l = rw add-one (drop-cons all i nothing l)
+
+module _ (a : List ℕ) (layer : ℕ) (all : List Named) (i : ℕ) (es : List (Shoot Entry)) (ks : List (Shoot Mark)) (l : i < length all) (w : Building a layer all (drop i all) es ks) where
+  pub build_hidden : IsMarker (at_index all i).name.now → Building a layer all (drop (i + 1) all) es ks
+  build_hidden h = record { more = λ es' ks' b. w.more es' ks' (rw (next all i l) (hidden (at_index all i) (drop (i + 1) all) es' ks' h b)) }
+
+  pub build_one : (e : Shoot Entry) (k : Shoot Mark) (es' : List (Shoot Entry)) (ks' : List (Shoot Mark)) → ¬ IsMarker (at_index all i).name.now → AreBranchesOf a layer (at_index all i).head.offset (at_index all i).name.now e k → es' ≡ es ++ e ∷ [] → ks' ≡ ks ++ k ∷ [] → Building a layer all (drop (i + 1) all) es' ks'
+  build_one e k es' ks' n b p q = record { more = λ es'' ks'' c. rw (p, q) (simp append_assoc (w.more (e ∷ es'') (k ∷ ks'') (rw (next all i l) (built (at_index all i) (drop (i + 1) all) e es'' k ks'' n b c)))) }
+
+pub building_ended : (a : List ℕ) (layer : ℕ) (all : List Named) (i : ℕ) (es : List (Shoot Entry)) (ks : List (Shoot Mark)) → length all ≤ i → Building a layer all (drop i all) es ks → AreBuilt a layer all es ks
+building_ended a layer all i es ks l w =
+    let b : AreBuilt a layer (drop i all) [] [] = rw (drop_all i all l) none_built in
+    subst (λ x. AreBuilt a layer all es x) (append-nil ks) (subst (λ x. AreBuilt a layer all x (ks ++ [])) (append-nil es) (w.more [] [] b))
+
+module _ (all : List Named) (i : ℕ) (ks : List (Shoot Mark)) (l : i < length all) (w : Whitening all (drop i all) ks) where
+  pub white_none : ¬ IsMarker (at_index all i).name.now → Whitening all (drop (i + 1) all) ks
+  white_none h = record { more = λ ks' b. w.more ks' (rw (next all i l) (other (at_index all i) (drop (i + 1) all) ks' h b)) }
+
+  pub white_one : (n : List ℕ) (k : Shoot Mark) (ks' : List (Shoot Mark)) → (at_index all i).name.now ≡ marker ++ n → k ≡ record { name = n; value = record { cut = true; opaque = false }; below = [] } → ks' ≡ ks ++ k ∷ [] → Whitening all (drop (i + 1) all) ks'
+  white_one n k ks' e f q = record { more = λ ks'' c. rw q (simp append_assoc (w.more (k ∷ ks'') (rw (next all i l) (white (at_index all i) (drop (i + 1) all) k ks'' (e ∙ ap (λ (x : Shoot Mark). marker ++ x.name) (sym f)) (ap (λ (x : Shoot Mark). x.value.cut) f) (ap (λ (x : Shoot Mark). x.below) f) c)))) }
+
+pub whitening_ended : (all : List Named) (i : ℕ) (ks : List (Shoot Mark)) → length all ≤ i → Whitening all (drop i all) ks → AreWhiteouts all ks
+whitening_ended all i ks l w = subst (AreWhiteouts all) (append-nil ks) (w.more [] (rw (drop_all i all l) none_white))
+
+all_at : (P : Named → Type 0) (ms : List Named) (i : ℕ) (d : Named) → AllByRecursion P ms → i < length ms → P (get_or ms i d)
+all_at P [] i d p l = absurd (omega arith)
+all_at P (m ∷ ms) zero d p l = p.0
+all_at P (m ∷ ms) (suc i) d p l = all_at P ms i d p.1 (omega arith)
+
+-- a member below a path has one name less left
+module _ (a : List ℕ) (s : IsImage a) (left : ℕ) (ms : List Named) (at : AreMembersAt a left ms) (i : ℕ) (l : i < length ms) where
+  pub member_here : IsNamedMember a at.0 (at_index ms i)
+  member_here = all_at (IsNamedMember a at.0) ms i nothing at.1 l
+
+  longer : Path
+  longer = at.2.0 ++ (at_index ms i).name.now ∷ []
+
+  has_more : Has a longer (at_index ms i).head.offset
+  unfolding longer
+  has_more = leads_on a (root a) at.2.0 at.0 (at_index ms i).name.now (at_index ms i).head.offset at.2.1 member_here.member member_here.name
+
+  long_more : length longer + left ≡ 513
+  unfolding longer
+  long_more = omega (arith, length-append at.2.0 ((at_index ms i).name.now ∷ []), at.2.2)
+
+  pub some_left : 1 ≤ left
+  some_left = omega (arith, short a s longer (at_index ms i).head.offset has_more, long_more)
+
+  pub one_less : IsAtDepth a (at_index ms i).head.offset (left - 1)
+  one_less = (longer, has_more, omega (arith, some_left, long_more))
+
+-- names of what is built rise
+before_built : (a : List ℕ) (layer : ℕ) {ms : List Named} {es : List (Shoot Entry)} {ks : List (Shoot Mark)} → AreBuilt a layer ms es ks → (m : Named) → AllByRecursion (IsBefore m) ms → AllByRecursion (λ t. name_cmp m.name.now t.name ≡ Less) es × AllByRecursion (λ t. name_cmp m.name.now t.name ≡ Less) ks
+before_built a layer none_built m r = (tt, tt)
+before_built a layer (hidden x ms es ks h b) m r = before_built a layer b m r.1
+before_built a layer (built x ms e es k ks n w b) m r = let t = before_built a layer b m r.1 in ((rw w.entry_name r.0, t.0), (rw w.mark_name r.0, t.1))
+
+pub forests : (a : List ℕ) (layer : ℕ) {ms : List Named} {es : List (Shoot Entry)} {ks : List (Shoot Mark)} → AreBuilt a layer ms es ks → NamedRise ms → IsForest es × IsForest ks
+forests a layer none_built r = (record { names = tt; each = tt }, record { names = tt; each = tt })
+forests a layer (hidden m ms es ks h b) r = forests a layer b r.1
+forests a layer (built m ms e es k ks n w b) r =
+    let f = forests a layer b r.1 in
+    let t = before_built a layer b m r.0 in
+    (record { names = (rw w.entry_name t.0, f.0.names); each = (w.entries.rising, f.0.each) }, record { names = (rw w.mark_name t.1, f.1.names); each = (w.marks.rising, f.1.each) })
+
+marked_before : (x y : List ℕ) → name_cmp (marker ++ x) (marker ++ y) ≡ name_cmp x y
+marked_before x y = refl
+
+before_white : {ms : List Named} {ks : List (Shoot Mark)} → AreWhiteouts ms ks → (m : Named) (n : List ℕ) → m.name.now ≡ marker ++ n → AllByRecursion (IsBefore m) ms → AllByRecursion (λ t. name_cmp n t.name ≡ Less) ks
+before_white none_white m n e r = tt
+before_white (other x ms ks h b) m n e r = before_white b m n e r.1
+before_white (white x ms k ks f c d b) m n e r =
+    (let p : name_cmp (marker ++ n) (marker ++ k.name) ≡ Less = subst (λ y. name_cmp y (marker ++ k.name) ≡ Less) e (subst (λ y. name_cmp m.name.now y ≡ Less) f r.0) in p, before_white b m n e r.1)
+
+leaf_rises : {T : Type 0} (s : Shoot T) → s.below ≡ [] → IsRising s
+leaf_rises s e = record { rises = rw e (tt, tt) }
+
+pub white_forest : {ms : List Named} {ks : List (Shoot Mark)} → AreWhiteouts ms ks → NamedRise ms → IsForest ks
+white_forest none_white r = record { names = tt; each = tt }
+white_forest (other m ms ks h b) r = white_forest b r.1
+white_forest (white m ms k ks f c d b) r =
+    let w = white_forest b r.1 in
+    record { names = (before_white b m k.name f r.0, w.names); each = (leaf_rises k d, w.each) }
+
+-- the branches that the name n has, and its member
+pub data FoundBuilt (a : List ℕ) (layer d : ℕ) (n : List ℕ) (ms : List Named) (es : List (Shoot Entry)) (ks : List (Shoot Mark)) : Type 0 where
+  nowhere : named n es ≡ None → named n ks ≡ None → ((j : ℕ) (m : Named) → slice_get ms j ≡ Some m → m.name.now ≡ n → IsMarker n) → FoundBuilt a layer d n ms es ks
+  somewhere : (m : Named) (e : Shoot Entry) (k : Shoot Mark) → named n es ≡ Some e → named n ks ≡ Some k → m.name.now ≡ n → ¬ IsMarker n → IsNamedMember a d m → AreBranchesOf a layer m.head.offset n e k → FoundBuilt a layer d n ms es ks
+
+pub find_built : (a : List ℕ) (layer d : ℕ) (n : List ℕ) {ms : List Named} {es : List (Shoot Entry)} {ks : List (Shoot Mark)} → AreBuilt a layer ms es ks → AllByRecursion (IsNamedMember a d) ms → FoundBuilt a layer d n ms es ks
+find_built a layer d n none_built p = nowhere refl refl (λ j m f g. absurd (cc))
+find_built a layer d n (hidden m ms es ks h b) p = more (find_built a layer d n b p.1)
+  where
+    more : FoundBuilt a layer d n ms es ks → FoundBuilt a layer d n (m ∷ ms) es ks
+    more (nowhere f g q) = nowhere f g rest
+      where
+        rest : (j : ℕ) (x : Named) → slice_get (m ∷ ms) j ≡ Some x → x.name.now ≡ n → IsMarker n
+        rest zero x u v = (let z : m ≡ x = cc in subst IsMarker (ap (λ (y : Named). y.name.now) z ∙ v) h)
+        rest (suc j) x u v = q j x u v
+    more (somewhere x e k f g q r s t) = somewhere x e k f g q r s t
+find_built a layer d n (built m ms e es k ks h w b) p = more (find_built a layer d n b p.1)
+  where
+    more : FoundBuilt a layer d n ms es ks → FoundBuilt a layer d n (m ∷ ms) (e ∷ es) (k ∷ ks)
+    more found = elim (same_or_not m.name.now n) [
+      | inl x ↦ (
+          let f : named n (e ∷ es) ≡ Some e = rw (w.entry_name, x.1) refl in
+          let g : named n (k ∷ ks) ≡ Some k = rw (w.mark_name, x.1) refl in
+          somewhere m e k f g x.0 (subst (λ y. ¬ IsMarker y) x.0 h) p.0 (subst (λ y. AreBranchesOf a layer m.head.offset y e k) x.0 w))
+      | inr x ↦ later x.0 (let f : named n (e ∷ es) ≡ named n es = rw (w.entry_name, x.1) refl in f) (let g : named n (k ∷ ks) ≡ named n ks = rw (w.mark_name, x.1) refl in g) found
+    ]
+      where
+        later : m.name.now ≢ n → named n (e ∷ es) ≡ named n es → named n (k ∷ ks) ≡ named n ks → FoundBuilt a layer d n ms es ks → FoundBuilt a layer d n (m ∷ ms) (e ∷ es) (k ∷ ks)
+        later o u v (nowhere f g q) = nowhere (u ∙ f) (v ∙ g) rest
+          where
+            rest : (j : ℕ) (x : Named) → slice_get (m ∷ ms) j ≡ Some x → x.name.now ≡ n → IsMarker n
+            rest zero x s t = (let z : m ≡ x = cc in absurd (o (ap (λ (y : Named). y.name.now) z ∙ t)))
+            rest (suc j) x s t = q j x s t
+        later o u v (somewhere x y z f g q r s t) = somewhere x y z (u ∙ f) (v ∙ g) q r s t
+
+-- a mark of the name n, and the marker that it is of
+pub data FoundWhite (n : List ℕ) (ms : List Named) (ks : List (Shoot Mark)) : Type 0 where
+  unmarked : named n ks ≡ None → ((j : ℕ) (m : Named) → slice_get ms j ≡ Some m → m.name.now ≡ marker ++ n → ⊥) → FoundWhite n ms ks
+  marked : (j : ℕ) (m : Named) (k : Shoot Mark) → named n ks ≡ Some k → k.value.cut ≡ true → slice_get ms j ≡ Some m → m.name.now ≡ marker ++ n → FoundWhite n ms ks
+
+marker_is : (n : List ℕ) → IsMarker (marker ++ n)
+marker_is n = refl
+
+same_rest : (x y : List ℕ) → marker ++ x ≡ marker ++ y → x ≡ y
+same_rest x y e = ap (drop 4) e
+
+pub find_white : (n : List ℕ) {ms : List Named} {ks : List (Shoot Mark)} → AreWhiteouts ms ks → FoundWhite n ms ks
+find_white n none_white = unmarked refl (λ j m f g. absurd (cc))
+find_white n (other m ms ks h b) = more (find_white n b)
+  where
+    more : FoundWhite n ms ks → FoundWhite n (m ∷ ms) ks
+    more (unmarked f q) = unmarked f rest
+      where
+        rest : (j : ℕ) (x : Named) → slice_get (m ∷ ms) j ≡ Some x → x.name.now ≡ marker ++ n → ⊥
+        rest zero x u v = (let z : m ≡ x = cc in h (subst IsMarker (sym (ap (λ (y : Named). y.name.now) z ∙ v)) (marker_is n)))
+        rest (suc j) x u v = q j x u v
+    more (marked j x k f c u v) = marked (suc j) x k f c u v
+find_white n (white m ms k ks e c d b) = more (find_white n b)
+  where
+    more : FoundWhite n ms ks → FoundWhite n (m ∷ ms) (k ∷ ks)
+    more found = elim (same_or_not k.name n) [
+      | inl x ↦ (let f : named n (k ∷ ks) ≡ Some k = rw x.1 refl in marked zero m k f c refl (e ∙ ap (λ y. marker ++ y) x.0))
+      | inr x ↦ later x.0 (let f : named n (k ∷ ks) ≡ named n ks = rw x.1 refl in f) found
+    ]
+      where
+        later : k.name ≢ n → named n (k ∷ ks) ≡ named n ks → FoundWhite n ms ks → FoundWhite n (m ∷ ms) (k ∷ ks)
+        later o u (unmarked f q) = unmarked (u ∙ f) rest
+          where
+            rest : (j : ℕ) (x : Named) → slice_get (m ∷ ms) j ≡ Some x → x.name.now ≡ marker ++ n → ⊥
+            rest zero x s t = (let z : m ≡ x = cc in o (same_rest k.name n (sym e ∙ ap (λ (y : Named). y.name.now) z ∙ t)))
+            rest (suc j) x s t = q j x s t
+        later o u (marked j x y f g s t) = marked (suc j) x y (u ∙ f) g s t

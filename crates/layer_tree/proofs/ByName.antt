@@ -1,0 +1,174 @@
+-- The members of a directory differ in their names, and sorted they are in the order of these.
+use Rattle.std.proofs.Common.{◌≡◌, ◌≢◌, ◌∙◌, sym, ap, subst, ℕ, zero, suc, ◌<◌, inl, inr, true, false, not, List, [], ◌∷◌, ◌++◌, append_assoc, length, take, drop, map, refl, arith, All, Some, None, Option, IsSome}
+use Rattle.std.specs.Prelude.{nat_eq, slice_get, unwrap_or}
+use Rattle.std.specs.Cmp.Lexicographic.{same_text}
+use Rattle.std.specs.List.{AllPairs, AllByRecursion, filter, slice_index_or, starts_with}
+use Rattle.std.specs.List.Sorted.{IsPermutation}
+use Rattle.std.specs.Ordering.{is_lt, is_eq, ordering_reverse}
+use Rattle.std.specs.Str.{bytes_eq}
+use Rattle.std.specs.declared.cmp.Ordering.{Ordering}
+use Rattle.std.specs.declared.cmp.Ordering.TheVariants.{Less, Equal, Greater}
+use Rattle.std.proofs.lemmas.Bool.{cases_order}
+use Rattle.std.proofs.lemmas.Bool.Decides.{same_from_decides}
+use Rattle.std.proofs.lemmas.Cmp.{nat_list_cmp_total}
+use Rattle.std.proofs.lemmas.List.{get_or-map, length-map, map-append, take-append-drop}
+use Rattle.std.proofs.lemmas.List.Kept.{AllPairs-filter}
+use Rattle.std.proofs.lemmas.List.Sorted.{ranks_by, sorted_far, IsPermutation-map, All-permutation, Contains-permutation}
+use Rattle.std.proofs.lemmas.Map.Keys.{IsDistinct-IsPermutation}
+use Rattle.std.proofs.lemmas.Map.Made.{AllPairs-from_IsDistinct, IsDistinct-from_AllPairs}
+use Rattle.std.proofs.lemmas.Map.Text.{is_eq-slice_cmp}
+use Rattle.std.proofs.lemmas.Option.{slice_get-get_or}
+use Rattle.std.proofs.lemmas.Slice.Eq.{bytes_eq-Decides}
+use Rattle.romfs_format.specs.declared.head.Head.{Head}
+use Rattle.romfs_format.specs.Fields.{root, name}
+use Rattle.romfs_format.specs.Chains.{IsAt, IsOpened, IsMember}
+use Rattle.romfs_format.specs.Heads.{name_of, head_of}
+use Rattle.romfs_image.specs.Images.{IsImage}
+use Rattle.romfs_image.specs.Readers.{IsGiven, IsListed, AreMembers, passes_over}
+use Rattle.romfs_image.proofs.Keeps.{good, not_twice, member_reached, reached_named}
+use Rattle.romfs_image.proofs.Paths.{one_header}
+use Rattle.stack_model.specs.Stack.{marker}
+use Rattle.path_tree.specs.Rows.{name_cmp}
+use Rattle.layer_tree.specs.declared.members.Named.{Named}
+use Rattle.layer_tree.specs.Members.{AreNamed, IsByName}
+use Rattle.layer_tree.specs.Reading.{IsBefore, NamedRise, IsNamedMember, AreByName}
+
+-- a member goes from what is left to what is named
+pub found_one : (ms after : List Named) (x : Named) (left rest all : List Head) → left ≡ x.head ∷ rest → after ≡ ms ++ x ∷ [] → map (λ m. m.head) ms ++ left ≡ all → map (λ m. m.head) after ++ rest ≡ all
+found_one ms after x left rest all l e d =
+    let t : map (λ m. m.head) ms ++ (x.head ∷ rest) ≡ all = rw l at d in
+    rw e (simp (map-append, append_assoc) t)
+
+flips : (x y : List ℕ) → bytes_eq x y ≡ bytes_eq y x
+flips x y =
+    let d = bytes_eq-Decides x y in
+    let e = bytes_eq-Decides y x in
+    same_from_decides (bytes_eq x y) (bytes_eq y x) d ((λ q. sym (e.0 q)), (λ q. e.1 (sym q)))
+
+module _ {X : Type 0} (v : X → List ℕ) where
+  to_names : (xs : List X) → AllPairs (λ x y. v x ≢ v y) xs → AllPairs (λ x y. x ≢ y) (map v xs)
+  to_names [] p i j d l m = absurd (omega arith)
+  to_names (x ∷ xs) p i j d l m =
+      let n : j < length (x ∷ xs) = rw (← length-map (x ∷ xs) v) m in
+      rw (get_or-map v (x ∷ xs) i x d (omega arith), get_or-map v (x ∷ xs) j x d n) (p i j x l n)
+
+  from_names : (xs : List X) → AllPairs (λ x y. x ≢ y) (map v xs) → AllPairs (λ x y. v x ≢ v y) xs
+  from_names xs p i j d l m =
+      let n : j < length (map v xs) = rw (length-map xs v) m in
+      let q = p i j (v d) l n in
+      rw (← get_or-map v xs i d (v d) (omega arith), ← get_or-map v xs j d (v d) m) q
+
+-- names that differ do so in any order
+moved : (xs ys : List (List ℕ)) → IsPermutation xs ys → AllPairs (λ x y. x ≢ y) xs → AllPairs (λ x y. x ≢ y) ys
+moved xs ys m p = AllPairs-from_IsDistinct bytes_eq-Decides ys (IsDistinct-IsPermutation bytes_eq flips xs ys m (IsDistinct-from_AllPairs bytes_eq-Decides xs p))
+
+less_from : (o q : Ordering) → o ≡ ordering_reverse q → is_lt q ≡ false → (is_eq o ≡ true → ⊥) → o ≡ Less
+less_from Less q e l n = refl
+less_from Equal q e l n = absurd (n refl)
+less_from Greater Less e l n = absurd (cc)
+less_from Greater Equal e l n = absurd (cc)
+less_from Greater Greater e l n = absurd (cc)
+
+-- a name that does not come after another one comes before it, or is it
+comes_first : (x y : List ℕ) → is_lt (name_cmp y x) ≡ false → x ≢ y → name_cmp x y ≡ Less
+comes_first x y l n =
+    less_from (name_cmp x y) (name_cmp y x) (nat_list_cmp_total.antisymm x y) l (λ e. n ((bytes_eq-Decides x y).0 (sym (is_eq-slice_cmp x y) ∙ e)))
+
+is_name : (o : Option (List ℕ)) → IsSome o → o ≡ Some (unwrap_or o [])
+is_name None s = absurd (cc)
+is_name (Some n) s = refl
+
+abbrev name_now : Named → List ℕ
+name_now m = m.name.now
+
+strictly : (ms : List Named) → IsByName ms → AllPairs (λ x y. name_now x ≢ name_now y) ms → AllPairs IsBefore ms
+strictly ms up apart j k d l m =
+    comes_first _ _ (sorted_far (λ x y. is_lt (name_cmp (name_now x) (name_now y))) (ranks_by nat_list_cmp_total name_now) ms up j k d (omega arith) m) (apart j k d l m)
+
+all_in : {X : Type 0} (P : X → Type 0) (xs : List X) → All P xs → AllByRecursion P xs
+all_in P [] p = tt
+all_in P (x ∷ xs) p = (p zero x (omega arith), all_in P xs (λ k d l. p (suc k) d (omega arith)))
+
+rising_in : (ms : List Named) → AllPairs IsBefore ms → NamedRise ms
+rising_in [] p = tt
+rising_in (m ∷ ms) p = (
+  all_in (IsBefore m) ms (λ k d l. p zero (suc k) d (omega arith) (omega arith)),
+  rising_in ms (λ i j d l n. p (suc i) (suc j) d (omega arith) (omega arith)),
+)
+
+-- a header among those of members is that of one of them
+pub of_head : (ms : List Named) (head : Head) (k : ℕ) → k < length (map (λ m. m.head) ms) → slice_index_or (map (λ m. m.head) ms) k head ≡ head → (m : Named) × (slice_get ms k ≡ Some m) × (m.head ≡ head)
+of_head [] head k l e = absurd (omega arith)
+of_head (m ∷ ms) head zero l e = (m, refl, e)
+of_head (m ∷ ms) head (suc k) l e = of_head ms head k (omega arith) e
+
+module _ (a : List ℕ) (i : IsImage a) (d : ℕ) (o : IsOpened a d) where
+  -- a member is not the root
+  not_root : (h : ℕ) → IsMember a d h → h ≢ root a
+  not_root h m e = elim (cases_order d (root a)) [
+    | inl f ↦ m.kept (inl (f, e))
+    | inr (inl l) ↦ not_twice a i h (inr (e, (d, (λ f. (let x : d ≡ root a = f in omega arith)), record { opened = m.opened; in_chain = m.in_chain })))
+    | inr (inr l) ↦ not_twice a i h (inr (e, (d, (λ f. (let x : d ≡ root a = f in omega arith)), record { opened = m.opened; in_chain = m.in_chain })))
+  ]
+
+  pub has_name : (h : ℕ) → IsMember a d h → name a h ≡ Some (name_of a h)
+  has_name h m = is_name (name a h) (reached_named a i h (member_reached a i h (d, m)) (not_root h m))
+
+  pub names_differ : (g h : ℕ) → IsMember a d g → IsMember a d h → g ≢ h → name_of a g ≢ name_of a h
+  names_differ g h m n f e = f (one_header a i (name_of a g ∷ []) d g h (g, m, has_name g m, refl) (h, n, has_name h n ∙ ap Some (sym e), refl))
+
+  listed_once : (hs : List ℕ) → IsListed a d hs → AllPairs (λ x y. x ≢ y) hs
+  listed_once hs l j k x s m e =
+      let p : IsAt a d j (slice_index_or hs j x) = (l.each j _).0 (slice_get-get_or hs j x (omega arith)) in
+      let q : IsAt a d k (slice_index_or hs k x) = (l.each k _).0 (slice_get-get_or hs k x m) in
+      let r : j ≡ k = (good a i d o).once j k (slice_index_or hs j x) p (subst (λ h. IsAt a d k h) (sym e) q) in
+      omega arith
+
+  heads_differ : (ks : List ℕ) → AllPairs (λ x y. x ≢ y) ks → AllPairs (λ (x y : Head). x.offset ≢ y.offset) (map (head_of a) ks)
+  heads_differ ks p j k x l m =
+      let n : k < length ks = rw (← length-map ks (head_of a)) m in
+      rw (get_or-map (head_of a) ks j 0 x (omega arith), get_or-map (head_of a) ks k 0 x n) (p j k 0 l n)
+
+  members_differ : (hs : List Head) → AreMembers a d hs → AllPairs (λ (x y : Head). name_of a x.offset ≢ name_of a y.offset) hs
+  members_differ hs r j k x l m =
+      let keep = λ (h : ℕ). not (passes_over a d h) in
+      let p = heads_differ (filter keep r.listed.0) (AllPairs-filter (λ x y. x ≢ y) keep r.listed.0 (listed_once r.listed.0 r.listed.1)) in
+      let q : AllPairs (λ (x y : Head). x.offset ≢ y.offset) hs = rw (r.listed.2) p in
+      names_differ _ _ (r.members j x (omega arith)) (r.members k x m) (q j k x l m)
+
+  -- names of named members
+  same_names : (ms : List Named) → All (λ m. name_now m ≡ name_of a m.head.offset) ms → map name_now ms ≡ map (λ (x : Head). name_of a x.offset) (map (λ m. m.head) ms)
+  same_names [] p = refl
+  same_names (m ∷ ms) p = rw (p zero m (omega arith), same_names ms (λ k x l. p (suc k) x (omega arith))) refl
+
+  named_member : (hs : List Head) (ms : List Named) → All (IsGiven a) hs → All (λ (x : Head). IsMember a d x.offset) hs → map (λ m. m.head) ms ≡ hs → All (λ m. name_now m ≡ name_of a m.head.offset) ms → All (IsNamedMember a d) ms
+  named_member hs ms given members e names k x l =
+      let n : k < length (map (λ (m : Named). m.head) ms) = rw (length-map ms (λ (m : Named). m.head)) l in
+      let at : slice_index_or hs k x.head ≡ (slice_index_or ms k x).head = ap (λ ys. slice_index_or ys k x.head) (sym e) ∙ get_or-map (λ (m : Named). m.head) ms k x x.head l in
+      let q : k < length hs = subst (λ ys. k < length ys) e n in
+      let m : IsMember a d (slice_index_or ms k x).head.offset = subst (λ (y : Head). IsMember a d y.offset) at (members k x.head q) in
+      record {
+        given = subst (λ y. IsGiven a y) at (given k x.head q);
+        member = m;
+        name = has_name (slice_index_or ms k x).head.offset m ∙ ap Some (sym (names k x l));
+      }
+
+  pub are_by_name : (hs : List Head) (found ms : List Named) → All (IsGiven a) hs → AreMembers a d hs → AreNamed a hs found → IsPermutation found ms → IsByName ms → AreByName a d ms
+  are_by_name hs found ms given r n s up =
+      let each : All (IsNamedMember a d) found = named_member hs found given r.members n.heads n.names in
+      let differ : AllPairs (λ x y. x ≢ y) (map name_now found) = rw (same_names found n.names, n.heads) (to_names (λ (x : Head). name_of a x.offset) hs (members_differ hs r)) in
+      let apart : AllPairs (λ x y. x ≢ y) (map name_now ms) = moved (map name_now found) (map name_now ms) (IsPermutation-map name_now found ms s) differ in
+      record {
+        rising = rising_in ms (strictly ms up (from_names name_now ms apart));
+        each = all_in (IsNamedMember a d) ms (All-permutation (IsNamedMember a d) found ms s each);
+        whole = λ h m. (
+            let w = r.whole h m in
+            let p : IsPermutation hs (map (λ (x : Named). x.head) ms) = rw (← n.heads) (IsPermutation-map (λ (x : Named). x.head) found ms s) in
+            let c = Contains-permutation hs (map (λ (x : Named). x.head) ms) (head_of a h) p w in
+            let k = of_head ms (head_of a h) c.0 c.1 c.2 in
+            (c.0, k.0, k.1, ap (λ (x : Head). x.offset) k.2));
+      }
+
+-- a marker's name begins with .wh.
+pub marker_rest : (n : List ℕ) → starts_with nat_eq n marker ≡ true → n ≡ marker ++ drop 4 n
+marker_rest n e = sym (take-append-drop 4 n) ∙ ap (λ p. p ++ drop 4 n) (sym (same_text marker (take 4 n) (sym e)))

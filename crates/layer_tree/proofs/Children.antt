@@ -1,0 +1,21 @@
+-- The children of a directory are what is one name below it.
+use Rattle.std.proofs.Common.{◌≡◌, ◌∙◌, sym, ℕ, List, [], ◌∷◌, ◌++◌, refl, Option, Some, None}
+use Rattle.stack_model.specs.Stack.{Path}
+use Rattle.path_tree.specs.Rows.{Shoot, spread, named, at_path}
+use Rattle.path_tree.proofs.Spread.{through, at_spread}
+use Rattle.layer_tree.specs.declared.place.Entry.{Entry}
+use Rattle.layer_tree.specs.Trees.{TreeRows, entry_at, AreChildren, IsTreeOf}
+use Rattle.layer_tree.specs.Merging.{value_of}
+use Rattle.layer_tree.proofs.Agreeing.{same_entries}
+
+module _ (t : TreeRows) (path : Path) (children : List (Shoot Entry)) (are : AreChildren t path children) where
+  -- a name is a child's exactly where something is shown one name below
+  pub child_entry : (name : List ℕ) → value_of (named name children) ≡ entry_at t (path ++ name ∷ [])
+  child_entry name = sym (are.at name [] ∙ at_spread children are.forest.names name [] ∙ here (named name children))
+    where
+      here : (o : Option (Shoot Entry)) → through o [] ≡ value_of o
+      here None = refl
+      here (Some s) = refl
+
+pub same_children : (first : ℕ) (layers : List (List ℕ)) (s t : TreeRows) → IsTreeOf first layers s → IsTreeOf first layers t → (path : Path) (cs ds : List (Shoot Entry)) → AreChildren s path cs → AreChildren t path ds → (name : List ℕ) (q : Path) → at_path (spread cs) (name ∷ q) ≡ at_path (spread ds) (name ∷ q)
+same_children first layers s t is it path cs ds c d name q = sym (c.at name q) ∙ same_entries first layers s t is it (path ++ name ∷ q) ∙ d.at name q

@@ -1,0 +1,169 @@
+-- A directory with the branches of its members has those of all paths from it.
+use Rattle.std.proofs.Common.{◌≡◌, ◌≢◌, ◌∙◌, sym, ap, subst, ℕ, zero, suc, ◌↔◌, inl, inr, List, [], ◌∷◌, ◌++◌, refl, Some, Bool, true, false, ◌||◌, IsTrue, IsSomeAnd}
+use Rattle.std.specs.Prelude.{slice_get, is_some}
+use Rattle.std.specs.List.{AllByRecursion}
+use Rattle.romfs_format.specs.declared.head.Kind.TheVariants.{Directory}
+use Rattle.romfs_format.specs.Fields.{kind, name}
+use Rattle.romfs_format.specs.Chains.{IsMember, Leads}
+use Rattle.romfs_image.specs.Images.{IsImage}
+use Rattle.romfs_image.proofs.Paths.{one_header}
+use Rattle.stack_model.specs.Stack.{Path, IsPlain, marker, opaque}
+use Rattle.path_tree.specs.Rows.{Shoot, spread, whole, named, at_path, IsForest}
+use Rattle.path_tree.specs.Laying.{AreLaid}
+use Rattle.path_tree.proofs.Spread.{through, at_spread}
+use Rattle.path_tree.proofs.Rising.{branch_rises}
+use Rattle.layer_tree.specs.declared.place.Entry.{Entry}
+use Rattle.layer_tree.specs.declared.place.Mark.{Mark}
+use Rattle.layer_tree.specs.declared.members.Named.{Named}
+use Rattle.layer_tree.specs.Marks.{cut_by}
+use Rattle.layer_tree.specs.Laying.{united}
+use Rattle.layer_tree.specs.Reading.{IsNamedMember, AreByName, HasNamed, CutsFrom, CutsAt, IsEntryIn, IsBranchOf, IsMarkOf, AreBranchesOf, AreBuilt, AreWhiteouts, rest_of_opaque}
+use Rattle.layer_tree.proofs.Cutting.{cut_through, by_name}
+use Rattle.layer_tree.proofs.Joining.{cut_united, or_true}
+use Rattle.layer_tree.proofs.Stepping.{all_cut}
+use Rattle.layer_tree.proofs.Layered.{opened_directory}
+use Rattle.layer_tree.proofs.Building.{forests, white_forest, FoundBuilt, nowhere, somewhere, find_built, FoundWhite, unmarked, marked, find_white}
+
+-- no member stands in what is no directory
+no_member : (a : List ℕ) (i : IsImage a) (h c : ℕ) → kind a h ≢ Directory → IsMember a h c → ⊥
+no_member a i h c n m = n (opened_directory a i m.opened)
+
+-- an entry that is no directory, and its cut mark
+pub single : (a : List ℕ) (i : IsImage a) (layer h : ℕ) (n : List ℕ) (entry : Entry) (mark : Mark) → mark.cut ≡ true → kind a h ≢ Directory → IsEntryIn a layer h entry → AreBranchesOf a layer h n (record { name = n; value = entry; below = [] }) (record { name = n; value = mark; below = [] })
+single a i layer h n entry mark cut other w = record {
+  entry_name = refl;
+  mark_name = refl;
+  entries = record { rising = record { rises = (tt, tt) }; shown = shown; only = only };
+  marks = record { rising = record { rises = (tt, tt) }; exact = λ path p. ((λ t. inl other), (λ c. (all_cut (record { name = n; value = mark; below = [] }) cut).cut path)) };
+}
+  where
+    shown : (path : Path) (g : ℕ) → IsPlain path → Leads a h path g → IsSomeAnd (at_path (whole (record { name = n; value = entry; below = [] })) path) (λ e. IsEntryIn a layer g e)
+    shown [] g p l = subst (λ x. IsEntryIn a layer x entry) l w
+    shown (m ∷ path) g p l = absurd (no_member a i h l.0 other l.1)
+
+    only : (path : Path) (e : Entry) → at_path (whole (record { name = n; value = entry; below = [] })) path ≡ Some e → IsPlain path × ((g : ℕ) × Leads a h path g × IsEntryIn a layer g e)
+    only [] e f = (let s : entry ≡ e = cc in (tt, (h, refl, subst (IsEntryIn a layer h) s w)))
+    only (m ∷ path) e f = absurd (cc)
+
+module _ (a : List ℕ) (i : IsImage a) (layer h : ℕ) (ms : List Named) (es : List (Shoot Entry)) (mm ws out : List (Shoot Mark)) (members : AreByName a h ms) (b : AreBuilt a layer ms es mm) (wh : AreWhiteouts ms ws) (laid : AreLaid united mm ws out) where
+  -- the member of a name is among the sorted ones
+  member_at : (n : List ℕ) (c : ℕ) → IsMember a h c → name a c ≡ Some n → (j : ℕ) × (m : Named) × (slice_get ms j ≡ Some m) × (m.head.offset ≡ c) × (m.name.now ≡ n)
+  member_at n c x f =
+      let w = members.whole c x in
+      let e = each_at ms w.0 w.1 members.each w.2 in
+      let g : Some w.1.name.now ≡ Some n = sym e.name ∙ ap (name a) w.3 ∙ f in
+      (w.0, w.1, w.2, w.3, (let q : w.1.name.now ≡ n = cc in q))
+    where
+      each_at : (xs : List Named) (j : ℕ) (m : Named) → AllByRecursion (IsNamedMember a h) xs → slice_get xs j ≡ Some m → IsNamedMember a h m
+      each_at [] j m p e = absurd (cc)
+      each_at (x ∷ xs) zero m p e = (let s : x ≡ m = cc in subst (IsNamedMember a h) s p.0)
+      each_at (x ∷ xs) (suc j) m p e = each_at xs j m p.1 e
+
+  has_at : (j : ℕ) (m : Named) → slice_get ms j ≡ Some m → IsNamedMember a h m
+  has_at j m e = each_at ms j m members.each e
+    where
+      each_at : (xs : List Named) (j : ℕ) (m : Named) → AllByRecursion (IsNamedMember a h) xs → slice_get xs j ≡ Some m → IsNamedMember a h m
+      each_at [] j m p e = absurd (cc)
+      each_at (x ∷ xs) zero m p e = (let s : x ≡ m = cc in subst (IsNamedMember a h) s p.0)
+      each_at (x ∷ xs) (suc j) m p e = each_at xs j m p.1 e
+
+  entries_forest : IsForest es
+  entries_forest = (forests a layer b members.rising).0
+
+  one_member : (n : List ℕ) (c d : ℕ) → IsMember a h c → name a c ≡ Some n → IsMember a h d → name a d ≡ Some n → c ≡ d
+  one_member n c d x f y g = one_header a i (n ∷ []) h c d (c, x, f, refl) (d, y, g, refl)
+
+  shown_below : (n : List ℕ) (path : Path) (g : ℕ) → IsPlain (n ∷ path) → Leads a h (n ∷ path) g → FoundBuilt a layer h n ms es mm → IsSomeAnd (through (named n es) path) (λ e. IsEntryIn a layer g e)
+  shown_below n path g p l (nowhere f k q) = (let m = member_at n l.0 l.1 l.2 in absurd (p.0 (q m.0 m.1 m.2 m.4)))
+  shown_below n path g p l (somewhere m e k f u r s t v) =
+      let here : m.head.offset ≡ l.0 = one_member n m.head.offset l.0 t.member (t.name ∙ ap Some r) l.1 l.2 in
+      rw f (v.entries.shown path g p.1 (subst (λ x. Leads a x path g) (sym here) l.3))
+
+  only_below : (n : List ℕ) (path : Path) (e : Entry) → through (named n es) path ≡ Some e → FoundBuilt a layer h n ms es mm → IsPlain (n ∷ path) × ((g : ℕ) × Leads a h (n ∷ path) g × IsEntryIn a layer g e)
+  only_below n path e x (nowhere f k q) = (let y = rw f at x in absurd (cc))
+  only_below n path e x (somewhere m b k f u r s t v) =
+      let w = v.entries.only path e (rw f at x) in
+      ((s, w.0), (w.1.0, (m.head.offset, t.member, t.name ∙ ap Some r, w.1.1), w.1.2))
+
+  pub entries_of : (n : List ℕ) (entry : Entry) → IsEntryIn a layer h entry → IsBranchOf a layer h (record { name = n; value = entry; below = spread es })
+  entries_of n entry w = record { rising = branch_rises n entry es entries_forest; shown = shown; only = only }
+    where
+      shown : (path : Path) (g : ℕ) → IsPlain path → Leads a h path g → IsSomeAnd (at_path (whole (record { name = n; value = entry; below = spread es })) path) (λ e. IsEntryIn a layer g e)
+      shown [] g p l = subst (λ x. IsEntryIn a layer x entry) l w
+      shown (m ∷ path) g p l = rw (at_spread es entries_forest.names m path) (shown_below m path g p l (find_built a layer h m b members.each))
+
+      only : (path : Path) (e : Entry) → at_path (whole (record { name = n; value = entry; below = spread es })) path ≡ Some e → IsPlain path × ((g : ℕ) × Leads a h path g × IsEntryIn a layer g e)
+      only [] e f = (let s : entry ≡ e = cc in (tt, (h, refl, subst (IsEntryIn a layer h) s w)))
+      only (m ∷ path) e f = only_below m path e (sym (at_spread es entries_forest.names m path) ∙ f) (find_built a layer h m b members.each)
+
+  -- a marker's mark stands for a marker among the members
+  white_is : (n : List ℕ) (path : Path) → FoundWhite n ms ws → (cut_through (named n ws) path ≡ true) ↔ HasNamed a h (marker ++ n)
+  white_is n path (unmarked f q) = (λ e. (let y = rw f at e in absurd (cc)), λ x. (let m = member_at (marker ++ n) x.0 x.1 x.2 in absurd (q m.0 m.1 m.2 m.4)))
+  white_is n path (marked j m k f c s e) = (λ y. (let t = has_at j m s in (m.head.offset, t.member, t.name ∙ ap Some e)), λ x. rw f ((all_cut k c).cut path))
+
+  below_is : (n : List ℕ) (path : Path) → IsPlain (n ∷ path) → FoundBuilt a layer h n ms es mm → (cut_through (named n mm) path ≡ true) ↔ ((c : ℕ) × IsMember a h c × (name a c ≡ Some n) × CutsAt a c path)
+  below_is n path p (nowhere f k q) = (λ e. (let y = rw k at e in absurd (cc)), λ x. (let m = member_at n x.0 x.1 x.2 in absurd (p.0 (q m.0 m.1 m.2 m.4))))
+  below_is n path p (somewhere m e k f g r s t v) = (
+    λ y. (m.head.offset, t.member, t.name ∙ ap Some r, (v.marks.exact path p.1).0 (rw g at y)),
+    λ x. (
+        let here : x.0 ≡ m.head.offset = one_member n x.0 m.head.offset x.1 x.2 t.member (t.name ∙ ap Some r) in
+        rw g ((v.marks.exact path p.1).1 (subst (λ c. CutsAt a c path) here x.3))),
+  )
+
+  -- what the marks of the whole directory say: it is opaque, or a name in it is cut
+  cut_name : (n : List ℕ) (path : Path) → cut_by (λ q. at_path (spread out) (n ∷ q)) path ≡ (cut_through (named n mm) path || cut_through (named n ws) path)
+  cut_name n path =
+      let f = (forests a layer b members.rising).1 in
+      let w = white_forest wh members.rising in
+      cut_united (λ q. at_path (spread out) (n ∷ q)) (λ q. at_path (spread mm) (n ∷ q)) (λ q. at_path (spread ws) (n ∷ q)) (λ q. laid.at n q) path
+      ∙ ap (λ x. x || cut_by (λ q. at_path (spread ws) (n ∷ q)) path) (by_name mm f.names n path)
+      ∙ ap (λ x. cut_through (named n mm) path || x) (by_name ws w.names n path)
+
+  module _ (whole_cut : Bool) (is_whole : (whole_cut ≡ true) ↔ HasNamed a h opaque) (directory : kind a h ≡ Directory) where
+    or_left : (x y : Bool) → x ≡ true → (x || y) ≡ true
+    or_left true y e = refl
+    or_left false y e = absurd (cc)
+
+    or_later : (x y : Bool) → y ≡ true → (x || y) ≡ true
+    or_later true y e = refl
+    or_later false y e = e
+
+    from_cuts : (n : List ℕ) (path : Path) → IsPlain (n ∷ path) → CutsFrom a h (n ∷ path) → (whole_cut || (cut_through (named n mm) path || cut_through (named n ws) path)) ≡ true
+    from_cuts n path p (inl x) = or_later whole_cut _ (or_later (cut_through (named n mm) path) _ ((white_is n path (find_white n wh)).1 x))
+    from_cuts n path p (inr (inl x)) = or_left whole_cut _ (is_whole.1 x)
+    from_cuts n path p (inr (inr x)) = or_later whole_cut _ (or_left (cut_through (named n mm) path) _ ((below_is n path p (find_built a layer h n b members.each)).1 x))
+
+    to_cuts : (n : List ℕ) (path : Path) → IsPlain (n ∷ path) → (whole_cut || (cut_through (named n mm) path || cut_through (named n ws) path)) ≡ true → CutsFrom a h (n ∷ path)
+    to_cuts n path p e = elim (or_true whole_cut _ e) [
+      | inl x ↦ inr (inl (is_whole.0 x))
+      | inr y ↦ elim (or_true (cut_through (named n mm) path) _ y) [
+        | inl x ↦ inr (inr ((below_is n path p (find_built a layer h n b members.each)).0 x))
+        | inr x ↦ inl ((white_is n path (find_white n wh)).0 x)
+      ]
+    ]
+
+    down : (path : Path) → CutsAt a h path → CutsFrom a h path
+    down path (inl n) = absurd (n directory)
+    down path (inr c) = c
+
+    pub marks_of : (n : List ℕ) → IsMarkOf a h (record { name = n; value = record { cut = false; opaque = whole_cut }; below = spread out })
+    marks_of n = record { rising = branch_rises n (record { cut = false; opaque = whole_cut }) out laid.forest; exact = exact }
+      where
+        exact : (path : Path) → IsPlain path → IsTrue (cut_by (at_path (whole (record { name = n; value = record { cut = false; opaque = whole_cut }; below = spread out }))) path) ↔ CutsAt a h path
+        exact [] p = (λ t. absurd (cc), λ c. absurd (down [] c))
+        exact (m ∷ path) p = (
+          λ t. inr (to_cuts m path p (ap (λ x. whole_cut || x) (sym (cut_name m path)) ∙ t)),
+          λ c. ap (λ x. whole_cut || x) (cut_name m path) ∙ from_cuts m path p (down (m ∷ path) c),
+        )
+
+    -- the directory's own branches
+    pub folder : (n : List ℕ) (entry : Entry) → IsEntryIn a layer h entry → AreBranchesOf a layer h n (record { name = n; value = entry; below = spread es }) (record { name = n; value = record { cut = false; opaque = whole_cut }; below = spread out })
+    folder n entry w = record { entry_name = refl; mark_name = refl; entries = entries_of n entry w; marks = marks_of n }
+
+  -- whether a mark stands at the rest of the opaque marker's name
+  pub opaque_is_held : (is_some (named rest_of_opaque ws) ≡ true) ↔ HasNamed a h opaque
+  opaque_is_held = go (find_white rest_of_opaque wh)
+    where
+      go : FoundWhite rest_of_opaque ms ws → (is_some (named rest_of_opaque ws) ≡ true) ↔ HasNamed a h opaque
+      go (unmarked f q) = (λ e. absurd (let y = rw f at e in cc), λ x. absurd (let m = member_at opaque x.0 x.1 x.2 in q m.0 m.1 m.2 m.4))
+      go (marked j m k f c s e) = (λ y. (let t = has_at j m s in (m.head.offset, t.member, t.name ∙ ap Some e)), λ x. rw f refl)

@@ -1,0 +1,215 @@
+-- Branches and marks in step, in the order of names.
+use Rattle.std.proofs.Common.{◌≡◌, ◌≢◌, ◌∙◌, sym, ap, subst, ℕ, ◌+◌, ◌*◌, ◌<◌, ◌≤◌, inl, inr, List, [], ◌∷◌, ◌++◌, length, reverse, refl, arith, append_assoc, Option, Some, None, Bool, true, false}
+use Rattle.std.proofs.lemmas.List.{append-nil}
+use Rattle.std.proofs.lemmas.Cmp.{nat_list_cmp_total}
+use Rattle.std.specs.declared.cmp.Ordering.{Ordering}
+use Rattle.std.specs.declared.cmp.Ordering.TheVariants.{Less, Equal, Greater}
+use Rattle.std.specs.List.{AllByRecursion}
+use Rattle.path_tree.specs.Rows.{Shoot, name_cmp, named, NamesRise, IsRising, IsForest, at_path, spread, whole}
+use Rattle.path_tree.proofs.Names.{same_or_not, not_below_itself, named_below, all_above, above_of}
+use Rattle.path_tree.proofs.Spread.{through, at_spread}
+use Rattle.path_tree.proofs.Rising.{branch_rises}
+use Rattle.path_tree.proofs.Merging.{snoc, grown}
+use Rattle.std.proofs.lemmas.Map.Lookups.{exact_bytes}
+use Rattle.stack_model.specs.Stack.{Path}
+use Rattle.layer_tree.specs.declared.place.Mark.{Mark}
+use Rattle.layer_tree.specs.Marks.{cut_by}
+use Rattle.layer_tree.specs.Laying.{unless, AreKept, IsLeftOut, IsKept, NoneBefore, IsFrom}
+use Rattle.layer_tree.proofs.Cutting.{nothing_cut, cut_same, cut_through, by_name}
+
+-- some branches were passed over, all with names before this one
+pub record IsPassed {T : Type 0} (name : List ℕ) (branches rest : List (Shoot T)) : Type 0 where
+  pub names : NamesRise rest
+  pub same : (n : List ℕ) → name_cmp n name ≢ Less → named n rest ≡ named n branches
+
+greater : (a b : List ℕ) → name_cmp a b ≢ Less → a ≢ b → name_cmp b a ≡ Less
+greater a b f g = by (name_cmp a b) refl
+  where
+    by : (o : Ordering) → name_cmp a b ≡ o → name_cmp b a ≡ Less
+    by Less e = absurd (f e)
+    by Equal e = absurd (g (exact_bytes a b e))
+    by Greater e = above_of a b e
+
+module _ {T : Type 0} where
+  pub pass_one : (name : List ℕ) (branches rest later : List (Shoot T)) (s : Shoot T) → IsPassed name branches rest → rest ≡ s ∷ later → name_cmp s.name name ≡ Less → IsPassed name branches later
+  pass_one name branches rest later s w e l =
+      let r : NamesRise (s ∷ later) = subst NamesRise e w.names in
+      record {
+        names = r.1;
+        same = λ n f. elim (same_or_not s.name n) [
+          | inl x ↦ absurd (f (subst (λ m. name_cmp m name ≡ Less) x.0 l))
+          | inr x ↦ (let k : named n (s ∷ later) ≡ named n later = rw x.1 refl in sym k ∙ ap (named n) (sym e) ∙ w.same n f)
+        ];
+      }
+
+  pub passed_all : (name : List ℕ) (branches rest : List (Shoot T)) → IsPassed name branches rest → NoneBefore name rest → IsFrom name branches rest
+  passed_all name branches rest w n = record { none = n; names = w.names; same = w.same }
+
+  pub none_named : (name : List ℕ) (s : Shoot T) (later : List (Shoot T)) → NamesRise (s ∷ later) → name_cmp s.name name ≢ Less → s.name ≢ name → named name (s ∷ later) ≡ None
+  none_named name s later r f g = let l = greater s.name name f g in named_below name (s ∷ later) (l, all_above name s.name later l r.0)
+
+  -- the first of these branches has another name, so none has this one
+  pub other_first : (name : List ℕ) (branches later : List (Shoot T)) (s : Shoot T) → NoneBefore name branches → NamesRise branches → branches ≡ s ∷ later → s.name ≢ name → named name branches ≡ None
+  other_first name branches later s f r e g = ap (named name) e ∙ none_named name s later (subst NamesRise e r) (subst (NoneBefore name) e f) g
+
+  -- the walk stops at the first name that does not come before
+  pub stop_at : (name : List ℕ) (branches rest later : List (Shoot T)) (s : Shoot T) → IsPassed name branches rest → rest ≡ s ∷ later → name_cmp s.name name ≢ Less → IsFrom name branches rest
+  stop_at name branches rest later s w e f = passed_all name branches rest w (subst (NoneBefore name) (sym e) f)
+
+  pub stop_empty : (name : List ℕ) (branches rest : List (Shoot T)) → IsPassed name branches rest → length rest ≡ 0 → IsFrom name branches rest
+  stop_empty name branches [] w e = passed_all name branches [] w tt
+  stop_empty name branches (s ∷ rest) w e = absurd (omega arith)
+
+  pub is_named : (name : List ℕ) (s : Shoot T) (later : List (Shoot T)) → s.name ≡ name → named name (s ∷ later) ≡ Some s
+  is_named name s later e = elim (same_or_not s.name name) [ inl x ↦ rw x.1 refl | inr x ↦ absurd (x.0 e) ]
+
+-- what is left of branches, one by one
+pub data Keeps {T : Type 0} (marks : List (Shoot Mark)) : List (Shoot T) → List (Shoot T) → Type 0 where
+  None_left : Keeps marks [] []
+  Untouched : (l : Shoot T) (ls out : List (Shoot T)) → named l.name marks ≡ None → Keeps marks ls out → Keeps marks (l ∷ ls) (l ∷ out)
+  Left_out : (l : Shoot T) (ls out : List (Shoot T)) (m : Shoot Mark) → named l.name marks ≡ Some m → IsLeftOut m → Keeps marks ls out → Keeps marks (l ∷ ls) out
+  Kept : (l b : Shoot T) (ls out : List (Shoot T)) (m : Shoot Mark) → named l.name marks ≡ Some m → IsKept l m b → Keeps marks ls out → Keeps marks (l ∷ ls) (b ∷ out)
+
+module _ {T : Type 0} (marks : List (Shoot Mark)) where
+  above : {ls out : List (Shoot T)} → Keeps marks ls out → (n : List ℕ) → AllByRecursion (λ t. name_cmp n t.name ≡ Less) ls → AllByRecursion (λ t. name_cmp n t.name ≡ Less) out
+  above None_left n a = tt
+  above (Untouched l ls out e k) n a = (a.0, above k n a.1)
+  above (Left_out l ls out m e c k) n a = above k n a.1
+  above (Kept l b ls out m e c k) n a = (rw c.name a.0, above k n a.1)
+
+  rise : {ls out : List (Shoot T)} → Keeps marks ls out → NamesRise ls → NamesRise out
+  rise None_left r = tt
+  rise (Untouched l ls out e k) r = (above k l.name r.0, rise k r.1)
+  rise (Left_out l ls out m e c k) r = rise k r.1
+  rise (Kept l b ls out m e c k) r = (rw c.name (above k l.name r.0), rise k r.1)
+
+  each : {ls out : List (Shoot T)} → Keeps marks ls out → AllByRecursion IsRising ls → AllByRecursion IsRising out
+  each None_left r = tt
+  each (Untouched l ls out e k) r = (r.0, each k r.1)
+  each (Left_out l ls out m e c k) r = each k r.1
+  each (Kept l b ls out m e c k) r = (c.rising, each k r.1)
+
+  cut_off : (b : Bool) (x : Option T) → b ≡ true → unless b x ≡ None
+  cut_off true x e = refl
+  cut_off false x e = absurd (cc)
+
+  unless_none : (b : Bool) → unless {T = T} b None ≡ None
+  unless_none true = refl
+  unless_none false = refl
+
+  found : {ls out : List (Shoot T)} → Keeps marks ls out → NamesRise ls → (n : List ℕ) (p : Path) → through (named n out) p ≡ unless (cut_through (named n marks) p) (through (named n ls) p)
+  found None_left r n p = sym (unless_none (cut_through (named n marks) p))
+  found (Untouched l ls out e k) r n p = elim (same_or_not l.name n) [
+    | inl x ↦ (let f : named n marks ≡ None = subst (λ m. named m marks ≡ None) x.0 e in rw (x.1, f) refl)
+    | inr x ↦ rw x.1 (found k r.1 n p)
+  ]
+  found (Left_out l ls out m e c k) r n p = elim (same_or_not l.name n) [
+    | inl x ↦ (
+        let f : named n marks ≡ Some m = subst (λ i. named i marks ≡ Some m) x.0 e in
+        let none : named n out ≡ None = named_below n out (subst (λ i. AllByRecursion (λ t. name_cmp i t.name ≡ Less) out) x.0 (above k l.name r.0)) in
+        rw (none, x.1, f) (sym (cut_off (cut_by (at_path (whole m)) p) (at_path (whole l) p) (c.cut p))))
+    | inr x ↦ rw x.1 (found k r.1 n p)
+  ]
+  found (Kept l b ls out m e c k) r n p = elim (same_or_not l.name n) [
+    | inl x ↦ (let f : named n marks ≡ Some m = subst (λ i. named i marks ≡ Some m) x.0 e in rw (c.name, x.1, f) (c.at p))
+    | inr x ↦ rw (c.name, x.1) (found k r.1 n p)
+  ]
+
+  pub are_kept : {ls out : List (Shoot T)} → Keeps marks ls out → IsForest ls → NamesRise marks → AreKept ls marks out
+  are_kept {ls} {out} k f r =
+      let names = rise k f.names in
+      record {
+        forest = record { names = names; each = each k f.each };
+        at = λ n p. at_spread out names n p ∙ found k f.names n p ∙ sym (ap (λ b. unless b (at_path (spread ls) (n ∷ p))) (by_name marks r n p) ∙ ap (λ o. unless (cut_through (named n marks) p) o) (at_spread ls f.names n p));
+      }
+
+-- with no marks all is kept
+pub no_marks : {T : Type 0} (ls : List (Shoot T)) → IsForest ls → AreKept ls [] ls
+no_marks ls f = record { forest = f; at = λ n p. rw (nothing_cut p) refl }
+
+-- lows are gone through up to ls, with the marks up to rest
+pub record Keeping {T : Type 0} (lows ls out : List (Shoot T)) (marks rest : List (Shoot Mark)) : Type 0 where
+  pub kept : (more : List (Shoot T)) → Keeps marks ls more → Keeps marks lows (out ++ more)
+  pub names : NamesRise ls
+  pub rest_names : NamesRise rest
+  pub same : AllByRecursion (λ l. named l.name rest ≡ named l.name marks) ls
+  pub smaller : length (spread ls) ≤ length (spread lows)
+
+all_same : {T : Type 0} (ls : List (Shoot T)) (marks : List (Shoot Mark)) → AllByRecursion (λ l. named l.name marks ≡ named l.name marks) ls
+all_same [] marks = tt
+all_same (l ∷ ls) marks = (refl, all_same ls marks)
+
+pub keeping_begun : {T : Type 0} (lows L : List (Shoot T)) (marks : List (Shoot Mark)) → IsForest lows → NamesRise marks → L ≡ reverse lows → reverse (reverse lows) ≡ lows → Keeping lows (reverse L) [] marks marks
+keeping_begun lows L marks f r e g = rw (e, g) (record { kept = λ more k. k; names = f.names; rest_names = r; same = all_same lows marks; smaller = omega arith })
+
+module _ {T : Type 0} (lows L L' out : List (Shoot T)) (marks rest rest' : List (Shoot Mark)) (l : Shoot T) (inv : Keeping lows (reverse L) out marks rest) (e : L ≡ L' ++ l ∷ []) (from : IsFrom l.name rest rest') where
+  turned : reverse L ≡ l ∷ reverse L'
+  turned = snoc L L' l e
+
+  rises : NamesRise (l ∷ reverse L')
+  rises = subst NamesRise turned inv.names
+
+  pub at_mark : named l.name rest' ≡ named l.name marks
+  at_mark =
+      let s : AllByRecursion (λ k. named k.name rest ≡ named k.name marks) (l ∷ reverse L') = subst (λ ls. AllByRecursion (λ k. named k.name rest ≡ named k.name marks) ls) turned inv.same in
+      from.same l.name (not_below_itself l.name) ∙ s.0
+
+  not_less : (a b : List ℕ) → name_cmp a b ≡ Less → name_cmp b a ≢ Less
+  not_less a b f g = not_below_itself a (nat_list_cmp_total.trans a b a f g)
+
+  later : (ls : List (Shoot T)) → AllByRecursion (λ t. name_cmp l.name t.name ≡ Less) ls → AllByRecursion (λ k. named k.name rest ≡ named k.name marks) ls → AllByRecursion (λ k. named k.name rest' ≡ named k.name marks) ls
+  later [] a s = tt
+  later (k ∷ ks) a s = (from.same k.name (not_less l.name k.name a.0) ∙ s.0, later ks a.1 s.1)
+
+  all_later : AllByRecursion (λ k. named k.name rest' ≡ named k.name marks) (reverse L')
+  all_later =
+      let s : AllByRecursion (λ k. named k.name rest ≡ named k.name marks) (l ∷ reverse L') = subst (λ ls. AllByRecursion (λ k. named k.name rest ≡ named k.name marks) ls) turned inv.same in
+      later (reverse L') rises.0 s.1
+
+  shorter : length (spread (reverse L')) ≤ length (spread lows)
+  shorter = let s = rw turned at inv.smaller in omega (arith, grown l (reverse L'), s)
+
+  on : (out' : List (Shoot T)) → ((more : List (Shoot T)) → Keeps marks (reverse L') more → Keeps marks lows (out' ++ more)) → Keeping lows (reverse L') out' marks rest'
+  on out' k = record { kept = k; names = rises.1; rest_names = from.names; same = all_later; smaller = shorter }
+
+  one_more : (x : Shoot T) (more out' : List (Shoot T)) → out' ≡ out ++ x ∷ [] → Keeps marks lows (out ++ (x ∷ more)) → Keeps marks lows (out' ++ more)
+  one_more x more out' o k = rw (o, append_assoc) k
+
+  pub untouched : (out' : List (Shoot T)) → named l.name rest' ≡ None → out' ≡ out ++ l ∷ [] → Keeping lows (reverse L') out' marks rest'
+  untouched out' n o = on out' (λ more k. one_more l more out' o (inv.kept (l ∷ more) (rw turned (Untouched l (reverse L') more (sym at_mark ∙ n) k))))
+
+  pub left_out : (m : Shoot Mark) → named l.name rest' ≡ Some m → IsLeftOut m → Keeping lows (reverse L') out marks rest'
+  left_out m n c = on out (λ more k. inv.kept more (rw turned (Left_out l (reverse L') more m (sym at_mark ∙ n) c k)))
+
+  pub kept_one : (m : Shoot Mark) (b : Shoot T) (out' : List (Shoot T)) → named l.name rest' ≡ Some m → IsKept l m b → out' ≡ out ++ b ∷ [] → Keeping lows (reverse L') out' marks rest'
+  kept_one m b out' n c o = on out' (λ more k. one_more b more out' o (inv.kept (b ∷ more) (rw turned (Kept l b (reverse L') more m (sym at_mark ∙ n) c k))))
+
+  pub below_measure : 3 * length l.below + 2 < 3 * length (spread lows)
+  below_measure = let s = rw turned at inv.smaller in omega (arith, grown l (reverse L'), s)
+
+pub keeping_ended : {T : Type 0} (lows L out : List (Shoot T)) (marks rest : List (Shoot Mark)) → Keeping lows (reverse L) out marks rest → L ≡ [] → IsForest lows → NamesRise marks → AreKept lows marks out
+keeping_ended lows L out marks rest inv e f r = are_kept marks (subst (Keeps marks lows) (append-nil out) (inv.kept [] (rw e None_left))) f r
+
+-- a mark that cuts its branch leaves nothing
+pub all_cut : (mark : Shoot Mark) → mark.value.cut ≡ true → IsLeftOut mark
+all_cut mark e = record { cut = cut }
+  where
+    cut : (path : Path) → cut_by (at_path (whole mark)) path ≡ true
+    cut [] = e
+    cut (n ∷ path) = rw e refl
+
+-- an opaque mark leaves the branch alone
+pub alone : {T : Type 0} (low : Shoot T) (mark : Shoot Mark) → mark.value.cut ≡ false → mark.value.opaque ≡ true → IsKept low mark (record { name = low.name; value = low.value; below = [] })
+alone low mark e o = record { name = refl; rising = branch_rises low.name low.value [] (record { names = tt; each = tt }); at = at }
+  where
+    at : (path : Path) → at_path (whole (record { name = low.name; value = low.value; below = [] })) path ≡ unless (cut_by (at_path (whole mark)) path) (at_path (whole low) path)
+    at [] = rw e refl
+    at (n ∷ path) = rw (e, o) refl
+
+-- else the marks below leave what they leave
+pub inside : {T : Type 0} (low : Shoot T) (mark : Shoot Mark) (lows out : List (Shoot T)) (marks : List (Shoot Mark)) → mark.value.cut ≡ false → mark.value.opaque ≡ false → low.below ≡ spread lows → mark.below ≡ spread marks → AreKept lows marks out → IsKept low mark (record { name = low.name; value = low.value; below = spread out })
+inside low mark lows out marks e o f g k = record { name = refl; rising = branch_rises low.name low.value out k.forest; at = at }
+  where
+    at : (path : Path) → at_path (whole (record { name = low.name; value = low.value; below = spread out })) path ≡ unless (cut_by (at_path (whole mark)) path) (at_path (whole low) path)
+    at [] = rw e refl
+    at (n ∷ path) = rw (e, o, f) (k.at n path ∙ ap (λ b. unless b (at_path (spread lows) (n ∷ path))) (cut_same (λ q. at_path (spread marks) (n ∷ q)) (λ q. at_path mark.below (n ∷ q)) (λ q. ap (λ rows. at_path rows (n ∷ q)) (sym g)) path))

@@ -1,0 +1,9 @@
+use Rattle.std.proofs.Common.{length}
+use Rattle.layer_tree.proofs.Stepping.{IsPassed}
+use Rattle.layer_tree.proofs.laying.from_name.Given as goal
+
+abbrev pub invariant-loop-first : goal.invariant-loop-first
+invariant-loop-first g l = IsPassed l.name l.branches l.rest
+
+abbrev pub decreases-loop-first : goal.decreases-loop-first
+decreases-loop-first g l = length l.rest

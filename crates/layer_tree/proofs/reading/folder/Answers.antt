@@ -1,0 +1,35 @@
+use Rattle.std.proofs.Common.{◌≡◌, ◌↔◌, sym, subst, ap, ◌∙◌, true}
+use Rattle.std.specs.Prelude.{is_some}
+use Rattle.romfs_format.specs.declared.head.Head.{Head}
+use Rattle.romfs_format.specs.declared.head.Kind.TheVariants.{Directory}
+use Rattle.romfs_format.specs.Fields.{kind}
+use Rattle.stack_model.specs.Stack.{opaque}
+use Rattle.path_tree.specs.Rows.{named}
+use Rattle.layer_tree.specs.Reading.{HasNamed, rest_of_opaque}
+use Rattle.layer_tree.proofs.Building.{forests, white_forest}
+use Rattle.layer_tree.proofs.Folding.{opaque_is_held, folder}
+use Rattle.layer_tree.proofs.reading.folder.Goals as goal
+
+pub has_opaque-opaque-requires : goal.has_opaque-opaque-requires
+has_opaque-opaque-requires g c = rw c.deref.ensures.value (white_forest c.in_ok-whiteouts.ensures c.requires.members.rising).names
+
+pub merge-requires : goal.merge-requires
+merge-requires g c = record {
+  low = (forests c.args.image.now c.args.layer c.requires.below c.requires.members.rising).1;
+  high = white_forest c.in_ok-whiteouts.ensures c.requires.members.rising;
+}
+
+pub new-entries-requires : goal.new-entries-requires
+new-entries-requires g c = (forests c.args.image.now c.args.layer c.requires.below c.requires.members.rising).0
+
+pub returns : goal.returns
+returns g c =
+    let a = c.args.image.now in
+    let h = c.args.head.now.offset in
+    let e : c.in_ok-entry_name.entry_name.items ≡ c.args.name.now = c.in_ok-entry_name.ensures in
+    let f : c.in_ok-mark_name.mark_name.items ≡ c.args.name.now = c.in_ok-mark_name.ensures in
+    let directory : kind a h ≡ Directory = sym (ap (λ (x : Head). x.kind) c.requires.given.is) ∙ c.requires.directory in
+    let held = opaque_is_held a c.requires.sound c.args.layer h c.args.members.now c.args.below.entries.items c.args.below.marks.items c.in_ok-whiteouts.whiteouts.items c.in_ok-marks.marks.items c.requires.members c.requires.below c.in_ok-whiteouts.ensures c.in_ok-marks.ensures in
+    let is : c.has_opaque-opaque.result ≡ is_some (named rest_of_opaque c.in_ok-whiteouts.whiteouts.items) = c.has_opaque-opaque.ensures ∙ ap (λ ks. is_some (named rest_of_opaque ks)) c.deref.ensures.value in
+    let whole : (c.has_opaque-opaque.result ≡ true) ↔ HasNamed a h opaque = subst (λ b. (b ≡ true) ↔ HasNamed a h opaque) (sym is) held in
+    rw (c.new-entries.ensures, c.new-marks.ensures, e, f) (folder a c.requires.sound c.args.layer h c.args.members.now c.args.below.entries.items c.args.below.marks.items c.in_ok-whiteouts.whiteouts.items c.in_ok-marks.marks.items c.requires.members c.requires.below c.in_ok-whiteouts.ensures c.in_ok-marks.ensures c.has_opaque-opaque.result whole directory c.args.name.now c.entry_of-entry.result c.entry_of-entry.ensures)

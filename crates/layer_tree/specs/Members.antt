@@ -1,0 +1,16 @@
+-- How the members of a directory are brought in order.
+use Rattle.std.specs.Prelude.{◌≡◌, ℕ, List, map, All}
+use Rattle.std.specs.List.Sorted.{IsSorted}
+use Rattle.romfs_format.specs.declared.head.Head.{Head}
+use Rattle.romfs_format.specs.Heads.{name_of}
+use Rattle.path_tree.specs.Rows.{name_cmp}
+use Rattle.layer_tree.specs.declared.members.Named.{Named}
+
+-- these are the members, each with its name
+pub record AreNamed (a : List ℕ) (members : List Head) (ms : List Named) : Type 0 where
+  pub names : All (λ m. m.name.now ≡ name_of a m.head.offset) ms
+  pub heads : map (λ m. m.head) ms ≡ members
+
+-- in the order of their names
+abbrev pub IsByName : List Named → Type 0
+IsByName = IsSorted (λ x y. name_cmp x.name.now y.name.now)

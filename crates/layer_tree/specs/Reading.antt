@@ -1,0 +1,99 @@
+-- One layer read as a tree: what stands at and below a header, and what is cut there.
+use Rattle.std.specs.Prelude.{◌≡◌, ◌≢◌, ℕ, ◌+◌, ◌⊎◌, ◌↔◌, List, [], ◌∷◌, ◌++◌, length, true, Some, IsSomeAnd, IsTrue, slice_get, codes}
+use Rattle.std.specs.List.{AllByRecursion}
+use Rattle.std.specs.declared.cmp.Ordering.TheVariants.{Less}
+use Rattle.romfs_format.specs.declared.head.Kind.TheVariants.{Directory}
+use Rattle.romfs_format.specs.Fields.{kind, name}
+use Rattle.romfs_format.specs.Chains.{IsMember, Leads, Has}
+use Rattle.romfs_format.specs.Links.{IsFinal}
+use Rattle.romfs_image.specs.Readers.{IsGiven}
+use Rattle.stack_model.specs.Stack.{Path, IsPlain, IsMarker, marker, opaque}
+use Rattle.path_tree.specs.Rows.{Shoot, name_cmp, whole, at_path, IsRising}
+use Rattle.layer_tree.specs.declared.place.Entry.{Entry}
+use Rattle.layer_tree.specs.declared.place.Mark.{Mark}
+use Rattle.layer_tree.specs.declared.members.Named.{Named}
+use Rattle.layer_tree.specs.Marks.{cut_by}
+
+-- the member comes before the other one by its name
+abbrev pub IsBefore : Named → Named → Type 0
+IsBefore m n = name_cmp m.name.now n.name.now ≡ Less
+
+abbrev pub NamedRise : List Named → Type 0
+NamedRise [] = Unit {0}
+NamedRise (m ∷ ms) = AllByRecursion (IsBefore m) ms × NamedRise ms
+
+-- a member of the directory d with its name
+pub record IsNamedMember (a : List ℕ) (d : ℕ) (m : Named) : Type 0 where
+  pub given : IsGiven a m.head
+  pub member : IsMember a d m.head.offset
+  pub name : name a m.head.offset ≡ Some m.name.now
+
+-- ms are the members of the directory d, in the order of their names
+pub record AreByName (a : List ℕ) (d : ℕ) (ms : List Named) : Type 0 where
+  pub rising : NamedRise ms
+  pub each : AllByRecursion (IsNamedMember a d) ms
+  pub whole : (h : ℕ) → IsMember a d h → (k : ℕ) × (m : Named) × (slice_get ms k ≡ Some m) × (m.head.offset ≡ h)
+
+-- a path of as many names as are left to 512 leads to h
+abbrev pub IsAtDepth : List ℕ → ℕ → ℕ → Type 0
+IsAtDepth a h left = (path : Path) × Has a path h × (length path + left ≡ 512)
+
+-- what the name of an opaque marker says after .wh.
+abbrev pub rest_of_opaque : List ℕ
+rest_of_opaque = codes ".wh..opq"
+
+-- some member of the directory d has the name
+abbrev pub HasNamed : List ℕ → ℕ → List ℕ → Type 0
+HasNamed a d n = (c : ℕ) × IsMember a d c × (name a c ≡ Some n)
+
+-- the layer cuts a path from the directory d: by a marker for its first name, by an opaque marker, by an entry that
+-- is no directory, or deeper
+abbrev pub CutsFrom : List ℕ → ℕ → Path → Type 0
+CutsFrom a d [] = ⊥
+CutsFrom a d (n ∷ path) =
+    HasNamed a d (marker ++ n) ⊎ HasNamed a d opaque
+    ⊎ ((c : ℕ) × IsMember a d c × (name a c ≡ Some n) × ((kind a c ≢ Directory) ⊎ CutsFrom a c path))
+
+-- the same from a header of any kind
+abbrev pub CutsAt : List ℕ → ℕ → Path → Type 0
+CutsAt a h path = (kind a h ≢ Directory) ⊎ CutsFrom a h path
+
+-- the entry of the header h in a layer
+pub record IsEntryIn (a : List ℕ) (layer h : ℕ) (entry : Entry) : Type 0 where
+  pub number : entry.place.layer ≡ layer
+  pub final : IsFinal a h entry.place.header
+  pub kind : entry.kind ≡ kind a entry.place.header
+
+-- the branch has the entries of all plain paths from the header h
+pub record IsBranchOf (a : List ℕ) (layer h : ℕ) (b : Shoot Entry) : Type 0 where
+  pub rising : IsRising b
+  pub shown : (path : Path) (g : ℕ) → IsPlain path → Leads a h path g → IsSomeAnd (at_path (whole b) path) (λ entry. IsEntryIn a layer g entry)
+  pub only : (path : Path) (entry : Entry) → at_path (whole b) path ≡ Some entry → IsPlain path × ((g : ℕ) × Leads a h path g × IsEntryIn a layer g entry)
+
+-- the branch has the marks of all that is cut from the header h
+pub record IsMarkOf (a : List ℕ) (h : ℕ) (b : Shoot Mark) : Type 0 where
+  pub rising : IsRising b
+  pub exact : (path : Path) → IsPlain path → IsTrue (cut_by (at_path (whole b)) path) ↔ CutsAt a h path
+
+-- both, with the name n
+pub record AreBranchesOf (a : List ℕ) (layer h : ℕ) (n : List ℕ) (e : Shoot Entry) (k : Shoot Mark) : Type 0 where
+  pub entry_name : e.name ≡ n
+  pub mark_name : k.name ≡ n
+  pub entries : IsBranchOf a layer h e
+  pub marks : IsMarkOf a h k
+
+-- members that are no markers have become branches of entries and of marks
+pub data AreBuilt (a : List ℕ) (layer : ℕ) : List Named → List (Shoot Entry) → List (Shoot Mark) → Type 0 where
+  none_built : AreBuilt a layer [] [] []
+  hidden : (m : Named) (ms : List Named) (es : List (Shoot Entry)) (ks : List (Shoot Mark)) → IsMarker m.name.now → AreBuilt a layer ms es ks → AreBuilt a layer (m ∷ ms) es ks
+  built : (m : Named) (ms : List Named) (e : Shoot Entry) (es : List (Shoot Entry)) (k : Shoot Mark) (ks : List (Shoot Mark)) → ¬ IsMarker m.name.now → AreBranchesOf a layer m.head.offset m.name.now e k → AreBuilt a layer ms es ks → AreBuilt a layer (m ∷ ms) (e ∷ es) (k ∷ ks)
+
+-- markers have become cut marks of what their names say after .wh.
+pub data AreWhiteouts : List Named → List (Shoot Mark) → Type 0 where
+  none_white : AreWhiteouts [] []
+  other : (m : Named) (ms : List Named) (ks : List (Shoot Mark)) → ¬ IsMarker m.name.now → AreWhiteouts ms ks → AreWhiteouts (m ∷ ms) ks
+  white : (m : Named) (ms : List Named) (k : Shoot Mark) (ks : List (Shoot Mark)) → m.name.now ≡ marker ++ k.name → k.value.cut ≡ true → k.below ≡ [] → AreWhiteouts ms ks → AreWhiteouts (m ∷ ms) (k ∷ ks)
+
+-- members of a directory, and how many names are left to 512 below a path to it
+abbrev pub AreMembersAt : List ℕ → ℕ → List Named → Type 0
+AreMembersAt a left ms = (d : ℕ) × AllByRecursion (IsNamedMember a d) ms × IsAtDepth a d left

@@ -1,0 +1,168 @@
+//! A tree laid on a tree.
+//!
+//! The marks of the upper tree leave out what they cut of the lower one's entries, its entries cover what is left,
+//! and the marks of both are united: an entry that is no directory has left a cut mark, so what lies below a file
+//! is gone before the file is laid on it.
+
+ghost use Rattle.std.specs.Prelude.{◌≡◌, ◌+◌, ◌++◌, ℕ, List, length, IfOk, MatchOption, Some, None, false};
+ghost use Rattle.path_tree.specs.Rows.{NamesRise, IsForest, named};
+ghost use Rattle.layer_tree.specs.Trees.{IsTreeOf};
+ghost use Rattle.layer_tree.specs.Laying.{AreKept, IsKept, IsLeftOut, IsFrom, NoneBefore, Lays};
+
+use crate::place::{Entry, Mark};
+use crate::tree::Tree;
+use path_tree::{Branch, Lay, cover};
+use std::alloc::{AllocError, Allocator};
+use std::cmp::Ordering;
+
+/// The upper entry replaces the lower one.
+impl Lay for Entry {
+    ghost use Rattle.layer_tree.specs.Laying.{upper};
+
+    ghost laid = { upper };
+
+    fn lay(_low: Entry, high: Entry) -> Entry {
+        high
+    }
+}
+
+/// Marks are united.
+impl Lay for Mark {
+    ghost use Rattle.layer_tree.specs.Laying.{united};
+
+    ghost laid = { united };
+
+    fn lay(low: Mark, high: Mark) -> Mark {
+        Mark {
+            cut: low.cut || high.cut,
+            opaque: low.opaque || high.opaque,
+        }
+    }
+}
+
+/// The branches of which the first's name is the first that does not come before a name.
+fn from_name<'a, T: Copy + Drop, A: Allocator>(
+    branches: &'a [Branch<T, A>],
+    name: &[u8],
+) -> &'a [Branch<T, A>]
+    requires { NamesRise branches.now }
+    ensures { IsFrom name.now branches.now result.now }
+{
+    let mut rest = branches;
+    while let Some((first, later)) = rest.split_first() {
+        if first.name().cmp(name) != Ordering::Less {
+            return rest;
+        }
+        rest = later;
+    }
+    rest
+}
+
+/// The first branch, if it has the name.
+fn first_named<'a, T: Copy + Drop, A: Allocator>(
+    branches: &'a [Branch<T, A>],
+    name: &[u8],
+) -> Option<&'a Branch<T, A>>
+    requires none { NoneBefore name.now branches.now }
+    requires names { NamesRise branches.now }
+    ensures { MatchOption result (named name.now branches.now ≡ None) (λ b. named name.now branches.now ≡ Some b.now) }
+{
+    let (first, _) = branches.split_first()?;
+    if first.name() == name {
+        Some(first)
+    } else {
+        None
+    }
+}
+
+/// What marks leave of the branches of a directory: both are gone through in step, in the order of names. With no
+/// marks nothing is looked into.
+#[cycle(keeping)]
+fn kept_below<T: Copy + Drop, A: Allocator + Copy>(
+    alloc: A,
+    mut lows: Vec<Branch<T, A>, A>,
+    marks: &[Branch<Mark, A>],
+) -> Result<Vec<Branch<T, A>, A>, AllocError>
+    requires lows { IsForest lows.items }
+    requires marks { IsForest marks.now }
+    ensures { IfOk result (λ kept. AreKept lows.items marks.now kept.items) }
+{
+    if marks.is_empty() {
+        return Ok(lows);
+    }
+    lows.reverse();
+    let mut rest = marks;
+    let mut kept = Vec::new(alloc);
+    while let Some(low) = lows.pop() {
+        rest = from_name(rest, low.name());
+        match first_named(rest, low.name()) {
+            None => kept.push(low)?,
+            Some(mark) => {
+                if let Some(low) = kept_of(alloc, low, mark)? {
+                    kept.push(low)?;
+                }
+            }
+        }
+    }
+    Ok(kept)
+}
+
+/// What a mark and those below it leave of a branch; none where the mark cuts the branch itself.
+#[cycle(keeping)]
+fn kept_of<T: Copy + Drop, A: Allocator + Copy>(
+    alloc: A,
+    low: Branch<T, A>,
+    mark: &Branch<Mark, A>,
+) -> Result<Option<Branch<T, A>>, AllocError>
+    ensures { IfOk result (λ kept. MatchOption kept (IsLeftOut mark.now) (λ b. IsKept low mark.now b)) }
+{
+    if mark.value().cut {
+        drop(low);
+        return Ok(None);
+    }
+    Ok(Some(kept_inside(alloc, low, mark)?))
+}
+
+/// What a mark that does not cut a branch itself, and those below it, leave of the branch.
+#[cycle(keeping)]
+fn kept_inside<T: Copy + Drop, A: Allocator + Copy>(
+    alloc: A,
+    low: Branch<T, A>,
+    mark: &Branch<Mark, A>,
+) -> Result<Branch<T, A>, AllocError>
+    requires { mark.now.value.cut ≡ false }
+    ensures { IfOk result (λ kept. IsKept low mark.now kept) }
+{
+    let (name, entry, children) = low.into_parts();
+    if mark.value().opaque {
+        return Ok(Branch::new(name, entry, Vec::new(alloc)));
+    }
+    let children = kept_below(alloc, children, mark.children())?;
+    Ok(Branch::new(name, entry, children))
+}
+
+/// One tree laid on another.
+fn laid<A: Allocator + Copy>(alloc: A, low: Tree<A>, high: Tree<A>) -> Result<Tree<A>, AllocError>
+    ensures { IfOk result (λ tree. Lays low high tree) }
+{
+    let kept = kept_inside(alloc, low.entries, &high.marks)?;
+    let entries = cover(alloc, kept, high.entries)?;
+    let marks = cover(alloc, low.marks, high.marks)?;
+    Ok(Tree { entries, marks })
+}
+
+/// Lays the tree of a run of layers on that of the run just below it: the tree of both together.
+///
+/// Directories that both have are merged child by child; what one alone has is moved and not looked into.
+/// `AllocError` comes only where memory was refused; both trees are then lost.
+pub fn lay<A: Allocator + Copy>(
+    alloc: A,
+    low: Tree<A>,
+    high: Tree<A>,
+) -> Result<Tree<A>, AllocError>
+    ensures { (first : ℕ) (ls hs : List (List ℕ)) →
+        IsTreeOf first ls low → IsTreeOf (first + length ls) hs high →
+        IfOk result (λ tree. IsTreeOf first (ls ++ hs) tree) }
+{
+    laid(alloc, low, high)
+}

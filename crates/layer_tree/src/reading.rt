@@ -1,0 +1,207 @@
+//! One layer read as a tree.
+//!
+//! A directory's members are sorted by name once. Those that are no markers become branches of entries, and of marks:
+//! an entry that is no directory is a cut mark. Markers become marks of what their names say, and these are laid on
+//! the others. A marker of the whole directory makes its own mark opaque.
+//!
+//! It takes n log n steps in the members of the layer.
+
+ghost use Rattle.std.specs.Prelude.{◌≡◌, ◌≢◌, [], ◌∷◌, IfOk, is_some};
+ghost use Rattle.romfs_image.specs.Images.{IsImage};
+ghost use Rattle.romfs_image.specs.Readers.{IsGiven};
+ghost use Rattle.layer_tree.specs.Trees.{IsTreeOf};
+ghost use Rattle.path_tree.specs.Rows.{NamesRise, named};
+ghost use Rattle.layer_tree.specs.Reading.{IsAtDepth, IsEntryIn, AreByName, AreBranchesOf, AreBuilt, AreWhiteouts, AreMembersAt, rest_of_opaque};
+
+use crate::members::{Named, is_marker, sorted_members, whiteout_of};
+use crate::place::{Entry, Mark, Place};
+use crate::tree::{Child, Tree};
+use path_tree::{Branch, child, merge};
+use romfs_image::{Head, Image, Kind};
+use std::alloc::{AllocError, Allocator};
+
+/// What the name of the marker of a whole directory says after `.wh.`.
+const WHOLE: &[u8; 8] = b".wh..opq";
+
+/// How many names a path has at most.
+const DEPTH: u16 = 512;
+
+/// The mark of a path that is cut.
+const CUT: Mark = Mark {
+    cut: true,
+    opaque: false,
+};
+
+/// The branches of a directory's members.
+#[derive(Drop)]
+struct Branches<A: Allocator> {
+    entries: Vec<Child<A>, A>,
+    marks: Vec<Branch<Mark, A>, A>,
+}
+
+impl<A: Allocator + Copy> Tree<A> {
+    /// The tree of one layer, which has this number among the layers.
+    ///
+    /// A marker is a mark and no entry, with all below it; a marker that ends after `.wh.` marks the empty name. A
+    /// hard link has the kind and the place of the header where it ends. `AllocError` comes only where memory was
+    /// refused.
+    pub fn of(alloc: A, image: &Image<A>, layer: u16) -> Result<Tree<A>, AllocError>
+        ensures { IfOk result (λ tree. IsTreeOf layer (image.now ∷ []) tree) }
+    {
+        let (entries, marks) = branches_of(alloc, image, layer, &[], image.root(), DEPTH)?;
+        Ok(Tree { entries, marks })
+    }
+}
+
+/// What stands at a header and below it, and what is cut there, under a name. A path to the header has `left` names
+/// less than 512.
+#[cycle(reading)]
+fn branches_of<A: Allocator + Copy>(
+    alloc: A,
+    image: &Image<A>,
+    layer: u16,
+    name: &[u8],
+    head: Head,
+    left: u16,
+) -> Result<(Child<A>, Branch<Mark, A>), AllocError>
+    requires sound { IsImage image.now }
+    requires given { IsGiven image.now head }
+    requires depth { IsAtDepth image.now head.offset left }
+    ensures { IfOk result (λ made. AreBranchesOf image.now layer head.offset name.now made.0 made.1) }
+{
+    if head.kind != Kind::Directory {
+        return file(alloc, image, layer, name, &head);
+    }
+    let members = sorted_members(alloc, image, &head)?;
+    let below = branches_below(alloc, image, layer, &members, left)?;
+    folder(alloc, image, layer, name, &head, &members, below)
+}
+
+/// The branches of members that are no markers, in the same order.
+#[cycle(reading)]
+fn branches_below<A: Allocator + Copy>(
+    alloc: A,
+    image: &Image<A>,
+    layer: u16,
+    members: &[Named<'_>],
+    left: u16,
+) -> Result<Branches<A>, AllocError>
+    requires sound { IsImage image.now }
+    requires members { AreMembersAt image.now left members.now }
+    ensures { IfOk result (λ made. AreBuilt image.now layer members.now made.entries.items made.marks.items) }
+{
+    let mut entries = Vec::new(alloc);
+    let mut marks = Vec::new(alloc);
+    for member in members {
+        if is_marker(member.name) {
+            continue;
+        }
+        let (entry, mark) = branches_of(alloc, image, layer, member.name, member.head, left - 1)?;
+        entries.push(entry)?;
+        marks.push(mark)?;
+    }
+    Ok(Branches { entries, marks })
+}
+
+/// The entry of a header: the kind and the place of where its hard links end.
+fn entry_of<A: Allocator>(image: &Image<A>, layer: u16, head: &Head) -> Entry
+    requires { IsGiven image.now head.now }
+    ensures { IsEntryIn image.now layer head.now.offset result }
+{
+    let end = image.target(head);
+    let place = Place {
+        layer,
+        header: end.offset,
+    };
+    Entry {
+        kind: end.kind,
+        place,
+    }
+}
+
+/// An entry that is no directory, and its cut mark.
+fn file<A: Allocator + Copy>(
+    alloc: A,
+    image: &Image<A>,
+    layer: u16,
+    name: &[u8],
+    head: &Head,
+) -> Result<(Child<A>, Branch<Mark, A>), AllocError>
+    requires sound { IsImage image.now }
+    requires given { IsGiven image.now head.now }
+    requires other { head.now.kind ≢ Kind.Directory }
+    ensures { IfOk result (λ made. AreBranchesOf image.now layer head.now.offset name.now made.0 made.1) }
+{
+    let entry = entry_of(image, layer, head);
+    let entry_name = copied(alloc, name)?;
+    let mark_name = copied(alloc, name)?;
+    Ok((leaf(alloc, entry_name, entry), leaf(alloc, mark_name, CUT)))
+}
+
+/// A directory, and its mark, over the branches of its members.
+fn folder<A: Allocator + Copy>(
+    alloc: A,
+    image: &Image<A>,
+    layer: u16,
+    name: &[u8],
+    head: &Head,
+    members: &[Named<'_>],
+    below: Branches<A>,
+) -> Result<(Child<A>, Branch<Mark, A>), AllocError>
+    requires sound { IsImage image.now }
+    requires given { IsGiven image.now head.now }
+    requires directory { head.now.kind ≡ Kind.Directory }
+    requires members { AreByName image.now head.now.offset members.now }
+    requires below { AreBuilt image.now layer members.now below.entries.items below.marks.items }
+    ensures { IfOk result (λ made. AreBranchesOf image.now layer head.now.offset name.now made.0 made.1) }
+{
+    let entry = entry_of(image, layer, head);
+    let entry_name = copied(alloc, name)?;
+    let mark_name = copied(alloc, name)?;
+    let whiteouts = whiteouts_of(alloc, members)?;
+    let opaque = has_opaque(&whiteouts);
+    let marks = merge(alloc, below.marks, whiteouts)?;
+    let entries = Branch::new(entry_name, entry, below.entries);
+    let marks = Branch::new(mark_name, Mark { cut: false, opaque }, marks);
+    Ok((entries, marks))
+}
+
+/// Whether one of the markers is that of the whole directory.
+fn has_opaque<A: Allocator>(whiteouts: &[Branch<Mark, A>]) -> bool
+    requires { NamesRise whiteouts.now }
+    ensures { result ≡ is_some (named rest_of_opaque whiteouts.now) }
+{
+    child(whiteouts, WHOLE).is_some()
+}
+
+/// The marks of markers, in the same order.
+fn whiteouts_of<A: Allocator + Copy>(
+    alloc: A,
+    members: &[Named<'_>],
+) -> Result<Vec<Branch<Mark, A>, A>, AllocError>
+    ensures { IfOk result (λ marks. AreWhiteouts members.now marks.items) }
+{
+    let mut marks = Vec::new(alloc);
+    for member in members {
+        let Some(name) = whiteout_of(member.name) else {
+            continue;
+        };
+        let name = copied(alloc, name)?;
+        marks.push(leaf(alloc, name, CUT))?;
+    }
+    Ok(marks)
+}
+
+/// A name of one's own.
+fn copied<A: Allocator>(alloc: A, name: &[u8]) -> Result<Vec<u8, A>, AllocError>
+    ensures { IfOk result (λ copy. copy.items ≡ name.now) }
+{
+    name.to_vec(alloc)
+}
+
+/// A branch with nothing below.
+fn leaf<T: Copy + Drop, A: Allocator>(alloc: A, name: Vec<u8, A>, value: T) -> Branch<T, A>
+    ensures { result ≡ record { name = name.items; value = value; below = [] } }
+{
+    Branch::new(name, value, Vec::new(alloc))
+}

@@ -1,0 +1,84 @@
+//! Trees laid one on another.
+
+ghost use Rattle.std.specs.Prelude.{◌≡◌, IfOk};
+ghost use Rattle.path_tree.specs.Rows.{name_cmp, IsRising, IsForest};
+ghost use Rattle.path_tree.specs.Laying.{IsLaid, AreLaid};
+
+use crate::branch::Branch;
+use std::alloc::{AllocError, Allocator};
+use std::cmp::Ordering;
+
+/// Values of which one can be laid on another.
+pub trait Lay: Copy + Drop {
+    ghost laid: { Self → Self → Self };
+
+    /// What a path has where the lower tree has the first value there and the upper one the second.
+    fn lay(low: Self, high: Self) -> Self
+        ensures { result ≡ laid low high };
+}
+
+/// A tree laid on another one. At each path it has the values of both, one laid on the other; where one alone has a
+/// value, that one. The name is that of the upper tree.
+///
+/// Directories of both are merged child by child; what one alone has is moved and not looked into.
+#[cycle(laying)]
+pub fn cover<T: Lay, A: Allocator + Copy>(
+    alloc: A,
+    low: Branch<T, A>,
+    high: Branch<T, A>,
+) -> Result<Branch<T, A>, AllocError>
+    ensures { IfOk result (λ b. IsLaid T.laid low high b) }
+{
+    let (_, below, lows) = low.into_parts();
+    let (name, above, highs) = high.into_parts();
+    let children = merge(alloc, lows, highs)?;
+    Ok(Branch::new(name, T::lay(below, above), children))
+}
+
+/// Which name comes first.
+fn order<T: Copy + Drop, A: Allocator>(low: &Branch<T, A>, high: &Branch<T, A>) -> Ordering
+    ensures { result ≡ name_cmp low.now.name high.now.name }
+{
+    low.name().cmp(high.name())
+}
+
+/// The branches of a directory, laid on those of another one.
+#[cycle(laying)]
+pub fn merge<T: Lay, A: Allocator + Copy>(
+    alloc: A,
+    mut lows: Vec<Branch<T, A>, A>,
+    mut highs: Vec<Branch<T, A>, A>,
+) -> Result<Vec<Branch<T, A>, A>, AllocError>
+    requires low { IsForest lows.items }
+    requires high { IsForest highs.items }
+    ensures { IfOk result (λ out. AreLaid T.laid lows.items highs.items out.items) }
+{
+    if lows.is_empty() {
+        return Ok(highs);
+    }
+    if highs.is_empty() {
+        return Ok(lows);
+    }
+    lows.reverse();
+    highs.reverse();
+    let mut out = Vec::new(alloc);
+    loop {
+        match (lows.pop(), highs.pop()) {
+            (None, None) => break,
+            (Some(low), None) => out.push(low)?,
+            (None, Some(high)) => out.push(high)?,
+            (Some(low), Some(high)) => match order(&low, &high) {
+                Ordering::Less => {
+                    out.push(low)?;
+                    highs.push(high)?;
+                }
+                Ordering::Greater => {
+                    out.push(high)?;
+                    lows.push(low)?;
+                }
+                Ordering::Equal => out.push(cover(alloc, low, high)?)?,
+            },
+        }
+    }
+    Ok(out)
+}

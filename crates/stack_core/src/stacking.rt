@@ -1,0 +1,72 @@
+//! The tree of a list of layers.
+
+ghost use Rattle.std.specs.Prelude.{◌≡◌, ◌+◌, ◌<◌, ◌≤◌, length, map, IfOk};
+ghost use Rattle.std.specs.Option.{option_map};
+ghost use Rattle.std.specs.Thread.{IsSync};
+ghost use denote.Param.Send.{IsSend, Frees};
+ghost use Rattle.layer_tree.specs.Trees.{IsTreeOf, entry_at};
+
+use crate::gate::{Gate, Work};
+use layer_tree::{Place, Tree, lay};
+use romfs_image::Image;
+use std::alloc::{AllocError, Allocator};
+use std::thread::{Threads, join};
+
+/// The tree of a list of layers, the lowest first.
+///
+/// The gate is passed with `Work::Tree` and the layer's number before its tree is made. Images are only read. A path
+/// of n layers that meets in every layer is gone over log n times. `AllocError` comes only where memory was
+/// refused, in whichever thread.
+pub fn stack<R: Threads + Sync, A: Allocator + Copy + Send + Sync, G: Gate + Sync>(
+    rt: &R,
+    alloc: A,
+    images: &[Image<A>],
+    gate: &G,
+) -> Result<Tree<A>, AllocError>
+    requires some { 1 ≤ length images.now }
+    requires few { length images.now ≤ 128 }
+    ensures { IfOk result (λ tree. IsTreeOf 0 images.now tree) }
+{
+    stack_from(rt, alloc, 0, images, gate)
+}
+
+/// The tree of a run of layers, of which the lowest has the number `first`.
+#[cycle(halves)]
+fn stack_from<R: Threads + Sync, A: Allocator + Copy + Send + Sync, G: Gate + Sync>(
+    rt: &R,
+    alloc: A,
+    first: u16,
+    images: &[Image<A>],
+    gate: &G,
+) -> Result<Tree<A>, AllocError>
+    requires some { 1 ≤ length images.now }
+    requires few { first + length images.now ≤ 128 }
+    ensures { IfOk result (λ tree. IsTreeOf first images.now tree) }
+{
+    if let [image] = images {
+        gate.pass(Work::Tree, u32::from(first));
+        return Tree::of(alloc, image, first);
+    }
+    let half = images.len() / 2;
+    let (lows, highs) = images.split_at(half);
+    let next = first + half as u16;
+    let (low, high) = join(
+        rt,
+        move || -> Result<Tree<A>, AllocError>
+            requires { IsSync R.row × IsSync G.row × IsSync A.row × IsSend A.row × Frees A.Allocator A.dealloc_token × (1 ≤ length lows.now) × (first + length lows.now ≤ 128) }
+            ensures { IfOk result (λ tree. IsTreeOf first lows.entry.now tree) }
+        { stack_from(rt, alloc, first, lows, gate) },
+        move || -> Result<Tree<A>, AllocError>
+            requires { IsSync R.row × IsSync G.row × IsSync A.row × IsSend A.row × Frees A.Allocator A.dealloc_token × (1 ≤ length highs.now) × (next + length highs.now ≤ 128) }
+            ensures { IfOk result (λ tree. IsTreeOf next highs.entry.now tree) }
+        { stack_from(rt, alloc, next, highs, gate) },
+    );
+    lay(alloc, low?, high?)
+}
+
+/// Where the entry stands that a path shows; none where the path is not shown.
+pub fn shown<A: Allocator>(tree: &Tree<A>, path: &[&[u8]]) -> Option<Place>
+    ensures { result ≡ option_map (λ entry. entry.place) (entry_at tree.now (map (λ name. name.now) path.now)) }
+{
+    tree.entry(path).map(|entry| entry.place)
+}
