@@ -1,12 +1,12 @@
 //! Which rule of romfs an image breaks.
 //!
 //! [`first_fault`] answers for every list of bytes, whatever a stranger made: directories whose chains merge, loop or
-//! lead anywhere, links to links, names that come twice. It first collects sets of headers, each as a mark for every 16
-//! bytes of the image (`chains`, `targets`, `twice`, `namesakes`, `ends`), and then goes upward once by place and asks
-//! for the first rule that is broken there (`judge`); the depth is looked at last (`depth`). Each walk is a loop, and
-//! each visits a header a constant number of times.
+//! lead anywhere, links to links, names that come twice. It first collects sets of headers (`chains`, `targets`,
+//! `twice`, `namesakes`, `ends`), most as a bit for every 16 bytes of the image (`slot_set`), then goes upward once over
+//! the headers that are reached and asks for the first rule that is broken there (`judge`); the depth is looked at last
+//! (`depth`). Each walk is a loop, and each visits a header a constant number of times.
 //!
-//! Nothing is public but that call: its promise is `IsFaultOf`, of `romfs_format`.
+//! Nothing is public but that call: its promise is `IsFaultOfAs`, of `romfs_format`.
 #![tactic(auto)]
 
 mod chains;
