@@ -7,8 +7,8 @@ use romfs_image::{CheckFault, Image};
 use std::alloc::Allocator;
 use std::test::Fail;
 use std::thread::Threads;
-use test_data::refusals::refuse_each;
-use test_data::sample_images::sample;
+use test_kit::refusing::refuse_each;
+use test_kit::sample_images::sample;
 
 /// The table of the sample image alone.
 fn sample_table<R: Threads + Sync, A: Allocator + Copy>(
