@@ -8,7 +8,7 @@ use Rattle.std.proofs.lemmas.List.Concat.{flat_map-append}
 use Rattle.std.proofs.lemmas.List.Folds.{length-flat_map-take}
 use Rattle.std.proofs.lemmas.List.FromFn.{length-enumerate_from}
 use Rattle.std.proofs.lemmas.Option.{get_or_from_slice_get, slice_get-get_or}
-use Rattle.fuse_wire.specs.Replies.{head_of, reply_with}
+use Rattle.fuse_wire.specs.Replies.{reply_head, reply_with}
 use Rattle.fuse_wire.proofs.Sizes.{length-dirent, length-direntplus}
 use Rattle.node_table.specs.Rows.{Line}
 use Rattle.node_table.specs.Stacked.{Stacked}
@@ -97,16 +97,16 @@ module _ {A : Type 0} (stack : Stacked) (l : Listing A) (whole : IsWhole stack l
 
   -- what was appended before an index
   abbrev pub IsSoFar : ℕ → List ℕ → ℕ → List ℕ → Type 0
-  IsSoFar unique before index now = now ≡ before ++ (head_of unique l.size ++ written stack l index)
+  IsSoFar unique before index now = now ≡ before ++ (reply_head unique l.size ++ written stack l index)
 
-  pub head_first : (unique : ℕ) (before now : List ℕ) → now ≡ before ++ head_of unique l.size → IsSoFar unique before l.from now
+  pub head_first : (unique : ℕ) (before now : List ℕ) → now ≡ before ++ reply_head unique l.size → IsSoFar unique before l.from now
   head_first unique before now is =
-      is ∙ ap (λ b. before ++ b) (sym (append-nil (head_of unique l.size)) ∙ ap (λ b. head_of unique l.size ++ b) (sym none_written))
+      is ∙ ap (λ b. before ++ b) (sym (append-nil (reply_head unique l.size)) ∙ ap (λ b. reply_head unique l.size ++ b) (sym none_written))
 
   pub row_next : (unique index : ℕ) (before now next : List ℕ) → l.from ≤ index → index < l.until
       → IsSoFar unique before index now → next ≡ now ++ row_bytes stack l index → IsSoFar unique before (index + 1) next
   row_next unique index before now next from until so_far is =
-      let h = head_of unique l.size in
+      let h = reply_head unique l.size in
       let w = written stack l index in
       let r = row_bytes stack l index in
       is ∙ ap (λ b. b ++ r) so_far ∙ append_assoc before (h ++ w) r
@@ -116,5 +116,5 @@ module _ {A : Type 0} (stack : Stacked) (l : Listing A) (whole : IsWhole stack l
   unfolding reply_with
   all_rows unique index before now end so_far =
       so_far
-      ∙ ap (λ i. before ++ (head_of unique l.size ++ written stack l i)) end
-      ∙ ap (λ n. before ++ (head_of unique n ++ listed_data stack l)) whole.size_is
+      ∙ ap (λ i. before ++ (reply_head unique l.size ++ written stack l i)) end
+      ∙ ap (λ n. before ++ (reply_head unique n ++ listed_data stack l)) whole.size_is

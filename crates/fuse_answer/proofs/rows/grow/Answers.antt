@@ -1,13 +1,13 @@
 use Rattle.std.proofs.Common.{◌∙◌, ◌++◌, ap, arith}
 use Rattle.std.proofs.lemmas.Result.{err_from_is_err_and}
-use Rattle.fuse_wire.specs.Replies.{head_of}
+use Rattle.fuse_wire.specs.Replies.{reply_head}
 use Rattle.fuse_answer.proofs.Writing.{all_rows, head_first, row_next, written}
 use Rattle.fuse_answer.proofs.rows.grow.Goals as goal
 
 pub loop-index-init : goal.loop-index-init
 loop-index-init g c =
     head_first c.args.table.now c.args.rows.now c.requires c.args.unique c.args.out.now.items c.put_data_head.new.out.items
-    (c.in_ok-put_data_head.ensures.0 ∙ ap (λ b. b ++ head_of c.args.unique c.args.rows.now.size) c.reserve.ensures.items)
+    (c.in_ok-put_data_head.ensures.0 ∙ ap (λ b. b ++ reply_head c.args.unique c.args.rows.now.size) c.reserve.ensures.items)
 
 pub loop-index-preserved : goal.loop-index-preserved
 loop-index-preserved g c =
@@ -18,7 +18,7 @@ pub returns-in_err-put_row : goal.returns-in_err-put_row
 returns-in_err-put_row g c =
     let failed = err_from_is_err_and c.from_residual-in_err-put_row.result c.from_residual-in_err-put_row.ensures.1 in
     rw failed.1
-    (tt, (head_of c.args.unique c.args.rows.now.size ++ written c.args.table.now c.args.rows.now c.loop-index.index, c.in_err-put_row.ensures.1 ∙ c.loop-index.invariant))
+    (tt, (reply_head c.args.unique c.args.rows.now.size ++ written c.args.table.now c.args.rows.now c.loop-index.index, c.in_err-put_row.ensures.1 ∙ c.loop-index.invariant))
 
 pub returns : goal.returns
 returns g c =
