@@ -101,6 +101,13 @@ impl<A: Allocator> Table<A> {
         self.nodes.len() as u64
     }
 
+    /// The images of the layers, the lowest first.
+    pub fn images(&self) -> &[Image<A>]
+        ensures { result.now ≡ self.now.layers }
+    {
+        self.images.as_slice()
+    }
+
     /// The node of a number; none where the number is not in use.
     pub fn node(&self, number: u64) -> Option<&Node>
         ensures { TellsNode self.now number result }
