@@ -1,6 +1,6 @@
 //! The table of a stack.
 
-ghost use Rattle.std.specs.Prelude.{◌≡◌, ◌≤◌, length, IfOk};
+ghost use Rattle.std.specs.Prelude.{◌≡◌, ◌≤◌, ◌<◌, ◌+◌, ◌^◌, length, IfOk};
 ghost use Rattle.std.specs.List.{AllByRecursion};
 ghost use Rattle.romfs_image.specs.Images.{IsImage};
 ghost use Rattle.layer_tree.specs.Trees.{IsTreeOf};
@@ -101,6 +101,13 @@ impl<A: Allocator> Table<A> {
         self.nodes.len() as u64
     }
 
+    /// The images of the layers, the lowest first.
+    pub fn images(&self) -> &[Image<A>]
+        ensures { result.now ≡ self.now.layers }
+    {
+        self.images.as_slice()
+    }
+
     /// The node of a number; none where the number is not in use.
     pub fn node(&self, number: u64) -> Option<&Node>
         ensures { TellsNode self.now number result }
@@ -150,9 +157,11 @@ impl<A: Allocator> Table<A> {
         Some(attr_of(number, node))
     }
 
-    /// The data of a regular file, or the target of a symbolic link; empty where the number is neither.
+    /// The data of a regular file, or the target of a symbolic link; empty where the number is neither. A reply's
+    /// header can say how many they are.
     pub fn bytes(&self, number: u64) -> &[u8]
-        ensures { result.now ≡ data_at self.now number }
+        ensures value { result.now ≡ data_at self.now number }
+        ensures short { 16 + length result.now < 2 ^ 32 }
     {
         match node_at(&self.nodes, number) {
             Some(node) => {

@@ -9,3 +9,4 @@ pub mod Whole
 pub mod Pigeon
 pub mod NameBytes
 pub mod Paths
+pub mod Short

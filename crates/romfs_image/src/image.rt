@@ -167,9 +167,11 @@ impl<A: Allocator> Image<A> {
 
     /// The data of a regular file, or the target of a symbolic link: as many bytes as its size, from
     /// the padded end of its name on. It is empty for headers of other kinds.
+    #[tactic(auto, using(crate::proofs::Short::short_data))]
     pub fn body(&self, head: &Head) -> &[u8]
         requires { IsGiven self.now head.now }
-        ensures { result.now ≡ data_of self.now head.now.offset }
+        ensures value { result.now ≡ data_of self.now head.now.offset }
+        ensures short { 16 + length result.now < 2 ^ 32 }
     {
         data_in(&self.bytes, head)
     }

@@ -10,8 +10,8 @@ index-image-requires g c =
 pub body-requires : goal.body-requires
 body-requires g c = image_gives _ _ _ _ _ c.self.invariant c.args.number _ _ (rw c.deref.ensures.value at c.in-Some.ensures) c.index-image.ensures
 
-pub returns-in-Some : goal.returns-in-Some
-returns-in-Some g c = rw (c.body.ensures, ← c.self.view_is) (data_is _ _ _ _ _ c.self.invariant c.args.number _ _ (rw c.deref.ensures.value at c.in-Some.ensures) c.index-image.ensures)
+pub returns-in-Some-clause-value : goal.returns-in-Some-clause-value
+returns-in-Some-clause-value g c = rw (c.body.ensures.value, ← c.self.view_is) (data_is _ _ _ _ _ c.self.invariant c.args.number _ _ (rw c.deref.ensures.value at c.in-Some.ensures) c.index-image.ensures)
 
-pub returns-in-None : goal.returns-in-None
-returns-in-None g c = rw (← c.self.view_is) (data_none _ _ _ _ _ c.self.invariant c.args.number (rw c.deref.ensures.value at c.in-None.ensures))
+pub returns-in-None-clause-value : goal.returns-in-None-clause-value
+returns-in-None-clause-value g c = rw (← c.self.view_is) (data_none _ _ _ _ _ c.self.invariant c.args.number (rw c.deref.ensures.value at c.in-None.ensures))

@@ -1,0 +1,153 @@
+-- Rows that fit in a room, one after another.
+use Rattle.std.proofs.Common.{◌≡◌, ◌∙◌, sym, ap, ℕ, zero, suc, ◌+◌, ◌-◌, ◌<◌, ◌≤◌, List, [], ◌∷◌, length, map, drop, take, get_or, Bool, true, false, cond, refl, subst, arith}
+use Rattle.std.specs.Prelude.{nat_le}
+use Rattle.std.specs.List.{flat_map}
+use Rattle.std.proofs.lemmas.Bool.{le-leb, lt-leb, ltb-true, ltb-false}
+use Rattle.std.proofs.lemmas.List.{drop-map, drop_more, drop_all, length-map, length-append}
+use Rattle.node_table.specs.Rows.{Line}
+use Rattle.reply_model.specs.Rows.{Row, fitting, is_too_small}
+use Rattle.fuse_answer.specs.Listings.{Fits, fit_count, fit_size, name_lengths, row_size, row_sizes}
+
+-- what fits in a room, of a first piece and others
+fits_one : (room n : ℕ) (sizes : List ℕ) → n ≤ room
+    → (fit_count room (n ∷ sizes) ≡ 1 + fit_count (room - n) sizes) × (fit_size room (n ∷ sizes) ≡ n + fit_size (room - n) sizes)
+fits_one room n sizes le = let e : nat_le n room ≡ true = le-leb n room le in (rw e refl, rw e refl)
+
+fits_none : (room n : ℕ) (sizes : List ℕ) → room < n → (fit_count room (n ∷ sizes) ≡ 0) × (fit_size room (n ∷ sizes) ≡ 0)
+fits_none room n sizes lt = let e : nat_le n room ≡ false = lt-leb n room lt in (rw e refl, rw e refl)
+
+length-names : (children : List Line) → length (name_lengths children) ≡ 2 + length children
+length-names children = let e = length-map children (λ (line : Line). length line.name) in omega arith
+
+-- the name of a child, by its index among all rows
+pub child_length : (children : List Line) (k : ℕ) (line : Line) (n : ℕ) → 2 ≤ k → k < 2 + length children
+    → line ≡ get_or children (k - 2) line → n ≡ length line.name → n ≡ get_or (name_lengths children) k 0
+child_length children zero line n big small is size_is = absurd (omega (arith, big))
+child_length children (suc zero) line n big small is size_is = absurd (omega (arith, big))
+child_length children (suc (suc k)) line n big small is size_is =
+    let e : suc (suc k) - 2 ≡ k = omega arith in
+    let same : line ≡ get_or children k line = subst (λ i. line ≡ get_or children i line) e is in
+    size_is ∙ ap (λ (line : Line). length line.name) same ∙ named children k line (omega arith)
+  where
+    named : (children : List Line) (k : ℕ) (line : Line) → k < length children
+        → length (get_or children k line).name ≡ get_or (map (λ line. length line.name) children) k 0
+    named [] k line lt = absurd (omega (arith, lt))
+    named (x ∷ xs) zero line lt = refl
+    named (x ∷ xs) (suc k) line lt = named xs k line (omega (arith, lt))
+
+-- the rows from an index on, where there is one
+sizes_at : (plus : Bool) (children : List Line) (k : ℕ) → k < 2 + length children
+    → drop k (row_sizes plus children) ≡ row_size plus (get_or (name_lengths children) k 0) ∷ drop (k + 1) (row_sizes plus children)
+sizes_at plus children k lt =
+    let names = name_lengths children in
+    let within : k < length names = (let e = length-names children in omega arith) in
+    drop-map (row_size plus) k names
+    ∙ ap (map (row_size plus)) (drop_more names k 0 within)
+    ∙ ap (λ rest. row_size plus (get_or names k 0) ∷ rest) (sym (drop-map (row_size plus) (k + 1) names))
+
+sizes_end : (plus : Bool) (children : List Line) (k : ℕ) → 2 + length children ≤ k → drop k (row_sizes plus children) ≡ []
+sizes_end plus children k le =
+    let e = length-names children in
+    let f = length-map (name_lengths children) (row_size plus) in
+    drop_all k (row_sizes plus children) (omega arith)
+
+-- how far the rows from an index on were gone through: up to another index, with this room left
+pub record Goes (plus : Bool) (children : List Line) (from size until room : ℕ) : Type 0 where
+  pub within : until ≤ 2 + length children
+  pub left : room ≤ size
+  pub count : until + fit_count room (drop until (row_sizes plus children)) ≡ from + fit_count size (drop from (row_sizes plus children))
+  pub bytes : (size - room) + fit_size room (drop until (row_sizes plus children)) ≡ fit_size size (drop from (row_sizes plus children))
+
+pub none_gone : (plus : Bool) (children : List Line) (from size : ℕ) → from ≤ 2 + length children → Goes plus children from size from size
+none_gone plus children from size le = record { within = le; left = omega arith; count = refl; bytes = omega arith }
+
+pub one_gone : (plus : Bool) (children : List Line) (from size until room name bytes : ℕ) → until < 2 + length children
+    → name ≡ get_or (name_lengths children) until 0 → bytes ≡ row_size plus name → bytes ≤ room
+    → Goes plus children from size until room → Goes plus children from size (until + 1) (room - bytes)
+one_gone plus children from size until room name bytes lt is size_is le g =
+    let n = row_size plus (get_or (name_lengths children) until 0) in
+    let same : bytes ≡ n = size_is ∙ ap (row_size plus) is in
+    let at = sizes_at plus children until lt in
+    let rest = drop (until + 1) (row_sizes plus children) in
+    let fits : n ≤ room = omega arith in
+    let one = fits_one room n rest fits in
+    let count = ap (fit_count room) at ∙ one.0 ∙ ap (λ b. 1 + fit_count (room - b) rest) (sym same) in
+    let size_of = ap (fit_size room) at ∙ one.1 ∙ ap (λ b. b + fit_size (room - b) rest) (sym same) in
+    record {
+      within = omega arith;
+      left = (let l = g.left in omega arith);
+      count = (let c = g.count in omega arith);
+      bytes = (let l = g.left in let b = g.bytes in omega arith);
+    }
+
+pub no_room : (plus : Bool) (children : List Line) (from size until room name : ℕ) → until < 2 + length children
+    → name ≡ get_or (name_lengths children) until 0 → room < row_size plus name
+    → Goes plus children from size until room → Fits plus children from size until (size - room)
+no_room plus children from size until room name lt is full g =
+    let n = row_size plus (get_or (name_lengths children) until 0) in
+    let same : row_size plus name ≡ n = ap (row_size plus) is in
+    let at = sizes_at plus children until lt in
+    let none = fits_none room n (drop (until + 1) (row_sizes plus children)) (omega arith) in
+    let count = ap (fit_count room) at ∙ none.0 in
+    let size_of = ap (fit_size room) at ∙ none.1 in
+    record {
+      until_is = (let c = g.count in omega arith);
+      bytes_are = (let b = g.bytes in omega arith);
+      within = g.within;
+      small = omega arith;
+    }
+
+pub all_gone : (plus : Bool) (children : List Line) (from size until room : ℕ) → 2 + length children ≤ until
+    → Goes plus children from size until room → Fits plus children from size until (size - room)
+all_gone plus children from size until room le g =
+    let at = sizes_end plus children until le in
+    let count = ap (fit_count room) at in
+    let size_of = ap (fit_size room) at in
+    record {
+      until_is = (let c = g.count in omega arith);
+      bytes_are = (let b = g.bytes in omega arith);
+      within = g.within;
+      small = omega arith;
+    }
+
+module _ (form : Row → List ℕ) where
+  abbrev pub sizes_of : List Row → List ℕ
+  sizes_of rows = map (λ r. length (form r)) rows
+
+  -- the rows that fit are so many first ones, and take so many bytes
+  pub first_rows : (room : ℕ) (rows : List Row) → take (fit_count room (sizes_of rows)) rows ≡ fitting form room rows
+  first_rows room [] = refl
+  first_rows room (r ∷ rows) = go (nat_le (length (form r)) room) (first_rows (room - length (form r)) rows)
+    where
+      one_more : (n : ℕ) → take (1 + n) (r ∷ rows) ≡ r ∷ take n rows
+      one_more n = let e : 1 + n ≡ suc n = omega arith in ap (λ k. take k (r ∷ rows)) e
+
+      go : (b : Bool) → take (fit_count (room - length (form r)) (sizes_of rows)) rows ≡ fitting form (room - length (form r)) rows
+          → take (cond b (1 + fit_count (room - length (form r)) (sizes_of rows)) 0) (r ∷ rows)
+          ≡ cond b (r ∷ fitting form (room - length (form r)) rows) []
+      go true e = one_more _ ∙ ap (λ t. r ∷ t) e
+      go false e = refl
+
+  pub rows_size : (room : ℕ) (rows : List Row) → fit_size room (sizes_of rows) ≡ length (flat_map form (fitting form room rows))
+  rows_size room [] = refl
+  rows_size room (r ∷ rows) = go (nat_le (length (form r)) room) (rows_size (room - length (form r)) rows)
+    where
+      go : (b : Bool) → fit_size (room - length (form r)) (sizes_of rows) ≡ length (flat_map form (fitting form (room - length (form r)) rows))
+          → cond b (length (form r) + fit_size (room - length (form r)) (sizes_of rows)) 0
+          ≡ length (flat_map form (cond b (r ∷ fitting form (room - length (form r)) rows) []))
+      go true e = ap (λ n. length (form r) + n) e ∙ sym (length-append (form r) (flat_map form (fitting form (room - length (form r)) rows)))
+      go false e = refl
+
+  -- a first row does not fit exactly where there is one and none is answered
+  pub too_small : (room : ℕ) (rows : List Row) → is_too_small form room rows ≡ true → (fit_count room (sizes_of rows) ≡ 0) × (0 < length rows)
+  too_small room [] is = absurd (cc)
+  too_small room (r ∷ rows) is =
+      let lt : room < length (form r) = ltb-true room (length (form r)) is in
+      ((fits_none room (length (form r)) (sizes_of rows) lt).0, omega arith)
+
+  pub not_too_small : (room : ℕ) (rows : List Row) → is_too_small form room rows ≡ false → 0 < length rows → 0 < fit_count room (sizes_of rows)
+  not_too_small room [] is some = absurd (omega arith)
+  not_too_small room (r ∷ rows) is some =
+      let le : length (form r) ≤ room = ltb-false room (length (form r)) is in
+      let e = (fits_one room (length (form r)) (sizes_of rows) le).0 in
+      omega arith

@@ -1,0 +1,7 @@
+pub mod Numbered
+pub mod Lookups
+pub mod Fitting
+pub mod Listed
+pub mod Decided
+pub mod Writing
+pub mod Moving

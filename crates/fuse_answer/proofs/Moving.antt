@@ -1,0 +1,204 @@
+-- Balances, after one row and another, and after one item that is forgotten and another.
+use Rattle.std.proofs.Common.{◌≡◌, ◌∙◌, sym, ap, ℕ, ◌+◌, ◌-◌, ◌*◌, ◌^◌, ◌<◌, ◌≤◌, ℤ, pos, neg_ℤ, List, [], ◌∷◌, ◌++◌, length, drop, take, get_or, map, Bool, true, false, cond, Option, Some, None, refl, subst, arith, append-nil, append_assoc, length-append}
+use Rattle.std.specs.Prelude.{nat_lt, filter}
+use Rattle.std.specs.List.{cons_option}
+use Rattle.std.specs.Option.{option_map, option_map_or}
+use Rattle.std.proofs.lemmas.Int.{ints}
+use Rattle.std.proofs.lemmas.List.{get_or-drop, length-drop, take_more}
+use Rattle.std.proofs.lemmas.List.FromFn.{length-enumerate_from}
+use Rattle.std.proofs.lemmas.Option.{slice_get-get_or}
+use Rattle.fuse_wire.specs.declared.forget.Forget.{Forget}
+use Rattle.stack_model.specs.Numbers.{Place, node_of}
+use Rattle.node_table.specs.Stacked.{Stacked}
+use Rattle.reply_model.specs.declared.moves.Move.{Move}
+use Rattle.reply_model.specs.Moves.{take_back}
+use Rattle.rounds.specs.Moves.{AreWithin, IsMoved, weight}
+use Rattle.rounds.proofs.Sums.{moved_on, none_moved, within_less, within_moved}
+use Rattle.fuse_answer.specs.declared.listing.Listing.{Listing}
+use Rattle.fuse_answer.specs.Answers.{taken_back}
+use Rattle.fuse_answer.specs.Listings.{NumberedLine, is_child_line, lines_given, lines_of, row_given}
+
+nothing : NumberedLine
+nothing = (0, record { number = 0; name = [] })
+
+given_on : (xs ys : List NumberedLine) → lines_given (xs ++ ys) ≡ lines_given xs ++ lines_given ys
+given_on [] ys = refl
+given_on (x ∷ xs) ys = go (nat_lt 2 x.0) (given_on xs ys)
+  where
+    go : (b : Bool) → lines_given (xs ++ ys) ≡ lines_given xs ++ lines_given ys
+        → map (λ (r : NumberedLine). let m : Move = record { node = r.1.number; amount = pos 1 } in m) (cond b (x ∷ filter is_child_line (xs ++ ys)) (filter is_child_line (xs ++ ys)))
+        ≡ map (λ (r : NumberedLine). let m : Move = record { node = r.1.number; amount = pos 1 } in m) (cond b (x ∷ filter is_child_line xs) (filter is_child_line xs)) ++ lines_given ys
+    go true e = ap (λ t. let m : Move = record { node = x.1.number; amount = pos 1 } in m ∷ t) e
+    go false e = e
+
+weight_row : (r : NumberedLine) → weight (lines_given (r ∷ [])) ≤ 1
+weight_row r = go (nat_lt 2 r.0)
+  where
+    go : (b : Bool) → weight (map (λ (r : NumberedLine). let m : Move = record { node = r.1.number; amount = pos 1 } in m) (cond b (r ∷ []) [])) ≤ 1
+    go true = omega arith
+    go false = omega arith
+
+module _ {A : Type 0} (l : Listing A) where
+  -- what the rows before an index give
+  abbrev pub given : ℕ → List Move
+  given index = lines_given (take (index - l.from) (drop l.from (lines_of l)))
+
+  -- the rows before an index were added
+  pub record IsAdded (index : ℕ) (old new : List ℤ) : Type 0 where
+    pub moved : IsMoved (given index) old new
+    pub within : AreWithin (2 ^ 123 + (index - l.from)) new
+
+  pub none_added : (old : List ℤ) → AreWithin (2 ^ 123) old → IsAdded l.from old old
+  none_added old within =
+      let e : l.from - l.from ≡ 0 = omega arith in
+      record {
+        moved = subst (λ n. IsMoved (lines_given (take n (drop l.from (lines_of l)))) old old) (sym e) (none_moved old);
+        within = within_less (2 ^ 123) (2 ^ 123 + (l.from - l.from)) old (omega arith) within;
+      }
+
+  pub given_next : (index : ℕ) → l.from ≤ index → index < 2 + length l.children.now → given (index + 1) ≡ given index ++ row_given l index
+  given_next index from until =
+      let len = length-enumerate_from 3 l.children.now in
+      let rest = length-drop l.from (lines_of l) in
+      let i = index - l.from in
+      let succ : index + 1 - l.from ≡ i + 1 = omega arith in
+      let there : i < length (drop l.from (lines_of l)) = omega arith in
+      let same : l.from + i ≡ index = omega arith in
+      let r = get_or (lines_of l) index nothing in
+      let read : get_or (drop l.from (lines_of l)) i nothing ≡ r = get_or-drop l.from (lines_of l) i nothing ∙ ap (λ k. get_or (lines_of l) k nothing) same in
+      let row : row_given l index ≡ lines_given (r ∷ []) = ap (λ o. option_map_or (λ r. lines_given (r ∷ [])) o []) (slice_get-get_or (lines_of l) index nothing (omega arith)) in
+      ap (λ n. lines_given (take n (drop l.from (lines_of l)))) succ
+      ∙ ap lines_given (take_more (drop l.from (lines_of l)) i nothing there)
+      ∙ given_on (take i (drop l.from (lines_of l))) (get_or (drop l.from (lines_of l)) i nothing ∷ [])
+      ∙ ap (λ r. given index ++ lines_given (r ∷ [])) read
+      ∙ ap (λ m. given index ++ m) (sym row)
+
+  weight_given : (index : ℕ) → index < 2 + length l.children.now → weight (row_given l index) ≤ 1
+  weight_given index there =
+      let len = length-enumerate_from 3 l.children.now in
+      let r = get_or (lines_of l) index nothing in
+      let row : row_given l index ≡ lines_given (r ∷ []) = ap (λ o. option_map_or (λ r. lines_given (r ∷ [])) o []) (slice_get-get_or (lines_of l) index nothing (omega arith)) in
+      let w = weight_row r in
+      let e = ap weight row in
+      omega arith
+
+  pub row_added : (index : ℕ) (old now next : List ℤ) → l.from ≤ index → index < 2 + length l.children.now
+      → IsAdded index old now → IsMoved (row_given l index) now next → IsAdded (index + 1) old next
+  row_added index old now next from there so_far step =
+      let light = weight_given index there in
+      record {
+        moved = subst (λ m. IsMoved m old next) (sym (given_next index from there)) (moved_on (given index) (row_given l index) old now next so_far.moved step);
+        within = within_less (2 ^ 123 + (index - l.from) + weight (row_given l index)) (2 ^ 123 + (index + 1 - l.from)) next (omega arith)
+            (within_moved (2 ^ 123 + (index - l.from)) (row_given l index) now next so_far.within step);
+      }
+
+-- what is taken back of some and then others
+taken_on : (stack : Stacked) (xs ys : List Forget) → taken_back stack (xs ++ ys) ≡ taken_back stack xs ++ taken_back stack ys
+taken_on stack [] ys = refl
+taken_on stack (x ∷ xs) ys = go (take_back stack.layers stack.entries x) (taken_on stack xs ys)
+  where
+    go : (o : Option Move) → taken_back stack (xs ++ ys) ≡ taken_back stack xs ++ taken_back stack ys
+        → cons_option o (taken_back stack (xs ++ ys)) ≡ cons_option o (taken_back stack xs) ++ taken_back stack ys
+    go None e = e
+    go (Some m) e = ap (λ t. m ∷ t) e
+
+weight_forget : (stack : Stacked) (f : Forget) → f.nlookup < 2 ^ 64 → weight (taken_back stack (f ∷ [])) ≤ 2 ^ 64
+weight_forget stack f small = go (node_of stack.entries f.node)
+  where
+    go : (o : Option Place) → weight (cons_option (option_map (λ p. let m : Move = record { node = f.node; amount = neg_ℤ (pos f.nlookup) } in m) o) []) ≤ 2 ^ 64
+    go None = omega arith
+    go (Some p) = omega (arith, ints)
+
+-- so many of all items were taken back, and these are left
+pub record IsTaken (stack : Stacked) (all rest : List Forget) (count : ℕ) (old new : List ℤ) : Type 0 where
+  pub done : List Forget
+  pub split : done ++ rest ≡ all
+  pub count_is : count ≡ length done
+  pub moved : IsMoved (taken_back stack done) old new
+  pub within : AreWithin (2 ^ 123 + 2 ^ 64 * count) new
+
+pub none_taken : (stack : Stacked) (all : List Forget) (old : List ℤ) → AreWithin (2 ^ 123) old → IsTaken stack all all 0 old old
+none_taken stack all old within = record {
+  done = [];
+  split = refl;
+  count_is = refl;
+  moved = none_moved old;
+  within = within_less (2 ^ 123) (2 ^ 123 + 2 ^ 64 * 0) old (omega arith) within;
+}
+
+pub one_taken : (stack : Stacked) (all rest later : List Forget) (f : Forget) (count : ℕ) (old now next : List ℤ) → f.nlookup < 2 ^ 64
+    → rest ≡ f ∷ later → IsTaken stack all rest count old now → IsMoved (taken_back stack (f ∷ [])) now next
+    → IsTaken stack all later (count + 1) old next
+one_taken stack all rest later f count old now next small is so_far step =
+    let weighs = weight_forget stack f small in
+    let len = length-append so_far.done (f ∷ []) in
+    let c = so_far.count_is in
+    record {
+      done = so_far.done ++ f ∷ [];
+      split = append_assoc so_far.done (f ∷ []) later ∙ ap (λ t. so_far.done ++ t) (sym is) ∙ so_far.split;
+      count_is = omega arith;
+      moved = subst (λ m. IsMoved m old next) (sym (taken_on stack so_far.done (f ∷ [])))
+          (moved_on (taken_back stack so_far.done) (taken_back stack (f ∷ [])) old now next so_far.moved step);
+      within = within_less (2 ^ 123 + 2 ^ 64 * count + weight (taken_back stack (f ∷ []))) (2 ^ 123 + 2 ^ 64 * (count + 1)) next (omega arith)
+          (within_moved (2 ^ 123 + 2 ^ 64 * count) (taken_back stack (f ∷ [])) now next so_far.within step);
+    }
+
+-- where none is left, all were taken back
+pub none_left : (stack : Stacked) (all rest : List Forget) (count : ℕ) (old new : List ℤ) → rest ≡ []
+    → IsTaken stack all rest count old new → IsMoved (taken_back stack all) old new
+none_left stack all rest count old new none so_far =
+    let same : so_far.done ≡ all = sym (append-nil so_far.done) ∙ ap (λ t. so_far.done ++ t) (sym none) ∙ so_far.split in
+    subst (λ fs. IsMoved (taken_back stack fs) old new) same so_far.moved
+
+pub room_left : (count most : ℕ) (now : List ℤ) → count < most → most ≤ 65789 → AreWithin (2 ^ 123 + 2 ^ 64 * count) now → AreWithin (2 ^ 124) now
+room_left count most now less few within = within_less (2 ^ 123 + 2 ^ 64 * count) (2 ^ 124) now (omega arith) within
+
+-- where all were taken back, none is left
+pub all_taken : (stack : Stacked) (all rest : List Forget) (count : ℕ) (old new : List ℤ) → length all ≤ count
+    → IsTaken stack all rest count old new → IsMoved (taken_back stack all) old new
+all_taken stack all rest count old new enough so_far =
+    let len = length-append so_far.done rest in
+    let whole = ap length so_far.split in
+    let c = so_far.count_is in
+    none_left stack all rest count old new (empty rest (omega arith)) so_far
+  where
+    empty : (fs : List Forget) → length fs ≤ 0 → fs ≡ []
+    empty [] le = refl
+    empty (f ∷ fs) le = absurd (omega (arith, le))
+
+-- the moves of the rows before an index were appended
+pub none_given : {A : Type 0} (l : Listing A) (before : List Move) → before ≡ before ++ given l l.from
+none_given l before =
+    let e : l.from - l.from ≡ 0 = omega arith in
+    sym (append-nil before) ∙ ap (λ n. before ++ lines_given (take n (drop l.from (lines_of l)))) (sym e)
+
+pub row_appended : {A : Type 0} (l : Listing A) (index : ℕ) (before now next : List Move) → l.from ≤ index → index < 2 + length l.children.now
+    → now ≡ before ++ given l index → next ≡ now ++ row_given l index → next ≡ before ++ given l (index + 1)
+row_appended l index before now next from there so_far is =
+    is ∙ ap (λ m. m ++ row_given l index) so_far ∙ append_assoc before (given l index) (row_given l index)
+    ∙ ap (λ m. before ++ m) (sym (given_next l index from there))
+
+-- what was taken back of all items was appended, and these are left
+pub record AreTaken (stack : Stacked) (all rest : List Forget) (before now : List Move) : Type 0 where
+  pub done : List Forget
+  pub split : done ++ rest ≡ all
+  pub moves : now ≡ before ++ taken_back stack done
+
+pub none_appended : (stack : Stacked) (all : List Forget) (before : List Move) → AreTaken stack all all before before
+none_appended stack all before = record { done = []; split = refl; moves = sym (append-nil before) }
+
+pub one_appended : (stack : Stacked) (all rest later : List Forget) (f : Forget) (before now next : List Move) → rest ≡ f ∷ later
+    → AreTaken stack all rest before now → next ≡ now ++ taken_back stack (f ∷ []) → AreTaken stack all later before next
+one_appended stack all rest later f before now next is so_far step = record {
+  done = so_far.done ++ f ∷ [];
+  split = append_assoc so_far.done (f ∷ []) later ∙ ap (λ t. so_far.done ++ t) (sym is) ∙ so_far.split;
+  moves = step ∙ ap (λ m. m ++ taken_back stack (f ∷ [])) so_far.moves
+      ∙ append_assoc before (taken_back stack so_far.done) (taken_back stack (f ∷ []))
+      ∙ ap (λ m. before ++ m) (sym (taken_on stack so_far.done (f ∷ [])));
+}
+
+pub all_appended : (stack : Stacked) (all rest : List Forget) (before now : List Move) → rest ≡ [] → AreTaken stack all rest before now
+    → now ≡ before ++ taken_back stack all
+all_appended stack all rest before now none so_far =
+    let same : so_far.done ≡ all = sym (append-nil so_far.done) ∙ ap (λ t. so_far.done ++ t) (sym none) ∙ so_far.split in
+    so_far.moves ∙ ap (λ fs. before ++ taken_back stack fs) same

@@ -1,0 +1,120 @@
+-- The bytes of a directory's rows, row by row.
+use Rattle.std.proofs.Common.{◌≡◌, ◌∙◌, sym, ap, ℕ, zero, suc, ◌+◌, ◌-◌, ◌^◌, ◌<◌, ◌≤◌, List, [], ◌∷◌, ◌++◌, length, drop, take, get_or, Bool, true, false, cond, Some, None, subst, arith, append-nil, append_assoc}
+use Rattle.std.specs.Prelude.{nat_lt, slice_get}
+use Rattle.std.specs.List.{enumerate_from, flat_map}
+use Rattle.std.specs.Option.{option_map_or}
+use Rattle.std.proofs.lemmas.List.{get_or-take, get_or-drop, length-take, length-drop, take_more}
+use Rattle.std.proofs.lemmas.List.Concat.{flat_map-append}
+use Rattle.std.proofs.lemmas.List.Folds.{length-flat_map-take}
+use Rattle.std.proofs.lemmas.List.FromFn.{length-enumerate_from}
+use Rattle.std.proofs.lemmas.Option.{get_or_from_slice_get, slice_get-get_or}
+use Rattle.fuse_wire.specs.Replies.{reply_head, reply_with}
+use Rattle.fuse_wire.proofs.Sizes.{length-dirent, length-direntplus}
+use Rattle.node_table.specs.Rows.{Line}
+use Rattle.node_table.specs.Stacked.{Stacked}
+use Rattle.fuse_answer.specs.declared.listing.Listing.{Listing}
+use Rattle.fuse_answer.specs.Listings.{IsWhole, NumberedLine, line_bytes, lines_of, listed_data, row_bytes, row_size, type_at, wired_at}
+
+nothing : NumberedLine
+nothing = (0, record { number = 0; name = [] })
+
+-- the row of a child, by its index among all rows
+pub line_there : (own upper : Line) (children : List Line) (k : ℕ) (line : Line) → 2 ≤ k → k < 2 + length children
+    → line ≡ get_or children (k - 2) line → slice_get (enumerate_from 1 (own ∷ upper ∷ children)) k ≡ Some (k + 1, line)
+line_there own upper children zero line big small is = absurd (omega (arith, big))
+line_there own upper children (suc zero) line big small is = absurd (omega (arith, big))
+line_there own upper children (suc (suc k)) line big small is =
+    let e : suc (suc k) - 2 ≡ k = omega arith in
+    let f : 3 + k ≡ suc (suc k) + 1 = omega arith in
+    let same : line ≡ get_or children k line = subst (λ i. line ≡ get_or children i line) e is in
+    there 3 children k line (omega arith) same ∙ ap (λ n. Some (n, line)) f
+  where
+    there : (n : ℕ) (children : List Line) (k : ℕ) (line : Line) → k < length children → line ≡ get_or children k line
+        → slice_get (enumerate_from n children) k ≡ Some (n + k, line)
+    there n [] k line lt is = absurd (omega (arith, lt))
+    there n (x ∷ xs) zero line lt is = let e : n ≡ n + 0 = omega arith in ap (λ m. Some (m, x)) e ∙ ap (λ x. Some (n + 0, x)) (sym is)
+    there n (x ∷ xs) (suc k) line lt is =
+        let e : n + 1 + k ≡ n + suc k = omega arith in
+        there (n + 1) xs k line (omega (arith, lt)) is ∙ ap (λ m. Some (m, line)) e
+
+length-line_bytes : (stack : Stacked) (plus : Bool) (r : NumberedLine) → length (line_bytes stack plus r) ≡ row_size plus (length r.1.name)
+length-line_bytes stack false r = let e = length-dirent r.1.number r.0 (type_at stack r.1.number) r.1.name in omega arith
+length-line_bytes stack true r =
+    let e = length-direntplus (cond (nat_lt 2 r.0) (wired_at stack r.1.number) None) r.1.number r.0 (type_at stack r.1.number) r.1.name in omega arith
+
+-- the rows that were written before an index
+abbrev pub written : {A : Type 0} → Stacked → Listing A → ℕ → List ℕ
+written stack l index = flat_map (line_bytes stack l.with_entries) (take (index - l.from) (drop l.from (lines_of l)))
+
+module _ {A : Type 0} (stack : Stacked) (l : Listing A) (whole : IsWhole stack l) where
+  length-lines : length (lines_of l) ≡ 2 + length l.children.now
+  length-lines = let e = length-enumerate_from 3 l.children.now in omega arith
+
+  abbrev bytes_of : NumberedLine → List ℕ
+  bytes_of r = line_bytes stack l.with_entries r
+
+  none_written : written stack l l.from ≡ []
+  none_written = let e : l.from - l.from ≡ 0 = omega arith in ap (λ n. flat_map bytes_of (take n (drop l.from (lines_of l)))) e
+
+  one_written : (index : ℕ) → l.from ≤ index → index < l.until → written stack l (index + 1) ≡ written stack l index ++ row_bytes stack l index
+  one_written index from until =
+      let within = whole.within in
+      let len = length-lines in
+      let rest = length-drop l.from (lines_of l) in
+      let i = index - l.from in
+      let next : index + 1 - l.from ≡ i + 1 = omega arith in
+      let there : i < length (drop l.from (lines_of l)) = omega arith in
+      let same : l.from + i ≡ index = omega arith in
+      let r = get_or (lines_of l) index nothing in
+      let read : get_or (drop l.from (lines_of l)) i nothing ≡ r = get_or-drop l.from (lines_of l) i nothing ∙ ap (λ k. get_or (lines_of l) k nothing) same in
+      let got : row_bytes stack l index ≡ bytes_of r = ap (λ o. option_map_or bytes_of o []) (slice_get-get_or (lines_of l) index nothing (omega arith)) in
+      ap (λ n. flat_map bytes_of (take n (drop l.from (lines_of l)))) next
+      ∙ ap (flat_map bytes_of) (take_more (drop l.from (lines_of l)) i nothing there)
+      ∙ flat_map-append bytes_of (take i (drop l.from (lines_of l))) (get_or (drop l.from (lines_of l)) i nothing ∷ [])
+      ∙ ap (λ r. written stack l index ++ (bytes_of r ++ [])) read
+      ∙ ap (λ b. written stack l index ++ b) (append-nil (bytes_of r) ∙ sym got)
+
+  -- a row that is written has a short name
+  pub short_name : (index : ℕ) (r : NumberedLine) → l.from ≤ index → index < l.until → slice_get (lines_of l) index ≡ Some r → length r.1.name < 2 ^ 32
+  short_name index r from until is =
+      let within = whole.within in
+      let len = length-lines in
+      let rest = drop l.from (lines_of l) in
+      let rest_len = length-drop l.from (lines_of l) in
+      let i = index - l.from in
+      let n = l.until - l.from in
+      let front_len = length-take n rest in
+      let same : l.from + i ≡ index = omega arith in
+      let read : get_or (take n rest) i nothing ≡ r =
+      get_or-take n rest i nothing (omega arith) ∙ get_or-drop l.from (lines_of l) i nothing
+      ∙ ap (λ k. get_or (lines_of l) k nothing) same ∙ get_or_from_slice_get (lines_of l) index r nothing is in
+      let one = length-flat_map-take bytes_of (take n rest) i nothing (omega arith) in
+      let row = ap (λ r. length (bytes_of r)) read in
+      let sized = length-line_bytes stack l.with_entries r in
+      let size_is = whole.size_is in
+      let small = whole.small in
+      omega arith
+
+  -- what was appended before an index
+  abbrev pub IsSoFar : ℕ → List ℕ → ℕ → List ℕ → Type 0
+  IsSoFar unique before index now = now ≡ before ++ (reply_head unique l.size ++ written stack l index)
+
+  pub head_first : (unique : ℕ) (before now : List ℕ) → now ≡ before ++ reply_head unique l.size → IsSoFar unique before l.from now
+  head_first unique before now is =
+      is ∙ ap (λ b. before ++ b) (sym (append-nil (reply_head unique l.size)) ∙ ap (λ b. reply_head unique l.size ++ b) (sym none_written))
+
+  pub row_next : (unique index : ℕ) (before now next : List ℕ) → l.from ≤ index → index < l.until
+      → IsSoFar unique before index now → next ≡ now ++ row_bytes stack l index → IsSoFar unique before (index + 1) next
+  row_next unique index before now next from until so_far is =
+      let h = reply_head unique l.size in
+      let w = written stack l index in
+      let r = row_bytes stack l index in
+      is ∙ ap (λ b. b ++ r) so_far ∙ append_assoc before (h ++ w) r
+      ∙ ap (λ b. before ++ b) (append_assoc h w r ∙ ap (λ b. h ++ b) (sym (one_written index from until)))
+
+  pub all_rows : (unique index : ℕ) (before now : List ℕ) → index ≡ l.until → IsSoFar unique before index now → now ≡ before ++ reply_with unique (listed_data stack l)
+  unfolding reply_with
+  all_rows unique index before now end so_far =
+      so_far
+      ∙ ap (λ i. before ++ (reply_head unique l.size ++ written stack l i)) end
+      ∙ ap (λ n. before ++ (reply_head unique n ++ listed_data stack l)) whole.size_is

@@ -1,0 +1,97 @@
+-- What is decided about a request: its answer's data and moves, or its refusal.
+use Rattle.std.specs.Prelude.{◌≡◌, ℕ, Bool, true, false, List, [], ◌∷◌, Option, Some, None, MatchOption, MatchResult, Result, Ok, Err, pos, ◌+◌, ◌^◌, ◌<◌, length}
+use Rattle.std.specs.List.{filter_map}
+use Rattle.std.specs.Option.{option_map}
+use Rattle.fuse_wire.specs.declared.errno.Errno.{Errno}
+use Rattle.fuse_wire.specs.declared.errno.Errno.TheVariants.{ENOENT, ESTALE}
+use Rattle.fuse_wire.specs.declared.forget.Forget.{Forget}
+use Rattle.fuse_wire.specs.Requests.{Op, Asked}
+use Rattle.fuse_wire.specs.Reads.{items_of}
+use Rattle.fuse_wire.specs.Structures.{init_out, entry_out, attr_out, open_out, statfs_out}
+use Rattle.romfs_format.specs.declared.head.Kind.{Kind}
+use Rattle.stack_model.specs.Attributes.{kind_at, is_directory_at}
+use Rattle.stack_model.specs.Numbers.{Place, number, node_of}
+use Rattle.node_table.specs.Stacked.{Stacked}
+use Rattle.reply_model.specs.declared.moves.Move.{Move}
+use Rattle.reply_model.specs.declared.session.Session.{Session}
+use Rattle.reply_model.specs.Sessions.{is_exported}
+use Rattle.reply_model.specs.Lookups.{is_itself, looked_up}
+use Rattle.reply_model.specs.Refusals.{refusal, refused_at}
+use Rattle.reply_model.specs.Replies.{answer, answer_at}
+use Rattle.reply_model.specs.Moves.{moved, gives_at, take_back}
+use Rattle.fuse_answer.specs.declared.content.Answer.{Answer}
+use Rattle.fuse_answer.specs.declared.content.Answer.TheVariants.{Done, Terms, Entry, Attributes, Opened, Data, Figures, Rows, Forgotten, AllForgotten}
+use Rattle.fuse_answer.specs.Listings.{listed_data, listed_moves, wired_at, IsWhole}
+
+-- the data of an answer
+abbrev pub data_of : {A : Type 0} → Stacked → Answer A → List ℕ
+data_of stack Done = []
+data_of stack (Terms init) = init_out init
+data_of stack (Entry attr) = entry_out attr
+data_of stack (Attributes attr) = attr_out attr
+data_of stack (Opened flags) = open_out flags
+data_of stack (Data bytes) = bytes.now
+data_of stack (Figures blocks nodes) = statfs_out blocks nodes
+data_of stack (Rows listing) = listed_data stack listing
+data_of stack (Forgotten node nlookup) = []
+data_of stack (AllForgotten items) = []
+
+-- what is taken back of the nodes that are in use
+abbrev pub taken_back : Stacked → List Forget → List Move
+taken_back stack forgets = filter_map (take_back stack.layers stack.entries) forgets
+
+-- what it gives and takes
+abbrev pub moves_of : {A : Type 0} → Stacked → Answer A → List Move
+moves_of stack (Entry attr) = record { node = attr.ino; amount = pos 1 } ∷ []
+moves_of stack (Rows listing) = listed_moves listing
+moves_of stack (Forgotten node nlookup) =
+    taken_back stack (record { node = node; nlookup = nlookup } ∷ [])
+moves_of stack (AllForgotten items) = taken_back stack (items_of items)
+moves_of stack _ = []
+
+-- the kind of the node with this number, or that it is not in use
+abbrev pub TellsKind : Stacked → ℕ → Result Kind Errno → Type 0
+TellsKind stack node result =
+    MatchOption (node_of stack.entries node) (result ≡ Err ESTALE) (λ p. result ≡ Ok (kind_at stack.layers p))
+
+-- the number that a name other than the node's own finds below a directory
+abbrev pub FindsBelow : Stacked → Bool → ℕ → List ℕ → Option ℕ → Type 0
+FindsBelow stack export node name result =
+    MatchOption (node_of stack.entries node) (result ≡ None)
+    (λ p. is_directory_at stack.layers p ≡ true → is_itself export name ≡ false
+    → result ≡ option_map (number stack.entries) (looked_up stack.entries export p name))
+
+-- the entry of a node
+abbrev pub TellsEntry : {A : Type 0} → Stacked → ℕ → Result (Answer A) Errno → Type 0
+TellsEntry stack node result =
+    MatchOption (wired_at stack node) (result ≡ Err ENOENT) (λ attr. result ≡ Ok (Entry attr))
+
+-- its data has a length that a reply's header can say
+abbrev pub IsSized : {A : Type 0} → Stacked → Answer A → Type 0
+IsSized stack (Data bytes) = 16 + length bytes.now < 2 ^ 32
+IsSized stack (Rows listing) = IsWhole stack listing
+IsSized stack _ = Unit {0}
+
+-- the answer to a request about the node at a place
+pub record IsAnswerAt {A : Type 0} (stack : Stacked) (export : Bool) (op : Op) (p : Place) (a : Answer A) : Type 0 where
+  pub taken : refused_at stack.layers stack.entries export op p ≡ None
+  pub data_is : data_of stack a ≡ answer_at stack.layers stack.entries export op p
+  pub sized : IsSized stack a
+  pub moves_are : moves_of stack a ≡ gives_at stack.layers stack.entries export op p
+
+-- what is decided about a request at the node with this number: it is answered, or refused
+abbrev pub DecidesAt : {A : Type 0} → Stacked → Bool → ℕ → Op → Result (Answer A) Errno → Type 0
+DecidesAt stack export node op result =
+    MatchOption (node_of stack.entries node) (result ≡ Err ESTALE)
+    (λ p. MatchResult result (IsAnswerAt stack export op p) (λ errno. refused_at stack.layers stack.entries export op p ≡ Some errno))
+
+-- the answer to a request that is not refused
+pub record IsAnswer {A : Type 0} (stack : Stacked) (s : Session) (q : Asked) (a : Answer A) : Type 0 where
+  pub taken : refusal stack.layers stack.entries s q.node q.op ≡ None
+  pub data_is : data_of stack a ≡ answer stack.layers stack.entries (is_exported s) q.node q.op
+  pub sized : IsSized stack a
+  pub moves_are : moves_of stack a ≡ moved stack.layers stack.entries (is_exported s) q.node q.op
+
+abbrev pub Decides : {A : Type 0} → Stacked → Session → Asked → Result (Answer A) Errno → Type 0
+Decides stack s q result =
+    MatchResult result (IsAnswer stack s q) (λ errno. refusal stack.layers stack.entries s q.node q.op ≡ Some errno)

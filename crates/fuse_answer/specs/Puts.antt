@@ -1,0 +1,32 @@
+-- What a call leaves of a vector that it appends to, and of balances.
+use Rattle.std.specs.Prelude.{◌≡◌, ℕ, ℤ, List, ◌++◌, Result, OnOk, OnErr}
+use Rattle.std.specs.declared.vec.Vec.{Vec}
+use Rattle.fuse_wire.specs.Requests.{Asked}
+use Rattle.node_table.specs.Stacked.{Stacked}
+use Rattle.reply_model.specs.declared.moves.Move.{Move}
+use Rattle.reply_model.specs.declared.session.Session.{Session}
+use Rattle.reply_model.specs.Replies.{reply}
+use Rattle.reply_model.specs.Moves.{moves}
+use Rattle.rounds.specs.Moves.{IsMoved}
+
+-- the call appends exactly these; or, where memory is refused, nothing
+abbrev pub Puts : {X A E : Type 0} → Result (Unit {0}) E → Vec X A → Vec X A → List X → Type 0
+Puts result before after appended = OnOk result (after.items ≡ before.items ++ appended) × OnErr result (after.items ≡ before.items)
+
+-- the call appends exactly these; or, where memory is refused, something
+abbrev pub Grows : {X A E : Type 0} → Result (Unit {0}) E → Vec X A → Vec X A → List X → Type 0
+Grows {X = X} result before after appended =
+    OnOk result (after.items ≡ before.items ++ appended) × OnErr result ((some : List X) × (after.items ≡ before.items ++ some))
+
+-- the reply to a request over a stack is appended; or, where memory is refused, nothing
+abbrev pub PutsReply : {A E : Type 0} → Stacked → Session → Asked → Result (Unit {0}) E → Vec ℕ A → Vec ℕ A → Type 0
+PutsReply stack s q result before after = Puts result before after (reply stack.layers stack.entries s q)
+
+-- what a request over a stack moves is appended; or, where memory is refused, nothing
+abbrev pub PutsMoves : {A E : Type 0} → Stacked → Session → Asked → Result (Unit {0}) E → Vec Move A → Vec Move A → Type 0
+PutsMoves stack s q result before after = Puts result before after (moves stack.layers stack.entries s q)
+
+-- the balances rise by what a request over a stack moves; or, where memory is refused, they are as before
+abbrev pub AddsMoves : {E : Type 0} → Stacked → Session → Asked → Result (Unit {0}) E → List ℤ → List ℤ → Type 0
+AddsMoves stack s q result before after =
+    OnOk result (IsMoved (moves stack.layers stack.entries s q) before after) × OnErr result (after ≡ before)

@@ -1,0 +1,91 @@
+//! The lookups that an answer gives and takes, added to the balances of the nodes.
+
+ghost use Rattle.std.specs.Prelude.{◌≡◌, ◌≤◌, ◌<◌, ◌+◌, ◌^◌, ◌∷◌, [], length};
+ghost use Rattle.fuse_wire.specs.Reads.{items_of};
+ghost use Rattle.rounds.specs.Moves.{AreWithin, IsMoved};
+ghost use Rattle.fuse_answer.specs.Answers.{IsSized, moves_of, taken_back};
+ghost use Rattle.fuse_answer.specs.Listings.{lines_answered, lines_given, row_given};
+
+use crate::content::Answer;
+use crate::listing::Listing;
+use crate::rows::line_at;
+use fuse_wire::forget::{Forget, Forgets};
+use node_table::Table;
+use rounds::add_move;
+use std::alloc::Allocator;
+
+/// Adds what an answer gives and takes to the balances, in which node n has the place n - 1.
+pub(crate) fn add_moves<A: Allocator>(
+    table: &Table<A>,
+    answer: &Answer<'_, A>,
+    balances: &mut [i128],
+)
+    requires sized { IsSized table.now answer.now }
+    requires within { AreWithin (2 ^ 123) balances.old }
+    ensures { IsMoved (moves_of table.now answer.now) balances.old balances.new }
+{
+    match answer {
+        Answer::Entry(attr) => add_move(balances, attr.ino, 1),
+        Answer::Rows(rows) if rows.with_entries => add_rows(rows, balances),
+        Answer::Forgotten { node, nlookup } => {
+            let forget = Forget {
+                node: *node,
+                nlookup: *nlookup,
+            };
+            take_back(table, forget, balances)
+        }
+        Answer::AllForgotten(items) => take_all_back(table, *items, balances),
+        _ => {}
+    }
+}
+
+// Adds what the rows of a READDIRPLUS give.
+fn add_rows<A: Allocator>(rows: &Listing<'_, A>, balances: &mut [i128])
+    requires in_order { rows.now.from ≤ rows.now.until }
+    requires there { rows.now.until ≤ 2 + length rows.now.children.now }
+    requires within { AreWithin (2 ^ 123) balances.old }
+    ensures { IsMoved (lines_given (lines_answered rows.now)) balances.old balances.new }
+{
+    for index in rows.from..rows.until {
+        add_row(rows, index, balances);
+    }
+}
+
+// Adds what a row gives: a lookup of its node. The first two, which are `.` and `..`, give nothing.
+fn add_row<A: Allocator>(rows: &Listing<'_, A>, index: usize, balances: &mut [i128])
+    requires until { index < rows.now.until }
+    requires there { rows.now.until ≤ 2 + length rows.now.children.now }
+    requires within { AreWithin (2 ^ 124) balances.old }
+    ensures { IsMoved (row_given rows.now index) balances.old balances.new }
+{
+    let (number, _) = line_at(rows, index);
+    let place = index as u64 + 1;
+    if 2 < place {
+        add_move(balances, number, 1);
+    }
+}
+
+// Takes back what is forgotten of a node, where the number is in use.
+fn take_back<A: Allocator>(table: &Table<A>, forget: Forget, balances: &mut [i128])
+    requires { AreWithin (2 ^ 124) balances.old }
+    ensures { IsMoved (taken_back table.now (forget ∷ [])) balances.old balances.new }
+{
+    if table.node(forget.node).is_some() {
+        add_move(balances, forget.node, -i128::from(forget.nlookup));
+    }
+}
+
+// Takes back all that is forgotten.
+fn take_all_back<A: Allocator>(table: &Table<A>, items: Forgets<'_>, balances: &mut [i128])
+    requires { AreWithin (2 ^ 123) balances.old }
+    ensures { IsMoved (taken_back table.now (items_of items.entry)) balances.old balances.new }
+{
+    let mut rest = items;
+    for _taken in 0..items.len() {
+        let Some((forget, later)) = rest.split_first() else {
+            return;
+        };
+        take_back(table, forget, balances);
+        rest = later;
+    }
+}

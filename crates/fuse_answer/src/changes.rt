@@ -1,0 +1,154 @@
+//! The lookups that a request gives and takes, as a list.
+
+ghost use Rattle.std.specs.Prelude.{◌≤◌, ◌<◌, ◌+◌, ◌∷◌, [], length};
+ghost use Rattle.fuse_wire.specs.Reads.{asked_of, items_of};
+ghost use Rattle.fuse_answer.specs.Answers.{IsSized, moves_of, taken_back};
+ghost use Rattle.fuse_answer.specs.Listings.{lines_answered, lines_given, row_given};
+ghost use Rattle.fuse_answer.specs.Puts.{Puts, PutsMoves, Grows};
+
+use crate::content::Answer;
+use crate::decide::decide;
+use crate::listing::Listing;
+use crate::rows::line_at;
+use fuse_wire::Request;
+use fuse_wire::forget::{Forget, Forgets};
+use node_table::Table;
+use reply_model::{Move, Session};
+use std::alloc::{AllocError, Allocator};
+
+/// Appends what a request gives and takes, in order: one lookup for the entry of a LOOKUP and for each row of a
+/// READDIRPLUS but `.` and `..`, and what FORGET and BATCH_FORGET take back. Numbers that are not in use, and requests
+/// that are refused, change nothing.
+///
+/// The session is the one before the request. `AllocError` comes only where memory was refused; the vector is then as
+/// before.
+pub fn moves<A: Allocator, M: Allocator>(
+    table: &Table<A>,
+    session: Session,
+    request: &Request<'_>,
+    into: &mut Vec<Move, M>,
+) -> Result<(), AllocError>
+    ensures { PutsMoves table.now session (asked_of request.now) result into.old into.new }
+{
+    match decide(table, session, request) {
+        Ok(answer) => put_moves(table, &answer, into),
+        Err(_) => Ok(()),
+    }
+}
+
+// Appends what an answer gives and takes.
+fn put_moves<A: Allocator, M: Allocator>(
+    table: &Table<A>,
+    answer: &Answer<'_, A>,
+    into: &mut Vec<Move, M>,
+) -> Result<(), AllocError>
+    requires { IsSized table.now answer.now }
+    ensures { Puts result into.old into.new (moves_of table.now answer.now) }
+{
+    let len = into.len();
+    let grown = grow(table, answer, into);
+    if grown.is_err() {
+        into.truncate(len);
+    }
+    grown
+}
+
+// Appends the same, or some of it where memory is refused.
+fn grow<A: Allocator, M: Allocator>(
+    table: &Table<A>,
+    answer: &Answer<'_, A>,
+    into: &mut Vec<Move, M>,
+) -> Result<(), AllocError>
+    requires { IsSized table.now answer.now }
+    ensures { Grows result into.old into.new (moves_of table.now answer.now) }
+{
+    match answer {
+        Answer::Entry(attr) => put(into, attr.ino, 1),
+        Answer::Rows(rows) if rows.with_entries => grow_rows(rows, into),
+        Answer::Forgotten { node, nlookup } => {
+            let forget = Forget {
+                node: *node,
+                nlookup: *nlookup,
+            };
+            put_taken(table, forget, into)
+        }
+        Answer::AllForgotten(items) => grow_taken(table, *items, into),
+        _ => Ok(()),
+    }
+}
+
+// Appends what the rows of a READDIRPLUS give.
+fn grow_rows<A: Allocator, M: Allocator>(
+    rows: &Listing<'_, A>,
+    into: &mut Vec<Move, M>,
+) -> Result<(), AllocError>
+    requires in_order { rows.now.from ≤ rows.now.until }
+    requires there { rows.now.until ≤ 2 + length rows.now.children.now }
+    ensures { Grows result into.old into.new (lines_given (lines_answered rows.now)) }
+{
+    for index in rows.from..rows.until {
+        put_given(rows, index, into)?;
+    }
+    Ok(())
+}
+
+// Appends what a row gives: a lookup of its node. The first two, which are `.` and `..`, give nothing.
+fn put_given<A: Allocator, M: Allocator>(
+    rows: &Listing<'_, A>,
+    index: usize,
+    into: &mut Vec<Move, M>,
+) -> Result<(), AllocError>
+    requires until { index < rows.now.until }
+    requires there { rows.now.until ≤ 2 + length rows.now.children.now }
+    ensures { Puts result into.old into.new (row_given rows.now index) }
+{
+    let (number, _) = line_at(rows, index);
+    let place = index as u64 + 1;
+    if 2 < place {
+        put(into, number, 1)
+    } else {
+        Ok(())
+    }
+}
+
+// Appends what is taken back of a node, where the number is in use.
+fn put_taken<A: Allocator, M: Allocator>(
+    table: &Table<A>,
+    forget: Forget,
+    into: &mut Vec<Move, M>,
+) -> Result<(), AllocError>
+    ensures { Puts result into.old into.new (taken_back table.now (forget ∷ [])) }
+{
+    if table.node(forget.node).is_some() {
+        put(into, forget.node, -i128::from(forget.nlookup))
+    } else {
+        Ok(())
+    }
+}
+
+// Appends what is taken back of all items.
+fn grow_taken<A: Allocator, M: Allocator>(
+    table: &Table<A>,
+    items: Forgets<'_>,
+    into: &mut Vec<Move, M>,
+) -> Result<(), AllocError>
+    ensures { Grows result into.old into.new (taken_back table.now (items_of items.entry)) }
+{
+    let mut rest = items;
+    for _taken in 0..items.len() {
+        let Some((forget, later)) = rest.split_first() else {
+            return Ok(());
+        };
+        put_taken(table, forget, into)?;
+        rest = later;
+    }
+    Ok(())
+}
+
+// Appends one move.
+fn put<M: Allocator>(into: &mut Vec<Move, M>, node: u64, amount: i128) -> Result<(), AllocError>
+    ensures { Puts result into.old into.new (record { node = node; amount = amount } ∷ []) }
+{
+    into.push(Move { node, amount })?;
+    Ok(())
+}

@@ -1,0 +1,31 @@
+//! What a request is answered, before it is written.
+
+use crate::listing::Listing;
+use fuse_wire::forget::Forgets;
+use fuse_wire::{Attr, InitOut};
+use std::alloc::Allocator;
+
+/// What a request is answered that is not refused.
+#[derive(Drop)]
+pub(crate) enum Answer<'a, A: Allocator> {
+    /// A reply without data.
+    Done,
+    /// The terms of a session.
+    Terms(InitOut),
+    /// A node that was found.
+    Entry(Attr),
+    /// A node's attributes.
+    Attributes(Attr),
+    /// A file or directory that was opened, with these flags.
+    Opened(u32),
+    /// Bytes of a file, or a link's target.
+    Data(&'a [u8]),
+    /// The blocks and the nodes of the whole tree.
+    Figures { blocks: u64, nodes: u64 },
+    /// Rows of a directory.
+    Rows(Listing<'a, A>),
+    /// Lookups of one node are forgotten, which has no reply.
+    Forgotten { node: u64, nlookup: u64 },
+    /// Lookups of several nodes are forgotten, which has no reply.
+    AllForgotten(Forgets<'a>),
+}

@@ -1,0 +1,163 @@
+//! The rows of a directory that READDIR and READDIRPLUS are answered.
+//!
+//! Rows have indices from 0 on: `.`, `..`, and then the children. The rows that a request is answered are those from
+//! its offset on that fit whole in its size, so an answer is two indices, and no row before the offset is looked at.
+
+ghost use Rattle.std.specs.Prelude.{◌≡◌, ◌≤◌, ◌<◌, ◌+◌, ◌^◌, length, min, slice_index};
+ghost use Rattle.fuse_answer.specs.Answers.{DecidesAt};
+ghost use Rattle.fuse_answer.specs.Listings.{listing_op, is_cut_short, Lists, Fits, RowSize, name_lengths};
+
+use crate::content::Answer;
+use crate::node::kind_of;
+use fuse_wire::limits::MAX_DATA_SIZE;
+use fuse_wire::{Errno, dirent_size};
+use node_table::{Row, Table};
+use romfs_format::Kind;
+use std::alloc::Allocator;
+
+/// The bytes of a `struct fuse_entry_out`, which stands before each row of READDIRPLUS.
+const ENTRY_SIZE: usize = 128;
+
+/// Which rows of a directory a request is answered: those from the index `from` on, up to `until`, which take `size`
+/// bytes.
+#[derive(Drop)]
+pub(crate) struct Listing<'a, A: Allocator> {
+    pub(crate) with_entries: bool,
+    pub(crate) number: u64,
+    pub(crate) parent: u64,
+    pub(crate) children: &'a [Row<A>],
+    pub(crate) from: usize,
+    pub(crate) until: usize,
+    pub(crate) size: usize,
+}
+
+/// What READDIR is answered, or READDIRPLUS, where rows come with entries: the rows after the first `offset` ones,
+/// as many as fit whole in the size.
+pub(crate) fn list<'a, A: Allocator>(
+    table: &'a Table<A>,
+    export: bool,
+    number: u64,
+    offset: u64,
+    size: u32,
+    with_entries: bool,
+) -> Result<Answer<'a, A>, Errno>
+    ensures { DecidesAt table.now export number (listing_op with_entries offset size) result }
+{
+    if kind_of(table, number)? != Kind::Directory {
+        return Err(Errno::ENOTDIR);
+    }
+    if MAX_DATA_SIZE < size {
+        return Err(Errno::EINVAL);
+    }
+    match listed(table, number, offset, size as usize, with_entries) {
+        None => Err(Errno::ENOTDIR),
+        Some(rows) if is_too_small(&rows) => Err(Errno::EINVAL),
+        Some(rows) => Ok(Answer::Rows(rows)),
+    }
+}
+
+// The rows after the first `offset` ones that fit in the size; none where the number is no directory.
+fn listed<'a, A: Allocator>(
+    table: &'a Table<A>,
+    number: u64,
+    offset: u64,
+    size: usize,
+    with_entries: bool,
+) -> Option<Listing<'a, A>>
+    requires { size ≤ 2 ^ 20 }
+    ensures { Lists table.now number offset size with_entries result }
+{
+    let parent = table.parent(number)?;
+    let children = table.rows(number);
+    let from = start(offset, children);
+    let (until, bytes) = fit(children, with_entries, from, size);
+    Some(Listing {
+        with_entries,
+        number,
+        parent,
+        children,
+        from,
+        until,
+        size: bytes,
+    })
+}
+
+// Whether there is a row, and not even one fits.
+fn is_too_small<A: Allocator>(rows: &Listing<'_, A>) -> bool
+    ensures { result ≡ is_cut_short rows.now }
+{
+    rows.until == rows.from && rows.from < count(rows.children)
+}
+
+// How many rows a directory has.
+fn count<A: Allocator>(children: &[Row<A>]) -> usize
+    ensures { result ≡ 2 + length children.now }
+{
+    2 + children.len()
+}
+
+// The index of the first row after `offset` ones, or after all.
+fn start<A: Allocator>(offset: u64, children: &[Row<A>]) -> usize
+    ensures { result ≡ min offset (2 + length children.now) }
+{
+    let rows = count(children);
+    if offset < rows as u64 {
+        offset as usize
+    } else {
+        rows
+    }
+}
+
+// The length of the name of the row with this index.
+fn name_length<A: Allocator>(children: &[Row<A>], index: usize) -> usize
+    requires { index < 2 + length children.now }
+    ensures { result ≡ slice_index (name_lengths children.now) index }
+{
+    match index {
+        0 => 1,
+        1 => 2,
+        _ => {
+            let row = &children[index - 2];
+            row.name.len()
+        }
+    }
+}
+
+// The bytes of a row whose name has so many, if there is room for them.
+fn row_size(with_entries: bool, name_length: usize, room: usize) -> Option<usize>
+    requires { room ≤ 2 ^ 20 }
+    ensures { RowSize with_entries name_length room result }
+{
+    if room < name_length {
+        return None;
+    }
+    let entry = if with_entries { ENTRY_SIZE } else { 0 };
+    let bytes = dirent_size(name_length) + entry;
+    (bytes <= room).then_some(bytes)
+}
+
+// Up to which index the rows from another one on fit in a size, and how many bytes they take.
+fn fit<A: Allocator>(
+    children: &[Row<A>],
+    with_entries: bool,
+    from: usize,
+    size: usize,
+) -> (usize, usize)
+    requires from { from ≤ 2 + length children.now }
+    requires size { size ≤ 2 ^ 20 }
+    ensures { Fits with_entries children.now from size result.0 result.1 }
+{
+    let rows = count(children);
+    let mut until = from;
+    let mut room = size;
+    while until < rows {
+        match row_size(with_entries, name_length(children, until), room) {
+            None => return (until, size - room),
+            Some(bytes) => {
+                room -= bytes;
+                until += 1;
+            }
+        }
+    }
+    (until, size - room)
+}

@@ -1,0 +1,75 @@
+//! LOOKUP.
+
+ghost use Rattle.std.specs.Prelude.{◌≡◌};
+ghost use Rattle.fuse_wire.specs.Requests.{lookup};
+ghost use Rattle.reply_model.specs.Lookups.{is_itself, is_parent};
+ghost use Rattle.fuse_answer.specs.Answers.{DecidesAt, FindsBelow, TellsEntry};
+
+use crate::content::Answer;
+use crate::node::{kind_of, wired};
+use fuse_wire::Errno;
+use fuse_wire::limits::MAX_NAME_SIZE;
+use node_table::Table;
+use romfs_format::Kind;
+use std::alloc::Allocator;
+
+/// What LOOKUP is answered. In a session with `FUSE_EXPORT_SUPPORT` the name `.` finds the node itself, of any
+/// kind, and `..` the directory above.
+pub(crate) fn look_up<'a, A: Allocator>(
+    table: &'a Table<A>,
+    export: bool,
+    number: u64,
+    name: &[u8],
+) -> Result<Answer<'a, A>, Errno>
+    ensures { DecidesAt table.now export number (lookup name.now) result }
+{
+    let kind = kind_of(table, number)?;
+    if is_itself(export, name) {
+        return entry(table, number);
+    }
+    if kind != Kind::Directory {
+        return Err(Errno::ENOTDIR);
+    }
+    if name.len() > MAX_NAME_SIZE as usize {
+        return Err(Errno::ENAMETOOLONG);
+    }
+    match found(table, export, number, name) {
+        Some(found) => entry(table, found),
+        None => Err(Errno::ENOENT),
+    }
+}
+
+// Whether a name finds the node itself.
+fn is_itself(export: bool, name: &[u8]) -> bool
+    ensures { result ≡ is_itself export name.now }
+{
+    export && name == b".".as_slice()
+}
+
+// Whether a name finds the directory above.
+fn is_parent(export: bool, name: &[u8]) -> bool
+    ensures { result ≡ is_parent export name.now }
+{
+    export && name == b"..".as_slice()
+}
+
+// The number that a name finds below a directory.
+fn found<A: Allocator>(table: &Table<A>, export: bool, number: u64, name: &[u8]) -> Option<u64>
+    ensures { FindsBelow table.now export number name.now result }
+{
+    if is_parent(export, name) {
+        table.parent(number)
+    } else {
+        table.child(number, name)
+    }
+}
+
+// The entry of a node.
+fn entry<'a, A: Allocator>(table: &'a Table<A>, number: u64) -> Result<Answer<'a, A>, Errno>
+    ensures { TellsEntry table.now number result }
+{
+    match table.attr(number) {
+        Some(attr) => Ok(Answer::Entry(wired(attr))),
+        None => Err(Errno::ENOENT),
+    }
+}

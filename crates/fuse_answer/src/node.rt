@@ -1,0 +1,131 @@
+//! Requests about one node.
+
+ghost use Rattle.std.specs.Prelude.{◌≡◌, take, drop};
+ghost use Rattle.fuse_wire.specs.Requests.{getattr, readlink, open_file, opendir, read};
+ghost use Rattle.fuse_answer.specs.Answers.{DecidesAt, TellsKind};
+ghost use Rattle.fuse_answer.specs.Listings.{wired};
+
+use crate::content::Answer;
+use fuse_wire::flags::FOPEN_KEEP_CACHE;
+use fuse_wire::limits::MAX_DATA_SIZE;
+use fuse_wire::{Attr, Errno};
+use node_table::Table;
+use romfs_format::Kind;
+use std::alloc::Allocator;
+
+/// What GETATTR is answered.
+pub(crate) fn get_attr<'a, A: Allocator>(
+    table: &'a Table<A>,
+    export: bool,
+    number: u64,
+) -> Result<Answer<'a, A>, Errno>
+    ensures { DecidesAt table.now export number getattr result }
+{
+    match table.attr(number) {
+        Some(attr) => Ok(Answer::Attributes(wired(attr))),
+        None => Err(Errno::ESTALE),
+    }
+}
+
+/// What READLINK is answered.
+pub(crate) fn read_link<'a, A: Allocator>(
+    table: &'a Table<A>,
+    export: bool,
+    number: u64,
+) -> Result<Answer<'a, A>, Errno>
+    ensures { DecidesAt table.now export number readlink result }
+{
+    match kind_of(table, number)? {
+        Kind::SymLink => Ok(Answer::Data(table.bytes(number))),
+        _ => Err(Errno::EINVAL),
+    }
+}
+
+/// What OPEN is answered: the access mode is the lowest two bits of the flags.
+pub(crate) fn open_file<'a, A: Allocator>(
+    table: &'a Table<A>,
+    export: bool,
+    number: u64,
+    flags: u32,
+) -> Result<Answer<'a, A>, Errno>
+    ensures { DecidesAt table.now export number (open_file flags) result }
+{
+    match kind_of(table, number)? {
+        Kind::Regular if flags % 4 == 0 => Ok(Answer::Opened(FOPEN_KEEP_CACHE)),
+        Kind::Regular => Err(Errno::EROFS),
+        Kind::Directory => Err(Errno::EISDIR),
+        _ => Err(Errno::EINVAL),
+    }
+}
+
+/// What OPENDIR is answered.
+pub(crate) fn open_directory<'a, A: Allocator>(
+    table: &'a Table<A>,
+    export: bool,
+    number: u64,
+) -> Result<Answer<'a, A>, Errno>
+    ensures { DecidesAt table.now export number opendir result }
+{
+    match kind_of(table, number)? {
+        Kind::Directory => Ok(Answer::Opened(0)),
+        _ => Err(Errno::ENOTDIR),
+    }
+}
+
+/// What READ is answered: the bytes from the offset on, at most as many as the size, up to the file's end.
+pub(crate) fn read<'a, A: Allocator>(
+    table: &'a Table<A>,
+    export: bool,
+    number: u64,
+    offset: u64,
+    size: u32,
+) -> Result<Answer<'a, A>, Errno>
+    ensures { DecidesAt table.now export number (read offset size) result }
+{
+    match kind_of(table, number)? {
+        Kind::Regular if size <= MAX_DATA_SIZE => {
+            Ok(Answer::Data(part(table.bytes(number), offset, size)))
+        }
+        Kind::Directory => Err(Errno::EISDIR),
+        _ => Err(Errno::EINVAL),
+    }
+}
+
+// The bytes from the offset on, at most as many as the size.
+fn part(bytes: &[u8], offset: u64, size: u32) -> &[u8]
+    ensures { result.now ≡ take size (drop offset bytes.now) }
+{
+    if offset >= bytes.len() as u64 {
+        return &[];
+    }
+    let rest = &bytes[offset as usize..];
+    if (size as usize) < rest.len() {
+        &rest[..size as usize]
+    } else {
+        rest
+    }
+}
+
+// A table's attributes as a reply has them.
+pub(crate) fn wired(attr: node_table::Attr) -> Attr
+    ensures { result ≡ wired attr }
+{
+    Attr {
+        ino: attr.ino,
+        size: attr.size,
+        blocks: attr.blocks,
+        mode: attr.mode,
+        nlink: attr.nlink,
+        rdev: attr.rdev,
+    }
+}
+
+// The kind of a node.
+pub(crate) fn kind_of<A: Allocator>(table: &Table<A>, number: u64) -> Result<Kind, Errno>
+    ensures { TellsKind table.now number result }
+{
+    match table.node(number) {
+        Some(node) => Ok(node.kind),
+        None => Err(Errno::ESTALE),
+    }
+}

@@ -1,0 +1,98 @@
+//! One request's reply.
+
+ghost use Rattle.fuse_wire.specs.Reads.{asked_of, op_said};
+ghost use Rattle.reply_model.specs.Replies.{is_silent};
+ghost use Rattle.fuse_answer.specs.Answers.{Decides};
+ghost use Rattle.std.specs.Prelude.{◌≡◌, ◌^◌};
+ghost use Rattle.rounds.specs.Moves.{AreWithin};
+ghost use Rattle.fuse_answer.specs.Puts.{PutsReply, AddsMoves};
+
+use crate::balances::add_moves;
+use crate::content::Answer;
+use crate::decide::decide;
+use crate::write::write;
+use fuse_wire::{Errno, Op, Request, opcode, put_error};
+use node_table::Table;
+use reply_model::Session;
+use std::alloc::{AllocError, Allocator};
+
+/// Appends the reply to a request: nothing for FORGET, BATCH_FORGET and INTERRUPT, else a header with the data of the
+/// answer, or with the error that refuses the request.
+///
+/// The session is the one before the request ([`after`](crate::after) says the next). `AllocError` comes only where
+/// memory was refused; the vector is then as before.
+pub fn answer<A: Allocator, O: Allocator>(
+    table: &Table<A>,
+    session: Session,
+    request: &Request<'_>,
+    out: &mut Vec<u8, O>,
+) -> Result<(), AllocError>
+    ensures { PutsReply table.now session (asked_of request.now) result out.old out.new }
+{
+    tell(
+        table,
+        session,
+        request,
+        &decide(table, session, request),
+        out,
+    )
+}
+
+/// Appends the reply to a request, as [`answer`] does, and adds what the request gives and takes to the balances of the
+/// nodes, in which node n has the place n - 1. It looks the request up once.
+///
+/// `AllocError` comes only where memory was refused; the vector and the balances are then as before.
+pub fn answer_and_move<A: Allocator, O: Allocator>(
+    table: &Table<A>,
+    session: Session,
+    request: &Request<'_>,
+    out: &mut Vec<u8, O>,
+    balances: &mut [i128],
+) -> Result<(), AllocError>
+    requires { AreWithin (2 ^ 123) balances.old }
+    ensures reply { PutsReply table.now session (asked_of request.now) result out.old out.new }
+    ensures moves { AddsMoves table.now session (asked_of request.now) result
+        balances.old balances.new }
+{
+    let decided = decide(table, session, request);
+    tell(table, session, request, &decided, out)?;
+    if let Ok(answer) = decided {
+        add_moves(table, &answer, balances);
+    }
+    Ok(())
+}
+
+// Appends the reply to a request on which this was decided.
+fn tell<A: Allocator, O: Allocator>(
+    table: &Table<A>,
+    session: Session,
+    request: &Request<'_>,
+    decided: &Result<Answer<'_, A>, Errno>,
+    out: &mut Vec<u8, O>,
+) -> Result<(), AllocError>
+    requires { Decides table.now session (asked_of request.now) decided.now }
+    ensures { PutsReply table.now session (asked_of request.now) result out.old out.new }
+{
+    if is_silent(&request.op) {
+        return Ok(());
+    }
+    match decided {
+        Ok(answer) => write(table, request.unique, answer, out),
+        Err(errno) => put_error(out, request.unique, *errno),
+    }
+}
+
+// Whether a request has no reply, whatever is decided.
+fn is_silent(op: &Op<'_>) -> bool
+    ensures { result ≡ is_silent (op_said op.now) }
+{
+    matches!(
+        op,
+        Op::Forget { .. }
+            | Op::BatchForget { .. }
+            | Op::Interrupt
+            | Op::Malformed {
+                opcode: opcode::FORGET | opcode::BATCH_FORGET
+            }
+    )
+}

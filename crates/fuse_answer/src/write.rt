@@ -1,0 +1,33 @@
+//! Answers as replies.
+
+ghost use Rattle.fuse_wire.specs.Replies.{reply_with};
+ghost use Rattle.fuse_answer.specs.Answers.{IsSized, data_of};
+ghost use Rattle.fuse_answer.specs.Puts.{Puts};
+
+use crate::content::Answer;
+use crate::rows::put_rows;
+use fuse_wire::{put_attr, put_data, put_entry, put_head, put_init, put_open, put_statfs};
+use node_table::Table;
+use std::alloc::{AllocError, Allocator};
+
+/// Appends the reply with an answer.
+pub(crate) fn write<A: Allocator, O: Allocator>(
+    table: &Table<A>,
+    unique: u64,
+    answer: &Answer<'_, A>,
+    out: &mut Vec<u8, O>,
+) -> Result<(), AllocError>
+    requires { IsSized table.now answer.now }
+    ensures { Puts result out.old out.new (reply_with unique (data_of table.now answer.now)) }
+{
+    match answer {
+        Answer::Done | Answer::Forgotten { .. } | Answer::AllForgotten(_) => put_head(out, unique),
+        Answer::Terms(init) => put_init(out, unique, init),
+        Answer::Entry(attr) => put_entry(out, unique, attr),
+        Answer::Attributes(attr) => put_attr(out, unique, attr),
+        Answer::Opened(flags) => put_open(out, unique, *flags),
+        Answer::Data(bytes) => put_data(out, unique, bytes),
+        Answer::Figures { blocks, nodes } => put_statfs(out, unique, *blocks, *nodes),
+        Answer::Rows(rows) => put_rows(table, unique, rows, out),
+    }
+}

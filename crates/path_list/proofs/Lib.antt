@@ -1,0 +1,9 @@
+pub mod Paths
+pub mod Branching
+pub mod OnePath
+pub mod Trees
+pub mod Gaining
+pub mod Lining
+pub mod Visits
+pub mod Whole
+pub mod Soundness

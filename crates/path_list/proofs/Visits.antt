@@ -1,0 +1,202 @@
+-- What a walk finds at a directory: the rows are those of the entries one name below it.
+use Rattle.std.proofs.Common.{◌≡◌, ◌∙◌, sym, ap, subst, ℕ, zero, suc, ◌<◌, ◌≤◌, inl, inr, List, [], ◌∷◌, ◌++◌, length, map, take, get_or, refl, Option, Some, None, Bool, true, false, IsSome, arith}
+use Rattle.std.specs.Prelude.{flat_map, filter_map, find, nat_eq}
+use Rattle.std.proofs.lemmas.List.{take_all}
+use Rattle.std.proofs.lemmas.Bool.{eqb-true, eq-eqb, and_parts}
+use Rattle.stack_model.specs.Stack.{Path}
+use Rattle.stack_model.specs.Listing.{Entry, Rises, IsAmong}
+use Rattle.stack_model.specs.Numbers.{Place, Child, place, same_place, number_of, number, node_of, name_below, child_in, children}
+use Rattle.stack_model.specs.Attributes.{is_directory_at}
+use Rattle.stack_model.proofs.Numbering.{number_used, entries_numbered}
+use Rattle.node_table.specs.Stacked.{Stacked}
+use Rattle.node_table.specs.Rows.{Line}
+use Rattle.node_table.specs.Readers.{rows_at}
+use Rattle.path_list.specs.Below.{after, is_below, below}
+use Rattle.path_list.specs.Walks.{lines_below, piece_at, IsVisited}
+use Rattle.path_list.proofs.Paths.{not_itself, after_is, is_after, below_name, below_none, below_top, only_name, name_is, later}
+use Rattle.path_list.proofs.Branching.{piece, all_below}
+
+same_itself : (p : Place) → same_place p p ≡ true
+same_itself p = rw (eq-eqb p.0 p.0 refl, eq-eqb p.1 p.1 refl) refl
+
+same_is : (p q : Place) → same_place p q ≡ true → p ≡ q
+same_is p q e = let b = and_parts (nat_eq p.0 q.0) (nat_eq p.1 q.1) e in let f = eqb-true p.0 q.0 b.0 in let g = eqb-true p.1 q.1 b.1 in ap (λ x. (x, p.1)) f ∙ ap (λ y. (q.0, y)) g
+
+-- the first entry with a place
+first_entry : (p : Place) (es : List Entry) (e : Entry) → IsAmong e es → place e ≡ p → (f : Entry) × (find (λ d. same_place p (place d)) es ≡ Some f) × IsAmong f es × (place f ≡ p)
+first_entry p [] e a i = elim a [ ]
+first_entry p (d ∷ es) e a i = go (same_place p (place d)) refl a (λ b. first_entry p es e b i)
+  where
+    go : (b : Bool) → same_place p (place d) ≡ b → IsAmong e (d ∷ es) → (IsAmong e es → (f : Entry) × (find (λ d. same_place p (place d)) es ≡ Some f) × IsAmong f es × (place f ≡ p)) → (f : Entry) × (find (λ d. same_place p (place d)) (d ∷ es) ≡ Some f) × IsAmong f (d ∷ es) × (place f ≡ p)
+    go true s a on = (d, rw s refl, inl refl, sym (same_is p (place d) s))
+    go false s (inl j) on = absurd (let z : same_place p (place d) ≡ true = rw (sym i, j) (same_itself (place d)) in cc)
+    go false s (inr b) on = let r = on b in (r.0, rw s r.1, inr r.2, r.3)
+
+-- one entry has a path
+one_entry : (es : List Entry) → Rises es → (d e : Entry) → IsAmong d es → IsAmong e es → d.path ≡ e.path → d ≡ e
+one_entry [] r d e a b p = elim a [ ]
+one_entry (f ∷ es) r d e (inl i) (inl j) p = i ∙ sym j
+one_entry (f ∷ es) r d e (inl i) (inr b) p = absurd (not_itself e.path (rw (sym i, p) at (later f es e r.0 b)))
+one_entry (f ∷ es) r d e (inr a) (inl j) p = absurd (not_itself d.path (rw (sym j, sym p) at (later f es d r.0 a)))
+one_entry (f ∷ es) r d e (inr a) (inr b) p = one_entry es r.1 d e a b p
+
+pub numbered : (entries : List Entry) (e : Entry) → IsAmong e entries → node_of entries (number entries (place e)) ≡ Some (place e)
+numbered entries e a = go (number_of entries (place e)) refl (entries_numbered entries e e a a).0
+  where
+    go : (o : Option ℕ) → number_of entries (place e) ≡ o → IsSome (number_of entries (place e)) → node_of entries (number entries (place e)) ≡ Some (place e)
+    go None f s = absurd (let z = rw f at s in cc)
+    go (Some m) f s = rw f ((number_used entries m (place e)).0 f)
+
+-- an entry one name below a path
+name_path : (top path : Path) (n : List ℕ) → name_below top path ≡ Some n → path ≡ top ++ n ∷ []
+name_path top path n e = go (after top path) refl (sym (name_is top path) ∙ e)
+  where
+    go : (o : Option Path) → after top path ≡ o → only_name (after top path) ≡ Some n → path ≡ top ++ n ∷ []
+    go None f g = absurd (let z = rw f at g in cc)
+    go (Some []) f g = absurd (let z = rw f at g in cc)
+    go (Some (m ∷ [])) f g = let z : Some m ≡ Some n = rw f at g in let s : m ≡ n = cc in after_is top path (m ∷ []) f ∙ ap (λ k. top ++ k ∷ []) s
+    go (Some (m ∷ k ∷ r)) f g = absurd (let z = rw f at g in cc)
+
+-- what is below a name below a path is below the path
+less_below : (top path : Path) (x : List ℕ) (b c : Bool) → is_below (top ++ x ∷ []) path ≡ b → is_below top path ≡ c → c ≡ false → b ≡ false
+less_below top path x b c e f g = go (after top path) refl
+  where
+    go : (o : Option Path) → after top path ≡ o → b ≡ false
+    go None h = sym e ∙ below_none top path x h
+    go (Some []) h = sym e ∙ below_top top path x h
+    go (Some (n ∷ r)) h = absurd (let z : is_below top path ≡ true = rw h refl in let w = sym z ∙ f ∙ g in cc)
+
+fewer : (top : Path) (x : List ℕ) (es : List Entry) → length (below es (top ++ x ∷ [])) ≤ length (below es top)
+unfolding below
+fewer top x [] = omega arith
+fewer top x (e ∷ es) = go (is_below (top ++ x ∷ []) e.path) (is_below top e.path) refl refl (fewer top x es)
+  where
+    go : (b c : Bool) → is_below (top ++ x ∷ []) e.path ≡ b → is_below top e.path ≡ c → length (below es (top ++ x ∷ [])) ≤ length (below es top) → length (below (e ∷ es) (top ++ x ∷ [])) ≤ length (below (e ∷ es) top)
+    go true true f g l = rw (f, g) (omega arith)
+    go false true f g l = rw (f, g) (omega arith)
+    go false false f g l = rw (f, g) l
+    go true false f g l = absurd (let z = less_below top e.path x true false f g refl in cc)
+
+fewer_by : (top : Path) (x : List ℕ) (es : List Entry) (d : Entry) → IsAmong d es → d.path ≡ top ++ x ∷ [] → length (below es (top ++ x ∷ [])) < length (below es top)
+unfolding below
+fewer_by top x [] d a p = elim a [ ]
+fewer_by top x (e ∷ es) d (inl i) p =
+    let q : e.path ≡ top ++ x ∷ [] = ap (λ (k : Entry). k.path) (sym i) ∙ p in
+    let s : after top e.path ≡ Some (x ∷ []) = rw q (is_after top (x ∷ [])) in
+    let f : is_below (top ++ x ∷ []) e.path ≡ false = (below_name top e.path [] x x s).0 refl in
+    let g : is_below top e.path ≡ true = rw s refl in
+    let l = fewer top x es in
+    rw (f, g) (omega arith)
+fewer_by top x (e ∷ es) d (inr a) p = go (is_below (top ++ x ∷ []) e.path) (is_below top e.path) refl refl (fewer_by top x es d a p)
+  where
+    go : (b c : Bool) → is_below (top ++ x ∷ []) e.path ≡ b → is_below top e.path ≡ c → length (below es (top ++ x ∷ [])) < length (below es top) → length (below (e ∷ es) (top ++ x ∷ [])) < length (below (e ∷ es) top)
+    go true true f g l = rw (f, g) (omega arith)
+    go false true f g l = rw (f, g) (omega arith)
+    go false false f g l = rw (f, g) l
+    go true false f g l = absurd (let z = less_below top e.path x true false f g refl in cc)
+
+module _ (stack : Stacked) (n : ℕ) (path : Path) (v : IsVisited stack n path) where
+  abbrev layers : List (List ℕ)
+  layers = stack.layers
+
+  abbrev entries : List Entry
+  entries = stack.entries
+
+  abbrev row_of : Child → Line
+  row_of c = record { number = number entries c.place; name = c.name }
+
+  abbrev rows_in : List Entry → List Line
+  rows_in es = map row_of (filter_map (child_in path) es)
+
+  -- the row is that of a shown path one name below
+  pub record IsRow (row : Line) : Type 0 where
+    pub entry : Entry
+    pub among : IsAmong entry entries
+    pub path_is : entry.path ≡ path ++ row.name ∷ []
+    pub number_is : row.number ≡ number entries (place entry)
+
+  row_in : (es : List Entry) → ((e : Entry) → IsAmong e es → IsAmong e entries) → (i : ℕ) (d : Line) → i < length (rows_in es) → IsRow (get_or (rows_in es) i d)
+  row_in [] s i d l = absurd (omega arith)
+  row_in (e ∷ es) s i d l = go (name_below path e.path) refl i l (λ j k. row_in es (λ f a. s f (inr a)) j d k)
+    where
+      go : (o : Option (List ℕ)) → name_below path e.path ≡ o → (i : ℕ) → i < length (rows_in (e ∷ es)) → ((j : ℕ) → j < length (rows_in es) → IsRow (get_or (rows_in es) j d)) → IsRow (get_or (rows_in (e ∷ es)) i d)
+      go None f i l on = rw f (on i (rw f at l))
+      go (Some m) f zero l on = rw f (record { entry = e; among = s e (inl refl); path_is = name_path path e.path m f; number_is = refl })
+      go (Some m) f (suc i) l on = rw f (on i (let k : suc i < suc (length (rows_in es)) = rw f at l in omega arith))
+
+  pieces_in : (es : List Entry) → ((e : Entry) → IsAmong e es → IsAmong e entries) → flat_map (piece_at stack path) (rows_in es) ≡ flat_map (piece layers entries path) (filter_map (child_in path) es)
+  pieces_in [] s = refl
+  pieces_in (e ∷ es) s = go (name_below path e.path) refl (pieces_in es (λ f a. s f (inr a)))
+    where
+      go : (o : Option (List ℕ)) → name_below path e.path ≡ o → flat_map (piece_at stack path) (rows_in es) ≡ flat_map (piece layers entries path) (filter_map (child_in path) es) → flat_map (piece_at stack path) (rows_in (e ∷ es)) ≡ flat_map (piece layers entries path) (filter_map (child_in path) (e ∷ es))
+      go None f on = rw f on
+      go (Some m) f on = rw (f, numbered entries e (s e (inl refl))) (ap (λ r. piece layers entries path (record { name = m; place = place e }) ++ r) on)
+
+  at_node : node_of entries n ≡ Some (place v.entry)
+  at_node = rw v.number_is (numbered entries v.entry v.among)
+
+  -- a directory's rows
+  rows_there : is_directory_at layers (place v.entry) ≡ true → rows_at stack n ≡ rows_in entries
+  unfolding children
+  rows_there k =
+      let f = first_entry (place v.entry) entries v.entry v.among refl in
+      let p : f.0.path ≡ path = v.tree.once f.0 v.entry f.2 v.among f.3 (rw f.3 k) ∙ v.path_is in
+      rw (at_node, k, f.1, p) refl
+
+  -- nothing is below what is no directory
+  none_there : is_directory_at layers (place v.entry) ≡ false → rows_at stack n ≡ []
+  none_there k = rw (at_node, k) refl
+
+  empty_there : is_directory_at layers (place v.entry) ≡ false → below entries path ≡ []
+  unfolding below
+  empty_there k = go entries (λ e a. a)
+    where
+      not_below : (e : Entry) → IsAmong e entries → (o : Option Path) → after path e.path ≡ o → is_below path e.path ≡ false
+      not_below e a None f = rw f refl
+      not_below e a (Some []) f = rw f refl
+      not_below e a (Some (m ∷ r)) f =
+          let d = v.tree.above e path r m a (after_is path e.path (m ∷ r) f) in
+          let s : d.0 ≡ v.entry = one_entry entries v.tree.rising d.0 v.entry d.1 v.among (d.2 ∙ sym v.path_is) in
+          absurd (let z = rw s at d.3 in let w = sym z ∙ k in cc)
+
+      go : (es : List Entry) → ((e : Entry) → IsAmong e es → IsAmong e entries) → below es path ≡ []
+      go [] s = refl
+      go (e ∷ es) s = rw (not_below e (s e (inl refl)) (after path e.path) refl) (go es (λ f a. s f (inr a)))
+
+  pub row_at : (i : ℕ) (d : Line) → i < length (rows_at stack n) → IsRow (get_or (rows_at stack n) i d)
+  row_at i d l = go (is_directory_at layers (place v.entry)) refl
+    where
+      go : (b : Bool) → is_directory_at layers (place v.entry) ≡ b → IsRow (get_or (rows_at stack n) i d)
+      go true k = let r = rows_there k in rw r (row_in entries (λ e a. a) i d (rw r at l))
+      go false k = absurd (let m : i < length {A = Line} [] = rw (none_there k) at l in omega arith)
+
+  pub all_rows : flat_map (piece_at stack path) (rows_at stack n) ≡ lines_below stack path
+  all_rows = go (is_directory_at layers (place v.entry)) refl
+    where
+      go : (b : Bool) → is_directory_at layers (place v.entry) ≡ b → flat_map (piece_at stack path) (rows_at stack n) ≡ lines_below stack path
+      go true k = rw (rows_there k) (pieces_in entries (λ e a. a) ∙ sym (all_below layers entries path v.tree))
+      go false k = rw (none_there k, empty_there k) refl
+
+  -- the walk goes on to a row
+  pub visit_row : (row : Line) → IsRow row → IsVisited stack row.number (path ++ row.name ∷ [])
+  visit_row row r = record { tree = v.tree; entry = r.entry; among = r.among; path_is = r.path_is; number_is = r.number_is }
+
+  pub fewer_below : (row : Line) → IsRow row → length (below entries (path ++ row.name ∷ [])) < length (below entries path)
+  fewer_below row r = fewer_by path row.name entries r.entry r.among r.path_is
+
+  -- the walk goes on to the row at i, and less is below that
+  pub goes_on : (rows : List Line) (i : ℕ) (d : Line) (m : ℕ) (name : List ℕ) → rows ≡ rows_at stack n → i < length rows → d ≡ get_or rows i d → record { number = m; name = name } ≡ d →
+      IsVisited stack m (path ++ name ∷ []) × (length (below entries (path ++ name ∷ [])) < length (below entries path))
+  goes_on rows i d m name e l f s =
+      let k : i < length (rows_at stack n) = subst (λ r. i < length r) e l in
+      let same : get_or (rows_at stack n) i d ≡ d = ap (λ r. get_or r i d) (sym e) ∙ sym f in
+      let r : IsRow d = subst (λ x. IsRow x) same (row_at i d k) in
+      let number_same : d.number ≡ m = ap (λ (x : Line). x.number) (sym s) in
+      let name_same : d.name ≡ name = ap (λ (x : Line). x.name) (sym s) in (
+        subst (λ x. IsVisited stack m (path ++ x ∷ [])) name_same (subst (λ x. IsVisited stack x (path ++ d.name ∷ [])) number_same (visit_row d r)),
+        subst (λ x. length (below entries (path ++ x ∷ [])) < length (below entries path)) name_same (fewer_below d r),
+      )
+
+  -- all rows are walked
+  pub walked : (rows : List Line) (i : ℕ) → rows ≡ rows_at stack n → length rows ≤ i → flat_map (piece_at stack path) (take i rows) ≡ lines_below stack path
+  walked rows i e l = ap (flat_map (piece_at stack path)) (take_all i rows l ∙ e) ∙ all_rows

@@ -1,0 +1,14 @@
+use Rattle.std.proofs.Common.{length, take}
+use Rattle.std.specs.Prelude.{flat_map}
+use Rattle.path_list.specs.Walks.{Gains, way, piece_at}
+use Rattle.path_list.specs.Below.{below}
+use Rattle.path_list.proofs.walk.+put_below.Given as goal
+
+abbrev pub decreases-put_below : goal.decreases-put_below
+decreases-put_below g l = length (below l.table.now.entries (way l.trail))
+
+-- the lines of the children so far, each with those below it
+abbrev pub invariant-loop-row : goal.invariant-loop-row
+invariant-loop-row g l =
+    Gains (g.W.Write.contents l.fn.writer) l.fn.room.items (g.W.Write.contents l.writer) l.room.items
+    (flat_map (piece_at l.table (way l.trail)) (take l.row-index l.row-items))

@@ -1,0 +1,5 @@
+use Rattle.path_list.proofs.Soundness.{AreImagesTo}
+use Rattle.path_list.proofs.walk.are_images.Given as goal
+
+abbrev pub invariant-loop-image : goal.invariant-loop-image
+invariant-loop-image g l = AreImagesTo l.images l.image-index

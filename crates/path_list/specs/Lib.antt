@@ -1,0 +1,4 @@
+pub mod Lines
+pub mod Below
+pub mod Walks
+pub mod Faults

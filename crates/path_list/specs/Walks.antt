@@ -1,0 +1,40 @@
+-- What a walk over a table prints, and on what it stands.
+use Rattle.std.specs.Prelude.{◌≡◌, ℕ, List, [], ◌∷◌, ◌++◌, Option, flat_map}
+use Rattle.std.specs.Borrow.{Bor}
+use Rattle.std.specs.Option.{option_map_or}
+use Rattle.std.specs.Io.KnownBytes.{Appends, append_known}
+use Rattle.stack_model.specs.Stack.{Path}
+use Rattle.stack_model.specs.Listing.{Entry, IsAmong}
+use Rattle.stack_model.specs.Numbers.{place, number, node_of}
+use Rattle.node_table.specs.Stacked.{Stacked}
+use Rattle.node_table.specs.Rows.{Line}
+use Rattle.path_list.specs.Lines.{line_of, line}
+use Rattle.path_list.specs.Below.{below, AreTree}
+
+-- what a writer holds together with the bytes on their way to it grew by these bytes
+pub record Gains (old_written : Option (List ℕ)) (old_room : List ℕ) (new_written : Option (List ℕ)) (new_room : List ℕ) (bytes : List ℕ) : Type 0 where
+  pub gained : Appends (append_known old_written old_room) (append_known new_written new_room) bytes
+
+-- the names from the root
+abbrev pub way : Option (Bor (List (List ℕ))) → Path
+way trail = option_map_or (λ names. names.now) trail []
+
+-- the line of a number at a path
+abbrev pub line_at : Stacked → ℕ → Path → List ℕ
+line_at stack n path = option_map_or (λ p. line_of stack.layers stack.entries p path) (node_of stack.entries n) []
+
+-- the lines of all paths below a path
+abbrev pub lines_below : Stacked → Path → List ℕ
+lines_below stack path = flat_map (line stack.layers stack.entries) (below stack.entries path)
+
+-- the line of a child of the directory at a path, and those of all below it
+abbrev pub piece_at : Stacked → Path → Line → List ℕ
+piece_at stack top row = line_at stack row.number (top ++ row.name ∷ []) ++ lines_below stack (top ++ row.name ∷ [])
+
+-- the shown paths make a tree, and the number is that of the path
+pub record IsVisited (stack : Stacked) (n : ℕ) (path : Path) : Type 0 where
+  pub tree : AreTree stack.layers stack.entries
+  pub entry : Entry
+  pub among : IsAmong entry stack.entries
+  pub path_is : entry.path ≡ path
+  pub number_is : n ≡ number stack.entries (place entry)

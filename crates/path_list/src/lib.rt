@@ -1,0 +1,25 @@
+//! The lines of a listing: each shown path of a stack with its node's number and attributes.
+//!
+//! [`write_list`] writes them for a table of nodes, in the order of the paths:
+//!
+//! ```text
+//! 1 040755 3 0 1 /
+//! 2 040755 2 0 1 /a
+//! 3 100644 1 1 0 /a/y
+//! ```
+//!
+//! It goes down from the root by the rows of directories, and the lines go out in pieces, so the memory that it takes
+//! does not grow with their number. That these are all shown paths, each once, stands on what the layers are: nothing
+//! is shown below what is no directory, and a directory has one path (`laws`).
+//!
+//! The crate stands on `node_table`.
+#![tactic(auto)]
+
+pub mod examples;
+pub mod laws;
+mod room;
+mod text;
+mod trail;
+mod walk;
+
+pub use walk::{ListFault, write_list};

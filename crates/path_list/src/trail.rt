@@ -1,0 +1,24 @@
+//! The way down to a path.
+
+use std::marker::Model;
+
+/// A name, and the way to the directory that it stands in; none is that of the root.
+#[derive(Drop)]
+pub(crate) struct Trail<'a> {
+    pub(crate) above: Option<&'a Trail<'a>>,
+    pub(crate) name: &'a [u8],
+}
+
+impl<'a> Model for Trail<'a> {
+    ghost use Rattle.std.specs.Prelude.{List, ℕ, [], ◌∷◌, ◌++◌, length};
+    ghost use Rattle.std.proofs.Common.{arith, length-append};
+    ghost use Rattle.std.specs.Option.{option_map_or};
+
+    ghost Value = { List (List ℕ) };
+
+    ghost view = { λ t. option_map_or (λ up. up.now) t.above [] ++ t.name.now ∷ [] };
+
+    ghost size = { length };
+
+    ghost size_decreases = { λ t h. Prim.grind (arith, length-append) };
+}
