@@ -1,19 +1,12 @@
 -- Balances, after one list of moves and another.
-use Rattle.std.proofs.Common.{◌≡◌, ◌∙◌, sym, ap, subst, ℕ, ◌+◌, ◌*◌, ◌<◌, ◌≤◌, ◌^◌, ◌==◌, ℤ, pos, ◌+ℤ◌, unsigned_abs, List, [], ◌∷◌, ◌++◌, length, map, ◌≢◌, ◌⊎◌, inl, inr, set, get_or, Bool, true, false, cond, refl, arith, length-append, eq-eqb, FitsSigned, to_z, of_z, ◌-◌}
+use Rattle.std.proofs.Common.{◌≡◌, ◌∙◌, sym, ap, subst, ℕ, ◌+◌, ◌<◌, ◌≤◌, ◌^◌, ◌==◌, ℤ, pos, ◌+ℤ◌, unsigned_abs, List, [], ◌∷◌, ◌++◌, length, ◌≢◌, ◌⊎◌, inl, inr, set, get_or, Bool, true, false, cond, refl, arith, eq-eqb, FitsSigned, to_z, of_z, ◌-◌}
 use Rattle.std.specs.Int.{w128}
-use Rattle.std.specs.List.{AllByRecursion}
 use Rattle.std.proofs.lemmas.Int.{ints, fits_signed_from_abs, to_z-of_z}
 use Rattle.std.proofs.lemmas.Bool.{eqb-true}
 use Rattle.std.proofs.lemmas.List.{get_or-set_same, get_or-set_other, length-set}
-use Rattle.fuse_wire.specs.Stream.{IsMessage}
-use Rattle.fuse_wire.specs.Requests.{Asked, asked}
-use Rattle.reply_model.specs.declared.session.Session.{Session}
-use Rattle.reply_model.specs.Sessions.{session_after}
 use Rattle.rounds.specs.Moves.{balance_at, weight, IsLight, IsMoved, AreWithin}
 use Rattle.reply_model.specs.declared.moves.Move.{Move}
 use Rattle.reply_model.specs.Moves.{balance}
-use Rattle.reply_model.specs.Streams.{moves_by}
-use Rattle.rounds.specs.Rounds.{joined}
 
 abs_add : (a b : ℤ) → unsigned_abs (a +ℤ b) ≤ unsigned_abs a + unsigned_abs b
 abs_add a b = omega (arith, ints)
@@ -64,15 +57,9 @@ weight_append : (xs ys : List Move) → weight (xs ++ ys) ≡ weight xs + weight
 weight_append [] ys = omega arith
 weight_append (x ∷ xs) ys = let e = weight_append xs ys in omega arith
 
--- messages move no more than 64 bits say, for each of their bytes
-pub light : (moved : Session → Asked → List Move) → IsLight moved → (s : Session) (ms : List (List ℕ)) → AllByRecursion IsMessage ms → weight (moves_by moved s (map asked ms)) ≤ 2 ^ 64 * length (joined ms)
-light moved l s [] e = omega arith
-light moved l s (m ∷ ms) e =
-    let x = l.each s m e.0 in
-    let r = light moved l (session_after s (asked m).op) ms e.1 in
-    let w = weight_append (moved s (asked m)) (moves_by moved (session_after s (asked m).op) (map asked ms)) in
-    let n = length-append m (joined ms) in
-    omega arith
+-- what is light, and what is light after it
+pub light_on : (xs ys : List Move) (m n : ℕ) → IsLight xs m → IsLight ys n → IsLight (xs ++ ys) (m + n)
+light_on xs ys m n l k = let w = weight_append xs ys in omega arith
 
 -- a move that is added at its node's place
 module _ (b : List ℤ) (place : ℕ) (amount : ℤ) (l : place < length b) where

@@ -13,7 +13,7 @@ use Rattle.rounds.specs.Moves.{IsLight, IsMoved, AreWithin}
 use Rattle.reply_model.specs.declared.moves.Move.{Move}
 use Rattle.reply_model.specs.Streams.{moves_by}
 use Rattle.rounds.specs.Rounds.{Answering, Balances, joined, IsAnswered, AreFirst, AreAnswered, IsRound}
-use Rattle.rounds.proofs.Sums.{none_moved, moved_on, within_moved, within_less, light}
+use Rattle.rounds.proofs.Sums.{none_moved, moved_on, within_moved, within_less, light_on}
 
 -- what one list of requests and then another is replied, moves and leaves
 pub replies_append : (reply : Session → Asked → List ℕ) (s : Session) (xs ys : List Asked) → replies_by reply s (xs ++ ys) ≡ replies_by reply s xs ++ replies_by reply (session_at s xs) ys
@@ -73,7 +73,7 @@ one_first stream n b =
 
 module _ (by : Answering) (s : Session) where
   pub none_answered : (b : List ℤ) → AreAnswered by s [] s [] (record { old = b; new = b })
-  none_answered b = record { session = refl; told = refl; moves = none_moved b }
+  none_answered b = record { session = refl; told = refl; moves = none_moved b; light = omega arith }
 
   pub answered_on : (ms ns : List (List ℕ)) (t u : Session) (put more : List ℕ) (a b c : List ℤ) →
       AreAnswered by s ms t put (record { old = a; new = b }) → AreAnswered by t ns u more (record { old = b; new = c }) →
@@ -86,6 +86,9 @@ module _ (by : Answering) (s : Session) where
         ∙ sym (replies_append by.reply s (map asked ms) (map asked ns))
         ∙ ap (replies_by by.reply s) (sym (map-append asked ms ns));
     moves = subst (λ v. IsMoved v a c) said (moved_on (moves_by by.moved s (map asked ms)) (moves_by by.moved t (map asked ns)) a b c x.moves y.moves);
+    light =
+        subst (λ n. IsLight (moves_by by.moved s (map asked (ms ++ ns))) n) (sym (ap length (joined_append ms ns) ∙ length-append (joined ms) (joined ns)))
+        (subst (λ v. IsLight v (length (joined ms) + length (joined ns))) said (light_on _ _ _ _ x.light y.light));
   }
     where
       said : moves_by by.moved s (map asked ms) ++ moves_by by.moved t (map asked ns) ≡ moves_by by.moved s (map asked (ms ++ ns))
@@ -99,12 +102,15 @@ module _ (by : Answering) (s : Session) where
     session = a.session;
     told = a.told ∙ sym (append-nil (by.reply s (asked m)));
     moves = subst (λ v. IsMoved v b.old b.new) (sym (append-nil (by.moved s (asked m)))) a.moves;
+    light =
+        subst (λ v. IsLight v (length (joined (m ∷ [])))) (sym (append-nil (by.moved s (asked m))))
+        (subst (λ v. IsLight (by.moved s (asked m)) (length v)) (sym (append-nil m)) a.light);
   }
 
   -- balances stay far from 2^127 however much of a stream is answered
-  pub still_within : (limit used : ℕ) (ms : List (List ℕ)) (t : Session) (put : List ℕ) (a b : List ℤ) (stream : List ℕ) → IsLight by.moved → AreWithin limit a → AreFirst stream ms used → AreAnswered by s ms t put (record { old = a; new = b }) → AreWithin (limit + 2 ^ 64 * used) b
-  still_within limit used ms t put a b stream l w f x =
-      let k = light by.moved l s ms f.each in
+  pub still_within : (limit used : ℕ) (ms : List (List ℕ)) (t : Session) (put : List ℕ) (a b : List ℤ) (stream : List ℕ) → AreWithin limit a → AreFirst stream ms used → AreAnswered by s ms t put (record { old = a; new = b }) → AreWithin (limit + 2 ^ 64 * used) b
+  still_within limit used ms t put a b stream w f x =
+      let k = x.light in
       let e = f.size in
       within_less _ _ b (omega arith) (within_moved limit (moves_by by.moved s (map asked ms)) a b w x.moves)
 
@@ -139,7 +145,7 @@ module _ (by : Answering) (s : Session) (stream : List ℕ) where
   pub is_round : (round : Round) (put : List ℕ) (b : Balances) → IsSoFar by s stream round put b → (0 < round.messages) ⊎ IsRest (drop round.used stream) → IsRound by s stream round put b
   is_round round put b f o = record { messages = f.messages; first = f.first; count = f.count; answered = f.answered; some = elim o [ inl h ↦ inl (let k = f.count in omega arith) | inr r ↦ inr r ] }
 
-  pub so_far_within : (round : Round) (put : List ℕ) (a b : List ℤ) → IsSoFar by s stream round put (record { old = a; new = b }) → IsLight by.moved → AreWithin (2 ^ 122) a → length stream ≤ 2 ^ 57 → AreWithin (2 ^ 123) b
-  so_far_within round put a b f l w n =
+  pub so_far_within : (round : Round) (put : List ℕ) (a b : List ℤ) → IsSoFar by s stream round put (record { old = a; new = b }) → AreWithin (2 ^ 122) a → length stream ≤ 2 ^ 57 → AreWithin (2 ^ 123) b
+  so_far_within round put a b f w n =
       let u = first_within stream f.messages round.used f.first in
-      within_less _ _ b (omega arith) (still_within by s (2 ^ 122) round.used f.messages round.session put a b stream l w f.first f.answered)
+      within_less _ _ b (omega arith) (still_within by s (2 ^ 122) round.used f.messages round.session put a b stream w f.first f.answered)

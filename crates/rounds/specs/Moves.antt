@@ -1,8 +1,5 @@
 -- linux/fuse.h, nlookup of FUSE_LOOKUP, FUSE_READDIRPLUS, FUSE_FORGET and FUSE_BATCH_FORGET: lookups given and taken.
-use Rattle.std.specs.Prelude.{◌≡◌, ℕ, ◌+◌, ◌*◌, ◌<◌, ◌≤◌, ◌^◌, ◌==◌, ℤ, pos, ◌+ℤ◌, unsigned_abs, List, [], ◌∷◌, ◌++◌, length, get_or, if◌then◌else◌}
-use Rattle.fuse_wire.specs.Stream.{IsMessage}
-use Rattle.fuse_wire.specs.Requests.{Asked, asked}
-use Rattle.reply_model.specs.declared.session.Session.{Session}
+use Rattle.std.specs.Prelude.{◌≡◌, ℕ, ◌+◌, ◌*◌, ◌<◌, ◌≤◌, ◌^◌, ℤ, pos, ◌+ℤ◌, unsigned_abs, List, [], ◌∷◌, length, get_or}
 use Rattle.reply_model.specs.declared.moves.Move.{Move}
 use Rattle.reply_model.specs.Moves.{balance}
 
@@ -11,9 +8,9 @@ abbrev pub weight : List Move → ℕ
 weight [] = 0
 weight (m ∷ moves) = unsigned_abs m.amount + weight moves
 
--- a message moves no more than 64 bits say, for each of its bytes
-pub record IsLight (moved : Session → Asked → List Move) : Type 0 where
-  pub each : (s : Session) (m : List ℕ) → IsMessage m → weight (moved s (asked m)) ≤ 2 ^ 64 * length m
+-- moves are no more than 64 bits say, for each of so many bytes
+abbrev pub IsLight : List Move → ℕ → Type 0
+IsLight moves bytes = weight moves ≤ 2 ^ 64 * bytes
 
 -- the balance at a place; node n has the place n - 1
 abbrev pub balance_at : List ℤ → ℕ → ℤ

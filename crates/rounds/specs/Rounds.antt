@@ -7,7 +7,7 @@ use Rattle.reply_model.specs.declared.session.Session.{Session}
 use Rattle.reply_model.specs.Sessions.{session_after}
 use Rattle.reply_model.specs.Streams.{replies_by, session_at}
 use Rattle.rounds.specs.declared.round.Round.{Round}
-use Rattle.rounds.specs.Moves.{IsMoved}
+use Rattle.rounds.specs.Moves.{IsLight, IsMoved}
 use Rattle.reply_model.specs.declared.moves.Move.{Move}
 use Rattle.reply_model.specs.Streams.{moves_by}
 
@@ -34,6 +34,7 @@ pub record IsAnswered (by : Answering) (s : Session) (m : List ℕ) (after : Ses
   pub session : after ≡ session_after s (asked m).op
   pub told : put ≡ by.reply s (asked m)
   pub moves : IsMoved (by.moved s (asked m)) b.old b.new
+  pub light : IsLight (by.moved s (asked m)) (length m)
 
 -- these are the first messages of a stream, with so many bytes
 pub record AreFirst (stream : List ℕ) (messages : List (List ℕ)) (used : ℕ) : Type 0 where
@@ -46,6 +47,7 @@ pub record AreAnswered (by : Answering) (s : Session) (messages : List (List ℕ
   pub session : after ≡ session_at s (map asked messages)
   pub told : put ≡ replies_by by.reply s (map asked messages)
   pub moves : IsMoved (moves_by by.moved s (map asked messages)) b.old b.new
+  pub light : IsLight (moves_by by.moved s (map asked messages)) (length (joined messages))
 
 -- a round answered the first messages of a stream with these bytes: at least one, if one is whole
 pub record IsRound (by : Answering) (s : Session) (stream : List ℕ) (round : Round) (put : List ℕ) (b : Balances) : Type 0 where

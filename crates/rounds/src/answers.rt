@@ -3,7 +3,7 @@
 ghost use Rattle.std.specs.Prelude.{◌≡◌, ◌^◌, ◌++◌, ℕ, List, length, IfOk};
 ghost use Rattle.fuse_wire.specs.Stream.{IsMessage};
 ghost use Rattle.reply_model.specs.declared.session.Session.{Session};
-ghost use Rattle.rounds.specs.Moves.{AreWithin, IsLight};
+ghost use Rattle.rounds.specs.Moves.{AreWithin};
 ghost use Rattle.rounds.specs.Rounds.{Answering, change, AppendsAnswer};
 
 use reply_model::Session;
@@ -25,7 +25,7 @@ pub trait Answers {
     /// Where memory is refused, the replies and the balances may hold a part of the answer.
     fn answer<A: Allocator>(
         &self,
-        number: usize,
+        number: u32,
         session: Session,
         message: &[u8],
         replies: &mut Vec<u8, A>,
@@ -36,6 +36,4 @@ pub trait Answers {
         requires within { AreWithin (2 ^ 123) balances.old }
         ensures { IfOk result (λ after. AppendsAnswer (answering self.now) session message.now after
             replies.old.items replies.new.items (change balances.old balances.new)) };
-
-    ghost light: { (x : Self) → IsLight (answering x).moved };
 }

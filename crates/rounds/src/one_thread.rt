@@ -44,7 +44,7 @@ pub fn walk<T: Answers, A: Allocator>(
         match frame(rest) {
             Framed::Whole(len) => {
                 round.session = answers.answer(
-                    round.messages,
+                    round.messages as u32,
                     round.session,
                     &rest[..len],
                     replies,

@@ -2,7 +2,7 @@
 
 ghost use Rattle.std.specs.Prelude.{◌≡◌, ◌≤◌, ◌^◌, ◌++◌, ℕ, List, length, IfOk};
 ghost use Rattle.reply_model.specs.declared.session.Session.{Session};
-ghost use Rattle.rounds.specs.Moves.{AreWithin, IsLight};
+ghost use Rattle.rounds.specs.Moves.{AreWithin};
 ghost use Rattle.rounds.specs.Rounds.{Answering, change, AppendsRound};
 
 use reply_model::Session;
@@ -45,6 +45,4 @@ pub trait Rounds {
         requires short { length stream.now ≤ 2 ^ 57 }
         ensures { IfOk result (λ round. AppendsRound (answering self.now) session stream.now round
             replies.old.items replies.new.items (change balances.old balances.new)) };
-
-    ghost light: { (x : Self) → IsLight (answering x).moved };
 }

@@ -4,3 +4,4 @@ pub mod Traces
 pub mod Runs
 pub mod Ends
 pub mod Checked
+pub mod Headline

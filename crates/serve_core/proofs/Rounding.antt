@@ -9,10 +9,9 @@ use Rattle.reply_model.specs.Streams.{replies_by}
 use Rattle.devices.specs.declared.counts.Pushes.{Pushes}
 use Rattle.devices.specs.Pushing.{HasFlushed}
 use Rattle.rounds.specs.declared.round.Round.{Round}
-use Rattle.rounds.specs.Moves.{IsLight}
 use Rattle.reply_model.specs.Streams.{moves_by}
 use Rattle.rounds.specs.Rounds.{Answering, joined, AreAnswered, IsRound}
-use Rattle.rounds.proofs.Sums.{within_moved, within_less, light}
+use Rattle.rounds.proofs.Sums.{within_moved, within_less}
 use Rattle.rounds.proofs.Walking.{replies_append, joined_append, both, none_answered, answered_on, first_within}
 use Rattle.serve_core.specs.declared.stop.Stop.{Stop}
 use Rattle.serve_core.specs.declared.stop.Stop.TheVariants.{Write, Memory}
@@ -112,7 +111,7 @@ module _ (by : Answering) where
         record {
           taken = refl;
           each = tt;
-          answered = record { session = refl; told = refl; moves = a.moves };
+          answered = record { session = refl; told = refl; moves = a.moves; light = omega arith };
           place = omega arith;
           count = omega arith;
           written = omega arith;
@@ -129,8 +128,8 @@ module _ (by : Answering) where
   few from to (m ∷ ms) put g l = let k = g.each.0.good.0 in let j = length-append m (joined ms) in omega arith
 
   -- the counts stay small
-  pub small_on : (nodes : ℕ) (from to : View) (ms : List (List ℕ)) (put : List ℕ) → IsLight by.moved → IsSmall nodes from → Goes by from to ms put → length put < 2 ^ 64 → IsSmall nodes to
-  small_on nodes from to ms put w s g l =
+  pub small_on : (nodes : ℕ) (from to : View) (ms : List (List ℕ)) (put : List ℕ) → IsSmall nodes from → Goes by from to ms put → length put < 2 ^ 64 → IsSmall nodes to
+  small_on nodes from to ms put s g l =
       let p = g.place in let c = g.count in let b = g.written in
       record {
         place = (let x = s.place in let t = ap length g.taken ∙ length-append (joined ms) to.rest in omega arith);
@@ -138,7 +137,7 @@ module _ (by : Answering) where
         bytes = (let x = s.bytes in let f = few from to ms put g l in omega arith);
         nodes_are = g.answered.moves.same ∙ s.nodes_are;
         balanced = (
-            let k = light by.moved w from.session ms g.each in
+            let k = g.answered.light in
             within_less _ _ to.balances (omega arith) (within_moved (2 ^ 64 * from.at) (moves_by by.moved from.session (map asked ms)) from.balances to.balances s.balanced g.answered.moves));
       }
 

@@ -3,3 +3,4 @@ pub mod Steps
 pub mod Buffers
 pub mod Laws
 pub mod Preparing
+pub mod Headline

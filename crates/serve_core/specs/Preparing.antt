@@ -4,6 +4,8 @@ use Rattle.romfs_format.specs.Fields.{image}
 use Rattle.romfs_format.specs.Rules.{IsFaultAs, IsSoundAs}
 use Rattle.romfs_format.specs.declared.rule.Profile.{Profile}
 use Rattle.romfs_format.specs.declared.rule.ImageFault.{ImageFault}
+use Rattle.stack_model.specs.Listing.{IsListing}
+use Rattle.node_table.specs.Stacked.{Stacked}
 use Rattle.serve_core.specs.declared.stop.Stop.{Stop}
 use Rattle.serve_core.specs.declared.stop.Stop.TheVariants.{Layer, Layers, Memory}
 
@@ -16,6 +18,11 @@ pub record AreLayers (profile : Profile) (images layers : List (List ℕ)) : Typ
   pub few : IsFew (length images)
   pub sound : All (IsSoundAs profile) images
   pub are : layers ≡ map image images
+
+-- all images keep the rules of the profile, and this is the stack of their accessible bytes
+pub record AreStacked (profile : Profile) (images : List (List ℕ)) (stack : Stacked) : Type 0 where
+  pub layers : AreLayers profile images stack.layers
+  pub listing : IsListing stack.layers stack.entries
 
 -- the image with this number is the lowest that breaks a rule of the profile, and this is its fault
 pub record IsLowestBroken (profile : Profile) (images : List (List ℕ)) (layer : ℕ) (fault : ImageFault) : Type 0 where

@@ -4,8 +4,8 @@
 //! moved to the front when room is made for a pull, and only then. As the bytes that are left were all pulled last, or
 //! all belong to one message that is not whole, no byte is moved more than a few times, whatever the pulls' sizes.
 
-ghost use Rattle.std.specs.Prelude.{◌≡◌, ◌+◌, ◌-◌, ◌<◌, ◌≤◌, ℕ, List, length, take, drop, [], OnOk, MatchResult};
-ghost use Rattle.std.specs.Io.KnownBytes.{Consumes, Keeps};
+ghost use Rattle.std.specs.Prelude.{◌≡◌, ◌+◌, ◌-◌, ◌<◌, ◌≤◌, ℕ, List, length, take, drop, [], OnOk, IfOk, MatchResult};
+ghost use Rattle.std.specs.Io.KnownBytes.{Consumes, IsAtEnd, Keeps};
 ghost use Rattle.devices.specs.Counting.{pulled};
 ghost use Rattle.serve_core.specs.Buffers.{part, held_in, IsInRange, HasRoom, IsPull};
 
@@ -76,6 +76,7 @@ impl<A: Allocator> Buffer<A> {
         ensures range { IsInRange self.new }
         ensures pull { (got : List ℕ) × Consumes (S.left source.old) (S.left source.new) got
             × IsPull (S.counts source.old) (S.counts source.new) (held_in self.old) (held_in self.new) got result }
+        ensures end { IfOk result (λ n. n ≡ 0 → IsAtEnd (S.left source.new)) }
     {
         match pull_at(source, self.bytes.as_mut_slice(), self.end) {
             Ok(got) => {
@@ -121,6 +122,7 @@ fn pull_at<S: Source>(source: &mut S, bytes: &mut [u8], at: usize) -> Result<usi
         (λ n. (n ≤ 65536) × Consumes (S.left source.old) (S.left source.new) (take n (drop at bytes.new)))
         (λ _. Keeps (S.left source.old) (S.left source.new)) }
     ensures counts { S.counts source.new ≡ pulled (S.counts source.old) result }
+    ensures end { IfOk result (λ n. n ≡ 0 → IsAtEnd (S.left source.new)) }
 {
     source.pull(&mut bytes[at..at + PULL])
 }

@@ -19,10 +19,12 @@ pub mod laws;
 mod preparing;
 mod progress;
 mod rounds_on;
-mod run;
+mod running;
+mod serving;
 pub mod stop;
 
 pub use done::Done;
 pub use preparing::{prepare, prepare_as};
-pub use run::run_by;
+pub use running::run_by;
+pub use serving::{run, serve, serve_as};
 pub use stop::Stop;

@@ -10,7 +10,7 @@ loop-round-init g c =
 pub answer-requires-clause-within : goal.answer-requires-clause-within
 answer-requires-clause-within g c =
     let (put, e, f) = c.loop-round.invariant in
-    so_far_within (g.T.Answers.answering c.args.answers.now) c.args.session c.args.stream.now c.loop-round.round put c.args.balances.now c.loop-round.balances f (g.met.T.Answers.light c.args.answers.now) c.requires.within c.requires.short
+    so_far_within (g.T.Answers.answering c.args.answers.now) c.args.session c.args.stream.now c.loop-round.round put c.args.balances.now c.loop-round.balances f c.requires.within c.requires.short
 
 pub loop-round-preserved : goal.loop-round-preserved
 loop-round-preserved g c =

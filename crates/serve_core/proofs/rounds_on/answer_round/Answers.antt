@@ -43,7 +43,7 @@ returns-clause-small g c =
     let all = c.as_slice.ensures.value ∙ all_of _ _ put c.clear.ensures.items told in
     let size = c.len.ensures ∙ sym c.as_slice.ensures.len ∙ ap length all in
     let went = goes_round by from round put (held_in c.pass.new.self) _ _ _ _ seen c.pass.ensures.rest refl refl (ap (λ n. from.written + n) size) in
-    small_on by _ from _ seen.messages put (g.met.T.Rounds.light c.args.answers.now) c.requires.small went (subst (λ n. n < 2 ^ 64) size c.len.type_inv)
+    small_on by _ from _ seen.messages put c.requires.small went (subst (λ n. n < 2 ^ 64) size c.len.type_inv)
 
 pub returns-clause-ok : goal.returns-clause-ok
 returns-clause-ok g c =

@@ -1,7 +1,7 @@
 //! A stream, served to its end.
 
-ghost use Rattle.std.specs.Prelude.{◌≡◌, ◌<◌, ◌≤◌, ◌^◌, ℕ, List, MatchOption};
-ghost use Rattle.std.specs.Io.KnownBytes.{Appends, Consumes};
+ghost use Rattle.std.specs.Prelude.{◌≡◌, ◌<◌, ◌≤◌, ◌^◌, ℕ, List, MatchOption, OnOk};
+ghost use Rattle.std.specs.Io.KnownBytes.{Appends, Consumes, IsAtEnd};
 ghost use Rattle.fuse_wire.specs.Stream.{IsRest, IsBad, IsOpen};
 ghost use Rattle.serve_core.specs.Serving.{trace, IsRun};
 
@@ -35,12 +35,13 @@ pub fn run_by<T: Rounds, S: Source, K: Sink, A: Allocator + Copy>(
     requires ends { (S.counts source.old).ends < 2 ^ 63 }
     requires source_failures { (S.counts source.old).failures < 2 ^ 63 }
     requires sink_failures { (K.counts sink.old).failures < 2 ^ 63 }
-    ensures { (got : List ℕ) × (put : List ℕ)
+    ensures run { (got : List ℕ) × (put : List ℕ)
         × Consumes (S.left source.old) (S.left source.new) got
         × Appends (K.held sink.old) (K.held sink.new) put
         × IsRun (T.answering answers.now) (T.nodes answers.now) turns (trace got put
         (S.counts source.old) (S.counts source.new)
         (K.counts sink.old) (K.counts sink.new)) result }
+    ensures end { OnOk result (IsAtEnd (S.left source.new)) }
 {
     if turns == 0 {
         return Err(Stop::Turns);

@@ -6,14 +6,14 @@ use Rattle.serve_core.specs.Serving.{Trace}
 use Rattle.serve_core.specs.Steps.{view, IsSmall}
 use Rattle.serve_core.proofs.Traces.{none_left, small_first, some_left, start, IsRunning}
 use Rattle.serve_core.proofs.Runs.{ends_bad, ends_clean, ends_cut, ends_halt, ends_memory, ends_read, ends_turns, fed, no_memory, no_turns, run_memory, runs_first, small_fed, went_round}
-use Rattle.serve_core.proofs.run.run_by.Goals as goal
+use Rattle.serve_core.proofs.running.run_by.Goals as goal
 
-pub returns-then-turns-eq0 : goal.returns-then-turns-eq0
-returns-then-turns-eq0 g c =
+pub returns-then-turns-eq0-clause-run : goal.returns-then-turns-eq0-clause-run
+returns-then-turns-eq0-clause-run g c =
     ([], [], Consumes-nil _, Appends-nil _, no_turns (g.T.Rounds.answering c.args.answers.now) (g.T.Rounds.nodes c.args.answers.now) _ _ _ c.if-turns-eq0.true)
 
-pub returns-in_err-progress : goal.returns-in_err-progress
-returns-in_err-progress g c =
+pub returns-in_err-progress-clause-run : goal.returns-in_err-progress-clause-run
+returns-in_err-progress-clause-run g c =
     ([], [], Consumes-nil _, Appends-nil _, run_memory _ _ _ _ c.from_residual.result c.from_residual.ensures.1 (no_memory (g.T.Rounds.answering c.args.answers.now) (g.T.Rounds.nodes c.args.answers.now) _ _ _))
 
 pub loop-turn-init : goal.loop-turn-init
@@ -32,16 +32,16 @@ loop-turn-init g c =
       subst (λ w. IsSmall nodes w) (sym is) (small_first nodes),
     )
 
-pub returns-in_err-make_room : goal.returns-in_err-make_room
-returns-in_err-make_room g c =
+pub returns-in_err-make_room-clause-run : goal.returns-in_err-make_room-clause-run
+returns-in_err-make_room-clause-run g c =
     let by = g.T.Rounds.answering c.args.answers.now in
     let nodes = g.T.Rounds.nodes c.args.answers.now in
     let v = view c.loop-turn.progress in
     let (got, put, ms, took, held, run, range, small) = c.loop-turn.invariant in
     (got, put, took, held, run_memory by nodes _ _ c.from_residual-in_err-make_room.result c.from_residual-in_err-make_room.ensures.1 (ends_memory by nodes c.loop-turn._turn _ v ms run c.args.turns (omega (arith, c.loop-turn-test.true))))
 
-pub returns-in-Err : goal.returns-in-Err
-returns-in-Err g c =
+pub returns-in-Err-clause-run : goal.returns-in-Err-clause-run
+returns-in-Err-clause-run g c =
     let by = g.T.Rounds.answering c.args.answers.now in
     let nodes = g.T.Rounds.nodes c.args.answers.now in
     let v = view c.loop-turn.progress in
@@ -49,8 +49,8 @@ returns-in-Err g c =
     let (x, more, pull) = c.in-Err.ensures.pull in
     (got ++ x, put, Consumes-trans _ _ _ _ _ took more, held, ends_read by nodes c.loop-turn._turn _ v ms run _ x _ c.args.turns pull.counts pull.is (record { pulls = c.requires.pulls; ends = c.requires.ends; failures = c.requires.source_failures }) c.loop-turn-test.true c.requires.turns)
 
-pub returns-then-is_empty : goal.returns-then-is_empty
-returns-then-is_empty g c =
+pub returns-then-is_empty-clause-run : goal.returns-then-is_empty-clause-run
+returns-then-is_empty-clause-run g c =
     let by = g.T.Rounds.answering c.args.answers.now in
     let nodes = g.T.Rounds.nodes c.args.answers.now in
     let v = view c.loop-turn.progress in
@@ -65,8 +65,8 @@ returns-then-is_empty g c =
       ends_clean by nodes c.loop-turn._turn _ v ms run _ x c.in-Ok.got c.args.turns pull.counts pull.is.0 c.if-got-eq0.true (record { pulls = c.requires.pulls; ends = c.requires.ends; failures = c.requires.source_failures }) c.loop-turn-test.true c.requires.turns c.done.result none c.done.ensures.messages c.done.ensures.written c.done.ensures.balances,
     )
 
-pub returns-then-got-eq0 : goal.returns-then-got-eq0
-returns-then-got-eq0 g c =
+pub returns-then-got-eq0-clause-run : goal.returns-then-got-eq0-clause-run
+returns-then-got-eq0-clause-run g c =
     let by = g.T.Rounds.answering c.args.answers.now in
     let nodes = g.T.Rounds.nodes c.args.answers.now in
     let v = view c.loop-turn.progress in
@@ -87,8 +87,8 @@ answer_all-requires-clause-small g c =
     let f = fed by nodes c.loop-turn._turn _ v ms run _ x (held_in c.pull.new.self) c.in-Ok.got pull.counts pull.is.0 pull.is.1 c.if-got-eq0.false rest (record { pulls = c.requires.pulls; ends = c.requires.ends; failures = c.requires.source_failures }) (omega (arith, c.loop-turn-test.true, c.requires.turns)) in
     small_fed by nodes c.loop-turn._turn _ v (held_in c.pull.new.self) ms f small (omega (arith, c.loop-turn-test.true, c.requires.turns))
 
-pub returns-in-Err-answer_all : goal.returns-in-Err-answer_all
-returns-in-Err-answer_all g c =
+pub returns-in-Err-answer_all-clause-run : goal.returns-in-Err-answer_all-clause-run
+returns-in-Err-answer_all-clause-run g c =
     let by = g.T.Rounds.answering c.args.answers.now in
     let nodes = g.T.Rounds.nodes c.args.answers.now in
     let v = view c.loop-turn.progress in
@@ -99,8 +99,8 @@ returns-in-Err-answer_all g c =
     let (ns, out, left, and, halted) = c.in-Err-answer_all.ensures.err in
     (got ++ x, put ++ out, Consumes-trans _ _ _ _ _ took more, Appends-trans _ _ _ _ _ held and, ends_halt by nodes c.loop-turn._turn _ _ ms f ns _ out left c.args.turns _ halted c.loop-turn-test.true)
 
-pub returns-in-Some : goal.returns-in-Some
-returns-in-Some g c =
+pub returns-in-Some-clause-run : goal.returns-in-Some-clause-run
+returns-in-Some-clause-run g c =
     let by = g.T.Rounds.answering c.args.answers.now in
     let nodes = g.T.Rounds.nodes c.args.answers.now in
     let v = view c.loop-turn.progress in
@@ -133,8 +133,8 @@ loop-turn-preserved g c =
       c.in-Ok-answer_all.ensures.small,
     )
 
-pub returns : goal.returns
-returns g c =
+pub returns-clause-run : goal.returns-clause-run
+returns-clause-run g c =
     let by = g.T.Rounds.answering c.args.answers.now in
     let nodes = g.T.Rounds.nodes c.args.answers.now in
     let v = view c.loop-turn.progress in

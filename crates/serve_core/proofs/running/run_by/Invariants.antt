@@ -3,7 +3,7 @@ use Rattle.std.specs.Io.KnownBytes.{Appends, Consumes}
 use Rattle.serve_core.specs.Buffers.{IsInRange}
 use Rattle.serve_core.specs.Steps.{view, IsSmall}
 use Rattle.serve_core.proofs.Traces.{IsRunning}
-use Rattle.serve_core.proofs.run.run_by.Given as goal
+use Rattle.serve_core.proofs.running.run_by.Given as goal
 
 -- all that is whole was answered
 abbrev pub invariant-loop-turn : goal.invariant-loop-turn

@@ -1,0 +1,52 @@
+//! How requests are shared out.
+
+ghost use Rattle.std.specs.Prelude.{◌≡◌, ◌≤◌};
+
+/// The most workers of a plan.
+pub const MAX_WORKERS: u32 = 64;
+
+/// The most requests of a batch.
+pub const MAX_BATCH: u32 = 256;
+
+/// How many workers answer, and how many requests a batch has.
+#[derive(Clone, Copy, Debug, PartialEq, Eq)]
+pub struct Plan {
+    workers: u32,
+    batch: u32,
+    ghost some_workers: { 1 ≤ workers },
+    ghost few_workers: { workers ≤ 64 },
+    ghost some_jobs: { 1 ≤ batch },
+    ghost few_jobs: { batch ≤ 256 },
+}
+
+impl Plan {
+    ghost use Rattle.reply_pool.specs.Plans.{IsPlan};
+
+    /// A plan of 1 to 64 workers and of batches of 1 to 256 requests; `None` for any other numbers.
+    pub fn new(workers: u32, batch: u32) -> Option<Plan>
+        ensures { IsPlan workers batch result }
+    {
+        if workers < 1 || MAX_WORKERS < workers || batch < 1 || MAX_BATCH < batch {
+            return None;
+        }
+        Some(Plan { workers, batch })
+    }
+
+    /// How many workers answer at most, from 1 to 64.
+    pub fn workers(&self) -> u32
+        ensures value { result ≡ self.now.workers }
+        ensures some { 1 ≤ result }
+        ensures few { result ≤ 64 }
+    {
+        self.workers
+    }
+
+    /// How many requests a batch has, from 1 to 256; the last of a round may have fewer.
+    pub fn batch(&self) -> u32
+        ensures value { result ≡ self.now.batch }
+        ensures some { 1 ≤ result }
+        ensures few { result ≤ 256 }
+    {
+        self.batch
+    }
+}

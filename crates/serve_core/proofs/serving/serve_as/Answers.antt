@@ -1,0 +1,13 @@
+use Rattle.std.proofs.Common.{[], inr, refl}
+use Rattle.std.proofs.KnownBytes.{Appends-nil, Consumes-nil}
+use Rattle.serve_core.proofs.Headline.{not_begun}
+use Rattle.serve_core.proofs.serving.serve_as.Goals as goal
+
+pub returns-in_err-table-clause-run : goal.returns-in_err-table-clause-run
+returns-in_err-table-clause-run g c = (
+  [],
+  [],
+  Consumes-nil _,
+  Appends-nil _,
+  inr (not_begun c.args.profile _ _ c.from_residual.result c.in_err-table.field-0.0 c.from_residual.ensures.1 c.in_err-table.ensures.err (record { got = refl; put = refl; source = refl; sink = refl })),
+)

@@ -1,0 +1,135 @@
+//! Streams over images.
+
+ghost use Rattle.std.specs.Prelude.{◌≡◌, ◌<◌, ◌≤◌, ◌^◌, ℕ, List, map, OnOk};
+ghost use Rattle.std.specs.Io.KnownBytes.{Appends, Consumes, IsAtEnd};
+ghost use Rattle.serve_core.specs.Serving.{trace};
+ghost use Rattle.serve_core.specs.Headline.{IsRunOver, Serves};
+
+use crate::done::Done;
+use crate::preparing::prepare_as;
+use crate::running::run_by;
+use crate::stop::Stop;
+use devices::{Sink, Source};
+use node_table::Table;
+use reply_pool::{Plan, Pool};
+use romfs_format::Profile;
+use stack_core::Gate;
+use std::alloc::Allocator;
+use std::thread::Threads;
+
+/// Serves the source's stream of requests over a table into the sink, in at most `turns` pulls of at most 65,536 bytes
+/// each. The bytes put are the replies to the stream, for every plan and however it is cut into pulls.
+///
+/// - `Ok`: the stream came to its end between two messages: nothing is left of it, and all replies are written and flushed.
+/// - `BadLength`, `CutOff`, `Read` and `Turns`: all replies to the whole messages that came are written and flushed.
+/// - `Write` and `Memory`: some of the first replies are written.
+///
+/// `Read` and `Write` come exactly where the source's or the sink's count of failures rose in this call. A fault of an
+/// image is never told. No pull follows an end, a bad length or a failure, and no device is called after memory was
+/// refused. With no turns it answers `Turns` at once.
+pub fn run<A: Allocator + Copy, S: Source, K: Sink, G: Gate>(
+    alloc: A,
+    table: &Table<A>,
+    source: &mut S,
+    sink: &mut K,
+    plan: Plan,
+    turns: u64,
+    gate: &G,
+) -> Result<Done<A>, Stop>
+    requires turns { turns ≤ 2 ^ 40 }
+    requires pulls { (S.counts source.old).pulls < 2 ^ 63 }
+    requires ends { (S.counts source.old).ends < 2 ^ 63 }
+    requires source_failures { (S.counts source.old).failures < 2 ^ 63 }
+    requires sink_failures { (K.counts sink.old).failures < 2 ^ 63 }
+    ensures run { (got : List ℕ) × (put : List ℕ)
+        × Consumes (S.left source.old) (S.left source.new) got
+        × Appends (K.held sink.old) (K.held sink.new) put
+        × IsRunOver table.now turns (trace got put
+        (S.counts source.old) (S.counts source.new)
+        (K.counts sink.old) (K.counts sink.new)) result }
+    ensures end { OnOk result (IsAtEnd (S.left source.new)) }
+{
+    run_by(alloc, &Pool::new(table, plan, gate), source, sink, turns)
+}
+
+/// Checks images by the usual profile's rules, stacks them, the lowest layer first, and serves the source's stream over
+/// them, as [`run`] does.
+///
+/// `Layers` comes exactly where there are no images or more than 128, and `Layer` names the lowest broken image and its
+/// fault. Then, and where memory runs out before the table stands, no device is touched.
+pub fn serve<
+    R: Threads + Sync,
+    A: Allocator + Copy + Send + Sync,
+    S: Source,
+    K: Sink,
+    G: Gate + Sync,
+>(
+    rt: &R,
+    alloc: A,
+    images: Vec<Vec<u8, A>, A>,
+    source: &mut S,
+    sink: &mut K,
+    plan: Plan,
+    turns: u64,
+    gate: &G,
+) -> Result<Done<A>, Stop>
+    requires turns { turns ≤ 2 ^ 40 }
+    requires pulls { (S.counts source.old).pulls < 2 ^ 63 }
+    requires ends { (S.counts source.old).ends < 2 ^ 63 }
+    requires source_failures { (S.counts source.old).failures < 2 ^ 63 }
+    requires sink_failures { (K.counts sink.old).failures < 2 ^ 63 }
+    ensures run { (got : List ℕ) × (put : List ℕ)
+        × Consumes (S.left source.old) (S.left source.new) got
+        × Appends (K.held sink.old) (K.held sink.new) put
+        × Serves Profile.Usual (map (λ image. image.items) images.items) turns (trace got put
+        (S.counts source.old) (S.counts source.new)
+        (K.counts sink.old) (K.counts sink.new)) result }
+    ensures end { OnOk result (IsAtEnd (S.left source.new)) }
+{
+    serve_as(
+        rt,
+        alloc,
+        images,
+        Profile::Usual,
+        source,
+        sink,
+        plan,
+        turns,
+        gate,
+    )
+}
+
+/// The same, by the rules of a profile.
+pub fn serve_as<
+    R: Threads + Sync,
+    A: Allocator + Copy + Send + Sync,
+    S: Source,
+    K: Sink,
+    G: Gate + Sync,
+>(
+    rt: &R,
+    alloc: A,
+    images: Vec<Vec<u8, A>, A>,
+    profile: Profile,
+    source: &mut S,
+    sink: &mut K,
+    plan: Plan,
+    turns: u64,
+    gate: &G,
+) -> Result<Done<A>, Stop>
+    requires turns { turns ≤ 2 ^ 40 }
+    requires pulls { (S.counts source.old).pulls < 2 ^ 63 }
+    requires ends { (S.counts source.old).ends < 2 ^ 63 }
+    requires source_failures { (S.counts source.old).failures < 2 ^ 63 }
+    requires sink_failures { (K.counts sink.old).failures < 2 ^ 63 }
+    ensures run { (got : List ℕ) × (put : List ℕ)
+        × Consumes (S.left source.old) (S.left source.new) got
+        × Appends (K.held sink.old) (K.held sink.new) put
+        × Serves profile (map (λ image. image.items) images.items) turns (trace got put
+        (S.counts source.old) (S.counts source.new)
+        (K.counts sink.old) (K.counts sink.new)) result }
+    ensures end { OnOk result (IsAtEnd (S.left source.new)) }
+{
+    let table = prepare_as(rt, alloc, images, profile, gate)?;
+    run(alloc, &table, source, sink, plan, turns, gate)
+}
