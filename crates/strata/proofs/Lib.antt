@@ -1,3 +1,4 @@
 pub mod Sizes
 pub mod Printed
+pub mod Served
 pub mod Ended

@@ -1,13 +1,32 @@
 -- What the program prints.
-use Rattle.std.specs.Prelude.{ℕ, ◌+◌, ◌-◌, List, [], ◌∷◌, ◌++◌, length, replicate, codes, string_bytes, false}
-use Rattle.std.specs.Fmt.{decimal, digits}
+use Rattle.std.specs.Prelude.{ℕ, ◌+◌, ◌-◌, ℤ, List, [], ◌∷◌, ◌++◌, length, replicate, codes, string_bytes, false}
+use Rattle.std.specs.Fmt.{decimal, digits, signed_decimal}
+use Rattle.romfs_format.specs.declared.rule.ImageFault.{ImageFault}
 use Rattle.romfs_format.specs.Texts.{text_of}
+use Rattle.serve_core.specs.declared.stop.Stop.{Stop}
+use Rattle.serve_core.specs.declared.stop.Stop.TheVariants.{Layer, Layers, BadLength, CutOff, Read, Write, Turns, Memory}
 use Rattle.strata.specs.declared.faults.Fault.{Fault}
-use Rattle.strata.specs.declared.faults.Fault.TheVariants.{Usage, ImageFile, RequestsFile, RepliesFile, Read, Write, Layers, Layer, Later, BadLength, CutOff, Memory}
+use Rattle.strata.specs.declared.faults.Fault.TheVariants.{Usage, ImageFile, RequestsFile, RepliesFile, BalancesFile, Broken, Stopped}
 
 -- a place in an image as eight hexadecimal digits: zeros (48) and then its own
 abbrev pub place_text : ℕ → List ℕ
 place_text place = replicate (8 - length (digits 16 false place)) 48 ++ digits 16 false place
+
+-- the line of an image that breaks a rule, by its number, without its end
+abbrev pub broken_text : ℕ → ImageFault → List ℕ
+broken_text image fault =
+    codes "layer " ++ (decimal image ++ (codes " at " ++ (place_text fault.place ++ (codes ": " ++ text_of fault.rule))))
+
+-- the line that says why serving stopped, without its end
+abbrev pub stop_text : Stop → List ℕ
+stop_text (Layer layer fault) = broken_text layer fault
+stop_text (Layers count) = codes "layers: " ++ (decimal count ++ codes ", allowed 1 to 128")
+stop_text (BadLength at len) = codes "request at " ++ (decimal at ++ (codes ": bad length " ++ decimal len))
+stop_text (CutOff at) = codes "request at " ++ (decimal at ++ codes ": cut off")
+stop_text Read = codes "read fault"
+stop_text Write = codes "write fault"
+stop_text Turns = codes "turns used up"
+stop_text Memory = codes "out of memory"
 
 -- the line of a fault, without its end
 abbrev pub fault_text : Fault → List ℕ
@@ -15,14 +34,9 @@ fault_text (Usage text) = string_bytes text
 fault_text (ImageFile image) = codes "image " ++ (decimal image ++ codes ": cannot be read")
 fault_text RequestsFile = codes "requests: cannot be opened"
 fault_text RepliesFile = codes "replies: cannot be created"
-fault_text Read = codes "read fault"
-fault_text Write = codes "write fault"
-fault_text (Layers count) = codes "layers: " ++ (decimal count ++ codes ", allowed 1 to 128")
-fault_text (Layer layer fault) = codes "layer " ++ (decimal layer ++ (codes " at " ++ (place_text fault.place ++ (codes ": " ++ text_of fault.rule))))
-fault_text Later = codes "layer 0: not served yet"
-fault_text (BadLength at len) = codes "request at " ++ (decimal at ++ (codes ": bad length " ++ decimal len))
-fault_text (CutOff at) = codes "request at " ++ (decimal at ++ codes ": cut off")
-fault_text Memory = codes "out of memory"
+fault_text BalancesFile = codes "balances: cannot be created"
+fault_text (Broken image fault) = broken_text image fault
+fault_text (Stopped stop) = stop_text stop
 
 -- the line of an image that was checked, by its number and its size in bytes
 abbrev pub size_line : ℕ → ℕ → List ℕ
@@ -32,3 +46,12 @@ size_line layer size = codes "layer " ++ (decimal layer ++ (codes ": " ++ (decim
 unfoldable pub size_lines : ℕ → List ℕ → List ℕ
 size_lines layer [] = []
 size_lines layer (size ∷ sizes) = size_line layer size ++ size_lines (layer + 1) sizes
+
+-- the line of a node's balance: its number, and how many lookups it was given and did not lose
+abbrev pub balance_line : ℕ → ℤ → List ℕ
+balance_line node balance = decimal node ++ (codes " " ++ (signed_decimal balance ++ codes "\n"))
+
+-- the lines of balances, of nodes numbered from this one on
+unfoldable pub balance_lines : ℕ → List ℤ → List ℕ
+balance_lines node [] = []
+balance_lines node (balance ∷ balances) = balance_line node balance ++ balance_lines (node + 1) balances

@@ -2,12 +2,13 @@
 
 ghost use Rattle.std.specs.Prelude.{◌≡◌, ◌++◌, ◌∷◌, [], OnOk};
 ghost use Rattle.std.specs.Io.KnownBytes.{Appends};
-ghost use Rattle.strata.specs.Faults.{status_of};
+ghost use Rattle.strata.specs.Faults.{status_of, stop_status};
 ghost use Rattle.strata.specs.Texts.{fault_text};
 
 use command_line::LineFault;
-use flat_server::First;
+use path_list::ListFault;
 use romfs_image::ImageFault;
+use serve_core::Stop;
 use std::alloc::{AllocError, AllocFailed};
 use std::io::Write;
 use std::{fmt, io};
@@ -23,22 +24,13 @@ pub enum Fault {
     RequestsFile,
     /// The file of replies cannot be created.
     RepliesFile,
-    /// A read of requests failed, or they do not end.
-    Read,
-    /// A write of replies or of the program's own lines failed.
-    Write,
-    /// There are more images than can be served, or none.
-    Layers { count: u64 },
-    /// This image, counted from 0, breaks a rule.
-    Layer { layer: u64, fault: ImageFault },
-    /// The image keeps every rule, but its root holds more than regular files, which is not served yet.
-    Later,
-    /// The message that begins at this place of the stream says a length that no message has.
-    BadLength { at: u64, len: u32 },
-    /// The stream ends inside the message that begins at this place.
-    CutOff { at: u64 },
-    /// Memory ran out.
-    Memory,
+    /// The file of balances cannot be created.
+    BalancesFile,
+    /// This image, counted from 0, breaks a rule, as a check of images by themselves has found.
+    Broken { image: u64, fault: ImageFault },
+    /// A stream was not served to its end, the images could not be stacked, a write of the program's own lines failed,
+    /// or memory ran out.
+    Stopped(Stop),
 }
 
 impl Fault {
@@ -47,12 +39,11 @@ impl Fault {
         ensures { result ≡ status_of self.now }
     {
         match self {
-            Fault::ImageFile { .. } | Fault::RequestsFile | Fault::RepliesFile => 1,
-            Fault::Read | Fault::Write => 1,
             Fault::Usage { .. } => 2,
-            Fault::Layers { .. } | Fault::Layer { .. } | Fault::Later => 3,
-            Fault::BadLength { .. } | Fault::CutOff { .. } => 4,
-            Fault::Memory => 5,
+            Fault::ImageFile { .. } => 1,
+            Fault::RequestsFile | Fault::RepliesFile | Fault::BalancesFile => 1,
+            Fault::Broken { .. } => 3,
+            Fault::Stopped(stop) => stop_status(*stop),
         }
     }
 
@@ -62,6 +53,18 @@ impl Fault {
     {
         writeln!(writer, "{self}")?;
         writer.flush()
+    }
+}
+
+// The exit status where serving stopped.
+fn stop_status(stop: Stop) -> u8
+    ensures { result ≡ stop_status stop }
+{
+    match stop {
+        Stop::Read | Stop::Write => 1,
+        Stop::Layers { .. } | Stop::Layer { .. } => 3,
+        Stop::BadLength { .. } | Stop::CutOff { .. } | Stop::Turns => 4,
+        Stop::Memory => 5,
     }
 }
 
@@ -76,16 +79,22 @@ impl fmt::Display for Fault {
             Fault::ImageFile { image } => write!(f, "image {image}: cannot be read"),
             Fault::RequestsFile => write!(f, "requests: cannot be opened"),
             Fault::RepliesFile => write!(f, "replies: cannot be created"),
-            Fault::Read => write!(f, "read fault"),
-            Fault::Write => write!(f, "write fault"),
-            Fault::Layers { count } => write!(f, "layers: {count}, allowed 1 to 128"),
-            Fault::Layer { layer, fault } => {
-                write!(f, "layer {layer} at {:08x}: {}", fault.place, fault.rule)
+            Fault::BalancesFile => write!(f, "balances: cannot be created"),
+            Fault::Broken { image, fault } => {
+                write!(f, "layer {image} at {:08x}: {}", fault.place, fault.rule)
             }
-            Fault::Later => write!(f, "layer 0: not served yet"),
-            Fault::BadLength { at, len } => write!(f, "request at {at}: bad length {len}"),
-            Fault::CutOff { at } => write!(f, "request at {at}: cut off"),
-            Fault::Memory => write!(f, "out of memory"),
+            Fault::Stopped(stop) => match *stop {
+                Stop::Layer { layer, fault } => {
+                    write!(f, "layer {layer} at {:08x}: {}", fault.place, fault.rule)
+                }
+                Stop::Layers { count } => write!(f, "layers: {count}, allowed 1 to 128"),
+                Stop::BadLength { at, len } => write!(f, "request at {at}: bad length {len}"),
+                Stop::CutOff { at } => write!(f, "request at {at}: cut off"),
+                Stop::Read => write!(f, "read fault"),
+                Stop::Write => write!(f, "write fault"),
+                Stop::Turns => write!(f, "turns used up"),
+                Stop::Memory => write!(f, "out of memory"),
+            },
         }
     }
 }
@@ -98,47 +107,50 @@ impl From<LineFault> for Fault {
     fn from(fault: LineFault) -> Fault {
         match fault {
             LineFault::Usage { text } => Fault::Usage { text },
-            LineFault::Memory => Fault::Memory,
+            LineFault::Memory => Fault::Stopped(Stop::Memory),
         }
     }
 }
 
-impl From<First> for Fault {
-    ghost use Rattle.strata.specs.Faults.{told_of};
+impl From<ListFault> for Fault {
+    ghost use Rattle.strata.specs.Faults.{list_told_of};
 
-    ghost from_gives = { λ first fault. fault ≡ told_of first };
+    ghost from_gives = { λ list fault. fault ≡ list_told_of list };
 
-    fn from(first: First) -> Fault {
-        match first {
-            First::Layers { count } => Fault::Layers { count },
-            First::Layer { layer, fault } => Fault::Layer {
-                layer: u64::from(layer),
-                fault,
-            },
-            First::Later => Fault::Later,
-            First::BadLength { at, len } => Fault::BadLength { at, len },
-            First::CutOff { at } => Fault::CutOff { at },
-            First::Memory => Fault::Memory,
+    fn from(fault: ListFault) -> Fault {
+        match fault {
+            ListFault::Write => Fault::Stopped(Stop::Write),
+            ListFault::Memory => Fault::Stopped(Stop::Memory),
         }
+    }
+}
+
+impl From<Stop> for Fault {
+    ghost use Rattle.strata.specs.declared.faults.Fault.TheVariants.{Stopped};
+
+    ghost from_gives = { λ stop fault. fault ≡ Stopped stop };
+
+    fn from(stop: Stop) -> Fault {
+        Fault::Stopped(stop)
     }
 }
 
 impl From<AllocError> for Fault {
-    ghost use Rattle.strata.specs.declared.faults.Fault.TheVariants.{Memory};
+    ghost use Rattle.strata.specs.Faults.{out_of_memory};
 
-    ghost from_gives = { λ _ fault. fault ≡ Memory };
+    ghost from_gives = { λ _ fault. fault ≡ out_of_memory };
 
     fn from(_error: AllocError) -> Fault {
-        Fault::Memory
+        Fault::Stopped(Stop::Memory)
     }
 }
 
 impl<T: Drop> From<AllocFailed<T>> for Fault {
-    ghost use Rattle.strata.specs.declared.faults.Fault.TheVariants.{Memory};
+    ghost use Rattle.strata.specs.Faults.{out_of_memory};
 
-    ghost from_gives = { λ _ fault. fault ≡ Memory };
+    ghost from_gives = { λ _ fault. fault ≡ out_of_memory };
 
     fn from(_error: AllocFailed<T>) -> Fault {
-        Fault::Memory
+        Fault::Stopped(Stop::Memory)
     }
 }

@@ -1,14 +1,21 @@
-//! The program `strata`: FUSE requests answered over romfs images.
+//! The program `strata`: FUSE requests answered over a stack of romfs images.
 //!
 //! [`command::command`] is the whole program over the words of its command line and its three standard streams. It
-//! stands on `command_line`, which reads the words, and on `flat_server`, which answers a stream. Its own parts are
-//! `paths`, which opens the files that a line names, `streams`, which reads and writes whole streams, and `faults`,
-//! which has a line and an exit status for each thing that can go wrong.
+//! stands on `command_line`, which reads the words, on `serve_core`, which checks images, stacks them and serves a
+//! stream of requests over them, and on `path_list`, which writes the paths that a stack shows.
+//!
+//! The private parts: `checking`, `listing` and `serving` are the three commands, `files` opens the files that a line
+//! names, `streams` reads and writes whole streams, and [`faults`] has a line and an exit status for each thing that can
+//! go wrong.
 #![tactic(auto)]
 
+mod balances;
+mod checking;
 pub mod command;
 pub mod faults;
-mod paths;
+mod files;
+mod listing;
+mod serving;
 mod streams;
 
 pub use faults::Fault;

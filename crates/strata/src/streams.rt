@@ -3,9 +3,10 @@
 ghost use Rattle.std.specs.Prelude.{◌≡◌, ◌++◌, IfSome, OnOk, IfOk, IfErr};
 ghost use Rattle.std.specs.Io.KnownBytes.{Appends, IsAtEnd};
 ghost use Rattle.strata.specs.declared.streams.ReadFault.TheVariants.{Memory};
-ghost use Rattle.strata.specs.declared.faults.Fault.TheVariants.{Write as WriteFault};
+ghost use Rattle.strata.specs.Faults.{write_failed};
 
 use crate::faults::Fault;
+use serve_core::Stop;
 use std::alloc::{AllocError, Allocator};
 use std::fs::OpenFile;
 use std::io::{Read, Write};
@@ -33,16 +34,6 @@ impl From<AllocError> for ReadFault {
     }
 }
 
-/// All that a reader has.
-pub fn read_stream<R: Read, A: Allocator>(alloc: A, reader: &mut R) -> Result<Vec<u8, A>, ReadFault>
-    ensures bytes { IfOk result (λ bytes. IfSome (R.remaining reader.old) (λ known. bytes.items ≡ known)) }
-    ensures end { OnOk result (IsAtEnd (R.remaining reader.new)) }
-{
-    let mut bytes = Vec::new(alloc);
-    read_to_end(reader, &mut bytes)?;
-    Ok(bytes)
-}
-
 /// All that an open file has. Where the file tells its length, memory is taken once.
 pub fn read_file<F: Read + OpenFile, A: Allocator>(
     alloc: A,
@@ -59,13 +50,13 @@ pub fn read_file<F: Read + OpenFile, A: Allocator>(
 /// Writes all of the bytes, and flushes them where there are any.
 pub fn write_out<W: Write>(writer: &mut W, bytes: &[u8]) -> Result<(), Fault>
     ensures ok { OnOk result (Appends (W.contents writer.old) (W.contents writer.new) bytes.now) }
-    ensures err { IfErr result (λ fault. fault ≡ WriteFault) }
+    ensures err { IfErr result (λ fault. fault ≡ write_failed) }
 {
     if bytes.is_empty() {
         return Ok(());
     }
-    writer.write_all(bytes).map_err(|_| Fault::Write)?;
-    writer.flush().map_err(|_| Fault::Write)
+    writer.write_all(bytes).map_err(|_| Fault::Stopped(Stop::Write))?;
+    writer.flush().map_err(|_| Fault::Stopped(Stop::Write))
 }
 
 // Appends what the reader has up to its end.

@@ -1,6 +1,6 @@
 use Rattle.std.proofs.Common.{string_bytes}
 use Rattle.strata.proofs.Printed.{IsPrinted}
-use Rattle.strata.proofs.command.lines_of.Given as goal
+use Rattle.strata.proofs.checking.lines_of.Given as goal
 
 -- the lines so far
 abbrev pub invariant-loop-layer : goal.invariant-loop-layer

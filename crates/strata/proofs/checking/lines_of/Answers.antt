@@ -1,6 +1,6 @@
 use Rattle.std.proofs.Common.{string_bytes}
 use Rattle.strata.proofs.Printed.{none_printed, one_more_printed, all_printed}
-use Rattle.strata.proofs.command.lines_of.Goals as goal
+use Rattle.strata.proofs.checking.lines_of.Goals as goal
 
 pub loop-layer-init : goal.loop-layer-init
 loop-layer-init g c = none_printed c.args.sizes.now (string_bytes c.new-lines.result) c.new-lines.ensures.bytes

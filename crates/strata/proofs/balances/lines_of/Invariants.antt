@@ -1,0 +1,7 @@
+use Rattle.std.proofs.Common.{string_bytes}
+use Rattle.strata.proofs.Printed.{IsTold}
+use Rattle.strata.proofs.balances.lines_of.Given as goal
+
+-- the lines so far
+abbrev pub invariant-loop-place : goal.invariant-loop-place
+invariant-loop-place g l = IsTold l.fn.balances l.place (string_bytes l.lines)

@@ -1,0 +1,82 @@
+//! The command `check`.
+
+ghost use Rattle.std.specs.Prelude.{◌≡◌, length, map, string_bytes, OnOk, IfOk, IfErr};
+ghost use Rattle.romfs_format.specs.Fields.{image};
+ghost use Rattle.romfs_format.specs.Rules.{IsSoundAs};
+ghost use Rattle.strata.specs.Faults.{AreSizes, IsFirstFault, IsImageFault};
+ghost use Rattle.strata.specs.Texts.{size_lines};
+ghost use Rattle.strata.specs.Ending.{AreGood, AreNotGood};
+
+use crate::faults::Fault;
+use crate::streams::write_out;
+use devices::{Sink, Spout};
+use romfs_format::Profile;
+use romfs_image::{CheckFault, Image};
+use serve_core::Stop;
+use std::alloc::{AllocError, Allocator};
+use std::io::Write;
+
+/// Checks the images in order, and writes a line for each if all are good. Else nothing is written.
+pub fn check<A: Allocator + Copy, O: Write>(
+    alloc: A,
+    images: Vec<Vec<u8, A>, A>,
+    profile: Profile,
+    output: &mut Spout<O>,
+) -> Result<(), Fault>
+    ensures done { OnOk result (AreGood profile (map (λ image. image.items) images.items)
+        (⟦<Spout<O> as Sink>⟧.held output.old) (⟦<Spout<O> as Sink>⟧.held output.new)) }
+    ensures stopped { IfErr result (λ fault. AreNotGood profile (map (λ image. image.items) images.items) fault
+        (⟦<Spout<O> as Sink>⟧.held output.old) (⟦<Spout<O> as Sink>⟧.held output.new)) }
+{
+    let sizes = checked_sizes(alloc, images, profile)?;
+    let lines = lines_of(alloc, sizes.as_slice())?;
+    write_out(output, lines.as_bytes())
+}
+
+// A line for each of these sizes in bytes, by the number of its image.
+fn lines_of<A: Allocator>(alloc: A, sizes: &[u32]) -> Result<String<A>, AllocError>
+    ensures { IfOk result (λ lines. string_bytes lines ≡ size_lines 0 sizes.now) }
+{
+    let mut lines = String::new(alloc);
+    for (layer, size) in sizes.iter().enumerate() {
+        writeln!(lines, "layer {layer}: {size} bytes")?;
+    }
+    Ok(lines)
+}
+
+// How many bytes of each image are accessible, if all are good. Else it names the fault of the first that is not.
+fn checked_sizes<A: Allocator + Copy>(
+    alloc: A,
+    images: Vec<Vec<u8, A>, A>,
+    profile: Profile,
+) -> Result<Vec<u32, A>, Fault>
+    ensures ok { IfOk result (λ sizes. AreSizes profile (map (λ image. image.items) images.items) sizes.items) }
+    ensures err { IfErr result (λ fault. IsFirstFault profile (map (λ image. image.items) images.items) fault) }
+{
+    let mut sizes = Vec::with_capacity(alloc, images.len())?;
+    for bytes in images {
+        let image = sizes.len() as u64;
+        sizes.push(checked_size(alloc, image, bytes, profile)?)?;
+    }
+    Ok(sizes)
+}
+
+// How many bytes of an image are accessible.
+fn checked_size<A: Allocator + Copy>(
+    alloc: A,
+    number: u64,
+    bytes: Vec<u8, A>,
+    profile: Profile,
+) -> Result<u32, Fault>
+    ensures ok { IfOk result (λ full. (full ≡ length (image bytes.items)) × IsSoundAs profile bytes.items) }
+    ensures err { IfErr result (λ fault. IsImageFault profile number bytes.items fault) }
+{
+    match Image::check_as(alloc, bytes, profile) {
+        Ok(image) => Ok(image.full()),
+        Err(CheckFault::Broken(fault)) => Err(Fault::Broken {
+            image: number,
+            fault,
+        }),
+        Err(CheckFault::Memory) => Err(Fault::Stopped(Stop::Memory)),
+    }
+}
