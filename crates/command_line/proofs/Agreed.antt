@@ -1,0 +1,49 @@
+-- What the words of a line settle.
+use Rattle.std.proofs.Common.{◌≡◌, ◌∙◌, ◌==◌, ℕ, cond, ap, refl, sym, subst, List, Option, Some, unwrap_or, option_map, slice_index, inl, inr}
+use Rattle.clap.specs.Walk.{Row, Text}
+use Rattle.command_line.specs.declared.options.Line.{Line}
+use Rattle.command_line.specs.declared.options.LineFault.{LineFault}
+use Rattle.command_line.specs.declared.options.LineFault.TheVariants.{Memory, Usage}
+use Rattle.command_line.specs.declared.options.Verb.{Verb}
+use Rattle.command_line.specs.declared.options.Verb.TheVariants as verbs
+use Rattle.command_line.specs.CommandLine.{IsLineFault, IsLineOf, IsNumbered, Says, command_in, parts_of, verb_word}
+use Rattle.command_line.specs.LineLaws.{LinesAgree, LinesAreFaultless}
+
+-- the verb whose word begins with this letter
+verb_by : ℕ → Verb
+verb_by letter = cond (letter == 115) verbs.Serve (cond (letter == 99) verbs.Check verbs.List)
+
+verb_is : (verb : Verb) → verb_by (slice_index (verb_word verb) 0) ≡ verb
+unfolding verb_by
+verb_is verbs.Serve = refl
+verb_is verbs.Check = refl
+verb_is verbs.List = refl
+
+-- each verb has its own word
+pub one_word : (a b : Verb) → verb_word a ≡ verb_word b → a ≡ b
+one_word a b e = sym (verb_is a) ∙ ap (λ word. verb_by (slice_index word 0)) e ∙ verb_is b
+
+-- words name one command
+pub one_name : (o : Option (Text × List Row)) (a b : Text) (r s : List Row) → o ≡ Some (a, r) → o ≡ Some (b, s) → a ≡ b
+one_name o a b r s e f = ap (λ o. unwrap_or (option_map (λ (p : Text × List Row). p.0) o) b) (sym e ∙ f)
+
+pub same_rows : (o : Option (Text × List Row)) (a b : Text) (r s : List Row) → o ≡ Some (a, r) → o ≡ Some (b, s) → r ≡ s
+same_rows o a b r s e f = ap (λ o. unwrap_or (option_map (λ (p : Text × List Row). p.1) o) s) (sym e ∙ f)
+
+pub lines_agree : LinesAgree
+lines_agree = record {
+  both_say = λ words a b is_a is_b.
+      let verbs_are = one_word b.verb a.verb (one_name (command_in words) _ _ is_b.rows is_a.rows is_b.command is_a.command) in
+      let rows_are = same_rows (command_in words) _ _ is_b.rows is_a.rows is_b.command is_a.command in
+      (parts_of a.verb is_a.rows, is_a.says, subst (λ v. Says b (parts_of v is_a.rows)) verbs_are (subst (λ rows. Says b (parts_of b.verb rows)) rows_are is_b.says));
+}
+
+faultless : (words : List Text) (line : Line) (fault : LineFault) → IsLineOf words line → IsLineFault words fault → fault ≡ Memory
+faultless words line Memory is told = refl
+faultless words line (Usage text) is told = elim told [
+  | inl refused ↦ absurd (refused is.taken)
+  | inr bad ↦ absurd (bad.wrong (subst IsNumbered (same_rows (command_in words) _ _ is.rows bad.rows is.command bad.command) is.numbered))
+]
+
+pub lines_are_faultless : LinesAreFaultless
+lines_are_faultless = record { only_memory = faultless }

@@ -1,0 +1,108 @@
+//! The commands of the program, their options and words, as `clap` takes them.
+
+ghost use Rattle.std.specs.Prelude.{◌≡◌, false, IfOk};
+ghost use Rattle.clap.specs.Words.{app_of, rule_of};
+ghost use Rattle.command_line.specs.CommandLine.{image_words, look_command, program, serve_command, strict_flag, value_option};
+
+use clap::{Arg, ArgAction, Command};
+use std::alloc::{AllocError, Global};
+
+/// The program, with its commands.
+pub(crate) fn program<'a>(alloc: Global) -> Result<Command<'a>, AllocError>
+    ensures { IfOk result (λ command. app_of command ≡ program) }
+{
+    Command::new(alloc, "strata")
+        .no_binary_name(true)
+        .bin_name("strata")?
+        .about("Serves stacked romfs images by the FUSE protocol")
+        .subcommand_required(true)
+        .subcommand(serve(alloc)?)?
+        .subcommand(look(alloc, "check", "Checks images, and prints their sizes")?)?
+        .subcommand(look(
+            alloc,
+            "list",
+            "Prints the paths that the stacked images show",
+        )?)
+}
+
+fn serve<'a>(alloc: Global) -> Result<Command<'a>, AllocError>
+    ensures { IfOk result (λ command. app_of command ≡ serve_command) }
+{
+    Command::new(alloc, "serve")
+        .about("Answers FUSE requests over the stacked images")
+        .arg(option(
+            alloc,
+            "workers",
+            "N",
+            "At most N workers, from 1 to 64 [default: 4]",
+        ))?
+        .arg(option(
+            alloc,
+            "batch",
+            "N",
+            "At most N requests a batch, from 1 to 256 [default: 16]",
+        ))?
+        .arg(option(
+            alloc,
+            "requests",
+            "FILE",
+            "Where requests come from, in place of standard input",
+        ))?
+        .arg(option(
+            alloc,
+            "replies",
+            "FILE",
+            "Where replies go, in place of standard output",
+        ))?
+        .arg(option(
+            alloc,
+            "balances",
+            "FILE",
+            "Where the nodes' balances of look-ups go",
+        ))?
+        .arg(strict(alloc))?
+        .arg(images(alloc))
+}
+
+// A command that looks at images.
+fn look<'a>(alloc: Global, name: &'a str, about: &'a str) -> Result<Command<'a>, AllocError>
+    ensures { IfOk result (λ command. app_of command ≡ look_command name.entry.now) }
+{
+    Command::new(alloc, name)
+        .about(about)
+        .arg(strict(alloc))?
+        .arg(images(alloc))
+}
+
+// An option with one value.
+fn option<'a>(alloc: Global, name: &'a str, value: &'a str, help: &'a str) -> Arg<'a>
+    ensures rule { rule_of result ≡ value_option name.entry.now }
+    ensures local { result.global ≡ false }
+{
+    Arg::new(alloc, name)
+        .long(name)
+        .value_name(value)
+        .help(help)
+}
+
+fn strict<'a>(alloc: Global) -> Arg<'a>
+    ensures rule { rule_of result ≡ strict_flag }
+    ensures local { result.global ≡ false }
+{
+    Arg::new(alloc, "strict")
+        .long("strict")
+        .action(ArgAction::SetTrue)
+        .help("Holds images to the strict profile")
+}
+
+fn images<'a>(alloc: Global) -> Arg<'a>
+    ensures rule { rule_of result ≡ image_words }
+    ensures local { result.global ≡ false }
+{
+    Arg::new(alloc, "image")
+        .value_name("IMAGE")
+        .required(true)
+        .num_args(1..)
+        .action(ArgAction::Append)
+        .help("The files of romfs images, the lowest layer first")
+}

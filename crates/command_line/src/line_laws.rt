@@ -1,0 +1,15 @@
+//! Laws of command lines.
+
+ghost use Rattle.command_line.specs.LineLaws.{LinesAgree, LinesAreFaultless};
+
+/// Words have one line at most: two lines of the same words say the same.
+#[tactic(auto, using(crate::proofs::Agreed::lines_agree))]
+pub fn lines_agree()
+    ensures { LinesAgree }
+{}
+
+/// Words that have a line meet no fault but want of memory.
+#[tactic(auto, using(crate::proofs::Agreed::lines_are_faultless))]
+pub fn lines_are_faultless()
+    ensures { LinesAreFaultless }
+{}
