@@ -2,9 +2,8 @@
 use Rattle.std.specs.Borrow.{Bor}
 use Rattle.std.specs.Prelude.{Box}
 use Rattle.std.specs.Box.{box_value}
-use Rattle.std.specs.Option.{option_map_or}
 use Rattle.std.proofs.lemmas.List.{length-map}
-use Rattle.std.proofs.Common.{◌≡◌, ◌≤◌, ◌+◌, ◌∙◌, ◌⊎◌, ◌≢◌, ◌∷◌, ℕ, Bool, arith, codes, slice_index, is_some, length, option_map, unwrap_or, Option, Some, None, Result, Ok, Err, IfOk, IfSome, MatchOption, true, false, refl, sym, ap, ap₂, subst, List, [], inl, inr}
+use Rattle.std.proofs.Common.{◌≡◌, ◌≤◌, ◌∙◌, ◌⊎◌, ◌≢◌, ◌∷◌, ℕ, Bool, arith, codes, is_some, length, option_map, unwrap_or, Option, Some, None, Result, Ok, Err, IfOk, IfSome, MatchOption, true, false, refl, sym, ap, ap₂, subst, List, [], inl, inr}
 use Rattle.clap.specs.Kinds.{HasKind, IsAmong, Kinds}
 use Rattle.clap.specs.Faults.{fault_of, is_simple_and_free}
 use Rattle.clap.specs.Simple.{App, HasMatchesOf, is_simple, subcommand_of, subcommand_rows, subcommand_rows_of}
@@ -27,7 +26,7 @@ use Rattle.command_line.specs.declared.options.LineFault.TheVariants.{Usage, Mem
 use Rattle.command_line.specs.declared.options.Verb.{Verb}
 use Rattle.command_line.specs.declared.options.Verb.TheVariants as verbs
 use Rattle.command_line.proofs.Taken.{taken_names}
-use Rattle.command_line.specs.CommandLine.{IsFilled, IsLineOf, IsLineFault, IsNumbered, IsTaken, Says, command_in, faults_in, parts_of, program, verb_word}
+use Rattle.command_line.specs.CommandLine.{HoldsRows, IsFilled, IsLineOf, IsLineFault, IsNumberOf, IsNumberTo, IsNumbered, IsTaken, command_in, faults_in, most_batch, most_workers, number_or, program, verb_word}
 
 program_is_simple : is_simple program ≡ true
 program_is_simple = refl
@@ -77,14 +76,6 @@ pub one_or_more : (rows : List Row) (images : List (Bor Text)) → IsFilled rows
 one_or_more rows images filled are =
     let same : texts images ≡ filled.first ∷ filled.rest = ap (λ o. unwrap_or o []) (are ∙ filled.images) in
     omega (arith, length-map {A = Bor Text} images (λ s. s.now), ap length same)
-
--- the value of an option, where it is given
-pub none_given : (f : Found) (id : Text) (o : Option (Bor Text)) → option_map (λ s. s.now) o ≡ first_value f id → o ≡ None → first_of id (rows_of f) ≡ None
-none_given f id o are is = sym (are ∙ first_value-rows f id) ∙ ap (option_map (λ (s : Bor Text). s.now)) is
-
-pub some_given : (f : Found) (id : Text) (o : Option (Bor Text)) (text : Bor Text) → option_map (λ s. s.now) o ≡ first_value f id → o ≡ Some text
-    → first_of id (rows_of f) ≡ Some text.now
-some_given f id o text are is = sym (are ∙ first_value-rows f id) ∙ ap (option_map (λ (s : Bor Text). s.now)) is
 
 -- the flag, by what it reads
 pub flag_is : (f : Found) (flag : Bool) → IsFilled (rows_of f) → (one_text f (codes "strict") ≡ None → flag ≡ false)
@@ -145,17 +136,42 @@ some_command m words taken is =
 
 -- ---- the line
 
--- a line that says what the rows give is the line of the words
+-- the numbers, as the rows give them
+pub numbers_are : (f : Found) (workers batch : ℕ) → IsNumberOf most_workers 4 (first_value f (codes "workers")) workers
+    → IsNumberOf most_batch 16 (first_value f (codes "batch")) batch
+    → IsNumbered (rows_of f) × (workers ≡ number_or 4 (first_of (codes "workers") (rows_of f))) × (batch ≡ number_or 16 (first_of (codes "batch") (rows_of f)))
+numbers_are f workers batch w b =
+    let w_is = first_value-rows f (codes "workers") in
+    let b_is = first_value-rows f (codes "batch") in (
+      record {
+        workers = subst (λ o. IfSome o (IsNumberTo most_workers)) w_is w.numbered;
+        batch = subst (λ o. IfSome o (IsNumberTo most_batch)) b_is b.numbered;
+      },
+      w.value ∙ ap (number_or 4) w_is,
+      b.value ∙ ap (number_or 16) b_is,
+    )
+
+-- and a fault of one of them
+pub workers_fault : (f : Found) (fault : LineFault) → (fault ≡ Memory) ⊎ (¬ IfSome (first_value f (codes "workers")) (IsNumberTo most_workers))
+    → (fault ≡ Memory) ⊎ (¬ IsNumbered (rows_of f))
+workers_fault f fault (inl memory) = inl memory
+workers_fault f fault (inr bad) = inr (λ numbered. bad (subst (λ o. IfSome o (IsNumberTo most_workers)) (sym (first_value-rows f (codes "workers"))) numbered.workers))
+
+pub batch_fault : (f : Found) (fault : LineFault) → (fault ≡ Memory) ⊎ (¬ IfSome (first_value f (codes "batch")) (IsNumberTo most_batch))
+    → (fault ≡ Memory) ⊎ (¬ IsNumbered (rows_of f))
+batch_fault f fault (inl memory) = inl memory
+batch_fault f fault (inr bad) = inr (λ numbered. bad (subst (λ o. IfSome o (IsNumberTo most_batch)) (sym (first_value-rows f (codes "batch"))) numbered.batch))
+
+-- a line that holds the rows of a command is the line of the words
 pub line_is : (words : List Text) (name : Text) (rows : List Row) (verb : Verb) (r : Result Line LineFault) → IsTaken words → command_in words ≡ Some (name, rows) → verb_word verb ≡ name
-    → IfOk r (λ _. IsNumbered rows) → IfOk r (λ line. Says line (parts_of verb rows)) → IfOk r (IsLineOf words)
-line_is words name rows verb (Ok line) taken command named numbered says = record {
+    → IfOk r (λ line. line.verb ≡ verb) → IfOk r (HoldsRows rows) → IfOk r (IsLineOf words)
+line_is words name rows verb (Ok line) taken command named verb_is holds = record {
   taken = taken;
   rows = rows;
-  command = command ∙ ap (λ n. Some (n, rows)) (sym (ap verb_word says.verb ∙ named));
-  numbered = numbered;
-  says = subst (λ v. Says line (parts_of v rows)) (sym says.verb) says;
+  command = command ∙ ap (λ n. Some (n, rows)) (sym (ap verb_word verb_is ∙ named));
+  holds = holds;
 }
-line_is words name rows verb (Err fault) taken command named numbered says = tt
+line_is words name rows verb (Err fault) taken command named verb_is holds = tt
 
 -- and a fault of its numbers is a fault of the words
 pub fault_is : (words : List Text) (name : Text) (rows : List Row) (fault : LineFault) → IsTaken words → command_in words ≡ Some (name, rows)

@@ -1,6 +1,6 @@
 -- Words that are a command of the program name one of its commands, whose rows are filled.
-use Rattle.std.proofs.Common.{◌≡◌, ◌||◌, ◌∙◌, Bool, cond, codes, true, false, refl, sym, ap, List, [], ◌∷◌, Option, Some, None, is_some, true≢false, option_map}
-use Rattle.std.specs.List.{fold, list_all, slice_index_or}
+use Rattle.std.proofs.Common.{◌≡◌, ◌||◌, ◌∙◌, Bool, cond, codes, true, false, refl, sym, List, [], ◌∷◌, Option, Some, None, is_some, true≢false, option_map}
+use Rattle.std.specs.List.{list_all, slice_index_or}
 use Rattle.std.specs.Option.{option_map_or}
 use Rattle.std.specs.Str.{bytes_eq}
 use Rattle.std.proofs.lemmas.Slice.Eq.{bytes_eq-Decides}

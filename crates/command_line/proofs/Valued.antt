@@ -12,7 +12,7 @@ use Rattle.clap.specs.Kinds.{range_kinds}
 use Rattle.clap.specs.Faults.{action_fault, repeat_fault, use_fault, values_fault}
 use Rattle.clap.specs.Takes.{is_given}
 use Rattle.clap.specs.Values.{bool_text, read_as}
-use Rattle.clap.specs.Walk.{Row, Rule, Text, action_of, all_of, at_row, default_rows, has_row, more_values, most_values, one_of, reading_by, row_text, stronger, used, used_as, values_or_missing, with_default, with_values, without}
+use Rattle.clap.specs.Walk.{Row, Rule, Text, action_of, at_row, default_rows, has_row, more_values, most_values, reading_by, row_text, stronger, used, used_as, values_or_missing, with_default, with_values, without}
 use Rattle.clap.specs.declared.builder.action.ArgAction.{ArgAction}
 use Rattle.clap.specs.declared.builder.action.ArgAction.TheVariants as action
 use Rattle.clap.specs.declared.builder.value_parser.Reading.{Reading}

@@ -1,5 +1,5 @@
 -- The worked command lines, by computation.
-use Rattle.std.proofs.Common.{◌≡◌, ◌∙◌, ◌&&◌, ◌<◌, ◌≤◌, ◌+◌, ℕ, Bool, arith, refl, sym, subst, codes, true, false, true≢false, nat_lt, nat_le, length, unwrap_or, option_map, List, [], ◌∷◌, Option, Some, None, IfSome}
+use Rattle.std.proofs.Common.{◌≡◌, ◌∙◌, ◌&&◌, ℕ, Bool, refl, sym, subst, codes, true, false, true≢false, nat_lt, nat_le, length, unwrap_or, option_map, List, [], ◌∷◌, Option, Some, None, IfSome}
 use Rattle.std.specs.Char.{digit_value}
 use Rattle.std.specs.Str.Parse.{AllDigits, digits_value}
 use Rattle.std.proofs.lemmas.Bool.{le-leb, leb-true, lt-ltb, ltb-true}
@@ -71,7 +71,7 @@ reads text verb rows parts taken command numbers are = record {
   says = λ line is.
       let verb_is = one_word line.verb verb (one_name (command_in (words_of text)) _ _ is.rows rows is.command command) in
       let rows_are = same_rows (command_in (words_of text)) _ _ is.rows rows is.command command in
-      subst (Says line) are (subst (λ v. Says line (parts_of v rows)) verb_is (subst (λ rows. Says line (parts_of line.verb rows)) rows_are is.says));
+      subst (Says line) are (subst (λ v. Says line (parts_of v rows)) verb_is (subst (λ rows. Says line (parts_of line.verb rows)) rows_are is.holds.says));
 }
 
 misnumbers : (text : Text) (verb : Verb) (rows : List Row) → IsTaken (words_of text) → command_in (words_of text) ≡ Some (verb_word verb, rows)

@@ -1,5 +1,6 @@
 -- The command line: the program as `clap` sees it, and what the words after its name say.
-use Rattle.std.specs.Prelude.{◌≡◌, ◌⊎◌, ℕ, Bool, List, Option, [], ◌∷◌, Some, IfSome, MatchOption, true, false, codes, option_map, unwrap_or}
+use Rattle.std.specs.Prelude.{◌≡◌, ◌⊎◌, ℕ, Bool, true, false, List, [], ◌∷◌, codes}
+use Rattle.std.specs.Prelude.{Option, Some, IfSome, MatchOption, option_map, unwrap_or}
 use Rattle.std.specs.Int.{IsInRange}
 use Rattle.std.specs.Option.{option_map_or}
 use Rattle.std.specs.Str.Parse.{IsNumeral, digits_value}
@@ -25,7 +26,10 @@ value_option name = record (new_rule name) { long = Some name; value_names = 1 }
 
 -- the flag `--strict`
 abbrev pub strict_flag : Rule
-strict_flag = record (new_rule (codes "strict")) { long = Some (codes "strict"); action = Some SetTrue }
+strict_flag = record (new_rule (codes "strict")) {
+  long = Some (codes "strict");
+  action = Some SetTrue;
+}
 
 -- the words IMAGE, one or more
 abbrev pub image_words : Rule
@@ -43,19 +47,23 @@ command_with name rules = on_top (λ s. record s { rules = rules }) (new_app nam
 -- the command `serve`
 abbrev pub serve_command : App
 serve_command = command_with (codes "serve") (
-    value_option (codes "workers") ∷ value_option (codes "batch")
-    ∷ value_option (codes "requests") ∷ value_option (codes "replies") ∷ value_option (codes "balances")
-    ∷ strict_flag ∷ image_words ∷ [])
+    value_option (codes "workers") ∷ value_option (codes "batch") ∷ value_option (codes "requests")
+    ∷ value_option (codes "replies") ∷ value_option (codes "balances") ∷ strict_flag ∷ image_words
+    ∷ [])
 
--- the command `check` or `list`
-abbrev pub look_command : Text → App
-look_command name = command_with name (strict_flag ∷ image_words ∷ [])
+-- a command over images, as `check` and `list`
+abbrev pub images_command : Text → App
+images_command name = command_with name (strict_flag ∷ image_words ∷ [])
 
--- the program, which wants one of the three, and whose words do not begin with its own name
+-- the program's name, which is no word of the line; it wants a command
+abbrev pub top_command : App
+top_command = on_top (λ s. record s { no_binary_name = true; subcommand_required = true })
+    (new_app (codes "strata"))
+
+-- the program, with its three commands
 abbrev pub program : App
-program = with_subcommand (with_subcommand (with_subcommand
-    (on_top (λ s. record s { no_binary_name = true; subcommand_required = true }) (new_app (codes "strata")))
-    serve_command.top) (look_command (codes "check")).top) (look_command (codes "list")).top
+program = with_subcommand (with_subcommand (with_subcommand top_command serve_command.top)
+    (images_command (codes "check")).top) (images_command (codes "list")).top
 
 -- what is wrong with the words, by the kinds of `clap`
 unfoldable pub faults_in : List Text → Kinds
@@ -86,6 +94,11 @@ IsNumberTo most text = IsNumeral 10 text × IsInRange 1 most (digits_value 10 te
 abbrev pub number_or : ℕ → Option Text → ℕ
 number_or default text = option_map_or (digits_value 10) text default
 
+-- the number of an option: what it is given, from 1 to `most`, or else the default
+pub record IsNumberOf (most default : ℕ) (given : Option Text) (number : ℕ) : Type 0 where
+  pub numbered : IfSome given (IsNumberTo most)
+  pub value : number ≡ number_or default given
+
 -- the numbers that the rows of a command give are numbers in their ranges
 pub record IsNumbered (rows : List Row) : Type 0 where
   pub workers : IfSome (first_of (codes "workers") rows) (IsNumberTo most_workers)
@@ -110,7 +123,8 @@ pub record Parts : Type 0 where
   pub balances : Option Text
   pub images : List Text
 
--- what the rows of a command give: the flag, the first value of each option or else its default, and all images in order
+-- what the rows of a command give: whether there is the flag, the first value of each option or
+-- else its default, and all images in order
 abbrev pub parts_of : Verb → List Row → Parts
 parts_of verb rows = record {
   verb = verb;
@@ -134,13 +148,17 @@ pub record Says (line : Line) (parts : Parts) : Type 0 where
   pub balances : option_map (λ file. file.now) line.balances ≡ parts.balances
   pub images : texts line.images.items ≡ parts.images
 
--- the words are a command of the program, its numbers are in their ranges, and the line says the same
+-- the line says what the rows of a command give, whose numbers are in their ranges
+pub record HoldsRows (rows : List Row) (line : Line) : Type 0 where
+  pub numbered : IsNumbered rows
+  pub says : Says line (parts_of line.verb rows)
+
+-- the words are a command of the program, and the line says the same
 pub record IsLineOf (words : List Text) (line : Line) : Type 0 where
   pub taken : IsTaken words
   pub rows : List Row
   pub command : command_in words ≡ Some (verb_word line.verb, rows)
-  pub numbered : IsNumbered rows
-  pub says : Says line (parts_of line.verb rows)
+  pub holds : HoldsRows rows line
 
 -- the numbers of a line are in their ranges
 pub record IsInLimits (line : Line) : Type 0 where
@@ -155,7 +173,7 @@ pub record IsMisnumbered (words : List Text) : Type 0 where
   pub command : command_in words ≡ Some (name, rows)
   pub wrong : ¬ IsNumbered rows
 
--- the words are no command of the program, or memory ran out
+-- the words are no command of the program, or misnumbered, or memory ran out
 abbrev pub IsLineFault : List Text → LineFault → Type 0
 IsLineFault words (Usage text) = (¬ IsTaken words) ⊎ IsMisnumbered words
 IsLineFault words Memory = Unit {0}

@@ -1,6 +1,8 @@
 -- Worked examples: command lines, and what they say or why they are refused.
-use Rattle.std.specs.Prelude.{◌≡◌, ◌==◌, if◌then◌else◌, ◌++◌, List, [], ◌∷◌, Option, Some, None, true, false, codes}
+use Rattle.std.specs.Prelude.{◌≡◌, ◌==◌, if◌then◌else◌, true, false, codes}
+use Rattle.std.specs.Prelude.{List, [], ◌∷◌, ◌++◌, Some, None}
 use Rattle.clap.specs.Walk.{Text}
+use Rattle.clap.specs.declared.error.kind.ErrorKind.{ErrorKind}
 use Rattle.clap.specs.declared.error.kind.ErrorKind.TheVariants as kind
 use Rattle.command_line.specs.declared.options.Line.{Line}
 use Rattle.command_line.specs.declared.options.Verb.{Verb}
@@ -38,46 +40,65 @@ pub record ReadsAs (text : Text) (parts : Parts) : Type 0 where
 pub record TakenLines : Type 0 where
   pub check_one : ReadsAs (codes "check e.img") (plain verbs.Check (codes "e.img"))
   pub check_two : ReadsAs (codes "check b a") (plain verbs.Check (codes "b a"))
-  pub check_strict : ReadsAs (codes "check --strict a") (record (plain verbs.Check (codes "a")) { strict = true })
+  pub check_strict : ReadsAs (codes "check --strict a")
+      (record (plain verbs.Check (codes "a")) { strict = true })
   pub list_one : ReadsAs (codes "list f.img") (plain verbs.List (codes "f.img"))
-  pub list_strict : ReadsAs (codes "list a b --strict") (record (plain verbs.List (codes "a b")) { strict = true })
+  pub list_strict : ReadsAs (codes "list a b --strict")
+      (record (plain verbs.List (codes "a b")) { strict = true })
   pub serve_one : ReadsAs (codes "serve f.img") (plain verbs.Serve (codes "f.img"))
-  pub serve_layers : ReadsAs (codes "serve --replies r f g e") (record (plain verbs.Serve (codes "f g e")) { replies = Some (codes "r") })
-  pub all_options : ReadsAs (codes "serve --workers 2 --batch 3 --requests q --replies r --balances b --strict e f") (record (plain verbs.Serve (codes "e f")) {
-    strict = true;
-    workers = 2;
-    batch = 3;
-    requests = Some (codes "q");
-    replies = Some (codes "r");
-    balances = Some (codes "b");
-  })
-  pub attached : ReadsAs (codes "serve --workers=5 --requests=q f") (record (plain verbs.Serve (codes "f")) { workers = 5; requests = Some (codes "q") })
-  pub least_numbers : ReadsAs (codes "serve --workers 1 --batch 1 f") (record (plain verbs.Serve (codes "f")) { workers = 1; batch = 1 })
-  pub most_numbers : ReadsAs (codes "serve --workers 64 --batch 256 f") (record (plain verbs.Serve (codes "f")) { workers = 64; batch = 256 })
-  pub leading_zeros : ReadsAs (codes "serve --workers 0008 --batch 00000000000000000000256 f") (record (plain verbs.Serve (codes "f")) { workers = 8; batch = 256 })
-  pub options_last : ReadsAs (codes "serve f g --balances b") (record (plain verbs.Serve (codes "f g")) { balances = Some (codes "b") })
-  pub option_between : ReadsAs (codes "serve f --batch 7 g") (record (plain verbs.Serve (codes "f g")) { batch = 7 })
-  pub after_dashes : ReadsAs (codes "check -- --help --strict") (plain verbs.Check (codes "--help --strict"))
+  pub serve_layers : ReadsAs (codes "serve --replies r f g e")
+      (record (plain verbs.Serve (codes "f g e")) { replies = Some (codes "r") })
+  pub all_options : ReadsAs
+      (codes "serve --workers 2 --batch 3 --requests q --replies r --balances b --strict e f")
+      (record {
+        verb = verbs.Serve;
+        strict = true;
+        workers = 2;
+        batch = 3;
+        requests = Some (codes "q");
+        replies = Some (codes "r");
+        balances = Some (codes "b");
+        images = codes "e" ∷ codes "f" ∷ [];
+      })
+  pub attached : ReadsAs (codes "serve --workers=5 --requests=q f")
+      (record (plain verbs.Serve (codes "f")) { workers = 5; requests = Some (codes "q") })
+  pub least_numbers : ReadsAs (codes "serve --workers 1 --batch 1 f")
+      (record (plain verbs.Serve (codes "f")) { workers = 1; batch = 1 })
+  pub most_numbers : ReadsAs (codes "serve --workers 64 --batch 256 f")
+      (record (plain verbs.Serve (codes "f")) { workers = 64; batch = 256 })
+  pub leading_zeros : ReadsAs (codes "serve --workers 0008 --batch 00000000000000000000256 f")
+      (record (plain verbs.Serve (codes "f")) { workers = 8; batch = 256 })
+  pub options_last : ReadsAs (codes "serve f g --balances b")
+      (record (plain verbs.Serve (codes "f g")) { balances = Some (codes "b") })
+  pub option_between : ReadsAs (codes "serve f --batch 7 g")
+      (record (plain verbs.Serve (codes "f g")) { batch = 7 })
+  pub after_dashes : ReadsAs (codes "check -- --help --strict")
+      (plain verbs.Check (codes "--help --strict"))
   pub image_like_a_verb : ReadsAs (codes "list check") (plain verbs.List (codes "check"))
+
+-- the words are no command, for this alone
+abbrev pub IsRefusedFor : Text → ErrorKind → Type 0
+IsRefusedFor text why = faults_in (words_of text) ≡ why ∷ []
 
 -- words that are no command, and why
 pub record RefusedLines : Type 0 where
   pub no_words : faults_in [] ≡ kind.MissingSubcommand ∷ []
-  pub asks_help : faults_in (words_of (codes "--help")) ≡ kind.DisplayHelp ∷ []
-  pub asks_help_on_serve : faults_in (words_of (codes "serve -h")) ≡ kind.DisplayHelp ∷ []
-  pub another_command : faults_in (words_of (codes "fly")) ≡ kind.UnknownArgument ∷ kind.InvalidSubcommand ∷ []
-  pub no_image : faults_in (words_of (codes "serve")) ≡ kind.MissingRequiredArgument ∷ []
-  pub no_image_to_check : faults_in (words_of (codes "check --strict")) ≡ kind.MissingRequiredArgument ∷ []
-  pub no_image_to_list : faults_in (words_of (codes "list")) ≡ kind.MissingRequiredArgument ∷ []
-  pub another_option : faults_in (words_of (codes "serve --bogus a")) ≡ kind.UnknownArgument ∷ []
-  pub workers_of_check : faults_in (words_of (codes "check --workers 4 a")) ≡ kind.UnknownArgument ∷ []
-  pub balances_of_list : faults_in (words_of (codes "list --balances b a")) ≡ kind.UnknownArgument ∷ []
-  pub option_twice : faults_in (words_of (codes "serve --requests=a --requests=b c")) ≡ kind.ArgumentConflict ∷ []
-  pub number_twice : faults_in (words_of (codes "serve --workers 4 --workers 4 a")) ≡ kind.ArgumentConflict ∷ []
-  pub flag_twice : faults_in (words_of (codes "check --strict --strict a")) ≡ kind.ArgumentConflict ∷ []
-  pub flag_with_value : faults_in (words_of (codes "check --strict=true a")) ≡ kind.TooManyValues ∷ []
-  pub option_without_file : faults_in (words_of (codes "serve a --requests")) ≡ kind.InvalidValue ∷ []
-  pub minus_apart : faults_in (words_of (codes "serve --workers -4 a")) ≡ kind.UnknownArgument ∷ []
+  pub asks_help : IsRefusedFor (codes "--help") kind.DisplayHelp
+  pub asks_help_on_serve : IsRefusedFor (codes "serve -h") kind.DisplayHelp
+  pub another_command :
+      faults_in (words_of (codes "fly")) ≡ kind.UnknownArgument ∷ kind.InvalidSubcommand ∷ []
+  pub no_image : IsRefusedFor (codes "serve") kind.MissingRequiredArgument
+  pub no_image_to_check : IsRefusedFor (codes "check --strict") kind.MissingRequiredArgument
+  pub no_image_to_list : IsRefusedFor (codes "list") kind.MissingRequiredArgument
+  pub another_option : IsRefusedFor (codes "serve --bogus a") kind.UnknownArgument
+  pub workers_of_check : IsRefusedFor (codes "check --workers 4 a") kind.UnknownArgument
+  pub balances_of_list : IsRefusedFor (codes "list --balances b a") kind.UnknownArgument
+  pub option_twice : IsRefusedFor (codes "serve --requests=a --requests=b c") kind.ArgumentConflict
+  pub number_twice : IsRefusedFor (codes "serve --workers 4 --workers 4 a") kind.ArgumentConflict
+  pub flag_twice : IsRefusedFor (codes "check --strict --strict a") kind.ArgumentConflict
+  pub flag_with_value : IsRefusedFor (codes "check --strict=true a") kind.TooManyValues
+  pub option_without_file : IsRefusedFor (codes "serve a --requests") kind.InvalidValue
+  pub minus_apart : IsRefusedFor (codes "serve --workers -4 a") kind.UnknownArgument
 
 -- words that are a command but for a number
 pub record MisnumberedLines : Type 0 where

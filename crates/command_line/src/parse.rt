@@ -2,10 +2,13 @@
 //!
 //! `clap` keeps what it makes in the global allocator, so this module takes that one alone.
 
-ghost use Rattle.std.specs.Prelude.{◌≡◌, ◌≢◌, ◌≤◌, ◌⊎◌, codes, map, vec_len, IfOk, IfErr, IfSome};
+ghost use Rattle.std.specs.Prelude.{◌≡◌, ◌≢◌, ◌≤◌, ◌⊎◌, codes, map, vec_len};
+ghost use Rattle.std.specs.Prelude.{IfOk, IfErr, IfSome};
 ghost use Rattle.std.specs.Int.{IsInRange};
-ghost use Rattle.clap.specs.Words.{first_of, found_of, kind_of, rows_of, subcommand_rows_of};
-ghost use Rattle.command_line.specs.CommandLine.{IsFilled, IsInLimits, IsLineFault, IsLineOf, IsNumberTo, IsNumbered, IsTaken, Says, command_in, number_or, parts_of, verb_word};
+ghost use Rattle.clap.specs.Words.{first_value, found_of, kind_of, rows_of, subcommand_rows_of};
+ghost use Rattle.command_line.specs.CommandLine.{IsLineFault, IsLineOf, IsTaken, command_in};
+ghost use Rattle.command_line.specs.CommandLine.{HoldsRows, IsFilled, IsInLimits, verb_word};
+ghost use Rattle.command_line.specs.CommandLine.{IsNumberOf, IsNumberTo, IsNumbered};
 ghost use Rattle.command_line.specs.declared.options.LineFault.TheVariants.{Memory};
 
 use crate::commands::program;
@@ -17,6 +20,14 @@ use std::alloc::{AllocError, Global};
 use std::convert::AsStr;
 use std::env::Env;
 use std::{env, io};
+
+const DEFAULT_WORKERS: u32 = 4;
+
+const MOST_WORKERS: u32 = 64;
+
+const DEFAULT_BATCH: u32 = 16;
+
+const MOST_BATCH: u32 = 256;
 
 /// The words of the command line after the program's name. All of them are text, or it is a `Usage`
 /// fault.
@@ -49,7 +60,8 @@ pub fn line<'a, S: AsStr>(alloc: Global, words: &'a [S]) -> Result<Line<'a>, Lin
 // What `clap` makes of the words.
 fn matches_of<'a, S: AsStr>(alloc: Global, words: &'a [S]) -> Result<ArgMatches<'a>, LineFault>
     ensures taken { IfOk result (λ _. IsTaken (map S.text words.now)) }
-    ensures command { IfOk result (λ matches. subcommand_rows_of matches ≡ command_in (map S.text words.now)) }
+    ensures command { IfOk result (λ matches.
+        subcommand_rows_of matches ≡ command_in (map S.text words.now)) }
     ensures err { IfErr result (λ fault. IsLineFault (map S.text words.now) fault) }
 {
     match program(alloc)?.try_get_matches_from(words) {
@@ -60,7 +72,8 @@ fn matches_of<'a, S: AsStr>(alloc: Global, words: &'a [S]) -> Result<ArgMatches<
 
 // The verb of a command's name.
 fn verb_of(name: &str) -> Verb
-    requires { (name.now ≡ codes "serve") ⊎ (name.now ≡ codes "check") ⊎ (name.now ≡ codes "list") }
+    requires { (name.now ≡ codes "serve") ⊎ (name.now ≡ codes "check")
+        ⊎ (name.now ≡ codes "list") }
     ensures { verb_word result ≡ name.now }
 {
     match name {
@@ -74,14 +87,15 @@ fn verb_of(name: &str) -> Verb
 // The line of a command that was found.
 fn line_of<'a>(alloc: Global, verb: Verb, found: &ArgMatches<'a>) -> Result<Line<'a>, LineFault>
     requires { IsFilled (rows_of (found_of found.now)) }
-    ensures numbered { IfOk result (λ _. IsNumbered (rows_of (found_of found.now))) }
-    ensures says { IfOk result (λ line. Says line (parts_of verb (rows_of (found_of found.now)))) }
+    ensures verb { IfOk result (λ line. line.verb ≡ verb) }
+    ensures holds { IfOk result (λ line. HoldsRows (rows_of (found_of found.now)) line) }
     ensures limits { IfOk result (λ line. IsInLimits line) }
     ensures some_image { IfOk result (λ line. 1 ≤ vec_len line.images) }
-    ensures err { IfErr result (λ fault. (fault ≡ Memory) ⊎ ¬ IsNumbered (rows_of (found_of found.now))) }
+    ensures err { IfErr result (λ fault. (fault ≡ Memory)
+        ⊎ ¬ IsNumbered (rows_of (found_of found.now))) }
 {
-    let workers = number_of(alloc, found, "workers", 4, 64)?;
-    let batch = number_of(alloc, found, "batch", 16, 256)?;
+    let workers = number_of(alloc, found, "workers", DEFAULT_WORKERS, MOST_WORKERS)?;
+    let batch = number_of(alloc, found, "batch", DEFAULT_BATCH, MOST_BATCH)?;
     let images = found.get_strs("image").unwrap().to_vec(alloc)?;
     Ok(Line {
         verb,
@@ -104,16 +118,17 @@ fn number_of(
     most: u32,
 ) -> Result<u32, LineFault>
     requires { IsInRange 1 most default }
-    ensures given { IfOk result (λ _. IfSome (first_of name.now (rows_of (found_of found.now))) (IsNumberTo most)) }
-    ensures value { IfOk result (λ number. number ≡ number_or default (first_of name.now (rows_of (found_of found.now)))) }
+    ensures ok { IfOk result (λ number.
+        IsNumberOf most default (first_value (found_of found.now) name.now) number) }
     ensures in_range { IfOk result (λ number. IsInRange 1 most number) }
-    ensures err { IfErr result (λ fault. (fault ≡ Memory) ⊎ ¬ IfSome (first_of name.now (rows_of (found_of found.now))) (IsNumberTo most)) }
+    ensures err { IfErr result (λ fault. (fault ≡ Memory)
+        ⊎ ¬ IfSome (first_value (found_of found.now) name.now) (IsNumberTo most)) }
 {
     match found.get_str(name) {
         None => Ok(default),
         Some(text) => match number_to(text, most) {
             Some(number) => Ok(number),
-            None => Err(misnumbered(alloc, name, text, most)),
+            None => Err(misnumbered(alloc, name, text, most)?),
         },
     }
 }
@@ -131,23 +146,13 @@ fn refusal(alloc: Global, error: &Error) -> LineFault
     }
 }
 
-// What is answered to another value of an option than a number from 1 to `most`, as `clap` words it.
-fn misnumbered(alloc: Global, name: &str, text: &str, most: u32) -> LineFault {
-    match misnumbered_text(alloc, name, text, most) {
-        Ok(text) => LineFault::Usage { text },
-        Err(_) => LineFault::Memory,
-    }
-}
-
-fn misnumbered_text(
-    alloc: Global,
-    name: &str,
-    text: &str,
-    most: u32,
-) -> Result<String, AllocError> {
-    format!(in alloc;
-        "error: invalid value '{text}' for '--{name} <N>': not a number from 1 to {most}\n\nFor more information, try '--help'."
-    )
+// What another value of an option than a number from 1 to `most` is answered, as `clap` words it.
+fn misnumbered(alloc: Global, name: &str, text: &str, most: u32) -> Result<LineFault, AllocError> {
+    let text = format!(in alloc;
+        "error: invalid value '{text}' for '--{name} <N>': not a number from 1 to {most}\n\n\
+         For more information, try '--help'."
+    )?;
+    Ok(LineFault::Usage { text })
 }
 
 fn not_text(alloc: Global, error: &io::Error) -> LineFault {

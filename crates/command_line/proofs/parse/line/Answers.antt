@@ -23,4 +23,4 @@ returns-clause-ok g c =
     let words = map g.S.AsStr.text c.args.words.now in
     let met = met_command c.in_ok-matches.matches words c.subcommand.result c.unwrap.result c.subcommand.ensures.name c.subcommand.ensures.rows c.unwrap.ensures c.in_ok-matches.ensures.command in
     line_is words c.unwrap.result.0.now (rows_of (found_of c.unwrap.result.1.now)) c.verb_of.result c.line_of.result c.in_ok-matches.ensures.taken met c.verb_of.ensures
-    c.line_of.ensures.numbered c.line_of.ensures.says
+    c.line_of.ensures.verb c.line_of.ensures.holds
