@@ -1,5 +1,5 @@
 -- What an argument or a command that is added makes of a command.
-use Rattle.std.proofs.Common.{◌≡◌, ◌∙◌, Bool, true, false, ap, ap₂}
+use Rattle.std.proofs.Common.{◌≡◌, ◌∙◌, true, false, ap, ap₂}
 use Rattle.clap.specs.Built.{AddsArg, AddsSubcommand}
 use Rattle.clap.specs.Simple.{App, app_of, with_rule, with_subcommand}
 use Rattle.clap.specs.Walk.{Rule, rule_of}

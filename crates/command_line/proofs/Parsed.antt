@@ -3,22 +3,20 @@ use Rattle.std.specs.Borrow.{Bor}
 use Rattle.std.specs.Prelude.{Box}
 use Rattle.std.specs.Box.{box_value}
 use Rattle.std.proofs.lemmas.List.{length-map}
-use Rattle.std.proofs.Common.{◌≡◌, ◌≤◌, ◌+◌, ◌∙◌, ◌⊎◌, ◌≢◌, ◌∷◌, ℕ, arith, codes, slice_index, is_some, length, option_map, unwrap_or, Option, Some, None, Result, Ok, Err, IfOk, true, refl, sym, ap, ap₂, subst, List, [], inl, inr}
+use Rattle.std.proofs.Common.{◌≡◌, ◌≤◌, ◌∙◌, ◌⊎◌, ◌≢◌, ◌∷◌, ℕ, Bool, arith, codes, is_some, length, option_map, unwrap_or, Option, Some, None, Result, Ok, Err, IfOk, IfSome, MatchOption, true, false, refl, sym, ap, ap₂, subst, List, [], inl, inr}
 use Rattle.clap.specs.Kinds.{HasKind, IsAmong, Kinds}
 use Rattle.clap.specs.Faults.{fault_of, is_simple_and_free}
-use Rattle.clap.specs.Simple.{App, HasMatchesOf, app_of, is_simple, subcommand_of, subcommand_rows, subcommand_rows_of, with_subcommand}
-use Rattle.clap.specs.Built.{AddsSubcommand}
-use Rattle.clap.specs.declared.builder.command.Command.{Command}
+use Rattle.clap.specs.Simple.{App, HasMatchesOf, is_simple, subcommand_of, subcommand_rows, subcommand_rows_of}
+use Rattle.clap.specs.Takes.{is_given}
 use Rattle.clap.specs.declared.parser.matches.ArgMatches.TheViews.{out-ArgMatches, out-SubCommand}
 use Rattle.clap.specs.declared.parser.matches.Found.{Found}
 use Rattle.clap.specs.declared.parser.matches.SubCommand.{SubCommand}
 use Rattle.clap.proofs.CallerLemmas.{some_of_text}
-use Rattle.clap.proofs.SimpleLemmas.{plain_fields}
 use Rattle.clap.proofs.TakesLemmas.{some_rows}
-use Rattle.clap.proofs.WalkLemmas.{raw_values-rows}
-use Rattle.clap.specs.Values.{kind_of}
-use Rattle.clap.specs.Matches.{found_of, has_subcommand, matched_of, raw_values, subcommand_name_of}
-use Rattle.clap.specs.Walk.{Row, Text, all_of, rows_of, texts}
+use Rattle.clap.proofs.WalkLemmas.{first_value-rows, one_text-rows, raw_values-rows}
+use Rattle.clap.specs.Values.{bool_text, kind_of}
+use Rattle.clap.specs.Matches.{first_value, found_of, has_subcommand, matched_of, one_text, raw_values, subcommand_name_of}
+use Rattle.clap.specs.Walk.{Row, Text, all_of, first_of, one_of, rows_of, texts}
 use Rattle.clap.specs.declared.error.Error.{Error}
 use Rattle.clap.specs.declared.error.kind.ErrorKind.TheVariants.{OutOfMemory}
 use Rattle.clap.specs.declared.parser.matches.ArgMatches.{ArgMatches}
@@ -26,16 +24,9 @@ use Rattle.command_line.specs.declared.options.Line.{Line}
 use Rattle.command_line.specs.declared.options.LineFault.{LineFault}
 use Rattle.command_line.specs.declared.options.LineFault.TheVariants.{Usage, Memory}
 use Rattle.command_line.specs.declared.options.Verb.{Verb}
-use Rattle.command_line.specs.declared.options.Verb.TheVariants.{Serve, Check}
+use Rattle.command_line.specs.declared.options.Verb.TheVariants as verbs
 use Rattle.command_line.proofs.Taken.{taken_names}
-use Rattle.command_line.specs.CommandLine.{HasImages, HoldsRows, IsLineOf, IsLineFault, IsTaken, command_in, faults_in, program, verb_word}
-
--- a command without global arguments that is added to another
-pub added_command : (old sub new : Command) (a s : App) → AddsSubcommand old sub new → app_of old ≡ a → app_of sub ≡ s → s.top.is_plain ≡ true
-    → app_of new ≡ with_subcommand a s.top
-added_command old sub new a s added old_is sub_is plain =
-    let local = plain_fields sub (ap (λ (x : App). x.top.is_plain) sub_is ∙ plain) in
-    added.shape local.globals ∙ ap₂ with_subcommand old_is (ap (λ (x : App). x.top) sub_is)
+use Rattle.command_line.specs.CommandLine.{HoldsRows, IsFilled, IsLineOf, IsLineFault, IsNumberOf, IsNumberTo, IsNumbered, IsTaken, command_in, faults_in, most_batch, most_workers, number_or, program, verb_word}
 
 program_is_simple : is_simple program ≡ true
 program_is_simple = refl
@@ -58,7 +49,7 @@ pub parsed_fault : (a : App) (words : List Text) (error : Error) (fault : LineFa
     → (fault ≡ Memory) ⊎ (kind_of error ≢ OutOfMemory) → IsLineFault words fault
 unfolding faults_in
 parsed_fault a words error Memory is kinds told = tt
-parsed_fault a words error (Usage text) is kinds told = λ taken. elim (kinds (ap is_simple_and_free is ∙ program_is_free)) [
+parsed_fault a words error (Usage text) is kinds told = inl (λ taken. elim (kinds (ap is_simple_and_free is ∙ program_is_free)) [
   | inl memory ↦ elim told [
     | inl same ↦ cc
     | inr other ↦ other memory
@@ -67,35 +58,38 @@ parsed_fault a words error (Usage text) is kinds told = λ taken. elim (kinds (a
       let none : fault_of a words ≡ [] = ap (λ x. fault_of x words) is ∙ taken in
       let P : Kinds → Type 0 = λ kinds. IsAmong (kind_of error) kinds in
       subst P none among
-]
+])
 
 -- ---- what the matches give
 
 -- the images, where there are any
-pub some_images : (verb : Verb) (f : Found) (o : Option (Bor (List (Bor Text)))) → option_map (λ s. texts s.now) o ≡ option_map raw_values (matched_of f (codes "image"))
-    → HasImages verb (rows_of f) → is_some o ≡ true
-some_images verb f o are has = some_of_text (λ s. texts s.now) o _ (are ∙ (raw_values-rows f (codes "image") ∙ has.values)) refl
+pub some_images : (f : Found) (o : Option (Bor (List (Bor Text)))) → option_map (λ s. texts s.now) o ≡ option_map raw_values (matched_of f (codes "image"))
+    → IsFilled (rows_of f) → is_some o ≡ true
+some_images f o are filled = some_of_text (λ s. texts s.now) o _ (are ∙ (raw_values-rows f (codes "image") ∙ filled.images)) refl
 
 pub images_are : (f : Found) (o : Option (Bor (List (Bor Text)))) (s : Bor (List (Bor Text)))
     → option_map (λ s. texts s.now) o ≡ option_map raw_values (matched_of f (codes "image")) → o ≡ Some s → Some (texts s.now) ≡ all_of (codes "image") (rows_of f)
 images_are f o s are is = ap (option_map (λ s. texts s.now)) (sym is) ∙ (are ∙ raw_values-rows f (codes "image"))
 
-some_count : (images : List (Bor Text)) (first : Text) (rest : List Text) → Some (texts images) ≡ Some (first ∷ rest) → length images ≡ 1 + length rest
-some_count images first rest are =
-    let same : texts images ≡ first ∷ rest = ap (λ o. unwrap_or o []) are in
+-- one or more
+pub one_or_more : (rows : List Row) (images : List (Bor Text)) → IsFilled rows → Some (texts images) ≡ all_of (codes "image") rows → 1 ≤ length images
+one_or_more rows images filled are =
+    let same : texts images ≡ filled.first ∷ filled.rest = ap (λ o. unwrap_or o []) (are ∙ filled.images) in
     omega (arith, length-map {A = Bor Text} images (λ s. s.now), ap length same)
 
--- one or more, and one for `serve`
-pub one_or_more : (verb : Verb) (rows : List Row) (images : List (Bor Text)) → HasImages verb rows → Some (texts images) ≡ all_of (codes "image") rows → 1 ≤ length images
-one_or_more verb rows images has are =
-    let count = some_count images has.first has.rest (are ∙ has.values) in
-    omega arith
+-- the flag, by what it reads
+pub flag_is : (f : Found) (flag : Bool) → IsFilled (rows_of f) → (one_text f (codes "strict") ≡ None → flag ≡ false)
+    → (one_text f (codes "strict") ≡ Some (codes "true") → flag ≡ true) → (one_text f (codes "strict") ≡ Some (codes "false") → flag ≡ false)
+    → flag ≡ is_given (codes "strict") (rows_of f)
+flag_is f flag filled absent is_true is_false =
+    go (one_of (codes "strict") (rows_of f)) (is_given (codes "strict") (rows_of f)) (one_text-rows f (codes "strict")) filled.strict
+  where
+    go : (o : Option Text) (given : Bool) → one_text f (codes "strict") ≡ o → MatchOption o (given ≡ false) (λ t. t ≡ bool_text given) → flag ≡ given
+    go None given is reads = absent is ∙ sym reads
+    go (Some t) true is reads = is_true (is ∙ ap Some reads)
+    go (Some t) false is reads = is_false (is ∙ ap Some reads)
 
-pub one_for_serve : (verb : Verb) (rows : List Row) (images : List (Bor Text)) → HasImages verb rows → Some (texts images) ≡ all_of (codes "image") rows → verb ≡ Serve → length images ≡ 1
-one_for_serve verb rows images has are serve =
-    let count = some_count images has.first has.rest (are ∙ has.values) in
-    let none = ap length (has.one serve) in
-    omega arith
+-- ---- the command
 
 module _ {Z : Type 0} where
   name_in_rows : (sub : Option (Box SubCommand Z)) → option_map (λ b. (out-SubCommand (box_value b)).name.now) sub ≡ option_map (λ p. p.0) (subcommand_rows sub)
@@ -115,39 +109,24 @@ met_command m words o p name_is rows_are some is =
     let rows = ap (option_map (λ (q : Bor Text × Bor ArgMatches). rows_of (found_of q.1.now))) (sym some) ∙ rows_are in
     sym is ∙ both_parts (subcommand_rows_of m) p.0.now (rows_of (found_of p.1.now)) name rows
 
-unlike : ◌≡◌ {A = ℕ} 115 99 → ⊥
-unlike e = omega arith
-
--- each verb has its own word
-pub one_word : (a b : Verb) → verb_word a ≡ verb_word b → a ≡ b
-one_word Serve Serve e = refl
-one_word Check Check e = refl
-one_word Serve Check e =
-    absurd (unlike (ap (λ t. slice_index t 0) e))
-one_word Check Serve e =
-    absurd (unlike (sym (ap (λ t. slice_index t 0) e)))
-
--- it has images
-pub command_images : (words : List Text) (name : Text) (rows : List Row) (verb : Verb) → IsTaken words → command_in words ≡ Some (name, rows) → verb_word verb ≡ name
-    → HasImages verb rows
-command_images words name rows verb taken is named =
+-- its rows are filled
+pub command_filled : (words : List Text) (name : Text) (rows : List Row) → IsTaken words → command_in words ≡ Some (name, rows) → IsFilled rows
+command_filled words name rows taken is =
     let names = taken_names words taken in
-    let P : Option (Text × List Row) → Type 0 = λ o. o ≡ Some (name, rows) in
-    let same = sym names.is ∙ is in
-    let verb_is : names.verb ≡ verb = one_word names.verb verb (ap (λ o. unwrap_or (option_map (λ (p : Text × List Row). p.0) o) name) same ∙ sym named) in
-    let rows_are : names.rows ≡ rows = ap (λ o. unwrap_or (option_map (λ (p : Text × List Row). p.1) o) rows) same in
-    subst (λ v. HasImages v rows) verb_is (subst (λ r. HasImages names.verb r) rows_are names.image)
+    let rows_are : names.rows ≡ rows = ap (λ o. unwrap_or (option_map (λ (p : Text × List Row). p.1) o) rows) (sym names.is ∙ is) in
+    subst IsFilled rows_are names.filled
 
--- and it is one of the two
+-- and it is one of the three
 pub command_verb : (words : List Text) (name : Text) (rows : List Row) → IsTaken words → command_in words ≡ Some (name, rows)
-    → (name ≡ codes "serve") ⊎ (name ≡ codes "check")
+    → (name ≡ codes "serve") ⊎ (name ≡ codes "check") ⊎ (name ≡ codes "list")
 command_verb words name rows taken is =
     let names = taken_names words taken in
     go names.verb (ap (λ o. unwrap_or (option_map (λ (p : Text × List Row). p.0) o) name) (sym is ∙ names.is))
   where
-    go : (verb : Verb) → name ≡ verb_word verb → (name ≡ codes "serve") ⊎ (name ≡ codes "check")
-    go Serve same = inl same
-    go Check same = inr same
+    go : (verb : Verb) → name ≡ verb_word verb → (name ≡ codes "serve") ⊎ (name ≡ codes "check") ⊎ (name ≡ codes "list")
+    go verbs.Serve same = inl same
+    go verbs.Check same = inr (inl same)
+    go verbs.List same = inr (inr same)
 
 -- there is one
 pub some_command : (m : ArgMatches) (words : List Text) → IsTaken words → subcommand_rows_of m ≡ command_in words → has_subcommand m ≡ true
@@ -155,7 +134,35 @@ some_command m words taken is =
     let names = taken_names words taken in
     some_rows (out-ArgMatches m).subcommand ∙ ap (λ o. is_some o) (is ∙ names.is)
 
--- a line that holds its rows is the line of the words
+-- ---- the line
+
+-- the numbers, as the rows give them
+pub numbers_are : (f : Found) (workers batch : ℕ) → IsNumberOf most_workers 4 (first_value f (codes "workers")) workers
+    → IsNumberOf most_batch 16 (first_value f (codes "batch")) batch
+    → IsNumbered (rows_of f) × (workers ≡ number_or 4 (first_of (codes "workers") (rows_of f))) × (batch ≡ number_or 16 (first_of (codes "batch") (rows_of f)))
+numbers_are f workers batch w b =
+    let w_is = first_value-rows f (codes "workers") in
+    let b_is = first_value-rows f (codes "batch") in (
+      record {
+        workers = subst (λ o. IfSome o (IsNumberTo most_workers)) w_is w.numbered;
+        batch = subst (λ o. IfSome o (IsNumberTo most_batch)) b_is b.numbered;
+      },
+      w.value ∙ ap (number_or 4) w_is,
+      b.value ∙ ap (number_or 16) b_is,
+    )
+
+-- and a fault of one of them
+pub workers_fault : (f : Found) (fault : LineFault) → (fault ≡ Memory) ⊎ (¬ IfSome (first_value f (codes "workers")) (IsNumberTo most_workers))
+    → (fault ≡ Memory) ⊎ (¬ IsNumbered (rows_of f))
+workers_fault f fault (inl memory) = inl memory
+workers_fault f fault (inr bad) = inr (λ numbered. bad (subst (λ o. IfSome o (IsNumberTo most_workers)) (sym (first_value-rows f (codes "workers"))) numbered.workers))
+
+pub batch_fault : (f : Found) (fault : LineFault) → (fault ≡ Memory) ⊎ (¬ IfSome (first_value f (codes "batch")) (IsNumberTo most_batch))
+    → (fault ≡ Memory) ⊎ (¬ IsNumbered (rows_of f))
+batch_fault f fault (inl memory) = inl memory
+batch_fault f fault (inr bad) = inr (λ numbered. bad (subst (λ o. IfSome o (IsNumberTo most_batch)) (sym (first_value-rows f (codes "batch"))) numbered.batch))
+
+-- a line that holds the rows of a command is the line of the words
 pub line_is : (words : List Text) (name : Text) (rows : List Row) (verb : Verb) (r : Result Line LineFault) → IsTaken words → command_in words ≡ Some (name, rows) → verb_word verb ≡ name
     → IfOk r (λ line. line.verb ≡ verb) → IfOk r (HoldsRows rows) → IfOk r (IsLineOf words)
 line_is words name rows verb (Ok line) taken command named verb_is holds = record {
@@ -165,3 +172,12 @@ line_is words name rows verb (Ok line) taken command named verb_is holds = recor
   holds = holds;
 }
 line_is words name rows verb (Err fault) taken command named verb_is holds = tt
+
+-- and a fault of its numbers is a fault of the words
+pub fault_is : (words : List Text) (name : Text) (rows : List Row) (fault : LineFault) → IsTaken words → command_in words ≡ Some (name, rows)
+    → (fault ≡ Memory) ⊎ (¬ IsNumbered rows) → IsLineFault words fault
+fault_is words name rows Memory taken command told = tt
+fault_is words name rows (Usage text) taken command told = elim told [
+  | inl same ↦ cc
+  | inr wrong ↦ inr (record { taken = taken; name = name; rows = rows; command = command; wrong = wrong })
+]

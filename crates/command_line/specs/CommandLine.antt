@@ -1,46 +1,69 @@
 -- The command line: the program as `clap` sees it, and what the words after its name say.
-use Rattle.std.specs.Prelude.{◌≡◌, List, Option, [], ◌∷◌, Some, true, codes, option_map}
+use Rattle.std.specs.Prelude.{◌≡◌, ◌⊎◌, ℕ, Bool, true, false, List, [], ◌∷◌, codes}
+use Rattle.std.specs.Prelude.{Option, Some, IfSome, MatchOption, option_map, unwrap_or}
+use Rattle.std.specs.Int.{IsInRange}
+use Rattle.std.specs.Option.{option_map_or}
+use Rattle.std.specs.Str.Parse.{IsNumeral, digits_value}
 use Rattle.clap.specs.Lexer.{usize_max}
-use Rattle.clap.specs.Walk.{Row, Rule, Text, all_of, first_of, texts}
-use Rattle.clap.specs.Simple.{App, new_app, new_rule, on_top, subcommand_of, with_rule, with_subcommand}
+use Rattle.clap.specs.Values.{bool_text}
+use Rattle.clap.specs.Walk.{Row, Rule, Text, all_of, first_of, one_of, texts}
+use Rattle.clap.specs.Simple.{App, new_app, new_rule, on_top, subcommand_of, with_subcommand}
+use Rattle.clap.specs.Takes.{is_given}
 use Rattle.clap.specs.Kinds.{Kinds}
 use Rattle.clap.specs.Faults.{fault_of}
-use Rattle.clap.specs.declared.builder.action.ArgAction.TheVariants.{Append}
+use Rattle.clap.specs.declared.builder.action.ArgAction.TheVariants.{Append, SetTrue}
 use Rattle.command_line.specs.declared.options.Line.{Line}
 use Rattle.command_line.specs.declared.options.LineFault.{LineFault}
 use Rattle.command_line.specs.declared.options.LineFault.TheVariants.{Usage, Memory}
 use Rattle.command_line.specs.declared.options.Verb.{Verb}
-use Rattle.command_line.specs.declared.options.Verb.TheVariants.{Serve, Check}
+use Rattle.command_line.specs.declared.options.Verb.TheVariants as verbs
 
--- the option `--NAME FILE`
-abbrev pub file_option : Text → Rule
-file_option name = record (new_rule name) { long = Some name; value_names = 1 }
+-- ---- the program
 
--- the word IMAGE, which may not be left out
-abbrev pub image_word : Rule
-image_word = record (new_rule (codes "image")) { value_names = 1; required = true }
+-- an option with one value, as `--workers N` or `--requests FILE`
+abbrev pub value_option : Text → Rule
+value_option name = record (new_rule name) { long = Some name; value_names = 1 }
 
--- the same, once or more
+-- the flag `--strict`
+abbrev pub strict_flag : Rule
+strict_flag = record (new_rule (codes "strict")) {
+  long = Some (codes "strict");
+  action = Some SetTrue;
+}
+
+-- the words IMAGE, one or more
 abbrev pub image_words : Rule
-image_words = record image_word {
+image_words = record (new_rule (codes "image")) {
+  value_names = 1;
+  required = true;
   range = Some (record { start_inclusive = 1; end_inclusive = usize_max });
   action = Some Append;
 }
 
--- the command `serve`, which takes two options and one image
+-- the command of this name, with these options and words
+abbrev pub command_with : Text → List Rule → App
+command_with name rules = on_top (λ s. record s { rules = rules }) (new_app name)
+
+-- the command `serve`
 abbrev pub serve_command : App
-serve_command = with_rule (with_rule (with_rule (new_app (codes "serve"))
-    (file_option (codes "requests"))) (file_option (codes "replies"))) image_word
+serve_command = command_with (codes "serve") (
+    value_option (codes "workers") ∷ value_option (codes "batch") ∷ value_option (codes "requests")
+    ∷ value_option (codes "replies") ∷ value_option (codes "balances") ∷ strict_flag ∷ image_words
+    ∷ [])
 
--- the command `check`, which takes images
-abbrev pub check_command : App
-check_command = with_rule (new_app (codes "check")) image_words
+-- a command over images, as `check` and `list`
+abbrev pub images_command : Text → App
+images_command name = command_with name (strict_flag ∷ image_words ∷ [])
 
--- the program, which wants one of the two, and whose words do not begin with its own name
+-- the program's name, which is no word of the line; it wants a command
+abbrev pub top_command : App
+top_command = on_top (λ s. record s { no_binary_name = true; subcommand_required = true })
+    (new_app (codes "strata"))
+
+-- the program, with its three commands
 abbrev pub program : App
-program = with_subcommand (with_subcommand
-    (on_top (λ s. record s { no_binary_name = true; subcommand_required = true }) (new_app (codes "strata")))
-    serve_command.top) check_command.top
+program = with_subcommand (with_subcommand (with_subcommand top_command serve_command.top)
+    (images_command (codes "check")).top) (images_command (codes "list")).top
 
 -- what is wrong with the words, by the kinds of `clap`
 unfoldable pub faults_in : List Text → Kinds
@@ -54,23 +77,81 @@ command_in words = subcommand_of program words
 abbrev pub IsTaken : List Text → Type 0
 IsTaken words = faults_in words ≡ []
 
+-- ---- numbers
+
+-- the most workers, and the most requests of a batch
+abbrev pub most_workers : ℕ
+most_workers = 64
+
+abbrev pub most_batch : ℕ
+most_batch = 256
+
+-- the text is a decimal number from 1 to `most`, in digits alone
+abbrev pub IsNumberTo : ℕ → Text → Type 0
+IsNumberTo most text = IsNumeral 10 text × IsInRange 1 most (digits_value 10 text)
+
+-- the number that a text writes, or the default where there is no text
+abbrev pub number_or : ℕ → Option Text → ℕ
+number_or default text = option_map_or (digits_value 10) text default
+
+-- the number of an option: what it is given, from 1 to `most`, or else the default
+pub record IsNumberOf (most default : ℕ) (given : Option Text) (number : ℕ) : Type 0 where
+  pub numbered : IfSome given (IsNumberTo most)
+  pub value : number ≡ number_or default given
+
+-- the numbers that the rows of a command give are numbers in their ranges
+pub record IsNumbered (rows : List Row) : Type 0 where
+  pub workers : IfSome (first_of (codes "workers") rows) (IsNumberTo most_workers)
+  pub batch : IfSome (first_of (codes "batch") rows) (IsNumberTo most_batch)
+
+-- ---- lines
+
 -- the word for a verb
 abbrev pub verb_word : Verb → Text
-verb_word Serve = codes "serve"
-verb_word Check = codes "check"
+verb_word verbs.Serve = codes "serve"
+verb_word verbs.Check = codes "check"
+verb_word verbs.List = codes "list"
 
--- the rows of a command have an image, and those of `serve` no other
-pub record HasImages (verb : Verb) (rows : List Row) : Type 0 where
-  pub first : Text
-  pub rest : List Text
-  pub values : all_of (codes "image") rows ≡ Some (first ∷ rest)
-  pub one : verb ≡ Serve → rest ≡ []
+-- what a line says, its files as text
+pub record Parts : Type 0 where
+  pub verb : Verb
+  pub strict : Bool
+  pub workers : ℕ
+  pub batch : ℕ
+  pub requests : Option Text
+  pub replies : Option Text
+  pub balances : Option Text
+  pub images : List Text
 
--- the line holds what the rows of a command give: its images in order, and the first value of each option
+-- what the rows of a command give: whether there is the flag, the first value of each option or
+-- else its default, and all images in order
+abbrev pub parts_of : Verb → List Row → Parts
+parts_of verb rows = record {
+  verb = verb;
+  strict = is_given (codes "strict") rows;
+  workers = number_or 4 (first_of (codes "workers") rows);
+  batch = number_or 16 (first_of (codes "batch") rows);
+  requests = first_of (codes "requests") rows;
+  replies = first_of (codes "replies") rows;
+  balances = first_of (codes "balances") rows;
+  images = unwrap_or (all_of (codes "image") rows) [];
+}
+
+-- the line says this
+pub record Says (line : Line) (parts : Parts) : Type 0 where
+  pub verb : line.verb ≡ parts.verb
+  pub strict : line.strict ≡ parts.strict
+  pub workers : line.workers ≡ parts.workers
+  pub batch : line.batch ≡ parts.batch
+  pub requests : option_map (λ file. file.now) line.requests ≡ parts.requests
+  pub replies : option_map (λ file. file.now) line.replies ≡ parts.replies
+  pub balances : option_map (λ file. file.now) line.balances ≡ parts.balances
+  pub images : texts line.images.items ≡ parts.images
+
+-- the line says what the rows of a command give, whose numbers are in their ranges
 pub record HoldsRows (rows : List Row) (line : Line) : Type 0 where
-  pub images : Some (texts line.images.items) ≡ all_of (codes "image") rows
-  pub requests : option_map (λ file. file.now) line.requests ≡ first_of (codes "requests") rows
-  pub replies : option_map (λ file. file.now) line.replies ≡ first_of (codes "replies") rows
+  pub numbered : IsNumbered rows
+  pub says : Says line (parts_of line.verb rows)
 
 -- the words are a command of the program, and the line says the same
 pub record IsLineOf (words : List Text) (line : Line) : Type 0 where
@@ -79,7 +160,28 @@ pub record IsLineOf (words : List Text) (line : Line) : Type 0 where
   pub command : command_in words ≡ Some (verb_word line.verb, rows)
   pub holds : HoldsRows rows line
 
--- the words are no command of the program, or memory ran out
+-- the numbers of a line are in their ranges
+pub record IsInLimits (line : Line) : Type 0 where
+  pub workers : IsInRange 1 most_workers line.workers
+  pub batch : IsInRange 1 most_batch line.batch
+
+-- the words are a command of the program, but for a number that is none, or is out of its range
+pub record IsMisnumbered (words : List Text) : Type 0 where
+  pub taken : IsTaken words
+  pub name : Text
+  pub rows : List Row
+  pub command : command_in words ≡ Some (name, rows)
+  pub wrong : ¬ IsNumbered rows
+
+-- the words are no command of the program, or misnumbered, or memory ran out
 abbrev pub IsLineFault : List Text → LineFault → Type 0
-IsLineFault words (Usage text) = ¬ IsTaken words
+IsLineFault words (Usage text) = (¬ IsTaken words) ⊎ IsMisnumbered words
 IsLineFault words Memory = Unit {0}
+
+-- the rows of a command have an image, and `--strict` reads as whether it is given
+pub record IsFilled (rows : List Row) : Type 0 where
+  pub first : Text
+  pub rest : List Text
+  pub images : all_of (codes "image") rows ≡ Some (first ∷ rest)
+  pub strict : MatchOption (one_of (codes "strict") rows) (is_given (codes "strict") rows ≡ false)
+      (λ text. text ≡ bool_text (is_given (codes "strict") rows))

@@ -1,45 +1,115 @@
 -- Worked examples: command lines, and what they say or why they are refused.
-use Rattle.std.specs.Prelude.{◌≡◌, List, [], ◌∷◌, Option, Some, None, codes, option_map}
-use Rattle.clap.specs.Walk.{Text, texts}
+use Rattle.std.specs.Prelude.{◌≡◌, ◌==◌, if◌then◌else◌, true, false, codes}
+use Rattle.std.specs.Prelude.{List, [], ◌∷◌, ◌++◌, Some, None}
+use Rattle.clap.specs.Walk.{Text}
+use Rattle.clap.specs.declared.error.kind.ErrorKind.{ErrorKind}
 use Rattle.clap.specs.declared.error.kind.ErrorKind.TheVariants as kind
 use Rattle.command_line.specs.declared.options.Line.{Line}
 use Rattle.command_line.specs.declared.options.Verb.{Verb}
-use Rattle.command_line.specs.declared.options.Verb.TheVariants.{Serve, Check}
-use Rattle.command_line.specs.CommandLine.{IsLineOf, IsTaken, faults_in}
+use Rattle.command_line.specs.declared.options.Verb.TheVariants as verbs
+use Rattle.command_line.specs.CommandLine.{IsLineOf, IsMisnumbered, IsTaken, Parts, Says, faults_in}
 
--- the line has this verb, these images, and these files of requests and replies
-pub record HasParts (line : Line) (verb : Verb) (images : List Text) (requests replies : Option Text) : Type 0 where
-  pub verb_is : line.verb ≡ verb
-  pub images_are : texts line.images.items ≡ images
-  pub requests_are : option_map (λ file. file.now) line.requests ≡ requests
-  pub replies_are : option_map (λ file. file.now) line.replies ≡ replies
+-- the words of a text, after those of which this is the last so far, cut at each blank
+abbrev pub cut : Text → Text → List Text
+cut word [] = word ∷ []
+cut word (c ∷ cs) = if c == 32 then word ∷ cut [] cs else cut (word ++ c ∷ []) cs
 
--- the words are a command of the program, and each line of them has these parts
-pub record Says (words : List Text) (verb : Verb) (images : List Text) (requests replies : Option Text) : Type 0 where
-  pub taken : IsTaken words
-  pub parts : (line : Line) → IsLineOf words line → HasParts line verb images requests replies
+abbrev pub words_of : Text → List Text
+words_of = cut []
 
--- words that are a command
+-- a line with no option
+abbrev pub plain : Verb → Text → Parts
+plain verb images = record {
+  verb = verb;
+  strict = false;
+  workers = 4;
+  batch = 16;
+  requests = None;
+  replies = None;
+  balances = None;
+  images = words_of images;
+}
+
+-- the words are a command with numbers in their ranges, and each line of them says this
+pub record ReadsAs (text : Text) (parts : Parts) : Type 0 where
+  pub taken : IsTaken (words_of text)
+  pub numbered : ¬ IsMisnumbered (words_of text)
+  pub says : (line : Line) → IsLineOf (words_of text) line → Says line parts
+
+-- words that are a command, and what they say
 pub record TakenLines : Type 0 where
-  pub check_one : Says (codes "check" ∷ codes "e.img" ∷ []) Check (codes "e.img" ∷ []) None None
-  pub check_two : Says (codes "check" ∷ codes "b" ∷ codes "a" ∷ []) Check (codes "b" ∷ codes "a" ∷ []) None None
-  pub after_dashes : Says (codes "check" ∷ codes "--" ∷ codes "--help" ∷ []) Check (codes "--help" ∷ []) None None
-  pub serve_one : Says (codes "serve" ∷ codes "f.img" ∷ []) Serve (codes "f.img" ∷ []) None None
-  pub both_files : Says (codes "serve" ∷ codes "--requests" ∷ codes "r" ∷ codes "--replies" ∷ codes "o" ∷ codes "f.img" ∷ [])
-      Serve (codes "f.img" ∷ []) (Some (codes "r")) (Some (codes "o"))
-  pub attached : Says (codes "serve" ∷ codes "--requests=r" ∷ codes "f.img" ∷ []) Serve (codes "f.img" ∷ []) (Some (codes "r")) None
-  pub image_first : Says (codes "serve" ∷ codes "f.img" ∷ codes "--replies" ∷ codes "o" ∷ []) Serve (codes "f.img" ∷ []) None (Some (codes "o"))
+  pub check_one : ReadsAs (codes "check e.img") (plain verbs.Check (codes "e.img"))
+  pub check_two : ReadsAs (codes "check b a") (plain verbs.Check (codes "b a"))
+  pub check_strict : ReadsAs (codes "check --strict a")
+      (record (plain verbs.Check (codes "a")) { strict = true })
+  pub list_one : ReadsAs (codes "list f.img") (plain verbs.List (codes "f.img"))
+  pub list_strict : ReadsAs (codes "list a b --strict")
+      (record (plain verbs.List (codes "a b")) { strict = true })
+  pub serve_one : ReadsAs (codes "serve f.img") (plain verbs.Serve (codes "f.img"))
+  pub serve_layers : ReadsAs (codes "serve --replies r f g e")
+      (record (plain verbs.Serve (codes "f g e")) { replies = Some (codes "r") })
+  pub all_options : ReadsAs
+      (codes "serve --workers 2 --batch 3 --requests q --replies r --balances b --strict e f")
+      (record {
+        verb = verbs.Serve;
+        strict = true;
+        workers = 2;
+        batch = 3;
+        requests = Some (codes "q");
+        replies = Some (codes "r");
+        balances = Some (codes "b");
+        images = codes "e" ∷ codes "f" ∷ [];
+      })
+  pub attached : ReadsAs (codes "serve --workers=5 --requests=q f")
+      (record (plain verbs.Serve (codes "f")) { workers = 5; requests = Some (codes "q") })
+  pub least_numbers : ReadsAs (codes "serve --workers 1 --batch 1 f")
+      (record (plain verbs.Serve (codes "f")) { workers = 1; batch = 1 })
+  pub most_numbers : ReadsAs (codes "serve --workers 64 --batch 256 f")
+      (record (plain verbs.Serve (codes "f")) { workers = 64; batch = 256 })
+  pub leading_zeros : ReadsAs (codes "serve --workers 0008 --batch 00000000000000000000256 f")
+      (record (plain verbs.Serve (codes "f")) { workers = 8; batch = 256 })
+  pub options_last : ReadsAs (codes "serve f g --balances b")
+      (record (plain verbs.Serve (codes "f g")) { balances = Some (codes "b") })
+  pub option_between : ReadsAs (codes "serve f --batch 7 g")
+      (record (plain verbs.Serve (codes "f g")) { batch = 7 })
+  pub after_dashes : ReadsAs (codes "check -- --help --strict")
+      (plain verbs.Check (codes "--help --strict"))
+  pub image_like_a_verb : ReadsAs (codes "list check") (plain verbs.List (codes "check"))
 
--- words that are none, and why
+-- the words are no command, for this alone
+abbrev pub IsRefusedFor : Text → ErrorKind → Type 0
+IsRefusedFor text why = faults_in (words_of text) ≡ why ∷ []
+
+-- words that are no command, and why
 pub record RefusedLines : Type 0 where
   pub no_words : faults_in [] ≡ kind.MissingSubcommand ∷ []
-  pub asks_help : faults_in (codes "--help" ∷ []) ≡ kind.DisplayHelp ∷ []
-  pub asks_help_on_serve : faults_in (codes "serve" ∷ codes "-h" ∷ []) ≡ kind.DisplayHelp ∷ []
-  pub another_command : faults_in (codes "fly" ∷ []) ≡ kind.UnknownArgument ∷ kind.InvalidSubcommand ∷ []
-  pub no_image : faults_in (codes "serve" ∷ []) ≡ kind.MissingRequiredArgument ∷ []
-  pub no_images : faults_in (codes "check" ∷ []) ≡ kind.MissingRequiredArgument ∷ []
-  pub two_images : faults_in (codes "serve" ∷ codes "a" ∷ codes "b" ∷ []) ≡ kind.UnknownArgument ∷ []
-  pub another_option : faults_in (codes "serve" ∷ codes "--bogus" ∷ codes "a" ∷ []) ≡ kind.UnknownArgument ∷ []
-  pub option_of_serve : faults_in (codes "check" ∷ codes "--replies" ∷ codes "o" ∷ codes "a" ∷ []) ≡ kind.UnknownArgument ∷ []
-  pub option_twice : faults_in (codes "serve" ∷ codes "--requests=a" ∷ codes "--requests=b" ∷ codes "c" ∷ []) ≡ kind.ArgumentConflict ∷ []
-  pub option_without_file : faults_in (codes "serve" ∷ codes "a" ∷ codes "--requests" ∷ []) ≡ kind.InvalidValue ∷ []
+  pub asks_help : IsRefusedFor (codes "--help") kind.DisplayHelp
+  pub asks_help_on_serve : IsRefusedFor (codes "serve -h") kind.DisplayHelp
+  pub another_command :
+      faults_in (words_of (codes "fly")) ≡ kind.UnknownArgument ∷ kind.InvalidSubcommand ∷ []
+  pub no_image : IsRefusedFor (codes "serve") kind.MissingRequiredArgument
+  pub no_image_to_check : IsRefusedFor (codes "check --strict") kind.MissingRequiredArgument
+  pub no_image_to_list : IsRefusedFor (codes "list") kind.MissingRequiredArgument
+  pub another_option : IsRefusedFor (codes "serve --bogus a") kind.UnknownArgument
+  pub workers_of_check : IsRefusedFor (codes "check --workers 4 a") kind.UnknownArgument
+  pub balances_of_list : IsRefusedFor (codes "list --balances b a") kind.UnknownArgument
+  pub option_twice : IsRefusedFor (codes "serve --requests=a --requests=b c") kind.ArgumentConflict
+  pub number_twice : IsRefusedFor (codes "serve --workers 4 --workers 4 a") kind.ArgumentConflict
+  pub flag_twice : IsRefusedFor (codes "check --strict --strict a") kind.ArgumentConflict
+  pub flag_with_value : IsRefusedFor (codes "check --strict=true a") kind.TooManyValues
+  pub option_without_file : IsRefusedFor (codes "serve a --requests") kind.InvalidValue
+  pub minus_apart : IsRefusedFor (codes "serve --workers -4 a") kind.UnknownArgument
+
+-- words that are a command but for a number
+pub record MisnumberedLines : Type 0 where
+  pub no_workers : IsMisnumbered (words_of (codes "serve --workers 0 a"))
+  pub many_workers : IsMisnumbered (words_of (codes "serve --workers 65 a"))
+  pub no_batch : IsMisnumbered (words_of (codes "serve --batch 0 a"))
+  pub large_batch : IsMisnumbered (words_of (codes "serve --batch 257 a"))
+  pub plus : IsMisnumbered (words_of (codes "serve --workers +4 a"))
+  pub minus : IsMisnumbered (words_of (codes "serve --workers=-4 a"))
+  pub no_digits : IsMisnumbered (words_of (codes "serve --batch= a"))
+  pub another_digit : IsMisnumbered (words_of (codes "serve --batch 0x10 a"))
+  pub fraction : IsMisnumbered (words_of (codes "serve --batch 16.0 a"))
+  pub past_32_bits : IsMisnumbered (words_of (codes "serve --workers 4294967300 a"))
+  pub past_64_bits : IsMisnumbered (words_of (codes "serve --batch 18446744073709551632 a"))

@@ -8,8 +8,10 @@ use Rattle.command_line.specs.CommandLine.{IsLineFault, IsLineOf, Parts, Says}
 
 -- two lines of the same words say the same
 pub record LinesAgree : Type 0 where
-  pub both_say : (words : List Text) (a b : Line) → IsLineOf words a → IsLineOf words b → (parts : Parts) × Says a parts × Says b parts
+  pub both_say : (words : List Text) (a b : Line) → IsLineOf words a → IsLineOf words b
+      → (parts : Parts) × Says a parts × Says b parts
 
 -- words that have a line meet no fault but want of memory
 pub record LinesAreFaultless : Type 0 where
-  pub only_memory : (words : List Text) (line : Line) (fault : LineFault) → IsLineOf words line → IsLineFault words fault → fault ≡ Memory
+  pub only_memory : (words : List Text) (line : Line) (fault : LineFault) → IsLineOf words line
+      → IsLineFault words fault → fault ≡ Memory

@@ -2,7 +2,8 @@
 
 ghost use Rattle.std.specs.Prelude.{◌≡◌, false, IfOk};
 ghost use Rattle.clap.specs.Words.{app_of, rule_of};
-ghost use Rattle.command_line.specs.CommandLine.{image_words, look_command, program, serve_command, strict_flag, value_option};
+ghost use Rattle.command_line.specs.CommandLine.{images_command, program, serve_command};
+ghost use Rattle.command_line.specs.CommandLine.{image_words, strict_flag, value_option};
 
 use clap::{Arg, ArgAction, Command};
 use std::alloc::{AllocError, Global};
@@ -17,8 +18,8 @@ pub(crate) fn program<'a>(alloc: Global) -> Result<Command<'a>, AllocError>
         .about("Serves stacked romfs images by the FUSE protocol")
         .subcommand_required(true)
         .subcommand(serve(alloc)?)?
-        .subcommand(look(alloc, "check", "Checks images, and prints their sizes")?)?
-        .subcommand(look(
+        .subcommand(over_images(alloc, "check", "Checks images, and prints their sizes")?)?
+        .subcommand(over_images(
             alloc,
             "list",
             "Prints the paths that the stacked images show",
@@ -64,9 +65,9 @@ fn serve<'a>(alloc: Global) -> Result<Command<'a>, AllocError>
         .arg(images(alloc))
 }
 
-// A command that looks at images.
-fn look<'a>(alloc: Global, name: &'a str, about: &'a str) -> Result<Command<'a>, AllocError>
-    ensures { IfOk result (λ command. app_of command ≡ look_command name.entry.now) }
+// A command over images alone.
+fn over_images<'a>(alloc: Global, name: &'a str, about: &'a str) -> Result<Command<'a>, AllocError>
+    ensures { IfOk result (λ command. app_of command ≡ images_command name.entry.now) }
 {
     Command::new(alloc, name)
         .about(about)

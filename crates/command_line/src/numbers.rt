@@ -6,10 +6,11 @@ ghost use Rattle.command_line.specs.CommandLine.{IsNumberTo};
 
 /// The number that a text of digits alone writes, if it is one from 1 to `most`.
 pub(crate) fn number_to(text: &str, most: u32) -> Option<u32>
-    ensures some { IfSome result (λ number. IsNumberTo most text.now × (number ≡ digits_value 10 text.now)) }
+    ensures some { IfSome result (λ number.
+        IsNumberTo most text.now × (number ≡ digits_value 10 text.now)) }
     ensures none { result ≡ None → ¬ IsNumberTo most text.now }
 {
-    if text.as_bytes().first() == Some(&b'+') {
+    if text.starts_with('+') {
         return None;
     }
     match text.parse::<u32>() {

@@ -12,24 +12,36 @@ pub enum Verb {
     Serve,
     /// To check the images.
     Check,
+    /// To list the paths that the images show.
+    List,
 }
 
-/// A command line that was read. An option that the command lacks, or that was left out, is `None`.
+/// A command line that was read. An option that the command lacks, or that was left out, is `None`,
+/// or has its default.
 #[derive(Debug, Drop)]
 pub struct Line<'a> {
     pub verb: Verb,
+    /// Images are held to the strict profile too.
+    pub strict: bool,
+    /// At most so many workers, from 1 to 64. The default is 4.
+    pub workers: u32,
+    /// At most so many requests in a worker's batch, from 1 to 256. The default is 16.
+    pub batch: u32,
     /// The file that requests are read from, in place of standard input.
     pub requests: Option<&'a str>,
     /// The file that replies are written to, in place of standard output.
     pub replies: Option<&'a str>,
-    /// The files of the images, the lowest layer first.
+    /// The file that the nodes' balances of look-ups are written to.
+    pub balances: Option<&'a str>,
+    /// The files of the images, one or more, the lowest layer first.
     pub images: Vec<&'a str>,
 }
 
 /// Why there is no `Line`.
 #[derive(Debug, Drop)]
 pub enum LineFault {
-    /// The words say no command of the program, or ask for help. The text is for the user.
+    /// The words say no command of the program, give a number that is none or is out of its range,
+    /// or ask for help. The text is for the user.
     Usage { text: String },
     /// Memory ran out.
     Memory,

@@ -2,18 +2,32 @@
 //!
 //! `clap` keeps what it makes in the global allocator, so this module takes that one alone.
 
-ghost use Rattle.std.specs.Prelude.{◌≡◌, ◌≢◌, ◌≤◌, ◌⊎◌, false, codes, map, vec_len, IfOk, IfErr};
-ghost use Rattle.clap.specs.Words.{app_of, found_of, kind_of, rows_of, rule_of, subcommand_rows_of};
-ghost use Rattle.command_line.specs.CommandLine.{HasImages, HoldsRows, IsLineFault, IsLineOf, IsTaken, check_command, command_in, file_option, image_word, program, serve_command, verb_word};
+ghost use Rattle.std.specs.Prelude.{◌≡◌, ◌≢◌, ◌≤◌, ◌⊎◌, codes, map, vec_len};
+ghost use Rattle.std.specs.Prelude.{IfOk, IfErr, IfSome};
+ghost use Rattle.std.specs.Int.{IsInRange};
+ghost use Rattle.clap.specs.Words.{first_value, found_of, kind_of, rows_of, subcommand_rows_of};
+ghost use Rattle.command_line.specs.CommandLine.{IsLineFault, IsLineOf, IsTaken, command_in};
+ghost use Rattle.command_line.specs.CommandLine.{HoldsRows, IsFilled, IsInLimits, verb_word};
+ghost use Rattle.command_line.specs.CommandLine.{IsNumberOf, IsNumberTo, IsNumbered};
 ghost use Rattle.command_line.specs.declared.options.LineFault.TheVariants.{Memory};
 
+use crate::commands::program;
+use crate::numbers::number_to;
 use crate::options::{Line, LineFault, Verb};
 use clap::error::ErrorKind;
-use clap::{Arg, ArgAction, ArgMatches, Command, Error};
+use clap::{ArgMatches, Error};
 use std::alloc::{AllocError, Global};
 use std::convert::AsStr;
 use std::env::Env;
 use std::{env, io};
+
+const DEFAULT_WORKERS: u32 = 4;
+
+const MOST_WORKERS: u32 = 64;
+
+const DEFAULT_BATCH: u32 = 16;
+
+const MOST_BATCH: u32 = 256;
 
 /// The words of the command line after the program's name. All of them are text, or it is a `Usage`
 /// fault.
@@ -26,13 +40,16 @@ pub fn words<R: Env + AllocGlobal>(rt: &R) -> Result<Vec<String>, LineFault> {
     Ok(words)
 }
 
-/// Reads the words after the program's name: the line has their verb, their images in order, and the
-/// first value of each option. `Serve` has one image, `Check` has one or more. It is `Usage` only where
-/// the words are no command of the program, as where they ask for help.
+/// Reads the words after the program's name: the line has their verb, the flag, the first value of
+/// each option or else its default, and all images in order. A number is decimal, in digits alone,
+/// from 1 to 64 (`--workers`) or 256 (`--batch`).
+///
+/// It is `Usage` only where the words are no command of the program, as where they ask for help, or
+/// where they give another number.
 pub fn line<'a, S: AsStr>(alloc: Global, words: &'a [S]) -> Result<Line<'a>, LineFault>
     ensures ok { IfOk result (λ line. IsLineOf (map S.text words.now) line) }
+    ensures limits { IfOk result (λ line. IsInLimits line) }
     ensures some_image { IfOk result (λ line. 1 ≤ vec_len line.images) }
-    ensures one_image { IfOk result (λ line. line.verb ≡ Verb.Serve → vec_len line.images ≡ 1) }
     ensures err { IfErr result (λ fault. IsLineFault (map S.text words.now) fault) }
 {
     let matches = matches_of(alloc, words)?;
@@ -43,7 +60,8 @@ pub fn line<'a, S: AsStr>(alloc: Global, words: &'a [S]) -> Result<Line<'a>, Lin
 // What `clap` makes of the words.
 fn matches_of<'a, S: AsStr>(alloc: Global, words: &'a [S]) -> Result<ArgMatches<'a>, LineFault>
     ensures taken { IfOk result (λ _. IsTaken (map S.text words.now)) }
-    ensures command { IfOk result (λ matches. subcommand_rows_of matches ≡ command_in (map S.text words.now)) }
+    ensures command { IfOk result (λ matches.
+        subcommand_rows_of matches ≡ command_in (map S.text words.now)) }
     ensures err { IfErr result (λ fault. IsLineFault (map S.text words.now) fault) }
 {
     match program(alloc)?.try_get_matches_from(words) {
@@ -52,88 +70,67 @@ fn matches_of<'a, S: AsStr>(alloc: Global, words: &'a [S]) -> Result<ArgMatches<
     }
 }
 
-fn program<'a>(alloc: Global) -> Result<Command<'a>, AllocError>
-    ensures { IfOk result (λ command. app_of command ≡ program) }
-{
-    Command::new(alloc, "strata")
-        .no_binary_name(true)
-        .bin_name("strata")?
-        .about("Serves romfs images by the FUSE protocol")
-        .subcommand_required(true)
-        .subcommand(serve(alloc)?)?
-        .subcommand(check(alloc)?)
-}
-
-fn serve<'a>(alloc: Global) -> Result<Command<'a>, AllocError>
-    ensures { IfOk result (λ command. app_of command ≡ serve_command) }
-{
-    Command::new(alloc, "serve")
-        .about("Answers FUSE requests over an image")
-        .arg(file_option(alloc, "requests").help(
-            "Where requests come from, in place of standard input",
-        ))?
-        .arg(file_option(alloc, "replies").help("Where replies go, in place of standard output"))?
-        .arg(image(alloc))
-}
-
-fn check<'a>(alloc: Global) -> Result<Command<'a>, AllocError>
-    ensures { IfOk result (λ command. app_of command ≡ check_command) }
-{
-    Command::new(alloc, "check")
-        .about("Checks images, and prints their sizes")
-        .arg(
-            image(alloc)
-                .num_args(1..)
-                .action(ArgAction::Append)
-                .help("The files of romfs images, the lowest layer first"),
-        )
-}
-
-fn file_option<'a>(alloc: Global, name: &'a str) -> Arg<'a>
-    ensures rule { rule_of result ≡ file_option name.entry.now }
-    ensures local { result.global ≡ false }
-{
-    Arg::new(alloc, name).long(name).value_name("FILE")
-}
-
-fn image<'a>(alloc: Global) -> Arg<'a>
-    ensures rule { rule_of result ≡ image_word }
-    ensures local { result.global ≡ false }
-{
-    Arg::new(alloc, "image")
-        .value_name("IMAGE")
-        .required(true)
-        .help("The file of a romfs image")
-}
-
 // The verb of a command's name.
 fn verb_of(name: &str) -> Verb
-    requires { (name.now ≡ codes "serve") ⊎ (name.now ≡ codes "check") }
+    requires { (name.now ≡ codes "serve") ⊎ (name.now ≡ codes "check")
+        ⊎ (name.now ≡ codes "list") }
     ensures { verb_word result ≡ name.now }
 {
     match name {
         "serve" => Verb::Serve,
         "check" => Verb::Check,
+        "list" => Verb::List,
         _ => unreachable!(),
     }
 }
 
-// The line of a command that has images.
+// The line of a command that was found.
 fn line_of<'a>(alloc: Global, verb: Verb, found: &ArgMatches<'a>) -> Result<Line<'a>, LineFault>
-    requires { HasImages verb (rows_of (found_of found.now)) }
+    requires { IsFilled (rows_of (found_of found.now)) }
     ensures verb { IfOk result (λ line. line.verb ≡ verb) }
     ensures holds { IfOk result (λ line. HoldsRows (rows_of (found_of found.now)) line) }
+    ensures limits { IfOk result (λ line. IsInLimits line) }
     ensures some_image { IfOk result (λ line. 1 ≤ vec_len line.images) }
-    ensures one_image { IfOk result (λ line. line.verb ≡ Verb.Serve → vec_len line.images ≡ 1) }
-    ensures err { IfErr result (λ fault. fault ≡ Memory) }
+    ensures err { IfErr result (λ fault. (fault ≡ Memory)
+        ⊎ ¬ IsNumbered (rows_of (found_of found.now))) }
 {
+    let workers = number_of(alloc, found, "workers", DEFAULT_WORKERS, MOST_WORKERS)?;
+    let batch = number_of(alloc, found, "batch", DEFAULT_BATCH, MOST_BATCH)?;
     let images = found.get_strs("image").unwrap().to_vec(alloc)?;
     Ok(Line {
         verb,
+        strict: found.get_flag("strict"),
+        workers,
+        batch,
         requests: found.get_str("requests"),
         replies: found.get_str("replies"),
+        balances: found.get_str("balances"),
         images,
     })
+}
+
+// The number that is given for an option, from 1 to `most`, or `default` where it is left out.
+fn number_of(
+    alloc: Global,
+    found: &ArgMatches<'_>,
+    name: &str,
+    default: u32,
+    most: u32,
+) -> Result<u32, LineFault>
+    requires { IsInRange 1 most default }
+    ensures ok { IfOk result (λ number.
+        IsNumberOf most default (first_value (found_of found.now) name.now) number) }
+    ensures in_range { IfOk result (λ number. IsInRange 1 most number) }
+    ensures err { IfErr result (λ fault. (fault ≡ Memory)
+        ⊎ ¬ IfSome (first_value (found_of found.now) name.now) (IsNumberTo most)) }
+{
+    match found.get_str(name) {
+        None => Ok(default),
+        Some(text) => match number_to(text, most) {
+            Some(number) => Ok(number),
+            None => Err(misnumbered(alloc, name, text, most)?),
+        },
+    }
 }
 
 // What `clap` answers in place of matches.
@@ -147,6 +144,15 @@ fn refusal(alloc: Global, error: &Error) -> LineFault
         Ok(text) => usage(alloc, text.as_str().trim_end()),
         Err(_) => LineFault::Memory,
     }
+}
+
+// What another value of an option than a number from 1 to `most` is answered, as `clap` words it.
+fn misnumbered(alloc: Global, name: &str, text: &str, most: u32) -> Result<LineFault, AllocError> {
+    let text = format!(in alloc;
+        "error: invalid value '{text}' for '--{name} <N>': not a number from 1 to {most}\n\n\
+         For more information, try '--help'."
+    )?;
+    Ok(LineFault::Usage { text })
 }
 
 fn not_text(alloc: Global, error: &io::Error) -> LineFault {

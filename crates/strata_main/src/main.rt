@@ -2,6 +2,7 @@
 #![tactic(auto)]
 
 use command_line::words;
+use devices::{Spout, Tap};
 use std::process::ExitCode;
 use strata::Fault;
 use strata::command::command;
@@ -15,8 +16,8 @@ fn main(rt: HostRuntime) -> ExitCode {
             alloc,
             alloc,
             words.as_slice(),
-            &mut rt.stdin(),
-            &mut rt.stdout(),
+            &mut Tap::new(rt.stdin()),
+            &mut Spout::new(rt.stdout()),
             &mut faults,
         ),
         Err(fault) => {

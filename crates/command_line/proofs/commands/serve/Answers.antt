@@ -1,4 +1,4 @@
-use Rattle.std.proofs.Common.{ap, codes, ◌∙◌, ◌≡◌}
+use Rattle.std.proofs.Common.{ap, codes, ◌∙◌}
 use Rattle.std.proofs.lemmas.Result.{IfOk-weaker}
 use Rattle.clap.specs.Simple.{app_of_fields}
 use Rattle.command_line.specs.CommandLine.{image_words, strict_flag, value_option}
