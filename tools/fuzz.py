@@ -4,7 +4,8 @@ python3 tools/fuzz.py PROGRAM [IMAGES [STACKS [STREAMS [SEED]]]]
 
 Images, most of them broken, go through `check` and `list`; stacks of 1 to 6 layers through `check` and `list`; streams
 over such stacks through `serve`, from files and through pipes in pieces, by any plan, with balances. Each is tried
-strictly or not. Where a run differs, or takes longer than two seconds, its files are kept and its words are printed.
+strictly or not. Where a run differs, or takes longer than two seconds, its files are kept and its words are printed; where
+these name no file of requests, that file's bytes came through the pipe.
 """
 import collections
 import fcntl
@@ -172,9 +173,9 @@ def fuzz_streams(running, rng, count, others):
         if rng.random() < 0.8:
             words += ["--workers", str(rng.choice([1, 2, 4, 5, 64])), "--batch", str(rng.choice([1, 3, 16, 256]))]
         want, replies = served(images, stream, strict)
-        pieces = []
+        pieces, requests = [], running.write("requests", stream)
         if rng.random() < 0.6:
-            words += ["--requests", running.write("requests", stream)]
+            words += ["--requests", requests]
         else:
             pieces = cut(rng, stream)
         if rng.random() < 0.5:

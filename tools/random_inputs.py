@@ -78,7 +78,7 @@ def random_items(rng, path, depth, names):
             kind = "regular"
         data = b""
         if kind in ("regular", "symlink"):
-            data = bytes(rng.randrange(256) for _ in range(rng.choice([0, 1, 2, 15, 16, 17, 600])))
+            data = rng.randbytes(rng.choice([0, 1, 2, 15, 16, 17, 600, 4095] + [9000] * 3 * (kind == "regular")))
         spec = rng.choice(EDGES[:9]) & 0x0fffffff
         items.append(Item(path + (name,), kind, rng.random() < 0.5, spec=spec, data=data))
         if kind == "directory":
@@ -152,8 +152,8 @@ def random_body(rng, name, stack, node):
         return rows_body(rng, stack, node, name == "READDIRPLUS")
     if name == "READ":
         size = len(stack.body(node)) if stack.has(node) else 0
-        return read_body(rng.choice([near(rng, 0, size), rng.randrange(700), 2 ** 64 - 1, 2 ** 32]),
-                         rng.choice([near(rng, 0, size), 4096, 2 ** 20, 2 ** 20 + 1, 2 ** 32 - 1]))
+        return read_body(rng.choice([near(rng, 0, size, 4096), rng.randrange(size + 10), 2 ** 64 - 1, 2 ** 32]),
+                         rng.choice([near(rng, 0, size, 4096), 8192, 2 ** 20, 2 ** 20 + 1, 2 ** 32 - 1]))
     if name in ("OPEN", "OPENDIR"):
         return struct.pack("<2I", rng.choice([0, 0, 0, 0x8000, 1, 2, 3, 0x8002, 2 ** 32 - 4, 2 ** 32 - 1]), 0)
     if name == "FORGET":
@@ -170,7 +170,7 @@ def random_node(rng, stack):
     return rng.choice([1, 1, rng.randrange(1, count + 1), rng.randrange(1, count + 1), near(rng, 0, count), 2 ** 64 - 1])
 
 
-COMMON = ["LOOKUP"] * 5 + ["GETATTR", "READ", "READDIR", "READDIRPLUS", "FORGET", "BATCH_FORGET"] * 2 + [
+COMMON = ["LOOKUP"] * 5 + ["READ", "READ", "GETATTR", "READDIR", "READDIRPLUS", "FORGET", "BATCH_FORGET"] * 2 + [
     "READLINK", "OPEN", "OPENDIR", "STATFS", "DESTROY", "INTERRUPT", "RELEASE", "INIT"]
 
 
