@@ -137,9 +137,10 @@ class Case:
             run.output.append(text)
         elif kind == "!" and run.more_faults:
             raise Wrong("a line behind any more lines")
+        elif kind == "!" and text == "...":
+            run.more_faults = True
         elif kind == "!":
-            run.more_faults = text == "..." or text.endswith(" ...")
-            run.faults += text[:-4] if run.more_faults else text + "\n"
+            run.faults += text + "\n"
         elif kind == "status" and run.status is None:
             run.status = words.number()
             words.end()

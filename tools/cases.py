@@ -15,7 +15,7 @@ below `for N 0 to 15`, or `for N in 1 2 5`, stand once for each of these values,
       room N                        a file may grow to N bytes, and then writes fail
       memory N                      so many MiB of address space
     | TEXT                          a line of the output
-    ! TEXT                          a line of standard error; `! ...`, or ` ...` behind a text, stands for all that follows
+    ! TEXT                          a line of standard error, where `! ...` stands for any more lines
     replies [NAME] [= ANSWERS [first N]]    what came out as replies, or stands in that file: the first bytes of these
                                     answers, and a line each below
     left NAME DATA                  what a file holds after the run; `left NAME empty`, `left NAME absent`, or lines
