@@ -119,7 +119,11 @@ def converse(process, pipe, messages, wanted):
         for message in messages:
             os.write(pipe, message)
             if wanted and wanted[0][8:16] == message[8:16]:
-                came += read_whole(process.stdout.fileno(), len(wanted.pop(0)))
+                size = len(wanted.pop(0))
+                reply = read_whole(process.stdout.fileno(), size)
+                came += reply
+                if len(reply) < size:
+                    break
     except OSError:
         pass
     finally:
