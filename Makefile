@@ -18,10 +18,14 @@ build: build/strata
 build/strata: crates.txt $(shell find crates -name '*.rt' -o -name '*.antt') | needed
 	@$(PYTHON) tools/prove.py
 
+LAYERS = demo/lower.romfs demo/upper.romfs
 demo: build/strata
-	build/strata check demo/lantern.romfs
-	build/strata serve --requests demo/requests.fuse --replies build/replies demo/lantern.romfs
+	build/strata check $(LAYERS)
+	build/strata list demo/lower.romfs
+	build/strata list $(LAYERS)
+	build/strata serve --requests demo/requests.fuse --replies build/replies --balances build/balances $(LAYERS)
 	@$(PYTHON) tools/show.py demo/requests.fuse build/replies
+	cat build/balances
 
 cases: build/strata
 	$(PYTHON) tools/cases.py build/strata

@@ -1,156 +1,137 @@
-"""Times the built program against cat, and hostile images against an honest one: python3 tools/bench.py PROGRAM
+"""Times the built program, and hostile inputs against honest ones: python3 tools/bench.py PROGRAM [PART..]
 
-Files lie in memory (/dev/shm where it is there). Each figure is the best of three runs.
+The parts are `serve` (a million requests, against cat), `check` (images), `stacks` (check, list and serve of stacks),
+`streams` (dear requests) and `pulls` (a byte at a time). Files lie in memory (/dev/shm where it is there). A time is
+processor time, user and system, the least of three runs; memory is the most that a run had at one moment, and less than
+some 20 MiB is not told apart. The status is 0 where each hostile input takes at most five times as long as an honest one
+of its size.
 """
+import multiprocessing
 import os
-import random
-import subprocess
 import sys
 import tempfile
+import threading
 import time
+from collections import namedtuple
 
-from build import finished, getattr_, header, init, lookup, padded, volume
-from images import flat
+import bench_inputs as inputs
 
-MIB = 1 << 20
-HEADERS = 200_000
-SIZE = 16 * MIB
-
-
-def seconds(*words, output=subprocess.DEVNULL, statuses=(0,)):
-    best = None
-    for _ in range(3):
-        with open(output, "wb") if isinstance(output, str) else open(os.devnull, "wb") as out:
-            begun = time.monotonic()
-            done = subprocess.run(words, stdout=out, stderr=subprocess.PIPE, check=False)
-            taken = time.monotonic() - begun
-        if done.returncode not in statuses:
-            sys.exit("%s ended with %d: %s" % (words, done.returncode, done.stderr.decode()))
-        best = taken if best is None else min(best, taken)
-    return best, done.stderr.decode().strip()
+RUNS = 3
+MOST = 5
+Cost = namedtuple("Cost", "seconds memory line")
 
 
-def write(path, data):
-    with open(path, "wb") as out:
-        out.write(data)
-    return path
+def run(words, output, packets):
+    """What one run of some words costs; the bytes of a file of packets come through a pipe, one a read."""
+    errors, told = os.pipe()
+    source, pipe = os.pipe2(os.O_DIRECT) if packets else (os.open(os.devnull, os.O_RDONLY), None)
+    sink = os.open(output, os.O_WRONLY | os.O_CREAT | os.O_TRUNC, 0o600)
+    dups = [(os.POSIX_SPAWN_DUP2, source, 0), (os.POSIX_SPAWN_DUP2, sink, 1), (os.POSIX_SPAWN_DUP2, told, 2)]
+    child = os.posix_spawnp(words[0], words, os.environ, file_actions=dups)
+    for end in (source, sink, told):
+        os.close(end)
+    if packets:
+        threading.Thread(target=feed, args=(packets, pipe), daemon=True).start()
+    with open(errors, "rb") as lines:
+        line = lines.read().decode().strip()
+    _, status, used = os.wait4(child, 0)
+    if os.waitstatus_to_exitcode(status) not in (0, 3):
+        sys.exit("%s: %s" % (" ".join(words)[:200], line))
+    return Cost(used.ru_utime + used.ru_stime, used.ru_maxrss / 1024, line)
 
 
-def bench_serve(program, folder):
-    names = [b"file-%04d" % number for number in range(5000)]
-    image = write(folder + "/image", flat(b"bench", [(name, False, name) for name in names]))
-    rng = random.Random(1)
-    parts = [init(1)]
-    for unique in range(2, 1_000_001):
-        if unique % 2 == 0:
-            parts.append(lookup(unique, 1, names[rng.randrange(5000)]))
-        else:
-            parts.append(getattr_(unique, rng.randrange(1, 5002)))
-    requests = write(folder + "/requests", b"".join(parts))
-    del parts
-    replies = folder + "/replies"
-    served, _ = seconds(program, "serve", "--requests", requests, "--replies", replies, image)
-    copied = seconds("cat", requests, output=folder + "/copy")[0] + seconds("cat", replies, output=folder + "/copy")[0]
-    sizes = os.path.getsize(requests), os.path.getsize(replies)
-    print("1,000,000 requests over 5,000 files: %d bytes of requests, %d of replies" % sizes)
-    print("  cat %.3f s, strata serve %.3f s: %.1f times" % (copied, served, served / copied))
-    return served / copied <= 10
+def feed(packets, pipe):
+    try:
+        with open(packets, "rb") as data:
+            while True:
+                byte = data.read(1)
+                if not byte:
+                    break
+                os.write(pipe, byte)
+    except OSError:
+        pass
+    finally:
+        os.close(pipe)
 
 
-def laid_out(heads):
-    """An image of these headers: (kind, next, spec, size, name, extra bytes), links by number, -1 for none."""
-    places, at = [], 32 + 32
-    for _, _, _, _, name, extra in heads:
-        places.append(at)
-        at += 16 + padded(len(name) + 1) + extra
-    parts = [volume(b"bench"), header(places[0], "directory", True, 32, 0, b".")]
-    for kind, next_, spec, size, name, extra in heads:
-        links = kind in ("directory", "hard")
-        parts.append(header(places[next_] if next_ >= 0 else 0, kind, False,
-                            (places[spec] if spec >= 0 else 0) if links else 0, size, name))
-        parts.append(bytes(extra))
-    data = finished(parts)
-    return data + bytes(SIZE - len(data)) if len(data) < SIZE else data
+def cost(*words, output=os.devnull, packets=None):
+    return min(run(words, output, packets) for _ in range(RUNS))
 
 
-def spread(count, headers_size=32):
-    """Bytes beside each of so many headers, so that the image has about 16 MiB."""
-    return max(0, (SIZE - 100) // count // 16 * 16 - headers_size)
+def apart(function, *arguments):
+    """Calls a function in a process of its own, so that what it takes does not count as memory of the runs."""
+    with multiprocessing.get_context("fork").Pool(1) as pool:
+        return pool.apply(function, arguments)
 
 
-def honest():
-    """200 directories of 999 files each."""
-    extra, heads = spread(HEADERS), []
-    for directory in range(200):
-        here = directory * 1000
-        heads.append(("directory", here + 1000 if directory < 199 else -1, here + 1, 0, b"d%d" % directory, extra))
-        for file in range(1, 1000):
-            heads.append(("regular", here + file + 1 if file < 999 else -1, -1, extra, b"f%d" % file, extra))
-    return laid_out(heads)
+class Bench:
+    """The program, a folder for files, and whether all has been within its bounds."""
+
+    def __init__(self, program, folder):
+        self.program, self.folder, self.within = program, folder, True
+
+    def held(self, what, taken, honest):
+        """Prints what a hostile input costs, beside an honest one."""
+        ratio = taken.seconds / max(honest.seconds, 0.001)
+        self.within = self.within and ratio <= MOST
+        print("%-30s %8.3f s %6.0f MiB   honest %8.3f s %6.0f MiB  %5.1f times  %s" % (
+            what, taken.seconds, taken.memory, honest.seconds, honest.memory, ratio, taken.line), flush=True)
+
+    def serve(self):
+        """A million LOOKUPs and GETATTRs over 5,000 files, against reading and writing as many bytes."""
+        image, requests = apart(inputs.write_million, self.folder)
+        replies, copy = self.folder + "/replies", self.folder + "/copy"
+        served = cost(self.program, "serve", "--requests", requests, "--replies", replies, image)
+        copied = cost("cat", requests, output=copy).seconds + cost("cat", replies, output=copy).seconds
+        print("1,000,000 requests over 5,000 files: %d bytes of requests, %d of replies" % (
+            os.path.getsize(requests), os.path.getsize(replies)))
+        print("  strata serve %.3f s, %.0f MiB; cat of both %.3f s: %.1f times" % (
+            served.seconds, served.memory, copied, served.seconds / copied), flush=True)
+
+    def check(self):
+        """Hostile images against the first one, which has as many headers and bytes."""
+        honest = None
+        for name in inputs.IMAGES:
+            taken = cost(self.program, "check", apart(inputs.write_image, name, self.folder))
+            honest = honest or taken
+            self.held("check of " + name, taken, honest)
+
+    def stacks(self):
+        """Hostile stacks, each against an honest one of as many headers in as many layers."""
+        requests = apart(inputs.write_begin, self.folder)
+        commands = (["check"], ["list"], ["serve", "--requests", requests])
+        for name in inputs.STACKS:
+            headers, hostile, honest = apart(inputs.write_stacks, name, self.folder)
+            print("%s: %d headers in %d layers" % (name, headers, len(hostile)))
+            for command in commands:
+                self.held("  " + command[0], cost(self.program, *command, *hostile), cost(self.program, *command, *honest))
+            for path in {*hostile, *honest}:
+                os.remove(path)
+
+    def streams(self):
+        """Streams of dear requests, each against an honest one."""
+        for name in inputs.STREAMS:
+            image, *streams = apart(inputs.write_streams, name, self.folder)
+            honest, hostile = [cost(self.program, "serve", "--requests", it, "--replies", os.devnull, image) for it in streams]
+            self.held(name, hostile, honest)
+
+    def pulls(self):
+        """Requests through a pipe, a byte a read, against cat, which reads them like that too."""
+        image, packets = apart(inputs.write_packets, self.folder)
+        self.held("%d pulls of a byte" % os.path.getsize(packets), cost(self.program, "serve", image, packets=packets),
+                  cost("cat", packets=packets))
 
 
-def shared_tail():
-    """200,000 directories whose chains are one chain of 1,000 files."""
-    extra, heads = spread(HEADERS + 1000), []
-    for directory in range(HEADERS):
-        heads.append(("directory", directory + 1 if directory < HEADERS - 1 else -1, HEADERS, 0, b"d%d" % directory, extra))
-    for file in range(HEADERS, HEADERS + 1000):
-        heads.append(("regular", file + 1 if file < HEADERS + 999 else -1, -1, 0, b"f%d" % file, extra))
-    return laid_out(heads)
-
-
-def nested_merges():
-    """100,000 directories, the chain of each beginning one file later in one chain of 100,000 files."""
-    extra, heads = spread(HEADERS), []
-    for directory in range(100_000):
-        heads.append(("directory", directory + 1 if directory < 99_999 else -1, 100_000 + directory, 0, b"d%d" % directory, extra))
-    for file in range(100_000, 200_000):
-        heads.append(("regular", file + 1 if file < 199_999 else -1, -1, 0, b"f%d" % file, extra))
-    return laid_out(heads)
-
-
-def hard_links():
-    """A chain of 200,000 hard links, each to the next one."""
-    extra = spread(HEADERS)
-    heads = [("hard", link + 1, link + 1, 0, b"h%d" % link, extra) for link in range(HEADERS - 1)]
-    return laid_out(heads + [("regular", -1, -1, 0, b"end", extra)])
-
-
-def one_directory():
-    """200,000 names in the root."""
-    extra = spread(HEADERS)
-    return laid_out([("regular", file + 1 if file < HEADERS - 1 else -1, -1, 0, b"f%d" % file, extra) for file in range(HEADERS)])
-
-
-def deep():
-    """200,000 directories, each in the one before."""
-    extra = spread(HEADERS)
-    return laid_out([("directory", -1, place + 1 if place < HEADERS - 1 else -1, 0, b"d", extra) for place in range(HEADERS)])
-
-
-def bench_check(program, folder):
-    within = True
-    base = None
-    for build_image in (honest, shared_tail, nested_merges, hard_links, one_directory, deep):
-        image = write(folder + "/image", build_image())
-        taken, line = seconds(program, "check", image, statuses=(0, 3))
-        base = base or taken
-        within = within and taken <= 5 * base
-        print("check of %-14s %.3f s, %.1f times the honest image  %s" % (build_image.__name__ + ":", taken, taken / base, line))
-    return within
-
-
-def main():
-    program = os.path.abspath(sys.argv[1])
-    which = sys.argv[2:] or ["serve", "check"]
+def main(program, parts):
     place = "/dev/shm" if os.path.isdir("/dev/shm") else None
     with tempfile.TemporaryDirectory(dir=place) as folder:
-        good = True
-        if "serve" in which:
-            good = bench_serve(program, folder) and good
-        if "check" in which:
-            good = bench_check(program, folder) and good
-    sys.exit(0 if good else "slower than promised")
+        bench = Bench(program, folder)
+        begun = time.monotonic()
+        for part in parts:
+            getattr(bench, part)()
+        print("%.0f s in all" % (time.monotonic() - begun))
+    return 0 if bench.within else "slower than promised"
 
 
-main()
+if __name__ == "__main__":
+    sys.exit(main(os.path.abspath(sys.argv[1]), sys.argv[2:] or ["serve", "check", "stacks", "streams", "pulls"]))

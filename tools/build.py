@@ -1,7 +1,7 @@
 """Lays out romfs images and FUSE requests, for the demo, the benchmarks and the fuzzing."""
 import struct
 
-from plain import padded
+from plain_images import padded
 
 KINDS = {"hard": 0, "directory": 1, "regular": 2, "symlink": 3, "block": 4, "character": 5, "socket": 6, "fifo": 7}
 

@@ -1,21 +1,25 @@
 """Runs the cases of cases/*.case on the built program: python3 tools/cases.py PROGRAM [CASE..]
 
 A case file is a transcript. Lines that begin with # are comments, and indented lines belong to the line above; those
-below `for N 0 to 15` stand once for each of these numbers, in place of N.
+below `for N 0 to 15`, or `for N in 1 2 5`, stand once for each of these values, in place of N.
 
     image NAME [volume "v"]         what it holds, a line each (tools/images.py), and edits by offset
     image NAME = OTHER              the image `empty`, `sample` or OTHER, and edits; sealed only where a line says `seal`
-    requests NAME [= OTHER first N] requests by name, a line each (tools/messages.py)
+    requests NAME [= OTHER [first N]]   requests by name, a line each (tools/messages.py), after the first bytes of others
+    answers NAME                    replies that several runs have, a line each (tools/replies.py)
     file NAME DATA                  what a file holds before a run; `file NAME sparse SIZE` has that many zeros, and no blocks
     folder NAME
     $ strata WORDS [< NAME] [> NAME] [2> NAME]
       fed N                         the input is a pipe, fed N bytes at a time
+      waits                         the input is a pipe; a request is written when the reply to the one before it has come
       room N                        a file may grow to N bytes, and then writes fail
       memory N                      so many MiB of address space
     | TEXT                          a line of the output
     ! TEXT                          a line of standard error, where `! ...` stands for any more lines
-    replies [NAME]                  what came out as replies, or stands in that file: a line each (tools/replies.py)
-    left NAME DATA                  what a file holds after the run; `left NAME empty`, `left NAME absent`
+    replies [NAME] [= ANSWERS [first N]]    what came out as replies, or stands in that file: the first bytes of these
+                                    answers, and a line each below
+    left NAME DATA                  what a file holds after the run; `left NAME empty`, `left NAME absent`, or lines
+                                    `| TEXT` below
     unread                          nothing was read of the input
     status N                        how the process ended
 
@@ -24,8 +28,8 @@ run says its status. A name that no run uses, and a line that means nothing, fai
 """
 import fcntl
 import os
-import re
 import resource
+import select
 import shutil
 import struct
 import subprocess
@@ -35,169 +39,12 @@ import termios
 import threading
 import time
 
-import images
-import messages
-import plain
 import replies
+from case_files import Case
+from plain_replies import split
 from text import Words, Wrong, plain_bytes, words_of
 
 SECONDS = 60
-
-
-class Line:
-    """A line of a case file, with the lines below it."""
-
-    def __init__(self, number, text):
-        self.number, self.text, self.below = number, text, []
-
-    def words(self):
-        return Words(words_of(self.text))
-
-
-def tree_of(text):
-    """The lines of a case file as a tree, by their indent."""
-    top, open_lines = [], []
-    for number, line in enumerate(text.splitlines(), 1):
-        if not line.strip() or line.lstrip().startswith("#"):
-            continue
-        indent = len(line) - len(line.lstrip())
-        made = Line(number, line.strip())
-        open_lines = [(depth, it) for depth, it in open_lines if depth < indent]
-        (open_lines[-1][1].below if open_lines else top).append(made)
-        open_lines.append((indent, made))
-    return top
-
-
-def repeated(lines):
-    """The lines with those below `for N 0 to 15` once for each of these numbers, which stand in place of N."""
-    made = []
-    for line in lines:
-        found = re.fullmatch(r"for ([A-Z]+) ([0-9]+) to ([0-9]+)", line.text)
-        if not found:
-            line.below = repeated(line.below)
-            made.append(line)
-            continue
-        for number in range(int(found[2]), int(found[3]) + 1):
-            made += repeated([replaced(below, found[1], number) for below in line.below])
-    return made
-
-
-def replaced(line, name, number):
-    made = Line(line.number, re.sub(r"\b%s\b" % name, str(number), line.text))
-    made.below = [replaced(below, name, number) for below in line.below]
-    return made
-
-
-class Run:
-    """A run of the program, and what must come of it."""
-
-    def __init__(self, line):
-        self.line = line
-        self.output, self.faults, self.replies, self.left = [], [], {}, {}
-        self.more_faults = self.unread = False
-        self.status = None
-
-
-class Case:
-    """A case file: what its lines name, and its runs."""
-
-    def __init__(self, path):
-        self.path, self.runs = path, []
-        self.images, self.streams, self.files, self.used = {}, {}, {}, set()
-        with open(path, encoding="utf-8") as text:
-            for line in repeated(tree_of(text.read())):
-                try:
-                    self.read(line)
-                except (Wrong, ValueError, OverflowError, struct.error) as wrong:
-                    raise Wrong("%s:%d: %s" % (path, line.number, wrong)) from None
-        for run in self.runs:
-            if run.status is None:
-                raise Wrong("%s:%d: no status" % (path, run.line.number))
-
-    def define(self, name, into, value):
-        if name in self.images or name in self.streams or name in self.files:
-            raise Wrong("%s stands twice" % name)
-        into[name] = value
-
-    def read(self, line):
-        words = line.words() if line.text[0] not in "|!$" else None
-        kind = line.text[0] if words is None else words.next()
-        if kind == "image":
-            name = words.next()
-            data, base = images.image_of(words, [it.words() for it in line.below], self.images)
-            self.used.add(base)
-            self.define(name, self.images, data)
-        elif kind == "requests":
-            self.read_requests(words, line)
-        elif kind == "file":
-            name = words.next()
-            value = words.number() if words.take("sparse") else words.data()
-            words.end()
-            self.define(name, self.files, value)
-        elif kind == "folder":
-            self.define(words.next(), self.files, None)
-            words.end()
-        elif kind == "$":
-            self.runs.append(Run(line))
-        elif not self.runs:
-            raise Wrong("no run above")
-        else:
-            self.read_wanted(kind, words, line, self.runs[-1])
-        if line.below and kind not in ("image", "requests", "$", "replies"):
-            raise Wrong("lines below that mean nothing here")
-
-    def read_requests(self, words, line):
-        name, data = words.next(), b""
-        if words.take("="):
-            base = words.next()
-            if base not in self.streams:
-                raise Wrong("no requests: %s" % base)
-            self.used.add(base)
-            words.expect("first")
-            data = self.streams[base][:words.number()]
-        words.end()
-        self.define(name, self.streams, data + messages.stream_of([it.words() for it in line.below]))
-
-    def read_wanted(self, kind, words, line, run):
-        text = line.text[2:]
-        if kind == "|":
-            run.output.append(text)
-        elif kind == "!" and text == "...":
-            run.more_faults = True
-        elif kind == "!":
-            run.faults.append(text)
-        elif kind == "status" and run.status is None:
-            run.status = words.number()
-            words.end()
-        elif kind == "unread":
-            run.unread = True
-            words.end()
-        elif kind == "replies":
-            name = words.next() if words.more() else None
-            words.end()
-            made = [(it.words(), [row.words() for row in it.below]) for it in line.below]
-            if name in run.replies or not made:
-                raise Wrong("replies twice, or none")
-            run.replies[name] = replies.replies_of(made)
-        elif kind == "left":
-            name = words.next()
-            value = None if words.take("absent") else b"" if words.take("empty") else words.data()
-            words.end()
-            run.left[name] = value
-        else:
-            raise Wrong("this line means nothing: %s" % line.text)
-
-    def data_of(self, name):
-        """The bytes of what a name stands for, its size where it is sparse, None for a folder; and whether there is one."""
-        for table in (self.images, self.streams, self.files):
-            if name in table:
-                self.used.add(name)
-                return True, table[name]
-        return False, None
-
-    def unused(self):
-        names = [*self.images, *self.streams, *self.files]
-        return [name for name in names if name not in self.used]
 
 
 class Started:
@@ -219,9 +66,9 @@ class Started:
         for below in line.below:
             limit = below.words()
             name = limit.next()
-            if name not in ("fed", "room", "memory") or below.below:
+            if name not in ("fed", "waits", "room", "memory") or below.below:
                 raise Wrong("this line means nothing: %s" % below.text)
-            self.limits[name] = limit.number()
+            self.limits[name] = limit.number() if name != "waits" else None
             limit.end()
         self.names = {part for word in self.words for part in (word, word.partition("=")[2])}
         self.names |= set(self.streams.values())
@@ -264,15 +111,53 @@ def feed(data, pipe, size):
         os.close(pipe)
 
 
+def converse(process, pipe, messages, wanted):
+    """Writes these messages one after another, and reads the reply to each that has one among those wanted before the next
+    is written; what was read."""
+    came = b""
+    try:
+        for message in messages:
+            os.write(pipe, message)
+            if wanted and wanted[0][8:16] == message[8:16]:
+                size = len(wanted.pop(0))
+                reply = read_whole(process.stdout.fileno(), size)
+                came += reply
+                if len(reply) < size:
+                    break
+    except OSError:
+        pass
+    finally:
+        os.close(pipe)
+    return came
+
+
+def read_whole(source, size):
+    """So many bytes of a pipe, or fewer where no more come."""
+    data = b""
+    while len(data) < size and select.select([source], [], [], SECONDS)[0]:
+        part = os.read(source, size - len(data))
+        if not part:
+            break
+        data += part
+    return data
+
+
+def replies_in(data):
+    """The single replies of some bytes."""
+    parts = []
+    while data:
+        size = struct.unpack_from("<I", data)[0]
+        parts, data = [*parts, data[:size]], data[size:]
+    return parts
+
+
 def open_streams(started, room):
-    """The input, the output and standard error of a run, and what feeds the input."""
+    """The input, the output and standard error of a run, and the pipe that feeds the input."""
     names = started.streams
     pair = [open(os.path.join(room, names[it]), "wb") if it in names else subprocess.PIPE for it in (">", "2>")]
-    if "fed" in started.limits:
+    if "fed" in started.limits or "waits" in started.limits:
         end, pipe = os.pipe()
-        data = started.case.data_of(names["<"])[1]
-        feeder = threading.Thread(target=feed, args=(data, pipe, started.limits["fed"]), daemon=True)
-        return end, pair, feeder
+        return end, pair, pipe
     return os.open(os.path.join(room, names["<"]) if "<" in names else "/dev/null", os.O_RDONLY), pair, None
 
 
@@ -317,9 +202,9 @@ def judged(run, started, room, ended, position, written):
         told.append("status: wanted %d, got %s" % (run.status, ended))
     wanted = "".join(line + "\n" for line in run.output).encode() + run.replies.get(None, b"")
     told += compared("the output", wanted, written[0] or b"", started.given() if None in run.replies else None)
-    faults, begun = (written[1] or b"").decode(errors="replace"), "".join(line + "\n" for line in run.faults)
-    if not (faults.startswith(begun) if run.more_faults else faults == begun):
-        told.append("standard error: wanted %r, got %r" % (begun, faults[:2000]))
+    faults = (written[1] or b"").decode(errors="replace")
+    if not (faults.startswith(run.faults) if run.more_faults else faults == run.faults):
+        told.append("standard error: wanted %r, got %r" % (run.faults, faults[:2000]))
     for name, data in run.replies.items():
         if name is not None:
             told += compared("the replies of %s" % name, data, bytes_of(os.path.join(room, name)), started.given())
@@ -330,17 +215,22 @@ def judged(run, started, room, ended, position, written):
     return told
 
 
-def ended(program, started, source, pair, feeder, room):
+def ended(program, started, run, source, pair, pipe, room):
     """How the program ended, and what it wrote."""
     words = [program.encode(), *(plain_bytes(word) for word in started.words)]
     done = subprocess.Popen(words, cwd=room, stdin=source, stdout=pair[0], stderr=pair[1],
                             preexec_fn=limited(started.limits), restore_signals=False)
-    if feeder:
+    came = b""
+    if pipe is not None:
         os.close(source)
-        feeder.start()
+        data = started.case.data_of(started.streams["<"])[1]
+    if "waits" in started.limits:
+        came = converse(done, pipe, split(data)[0], replies_in(run.replies[None]))
+    elif pipe is not None:
+        threading.Thread(target=feed, args=(data, pipe, started.limits["fed"]), daemon=True).start()
     try:
         written = done.communicate(timeout=SECONDS)
-        return done.returncode, written
+        return done.returncode, (came + (written[0] or b""), written[1])
     except subprocess.TimeoutExpired:
         done.kill()
         return "no end after %d seconds" % SECONDS, done.communicate()
@@ -349,15 +239,18 @@ def ended(program, started, source, pair, feeder, room):
 def tried(program, case, run):
     """Runs the program once; what is not as it must be."""
     started = Started(case, run.line)
-    if run.unread and ("fed" in started.limits or "<" not in started.streams):
-        raise Wrong("%s:%d: unread wants an input that is a file" % (case.path, run.line.number))
+    is_fed = "fed" in started.limits or "waits" in started.limits
+    if (run.unread or is_fed) and "<" not in started.streams or run.unread and is_fed:
+        raise Wrong("%s:%d: an input that is a file is wanted here" % (case.path, run.line.number))
+    if "waits" in started.limits and None not in run.replies:
+        raise Wrong("%s:%d: replies are wanted here" % (case.path, run.line.number))
     room = tempfile.mkdtemp(prefix="case-")
     try:
         started.lay_out(room)
-        source, pair, feeder = open_streams(started, room)
-        status, written = ended(program, started, source, pair, feeder, room)
+        source, pair, pipe = open_streams(started, room)
+        status, written = ended(program, started, run, source, pair, pipe, room)
         position = 0
-        if not feeder:
+        if pipe is None:
             position = position_of(source)
             os.close(source)
         for stream in pair:

@@ -1,176 +1,207 @@
-"""Holds the built program against the plain reading of the formats, over random images and request streams.
+"""Holds the built program against the plain reading of the formats, over random images, stacks and request streams.
 
-python3 tools/fuzz.py PROGRAM [IMAGES [STREAMS [SEED]]]
+python3 tools/fuzz.py PROGRAM [IMAGES [STACKS [STREAMS [SEED]]]]
+
+Images, most of them broken, go through `check` and `list`; stacks of 1 to 6 layers through `check` and `list`; streams
+over such stacks through `serve`, from files and through pipes in pieces, by any plan, with balances. Each is tried
+strictly or not. Where a run differs, or takes longer than two seconds, its files are kept and its words are printed; where
+these name no file of requests, that file's bytes came through the pipe.
 """
+import collections
+import fcntl
 import os
 import random
+import shutil
 import struct
 import subprocess
 import sys
 import tempfile
+import termios
+import threading
+import time
 
 import plain
-from build import getattr_, header, init, lookup, name_bytes, request, seal, volume
-from images import flat
+from random_inputs import kinds_of, mutated, random_image, random_stack, random_stream
 
-NAMES = [b"a", b"b", b"c", b"d", b".", b"..", b"", b"a/b", b".wh.a", b"fifteen-letters", b"sixteen-letters-", b"x" * 255]
-EDGES = [0, 15, 16, 32, 40, 80, 4095, 4096, 0x10000003, 0x0fff0001, 2 ** 31, 2 ** 32 - 1]
+SECONDS = 2
 
 
-def random_image(rng):
-    """An image of some headers at slots of their own, whose links lead anywhere."""
-    names = [rng.choice(NAMES[:6] if rng.random() < 0.8 else NAMES) for _ in range(rng.randrange(1, 14))]
-    places, at = [], 32
-    for name in names:
-        places.append(at)
-        at += 16 + len(name_bytes(name)) + rng.choice([0, 0, 16])
-    end = at
-
-    def place():
-        if rng.random() < 0.03:
-            return rng.choice([16, end - 16, end, end + 16, 0])
-        return rng.choice(places)
-
-    parts, at = [volume(b"v")], 32
-    for index, name in enumerate(names):
-        if index == 0:
-            kind = "directory"
-        else:
-            kind = rng.choice(["directory", "directory", "hard", "hard", "regular", "regular", "symlink", "block",
-                               "character", "socket", "fifo"])
-        after = places[index + 1] if index + 1 < len(places) else 0
-        next_ = rng.choice([0, after, after, after, place()])
-        spec = place() | rng.randrange(16) if kind in ("directory", "hard") else rng.choice(EDGES)
-        if kind == "directory" and rng.random() < 0.3:
-            spec = rng.choice([0, at, after])
-        size = rng.choice([0, 0, 1, 16, 17, end - at - 32 if end > at + 32 else 0, rng.choice(EDGES)])
-        part = header(next_ & ~15, kind, rng.random() < 0.5, spec & 0xffffffff, size, name)
-        parts.append(part)
-        at += len(part)
-        gap = (places[index + 1] if index + 1 < len(places) else end) - at
-        parts.append(bytes(gap))
-        at += gap
-    data = b"".join(parts)
-    data = data[:8] + struct.pack(">I", len(data)) + data[12:]
-    return bytearray(data)
+class Difference(Exception):
+    """The program did something else than the plain reading says."""
 
 
-def mutated(rng, data):
-    """Some words and bytes changed; the checksum is mostly set again."""
-    for _ in range(rng.choice([0, 0, 0, 1, 1, 2, 5])):
-        kind = rng.randrange(4)
-        if kind == 0:
-            data[rng.randrange(len(data))] = rng.choice([0, 1, 47, 65, 255, rng.randrange(256)])
-        elif kind == 1:
-            struct.pack_into(">I", data, rng.randrange(len(data) // 4) * 4, rng.choice(EDGES))
-        elif kind == 2:
-            slots = range(32, len(data), 16)
-            struct.pack_into(">I", data, rng.choice(slots), rng.choice(slots) | rng.randrange(16))
-        else:
-            place = rng.randrange(len(data))
-            data[place:place + 20] = b"A" * len(data[place:place + 20])
-    data = seal(bytes(data)) if rng.random() < 0.95 else bytes(data)
-    if rng.random() < 0.03:
-        data = data[:rng.randrange(len(data))]
-    return data + bytes(rng.choice([0, 0, 0, 7]))
+Ended = collections.namedtuple("Ended", "status output line files")
 
 
-def expected_check(data):
-    found = plain.fault(data)
-    if found is None:
-        return 0, "layer 0: %d bytes\n" % plain.word(data, 8), ""
-    rule, place = found
-    return 3, "", "layer 0 at %08x: %s\n" % (place, plain.TEXTS[rule])
+class Running:
+    """The program, and a folder for its files."""
 
+    def __init__(self, program):
+        self.program, self.folder = program, tempfile.mkdtemp(prefix="strata-fuzz-")
+        self.runs = 0
 
-def run(program, *words):
-    done = subprocess.run([program, *words], capture_output=True, timeout=60, check=False)
-    return done.returncode, done.stdout, done.stderr.decode()
-
-
-def fuzz_images(program, folder, rng, count):
-    faults = {}
-    for index in range(count):
-        data = mutated(rng, random_image(rng))
-        path = os.path.join(folder, "image")
-        with open(path, "wb") as out:
+    def write(self, name, data):
+        with open(os.path.join(self.folder, name), "wb") as out:
             out.write(data)
-        want = expected_check(data)
-        status, output, line = run(program, "check", path)
-        if (status, output.decode(), line) != want:
-            return "image %d of the seed: want %r, got %r: %s" % (index, want, (status, output, line), data.hex())
-        found = plain.fault(data)
-        faults[found and found[0]] = faults.get(found and found[0], 0) + 1
-    print("images: %d, faults met: %s" % (count, ", ".join("%s %d" % (k, v) for k, v in sorted(faults.items(), key=str))))
-    return None
+        return name
+
+    def read(self, name):
+        with open(os.path.join(self.folder, name), "rb") as it:
+            return it.read()
+
+    def hold(self, words, want, pieces=()):
+        """Runs the program with these words, and the pieces through a pipe, and holds it against what must come."""
+        self.runs += 1
+        begun = time.monotonic()
+        end, pipe = os.pipe()
+        done = subprocess.Popen([self.program, *words], cwd=self.folder, stdin=end, stdout=subprocess.PIPE, stderr=subprocess.PIPE)
+        os.close(end)
+        threading.Thread(target=feed, args=(pieces, pipe), daemon=True).start()
+        try:
+            output, line = done.communicate(timeout=60)
+        except subprocess.TimeoutExpired:
+            done.kill()
+            raise Difference("%s does not end" % self.told(words)) from None
+        taken = time.monotonic() - begun
+        got = Ended(done.returncode, output, line.decode(errors="replace"), {name: self.read(name) for name in want.files})
+        for what in ("status", "line", "output"):
+            if getattr(got, what) != getattr(want, what):
+                raise Difference("%s: the %s should be %r, and is %r" % (
+                    self.told(words), what, getattr(want, what)[:500] if what != "status" else want.status,
+                    getattr(got, what)[:500] if what != "status" else got.status))
+        for name, data in want.files.items():
+            if got.files[name] != data:
+                wanted = self.write("wanted-" + name, data)
+                raise Difference("%s: %s differs from %s" % (self.told(words), name, wanted))
+        if taken > SECONDS:
+            raise Difference("%s takes %.1f s" % (self.told(words), taken))
+
+    def told(self, words):
+        return "in %s: strata %s" % (self.folder, " ".join(words))
 
 
-def random_message(rng, unique, names):
-    kind = rng.randrange(10)
-    node = rng.choice([0, 1, 1, 1, 2, 3, 99, 2 ** 64 - 1])
-    if kind < 4:
-        name = rng.choice(names + [b"missing", b".", b"..", b".wh.a", b"q" * rng.randrange(0, 301), b"in\0side"])
-        body = name + rng.choice([b"\0", b"\0", b"\0", b"", b"\0\0"])
-        return request(1, unique, node, body)
-    if kind < 7:
-        return request(3, unique, node, bytes(rng.choice([16, 16, 16, rng.randrange(0, 16), 40])))
-    if kind == 7:
-        body = struct.pack("<4I", rng.choice([7, 7, 7, 6, 8]), rng.choice([31, 39, 23, 22, 0]),
-                           rng.choice([0, 131072, 1048577]), rng.choice([0x6001, 0x73fffffb, 0]))
-        return request(26, unique, node, (body + bytes(48))[:rng.choice([16, 64, rng.randrange(0, 16)])])
-    if kind == 8:
-        return request(rng.choice([2, 5, 14, 15, 16, 17, 28, 38, 42, 44, 99]), unique, node, bytes(rng.randrange(0, 60)))
-    return init(unique)
+def feed(pieces, pipe):
+    """Writes pieces into a pipe, each when the one before it was taken out."""
+    try:
+        for piece in pieces:
+            os.write(pipe, piece)
+            begun = time.monotonic()
+            while struct.unpack("i", fcntl.ioctl(pipe, termios.FIONREAD, bytes(4)))[0] and time.monotonic() - begun < 10:
+                time.sleep(0)
+    except OSError:
+        pass
+    finally:
+        os.close(pipe)
 
 
-def random_stream(rng, names):
-    stream = b"" if rng.random() < 0.1 else init(1)
-    for unique in range(2, rng.randrange(2, 30)):
-        stream += random_message(rng, unique, names)
-    ending = rng.randrange(4)
-    if ending == 1:
-        stream = stream[:rng.randrange(len(stream) + 1)]
-    elif ending == 2:
-        stream += struct.pack("<I", rng.choice([0, 1, 39, 1052673, 2 ** 32 - 1])) + bytes(rng.randrange(0, 50))
-    elif ending == 3:
-        stream += bytes(rng.randrange(0, 4))
-    return stream
+def lines_or_stop(lines, images, strict):
+    """What must come of a command that prints lines."""
+    try:
+        return Ended(0, "".join(line + "\n" for line in lines(images, strict)).encode(), "", {})
+    except plain.Stop as stop:
+        return Ended(stop.args[1], b"", stop.args[0] + "\n", {})
 
 
-def fuzz_streams(program, folder, rng, count):
-    replied = 0
-    for index in range(count):
-        names = rng.sample([b"a", b"b", b"file", b"zz", b"long-" * 40, b".wh.gone", b"e" * 255], rng.randrange(0, 7))
-        image = flat(b"volume", [(name, rng.random() < 0.5, bytes(rng.randrange(0, 2000))) for name in names])
-        stream = random_stream(rng, names)
-        paths = [os.path.join(folder, name) for name in ("image", "requests", "replies")]
-        for path, data in zip(paths, (image, stream)):
-            with open(path, "wb") as out:
-                out.write(data)
-        status, output, line = run(program, "serve", "--requests", paths[1], "--replies", paths[2], paths[0])
-        with open(paths[2], "rb") as replies:
-            got = replies.read()
-        want, want_line = plain.serve(image, stream)
-        want_end = (4, want_line + "\n") if want_line else (0, "")
-        if (got, (status, line), output) != (want, want_end, b""):
-            return "stream %d of the seed: want %r, got %r, replies equal: %s: %s" % (
-                index, want_end, (status, line), got == want, stream.hex())
-        replied += len(got)
-    print("streams: %d, bytes of replies: %d" % (count, replied))
-    return None
+def hold_lines(running, images, strict):
+    """Holds `check` and `list` of these images; how `list` must end."""
+    names = [running.write("image-%d" % number, data) for number, data in enumerate(images)]
+    strictly = ["--strict"] * strict
+    running.hold(["check", *strictly, *names], lines_or_stop(plain.check, images, strict))
+    want = lines_or_stop(plain.list_, images, strict)
+    running.hold(["list", *names, *strictly], want)
+    return want
 
 
-def main():
-    program = os.path.abspath(sys.argv[1])
-    images = int(sys.argv[2]) if len(sys.argv) > 2 else 2000
-    streams = int(sys.argv[3]) if len(sys.argv) > 3 else 500
-    seed = int(sys.argv[4]) if len(sys.argv) > 4 else 1
+def fuzz_images(running, rng, count):
+    """Holds single images; those that are sound."""
+    faults, sound = collections.Counter(), []
+    for _ in range(count):
+        data = mutated(rng, random_image(rng))
+        want = hold_lines(running, [data], rng.random() < 0.3)
+        faults[want.line[want.line.find(": ") + 2:].strip() or "none"] += 1
+        if plain.fault(data) is None:
+            sound.append(data)
+    print("images: %d; faults: %s" % (count, ", ".join("%s %d" % it for it in sorted(faults.items()))), flush=True)
+    return sound
+
+
+def fuzz_stacks(running, rng, count, others):
+    lines = broken = markers = 0
+    for _ in range(count):
+        images = random_stack(rng, others)
+        want = hold_lines(running, images, rng.random() < 0.2)
+        broken += want.status != 0
+        lines += want.output.count(b"\n")
+        markers += sum(data.count(b".wh.") for data in images)
+    print("stacks: %d, %d of them broken; %d markers; %d lines" % (count, broken, markers, lines), flush=True)
+
+
+def cut(rng, stream):
+    """A stream in pieces of random lengths."""
+    most, pieces = rng.choice([1, 7, 60, 500, 5000, 65536]), []
+    if len(stream) // most > 2000:
+        most = 5000
+    at = 0
+    while at < len(stream):
+        size = rng.randrange(1, most + 1)
+        pieces.append(stream[at:at + size])
+        at += size
+    return pieces
+
+
+def served(images, stream, strict):
+    """What must come of serving a stream: how it ends, and the replies."""
+    try:
+        done = plain.Served(images, stream, strict)
+    except plain.Stop as stop:
+        return Ended(stop.args[1], b"", stop.args[0] + "\n", {"balances": b""}), b""
+    line, status = done.stop.args if done.stop else ("", 0)
+    balances = "".join(it + "\n" for it in done.balance_lines()).encode()
+    return Ended(status, b"", line + "\n" if line else "", {"balances": balances}), done.replies
+
+
+def fuzz_streams(running, rng, count, others):
+    replied = messages = nodes = 0
+    for _ in range(count):
+        images = random_stack(rng, others)
+        strict = rng.random() < 0.1
+        sound = [data for data in images if plain.fault(data) is None] or [others[0]]
+        stack = plain.stack_of(sound)
+        stream = random_stream(rng, stack)
+        names = [running.write("image-%d" % number, data) for number, data in enumerate(images)]
+        words = ["serve", "--balances", "balances", *["--strict"] * strict]
+        if rng.random() < 0.8:
+            words += ["--workers", str(rng.choice([1, 2, 4, 5, 64])), "--batch", str(rng.choice([1, 3, 16, 256]))]
+        want, replies = served(images, stream, strict)
+        pieces, requests = [], running.write("requests", stream)
+        if rng.random() < 0.6:
+            words += ["--requests", requests]
+        else:
+            pieces = cut(rng, stream)
+        if rng.random() < 0.5:
+            words += ["--replies", "replies"]
+            want.files["replies"] = replies
+        else:
+            want = want._replace(output=replies)
+        running.hold([*words, *names], want, pieces)
+        replied, messages, nodes = replied + len(replies), messages + len(plain.split(stream)[0]), nodes + sum(kinds_of(stack))
+    print("streams: %d over %d nodes; %d requests; %d bytes of replies" % (count, nodes, messages, replied), flush=True)
+
+
+def main(program, counts):
+    images, stacks, streams, seed = [*counts, *[3000, 3000, 2000, 1][len(counts):]]
     rng = random.Random(seed)
-    with tempfile.TemporaryDirectory() as folder:
-        found = fuzz_images(program, folder, rng, images) or fuzz_streams(program, folder, rng, streams)
-    if found:
-        sys.exit("a difference: " + found)
-    print("no difference")
+    running = Running(program)
+    try:
+        sound = fuzz_images(running, rng, images)
+        fuzz_stacks(running, rng, stacks, sound)
+        fuzz_streams(running, rng, streams, sound)
+    except Difference as difference:
+        return "a difference: %s" % difference
+    shutil.rmtree(running.folder)
+    print("%d runs, no difference" % running.runs)
+    return 0
 
 
-main()
+if __name__ == "__main__":
+    sys.exit(main(os.path.abspath(sys.argv[1]), [int(word) for word in sys.argv[2:]]))

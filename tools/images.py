@@ -64,6 +64,9 @@ def flat(name, files):
 
 
 def path_of(words):
+    """A path as `d/x` or, in quotation marks, as bytes: `"d/" then "q" * 255`."""
+    if words.begins_text():
+        return tuple(words.data().split(b"/"))
     return tuple(plain_bytes(name) for name in words.next().split("/"))
 
 

@@ -1,7 +1,7 @@
 """Requests by name, as `LOOKUP 1 big`, and their bytes."""
 import struct
 
-from text import Wrong
+from text import Wrong, shown
 
 # linux/fuse.h, enum fuse_opcode
 OPCODES = {
@@ -31,14 +31,14 @@ def fields(words, **defaults):
 
 
 def body_of(name, words):
-    """The body of a request, after the number of its node."""
+    """The body of a request, after the number of its node; nothing where the line gives the body as bytes."""
+    if words.more() and words.words[0] == "body":
+        return b""
     if name == "INIT":
         major, _, minor = words.next().partition(".")
         given = fields(words, max_readahead=131072, flags=0x6001)
         return struct.pack("<4I", int(major), int(minor), given["max_readahead"], given["flags"])
     if name == "LOOKUP":
-        if words.more() and words.words[0] == "body":
-            return b""
         if words.begins_data():
             return words.data() + b"\0"
         return words.name() + b"\0"
@@ -101,3 +101,26 @@ def stream_of(lines):
             unique = given if given is not None else unique
         words.end()
     return b"".join(parts)
+
+
+def text_of(message):
+    """A request as a line, with its unique in front."""
+    _, opcode, unique, node = struct.unpack_from("<IIQQ", message)
+    name, body = NAMES.get(opcode, "opcode %d" % opcode), message[40:]
+    words = ["%d %s" % (unique, name)]
+    if name not in NODELESS:
+        words.append(str(node))
+    if name == "INIT" and len(body) >= 16:
+        words.append("%d.%d max_readahead %d flags 0x%x" % struct.unpack_from("<4I", body))
+    elif name == "LOOKUP":
+        words.append(shown(body.rstrip(b"\0")))
+    elif name in ("OPEN", "OPENDIR") and len(body) >= 8:
+        words.append("flags %d" % struct.unpack_from("<I", body))
+    elif name in ("READ", "READDIR", "READDIRPLUS") and len(body) >= 40:
+        words.append("offset %d size %d" % struct.unpack_from("<8xQI", body))
+    elif name == "FORGET" and len(body) >= 8:
+        words.append("nlookup %d" % struct.unpack_from("<Q", body))
+    elif name == "BATCH_FORGET" and len(body) >= 8:
+        words.append("count %d" % struct.unpack_from("<I", body))
+        words += ["item %d %d" % struct.unpack_from("<2Q", body, at) for at in range(8, len(body) - 15, 16)]
+    return " ".join(words)

@@ -4,7 +4,7 @@ A line begins with the request's unique. Valid times, generation, owners and tim
 """
 import struct
 
-import plain
+import plain_replies as plain
 from messages import NAMES
 from text import Wrong, shown
 

@@ -72,14 +72,18 @@ class Words:
             raise Wrong("no number: %s" % word) from None
 
     def name(self):
-        return plain_bytes(self.next())
+        """Bytes as a bare word, or as quoted text that may go on: "d/" then "q" * 255."""
+        return self.data() if self.begins_text() else plain_bytes(self.next())
 
     def end(self):
         if self.words:
             raise Wrong("words that mean nothing here: %s" % " ".join(self.words))
 
+    def begins_text(self):
+        return bool(self.words) and isinstance(self.words[0], Quoted)
+
     def begins_data(self):
-        return bool(self.words) and (isinstance(self.words[0], Quoted) or self.words[0] in DATA)
+        return self.begins_text() or bool(self.words) and self.words[0] in DATA
 
     def data(self):
         """Bytes: "text", "text" * 5, hex 00ff, zeros 16, byte 7, u32 7 (little-endian), count 5000 (byte i is i mod 251),
@@ -90,7 +94,7 @@ class Words:
         return b"".join(parts)
 
     def one_datum(self):
-        if self.words and isinstance(self.words[0], Quoted):
+        if self.begins_text():
             data = plain_bytes(self.next())
             return data * self.number() if self.take("*") else data
         if self.take("hex"):
@@ -107,4 +111,4 @@ class Words:
         self.expect("count")
         count = self.number()
         start = self.number() if self.take("from") else 0
-        return bytes(i % 251 for i in range(start, start + count))
+        return (bytes(range(251)) * (count // 251 + 2))[start % 251:start % 251 + count]
