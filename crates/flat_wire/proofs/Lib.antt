@@ -1,4 +1,0 @@
-pub mod Splits
-pub mod Begins
-pub mod Flags
-pub mod Names
