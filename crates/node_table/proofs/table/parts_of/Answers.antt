@@ -3,7 +3,7 @@ use Rattle.std.specs.Ordering.{nat_cmp}
 use Rattle.std.specs.BTreeMap.{get}
 use Rattle.node_table.specs.Walks.{AreWalked}
 use Rattle.node_table.proofs.Planted.{seeds, walked_all}
-use Rattle.node_table.proofs.table.nodes_and_rows.Goals as goal
+use Rattle.node_table.proofs.table.parts_of.Goals as goal
 
 pub make-requires : goal.make-requires
 make-requires g c =
