@@ -1,17 +1,22 @@
 -- Rows and nodes, one after another.
-use Rattle.std.proofs.Common.{◌≡◌, ◌∙◌, sym, ap, ℕ, zero, suc, ◌+◌, ◌-◌, ◌^◌, ◌<◌, ◌≤◌, List, [], ◌∷◌, ◌++◌, length, map, take, get_or, refl, arith, append_assoc, Bool, true, false, cond, Option, Some}
+use Rattle.std.proofs.Common.{◌≡◌, ◌∙◌, sym, ap, ℕ, zero, suc, ◌+◌, ◌-◌, ◌^◌, ◌<◌, ◌≤◌, List, [], ◌∷◌, ◌++◌, length, map, take, drop, get_or, refl, arith, append_assoc, Bool, true, false, cond, Option, Some}
 use Rattle.std.specs.Prelude.{slice_get, min}
+use Rattle.std.specs.List.{AllByRecursion}
+use Rattle.std.specs.declared.cmp.Ordering.TheVariants.{Less}
 use Rattle.std.proofs.lemmas.List.Sums.{count_by_more_yes, count_by_more_no}
+use Rattle.std.proofs.lemmas.List.{take_rest, drop_at}
 use Rattle.romfs_format.specs.declared.head.Kind.{Kind}
 use Rattle.romfs_format.specs.declared.head.Kind.TheVariants.{HardLink, Directory, Regular, SymLink, Block, Character, Socket, Fifo}
 use Rattle.stack_model.specs.Attributes.{is_directory}
-use Rattle.path_tree.specs.Rows.{Shoot, spread, IsForest}
+use Rattle.path_tree.specs.Rows.{Shoot, NamesRise, name_cmp, spread, IsForest}
 use Rattle.romfs_format.specs.declared.head.Head.{Head}
 use Rattle.romfs_format.specs.Heads.{head_of}
 use Rattle.layer_tree.specs.declared.place.Entry.{Entry}
-use Rattle.node_table.specs.Rows.{Line}
+use Rattle.name_keys.specs.Names.{Rise}
+use Rattle.name_keys.specs.Keyed.{AddsKeys}
+use Rattle.node_table.specs.Rows.{Line, names}
 use Rattle.node_table.specs.Walks.{Spot}
-use Rattle.node_table.specs.Building.{number_in, line_in, directories, AddsRows, AddsNode}
+use Rattle.node_table.specs.Building.{number_in, line_in, lines_in, directories, AddsRows, AddsNode}
 use Rattle.node_table.proofs.Walking.{longer_front}
 
 pub not_directory : (k : Kind) → (k ≡ Directory → ⊥) → is_directory k ≡ false
@@ -78,10 +83,30 @@ indexed [] k image x e f = absurd (cc)
 indexed (a ∷ layers) zero image x e f = let g : a ≡ image = cc in f ∙ g
 indexed (a ∷ layers) (suc k) image x e f = indexed layers k image x e f
 
+-- rows of branches come in the order of their names
+pub names_rise : (get : ℕ → Option ℕ) (cs : List (Shoot Entry)) → NamesRise cs → Rise (names (map (line_in get) cs))
+names_rise get [] r i j d l m = absurd (omega arith)
+names_rise get (c ∷ cs) r zero zero d l m = absurd (omega arith)
+names_rise get (c ∷ cs) r zero (suc j) d l m = after cs r.0 j (omega arith)
+  where
+    after : (cs : List (Shoot Entry)) → AllByRecursion (λ (s : Shoot Entry). name_cmp c.name s.name ≡ Less) cs → (j : ℕ) → j < length (names (map (line_in get) cs)) → name_cmp c.name (get_or (names (map (line_in get) cs)) j d) ≡ Less
+    after [] a j m = absurd (omega arith)
+    after (s ∷ cs) a zero m = a.0
+    after (s ∷ cs) a (suc j) m = after cs a.1 j (omega arith)
+names_rise get (c ∷ cs) r (suc i) zero d l m = absurd (omega arith)
+names_rise get (c ∷ cs) r (suc i) (suc j) d l m = names_rise get cs r.1 i j d (omega arith) (omega arith)
+
+pub lines_rise : (get : ℕ → Option ℕ) (kind : Kind) (cs : List (Shoot Entry)) → NamesRise cs → Rise (names (lines_in get kind cs))
+lines_rise get kind cs r = go (is_directory kind)
+  where
+    go : (b : Bool) → Rise (names (cond b (map (line_in get) cs) []))
+    go true = names_rise get cs r
+    go false = λ i j d l m. absurd (omega arith)
+
 -- the node of a branch
-module _ (layers : List (List ℕ)) (get : ℕ → Option ℕ) (spot : Spot Entry) (paths : ℕ) (old new : List Line) (v : Entry) (is : v ≡ spot.0.now.value) (image : List ℕ) (index : image ≡ get_or layers v.place.layer image) (head : Head) (headed : head ≡ head_of image v.place.header) (parent : ℕ) (parented : parent ≡ number_in get spot.1.place) (cs : List (Shoot Entry)) (below : spot.0.now.below ≡ spread cs) (forest : IsForest cs) (nlink start end : ℕ) (starts_at : start ≡ length old) (ends_at : end ≡ length new) where
-  made : (b : Bool) → is_directory v.kind ≡ b → new ≡ old ++ cond b (map (line_in get) cs) [] → nlink ≡ cond b (min (2 + directories cs) (2 ^ 32 - 1)) paths → AddsNode layers get spot paths old new (record { kind = v.kind; place = v.place; head = head; size = 0; mode = 0; nlink = nlink; rdev = 0; parent = parent; rows_start = start; rows_end = end })
-  made b d rows links = record {
+module _ (layers : List (List ℕ)) (get : ℕ → Option ℕ) (spot : Spot Entry) (paths : ℕ) (old new : List Line) (keys keys' : List ℕ) (v : Entry) (is : v ≡ spot.0.now.value) (image : List ℕ) (index : image ≡ get_or layers v.place.layer image) (head : Head) (headed : head ≡ head_of image v.place.header) (parent : ℕ) (parented : parent ≡ number_in get spot.1.place) (cs : List (Shoot Entry)) (below : spot.0.now.below ≡ spread cs) (forest : IsForest cs) (nlink start end shared : ℕ) (starts_at : start ≡ length old) (ends_at : end ≡ length new) (keyed : AddsKeys shared (names (lines_in get v.kind cs)) keys keys') where
+  pub made : new ≡ old ++ lines_in get v.kind cs → nlink ≡ cond (is_directory v.kind) (min (2 + directories cs) (2 ^ 32 - 1)) paths → AddsNode layers get spot paths old new keys keys' (record { kind = v.kind; place = v.place; head = head; size = 0; mode = 0; nlink = nlink; rdev = 0; parent = parent; rows_start = start; rows_end = end; shared = shared })
+  made rows links = record {
     kind_is = ap (λ (e : Entry). e.kind) is;
     place_is = ap (λ (e : Entry). e.place) is;
     head_is = λ a at. headed ∙ ap (λ x. head_of x v.place.header) (indexed layers v.place.layer a image at index);
@@ -91,16 +116,29 @@ module _ (layers : List (List ℕ)) (get : ℕ → Option ℕ) (spot : Spot Entr
     children = cs;
     below = below;
     forest = forest;
-    rows_are = rw d rows;
-    nlink_is = rw d links;
+    rows_are = rows;
+    keys_are = keyed;
+    nlink_is = links;
   }
 
-  pub made_directory : v.kind ≡ Directory → new ≡ old ++ map (line_in get) cs → nlink ≡ min (2 + directories cs) (2 ^ 32 - 1) → AddsNode layers get spot paths old new (record { kind = v.kind; place = v.place; head = head; size = 0; mode = 0; nlink = nlink; rdev = 0; parent = parent; rows_start = start; rows_end = end })
-  made_directory k rows links = made true (ap is_directory k) rows links
+-- the rows that a directory adds, and that any other branch does
+pub added_directory : (get : ℕ → Option ℕ) (kind : Kind) (cs : List (Shoot Entry)) (old new : List Line) → kind ≡ Directory → new ≡ old ++ map (line_in get) cs → new ≡ old ++ lines_in get kind cs
+added_directory get kind cs old new k rows = rw (ap is_directory k) rows
 
-  pub made_other : (v.kind ≡ Directory → ⊥) → new ≡ old → nlink ≡ paths → AddsNode layers get spot paths old new (record { kind = v.kind; place = v.place; head = head; size = 0; mode = 0; nlink = nlink; rdev = 0; parent = parent; rows_start = start; rows_end = end })
-  made_other k rows links = made false (not_directory v.kind k) (rows ∙ sym (none old)) links
-    where
-      none : (xs : List Line) → xs ++ [] ≡ xs
-      none [] = refl
-      none (x ∷ xs) = ap (λ r. x ∷ r) (none xs)
+pub added_other : (get : ℕ → Option ℕ) (kind : Kind) (cs : List (Shoot Entry)) (old new : List Line) → (kind ≡ Directory → ⊥) → new ≡ old → new ≡ old ++ lines_in get kind cs
+added_other get kind cs old new k rows = rw (not_directory kind k) (rows ∙ sym (none old))
+  where
+    none : (xs : List Line) → xs ++ [] ≡ xs
+    none [] = refl
+    none (x ∷ xs) = ap (λ r. x ∷ r) (none xs)
+
+-- and how often it is linked
+pub links_directory : (kind : Kind) (cs : List (Shoot Entry)) (paths nlink : ℕ) → kind ≡ Directory → nlink ≡ min (2 + directories cs) (2 ^ 32 - 1) → nlink ≡ cond (is_directory kind) (min (2 + directories cs) (2 ^ 32 - 1)) paths
+links_directory kind cs paths nlink k e = rw (ap is_directory k) e
+
+pub links_other : (kind : Kind) (cs : List (Shoot Entry)) (paths nlink : ℕ) → (kind ≡ Directory → ⊥) → nlink ≡ paths → nlink ≡ cond (is_directory kind) (min (2 + directories cs) (2 ^ 32 - 1)) paths
+links_other kind cs paths nlink k e = rw (not_directory kind k) e
+
+-- the rows from where the old ones end, as the code cuts them
+pub fresh_lines : (old new more seen : List Line) (start : ℕ) → new ≡ old ++ more → start ≡ length old → seen ≡ new → take (length seen - start) (drop start seen) ≡ more
+fresh_lines old new more seen start e s is = take_rest seen start ∙ ap (drop start) (is ∙ e) ∙ drop_at old more start (sym s)

@@ -1,8 +1,7 @@
 -- Nodes and rows made one after another are those of a table.
 use Rattle.std.proofs.Common.{◌≡◌, ◌∙◌, sym, ap, subst, ℕ, zero, suc, ◌+◌, ◌-◌, ◌^◌, ◌<◌, ◌≤◌, ◌⊎◌, inl, inr, List, [], ◌∷◌, ◌++◌, length, take, drop, get_or, map, refl, arith, length-append, Bool, true, false, cond, Option, Some}
 use Rattle.std.specs.Prelude.{slice_get, slice_index, slice_range, min, count_by}
-use Rattle.std.specs.List.{AllByRecursion, slice_index_or}
-use Rattle.std.specs.declared.cmp.Ordering.TheVariants.{Less}
+use Rattle.std.specs.List.{slice_index_or}
 use Rattle.romfs_format.specs.declared.head.Head.{Head}
 use Rattle.romfs_format.specs.Heads.{head_of}
 use Rattle.romfs_format.specs.Fields.{exec, size, spec}
@@ -10,22 +9,24 @@ use Rattle.romfs_image.specs.Readers.{IsGiven, data_of as data_in}
 use Rattle.stack_model.specs.Listing.{Entry as Listed}
 use Rattle.stack_model.specs.Numbers.{Place as ModelPlace, Child, place, same_place, nodes, children}
 use Rattle.stack_model.specs.Attributes.{is_directory, is_directory_at, kind_at, mode_of, mode, size_of, size_at, rdev_of, rdev, nlink, blocks_all}
-use Rattle.path_tree.specs.Rows.{Shoot, NamesRise as ForestRises}
 use Rattle.layer_tree.specs.declared.place.Place.{Place}
 use Rattle.layer_tree.specs.declared.place.Entry.{Entry}
 use Rattle.node_table.specs.declared.node.Node.{Node}
-use Rattle.node_table.specs.Rows.{Line, NamesRise, name_cmp}
+use Rattle.name_keys.specs.Keys.{key}
+use Rattle.name_keys.specs.Keyed.{AreKeyed}
+use Rattle.node_table.specs.Rows.{Line, names}
 use Rattle.node_table.specs.Readers.{placed, rows_of}
 use Rattle.node_table.specs.Walks.{Spot}
 use Rattle.node_table.specs.Numbering.{place_of}
-use Rattle.node_table.specs.Building.{line_in, directories, AddsNode, completed}
+use Rattle.node_table.specs.Building.{line_in, lines_in, directories, AddsNode, completed}
 use Rattle.node_table.specs.Seeds.{AreSeedlings, IsSeed, AreSeeds, AreMade}
 use Rattle.node_table.specs.Held.{IsNode, AreNodes, IsSomeTable}
 
 -- how far the making of nodes has come
-pub record Making (layers : List (List ℕ)) (entries : List Listed) (held : List Node) (rows : List Line) (i : ℕ) : Type 0 where
+pub record Making (layers : List (List ℕ)) (entries : List Listed) (held : List Node) (rows : List Line) (keys : List ℕ) (i : ℕ) : Type 0 where
   pub level : length held ≡ i
-  pub each : (k : ℕ) (node : Node) (p : ModelPlace) → slice_get held k ≡ Some node → slice_get (nodes entries) k ≡ Some p → IsNode layers entries rows (completed node) p
+  pub keys_level : length keys ≡ length rows
+  pub each : (k : ℕ) (node : Node) (p : ModelPlace) → slice_get held k ≡ Some node → slice_get (nodes entries) k ≡ Some p → IsNode layers entries rows keys (completed node) p
 
 get_map : {X Y : Type 0} (f : X → Y) (xs : List X) (k : ℕ) (x : X) → slice_get xs k ≡ Some x → slice_get (map f xs) k ≡ Some (f x)
 get_map f [] k x e = absurd (cc)
@@ -86,22 +87,19 @@ range_last [] [] = refl
 range_last [] (y ∷ ys) = let z : length (y ∷ ys) - 0 ≡ length (y ∷ ys) = omega arith in ap (λ n. take n (y ∷ ys)) z ∙ take_all (y ∷ ys)
 range_last (x ∷ xs) ys = let z : suc (length (xs ++ ys)) - suc (length xs) ≡ length (xs ++ ys) - length xs = omega arith in ap (λ n. take n (drop (length xs) (xs ++ ys))) z ∙ range_last xs ys
 
-names_rise : (get : ℕ → Option ℕ) (cs : List (Shoot Entry)) → ForestRises cs → NamesRise (map (line_in get) cs)
-names_rise get [] r = tt
-names_rise get (c ∷ cs) r = (after cs r.0, names_rise get cs r.1)
-  where
-    after : (cs : List (Shoot Entry)) → AllByRecursion (λ (d : Shoot Entry). name_cmp c.name d.name ≡ Less) cs → AllByRecursion (λ (l : Line). name_cmp c.name l.name ≡ Less) (map (line_in get) cs)
-    after [] a = tt
-    after (d ∷ cs) a = (a.0, after cs a.1)
+-- the same keys are those of the same rows
+keyed_by : (shared : ℕ) (keys keys' : List ℕ) (rows rows' : List Line) → keys ≡ keys' → rows ≡ rows' → AreKeyed shared keys (names rows) → AreKeyed shared keys' (names rows')
+keyed_by shared keys keys' rows rows' k r a = subst (λ (x : List ℕ). AreKeyed shared x (names rows')) k (subst (λ (x : List Line). AreKeyed shared keys (names x)) r a)
 
 layer_is : (layers : List (List ℕ)) (k : ℕ) (image : List ℕ) → slice_get layers k ≡ Some image → slice_index_or layers k [] ≡ image
 layer_is [] k image e = absurd (cc)
 layer_is (x ∷ layers) zero image e = cc
 layer_is (x ∷ layers) (suc k) image e = layer_is layers k image e
 
-grown : (layers : List (List ℕ)) (entries : List Listed) (rows more : List Line) (node : Node) (p : ModelPlace) → IsNode layers entries rows node p → IsNode layers entries (rows ++ more) node p
-grown layers entries rows more node p n =
+grown : (layers : List (List ℕ)) (entries : List Listed) (rows more : List Line) (keys more_keys : List ℕ) (node : Node) (p : ModelPlace) → length keys ≡ length rows → IsNode layers entries rows keys node p → IsNode layers entries (rows ++ more) (keys ++ more_keys) node p
+grown layers entries rows more keys more_keys node p level n =
     let r = range_stays rows more node.rows_start node.rows_end n.start n.end in
+    let k = range_stays keys more_keys node.rows_start node.rows_end n.start (let e = n.end in omega arith) in
     record {
       place = n.place;
       headed = n.headed;
@@ -114,10 +112,10 @@ grown layers entries rows more node p n =
       start = n.start;
       end = (let e = n.end in omega (arith, length-append rows more));
       rows_are = r ∙ n.rows_are;
-      rising = subst NamesRise (sym r) n.rising;
+      keyed = keyed_by node.shared _ _ _ _ (sym k) (sym r) n.keyed;
     }
 
-module _ (layers : List (List ℕ)) (entries : List Listed) (get : ℕ → Option ℕ) (paths : ℕ) (spot : Spot Entry) (seed : IsSeed layers entries get paths spot) (old new : List Line) (node : Node) (a : AddsNode layers get spot paths old new node) where
+module _ (layers : List (List ℕ)) (entries : List Listed) (get : ℕ → Option ℕ) (paths : ℕ) (spot : Spot Entry) (seed : IsSeed layers entries get paths spot) (old new : List Line) (keys keys' : List ℕ) (level : length keys ≡ length old) (node : Node) (a : AddsNode layers get spot paths old new keys keys' node) where
   p : ModelPlace
   p = place_of spot
 
@@ -161,20 +159,33 @@ module _ (layers : List (List ℕ)) (entries : List Listed) (get : ℕ → Optio
       go true e = ap (λ n. min (2 + n) (2 ^ 32 - 1)) below.count_is ∙ sym (ap (λ b. min (cond b (2 + count_by (λ (c : Child). is_directory_at layers c.place) (children entries (place_of spot))) (count_by (λ (f : Listed). same_place (place_of spot) (place f)) entries)) (2 ^ 32 - 1)) e)
       go false e = seed.paths_are e
 
-  range_is : slice_range new node.rows_start node.rows_end ≡ cond (is_directory node.kind) (map (line_in get) a.children) []
+  range_is : slice_range new node.rows_start node.rows_end ≡ lines_in get node.kind a.children
   range_is =
       ap (λ n. slice_range new n node.rows_end) a.start_is ∙ ap (slice_range new (length old)) a.end_is
       ∙ ap (λ xs. slice_range xs (length old) (length xs)) a.rows_are
-      ∙ range_last old (cond (is_directory node.kind) (map (line_in get) a.children) [])
+      ∙ range_last old (lines_in get node.kind a.children)
 
-  rows_are : cond (is_directory node.kind) (map (line_in get) a.children) [] ≡ rows_of layers entries (place_of spot)
+  -- a key was added for each row
+  pub level_still : length keys' ≡ length new
+  level_still =
+      let lines = lines_in get node.kind a.children in
+      let k = ap length a.keys_are.is in
+      let m = ap length a.keys_are.keyed.made in
+      let n = length_map (λ (name : List ℕ). key 8 (drop node.shared name)) (names lines) in
+      let o = length_map (λ (line : Line). line.name) lines in
+      let r = ap length a.rows_are in
+      omega (arith, length-append keys a.keys_are.keys, length-append old lines)
+
+  keys_range_is : slice_range keys' node.rows_start node.rows_end ≡ a.keys_are.keys
+  keys_range_is =
+      ap (λ n. slice_range keys' n node.rows_end) (a.start_is ∙ sym level) ∙ ap (slice_range keys' (length keys)) (a.end_is ∙ sym level_still)
+      ∙ ap (λ xs. slice_range xs (length keys) (length xs)) a.keys_are.is
+      ∙ range_last keys a.keys_are.keys
+
+  rows_are : lines_in get node.kind a.children ≡ rows_of layers entries (place_of spot)
   rows_are = ap (λ b. cond b (map (line_in get) a.children) []) directory_is ∙ ap (λ r. cond (is_directory_at layers (place_of spot)) r []) below.rows_are
 
-  rising : (b : Bool) → NamesRise (cond b (map (line_in get) a.children) [])
-  rising true = names_rise get a.children a.forest.names
-  rising false = tt
-
-  pub is_node : IsNode layers entries new (completed node) (place_of spot)
+  pub is_node : IsNode layers entries new keys' (completed node) (place_of spot)
   is_node = record {
     place = ap placed a.place_is;
     headed = record {
@@ -189,36 +200,42 @@ module _ (layers : List (List ℕ)) (entries : List Listed) (get : ℕ → Optio
     nlink_is = nlink_is;
     rdev_is = rdev_is;
     parent_is = λ d. a.parent_is ∙ seed.parent_is;
-    start = (let s = a.start_is in let e = a.end_is in let r = ap length a.rows_are in omega (arith, length-append old (cond (is_directory node.kind) (map (line_in get) a.children) [])));
+    start = (let s = a.start_is in let e = a.end_is in let r = ap length a.rows_are in omega (arith, length-append old (lines_in get node.kind a.children)));
     end = (let e = a.end_is in omega arith);
     rows_are = range_is ∙ rows_are;
-    rising = subst NamesRise (sym range_is) (rising (is_directory node.kind));
+    keyed = keyed_by node.shared _ _ _ _ (sym keys_range_is) (sym range_is) a.keys_are.keyed;
   }
 
-pub begins : (layers : List (List ℕ)) (entries : List Listed) (held : List Node) (rows : List Line) → held ≡ [] → Making layers entries held rows 0
-begins layers entries held rows e = record { level = ap length e; each = λ k node p f g. absurd (let h = rw e at f in cc) }
+pub begins : (layers : List (List ℕ)) (entries : List Listed) (held : List Node) (rows : List Line) (keys : List ℕ) → held ≡ [] → rows ≡ [] → keys ≡ [] → Making layers entries held rows keys 0
+begins layers entries held rows keys e r k = record { level = ap length e; keys_level = ap length k ∙ sym (ap length r); each = λ k node p f g. absurd (let h = rw e at f in cc) }
 
-pub goes_on : (layers : List (List ℕ)) (entries : List Listed) (get : ℕ → Option ℕ) (first : List (Spot Entry)) (paths : List ℕ) (s : AreSeeds layers entries get first paths) (held held' : List Node) (rows rows' : List Line) (i : ℕ) (spot : Spot Entry) → i < length first → spot ≡ get_or first i spot → Making layers entries held rows i → (node : Node) → AddsNode layers get spot (slice_index paths i) rows rows' node → held' ≡ held ++ node ∷ [] → Making layers entries held' rows' (i + 1)
-goes_on layers entries get first paths s held held' rows rows' i spot lt at m node a push = record {
-  level = (let l = ap length push in let v = m.level in omega (arith, length-append held (node ∷ [])));
-  each = λ k n p e f. elim (get_last held node k n (subst (λ x. slice_get x k ≡ Some n) push e)) [
-    | inl g ↦ subst (λ r. IsNode layers entries r (completed n) p) (sym a.rows_are) (grown layers entries rows (cond (is_directory node.kind) (map (line_in get) a.children) []) (completed n) p (m.each k n p g f))
-    | inr (j, g) ↦
-        let h = get_there first i spot lt at in
-        let k_is : k ≡ i = j ∙ m.level in
-        let z : Some p ≡ Some (place_of spot) = sym f ∙ ap (slice_get (nodes entries)) k_is ∙ subst (λ ps. slice_get ps i ≡ Some (place_of spot)) s.places (get_map place_of first i spot h) in
-        let p_is : place_of spot ≡ p = cc in
-        subst (λ (x : Node). IsNode layers entries rows' (completed x) p) g (subst (IsNode layers entries rows' (completed node)) p_is (is_node layers entries get (slice_index paths i) spot (s.each i spot h) rows rows' node a))
-  ];
-}
+pub goes_on : (layers : List (List ℕ)) (entries : List Listed) (get : ℕ → Option ℕ) (first : List (Spot Entry)) (paths : List ℕ) (s : AreSeeds layers entries get first paths) (held held' : List Node) (rows rows' : List Line) (keys keys' : List ℕ) (i : ℕ) (spot : Spot Entry) → i < length first → spot ≡ get_or first i spot → Making layers entries held rows keys i → (node : Node) → AddsNode layers get spot (slice_index paths i) rows rows' keys keys' node → held' ≡ held ++ node ∷ [] → Making layers entries held' rows' keys' (i + 1)
+goes_on layers entries get first paths s held held' rows rows' keys keys' i spot lt at m node a push =
+    let h = get_there first i spot lt at in
+    record {
+      level = (let l = ap length push in let v = m.level in omega (arith, length-append held (node ∷ [])));
+      keys_level = level_still layers entries get (slice_index paths i) spot (s.each i spot h) rows rows' keys keys' m.keys_level node a;
+      each = λ k n p e f. elim (get_last held node k n (subst (λ x. slice_get x k ≡ Some n) push e)) [
+        | inl g ↦
+            subst (λ (r : List Line). IsNode layers entries r keys' (completed n) p) (sym a.rows_are)
+            (subst (λ (x : List ℕ). IsNode layers entries (rows ++ lines_in get node.kind a.children) x (completed n) p) (sym a.keys_are.is)
+            (grown layers entries rows (lines_in get node.kind a.children) keys a.keys_are.keys (completed n) p m.keys_level (m.each k n p g f)))
+        | inr (j, g) ↦
+            let k_is : k ≡ i = j ∙ m.level in
+            let z : Some p ≡ Some (place_of spot) = sym f ∙ ap (slice_get (nodes entries)) k_is ∙ subst (λ ps. slice_get ps i ≡ Some (place_of spot)) s.places (get_map place_of first i spot h) in
+            let p_is : place_of spot ≡ p = cc in
+            subst (λ (x : Node). IsNode layers entries rows' keys' (completed x) p) g (subst (IsNode layers entries rows' keys' (completed node)) p_is (is_node layers entries get (slice_index paths i) spot (s.each i spot h) rows rows' keys keys' m.keys_level node a))
+      ];
+    }
 
-pub ends : (layers : List (List ℕ)) (entries : List Listed) (get : ℕ → Option ℕ) (first : List (Spot Entry)) (paths : List ℕ) (s : AreSeeds layers entries get first paths) (held : List Node) (rows : List Line) (i : ℕ) → i ≡ length first → Making layers entries held rows i → AreMade layers held rows
-ends layers entries get first paths s held rows i e m = (
+pub ends : (layers : List (List ℕ)) (entries : List Listed) (get : ℕ → Option ℕ) (first : List (Spot Entry)) (paths : List ℕ) (s : AreSeeds layers entries get first paths) (held : List Node) (rows : List Line) (keys : List ℕ) (i : ℕ) → i ≡ length first → Making layers entries held rows keys i → AreMade layers held rows keys
+ends layers entries get first paths s held rows keys i e m = (
   entries,
   s.listing,
   record {
     level = length_map completed held ∙ m.level ∙ e ∙ sym (length_map place_of first) ∙ ap length s.places;
-    each = λ k node p f g. let x = get_of_map completed held k node f in subst (λ (n : Node). IsNode layers entries rows n p) x.2 (m.each k x.0 p x.1 g);
+    keys_level = m.keys_level;
+    each = λ k node p f g. let x = get_of_map completed held k node f in subst (λ (n : Node). IsNode layers entries rows keys n p) x.2 (m.each k x.0 p x.1 g);
   },
 )
 
@@ -230,12 +247,12 @@ front_whole xs tail n e = ap (λ k. take k (xs ++ tail)) e ∙ go xs tail
     go [] tail = nothing tail
     go (x ∷ xs) tail = ap (λ r. x ∷ r) (go xs tail)
 
-pub table_made : (layers : List (List ℕ)) (held new tail : List Node) (rows : List Line) (n blocks : ℕ) → AreMade layers held rows → new ≡ map completed held → n ≡ length new → blocks ≡ blocks_all layers → IsSomeTable layers (take n (new ++ tail)) rows blocks
-table_made layers held new tail rows n blocks (entries, listing, are) e l b = (
+pub table_made : (layers : List (List ℕ)) (held new tail : List Node) (rows : List Line) (keys : List ℕ) (n blocks : ℕ) → AreMade layers held rows keys → new ≡ map completed held → n ≡ length new → blocks ≡ blocks_all layers → IsSomeTable layers (take n (new ++ tail)) rows keys blocks
+table_made layers held new tail rows keys n blocks (entries, listing, are) e l b = (
   entries,
   record {
     listing = listing;
-    are = subst (λ x. AreNodes layers entries x rows) (sym (front_whole new tail n l ∙ e)) are;
+    are = subst (λ x. AreNodes layers entries x rows keys) (sym (front_whole new tail n l ∙ e)) are;
     blocks_are = b;
   },
 )

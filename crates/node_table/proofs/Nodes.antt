@@ -1,5 +1,5 @@
 -- What a table's parts say of the node with a number.
-use Rattle.std.proofs.Common.{◌≡◌, ◌∙◌, sym, ap, ℕ, zero, suc, ◌<◌, List, [], ◌∷◌, length, map, Bool, true, false, Option, Some, None, Bor, MatchOption, cond, refl, arith}
+use Rattle.std.proofs.Common.{◌≡◌, ◌∙◌, sym, ap, ℕ, zero, suc, ◌<◌, ◌≤◌, List, [], ◌∷◌, length, map, Bool, true, false, Option, Some, None, Bor, MatchOption, cond, refl, arith}
 use Rattle.std.specs.Prelude.{slice_get, slice_range, find, unwrap_or}
 use Rattle.std.specs.List.{slice_index_or}
 use Rattle.std.specs.Option.{option_map}
@@ -54,7 +54,7 @@ named_child : (f : Place → ℕ) (name : List ℕ) (cs : List Child) → IsName
 named_child f name [] = refl
 named_child f name (c ∷ cs) = step f name c cs (same_name name c.name) refl (named_child f name cs)
 
-module _ (layers : List (List ℕ)) (entries : List Entry) (held : List Node) (rows : List Line) (blocks : ℕ) (t : IsTable layers entries held rows blocks) where
+module _ (layers : List (List ℕ)) (entries : List Entry) (held : List Node) (rows : List Line) (keys : List ℕ) (blocks : ℕ) (t : IsTable layers entries held rows keys blocks) where
   abbrev stack : Stacked
   stack = record { layers = layers; entries = entries }
 
@@ -62,7 +62,7 @@ module _ (layers : List (List ℕ)) (entries : List Entry) (held : List Node) (r
   pub record IsHere (n : ℕ) (node : Node) : Type 0 where
     pub at : Place
     pub is : node_of entries n ≡ Some at
-    pub holds : IsNode layers entries rows node at
+    pub holds : IsNode layers entries rows keys node at
 
   pub here : (n : ℕ) (node : Node) → held_at held n ≡ Some node → IsHere n node
   here zero node e = absurd (cc)
@@ -91,7 +91,7 @@ module _ (layers : List (List ℕ)) (entries : List Entry) (held : List Node) (r
       let h = here n node.now e in
       record { place_is = h.is ∙ ap Some (sym h.holds.place); kind_is = h.holds.kind ∙ ap (kind_at layers) (sym h.holds.place) }
 
-  attr_same : (n : ℕ) (node : Node) (p : Place) → IsNode layers entries rows node p → number entries p ≡ n → attr_held n node ≡ attr_of layers entries p
+  attr_same : (n : ℕ) (node : Node) (p : Place) → IsNode layers entries rows keys node p → number entries p ≡ n → attr_held n node ≡ attr_of layers entries p
   attr_same n node p h i =
       let size = h.size in
       let mode_is = h.mode_is in
@@ -109,6 +109,10 @@ module _ (layers : List (List ℕ)) (entries : List Entry) (held : List Node) (r
 
   pub rows_are : (n : ℕ) (node : Node) → held_at held n ≡ Some node → slice_range rows node.rows_start node.rows_end ≡ rows_at stack n
   rows_are n node e = let h = here n node e in rw h.is h.holds.rows_are
+
+  -- the keys of its rows are there
+  pub keys_end : (n : ℕ) (node : Node) → held_at held n ≡ Some node → node.rows_end ≤ length keys
+  keys_end n node e = let level = t.are.keys_level in let end = (here n node e).holds.end in omega arith
 
   pub rows_none : (n : ℕ) → held_at held n ≡ None → [] ≡ rows_at stack n
   rows_none n e = rw (nowhere n e) refl

@@ -1,5 +1,6 @@
 -- Nodes and rows made from branches with numbers.
 use Rattle.std.specs.Prelude.{◌≡◌, ℕ, ◌+◌, ◌-◌, ◌^◌, List, [], ◌++◌, length, map, min, count_by, slice_get, Option, Some, unwrap_or, if◌then◌else◌}
+use Rattle.romfs_format.specs.declared.head.Kind.{Kind}
 use Rattle.romfs_format.specs.Heads.{head_of}
 use Rattle.romfs_image.specs.Readers.{IsGiven}
 use Rattle.stack_model.specs.Attributes.{is_directory, mode_of, rdev_of, size_of}
@@ -7,7 +8,8 @@ use Rattle.path_tree.specs.Rows.{Shoot, spread, IsForest}
 use Rattle.layer_tree.specs.declared.place.Place.{Place}
 use Rattle.layer_tree.specs.declared.place.Entry.{Entry}
 use Rattle.node_table.specs.declared.node.Node.{Node}
-use Rattle.node_table.specs.Rows.{Line}
+use Rattle.name_keys.specs.Keyed.{AddsKeys}
+use Rattle.node_table.specs.Rows.{Line, names}
 use Rattle.node_table.specs.Walks.{Spot}
 use Rattle.node_table.specs.Numbering.{key}
 
@@ -33,8 +35,12 @@ pub record IsSeat (layers : List (List ℕ)) (branch : Shoot Entry) : Type 0 whe
   pub is : slice_get layers branch.value.place.layer ≡ Some image
   pub given : IsGiven image (head_of image branch.value.place.header)
 
--- the node of a branch, without what its header says; a directory's rows are added at the end
-pub record AddsNode (layers : List (List ℕ)) (get : ℕ → Option ℕ) (spot : Spot Entry) (paths : ℕ) (old new : List Line) (node : Node) : Type 0 where
+-- the rows of a branch with these children: none where it is no directory
+abbrev pub lines_in : (ℕ → Option ℕ) → Kind → List (Shoot Entry) → List Line
+lines_in get kind cs = if is_directory kind then map (line_in get) cs else []
+
+-- the node of a branch, without what its header says; a directory's rows are added at the end, and their keys
+pub record AddsNode (layers : List (List ℕ)) (get : ℕ → Option ℕ) (spot : Spot Entry) (paths : ℕ) (old new : List Line) (keys keys' : List ℕ) (node : Node) : Type 0 where
   pub kind_is : node.kind ≡ spot.0.now.value.kind
   pub place_is : node.place ≡ spot.0.now.value.place
   pub head_is : (image : List ℕ) → slice_get layers node.place.layer ≡ Some image → node.head ≡ head_of image node.place.header
@@ -44,7 +50,8 @@ pub record AddsNode (layers : List (List ℕ)) (get : ℕ → Option ℕ) (spot 
   pub children : List (Shoot Entry)
   pub below : spot.0.now.below ≡ spread children
   pub forest : IsForest children
-  pub rows_are : new ≡ old ++ (if is_directory node.kind then map (line_in get) children else [])
+  pub rows_are : new ≡ old ++ lines_in get node.kind children
+  pub keys_are : AddsKeys node.shared (names (lines_in get node.kind children)) keys keys'
   pub nlink_is : node.nlink ≡ (if is_directory node.kind then min (2 + directories children) (2 ^ 32 - 1) else paths)
 
 -- the node with what its header says

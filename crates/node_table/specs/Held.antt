@@ -6,7 +6,8 @@ use Rattle.stack_model.specs.Numbers.{Place, nodes, number, parent}
 use Rattle.stack_model.specs.Attributes.{is_directory, kind_at, mode, size_at, rdev, nlink, blocks_of, blocks_all, data_of}
 use Rattle.node_table.specs.declared.node.Attr.{Attr}
 use Rattle.node_table.specs.declared.node.Node.{Node}
-use Rattle.node_table.specs.Rows.{Line, NamesRise}
+use Rattle.name_keys.specs.Keyed.{AreKeyed}
+use Rattle.node_table.specs.Rows.{Line, names}
 use Rattle.node_table.specs.Readers.{placed, rows_of}
 
 -- the node of a number, counted from 1
@@ -33,7 +34,7 @@ pub record IsHeaded (layers : List (List ℕ)) (layer : ℕ) (node : Node) (p : 
   pub data_is : data_in image node.head.offset ≡ data_of layers p
 
 -- the node holds what the definitions say of its place
-pub record IsNode (layers : List (List ℕ)) (entries : List Entry) (rows : List Line) (node : Node) (p : Place) : Type 0 where
+pub record IsNode (layers : List (List ℕ)) (entries : List Entry) (rows : List Line) (keys : List ℕ) (node : Node) (p : Place) : Type 0 where
   pub place : placed node.place ≡ p
   pub headed : IsHeaded layers node.place.layer node p
   pub kind : node.kind ≡ kind_at layers p
@@ -45,19 +46,20 @@ pub record IsNode (layers : List (List ℕ)) (entries : List Entry) (rows : List
   pub start : node.rows_start ≤ node.rows_end
   pub end : node.rows_end ≤ length rows
   pub rows_are : slice_range rows node.rows_start node.rows_end ≡ rows_of layers entries p
-  pub rising : NamesRise (slice_range rows node.rows_start node.rows_end)
+  pub keyed : AreKeyed node.shared (slice_range keys node.rows_start node.rows_end) (names (slice_range rows node.rows_start node.rows_end))
 
--- the nodes in the order of their numbers
-pub record AreNodes (layers : List (List ℕ)) (entries : List Entry) (held : List Node) (rows : List Line) : Type 0 where
+-- the nodes in the order of their numbers, and a key beside each row
+pub record AreNodes (layers : List (List ℕ)) (entries : List Entry) (held : List Node) (rows : List Line) (keys : List ℕ) : Type 0 where
   pub level : length held ≡ length (nodes entries)
-  pub each : (k : ℕ) (node : Node) (p : Place) → slice_get held k ≡ Some node → slice_get (nodes entries) k ≡ Some p → IsNode layers entries rows node p
+  pub keys_level : length keys ≡ length rows
+  pub each : (k : ℕ) (node : Node) (p : Place) → slice_get held k ≡ Some node → slice_get (nodes entries) k ≡ Some p → IsNode layers entries rows keys node p
 
 -- a table of these layers and their listing
-pub record IsTable (layers : List (List ℕ)) (entries : List Entry) (held : List Node) (rows : List Line) (blocks : ℕ) : Type 0 where
+pub record IsTable (layers : List (List ℕ)) (entries : List Entry) (held : List Node) (rows : List Line) (keys : List ℕ) (blocks : ℕ) : Type 0 where
   pub listing : IsListing layers entries
-  pub are : AreNodes layers entries held rows
+  pub are : AreNodes layers entries held rows keys
   pub blocks_are : blocks ≡ blocks_all layers
 
 -- some listing of the layers makes it a table
-abbrev pub IsSomeTable : List (List ℕ) → List Node → List Line → ℕ → Type 0
-IsSomeTable layers held rows blocks = (entries : List Entry) × IsTable layers entries held rows blocks
+abbrev pub IsSomeTable : List (List ℕ) → List Node → List Line → List ℕ → ℕ → Type 0
+IsSomeTable layers held rows keys blocks = (entries : List Entry) × IsTable layers entries held rows keys blocks

@@ -42,6 +42,6 @@ pub record AreSeeds (layers : List (List ℕ)) (entries : List Listed) (get : �
 abbrev pub AreSomeSeeds : List (List ℕ) → (ℕ → Option ℕ) → List (Spot Entry) → List ℕ → Type 0
 AreSomeSeeds layers get first paths = (entries : List Listed) × AreSeeds layers entries get first paths
 
--- nodes and rows make a table of the layers, once the nodes are completed
-abbrev pub AreMade : List (List ℕ) → List Node → List Line → Type 0
-AreMade layers nodes rows = (entries : List Listed) × IsListing layers entries × AreNodes layers entries (map completed nodes) rows
+-- nodes, rows and keys make a table of the layers, once the nodes are completed
+abbrev pub AreMade : List (List ℕ) → List Node → List Line → List ℕ → Type 0
+AreMade layers nodes rows keys = (entries : List Listed) × IsListing layers entries × AreNodes layers entries (map completed nodes) rows keys

@@ -13,9 +13,18 @@ use crate::numbering::{Numbered, key};
 use crate::row::Row;
 use crate::walk::Spot;
 use layer_tree::{Child, Entry, Place};
+use name_keys::add_keys;
 use romfs_image::{Head, Image, Kind};
 use std::alloc::{AllocError, Allocator};
 use std::collections::BTreeMap;
+
+/// What a table is made of beside its images.
+#[derive(Drop)]
+pub(crate) struct Parts<A: Allocator> {
+    pub(crate) nodes: Vec<Node, A>,
+    pub(crate) rows: Vec<Row<A>, A>,
+    pub(crate) keys: Vec<u64, A>,
+}
 
 // The number of a place; 0 for one that has none.
 fn number_in<A: Allocator>(numbers: &BTreeMap<u64, u64, A>, place: Place) -> u64
@@ -58,7 +67,7 @@ fn add_rows<A: Allocator + Copy>(
     Ok(directories)
 }
 
-// Adds the rows of a branch, and makes its node but for what its header says.
+// Adds the rows of a branch and their keys, and makes its node but for what its header says.
 pub(crate) fn add_node<A: Allocator + Copy>(
     alloc: A,
     images: &[Image<A>],
@@ -66,9 +75,11 @@ pub(crate) fn add_node<A: Allocator + Copy>(
     spot: &Spot<'_, Entry, A>,
     paths: u32,
     rows: &mut Vec<Row<A>, A>,
+    keys: &mut Vec<u64, A>,
 ) -> Result<Node, AllocError>
     requires { IsSeat images.now spot.now.0.now }
-    ensures { IfOk result (λ node. AddsNode images.now (get nat_cmp numbers.now) spot.now paths rows.old.items rows.new.items node) }
+    ensures { IfOk result (λ node. AddsNode images.now (get nat_cmp numbers.now) spot.now paths
+        rows.old.items rows.new.items keys.old.items keys.new.items node) }
 {
     let Entry { kind, place } = spot.0.value();
     let image = &images[place.layer as usize];
@@ -82,6 +93,7 @@ pub(crate) fn add_node<A: Allocator + Copy>(
         }
         _ => paths,
     };
+    let shared = add_keys(&rows[rows_start..], keys)?;
     Ok(Node {
         kind,
         place,
@@ -93,24 +105,36 @@ pub(crate) fn add_node<A: Allocator + Copy>(
         parent: number_in(numbers, spot.1.place),
         rows_start,
         rows_end: rows.len(),
+        shared,
     })
 }
 
-// The nodes of all first branches, in the order of their numbers, and their rows.
+// The nodes of all first branches, in the order of their numbers, their rows, and the rows' keys. Room is made for
+// `most` rows at once.
 pub(crate) fn make<A: Allocator + Copy>(
     alloc: A,
     images: &[Image<A>],
     numbered: &Numbered<'_, A>,
-) -> Result<(Vec<Node, A>, Vec<Row<A>, A>), AllocError>
+    most: usize,
+) -> Result<Parts<A>, AllocError>
     requires { AreSomeSeeds images.now (get nat_cmp numbered.now.numbers) numbered.now.first.items numbered.now.paths.items }
-    ensures { IfOk result (λ made. AreMade images.now made.0.items made.1.items) }
+    ensures { IfOk result (λ made. AreMade images.now made.nodes.items made.rows.items made.keys.items) }
 {
     let mut nodes = Vec::with_capacity(alloc, numbered.first.len())?;
-    let mut rows = Vec::new(alloc);
+    let mut rows = Vec::with_capacity(alloc, most)?;
+    let mut keys = Vec::with_capacity(alloc, most)?;
     for (at, spot) in numbered.first.iter().enumerate() {
         let paths = numbered.paths[at];
-        let node = add_node(alloc, images, &numbered.numbers, spot, paths, &mut rows)?;
+        let node = add_node(
+            alloc,
+            images,
+            &numbered.numbers,
+            spot,
+            paths,
+            &mut rows,
+            &mut keys,
+        )?;
         nodes.push(node)?;
     }
-    Ok((nodes, rows))
+    Ok(Parts { nodes, rows, keys })
 }

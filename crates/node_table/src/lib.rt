@@ -12,11 +12,12 @@
 //! }
 //! ```
 //!
-//! All nodes lie in one vector by their numbers, and all rows in another, those of a directory together. A node
-//! keeps its header as it was read once, so no answer parses one. What these parts have to say of the listing is
-//! the table's invariant (`specs/Held.antt`).
+//! All nodes lie in one vector by their numbers, and all rows in another, those of a directory together; beside each
+//! row lies the key by which its name is found (`name_keys`). A node keeps its header as it was read once, so no answer
+//! parses one. What these parts have to say of the listing is the table's invariant (`specs/Held.antt`).
 //!
-//! The crate stands on `layer_tree` for the tree of a stack, on `romfs_image` for its images, and on `rayon`.
+//! The crate stands on `layer_tree` for the tree of a stack, on `romfs_image` for its images, on `name_keys` for
+//! look-ups, and on `rayon`.
 #![tactic(auto)]
 
 mod building;

