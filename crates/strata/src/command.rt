@@ -61,13 +61,7 @@ pub fn command<
     }
 }
 
-fn run<
-    R: Files + Threads + Sync,
-    A: Allocator + Copy + Send + Sync,
-    S: AsStr,
-    T: Source,
-    O: Write,
->(
+fn run<R: Files + Threads + Sync, A: Allocator + Copy + Send + Sync, S: AsStr, T: Source, O: Write>(
     rt: &R,
     alloc: A,
     global: Global,

@@ -26,12 +26,7 @@ const TURNS: u64 = 1 << 40;
 
 /// Answers the requests of a file or else of the input, to a file or else to the output, as they come. At the end of the
 /// stream it writes the balances, if a file is named for them.
-pub fn serve<
-    R: Files + Threads + Sync,
-    A: Allocator + Copy + Send + Sync,
-    S: Source,
-    O: Write,
->(
+pub fn serve<R: Files + Threads + Sync, A: Allocator + Copy + Send + Sync, S: Source, O: Write>(
     rt: &R,
     alloc: A,
     line: &Line<'_>,
@@ -80,7 +75,15 @@ fn serve_stream<
         (S.left input.old) (⟦<Spout<O> as Sink>⟧.held output.old) (⟦<Spout<O> as Sink>⟧.held output.new) }
 {
     match requests {
-        Some(file) => serve_from(rt, alloc, line, images, &mut Tap::new(file), replies, output),
+        Some(file) => serve_from(
+            rt,
+            alloc,
+            line,
+            images,
+            &mut Tap::new(file),
+            replies,
+            output,
+        ),
         None => serve_from(rt, alloc, line, images, input, replies, output),
     }
 }
@@ -134,7 +137,9 @@ fn serve_between<R: Threads + Sync, A: Allocator + Copy + Send + Sync, S: Source
 {
     let plan = plan_of(line);
     let profile = profile_of(line);
-    serve_as(rt, alloc, images, profile, source, sink, plan, TURNS, &FreePass)
+    serve_as(
+        rt, alloc, images, profile, source, sink, plan, TURNS, &FreePass,
+    )
 }
 
 // The plan that the line says.

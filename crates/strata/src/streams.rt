@@ -55,7 +55,9 @@ pub fn write_out<W: Write>(writer: &mut W, bytes: &[u8]) -> Result<(), Fault>
     if bytes.is_empty() {
         return Ok(());
     }
-    writer.write_all(bytes).map_err(|_| Fault::Stopped(Stop::Write))?;
+    writer
+        .write_all(bytes)
+        .map_err(|_| Fault::Stopped(Stop::Write))?;
     writer.flush().map_err(|_| Fault::Stopped(Stop::Write))
 }
 
