@@ -8,6 +8,7 @@ use Rattle.serve_core.specs.declared.stop.Stop.{Stop}
 use Rattle.serve_core.specs.declared.done.Done.{Done}
 use Rattle.serve_core.specs.Preparing.{AreStacked, AreRefused}
 use Rattle.serve_core.specs.Serving.{Trace, IsRun}
+use Rattle.serve_core.specs.Laws.{HasServed}
 
 -- a stream was served over a stack of layers: each message as FUSE has it over the paths that they show
 abbrev pub IsRunOver : {A : Type 0} → Stacked → ℕ → Trace → Result (Done A) Stop → Type 0
@@ -36,3 +37,14 @@ pub record IsNotBegun {A : Type 0} (profile : Profile) (images : List (List ℕ)
 -- a stream was served over images, or refused for them
 abbrev pub Serves : {A : Type 0} → Profile → List (List ℕ) → ℕ → Trace → Result (Done A) Stop → Type 0
 Serves profile images turns t result = IsServedOver profile images turns t result ⊎ IsNotBegun profile images t result
+
+-- the images are good, and all messages of the stream were answered over their stack, to its end
+pub record HasServedAll {A : Type 0} (profile : Profile) (images : List (List ℕ)) (t : Trace) (done : Done A) : Type 0 where
+  pub stack : Stacked
+  pub stacked : AreStacked profile images stack
+  pub served : HasServed (answering stack) (length (nodes stack.entries)) t done
+
+-- the images are refused for this, and no device was touched
+pub record IsRefusedFor (profile : Profile) (images : List (List ℕ)) (t : Trace) (stop : Stop) : Type 0 where
+  pub refused : AreRefused profile images stop
+  pub untouched : IsUntouched t

@@ -1,14 +1,31 @@
-//! What a served stream means, end by end: each law follows from what [`crate::run_by`] promises.
+//! What a served stream means, end by end: each law follows from what [`crate::serve_as`], or
+//! [`crate::run_by`] below it, promises.
 
-ghost use Rattle.std.specs.Prelude.{◌≡◌, ◌↔◌, ◌+◌, ℕ, Result, Ok, Err};
+ghost use Rattle.std.specs.Prelude.{◌≡◌, ◌↔◌, ◌+◌, ℕ, List, Result, Ok, Err};
+ghost use Rattle.romfs_format.specs.declared.rule.Profile.{Profile};
+ghost use Rattle.romfs_format.specs.declared.rule.ImageFault.{ImageFault};
 ghost use Rattle.rounds.specs.Rounds.{Answering};
 ghost use Rattle.serve_core.specs.declared.done.Done.{Done};
 ghost use Rattle.serve_core.specs.declared.stop.Stop.{Stop};
-ghost use Rattle.serve_core.specs.declared.stop.Stop.TheVariants.{BadLength, CutOff, Read, Write, Turns};
+ghost use Rattle.serve_core.specs.declared.stop.Stop.TheVariants.{Layer, Layers, BadLength, CutOff, Read, Write, Turns};
 ghost use Rattle.serve_core.specs.Serving.{Trace, IsRun, IsPrompt};
+ghost use Rattle.serve_core.specs.Headline.{Serves, HasServedAll, IsRefusedFor};
 ghost use Rattle.serve_core.specs.Laws.{HasServed, HasBadLength, IsCutOff, HasFailed, HasUsedTurns, IsFront};
 
 use std::alloc::Allocator;
+
+/// Over images, `Ok` means that they are good, that the source met its end between two messages, and that what was
+/// written are the definition's replies to all messages, one after another. `Layers` and `Layer` tell what is wrong with
+/// the images, and no device was touched.
+#[tactic(auto, using(crate::proofs::Headline::over_images))]
+pub fn streams_are_served_over_images<A: Allocator>()
+    ensures served { (profile : Profile) (images : List (List ℕ)) (turns : ℕ) (t : Trace) (done : Done A) →
+        Serves profile images turns t (Ok done) → HasServedAll profile images t done }
+    ensures layers { (profile : Profile) (images : List (List ℕ)) (turns : ℕ) (t : Trace) (n : ℕ) →
+        Serves {A = A} profile images turns t (Err (Layers n)) → IsRefusedFor profile images t (Layers n) }
+    ensures layer { (profile : Profile) (images : List (List ℕ)) (turns : ℕ) (t : Trace) (n : ℕ) (f : ImageFault) →
+        Serves {A = A} profile images turns t (Err (Layer n f)) → IsRefusedFor profile images t (Layer n f) }
+{}
 
 /// `Ok`, `BadLength`, `CutOff`, `Read` and `Turns` tell how the stream ended, and all replies are written and flushed.
 #[tactic(auto, using(crate::proofs::Ends::ends))]

@@ -2,3 +2,4 @@ pub mod Sizes
 pub mod Printed
 pub mod Served
 pub mod Ended
+pub mod Listed
