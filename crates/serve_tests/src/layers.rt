@@ -1,7 +1,7 @@
 //! Images that are refused, and the strict profile.
 
 use crate::reader::Pieces;
-use crate::runs::{Seen, serve_over};
+use crate::runs::{Outcome, Seen, serve_over};
 use crate::script::{script, script_replies};
 use crate::writer::Taker;
 use reply_pool::Plan;
@@ -50,26 +50,16 @@ fn images_of(alloc: Global, layers: Layers) -> Result<Vec<Vec<u8>>, BuildFault> 
 }
 
 /// What no device was called for.
-const fn untouched(stop: Stop) -> Seen {
-    Seen {
-        end: Err(stop),
-        put: Some(0),
-        reads: 0,
-        writes: 0,
-    }
+fn untouched(stop: Stop) -> Outcome {
+    (Err(stop), 0, 0, 0)
 }
 
-const fn fault(layer: u16, rule: Rule, place: u32) -> Stop {
+fn fault(layer: u16, rule: Rule, place: u32) -> Stop {
     let fault = ImageFault { rule, place };
     Stop::Layer { layer, fault }
 }
 
-const SERVED: Seen = Seen {
-    end: Ok((12, 1531)),
-    put: Some(1531),
-    reads: 2,
-    writes: 2,
-};
+const SERVED: Outcome = (Ok((12, 1531)), 1531, 2, 2);
 
 #[test]
 fn refused_images_touch_no_device(rt: HostRuntime) -> Result<(), Fail> {
@@ -107,7 +97,7 @@ fn refused_images_touch_no_device(rt: HostRuntime) -> Result<(), Fail> {
             taker,
             &replies,
         );
-        assert_eq!(rt; seen, wanted);
+        assert_eq!(rt; seen, Seen::of(wanted));
     }
     Ok(())
 }

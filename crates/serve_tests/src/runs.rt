@@ -29,6 +29,21 @@ pub struct Seen {
     pub writes: u64,
 }
 
+/// How a run ends; how many bytes of the first replies are put, and how many reads, and writes and flushes, are made.
+pub type Outcome = (End, usize, u64, u64);
+
+impl Seen {
+    pub fn of(outcome: Outcome) -> Self {
+        let (end, put, reads, writes) = outcome;
+        Seen {
+            end,
+            put: Some(put),
+            reads,
+            writes,
+        }
+    }
+}
+
 /// What a run came to that ended so.
 fn told<A: Allocator>(
     done: &Result<Done<A>, Stop>,
