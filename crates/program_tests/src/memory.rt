@@ -58,7 +58,7 @@ fn told_refusals<R: Files + Threads + Sync>(
 }
 
 #[test]
-fn lines_are_told_to_be_refused(rt: HostRuntime) -> Result<(), Fail> {
+fn refused_memory_is_told_of_lines(rt: HostRuntime) -> Result<(), Fail> {
     let image = image_file(&rt, "lines")?;
     let path = image.as_str();
     let sizes = b"layer 0: 96 bytes\nlayer 1: 96 bytes\n";
@@ -70,7 +70,7 @@ fn lines_are_told_to_be_refused(rt: HostRuntime) -> Result<(), Fail> {
 }
 
 #[test]
-fn a_stream_is_told_to_be_refused(rt: HostRuntime) -> Result<(), Fail> {
+fn refused_memory_is_told_of_a_stream(rt: HostRuntime) -> Result<(), Fail> {
     let image = image_file(&rt, "stream")?;
     let balances = file_path(&rt, "stream", "balances")?;
     let words = ["serve", "--balances", balances.as_str(), image.as_str()];
