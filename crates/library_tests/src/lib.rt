@@ -1,17 +1,15 @@
-//! The tests of library calls that no command line shows, and of memory that is refused. No contract can say these.
+//! The tests of what no command line shows of images: how samples are laid out, what is read, and memory that is refused.
+//! No contract can say these.
 //!
 //! They stand in a crate of their own, so that what they call is proved once, and so that `test_kit` is part of no
 //! program.
 //!
 //! - `sample_layouts`: what `romfs_image::sample` lays out.
 //! - `readers`: what is read from checked images.
-//! - `memory`: each request for memory of a call is refused in turn.
-//! - `layers`: how many images are served.
+//! - `memory`: each request for memory of building and checking an image is refused in turn.
 //! - `refusing`: which request the tests' allocator refuses.
 #![tactic(auto)]
 
-#[cfg(test)]
-mod layers;
 #[cfg(test)]
 mod memory;
 #[cfg(test)]

@@ -1,11 +1,14 @@
 //! Readers and writers that fail.
 
 use crate::program::image_file;
-use std::fs;
+use devices::{Spout, Tap};
+use std::alloc::Global;
+use std::fs::{self, Files};
 use std::io::{self, Error, ErrorKind, Read, Write};
 use std::test::Fail;
+use std::thread::Threads;
 use strata::command::command;
-use test_kit::messages::REQUESTS;
+use test_kit::messages::{REPLIES, REQUESTS};
 
 /// A reader that gives its bytes, and then fails.
 #[derive(Drop)]
@@ -48,40 +51,38 @@ impl Write for Full {
 }
 
 /// Whether the program over these streams ends with status 1 and this line.
-fn is_told<I: Read, O: Write>(
-    rt: &HostRuntime,
+fn is_told<R: Files + Threads + Sync, I: Read + Drop, O: Write + Drop>(
+    rt: &R,
+    alloc: Global,
     words: &[&str],
-    input: &mut I,
-    output: &mut O,
+    input: I,
+    output: O,
     line: &[u8],
 ) -> bool {
-    let mut faults = Vec::new(rt.alloc());
+    let mut faults = Vec::new(alloc);
     let status = command(
         rt,
-        rt.alloc(),
-        rt.alloc(),
+        alloc,
+        alloc,
         words,
-        input,
-        output,
+        &mut Tap::new(input),
+        &mut Spout::new(output),
         &mut faults,
     );
     status == 1 && faults.as_slice() == line
-}
-
-/// Whether a write that fails, after so many bytes or at the flush, is told.
-fn tells_a_failed_write(rt: &HostRuntime, words: &[&str], room: usize, flushes: bool) -> bool {
-    let mut input = REQUESTS.as_slice();
-    let mut output = Full { room, flushes };
-    is_told(rt, words, &mut input, &mut output, b"write fault\n")
 }
 
 #[test]
 fn writers_that_fail_are_told(rt: HostRuntime) -> Result<(), Fail> {
     let image = image_file(&rt, "writers")?;
     let path = image.as_str();
-    for (room, flushes) in [(10, true), (1000, false)] {
-        assert!(rt; tells_a_failed_write(&rt, &["check", path], room, flushes));
-        assert!(rt; tells_a_failed_write(&rt, &["serve", path], room, flushes));
+    for words in [["check", path], ["list", path], ["serve", path]] {
+        for (room, flushes) in [(10, true), (1000, false)] {
+            let full = Full { room, flushes };
+            let input = REQUESTS.as_slice();
+            let told = is_told(&rt, rt.alloc(), &words, input, full, b"write fault\n");
+            assert!(rt; told, "room {room}");
+        }
     }
     fs::remove_file(&rt, path)?;
     Ok(())
@@ -91,10 +92,16 @@ fn writers_that_fail_are_told(rt: HostRuntime) -> Result<(), Fail> {
 fn a_reader_that_fails_is_told(rt: HostRuntime) -> Result<(), Fail> {
     let image = image_file(&rt, "reader")?;
     let words = ["serve", image.as_str()];
-    let mut input = Broken(&REQUESTS);
     let mut output = Vec::new(rt.alloc());
-    let told = is_told(&rt, &words, &mut input, &mut output, b"read fault\n");
-    assert!(rt; told && output.is_empty());
+    let told = is_told(
+        &rt,
+        rt.alloc(),
+        &words,
+        Broken(&REQUESTS),
+        &mut output,
+        b"read fault\n",
+    );
+    assert!(rt; told && output.as_slice() == REPLIES.as_slice());
     fs::remove_file(&rt, image.as_str())?;
     Ok(())
 }

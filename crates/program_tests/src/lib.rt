@@ -3,7 +3,7 @@
 //! - `devices`: readers and writers that fail.
 //! - `memory`: each request for memory is refused in turn.
 //!
-//! What they share: `program`, which lays an image into a file of the test's own.
+//! What they share: `program`, which names files of the test's own.
 #![tactic(auto)]
 
 #[cfg(test)]

@@ -15,11 +15,3 @@ pub fn put_words(out: &mut Vec<u8>, words: &[u32]) -> Result<(), AllocError> {
     }
     Ok(())
 }
-
-/// Appends zero bytes.
-pub fn put_zeros(out: &mut Vec<u8>, count: usize) -> Result<(), AllocError> {
-    for _ in 0..count {
-        out.push(0)?;
-    }
-    Ok(())
-}

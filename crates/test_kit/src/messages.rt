@@ -1,15 +1,4 @@
-//! Requests, and the replies to two of them.
-
-use std::alloc::{AllocError, Global};
-
-pub const LOOKUP: u32 = 1;
-
-pub const GETATTR: u32 = 3;
-
-pub const INIT: u32 = 26;
-
-/// The body of an INIT of version 7.31.
-pub const INIT_BODY: [u8; 16] = [7, 0, 0, 0, 31, 0, 0, 0, 0, 0, 2, 0, 0x01, 0x60, 0, 0];
+//! Requests, and the replies to them.
 
 /// INIT of version 7.31, and GETATTR of the root: 56 bytes each.
 pub static REQUESTS: [u8; 112] = [
@@ -38,32 +27,3 @@ pub static REPLIES: [u8; 200] = [
     0x02, 0x00, 0x00, 0x00, 0x00, 0x00, 0x00, 0x00, 0x00, 0x00, 0x00, 0x00, 0x00, 0x00, 0x00, 0x00,
     0x00, 0x10, 0x00, 0x00, 0x00, 0x00, 0x00, 0x00,
 ];
-
-/// Appends a request.
-pub fn ask(
-    stream: &mut Vec<u8>,
-    opcode: u32,
-    unique: u64,
-    node: u64,
-    body: &[u8],
-) -> Result<(), AllocError> {
-    let size = body.len().min(100) as u32 + 40;
-    stream.extend_from_slice(&size.to_le_bytes())?;
-    stream.extend_from_slice(&opcode.to_le_bytes())?;
-    stream.extend_from_slice(&unique.to_le_bytes())?;
-    stream.extend_from_slice(&node.to_le_bytes())?;
-    stream.extend_from_slice(&[0; 16])?;
-    stream.extend_from_slice(body)
-}
-
-/// Six requests over the image with one file, one with each answer.
-pub fn six_requests(alloc: Global) -> Result<Vec<u8>, AllocError> {
-    let mut stream = Vec::new(alloc);
-    ask(&mut stream, INIT, 1, 0, &INIT_BODY)?;
-    ask(&mut stream, LOOKUP, 2, 1, b"x\0")?;
-    ask(&mut stream, GETATTR, 3, 2, &[0; 16])?;
-    ask(&mut stream, LOOKUP, 4, 1, b"y\0")?;
-    ask(&mut stream, LOOKUP, 5, 2, b"x\0")?;
-    ask(&mut stream, GETATTR, 6, 3, &[0; 16])?;
-    Ok(stream)
-}

@@ -29,14 +29,6 @@ pub fn item<A: Allocator + Copy>(
     })
 }
 
-/// The image with one file, `x`, that holds `hi`.
-pub fn one_file<A: Allocator + Copy>(alloc: A) -> Result<Vec<u8, A>, BuildFault> {
-    let text = What::Regular(b"hi".to_vec(alloc)?);
-    let mut items = Vec::new(alloc);
-    items.push(item(alloc, 1, b"x", text)?)?;
-    build(alloc, b"v", &items)
-}
-
 /// An image with `big` of 5,000 bytes, an executable directory `d` with a file `x`, a link `l` to
 /// `d/x`, and the device `null`.
 pub fn sample<A: Allocator + Copy>(alloc: A) -> Result<Vec<u8, A>, BuildFault> {

@@ -1,0 +1,25 @@
+//! The tests of `serve_core` over devices of their own: pieces of every size, devices that fail, too few turns, and
+//! memory that is refused. No command shows how often a device is called, or that it is not called.
+//!
+//! - `streams`: one stream, however it is cut, answered and taken; how often each device is called.
+//! - `memory`: each request for memory is refused in turn.
+//! - `layers`: images that are refused, with no call of a device; the strict profile.
+//!
+//! What they share: `reader` and `writer`, the two devices; `runs`, what a run came to; `script`, a stream and its
+//! replies.
+#![tactic(auto)]
+
+#[cfg(test)]
+mod layers;
+#[cfg(test)]
+mod memory;
+#[cfg(test)]
+mod reader;
+#[cfg(test)]
+mod runs;
+#[cfg(test)]
+mod script;
+#[cfg(test)]
+mod streams;
+#[cfg(test)]
+mod writer;

@@ -1,0 +1,35 @@
+//! A reader that gives pieces.
+
+use std::io::{self, Error, ErrorKind, Read};
+
+/// A reader that gives its bytes in pieces of at most so many, and then ends or fails. It counts its calls.
+#[derive(Drop)]
+pub struct Pieces<'a> {
+    pub rest: &'a [u8],
+    pub piece: usize,
+    pub fails: bool,
+    pub calls: u64,
+}
+
+impl<'a> Pieces<'a> {
+    /// The bytes in pieces, and then the end.
+    pub fn of(rest: &'a [u8], piece: usize) -> Self {
+        Pieces {
+            rest,
+            piece,
+            fails: false,
+            calls: 0,
+        }
+    }
+}
+
+impl Read for Pieces<'_> {
+    fn read(&mut self, buf: &mut [u8]) -> io::Result<usize> {
+        self.calls = self.calls.saturating_add(1);
+        if self.fails && self.rest.is_empty() {
+            return Err(Error::from(ErrorKind::Other));
+        }
+        let room = buf.len().min(self.piece);
+        self.rest.read(&mut buf[..room])
+    }
+}
