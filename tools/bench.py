@@ -4,7 +4,7 @@ The parts are `serve` (a million requests, against cat), `check` (images), `stac
 `streams` (dear requests) and `pulls` (a byte at a time). Files lie in memory (/dev/shm where it is there). A time is
 processor time, user and system, the least of three runs; memory is the most that a run had at one moment, and less than
 some 20 MiB is not told apart. The status is 0 where each hostile input takes at most five times as long as an honest one
-of its size.
+of its size; where it gives a longer list, at most five times as long for each byte of it.
 """
 import multiprocessing
 import os
@@ -18,13 +18,13 @@ import bench_inputs as inputs
 
 RUNS = 3
 MOST = 5
-Cost = namedtuple("Cost", "seconds memory line")
+Cost = namedtuple("Cost", "seconds memory written line")
 
 
 def run(words, output, packets):
     """What one run of some words costs; the bytes of a file of packets come through a pipe, one a read."""
     errors, told = os.pipe()
-    source, pipe = os.pipe2(os.O_DIRECT) if packets else (os.open(os.devnull, os.O_RDONLY), None)
+    source, pipe = os.pipe2(os.O_DIRECT | os.O_CLOEXEC) if packets else (os.open(os.devnull, os.O_RDONLY), None)
     sink = os.open(output, os.O_WRONLY | os.O_CREAT | os.O_TRUNC, 0o600)
     dups = [(os.POSIX_SPAWN_DUP2, source, 0), (os.POSIX_SPAWN_DUP2, sink, 1), (os.POSIX_SPAWN_DUP2, told, 2)]
     child = os.posix_spawnp(words[0], words, os.environ, file_actions=dups)
@@ -37,7 +37,7 @@ def run(words, output, packets):
     _, status, used = os.wait4(child, 0)
     if os.waitstatus_to_exitcode(status) not in (0, 3):
         sys.exit("%s: %s" % (" ".join(words)[:200], line))
-    return Cost(used.ru_utime + used.ru_stime, used.ru_maxrss / 1024, line)
+    return Cost(used.ru_utime + used.ru_stime, used.ru_maxrss / 1024, os.path.getsize(output), line)
 
 
 def feed(packets, pipe):
@@ -73,9 +73,11 @@ class Bench:
     def held(self, what, taken, honest):
         """Prints what a hostile input costs, beside an honest one."""
         ratio = taken.seconds / max(honest.seconds, 0.001)
-        self.within = self.within and ratio <= MOST
+        longer = max(1, taken.written / max(honest.written, 1))
+        self.within = self.within and ratio <= MOST * longer
+        line = taken.line or "for %.1f times the output" % longer * (longer > 1.1)
         print("%-30s %8.3f s %6.0f MiB   honest %8.3f s %6.0f MiB  %5.1f times  %s" % (
-            what, taken.seconds, taken.memory, honest.seconds, honest.memory, ratio, taken.line), flush=True)
+            what, taken.seconds, taken.memory, honest.seconds, honest.memory, ratio, line), flush=True)
 
     def serve(self):
         """A million LOOKUPs and GETATTRs over 5,000 files, against reading and writing as many bytes."""
@@ -104,7 +106,9 @@ class Bench:
             headers, hostile, honest = apart(inputs.write_stacks, name, self.folder)
             print("%s: %d headers in %d layers" % (name, headers, len(hostile)))
             for command in commands:
-                self.held("  " + command[0], cost(self.program, *command, *hostile), cost(self.program, *command, *honest))
+                output = self.folder + "/output"
+                costs = [cost(self.program, *command, *layers, output=output) for layers in (hostile, honest)]
+                self.held("  " + command[0], *costs)
             for path in {*hostile, *honest}:
                 os.remove(path)
 

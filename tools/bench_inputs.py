@@ -115,11 +115,13 @@ def names(form, count, kind="regular", first=0, spec=-1):
     return chained(kind, [form % number for number in range(count)], first, spec)
 
 
-def honest_stack(headers, layers):
-    """So many headers in so many layers, each with directories of up to 1,000 files of its own."""
+def honest_stack(stack):
+    """As many layers, headers and bytes as another stack, each layer with directories of up to 1,000 files of its own."""
+    layers, headers = sum(it.times for it in stack), sum(it.headers * it.times for it in stack)
     each = headers // layers
     count = (each + 999) // 1000
-    return [layer(folders(count, each // count - 1, mark=b"-%d-" % number)) for number in range(layers)]
+    extra = max(0, sum(len(it.image) * it.times for it in stack) // headers // 16 * 16 - 32)
+    return [layer(folders(count, each // count - 1, extra, mark=b"-%d-" % number)) for number in range(layers)]
 
 
 def names_and_markers(count=200_000):
@@ -265,12 +267,11 @@ def write_begin(folder):
 
 
 def write_stacks(name, folder):
-    """How many headers a stack has, its paths, and those of an honest stack of as many headers and layers."""
+    """How many headers a stack has, the paths of its layers, and those of an honest stack of its size."""
     stack = STACKS[name]()
-    headers, layers = sum(it.headers * it.times for it in stack), sum(it.times for it in stack)
     paths = [[path for number, it in enumerate(made) for path in [written(folder, "%s-%d" % (mark, number), it.image)] * it.times]
-             for mark, made in (("hostile", stack), ("honest", honest_stack(headers, layers)))]
-    return headers, *paths
+             for mark, made in (("hostile", stack), ("honest", honest_stack(stack)))]
+    return sum(it.headers * it.times for it in stack), *paths
 
 
 def write_streams(name, folder):

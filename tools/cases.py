@@ -45,6 +45,8 @@ from plain_replies import split
 from text import Words, Wrong, plain_bytes, words_of
 
 SECONDS = 60
+# how long a client waits for a reply
+PATIENCE = 10
 
 
 class Started:
@@ -114,16 +116,18 @@ def feed(data, pipe, size):
 def converse(process, pipe, messages, wanted):
     """Writes these messages one after another, and reads the reply to each that has one among those wanted before the next
     is written; what was read."""
-    came = b""
+    came, source = b"", process.stdout.fileno()
     try:
         for message in messages:
             os.write(pipe, message)
-            if wanted and wanted[0][8:16] == message[8:16]:
-                size = len(wanted.pop(0))
-                reply = read_whole(process.stdout.fileno(), size)
-                came += reply
-                if len(reply) < size:
-                    break
+            if not wanted or wanted[0][8:16] != message[8:16]:
+                continue
+            wanted.pop(0)
+            head = read_whole(source, 16)
+            came += head
+            if len(head) < 16:
+                break
+            came += read_whole(source, struct.unpack_from("<I", head)[0] - 16)
     except OSError:
         pass
     finally:
@@ -134,7 +138,7 @@ def converse(process, pipe, messages, wanted):
 def read_whole(source, size):
     """So many bytes of a pipe, or fewer where no more come."""
     data = b""
-    while len(data) < size and select.select([source], [], [], SECONDS)[0]:
+    while len(data) < size and select.select([source], [], [], PATIENCE)[0]:
         part = os.read(source, size - len(data))
         if not part:
             break
