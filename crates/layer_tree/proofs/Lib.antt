@@ -11,3 +11,4 @@ pub mod Agreeing
 pub mod Directories
 pub mod Children
 pub mod Parents
+pub mod Entering

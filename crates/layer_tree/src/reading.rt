@@ -4,7 +4,8 @@
 //! an entry that is no directory is a cut mark. Markers become marks of what their names say, and these are laid on
 //! the others. A marker of the whole directory makes its own mark opaque.
 //!
-//! It takes n log n steps in the members of the layer.
+//! It takes n log n steps in the members of the layer and the hard links that they lead to: ends of hard links
+//! that were found are kept while the tree is made.
 
 ghost use Rattle.std.specs.Prelude.{◌≡◌, ◌≢◌, [], ◌∷◌, IfOk, is_some};
 ghost use Rattle.romfs_image.specs.Images.{IsImage};
@@ -17,7 +18,7 @@ use crate::members::{Named, is_marker, sorted_members, whiteout_of};
 use crate::place::{Entry, Mark, Place};
 use crate::tree::{Child, Tree};
 use path_tree::{Branch, child, merge};
-use romfs_image::{Head, Image, Kind};
+use romfs_image::{Ends, Head, Image, Kind};
 use std::alloc::{AllocError, Allocator};
 
 /// What the name of the marker of a whole directory says after `.wh.`.
@@ -48,7 +49,16 @@ impl<A: Allocator + Copy> Tree<A> {
     pub fn of(alloc: A, image: &Image<A>, layer: u16) -> Result<Tree<A>, AllocError>
         ensures { IfOk result (λ tree. IsTreeOf layer (image.now ∷ []) tree) }
     {
-        let (entries, marks) = branches_of(alloc, image, layer, &[], image.root(), DEPTH)?;
+        let mut ends = image.ends(alloc);
+        let (entries, marks) = branches_of(
+            alloc,
+            image,
+            &mut ends,
+            layer,
+            &[],
+            image.root(),
+            DEPTH,
+        )?;
         Ok(Tree { entries, marks })
     }
 }
@@ -59,21 +69,24 @@ impl<A: Allocator + Copy> Tree<A> {
 fn branches_of<A: Allocator + Copy>(
     alloc: A,
     image: &Image<A>,
+    ends: &mut Ends<'_, A>,
     layer: u16,
     name: &[u8],
     head: Head,
     left: u16,
 ) -> Result<(Child<A>, Branch<Mark, A>), AllocError>
     requires sound { IsImage image.now }
+    requires ends { ends.old ≡ image.now }
     requires given { IsGiven image.now head }
     requires depth { IsAtDepth image.now head.offset left }
-    ensures { IfOk result (λ made. AreBranchesOf image.now layer head.offset name.now made.0 made.1) }
+    ensures made { IfOk result (λ made. AreBranchesOf image.now layer head.offset name.now made.0 made.1) }
+    ensures ends { ends.new ≡ image.now }
 {
     if head.kind != Kind::Directory {
-        return file(alloc, image, layer, name, &head);
+        return file(alloc, image, ends, layer, name, &head);
     }
     let members = sorted_members(alloc, image, &head)?;
-    let below = branches_below(alloc, image, layer, &members, left)?;
+    let below = branches_below(alloc, image, ends, layer, &members, left)?;
     folder(alloc, image, layer, name, &head, &members, below)
 }
 
@@ -82,13 +95,16 @@ fn branches_of<A: Allocator + Copy>(
 fn branches_below<A: Allocator + Copy>(
     alloc: A,
     image: &Image<A>,
+    ends: &mut Ends<'_, A>,
     layer: u16,
     members: &[Named<'_>],
     left: u16,
 ) -> Result<Branches<A>, AllocError>
     requires sound { IsImage image.now }
+    requires ends { ends.old ≡ image.now }
     requires members { AreMembersAt image.now left members.now }
-    ensures { IfOk result (λ made. AreBuilt image.now layer members.now made.entries.items made.marks.items) }
+    ensures built { IfOk result (λ made. AreBuilt image.now layer members.now made.entries.items made.marks.items) }
+    ensures ends { ends.new ≡ image.now }
 {
     let mut entries = Vec::new(alloc);
     let mut marks = Vec::new(alloc);
@@ -96,19 +112,27 @@ fn branches_below<A: Allocator + Copy>(
         if is_marker(member.name) {
             continue;
         }
-        let (entry, mark) = branches_of(alloc, image, layer, member.name, member.head, left - 1)?;
+        let (entry, mark) = branches_of(
+            alloc,
+            image,
+            ends,
+            layer,
+            member.name,
+            member.head,
+            left - 1,
+        )?;
         entries.push(entry)?;
         marks.push(mark)?;
     }
     Ok(Branches { entries, marks })
 }
 
-/// The entry of a header: the kind and the place of where its hard links end.
-fn entry_of<A: Allocator>(image: &Image<A>, layer: u16, head: &Head) -> Entry
-    requires { IsGiven image.now head.now }
-    ensures { IsEntryIn image.now layer head.now.offset result }
+/// The entry of a header whose hard links end at `end`: the kind and the place of that.
+fn entry_at(layer: u16, end: &Head) -> Entry
+    ensures layer { result.place.layer ≡ layer }
+    ensures header { result.place.header ≡ end.now.offset }
+    ensures kind { result.kind ≡ end.now.kind }
 {
-    let end = image.target(head);
     let place = Place {
         layer,
         header: end.offset,
@@ -123,16 +147,20 @@ fn entry_of<A: Allocator>(image: &Image<A>, layer: u16, head: &Head) -> Entry
 fn file<A: Allocator + Copy>(
     alloc: A,
     image: &Image<A>,
+    ends: &mut Ends<'_, A>,
     layer: u16,
     name: &[u8],
     head: &Head,
 ) -> Result<(Child<A>, Branch<Mark, A>), AllocError>
     requires sound { IsImage image.now }
+    requires ends { ends.old ≡ image.now }
     requires given { IsGiven image.now head.now }
     requires other { head.now.kind ≢ Kind.Directory }
-    ensures { IfOk result (λ made. AreBranchesOf image.now layer head.now.offset name.now made.0 made.1) }
+    ensures made { IfOk result (λ made. AreBranchesOf image.now layer head.now.offset name.now made.0 made.1) }
+    ensures ends { ends.new ≡ image.now }
 {
-    let entry = entry_of(image, layer, head);
+    let end = ends.target(head)?;
+    let entry = entry_at(layer, &end);
     let entry_name = copied(alloc, name)?;
     let mark_name = copied(alloc, name)?;
     Ok((leaf(alloc, entry_name, entry), leaf(alloc, mark_name, CUT)))
@@ -155,7 +183,7 @@ fn folder<A: Allocator + Copy>(
     requires below { AreBuilt image.now layer members.now below.entries.items below.marks.items }
     ensures { IfOk result (λ made. AreBranchesOf image.now layer head.now.offset name.now made.0 made.1) }
 {
-    let entry = entry_of(image, layer, head);
+    let entry = entry_at(layer, head);
     let entry_name = copied(alloc, name)?;
     let mark_name = copied(alloc, name)?;
     let whiteouts = whiteouts_of(alloc, members)?;

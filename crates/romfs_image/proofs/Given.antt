@@ -91,7 +91,7 @@ destination_more a (there l d) m = there l (destination_more a d m)
 
 module _ (a : List ℕ) (i : IsImage a) where
   -- a hard link that is given is a member
-  hard_member : (h : ℕ) → From a h → IsHardLink a h → IsSomeMember a h
+  pub hard_member : (h : ℕ) → From a h → IsHardLink a h → IsSomeMember a h
   hard_member h (inl e) l = absurd (let k : kind a h ≡ Directory = subst (λ x. kind a x ≡ Directory) (sym e) (root_directory a i) in let m = l.1 in cc)
   hard_member h (inr (inl m)) l = m
   hard_member h (inr (inr x)) l = absurd (final_soft a x.2 l)
@@ -108,7 +108,7 @@ module _ (a : List ℕ) (i : IsImage a) where
     reached = inl refl;
   }
 
-  hard : (head end : Head) → IsOnWay a head end → end.kind ≡ HardLink → IsHardLink a end.offset
+  pub hard : (head end : Head) → IsOnWay a head end → end.kind ≡ HardLink → IsHardLink a end.offset
   hard head end w k = (w.inside, sym (ap (λ x. x.kind) w.is) ∙ k)
 
   target_of : (head end : Head) → IsGiven a head → IsOnWay a head end → end.kind ≡ HardLink → IsTarget a (destination a end.offset)

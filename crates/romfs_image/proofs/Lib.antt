@@ -10,3 +10,4 @@ pub mod Pigeon
 pub mod NameBytes
 pub mod Paths
 pub mod Short
+pub mod Noting

@@ -1,5 +1,6 @@
 pub mod Readers
 pub mod Walks
+pub mod Ends
 pub mod Images
 pub mod Refusals
 pub mod Texts

@@ -9,6 +9,7 @@ ghost use Rattle.romfs_format.specs.Heads.{name_of, head_of};
 ghost use Rattle.romfs_image.specs.Readers.{data_of, IsPlace, IsGiven, AreMembers};
 ghost use Rattle.romfs_image.specs.Refusals.{IsRefusal, IsRefusalAs};
 
+use crate::ends::Ends;
 use crate::members::Members;
 use crate::parts::{data_in, end_of, members_of, name_in, place_at};
 use crate::refusal::CheckFault;
@@ -154,6 +155,15 @@ impl<A: Allocator> Image<A> {
         ensures given { IsGiven self.now result }
     {
         end_of(&self.bytes, head)
+    }
+
+    /// Finds what `target` finds, for many headers: it keeps the ends of the hard links that it passed.
+    pub fn ends(&self, alloc: A) -> Ends<'_, A>
+    where
+        A: Copy,
+        ensures { result ≡ self.now }
+    {
+        Ends::new(alloc, &self.bytes)
     }
 
     /// The name of a header, without its zero byte. It is empty for a root whose name has no end.

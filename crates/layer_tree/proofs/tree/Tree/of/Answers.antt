@@ -9,12 +9,12 @@ pub invariant_of-result : goal.invariant_of-result
 invariant_of-result g c =
     let a = c.args.image.now in
     let at : c.root.result.offset ≡ root a = ap (λ (x : Head). x.offset) c.root.ensures.value in
-    let made = subst (λ h. AreBranchesOf a c.args.layer h [] c.in_ok-entries.entries c.in_ok-entries.marks) at c.in_ok-entries.ensures in
+    let made = subst (λ h. AreBranchesOf a c.args.layer h [] c.in_ok-entries.entries c.in_ok-entries.marks) at c.in_ok-entries.ensures.made in
     root_kept a c.root.ensures.sound c.args.layer c.in_ok-entries.entries c.in_ok-entries.marks made.entries made.marks
 
 pub returns : goal.returns
 returns g c =
     let a = c.args.image.now in
     let at : c.root.result.offset ≡ root a = ap (λ (x : Head). x.offset) c.root.ensures.value in
-    let made = subst (λ h. AreBranchesOf a c.args.layer h [] c.in_ok-entries.entries c.in_ok-entries.marks) at c.in_ok-entries.ensures in
+    let made = subst (λ h. AreBranchesOf a c.args.layer h [] c.in_ok-entries.entries c.in_ok-entries.marks) at c.in_ok-entries.ensures.made in
     tree_of_layer a c.root.ensures.sound c.args.layer c.in_ok-entries.entries c.in_ok-entries.marks made.entries made.marks

@@ -1,0 +1,20 @@
+-- The entry of a header, by where its hard links end.
+use Rattle.std.proofs.Common.{◌≡◌, ◌∙◌, sym, ap, subst, ℕ, List}
+use Rattle.romfs_format.specs.declared.head.Head.{Head}
+use Rattle.romfs_format.specs.declared.head.Kind.TheVariants.{Directory}
+use Rattle.romfs_format.specs.Fields.{kind}
+use Rattle.romfs_format.specs.Links.{IsFinal, stays}
+use Rattle.romfs_image.specs.Readers.{IsGiven}
+use Rattle.layer_tree.specs.declared.place.Entry.{Entry}
+use Rattle.layer_tree.specs.Reading.{IsEntryIn}
+
+-- no hard link leads on from a directory
+pub directory_stays : (a : List ℕ) (h : ℕ) → kind a h ≡ Directory → IsFinal a h h
+directory_stays a h d = stays (λ l. let k = l.1 in absurd (cc))
+
+pub entered : (a : List ℕ) (layer h : ℕ) (end : Head) (entry : Entry) → IsGiven a end → IsFinal a h end.offset → entry.place.layer ≡ layer → entry.place.header ≡ end.offset → entry.kind ≡ end.kind → IsEntryIn a layer h entry
+entered a layer h end entry g f l p k = record {
+  number = l;
+  final = subst (λ x. IsFinal a h x) (sym p) f;
+  kind = k ∙ ap (λ (x : Head). x.kind) g.is ∙ ap (λ x. kind a x) (sym p);
+}
