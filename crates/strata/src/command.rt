@@ -28,7 +28,8 @@ use std::thread::Threads;
 /// images, or the paths that they show. Else the status is that of a [`Fault`], whose line goes to `faults`; `output` then
 /// holds the replies that stand, or is as it was. After a failed write of lines nothing is promised of it.
 ///
-/// It asks that neither stream was used before. Memory comes from `alloc`, but for the command line: `clap` takes the global allocator alone.
+/// It asks that neither `input` nor `output` was used before. Memory comes from `alloc`, but for the command line: `clap`
+/// takes the global allocator alone.
 pub fn command<
     R: Files + Threads + Sync,
     A: Allocator + Copy + Send + Sync,

@@ -4,9 +4,9 @@
 //! stands on `command_line`, which reads the words, on `serve_core`, which checks images, stacks them and serves a
 //! stream of requests over them, and on `path_list`, which writes the paths that a stack shows.
 //!
-//! The private parts: `checking`, `listing` and `serving` are the three commands, `files` opens the files that a line
-//! names, `streams` reads and writes whole streams, and [`faults`] has a line and an exit status for each thing that can
-//! go wrong.
+//! The private parts: `checking`, `listing` and `serving` are the three commands, `balances` writes what a client still
+//! holds, `files` opens the files that a line names, and `streams` reads files and writes lines. [`faults`] has a line and
+//! an exit status for each thing that can go wrong.
 #![tactic(auto)]
 
 mod balances;

@@ -1,4 +1,4 @@
-//! Streams and open files that are read and written whole.
+//! Open files that are read whole, and lines that are written whole.
 
 ghost use Rattle.std.specs.Prelude.{◌≡◌, ◌++◌, IfSome, OnOk, IfOk, IfErr};
 ghost use Rattle.std.specs.Io.KnownBytes.{Appends, IsAtEnd};
@@ -14,7 +14,7 @@ use std::io::{Read, Write};
 // How many bytes a read asks for.
 const ROOM: usize = 65_536;
 
-// How many reads are made of one file or stream. It ends by then, or counts as unreadable.
+// How many reads are made of one file. It ends by then, or counts as unreadable.
 const READS: u64 = 1 << 40;
 
 /// Why there are no bytes.
