@@ -1,13 +1,13 @@
 //! The tests of the program over devices that fail and memory that is refused, which no command line can bring about.
 //!
-//! - `devices`: readers and writers that fail.
+//! - `failing`: readers and writers that fail.
 //! - `memory`: each request for memory is refused in turn.
 //!
 //! What they share: `program`, which names files of the test's own.
 #![tactic(auto)]
 
 #[cfg(test)]
-mod devices;
+mod failing;
 #[cfg(test)]
 mod memory;
 #[cfg(test)]
