@@ -85,14 +85,19 @@ pub record AreBranchesOf (a : List ℕ) (layer h : ℕ) (n : List ℕ) (e : Shoo
 -- members that are no markers have become branches of entries and of marks
 pub data AreBuilt (a : List ℕ) (layer : ℕ) : List Named → List (Shoot Entry) → List (Shoot Mark) → Type 0 where
   none_built : AreBuilt a layer [] [] []
-  hidden : (m : Named) (ms : List Named) (es : List (Shoot Entry)) (ks : List (Shoot Mark)) → IsMarker m.name.now → AreBuilt a layer ms es ks → AreBuilt a layer (m ∷ ms) es ks
-  built : (m : Named) (ms : List Named) (e : Shoot Entry) (es : List (Shoot Entry)) (k : Shoot Mark) (ks : List (Shoot Mark)) → ¬ IsMarker m.name.now → AreBranchesOf a layer m.head.offset m.name.now e k → AreBuilt a layer ms es ks → AreBuilt a layer (m ∷ ms) (e ∷ es) (k ∷ ks)
+  hidden : (m : Named) (ms : List Named) (es : List (Shoot Entry)) (ks : List (Shoot Mark))
+      → IsMarker m.name.now → AreBuilt a layer ms es ks → AreBuilt a layer (m ∷ ms) es ks
+  built : (m : Named) (ms : List Named) (e : Shoot Entry) (es : List (Shoot Entry)) (k : Shoot Mark) (ks : List (Shoot Mark))
+      → ¬ IsMarker m.name.now → AreBranchesOf a layer m.head.offset m.name.now e k → AreBuilt a layer ms es ks
+      → AreBuilt a layer (m ∷ ms) (e ∷ es) (k ∷ ks)
 
 -- markers have become cut marks of what their names say after .wh.
 pub data AreWhiteouts : List Named → List (Shoot Mark) → Type 0 where
   none_white : AreWhiteouts [] []
   other : (m : Named) (ms : List Named) (ks : List (Shoot Mark)) → ¬ IsMarker m.name.now → AreWhiteouts ms ks → AreWhiteouts (m ∷ ms) ks
-  white : (m : Named) (ms : List Named) (k : Shoot Mark) (ks : List (Shoot Mark)) → m.name.now ≡ marker ++ k.name → k.value.cut ≡ true → k.below ≡ [] → AreWhiteouts ms ks → AreWhiteouts (m ∷ ms) (k ∷ ks)
+  white : (m : Named) (ms : List Named) (k : Shoot Mark) (ks : List (Shoot Mark))
+      → m.name.now ≡ marker ++ k.name → k.value.cut ≡ true → k.below ≡ [] → AreWhiteouts ms ks
+      → AreWhiteouts (m ∷ ms) (k ∷ ks)
 
 -- members of a directory, and how many names are left to 512 below a path to it
 abbrev pub AreMembersAt : List ℕ → ℕ → List Named → Type 0

@@ -343,8 +343,8 @@ pub record OpenExamples : Type 0 where
   pub opendir_of_file : over_sample (request 27 2 2 (zeros 8)) ≡ refused 2 0xffffffec
 
 -- a row of a directory, whose name and padding fill 8 bytes
-abbrev pub row : ℕ → ℕ → ℕ → List ℕ → List ℕ
-row ino off file_type name = u64 ino ++ u64 off ++ u32 (length name) ++ u32 file_type ++ name ++ zeros (8 - length name)
+abbrev pub dirent_row : ℕ → ℕ → ℕ → List ℕ → List ℕ
+dirent_row ino off file_type name = u64 ino ++ u64 off ++ u32 (length name) ++ u32 file_type ++ name ++ zeros (8 - length name)
 
 -- twelve requests, the session's first and last among them, and their 1,531 bytes of replies
 abbrev pub twelve_requests : List (List ℕ)
@@ -372,8 +372,8 @@ pub record TwelveRequests : Type 0 where
       ++ refused 6 0xffffffe2
       ++ refused 7 0xffffffda
       ++ headed 8 19 ++ codes "d/x"
-      ++ headed 9 208 ++ row 1 1 4 (codes ".") ++ row 1 2 4 (codes "..") ++ row 2 3 8 (codes "big") ++ row 3 4 4 (codes "d")
-      ++ row 5 5 10 (codes "l") ++ row 6 6 2 (codes "null")
+      ++ headed 9 208 ++ dirent_row 1 1 4 (codes ".") ++ dirent_row 1 2 4 (codes "..") ++ dirent_row 2 3 8 (codes "big") ++ dirent_row 3 4 4 (codes "d")
+      ++ dirent_row 5 5 10 (codes "l") ++ dirent_row 6 6 2 (codes "null")
       ++ headed 10 96 ++ u64 11 ++ zeros 16 ++ u64 6 ++ zeros 8 ++ u32 512 ++ u32 255 ++ u32 512 ++ zeros 28
       ++ headed 11 16
       ++ refused 12 0xfffffffb

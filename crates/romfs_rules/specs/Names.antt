@@ -23,11 +23,14 @@ class_in known q = get_by (λ k. slice_cmp nat_cmp q k.now) known
 -- a header with this name is of this class, where `new` is the class of a new name
 pub record IsClass (key : Option (List ℕ)) (new class : ℕ) (known known' : BTreeMap (Bor (List ℕ)) ℕ) : Type 0 where
   pub none : key ≡ None → (class ≡ new) × (known' ≡ known)
-  pub some : (n : List ℕ) → key ≡ Some n → (class ≡ unwrap_or (class_in known n) new) × ((q : List ℕ) → class_in known' q ≡ update bytes_eq (class_in known) n (Some class) q)
+  pub some : (n : List ℕ) → key ≡ Some n
+      → (class ≡ unwrap_or (class_in known n) new)
+      × ((q : List ℕ) → class_in known' q ≡ update bytes_eq (class_in known) n (Some class) q)
 
 -- of the numbers up to n, two have one class exactly where both are below n and have one name
 pub record AreClasses (key : ℕ → Option (List ℕ)) (n : ℕ) (class : List ℕ) : Type 0 where
   pub sized : length class ≡ n + 1
   pub below : (i : ℕ) → i < n + 1 → get_or class i 0 < n + 1
-  pub only : (i j : ℕ) → i < n + 1 → j < n + 1 → i ≢ j → get_or class i 0 ≡ get_or class j 0 → (i < n) × (j < n) × ((q : List ℕ) × (key i ≡ Some q) × (key j ≡ Some q))
+  pub only : (i j : ℕ) → i < n + 1 → j < n + 1 → i ≢ j → get_or class i 0 ≡ get_or class j 0
+      → (i < n) × (j < n) × ((q : List ℕ) × (key i ≡ Some q) × (key j ≡ Some q))
   pub all : (i j : ℕ) (q : List ℕ) → i < n → j < n → key i ≡ Some q → key j ≡ Some q → get_or class i 0 ≡ get_or class j 0

@@ -53,11 +53,15 @@ fn stack_from<R: Threads + Sync, A: Allocator + Copy + Send + Sync, G: Gate + Sy
     let (low, high) = join(
         rt,
         move || -> Result<Tree<A>, AllocError>
-            requires { IsSync R.row × IsSync G.row × IsSync A.row × IsSend A.row × Frees A.Allocator A.dealloc_token × (1 ≤ length lows.now) × (first + length lows.now ≤ 128) }
+            requires { IsSync R.row × IsSync G.row × IsSync A.row × IsSend A.row
+                × Frees A.Allocator A.dealloc_token
+                × (1 ≤ length lows.now) × (first + length lows.now ≤ 128) }
             ensures { IfOk result (λ tree. IsTreeOf first lows.entry.now tree) }
         { stack_from(rt, alloc, first, lows, gate) },
         move || -> Result<Tree<A>, AllocError>
-            requires { IsSync R.row × IsSync G.row × IsSync A.row × IsSend A.row × Frees A.Allocator A.dealloc_token × (1 ≤ length highs.now) × (next + length highs.now ≤ 128) }
+            requires { IsSync R.row × IsSync G.row × IsSync A.row × IsSend A.row
+                × Frees A.Allocator A.dealloc_token
+                × (1 ≤ length highs.now) × (next + length highs.now ≤ 128) }
             ensures { IfOk result (λ tree. IsTreeOf next highs.entry.now tree) }
         { stack_from(rt, alloc, next, highs, gate) },
     );

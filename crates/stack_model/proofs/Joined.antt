@@ -75,3 +75,5 @@ root_stays a (p, (q, y, rest, e, c)) = none q y rest e
     none : (q : Path) (y : List ℕ) (rest : Path) → ◌≡◌ {A = Path} [] (q ++ y ∷ rest) → ⊥
     none [] y rest e = cc
     none (x ∷ q) y rest e = cc
+
+pub ruleset cuts_of_a_layer = (cut_by_marker, cut_by_opaque, cut_by_other, root_stays)

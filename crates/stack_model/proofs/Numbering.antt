@@ -207,3 +207,5 @@ root_first layers (f ∷ fs) e l a p = let i : e ≡ f = elim a [ inl i ↦ i | 
 
     begins : (f : Entry) (fs : List Entry) → number_of (f ∷ fs) (place f) ≡ Some 1
     begins f fs = let r = first_stays (place f) [] (map place fs) in rw (r.1, same_itself (place f)) refl
+
+pub ruleset numbering = (root_first, number_used, number_listed, numbers_all, entries_numbered)

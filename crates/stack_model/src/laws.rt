@@ -34,7 +34,7 @@ pub fn laid_is_joined()
 
 /// Whiteouts: in a directory of a layer a marker for y cuts y and all below it, an opaque marker cuts all that is
 /// in the directory, and so does an entry that is no directory with what is at its place. The root is never cut.
-#[tactic(auto, using(crate::proofs::Joined::cut_by_marker, crate::proofs::Joined::cut_by_opaque, crate::proofs::Joined::cut_by_other, crate::proofs::Joined::root_stays))]
+#[tactic(auto, using(crate::proofs::Joined::cuts_of_a_layer))]
 pub fn whiteouts_cut()
     ensures marker { (a : List ℕ) (q rest : Path) (y : List ℕ) → IsPlain (q ++ y ∷ rest) → HasDirectory a q →
         IsIn a (q ++ (codes ".wh." ++ y) ∷ []) → Cuts a (q ++ y ∷ rest) }
@@ -48,7 +48,7 @@ pub fn whiteouts_cut()
 /// Numbers: the root has 1 where it is listed; each number from 1 to the number of nodes is that of exactly
 /// one place, that of some entry, and no other number is used; two entries have one number exactly where they have
 /// one place.
-#[tactic(auto, using(crate::proofs::Numbering::root_first, crate::proofs::Numbering::number_used, crate::proofs::Numbering::number_listed, crate::proofs::Numbering::numbers_all, crate::proofs::Numbering::entries_numbered))]
+#[tactic(auto, using(crate::proofs::Numbering::numbering))]
 pub fn numbers_are_places()
     ensures root { (layers : List (List ℕ)) (entries : List Entry) (e : Entry) →
         IsListing layers entries → IsAmong e entries → e.path ≡ [] → number_of entries (place e) ≡ Some 1 }
