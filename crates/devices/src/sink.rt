@@ -7,7 +7,6 @@ ghost use Rattle.devices.specs.declared.counts.Pushes.{Pushes};
 
 use crate::counts::Pushes;
 use crate::failed::Failed;
-use std::io;
 use std::io::Write;
 
 /// What takes bytes.
@@ -68,31 +67,6 @@ impl<W: Write> Sink for Spout<W> {
             Err(_) => Err(Failed),
         };
         self.counts.note_flush(&done);
-        done
-    }
-}
-
-/// Written to as a writer it counts what it takes, flushes and fails as it does as a sink.
-impl<W: Write> Write for Spout<W> {
-    ghost contents = { λ spout. W.contents spout.writer };
-
-    fn write(&mut self, bytes: &[u8]) -> io::Result<usize> {
-        let taken = self.writer.write(bytes);
-        let told = match &taken {
-            Ok(n) => Ok(*n),
-            Err(_) => Err(Failed),
-        };
-        self.counts.note_push(bytes.len(), &told);
-        taken
-    }
-
-    fn flush(&mut self) -> io::Result<()> {
-        let done = self.writer.flush();
-        let told = match &done {
-            Ok(_) => Ok(()),
-            Err(_) => Err(Failed),
-        };
-        self.counts.note_flush(&told);
         done
     }
 }

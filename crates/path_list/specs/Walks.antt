@@ -11,9 +11,9 @@ use Rattle.node_table.specs.Rows.{Line}
 use Rattle.path_list.specs.Lines.{line_of, line}
 use Rattle.path_list.specs.Below.{below, AreTree}
 
--- what a writer holds together with the bytes on their way to it grew by these bytes
-pub record Gains (old_written : Option (List ℕ)) (old_room : List ℕ) (new_written : Option (List ℕ)) (new_room : List ℕ) (bytes : List ℕ) : Type 0 where
-  pub gained : Appends (append_known old_written old_room) (append_known new_written new_room) bytes
+-- what a sink holds together with the bytes on their way to it grew by these bytes
+pub record Gains (old_held : Option (List ℕ)) (old_room : List ℕ) (new_held : Option (List ℕ)) (new_room : List ℕ) (bytes : List ℕ) : Type 0 where
+  pub gained : Appends (append_known old_held old_room) (append_known new_held new_room) bytes
 
 -- the names from the root
 abbrev pub way : Option (Bor (List (List ℕ))) → Path

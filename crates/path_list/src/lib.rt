@@ -1,6 +1,6 @@
 //! The lines of a listing: each shown path of a stack with its node's number and attributes.
 //!
-//! [`write_list`] writes them for a table of nodes, in the order of the paths:
+//! [`write_list`] puts them to a sink for a table of nodes, in the order of the paths:
 //!
 //! ```text
 //! 1 040755 3 0 1 /
@@ -12,7 +12,7 @@
 //! does not grow with their number. That these are all shown paths, each once, stands on what the layers are: nothing
 //! is shown below what is no directory, and a directory has one path (`laws`).
 //!
-//! The crate stands on `node_table`.
+//! The crate stands on `node_table`, and on `devices` for its sink.
 #![tactic(auto)]
 
 pub mod examples;

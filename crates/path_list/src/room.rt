@@ -1,12 +1,12 @@
-//! Bytes on their way to a writer.
+//! Bytes on their way to a sink.
 
-ghost use Rattle.std.specs.Prelude.{◌≡◌, ◌≤◌, ◌+◌, [], ◌++◌, length, OnOk, vec_len, vec_capacity};
+ghost use Rattle.std.specs.Prelude.{◌≡◌, ◌≤◌, ◌<◌, ◌+◌, ◌^◌, [], ◌++◌, length, OnOk, vec_len, vec_capacity};
 ghost use Rattle.std.specs.Io.KnownBytes.{Appends};
+ghost use Rattle.devices.specs.Counting.{CountsFailure};
 ghost use Rattle.path_list.specs.Walks.{Gains};
 
+use devices::{Failed, Sink, hand_on};
 use std::alloc::Allocator;
-use std::io;
-use std::io::Write;
 
 // Appends bytes for which there is room.
 fn append<A: Allocator>(room: &mut Vec<u8, A>, bytes: &[u8])
@@ -18,33 +18,41 @@ fn append<A: Allocator>(room: &mut Vec<u8, A>, bytes: &[u8])
     };
 }
 
-// Writes all bytes that wait.
-pub(crate) fn drain<W: Write, A: Allocator>(writer: &mut W, room: &mut Vec<u8, A>) -> io::Result<()>
-    ensures written { OnOk result (Appends (W.contents writer.old) (W.contents writer.new) room.old.items) }
+// Hands on all bytes that wait.
+pub(crate) fn drain<K: Sink, A: Allocator>(
+    sink: &mut K,
+    room: &mut Vec<u8, A>,
+) -> Result<(), Failed>
+    requires { (K.counts sink.old).failures < 2 ^ 63 }
+    ensures put { OnOk result (Appends (K.held sink.old) (K.held sink.new) room.old.items) }
     ensures items { OnOk result (room.new.items ≡ []) }
     ensures length { OnOk result (vec_len room.new ≡ 0) }
+    ensures counted { CountsFailure result (K.counts sink.old) (K.counts sink.new) }
 {
-    writer.write_all(room.as_slice())?;
+    hand_on(sink, room.as_slice())?;
     room.clear();
     Ok(())
 }
 
-// Puts bytes behind those that wait, and writes these first where there is no room. It takes no memory.
-pub(crate) fn put<W: Write, A: Allocator>(
-    writer: &mut W,
+// Puts bytes behind those that wait, and hands these on first where there is no room. It takes no memory.
+pub(crate) fn put<K: Sink, A: Allocator>(
+    sink: &mut K,
     room: &mut Vec<u8, A>,
     bytes: &[u8],
-) -> io::Result<()>
-    ensures { OnOk result (Gains (W.contents writer.old) room.old.items (W.contents writer.new) room.new.items bytes.now) }
+) -> Result<(), Failed>
+    requires { (K.counts sink.old).failures < 2 ^ 63 }
+    ensures gained { OnOk result (Gains (K.held sink.old) room.old.items
+        (K.held sink.new) room.new.items bytes.now) }
+    ensures counted { CountsFailure result (K.counts sink.old) (K.counts sink.new) }
 {
     if bytes.len() <= room.capacity() - room.len() {
         append(room, bytes);
         return Ok(());
     }
-    drain(writer, room)?;
+    drain(sink, room)?;
     if bytes.len() <= room.capacity() {
         append(room, bytes);
         return Ok(());
     }
-    writer.write_all(bytes)
+    hand_on(sink, bytes)
 }

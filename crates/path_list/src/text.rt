@@ -1,16 +1,16 @@
 //! The text of a line.
 
-ghost use Rattle.std.specs.Prelude.{◌≡◌, ◌<◌, ◌++◌, ◌∷◌, [], OnOk};
+ghost use Rattle.std.specs.Prelude.{◌≡◌, ◌<◌, ◌^◌, ◌++◌, ◌∷◌, [], OnOk};
 ghost use Rattle.std.specs.Fmt.{decimal};
+ghost use Rattle.devices.specs.Counting.{CountsFailure};
 ghost use Rattle.path_list.specs.Lines.{hex_digit, escaped, name_text, names_text, path_text, octal_digit, mode_text, field};
 ghost use Rattle.path_list.specs.Walks.{Gains, way};
 
 use crate::room::put;
 use crate::trail::Trail;
+use devices::{Failed, Sink};
 use itoa::Buffer;
 use std::alloc::Allocator;
-use std::io;
-use std::io::Write;
 
 fn hex_digit(n: u8) -> u8
     requires { n < 16 }
@@ -41,18 +41,21 @@ fn mode_field(mode: u32) -> [u8; 7]
 }
 
 // Puts a byte of a name.
-fn put_escaped<W: Write, A: Allocator>(
-    writer: &mut W,
+fn put_escaped<K: Sink, A: Allocator>(
+    sink: &mut K,
     room: &mut Vec<u8, A>,
     byte: u8,
-) -> io::Result<()>
-    ensures { OnOk result (Gains (W.contents writer.old) room.old.items (W.contents writer.new) room.new.items (escaped byte)) }
+) -> Result<(), Failed>
+    requires { (K.counts sink.old).failures < 2 ^ 63 }
+    ensures gained { OnOk result (Gains (K.held sink.old) room.old.items
+        (K.held sink.new) room.new.items (escaped byte)) }
+    ensures counted { CountsFailure result (K.counts sink.old) (K.counts sink.new) }
 {
     if 0x21 <= byte && byte <= 0x7e && byte != b'\\' {
-        put(writer, room, &[byte])
+        put(sink, room, &[byte])
     } else {
         put(
-            writer,
+            sink,
             room,
             &[b'\\', hex_digit(byte / 16), hex_digit(byte % 16)],
         )
@@ -60,85 +63,103 @@ fn put_escaped<W: Write, A: Allocator>(
 }
 
 // Puts a name.
-fn put_name<W: Write, A: Allocator>(
-    writer: &mut W,
+fn put_name<K: Sink, A: Allocator>(
+    sink: &mut K,
     room: &mut Vec<u8, A>,
     name: &[u8],
-) -> io::Result<()>
-    ensures { OnOk result (Gains (W.contents writer.old) room.old.items (W.contents writer.new) room.new.items (name_text name.now)) }
+) -> Result<(), Failed>
+    requires { (K.counts sink.old).failures < 2 ^ 63 }
+    ensures gained { OnOk result (Gains (K.held sink.old) room.old.items
+        (K.held sink.new) room.new.items (name_text name.now)) }
+    ensures counted { CountsFailure result (K.counts sink.old) (K.counts sink.new) }
 {
     for byte in name {
-        put_escaped(writer, room, *byte)?;
+        put_escaped(sink, room, *byte)?;
     }
     Ok(())
 }
 
 // Puts a name after a slash.
-fn put_step<W: Write, A: Allocator>(
-    writer: &mut W,
+fn put_step<K: Sink, A: Allocator>(
+    sink: &mut K,
     room: &mut Vec<u8, A>,
     name: &[u8],
-) -> io::Result<()>
-    ensures { OnOk result (Gains (W.contents writer.old) room.old.items (W.contents writer.new) room.new.items (47 ∷ name_text name.now)) }
+) -> Result<(), Failed>
+    requires { (K.counts sink.old).failures < 2 ^ 63 }
+    ensures gained { OnOk result (Gains (K.held sink.old) room.old.items
+        (K.held sink.new) room.new.items (47 ∷ name_text name.now)) }
+    ensures counted { CountsFailure result (K.counts sink.old) (K.counts sink.new) }
 {
-    put(writer, room, b"/")?;
-    put_name(writer, room, name)
+    put(sink, room, b"/")?;
+    put_name(sink, room, name)
 }
 
 // Puts the names of a way, each after a slash.
-fn put_names<W: Write, A: Allocator>(
-    writer: &mut W,
+fn put_names<K: Sink, A: Allocator>(
+    sink: &mut K,
     room: &mut Vec<u8, A>,
     trail: Option<&Trail<'_>>,
-) -> io::Result<()>
-    ensures { OnOk result (Gains (W.contents writer.old) room.old.items (W.contents writer.new) room.new.items (names_text (way trail.entry))) }
+) -> Result<(), Failed>
+    requires { (K.counts sink.old).failures < 2 ^ 63 }
+    ensures gained { OnOk result (Gains (K.held sink.old) room.old.items
+        (K.held sink.new) room.new.items (names_text (way trail.entry))) }
+    ensures counted { CountsFailure result (K.counts sink.old) (K.counts sink.new) }
 {
     match trail {
         None => Ok(()),
         Some(here) => {
-            put_names(writer, room, here.above)?;
-            put_step(writer, room, here.name)
+            put_names(sink, room, here.above)?;
+            put_step(sink, room, here.name)
         }
     }
 }
 
 // Puts the path of a way.
-pub(crate) fn put_path<W: Write, A: Allocator>(
-    writer: &mut W,
+pub(crate) fn put_path<K: Sink, A: Allocator>(
+    sink: &mut K,
     room: &mut Vec<u8, A>,
     trail: Option<&Trail<'_>>,
-) -> io::Result<()>
-    ensures { OnOk result (Gains (W.contents writer.old) room.old.items (W.contents writer.new) room.new.items (path_text (way trail.entry))) }
+) -> Result<(), Failed>
+    requires { (K.counts sink.old).failures < 2 ^ 63 }
+    ensures gained { OnOk result (Gains (K.held sink.old) room.old.items
+        (K.held sink.new) room.new.items (path_text (way trail.entry))) }
+    ensures counted { CountsFailure result (K.counts sink.old) (K.counts sink.new) }
 {
     match trail {
-        None => put(writer, room, b"/"),
+        None => put(sink, room, b"/"),
         Some(here) => {
-            put_names(writer, room, here.above)?;
-            put_step(writer, room, here.name)
+            put_names(sink, room, here.above)?;
+            put_step(sink, room, here.name)
         }
     }
 }
 
 // Puts a number, and a space.
-pub(crate) fn put_number<W: Write, A: Allocator>(
-    writer: &mut W,
+pub(crate) fn put_number<K: Sink, A: Allocator>(
+    sink: &mut K,
     room: &mut Vec<u8, A>,
     number: u64,
-) -> io::Result<()>
-    ensures { OnOk result (Gains (W.contents writer.old) room.old.items (W.contents writer.new) room.new.items (field (decimal number))) }
+) -> Result<(), Failed>
+    requires { (K.counts sink.old).failures < 2 ^ 63 }
+    ensures gained { OnOk result (Gains (K.held sink.old) room.old.items
+        (K.held sink.new) room.new.items (field (decimal number))) }
+    ensures counted { CountsFailure result (K.counts sink.old) (K.counts sink.new) }
 {
     let mut digits = Buffer::new();
-    put(writer, room, digits.format(number).as_bytes())?;
-    put(writer, room, b" ")
+    put(sink, room, digits.format(number).as_bytes())?;
+    put(sink, room, b" ")
 }
 
 // Puts a mode, and a space.
-pub(crate) fn put_mode<W: Write, A: Allocator>(
-    writer: &mut W,
+pub(crate) fn put_mode<K: Sink, A: Allocator>(
+    sink: &mut K,
     room: &mut Vec<u8, A>,
     mode: u32,
-) -> io::Result<()>
-    ensures { OnOk result (Gains (W.contents writer.old) room.old.items (W.contents writer.new) room.new.items (field (mode_text mode))) }
+) -> Result<(), Failed>
+    requires { (K.counts sink.old).failures < 2 ^ 63 }
+    ensures gained { OnOk result (Gains (K.held sink.old) room.old.items
+        (K.held sink.new) room.new.items (field (mode_text mode))) }
+    ensures counted { CountsFailure result (K.counts sink.old) (K.counts sink.new) }
 {
-    put(writer, room, &mode_field(mode))
+    put(sink, room, &mode_field(mode))
 }

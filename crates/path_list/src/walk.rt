@@ -1,6 +1,8 @@
 //! The walk over all paths of a table.
 
-ghost use Rattle.std.specs.Prelude.{◌≡◌, OnOk, IfErr};
+ghost use Rattle.std.specs.Prelude.{◌≡◌, ◌<◌, ◌^◌, OnOk, IfErr};
+ghost use Rattle.devices.specs.Counting.{CountsFailure};
+ghost use Rattle.devices.specs.States.{sink_state};
 ghost use Rattle.path_list.specs.Below.{AreImages};
 ghost use Rattle.path_list.specs.Lines.{lines};
 ghost use Rattle.path_list.specs.Faults.{Lists, IsBrokenOff};
@@ -9,11 +11,10 @@ ghost use Rattle.path_list.specs.Walks.{Gains, IsVisited, way, line_at, lines_be
 use crate::room::{drain, put};
 use crate::text::{put_mode, put_number, put_path};
 use crate::trail::Trail;
+use devices::{Failed, Sink};
 use node_table::Table;
 use romfs_image::Image;
 use std::alloc::{AllocError, Allocator};
-use std::io;
-use std::io::Write;
 
 // How many bytes of lines wait before they are written.
 const PIECE: usize = 65_536;
@@ -21,9 +22,9 @@ const PIECE: usize = 65_536;
 /// Why a list was not written to its end.
 #[derive(Clone, Copy, Debug, PartialEq, Eq)]
 pub enum ListFault {
-    /// A write failed, or the flush at the end.
+    /// The sink failed.
     Write,
-    /// Memory ran out, and nothing was written.
+    /// Memory ran out, and nothing was put.
     Memory,
 }
 
@@ -37,25 +38,28 @@ impl From<AllocError> for ListFault {
     }
 }
 
-impl From<io::Error> for ListFault {
+impl From<Failed> for ListFault {
     ghost use Rattle.path_list.specs.declared.walk.ListFault.TheVariants.{Write};
 
     ghost from_gives = { λ _ fault. fault ≡ Write };
 
-    fn from(_error: io::Error) -> ListFault {
+    fn from(_failed: Failed) -> ListFault {
         ListFault::Write
     }
 }
 
 // Puts the line of a number at a path; none where the number is not in use.
-fn put_line<W: Write, A: Allocator, B: Allocator>(
-    writer: &mut W,
+fn put_line<K: Sink, A: Allocator, B: Allocator>(
+    sink: &mut K,
     room: &mut Vec<u8, A>,
     table: &Table<B>,
     number: u64,
     trail: Option<&Trail<'_>>,
-) -> io::Result<()>
-    ensures { OnOk result (Gains (W.contents writer.old) room.old.items (W.contents writer.new) room.new.items (line_at table.now number (way trail.entry))) }
+) -> Result<(), Failed>
+    requires { (K.counts sink.old).failures < 2 ^ 63 }
+    ensures gained { OnOk result (Gains (K.held sink.old) room.old.items
+        (K.held sink.new) room.new.items (line_at table.now number (way trail.entry))) }
+    ensures counted { CountsFailure result (K.counts sink.old) (K.counts sink.new) }
 {
     let Some(node) = table.node(number) else {
         return Ok(());
@@ -63,33 +67,36 @@ fn put_line<W: Write, A: Allocator, B: Allocator>(
     let Some(attr) = table.attr(number) else {
         return Ok(());
     };
-    put_number(writer, room, attr.ino)?;
-    put_mode(writer, room, attr.mode)?;
-    put_number(writer, room, u64::from(attr.nlink))?;
-    put_number(writer, room, attr.size)?;
-    put_number(writer, room, u64::from(node.place.layer))?;
-    put_path(writer, room, trail)?;
-    put(writer, room, b"\n")
+    put_number(sink, room, attr.ino)?;
+    put_mode(sink, room, attr.mode)?;
+    put_number(sink, room, u64::from(attr.nlink))?;
+    put_number(sink, room, attr.size)?;
+    put_number(sink, room, u64::from(node.place.layer))?;
+    put_path(sink, room, trail)?;
+    put(sink, room, b"\n")
 }
 
 // Puts the lines of all paths below that of a number. No recursion goes deeper than the paths are long.
-fn put_below<W: Write, A: Allocator, B: Allocator>(
-    writer: &mut W,
+fn put_below<K: Sink, A: Allocator, B: Allocator>(
+    sink: &mut K,
     room: &mut Vec<u8, A>,
     table: &Table<B>,
     number: u64,
     trail: Option<&Trail<'_>>,
-) -> io::Result<()>
-    requires { IsVisited table.now number (way trail) }
-    ensures { OnOk result (Gains (W.contents writer.old) room.old.items (W.contents writer.new) room.new.items (lines_below table.now (way trail.entry))) }
+) -> Result<(), Failed>
+    requires visited { IsVisited table.now number (way trail) }
+    requires counts { (K.counts sink.old).failures < 2 ^ 63 }
+    ensures gained { OnOk result (Gains (K.held sink.old) room.old.items
+        (K.held sink.new) room.new.items (lines_below table.now (way trail.entry))) }
+    ensures counted { CountsFailure result (K.counts sink.old) (K.counts sink.new) }
 {
     for row in table.rows(number) {
         let below = Trail {
             above: trail,
             name: row.name.as_slice(),
         };
-        put_line(writer, room, table, row.number, Some(&below))?;
-        put_below(writer, room, table, row.number, Some(&below))?;
+        put_line(sink, room, table, row.number, Some(&below))?;
+        put_below(sink, room, table, row.number, Some(&below))?;
     }
     Ok(())
 }
@@ -104,41 +111,46 @@ fn are_images<A: Allocator>(images: &[Image<A>])
 }
 
 // Puts all lines.
-fn put_all<W: Write, A: Allocator, B: Allocator>(
-    writer: &mut W,
+fn put_all<K: Sink, A: Allocator, B: Allocator>(
+    sink: &mut K,
     room: &mut Vec<u8, A>,
     table: &Table<B>,
-) -> io::Result<()>
-    ensures { OnOk result (Gains (W.contents writer.old) room.old.items (W.contents writer.new) room.new.items (lines table.now.layers table.now.entries)) }
+) -> Result<(), Failed>
+    requires { (K.counts sink.old).failures < 2 ^ 63 }
+    ensures gained { OnOk result (Gains (K.held sink.old) room.old.items
+        (K.held sink.new) room.new.items (lines table.now.layers table.now.entries)) }
+    ensures counted { CountsFailure result (K.counts sink.old) (K.counts sink.new) }
 {
     are_images(table.images());
     if table.len() == 0 {
         return Ok(());
     }
-    put_line(writer, room, table, 1, None)?;
-    put_below(writer, room, table, 1, None)
+    put_line(sink, room, table, 1, None)?;
+    put_below(sink, room, table, 1, None)
 }
 
-/// Writes a line for each shown path of the table's layers, in the order of the paths, and then flushes the writer.
+/// Puts a line for each shown path of the table's layers to a sink, in the order of the paths.
 ///
 /// A line is `<number> <mode> <nlink> <size> <layer> <path>`: the mode in six octal digits, the layer that of the
 /// node's place, and the path after `/`, which alone is the root. A byte of a name outside 0x21 to 0x7e, and that of
 /// `\`, is printed as `\` and two lower hexadecimal digits.
 ///
-/// The lines go out in pieces of about 64 KiB, for which memory is taken first: at `Memory` the writer is as before.
-/// At `Write` nothing is said of what it holds. Besides, it takes as much of the stack as the deepest path has names,
-/// and a time that grows with the length of the lines.
-pub fn write_list<A: Allocator, B: Allocator, W: Write>(
+/// The lines go out in pieces of about 64 KiB, each of which is flushed. Memory for one is taken first: at `Memory` the
+/// sink is as before. `Write` comes only where the sink failed in this call, once; nothing is said of what it then
+/// holds. Besides, it takes as much of the stack as the deepest path has names, and a time that grows with the length
+/// of the lines.
+pub fn write_list<A: Allocator, B: Allocator, K: Sink>(
     alloc: A,
     table: &Table<B>,
-    writer: &mut W,
+    sink: &mut K,
 ) -> Result<(), ListFault>
-    ensures ok { OnOk result (Lists table.now (W.contents writer.old) (W.contents writer.new)) }
-    ensures err { IfErr result (IsBrokenOff (W.contents writer.old) (W.contents writer.new)) }
+    requires { (K.counts sink.old).failures < 2 ^ 63 }
+    ensures ok { OnOk result (Lists table.now (K.held sink.old) (K.held sink.new)) }
+    ensures err { IfErr result (IsBrokenOff (sink_state (K.held sink.old) (K.counts sink.old))
+        (sink_state (K.held sink.new) (K.counts sink.new))) }
 {
     let mut room = Vec::with_capacity(alloc, PIECE)?;
-    put_all(writer, &mut room, table)?;
-    drain(writer, &mut room)?;
-    writer.flush()?;
+    put_all(sink, &mut room, table)?;
+    drain(sink, &mut room)?;
     Ok(())
 }

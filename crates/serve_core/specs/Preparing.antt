@@ -1,5 +1,6 @@
 -- Images that are prepared for serving: checked, and stacked.
 use Rattle.std.specs.Prelude.{◌≡◌, ℕ, ◌<◌, ◌≤◌, ◌⊎◌, List, ◌∷◌, ◌++◌, length, map, All}
+use Rattle.std.specs.declared.vec.Vec.{Vec}
 use Rattle.romfs_format.specs.Fields.{image}
 use Rattle.romfs_format.specs.Rules.{IsFaultAs, IsSoundAs}
 use Rattle.romfs_format.specs.declared.rule.Profile.{Profile}
@@ -8,6 +9,10 @@ use Rattle.stack_model.specs.Listing.{IsListing}
 use Rattle.node_table.specs.Stacked.{Stacked}
 use Rattle.serve_core.specs.declared.stop.Stop.{Stop}
 use Rattle.serve_core.specs.declared.stop.Stop.TheVariants.{Layer, Layers, Memory}
+
+-- the bytes of images
+abbrev pub contents_of : {A B : Type 0} → Vec (Vec ℕ A) B → List (List ℕ)
+contents_of images = map (λ image. image.items) images.items
 
 -- 1 to 128 layers can be served
 abbrev pub IsFew : ℕ → Type 0

@@ -1,5 +1,6 @@
 -- What serving a stream promises, whatever answers its requests.
-use Rattle.std.specs.Prelude.{◌≡◌, ℕ, ◌+◌, ◌-◌, ◌*◌, ◌<◌, ◌≤◌, List, [], ◌++◌, length, take, map, ℤ, Option, Some, Result, Ok, Err}
+use Rattle.std.specs.Prelude.{◌≡◌, ℕ, ◌+◌, ◌-◌, ◌*◌, ◌<◌, ◌≤◌, ◌^◌, List, [], ◌++◌, length, take, map, ℤ, Option, Some, Result, Ok, Err}
+use Rattle.std.specs.Io.KnownBytes.{Appends, Consumes}
 use Rattle.fuse_wire.specs.Stream.{IsUnfinished, IsBad, IsOpen, IsSplit}
 use Rattle.fuse_wire.specs.Requests.{asked}
 use Rattle.reply_model.specs.declared.session.Session.TheVariants.{Fresh}
@@ -8,6 +9,7 @@ use Rattle.devices.specs.declared.counts.LastPull.{LastPull}
 use Rattle.devices.specs.declared.counts.LastPull.TheVariants.{Bytes, End, Failure}
 use Rattle.devices.specs.declared.counts.Pulls.{Pulls}
 use Rattle.devices.specs.declared.counts.Pushes.{Pushes}
+use Rattle.devices.specs.States.{SourceState, source_state, SinkState, sink_state}
 use Rattle.rounds.specs.Moves.{balance_at}
 use Rattle.reply_model.specs.declared.moves.Move.{Move}
 use Rattle.reply_model.specs.Moves.{balance}
@@ -16,6 +18,23 @@ use Rattle.rounds.specs.Rounds.{Answering, joined}
 use Rattle.serve_core.specs.declared.stop.Stop.{Stop}
 use Rattle.serve_core.specs.declared.stop.Stop.TheVariants.{Layer, Layers, BadLength, CutOff, Read, Write, Turns, Memory}
 use Rattle.serve_core.specs.declared.done.Done.{Done}
+
+-- the devices that a stream is served between, before or after a call
+pub record Devices : Type 0 where
+  pub source : SourceState
+  pub sink : SinkState
+
+-- the same, by what the source has left and counted and what the sink holds and has counted
+abbrev pub devices : Option (List ℕ) → Pulls → Option (List ℕ) → Pushes → Devices
+devices left pulls held pushes = record { source = source_state left pulls; sink = sink_state held pushes }
+
+-- no count of the devices can overflow in this many turns
+pub record AreReady (turns : ℕ) (old : Devices) : Type 0 where
+  pub turns : turns ≤ 2 ^ 40
+  pub pulls : old.source.counts.pulls < 2 ^ 63
+  pub ends : old.source.counts.ends < 2 ^ 63
+  pub source_failures : old.source.counts.failures < 2 ^ 63
+  pub sink_failures : old.sink.counts.failures < 2 ^ 63
 
 -- what one call did: the bytes taken off the source, those put to the sink, and the counts of both as they were and are
 pub record Trace : Type 0 where
@@ -36,6 +55,14 @@ trace got put source_before source sink_before sink = record {
   sink_before = sink_before;
   sink = sink;
 }
+
+-- a call took bytes off the source and put bytes to the sink, and what it did is so
+abbrev pub Does : (Trace → Type 0) → Devices → Devices → Type 0
+Does is old new =
+    (got : List ℕ) × (put : List ℕ)
+    × Consumes old.source.left new.source.left got
+    × Appends old.sink.held new.sink.held put
+    × is (trace got put old.source.counts new.source.counts old.sink.counts new.sink.counts)
 
 -- all but the last n bytes
 abbrev pub all_but : ℕ → List ℕ → List ℕ

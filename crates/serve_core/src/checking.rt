@@ -1,7 +1,7 @@
 //! Images, checked one after another.
 
-ghost use Rattle.std.specs.Prelude.{length, map, IfOk, IfErr};
-ghost use Rattle.serve_core.specs.Preparing.{AreLayers, AreRefused, IsFew};
+ghost use Rattle.std.specs.Prelude.{length, IfOk, IfErr};
+ghost use Rattle.serve_core.specs.Preparing.{contents_of, AreLayers, AreRefused, IsFew};
 
 use crate::stop::Stop;
 use romfs_format::Profile;
@@ -17,8 +17,8 @@ pub(crate) fn check_all<A: Allocator + Copy, G: Gate>(
     gate: &G,
 ) -> Result<Vec<Image<A>, A>, Stop>
     requires { IsFew (length images.items) }
-    ensures ok { IfOk result (λ checked. AreLayers profile (map (λ image. image.items) images.items) checked.items) }
-    ensures err { IfErr result (λ stop. AreRefused profile (map (λ image. image.items) images.items) stop) }
+    ensures ok { IfOk result (λ checked. AreLayers profile (contents_of images) checked.items) }
+    ensures err { IfErr result (λ stop. AreRefused profile (contents_of images) stop) }
 {
     let mut checked = Vec::with_capacity(alloc, images.len())?;
     for bytes in images {

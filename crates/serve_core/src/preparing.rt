@@ -1,7 +1,7 @@
 //! Images, checked and stacked.
 
-ghost use Rattle.std.specs.Prelude.{map, IfOk, IfErr};
-ghost use Rattle.serve_core.specs.Preparing.{AreStacked, AreRefused};
+ghost use Rattle.std.specs.Prelude.{IfOk, IfErr};
+ghost use Rattle.serve_core.specs.Preparing.{contents_of, AreStacked, AreRefused};
 
 use crate::checking::check_all;
 use crate::stop::Stop;
@@ -21,8 +21,8 @@ pub fn prepare<R: Threads + Sync, A: Allocator + Copy + Send + Sync, G: Gate + S
     images: Vec<Vec<u8, A>, A>,
     gate: &G,
 ) -> Result<Table<A>, Stop>
-    ensures ok { IfOk result (AreStacked Profile.Usual (map (λ image. image.items) images.items)) }
-    ensures err { IfErr result (λ stop. AreRefused Profile.Usual (map (λ image. image.items) images.items) stop) }
+    ensures ok { IfOk result (AreStacked Profile.Usual (contents_of images)) }
+    ensures err { IfErr result (λ stop. AreRefused Profile.Usual (contents_of images) stop) }
 {
     prepare_as(rt, alloc, images, Profile::Usual, gate)
 }
@@ -35,8 +35,8 @@ pub fn prepare_as<R: Threads + Sync, A: Allocator + Copy + Send + Sync, G: Gate 
     profile: Profile,
     gate: &G,
 ) -> Result<Table<A>, Stop>
-    ensures ok { IfOk result (AreStacked profile (map (λ image. image.items) images.items)) }
-    ensures err { IfErr result (λ stop. AreRefused profile (map (λ image. image.items) images.items) stop) }
+    ensures ok { IfOk result (AreStacked profile (contents_of images)) }
+    ensures err { IfErr result (λ stop. AreRefused profile (contents_of images) stop) }
 {
     let count = images.len() as u64;
     if count == 0 || 128 < count {

@@ -1,9 +1,9 @@
 //! A stream, served to its end.
 
-ghost use Rattle.std.specs.Prelude.{◌≡◌, ◌<◌, ◌≤◌, ◌^◌, ℕ, List, MatchOption, OnOk};
-ghost use Rattle.std.specs.Io.KnownBytes.{Appends, Consumes, IsAtEnd};
+ghost use Rattle.std.specs.Prelude.{MatchOption, OnOk};
+ghost use Rattle.std.specs.Io.KnownBytes.{IsAtEnd};
 ghost use Rattle.fuse_wire.specs.Stream.{IsRest, IsBad, IsOpen};
-ghost use Rattle.serve_core.specs.Serving.{trace, IsRun};
+ghost use Rattle.serve_core.specs.Serving.{devices, AreReady, Does, IsRun};
 
 use crate::done::Done;
 use crate::progress::Progress;
@@ -30,17 +30,11 @@ pub fn run_by<T: Rounds, S: Source, K: Sink, A: Allocator + Copy>(
     sink: &mut K,
     turns: u64,
 ) -> Result<Done<A>, Stop>
-    requires turns { turns ≤ 2 ^ 40 }
-    requires pulls { (S.counts source.old).pulls < 2 ^ 63 }
-    requires ends { (S.counts source.old).ends < 2 ^ 63 }
-    requires source_failures { (S.counts source.old).failures < 2 ^ 63 }
-    requires sink_failures { (K.counts sink.old).failures < 2 ^ 63 }
-    ensures run { (got : List ℕ) × (put : List ℕ)
-        × Consumes (S.left source.old) (S.left source.new) got
-        × Appends (K.held sink.old) (K.held sink.new) put
-        × IsRun (T.answering answers.now) (T.nodes answers.now) turns (trace got put
-        (S.counts source.old) (S.counts source.new)
-        (K.counts sink.old) (K.counts sink.new)) result }
+    requires { AreReady turns
+        (devices (S.left source.old) (S.counts source.old) (K.held sink.old) (K.counts sink.old)) }
+    ensures run { Does (λ t. IsRun (T.answering answers.now) (T.nodes answers.now) turns t result)
+        (devices (S.left source.old) (S.counts source.old) (K.held sink.old) (K.counts sink.old))
+        (devices (S.left source.new) (S.counts source.new) (K.held sink.new) (K.counts sink.new)) }
     ensures end { OnOk result (IsAtEnd (S.left source.new)) }
 {
     if turns == 0 {

@@ -1,8 +1,9 @@
 //! Streams over images.
 
-ghost use Rattle.std.specs.Prelude.{◌≡◌, ◌<◌, ◌≤◌, ◌^◌, ℕ, List, map, OnOk};
-ghost use Rattle.std.specs.Io.KnownBytes.{Appends, Consumes, IsAtEnd};
-ghost use Rattle.serve_core.specs.Serving.{trace};
+ghost use Rattle.std.specs.Prelude.{OnOk};
+ghost use Rattle.std.specs.Io.KnownBytes.{IsAtEnd};
+ghost use Rattle.serve_core.specs.Preparing.{contents_of};
+ghost use Rattle.serve_core.specs.Serving.{devices, AreReady, Does};
 ghost use Rattle.serve_core.specs.Headline.{IsRunOver, Serves};
 
 use crate::done::Done;
@@ -36,17 +37,11 @@ pub fn run<A: Allocator + Copy, S: Source, K: Sink, G: Gate>(
     turns: u64,
     gate: &G,
 ) -> Result<Done<A>, Stop>
-    requires turns { turns ≤ 2 ^ 40 }
-    requires pulls { (S.counts source.old).pulls < 2 ^ 63 }
-    requires ends { (S.counts source.old).ends < 2 ^ 63 }
-    requires source_failures { (S.counts source.old).failures < 2 ^ 63 }
-    requires sink_failures { (K.counts sink.old).failures < 2 ^ 63 }
-    ensures run { (got : List ℕ) × (put : List ℕ)
-        × Consumes (S.left source.old) (S.left source.new) got
-        × Appends (K.held sink.old) (K.held sink.new) put
-        × IsRunOver table.now turns (trace got put
-        (S.counts source.old) (S.counts source.new)
-        (K.counts sink.old) (K.counts sink.new)) result }
+    requires { AreReady turns
+        (devices (S.left source.old) (S.counts source.old) (K.held sink.old) (K.counts sink.old)) }
+    ensures run { Does (λ t. IsRunOver table.now turns t result)
+        (devices (S.left source.old) (S.counts source.old) (K.held sink.old) (K.counts sink.old))
+        (devices (S.left source.new) (S.counts source.new) (K.held sink.new) (K.counts sink.new)) }
     ensures end { OnOk result (IsAtEnd (S.left source.new)) }
 {
     run_by(alloc, &Pool::new(table, plan, gate), source, sink, turns)
@@ -73,17 +68,12 @@ pub fn serve<
     turns: u64,
     gate: &G,
 ) -> Result<Done<A>, Stop>
-    requires turns { turns ≤ 2 ^ 40 }
-    requires pulls { (S.counts source.old).pulls < 2 ^ 63 }
-    requires ends { (S.counts source.old).ends < 2 ^ 63 }
-    requires source_failures { (S.counts source.old).failures < 2 ^ 63 }
-    requires sink_failures { (K.counts sink.old).failures < 2 ^ 63 }
-    ensures run { (got : List ℕ) × (put : List ℕ)
-        × Consumes (S.left source.old) (S.left source.new) got
-        × Appends (K.held sink.old) (K.held sink.new) put
-        × Serves Profile.Usual (map (λ image. image.items) images.items) turns (trace got put
-        (S.counts source.old) (S.counts source.new)
-        (K.counts sink.old) (K.counts sink.new)) result }
+    requires { AreReady turns
+        (devices (S.left source.old) (S.counts source.old) (K.held sink.old) (K.counts sink.old)) }
+    ensures run { Does
+        (λ t. Serves Profile.Usual (contents_of images) turns t result)
+        (devices (S.left source.old) (S.counts source.old) (K.held sink.old) (K.counts sink.old))
+        (devices (S.left source.new) (S.counts source.new) (K.held sink.new) (K.counts sink.new)) }
     ensures end { OnOk result (IsAtEnd (S.left source.new)) }
 {
     serve_as(
@@ -117,17 +107,12 @@ pub fn serve_as<
     turns: u64,
     gate: &G,
 ) -> Result<Done<A>, Stop>
-    requires turns { turns ≤ 2 ^ 40 }
-    requires pulls { (S.counts source.old).pulls < 2 ^ 63 }
-    requires ends { (S.counts source.old).ends < 2 ^ 63 }
-    requires source_failures { (S.counts source.old).failures < 2 ^ 63 }
-    requires sink_failures { (K.counts sink.old).failures < 2 ^ 63 }
-    ensures run { (got : List ℕ) × (put : List ℕ)
-        × Consumes (S.left source.old) (S.left source.new) got
-        × Appends (K.held sink.old) (K.held sink.new) put
-        × Serves profile (map (λ image. image.items) images.items) turns (trace got put
-        (S.counts source.old) (S.counts source.new)
-        (K.counts sink.old) (K.counts sink.new)) result }
+    requires { AreReady turns
+        (devices (S.left source.old) (S.counts source.old) (K.held sink.old) (K.counts sink.old)) }
+    ensures run { Does
+        (λ t. Serves profile (contents_of images) turns t result)
+        (devices (S.left source.old) (S.counts source.old) (K.held sink.old) (K.counts sink.old))
+        (devices (S.left source.new) (S.counts source.new) (K.held sink.new) (K.counts sink.new)) }
     ensures end { OnOk result (IsAtEnd (S.left source.new)) }
 {
     let table = prepare_as(rt, alloc, images, profile, gate)?;

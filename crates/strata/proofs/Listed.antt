@@ -1,5 +1,6 @@
 -- How a list stopped.
-use Rattle.std.proofs.Common.{◌≡◌, refl, inl, inr, ℕ, List, Option, Result, Ok, Err, IfErr, IsErrAnd}
+use Rattle.std.proofs.Common.{◌≡◌, inl, inr, ℕ, List, Result, Ok, Err, IfErr, IsErrAnd}
+use Rattle.devices.specs.States.{SinkState}
 use Rattle.romfs_format.specs.declared.rule.Profile.{Profile}
 use Rattle.node_table.specs.Stacked.{Stacked}
 use Rattle.serve_core.specs.declared.stop.Stop.TheVariants as stops
@@ -11,9 +12,9 @@ use Rattle.strata.specs.declared.faults.Fault.{Fault}
 use Rattle.strata.specs.Faults.{list_told_of}
 use Rattle.strata.specs.Ending.{IsNotListed}
 
-pub list_stopped : (profile : Profile) (images : List (List ℕ)) (stack : Stacked) (old new : Option (List ℕ)) (r : Result (Unit {0}) Fault) (fault : ListFault)
+pub list_stopped : (profile : Profile) (images : List (List ℕ)) (stack : Stacked) (old new : SinkState) (r : Result (Unit {0}) Fault) (fault : ListFault)
     → AreStacked profile images stack → IsBrokenOff old new fault → IsErrAnd r (λ told. told ≡ list_told_of fault)
     → IfErr r (λ told. IsNotListed profile images told old new)
 list_stopped profile images stack old new (Ok u) fault s b e = absurd e
-list_stopped profile images stack old new (Err told) Write s b e = inr e
-list_stopped profile images stack old new (Err told) Memory s b e = inl (record { stop = stops.Memory; told = e; refused = s.layers.few; kept = b refl })
+list_stopped profile images stack old new (Err told) Write s b e = inr (record { told = e; failed = b })
+list_stopped profile images stack old new (Err told) Memory s b e = inl (record { stop = stops.Memory; told = e; refused = s.layers.few; kept = b })

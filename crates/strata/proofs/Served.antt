@@ -1,14 +1,14 @@
 -- What serving left, by the devices that it was between.
 use Rattle.std.proofs.Common.{◌≡◌, ◌∙◌, sym, ap, refl, subst, ℕ, ◌⊎◌, inl, inr, List, Option, None, Some, is_some, true, false, true≢false, Result, Ok, Err, OnOk, IfErr, IsErrAnd}
-use Rattle.std.specs.Io.KnownBytes.{Appends}
+use Rattle.devices.specs.States.{SourceState, SinkState}
 use Rattle.command_line.specs.declared.options.Line.{Line}
 use Rattle.serve_core.specs.declared.stop.Stop.{Stop}
 use Rattle.serve_core.specs.declared.done.Done.{Done}
-use Rattle.serve_core.specs.Serving.{Trace}
+use Rattle.serve_core.specs.Serving.{Devices, Trace}
 use Rattle.strata.specs.declared.faults.Fault.{Fault}
 use Rattle.strata.specs.declared.faults.Fault.TheVariants.{Stopped}
 use Rattle.strata.specs.Faults.{out_of_memory, write_failed}
-use Rattle.strata.specs.Ending.{Gains, IsServing, IsServedWhole, IsServedInPart, AreBalancesLost, IsNotServed}
+use Rattle.strata.specs.Ending.{Gave, Took, Asks, Gains, IsServing, IsServedWhole, IsServedInPart, AreBalancesLost, IsNotServed}
 
 none_where : {X : Type 0} (o : Option X) → is_some o ≡ false → o ≡ None
 none_where None e = refl
@@ -21,34 +21,41 @@ same_none named file same none = none_where file (same ∙ ap is_some none)
 pub no_file : {X Y : Type 0} (named : Option X) (file : Option Y) (x : Y) → is_some file ≡ is_some named → file ≡ Some x → named ≡ None → ⊥
 no_file named file x same some none = true≢false (ap is_some (sym some) ∙ same ∙ ap is_some none)
 
--- bytes that went to the output, and those that went to a file
-pub to_output : {X : Type 0} (file : Option X) (bytes : List ℕ) (old new : Option (List ℕ)) → file ≡ None → Appends old new bytes → Gains file bytes old new
-to_output file bytes old new none put = record { written = λ _. put; kept = λ some. absurd (true≢false (sym some ∙ ap is_some none)) }
+-- replies that went to the output, and those that went to a file
+pub to_output : {F : Type 0} (file : Option F) (t : Trace) (old new : SinkState) → file ≡ None → Took t old new → Gains file t old new
+to_output file t old new none took = record { took = λ _. took; kept = λ some. absurd (true≢false (sym some ∙ ap is_some none)) }
 
-pub to_file : {X : Type 0} (file : Option X) (x : X) (bytes : List ℕ) (old : Option (List ℕ)) → file ≡ Some x → Gains file bytes old old
-to_file file x bytes old some = record { written = λ none. absurd (true≢false (ap is_some (sym some) ∙ ap is_some none)); kept = λ _. refl }
+pub to_file : {F : Type 0} (file : Option F) (x : F) (t : Trace) (old : SinkState) → file ≡ Some x → Gains file t old old
+to_file file x t old some = record { took = λ none. absurd (true≢false (ap is_some (sym some) ∙ ap is_some none)); kept = λ _. refl }
 
 -- the same of the line that names the file
-pub gained : {X Y : Type 0} (named : Option X) (file : Option Y) (bytes : List ℕ) (old new : Option (List ℕ)) → is_some file ≡ is_some named → Gains file bytes old new → Gains named bytes old new
-gained named file bytes old new same g = record { written = λ none. g.written (same_none named file same none); kept = λ some. g.kept (same ∙ some) }
+pub gained : {F G : Type 0} (named : Option F) (file : Option G) (t : Trace) (old new : SinkState) → is_some file ≡ is_some named → Gains file t old new → Gains named t old new
+gained named file t old new same g = record { took = λ none. g.took (same_none named file same none); kept = λ some. g.kept (same ∙ some) }
 
-module _ (A : Type 0) (line : Line) (images : List (List ℕ)) (input old new : Option (List ℕ)) where
+-- requests that came from the input, and those that came from a file
+pub from_input : {F X E : Type 0} (named : Option F) (t : Trace) (result : Result X E) (old new : SourceState) → named ≡ None → Gave t result old new → Asks named t result old new
+from_input named t result old new none gave = record { gave = λ _. gave; kept = λ some. absurd (true≢false (sym some ∙ ap is_some none)) }
+
+pub from_file : {F G X E : Type 0} (named : Option F) (file : Option G) (x : G) (t : Trace) (result : Result X E) (old : SourceState) → is_some file ≡ is_some named → file ≡ Some x → Asks named t result old old
+from_file named file x t result old same some = record { gave = λ none. absurd (no_file named file x same some none); kept = λ _. refl }
+
+module _ (A : Type 0) (line : Line) (images : List (List ℕ)) (old new : Devices) where
   -- serving stopped
-  pub stopped : (r : Result (Done A) Stop) (stop : Stop) (told : Result (Unit {0}) Fault) → (t : Trace) × IsServing line images t r input old new → r ≡ Err stop
-      → IsErrAnd told (λ fault. fault ≡ Stopped stop) → IfErr told (λ fault. IsNotServed A line images fault input old new)
+  pub stopped : (r : Result (Done A) Stop) (stop : Stop) (told : Result (Unit {0}) Fault) → (t : Trace) × IsServing line images t r old new → r ≡ Err stop
+      → IsErrAnd told (λ fault. fault ≡ Stopped stop) → IfErr told (λ fault. IsNotServed A line images fault old new)
   stopped r stop (Ok u) s e f = absurd f
-  stopped r stop (Err fault) s e f = inr (inl (record { trace = s.0; stop = stop; told = f; serving = subst (λ v. IsServing line images s.0 v input old new) e s.1 }))
+  stopped r stop (Err fault) s e f = inr (inl (record { trace = s.0; stop = stop; told = f; serving = subst (λ v. IsServing line images s.0 v old new) e s.1 }))
 
   -- serving went to its end, whatever came of the balances
-  pub whole : (r : Result (Done A) Stop) (done : Done A) → (t : Trace) × IsServing line images t r input old new → r ≡ Ok done → IsServedWhole A line images input old new
-  whole r done s e = record { trace = s.0; done = done; serving = subst (λ v. IsServing line images s.0 v input old new) e s.1 }
+  pub whole : (r : Result (Done A) Stop) (done : Done A) → (t : Trace) × IsServing line images t r old new → r ≡ Ok done → IsServedWhole A line images old new
+  whole r done s e = record { trace = s.0; done = done; serving = subst (λ v. IsServing line images s.0 v old new) e s.1 }
 
-  pub lost : {F : Type 0} (file : Option F) (told : Result (Unit {0}) Fault) → IsServedWhole A line images input old new → is_some file ≡ is_some line.balances
+  pub lost : {F : Type 0} (file : Option F) (told : Result (Unit {0}) Fault) → IsServedWhole A line images old new → is_some file ≡ is_some line.balances
       → IfErr told (λ fault. (is_some file ≡ true) × ((fault ≡ write_failed) ⊎ (fault ≡ out_of_memory)))
-      → IfErr told (λ fault. IsNotServed A line images fault input old new)
+      → IfErr told (λ fault. IsNotServed A line images fault old new)
   lost file (Ok u) w same l = l
   lost file (Err fault) w same l = inr (inr (record { named = sym same ∙ l.0; told = l.1; served = w }))
 
-  pub in_time : (told : Result (Unit {0}) Fault) → IsServedWhole A line images input old new → OnOk told (IsServedWhole A line images input old new)
+  pub in_time : (told : Result (Unit {0}) Fault) → IsServedWhole A line images old new → OnOk told (IsServedWhole A line images old new)
   in_time (Ok u) w = w
   in_time (Err fault) w = tt

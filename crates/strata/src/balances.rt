@@ -1,12 +1,15 @@
 //! The balances of the nodes, as lines of a file.
 
-ghost use Rattle.std.specs.Prelude.{◌≡◌, ◌⊎◌, is_some, true, string_bytes, IfOk, IfErr, OnOk};
+ghost use Rattle.std.specs.Prelude.{◌≡◌, ◌<◌, ◌^◌, ◌⊎◌, is_some, true, string_bytes, IfOk, IfErr, OnOk};
 ghost use Rattle.std.specs.Io.KnownBytes.{Appends};
+ghost use Rattle.devices.specs.States.{sink_state};
 ghost use Rattle.strata.specs.Faults.{out_of_memory, write_failed};
+ghost use Rattle.strata.specs.Ending.{AreNotPut};
 ghost use Rattle.strata.specs.Texts.{balance_lines};
 
 use crate::faults::Fault;
-use crate::streams::write_out;
+use crate::streams::put_lines;
+use devices::{Sink, Spout};
 use std::alloc::{AllocError, Allocator};
 use std::io::Write;
 
@@ -19,22 +22,25 @@ pub fn tell_balances<F: Write + Drop, A: Allocator>(
     ensures { IfErr result (λ fault. (is_some file ≡ true) × ((fault ≡ write_failed) ⊎ (fault ≡ out_of_memory))) }
 {
     match file {
-        Some(mut file) => write_balances(alloc, &mut file, balances),
+        Some(file) => put_balances(alloc, &mut Spout::new(file), balances),
         None => Ok(()),
     }
 }
 
-// Writes a line for each balance.
-fn write_balances<W: Write, A: Allocator>(
+// Puts a line for each balance.
+fn put_balances<K: Sink, A: Allocator>(
     alloc: A,
-    writer: &mut W,
+    sink: &mut K,
     balances: &[i128],
 ) -> Result<(), Fault>
-    ensures ok { OnOk result (Appends (W.contents writer.old) (W.contents writer.new) (balance_lines 1 balances.now)) }
-    ensures err { IfErr result (λ fault. (fault ≡ write_failed) ⊎ (fault ≡ out_of_memory)) }
+    requires { (K.counts sink.old).failures < 2 ^ 63 }
+    ensures ok { OnOk result (Appends (K.held sink.old) (K.held sink.new) (balance_lines 1 balances.now)) }
+    ensures err { IfErr result (AreNotPut
+        (sink_state (K.held sink.old) (K.counts sink.old))
+        (sink_state (K.held sink.new) (K.counts sink.new))) }
 {
     let lines = lines_of(alloc, balances)?;
-    write_out(writer, lines.as_bytes())
+    put_lines(sink, lines.as_bytes())
 }
 
 // A line for each of these balances, by the number of its node.

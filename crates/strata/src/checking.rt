@@ -1,36 +1,41 @@
 //! The command `check`.
 
-ghost use Rattle.std.specs.Prelude.{◌≡◌, length, map, string_bytes, OnOk, IfOk, IfErr};
+ghost use Rattle.std.specs.Prelude.{◌≡◌, ◌<◌, ◌^◌, length, string_bytes, OnOk, IfOk, IfErr};
+ghost use Rattle.devices.specs.States.{sink_state};
 ghost use Rattle.romfs_format.specs.Fields.{image};
 ghost use Rattle.romfs_format.specs.Rules.{IsSoundAs};
+ghost use Rattle.serve_core.specs.Preparing.{contents_of};
 ghost use Rattle.strata.specs.Faults.{AreSizes, IsFirstFault, IsImageFault};
 ghost use Rattle.strata.specs.Texts.{size_lines};
 ghost use Rattle.strata.specs.Ending.{AreGood, AreNotGood};
 
 use crate::faults::Fault;
-use crate::streams::write_out;
-use devices::{Sink, Spout};
+use crate::streams::put_lines;
+use devices::Sink;
 use romfs_format::Profile;
 use romfs_image::{CheckFault, Image};
 use serve_core::Stop;
 use std::alloc::{AllocError, Allocator};
 use std::io::Write;
 
-/// Checks the images in order, and writes a line for each if all are good. Else nothing is written.
-pub fn check<A: Allocator + Copy, O: Write>(
+/// Checks the images in order, and puts a line for each if all are good. Else nothing is put.
+pub fn check<A: Allocator + Copy, K: Sink>(
     alloc: A,
     images: Vec<Vec<u8, A>, A>,
     profile: Profile,
-    output: &mut Spout<O>,
+    output: &mut K,
 ) -> Result<(), Fault>
-    ensures done { OnOk result (AreGood profile (map (λ image. image.items) images.items)
-        (⟦<Spout<O> as Sink>⟧.held output.old) (⟦<Spout<O> as Sink>⟧.held output.new)) }
-    ensures stopped { IfErr result (λ fault. AreNotGood profile (map (λ image. image.items) images.items) fault
-        (⟦<Spout<O> as Sink>⟧.held output.old) (⟦<Spout<O> as Sink>⟧.held output.new)) }
+    requires { (K.counts output.old).failures < 2 ^ 63 }
+    ensures done { OnOk result (AreGood profile (contents_of images)
+        (sink_state (K.held output.old) (K.counts output.old))
+        (sink_state (K.held output.new) (K.counts output.new))) }
+    ensures stopped { IfErr result (λ fault. AreNotGood profile (contents_of images) fault
+        (sink_state (K.held output.old) (K.counts output.old))
+        (sink_state (K.held output.new) (K.counts output.new))) }
 {
     let sizes = checked_sizes(alloc, images, profile)?;
     let lines = lines_of(alloc, sizes.as_slice())?;
-    write_out(output, lines.as_bytes())
+    put_lines(output, lines.as_bytes())
 }
 
 // A line for each of these sizes in bytes, by the number of its image.
@@ -50,8 +55,8 @@ fn checked_sizes<A: Allocator + Copy>(
     images: Vec<Vec<u8, A>, A>,
     profile: Profile,
 ) -> Result<Vec<u32, A>, Fault>
-    ensures ok { IfOk result (λ sizes. AreSizes profile (map (λ image. image.items) images.items) sizes.items) }
-    ensures err { IfErr result (λ fault. IsFirstFault profile (map (λ image. image.items) images.items) fault) }
+    ensures ok { IfOk result (λ sizes. AreSizes profile (contents_of images) sizes.items) }
+    ensures err { IfErr result (λ fault. IsFirstFault profile (contents_of images) fault) }
 {
     let mut sizes = Vec::with_capacity(alloc, images.len())?;
     for bytes in images {

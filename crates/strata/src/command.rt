@@ -5,6 +5,7 @@
 
 ghost use Rattle.std.specs.Prelude.{◌≡◌, ◌≢◌, map, OnOk, IfErr};
 ghost use Rattle.devices.specs.Counting.{no_pulls, no_pushes};
+ghost use Rattle.serve_core.specs.Serving.{devices};
 ghost use Rattle.strata.specs.Ending.{profile_of, IsDone, IsStopped, EndsWith};
 
 use crate::checking::check;
@@ -13,7 +14,7 @@ use crate::files::read_images;
 use crate::listing::list;
 use crate::serving::serve;
 use command_line::{Line, Verb, line};
-use devices::{Sink, Source, Spout};
+use devices::{Sink, Source};
 use romfs_format::Profile;
 use std::alloc::{Allocator, Global};
 use std::convert::AsStr;
@@ -26,7 +27,8 @@ use std::thread::Threads;
 /// The status is 0 only where the words are a command of the program and its work was done: the whole stream was answered
 /// over the images, and `output` gained all replies, unless a file is named for them; or `output` gained the sizes of all
 /// images, or the paths that they show. Else the status is that of a [`Fault`], whose line goes to `faults`; `output` then
-/// holds the replies that stand, or is as it was. After a failed write of lines nothing is promised of it.
+/// holds the replies that stand, or is as it was; only where lines are lost, since `output` failed, nothing is promised of
+/// what it holds. `input` is read by `serve` alone, and only where no file of requests is named.
 ///
 /// It asks that neither `input` nor `output` was used before. Memory comes from `alloc`, but for the command line: `clap`
 /// takes the global allocator alone.
@@ -35,7 +37,7 @@ pub fn command<
     A: Allocator + Copy + Send + Sync,
     S: AsStr,
     T: Source,
-    O: Write,
+    K: Sink,
     E: Write,
 >(
     rt: &R,
@@ -43,15 +45,19 @@ pub fn command<
     global: Global,
     words: &[S],
     input: &mut T,
-    output: &mut Spout<O>,
+    output: &mut K,
     faults: &mut E,
 ) -> u8
     requires first_pull { T.counts input.old ≡ no_pulls }
-    requires first_push { ⟦<Spout<O> as Sink>⟧.counts output.old ≡ no_pushes }
+    requires first_push { K.counts output.old ≡ no_pushes }
     ensures done { result ≡ 0 → IsDone A (map S.text words.now)
-        (T.left input.old) (⟦<Spout<O> as Sink>⟧.held output.old) (⟦<Spout<O> as Sink>⟧.held output.new) }
+        (devices (T.left input.old) (T.counts input.old) (K.held output.old) (K.counts output.old))
+        (devices (T.left input.new) (T.counts input.new)
+            (K.held output.new) (K.counts output.new)) }
     ensures stopped { result ≢ 0 → EndsWith A (map S.text words.now) result
-        (T.left input.old) (⟦<Spout<O> as Sink>⟧.held output.old) (⟦<Spout<O> as Sink>⟧.held output.new) }
+        (devices (T.left input.old) (T.counts input.old) (K.held output.old) (K.counts output.old))
+        (devices (T.left input.new) (T.counts input.new)
+            (K.held output.new) (K.counts output.new)) }
 {
     match run(rt, alloc, global, words, input, output) {
         Ok(()) => 0,
@@ -62,20 +68,24 @@ pub fn command<
     }
 }
 
-fn run<R: Files + Threads + Sync, A: Allocator + Copy + Send + Sync, S: AsStr, T: Source, O: Write>(
+fn run<R: Files + Threads + Sync, A: Allocator + Copy + Send + Sync, S: AsStr, T: Source, K: Sink>(
     rt: &R,
     alloc: A,
     global: Global,
     words: &[S],
     input: &mut T,
-    output: &mut Spout<O>,
+    output: &mut K,
 ) -> Result<(), Fault>
     requires first_pull { T.counts input.old ≡ no_pulls }
-    requires first_push { ⟦<Spout<O> as Sink>⟧.counts output.old ≡ no_pushes }
+    requires first_push { K.counts output.old ≡ no_pushes }
     ensures done { OnOk result (IsDone A (map S.text words.now)
-        (T.left input.old) (⟦<Spout<O> as Sink>⟧.held output.old) (⟦<Spout<O> as Sink>⟧.held output.new)) }
+        (devices (T.left input.old) (T.counts input.old) (K.held output.old) (K.counts output.old))
+        (devices (T.left input.new) (T.counts input.new)
+            (K.held output.new) (K.counts output.new))) }
     ensures stopped { IfErr result (λ fault. IsStopped A (map S.text words.now) fault
-        (T.left input.old) (⟦<Spout<O> as Sink>⟧.held output.old) (⟦<Spout<O> as Sink>⟧.held output.new)) }
+        (devices (T.left input.old) (T.counts input.old) (K.held output.old) (K.counts output.old))
+        (devices (T.left input.new) (T.counts input.new)
+            (K.held output.new) (K.counts output.new))) }
 {
     let line = line(global, words)?;
     let images = read_images(rt, alloc, line.images.as_slice())?;

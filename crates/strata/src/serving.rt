@@ -1,11 +1,13 @@
 //! The command `serve`.
 
-ghost use Rattle.std.specs.Prelude.{◌≡◌, is_some, map, OnOk, IfErr};
-ghost use Rattle.std.specs.Io.KnownBytes.{Appends, Consumes, IsAtEnd};
+ghost use Rattle.std.specs.Prelude.{◌≡◌, is_some, OnOk, IfErr};
+ghost use Rattle.std.specs.Io.KnownBytes.{IsAtEnd};
 ghost use Rattle.devices.specs.Counting.{no_pulls, no_pushes};
+ghost use Rattle.devices.specs.States.{source_state, sink_state};
 ghost use Rattle.command_line.specs.CommandLine.{IsInLimits};
-ghost use Rattle.serve_core.specs.Serving.{Trace};
-ghost use Rattle.strata.specs.Ending.{Gains, IsServingBy, IsServing, IsServedWhole, IsNotServed};
+ghost use Rattle.serve_core.specs.Preparing.{contents_of};
+ghost use Rattle.serve_core.specs.Serving.{Trace, devices, Does};
+ghost use Rattle.strata.specs.Ending.{Gave, Gains, IsServingBy, IsServing, IsServedWhole, IsNotServed};
 
 use crate::balances::tell_balances;
 use crate::command::profile_of;
@@ -26,21 +28,25 @@ const TURNS: u64 = 1 << 40;
 
 /// Answers the requests of a file or else of the input, to a file or else to the output, as they come. At the end of the
 /// stream it writes the balances, if a file is named for them.
-pub fn serve<R: Files + Threads + Sync, A: Allocator + Copy + Send + Sync, S: Source, O: Write>(
+pub fn serve<R: Files + Threads + Sync, A: Allocator + Copy + Send + Sync, S: Source, K: Sink>(
     rt: &R,
     alloc: A,
     line: &Line<'_>,
     images: Vec<Vec<u8, A>, A>,
     input: &mut S,
-    output: &mut Spout<O>,
+    output: &mut K,
 ) -> Result<(), Fault>
     requires limits { IsInLimits line.now }
     requires first_pull { S.counts input.old ≡ no_pulls }
-    requires first_push { ⟦<Spout<O> as Sink>⟧.counts output.old ≡ no_pushes }
-    ensures done { OnOk result (IsServedWhole A line.now (map (λ image. image.items) images.items)
-        (S.left input.old) (⟦<Spout<O> as Sink>⟧.held output.old) (⟦<Spout<O> as Sink>⟧.held output.new)) }
-    ensures stopped { IfErr result (λ fault. IsNotServed A line.now (map (λ image. image.items) images.items) fault
-        (S.left input.old) (⟦<Spout<O> as Sink>⟧.held output.old) (⟦<Spout<O> as Sink>⟧.held output.new)) }
+    requires first_push { K.counts output.old ≡ no_pushes }
+    ensures done { OnOk result (IsServedWhole A line.now (contents_of images)
+        (devices (S.left input.old) (S.counts input.old) (K.held output.old) (K.counts output.old))
+        (devices (S.left input.new) (S.counts input.new)
+            (K.held output.new) (K.counts output.new))) }
+    ensures stopped { IfErr result (λ fault. IsNotServed A line.now (contents_of images) fault
+        (devices (S.left input.old) (S.counts input.old) (K.held output.old) (K.counts output.old))
+        (devices (S.left input.new) (S.counts input.new)
+            (K.held output.new) (K.counts output.new))) }
 {
     let requests = open_requests(rt, line.requests)?;
     let replies = create_replies(rt, line.replies)?;
@@ -55,7 +61,7 @@ fn serve_stream<
     A: Allocator + Copy + Send + Sync,
     F: Read + Write + Drop,
     S: Source,
-    O: Write,
+    K: Sink,
 >(
     rt: &R,
     alloc: A,
@@ -64,15 +70,17 @@ fn serve_stream<
     requests: Option<F>,
     replies: Option<F>,
     input: &mut S,
-    output: &mut Spout<O>,
+    output: &mut K,
 ) -> Result<Done<A>, Stop>
     requires limits { IsInLimits line.now }
     requires requests { is_some requests ≡ is_some line.now.requests }
     requires replies { is_some replies ≡ is_some line.now.replies }
     requires first_pull { S.counts input.old ≡ no_pulls }
-    requires first_push { ⟦<Spout<O> as Sink>⟧.counts output.old ≡ no_pushes }
-    ensures { (t : Trace) × IsServing line.now (map (λ image. image.items) images.items) t result
-        (S.left input.old) (⟦<Spout<O> as Sink>⟧.held output.old) (⟦<Spout<O> as Sink>⟧.held output.new) }
+    requires first_push { K.counts output.old ≡ no_pushes }
+    ensures { (t : Trace) × IsServing line.now (contents_of images) t result
+        (devices (S.left input.old) (S.counts input.old) (K.held output.old) (K.counts output.old))
+        (devices (S.left input.new) (S.counts input.new)
+            (K.held output.new) (K.counts output.new)) }
 {
     match requests {
         Some(file) => serve_from(
@@ -94,7 +102,7 @@ fn serve_from<
     A: Allocator + Copy + Send + Sync,
     S: Source,
     F: Write + Drop,
-    O: Write,
+    K: Sink,
 >(
     rt: &R,
     alloc: A,
@@ -102,15 +110,16 @@ fn serve_from<
     images: Vec<Vec<u8, A>, A>,
     source: &mut S,
     replies: Option<F>,
-    output: &mut Spout<O>,
+    output: &mut K,
 ) -> Result<Done<A>, Stop>
     requires limits { IsInLimits line.now }
     requires first_pull { S.counts source.old ≡ no_pulls }
-    requires first_push { ⟦<Spout<O> as Sink>⟧.counts output.old ≡ no_pushes }
-    ensures run { (t : Trace) × IsServingBy line.now (map (λ image. image.items) images.items) t result
-        × Consumes (S.left source.old) (S.left source.new) t.got
-        × Gains replies t.put (⟦<Spout<O> as Sink>⟧.held output.old) (⟦<Spout<O> as Sink>⟧.held output.new) }
-    ensures end { OnOk result (IsAtEnd (S.left source.new)) }
+    requires first_push { K.counts output.old ≡ no_pushes }
+    ensures { (t : Trace) × IsServingBy line.now (contents_of images) t result
+        × Gave t result (source_state (S.left source.old) (S.counts source.old))
+        (source_state (S.left source.new) (S.counts source.new))
+        × Gains replies t (sink_state (K.held output.old) (K.counts output.old))
+        (sink_state (K.held output.new) (K.counts output.new)) }
 {
     match replies {
         Some(file) => serve_between(rt, alloc, line, images, source, &mut Spout::new(file)),
@@ -130,9 +139,10 @@ fn serve_between<R: Threads + Sync, A: Allocator + Copy + Send + Sync, S: Source
     requires limits { IsInLimits line.now }
     requires first_pull { S.counts source.old ≡ no_pulls }
     requires first_push { K.counts sink.old ≡ no_pushes }
-    ensures run { (t : Trace) × IsServingBy line.now (map (λ image. image.items) images.items) t result
-        × Consumes (S.left source.old) (S.left source.new) t.got
-        × Appends (K.held sink.old) (K.held sink.new) t.put }
+    ensures run { Does
+        (λ t. IsServingBy line.now (contents_of images) t result)
+        (devices (S.left source.old) (S.counts source.old) (K.held sink.old) (K.counts sink.old))
+        (devices (S.left source.new) (S.counts source.new) (K.held sink.new) (K.counts sink.new)) }
     ensures end { OnOk result (IsAtEnd (S.left source.new)) }
 {
     let plan = plan_of(line);
@@ -145,6 +155,8 @@ fn serve_between<R: Threads + Sync, A: Allocator + Copy + Send + Sync, S: Source
 // The plan that the line says.
 fn plan_of(line: &Line<'_>) -> Plan
     requires { IsInLimits line.now }
+    ensures workers { result.workers ≡ line.now.workers }
+    ensures batch { result.batch ≡ line.now.batch }
 {
     Plan::new(line.workers, line.batch).unwrap()
 }

@@ -1,15 +1,17 @@
-//! Open files that are read whole, and lines that are written whole.
+//! Open files that are read whole, and lines that are put whole.
 
-ghost use Rattle.std.specs.Prelude.{◌≡◌, ◌++◌, IfSome, OnOk, IfOk, IfErr};
+ghost use Rattle.std.specs.Prelude.{◌≡◌, ◌<◌, ◌^◌, ◌++◌, IfSome, OnOk, IfOk, IfErr};
 ghost use Rattle.std.specs.Io.KnownBytes.{Appends, IsAtEnd};
+ghost use Rattle.devices.specs.States.{sink_state};
 ghost use Rattle.strata.specs.declared.streams.ReadFault.TheVariants.{Memory};
-ghost use Rattle.strata.specs.Faults.{write_failed};
+ghost use Rattle.strata.specs.Ending.{IsLost};
 
 use crate::faults::Fault;
+use devices::{Sink, hand_on};
 use serve_core::Stop;
 use std::alloc::{AllocError, Allocator};
 use std::fs::OpenFile;
-use std::io::{Read, Write};
+use std::io::Read;
 
 // How many bytes a read asks for.
 const ROOM: usize = 65_536;
@@ -47,18 +49,15 @@ pub fn read_file<F: Read + OpenFile, A: Allocator>(
     Ok(bytes)
 }
 
-/// Writes all of the bytes, and flushes them where there are any.
-pub fn write_out<W: Write>(writer: &mut W, bytes: &[u8]) -> Result<(), Fault>
-    ensures ok { OnOk result (Appends (W.contents writer.old) (W.contents writer.new) bytes.now) }
-    ensures err { IfErr result (λ fault. fault ≡ write_failed) }
+/// Puts lines to a sink, and flushes it where there are any.
+pub fn put_lines<K: Sink>(sink: &mut K, lines: &[u8]) -> Result<(), Fault>
+    requires { (K.counts sink.old).failures < 2 ^ 63 }
+    ensures ok { OnOk result (Appends (K.held sink.old) (K.held sink.new) lines.now) }
+    ensures err { IfErr result (λ fault. IsLost fault
+        (sink_state (K.held sink.old) (K.counts sink.old))
+        (sink_state (K.held sink.new) (K.counts sink.new))) }
 {
-    if bytes.is_empty() {
-        return Ok(());
-    }
-    writer
-        .write_all(bytes)
-        .map_err(|_| Fault::Stopped(Stop::Write))?;
-    writer.flush().map_err(|_| Fault::Stopped(Stop::Write))
+    hand_on(sink, lines).map_err(|_| Fault::Stopped(Stop::Write))
 }
 
 // Appends what the reader has up to its end.

@@ -1,8 +1,12 @@
+use Rattle.std.proofs.Common.{◌∙◌, refl}
 use Rattle.path_list.proofs.Gaining.{gains_none, gains_more, gains_same, no_name, name_more}
 use Rattle.path_list.proofs.text.put_name.Goals as goal
 
 pub loop-byte-init : goal.loop-byte-init
-loop-byte-init g c = gains_same no_name (gains_none _ _)
+loop-byte-init g c = (gains_same no_name (gains_none _ _), refl)
 
 pub loop-byte-preserved : goal.loop-byte-preserved
-loop-byte-preserved g c = gains_same (name_more c.args.name.now c.loop-byte.byte-index c.loop-byte-test.true) (gains_more c.loop-byte.invariant c.in_ok-put_escaped.ensures)
+loop-byte-preserved g c = (
+  gains_same (name_more c.args.name.now c.loop-byte.byte-index c.loop-byte-test.true) (gains_more c.loop-byte.invariant.0 c.in_ok-put_escaped.ensures.gained),
+  c.in_ok-put_escaped.ensures.counted ∙ c.loop-byte.invariant.1,
+)

@@ -1,4 +1,4 @@
-use Rattle.std.proofs.Common.{rules, ◌≡◌, ◌∙◌, ap, ℕ, List}
+use Rattle.std.proofs.Common.{rules, ◌≡◌, ◌<◌, ◌^◌, ◌∙◌, ap, subst, sym, ℕ, List}
 use Rattle.path_list.specs.Walks.{way}
 use Rattle.path_list.proofs.Gaining.{gains_same}
 use Rattle.path_list.proofs.Visits.{goes_on, walked}
@@ -7,10 +7,12 @@ use Rattle.path_list.proofs.walk.+put_below.Goals as goal
 pub put_below-requires : goal.put_below-requires
 put_below-requires g t c κs within =
     let same : record { number = c.row.inside.number; name = c.as_slice.result.now } ≡ c.row-item.result = ap (λ (x : List ℕ). record { number = c.row.inside.number; name = x }) c.as_slice.ensures.value ∙ c.row.view_is in
-    let w = goes_on c.args.table.now c.args.number (way c.args.trail) c.requires c.rows-row-items.result.now c.loop-row.row-index c.row-item.result c.row.inside.number c.as_slice.result.now c.rows-row-items.ensures c.loop-row-test.true c.row-item.is same in
+    let w = goes_on c.args.table.now c.args.number (way c.args.trail) c.requires.visited c.rows-row-items.result.now c.loop-row.row-index c.row-item.result c.row.inside.number c.as_slice.result.now c.rows-row-items.ensures c.loop-row-test.true c.row-item.is same in
     let visit = w.0 in
     let less = w.1 in
-    search (rules, visit, less)
+    let same_failures = c.in_ok-put_line.ensures.counted ∙ c.loop-row.invariant.1 in
+    let few = subst (λ n. n < 2 ^ 63) (sym same_failures) c.requires.counts in
+    search (rules, visit, less, few)
 
-pub returns : goal.returns
-returns g t c = gains_same (walked c.args.table.now c.args.number (way c.args.trail) c.requires c.rows-row-items.result.now c.loop-row.row-index c.rows-row-items.ensures c.loop-row-test.false) c.loop-row.invariant
+pub returns-clause-gained : goal.returns-clause-gained
+returns-clause-gained g t c = gains_same (walked c.args.table.now c.args.number (way c.args.trail) c.requires.visited c.rows-row-items.result.now c.loop-row.row-index c.rows-row-items.ensures c.loop-row-test.false) c.loop-row.invariant.0

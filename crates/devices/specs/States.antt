@@ -1,0 +1,20 @@
+-- What a contract sees of a source or a sink before or after a call.
+use Rattle.std.specs.Prelude.{ℕ, List, Option}
+use Rattle.devices.specs.declared.counts.Pulls.{Pulls}
+use Rattle.devices.specs.declared.counts.Pushes.{Pushes}
+
+-- of a source: the bytes that it has left, where they are known, and its counts
+pub record SourceState : Type 0 where
+  pub left : Option (List ℕ)
+  pub counts : Pulls
+
+-- of a sink: the bytes that it took, where they are known, and its counts
+pub record SinkState : Type 0 where
+  pub held : Option (List ℕ)
+  pub counts : Pushes
+
+abbrev pub source_state : Option (List ℕ) → Pulls → SourceState
+source_state left counts = record { left = left; counts = counts }
+
+abbrev pub sink_state : Option (List ℕ) → Pushes → SinkState
+sink_state held counts = record { held = held; counts = counts }
