@@ -30,7 +30,7 @@ devices left pulls held pushes = record { source = source_state left pulls; sink
 
 -- no count of the devices can overflow in this many turns
 pub record AreReady (turns : ℕ) (old : Devices) : Type 0 where
-  pub turns : turns ≤ 2 ^ 40
+  pub few : turns ≤ 2 ^ 40
   pub pulls : old.source.counts.pulls < 2 ^ 63
   pub ends : old.source.counts.ends < 2 ^ 63
   pub source_failures : old.source.counts.failures < 2 ^ 63
