@@ -40,6 +40,15 @@ module _ (A : Type 0) (words : List (List ℕ)) (line : Line) (images : List (Li
     stopped = subst (λ v. IsStoppedOver A v line images fault old new) (sym verb_is) p;
   })
 
+-- beside what a command did, nothing changed in what it was not given
+pub beside_ok : {X : Type 0} (x : X) (P : Type 0) (r : Result (Unit {0}) Fault) → OnOk r P → OnOk r ((x ≡ x) × P)
+beside_ok x P (Err fault) p = p
+beside_ok x P (Ok u) p = (refl, p)
+
+pub beside_err : {X : Type 0} (x : X) (P : Fault → Type 0) (r : Result (Unit {0}) Fault) → IfErr r P → IfErr r (λ fault. (x ≡ x) × P fault)
+beside_err x P (Ok u) p = p
+beside_err x P (Err fault) p = (refl, p)
+
 -- an image that was not read, or memory that ran out before all were
 pub unread : (A : Type 0) (words : List (List ℕ)) (line : Line) (count : ℕ) (old : Devices) (r : Result (Unit {0}) Fault) → IsLineOf words line → count ≡ vec_len line.images → (fault : Fault) → (fault ≡ out_of_memory) ⊎ ((image : ℕ) × (image < count) × (fault ≡ ImageFile image)) → IsErrAnd r (λ told. told ≡ fault) → IfErr r (λ told. IsStopped A words told old old)
 unread A words line count old (Ok u) l n fault f e = absurd e

@@ -53,11 +53,11 @@ pub fn command<
     ensures done { result ≡ 0 → IsDone A (map S.text words.now)
         (devices (T.left input.old) (T.counts input.old) (K.held output.old) (K.counts output.old))
         (devices (T.left input.new) (T.counts input.new)
-            (K.held output.new) (K.counts output.new)) }
+        (K.held output.new) (K.counts output.new)) }
     ensures stopped { result ≢ 0 → EndsWith A (map S.text words.now) result
         (devices (T.left input.old) (T.counts input.old) (K.held output.old) (K.counts output.old))
         (devices (T.left input.new) (T.counts input.new)
-            (K.held output.new) (K.counts output.new)) }
+        (K.held output.new) (K.counts output.new)) }
 {
     match run(rt, alloc, global, words, input, output) {
         Ok(()) => 0,
@@ -81,11 +81,11 @@ fn run<R: Files + Threads + Sync, A: Allocator + Copy + Send + Sync, S: AsStr, T
     ensures done { OnOk result (IsDone A (map S.text words.now)
         (devices (T.left input.old) (T.counts input.old) (K.held output.old) (K.counts output.old))
         (devices (T.left input.new) (T.counts input.new)
-            (K.held output.new) (K.counts output.new))) }
+        (K.held output.new) (K.counts output.new))) }
     ensures stopped { IfErr result (λ fault. IsStopped A (map S.text words.now) fault
         (devices (T.left input.old) (T.counts input.old) (K.held output.old) (K.counts output.old))
         (devices (T.left input.new) (T.counts input.new)
-            (K.held output.new) (K.counts output.new))) }
+        (K.held output.new) (K.counts output.new))) }
 {
     let line = line(global, words)?;
     let images = read_images(rt, alloc, line.images.as_slice())?;

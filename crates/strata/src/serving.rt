@@ -42,11 +42,11 @@ pub fn serve<R: Files + Threads + Sync, A: Allocator + Copy + Send + Sync, S: So
     ensures done { OnOk result (IsServedWhole A line.now (contents_of images)
         (devices (S.left input.old) (S.counts input.old) (K.held output.old) (K.counts output.old))
         (devices (S.left input.new) (S.counts input.new)
-            (K.held output.new) (K.counts output.new))) }
+        (K.held output.new) (K.counts output.new))) }
     ensures stopped { IfErr result (λ fault. IsNotServed A line.now (contents_of images) fault
         (devices (S.left input.old) (S.counts input.old) (K.held output.old) (K.counts output.old))
         (devices (S.left input.new) (S.counts input.new)
-            (K.held output.new) (K.counts output.new))) }
+        (K.held output.new) (K.counts output.new))) }
 {
     let requests = open_requests(rt, line.requests)?;
     let replies = create_replies(rt, line.replies)?;
@@ -80,7 +80,7 @@ fn serve_stream<
     ensures { (t : Trace) × IsServing line.now (contents_of images) t result
         (devices (S.left input.old) (S.counts input.old) (K.held output.old) (K.counts output.old))
         (devices (S.left input.new) (S.counts input.new)
-            (K.held output.new) (K.counts output.new)) }
+        (K.held output.new) (K.counts output.new)) }
 {
     match requests {
         Some(file) => serve_from(

@@ -1,48 +1,50 @@
-use Rattle.std.proofs.Common.{subst, OnOk, IfErr, map}
+use Rattle.std.proofs.Common.{subst, OnOk, IfErr}
+use Rattle.devices.specs.States.{sink_state}
+use Rattle.serve_core.specs.Preparing.{contents_of}
 use Rattle.strata.specs.Ending.{AreGood, AreNotGood, IsListed, IsNotListed}
-use Rattle.strata.proofs.Ended.{all_named, did, broke_off, unread}
+use Rattle.strata.proofs.Ended.{all_named, did, broke_off, beside_ok, beside_err, unread}
 use Rattle.command_line.specs.declared.options.Verb.TheVariants.{Serve, Check, List}
 use Rattle.strata.proofs.command.run.Goals as goal
 
 pub returns-in_err-images-clause-stopped : goal.returns-in_err-images-clause-stopped
-returns-in_err-images-clause-stopped g c = unread g.row.A.Denot _ c.in_ok-line.line _ _ _ c.from_residual-in_err-images.result c.in_ok-line.ensures.ok c.as_slice.ensures.len c.in_err-images.field-0.0 c.in_err-images.ensures.err c.from_residual-in_err-images.ensures.1
+returns-in_err-images-clause-stopped g c = unread g.row.A.Denot _ c.in_ok-line.line _ _ c.from_residual-in_err-images.result c.in_ok-line.ensures.ok c.as_slice.ensures.len c.in_err-images.field-0.0 c.in_err-images.ensures.err c.from_residual-in_err-images.ensures.1
 
 pub returns-in-Serve-clause-done : goal.returns-in-Serve-clause-done
 returns-in-Serve-clause-done g c =
     let line = c.in_ok-line.line in
     let named = all_named line _ c.in_ok-images.images _ c.in_ok-images.ensures.ok c.as_slice.ensures.len in
-    did g.row.A.Denot _ line _ Serve _ _ _ c.in_ok-line.ensures.ok named c.in-Serve.is c.serve.result c.serve.ensures.done
+    did g.row.A.Denot _ line _ Serve _ _ c.in_ok-line.ensures.ok named c.in-Serve.is c.serve.result c.serve.ensures.done
 
 pub returns-in-Serve-clause-stopped : goal.returns-in-Serve-clause-stopped
 returns-in-Serve-clause-stopped g c =
     let line = c.in_ok-line.line in
     let named = all_named line _ c.in_ok-images.images _ c.in_ok-images.ensures.ok c.as_slice.ensures.len in
-    broke_off g.row.A.Denot _ line _ Serve _ _ _ c.in_ok-line.ensures.ok named c.in-Serve.is c.serve.result c.serve.ensures.stopped
+    broke_off g.row.A.Denot _ line _ Serve _ _ c.in_ok-line.ensures.ok named c.in-Serve.is c.serve.result c.serve.ensures.stopped
 
 pub returns-in-Check-clause-done : goal.returns-in-Check-clause-done
 returns-in-Check-clause-done g c =
     let line = c.in_ok-line.line in
     let named = all_named line _ c.in_ok-images.images _ c.in_ok-images.ensures.ok c.as_slice.ensures.len in
-    did g.row.A.Denot _ line _ Check _ _ _ c.in_ok-line.ensures.ok named c.in-Check.is c.check.result
-    (subst (λ p. OnOk c.check.result (AreGood p (map (λ image. image.items) c.in_ok-images.images.items) (g.O.Write.contents c.args.output.now.writer) (g.O.Write.contents c.check.new.output.writer))) c.profile_of.ensures c.check.ensures.done)
+    did g.row.A.Denot _ line _ Check _ _ c.in_ok-line.ensures.ok named c.in-Check.is c.check.result
+    (beside_ok _ _ c.check.result (subst (λ p. OnOk c.check.result (AreGood p (contents_of c.in_ok-images.images) (sink_state (g.K.Sink.held c.args.output.now) (g.K.Sink.counts c.args.output.now)) (sink_state (g.K.Sink.held c.check.new.output) (g.K.Sink.counts c.check.new.output)))) c.profile_of.ensures c.check.ensures.done))
 
 pub returns-in-Check-clause-stopped : goal.returns-in-Check-clause-stopped
 returns-in-Check-clause-stopped g c =
     let line = c.in_ok-line.line in
     let named = all_named line _ c.in_ok-images.images _ c.in_ok-images.ensures.ok c.as_slice.ensures.len in
-    broke_off g.row.A.Denot _ line _ Check _ _ _ c.in_ok-line.ensures.ok named c.in-Check.is c.check.result
-    (subst (λ p. IfErr c.check.result (λ fault. AreNotGood p (map (λ image. image.items) c.in_ok-images.images.items) fault (g.O.Write.contents c.args.output.now.writer) (g.O.Write.contents c.check.new.output.writer))) c.profile_of.ensures c.check.ensures.stopped)
+    broke_off g.row.A.Denot _ line _ Check _ _ c.in_ok-line.ensures.ok named c.in-Check.is c.check.result
+    (beside_err _ _ c.check.result (subst (λ p. IfErr c.check.result (λ fault. AreNotGood p (contents_of c.in_ok-images.images) fault (sink_state (g.K.Sink.held c.args.output.now) (g.K.Sink.counts c.args.output.now)) (sink_state (g.K.Sink.held c.check.new.output) (g.K.Sink.counts c.check.new.output)))) c.profile_of.ensures c.check.ensures.stopped))
 
 pub returns-clause-done : goal.returns-clause-done
 returns-clause-done g c =
     let line = c.in_ok-line.line in
     let named = all_named line _ c.in_ok-images.images _ c.in_ok-images.ensures.ok c.as_slice.ensures.len in
-    did g.row.A.Denot _ line _ List _ _ _ c.in_ok-line.ensures.ok named c.in-List.is c.list.result
-    (subst (λ p. OnOk c.list.result (IsListed p (map (λ image. image.items) c.in_ok-images.images.items) (g.O.Write.contents c.args.output.now.writer) (g.O.Write.contents c.list.new.output.writer))) c.profile_of-in-List.ensures c.list.ensures.done)
+    did g.row.A.Denot _ line _ List _ _ c.in_ok-line.ensures.ok named c.in-List.is c.list.result
+    (beside_ok _ _ c.list.result (subst (λ p. OnOk c.list.result (IsListed p (contents_of c.in_ok-images.images) (sink_state (g.K.Sink.held c.args.output.now) (g.K.Sink.counts c.args.output.now)) (sink_state (g.K.Sink.held c.list.new.output) (g.K.Sink.counts c.list.new.output)))) c.profile_of-in-List.ensures c.list.ensures.done))
 
 pub returns-clause-stopped : goal.returns-clause-stopped
 returns-clause-stopped g c =
     let line = c.in_ok-line.line in
     let named = all_named line _ c.in_ok-images.images _ c.in_ok-images.ensures.ok c.as_slice.ensures.len in
-    broke_off g.row.A.Denot _ line _ List _ _ _ c.in_ok-line.ensures.ok named c.in-List.is c.list.result
-    (subst (λ p. IfErr c.list.result (λ fault. IsNotListed p (map (λ image. image.items) c.in_ok-images.images.items) fault (g.O.Write.contents c.args.output.now.writer) (g.O.Write.contents c.list.new.output.writer))) c.profile_of-in-List.ensures c.list.ensures.stopped)
+    broke_off g.row.A.Denot _ line _ List _ _ c.in_ok-line.ensures.ok named c.in-List.is c.list.result
+    (beside_err _ _ c.list.result (subst (λ p. IfErr c.list.result (λ fault. IsNotListed p (contents_of c.in_ok-images.images) fault (sink_state (g.K.Sink.held c.args.output.now) (g.K.Sink.counts c.args.output.now)) (sink_state (g.K.Sink.held c.list.new.output) (g.K.Sink.counts c.list.new.output)))) c.profile_of-in-List.ensures c.list.ensures.stopped))
