@@ -1,13 +1,14 @@
 -- What the words of a set of slots say of each slot.
-use Rattle.std.proofs.Common.{◌≡◌, ◌≢◌, ◌∙◌, sym, ap, subst, ℕ, ◌+◌, ◌-◌, ◌*◌, ◌/◌, ◌%◌, ◌^◌, ◌<◌, ◌≤◌, ◌==◌, inl, inr, List, length, Bool, true, false, get_or, set, replicate, refl, arith, w64}
+use Rattle.std.proofs.Common.{◌≡◌, ◌≢◌, ◌∙◌, sym, ap, subst, ℕ, zero, suc, max, map, ◌⊎◌, Option, None, ◌+◌, ◌-◌, ◌*◌, ◌/◌, ◌%◌, ◌^◌, ◌<◌, ◌≤◌, ◌==◌, inl, inr, List, length, Bool, true, false, get_or, set, replicate, refl, arith, w64}
 use Rattle.std.specs.Int.{bit_at, trailing_zeros}
 use Rattle.std.specs.Int.RustNames.{bit_and, bit_or}
-use Rattle.std.proofs.lemmas.Nat.Bits.{bit_at-zero, bit_at-lt, bit_at_set_same, bit_at_set_other, bit_at_and, ones_shl, bit_at_mask_inside, bit_at_mask_below, bit_at-trailing_zeros}
+use Rattle.std.proofs.lemmas.Nat.Bits.{bit_at-zero, bit_at-lt, bit_at_set_same, bit_at_set_other, bit_at_and, bit_at_or, ones_shl, bit_at_mask_inside, bit_at_mask_below, bit_at-trailing_zeros}
 use Rattle.std.proofs.lemmas.Nat.{and_le_r}
 use Rattle.std.proofs.lemmas.Bool.{cases_eq, cases_lt}
 use Rattle.std.proofs.lemmas.List.{get_or_default, length-set, get_or-set_same, get_or-set_other, same_lists, get_or-replicate, length-replicate}
 use Rattle.std.proofs.lemmas.List.FromFn.{get_or-map-range_with_len, length-map-range_with_len}
-use Rattle.romfs_rules.specs.SlotSets.{is_bit, bits, IsClear, IsNextIn}
+use Rattle.std.specs.List.{range_with_len}
+use Rattle.romfs_rules.specs.SlotSets.{is_bit, bits, IsClear, IsNextInEither, IsNextOfEither}
 
 pub bits_length : (n : ℕ) (words : List ℕ) → length (bits n words) ≡ n
 unfolding bits
@@ -113,11 +114,57 @@ module _ (words : List ℕ) (slot word : ℕ) (e : word ≡ get_or words (slot /
 pub clear_more : (words : List ℕ) (from slot high : ℕ) → ((k : ℕ) → from ≤ k → k < slot → is_bit words k ≡ false) → ((k : ℕ) → slot ≤ k → k < high → is_bit words k ≡ false) → (k : ℕ) → from ≤ k → k < high → is_bit words k ≡ false
 clear_more words from slot high c d k l m = elim (cases_lt k slot) [ inl x ↦ c k l x | inr x ↦ d k x m ]
 
-pub next_in : (n : ℕ) (words : List ℕ) (from k : ℕ) → from ≤ k → k < n → is_bit words k ≡ true → ((j : ℕ) → from ≤ j → j < k → is_bit words j ≡ false) → IsNextIn (bits n words) from k
-next_in n words from k l m t c = record { low = l; high = rw (bits_length n words) m; is = bits_at n words k m ∙ t; clear = record { each = λ j a b. bits_at n words j (omega arith) ∙ c j a b } }
+-- the words of two sets together
+unfoldable pub joined : ℕ → List ℕ → List ℕ → List ℕ
+joined n one other = map (λ i. bit_or (get_or one i 0) (get_or other i 0)) (range_with_len 0 n)
 
-pub none_in : (n : ℕ) (words : List ℕ) (from : ℕ) → ((k : ℕ) → from ≤ k → k < n → is_bit words k ≡ false) → IsClear (bits n words) from (length (bits n words))
-none_in n words from c = record { each = λ k l m. let s = subst (λ x. k < x) (bits_length n words) m in bits_at n words k s ∙ c k l s }
+either_bit : (a b : ℕ) → a < 2 → b < 2 → ((max a b == 1) ≡ true → ((a == 1) ≡ true) ⊎ ((b == 1) ≡ true)) × ((max a b == 1) ≡ false → ((a == 1) ≡ false) × ((b == 1) ≡ false))
+either_bit zero zero l m = (λ e. inl e, λ e. (e, e))
+either_bit zero (suc zero) l m = (λ e. inr e, λ e. cc)
+either_bit (suc zero) zero l m = (λ e. inl e, λ e. cc)
+either_bit (suc zero) (suc zero) l m = (λ e. inl e, λ e. (e, e))
+either_bit (suc (suc a)) b l m = absurd (omega arith)
+either_bit zero (suc (suc b)) l m = absurd (omega arith)
+either_bit (suc zero) (suc (suc b)) l m = absurd (omega arith)
+
+module _ (words : ℕ) (one other : List ℕ) where
+  pub joined_at : (i : ℕ) → i < words → get_or (joined words one other) i 0 ≡ bit_or (get_or one i 0) (get_or other i 0)
+  unfolding joined
+  joined_at i l = get_or-map-range_with_len (λ j. bit_or (get_or one j 0) (get_or other j 0)) 0 words i i 0 l (omega arith)
+
+  module _ (k : ℕ) (l : k / 64 < words) where
+    bit_is : bit_at (get_or (joined words one other) (k / 64) 0) (k % 64) ≡ max (bit_at (get_or one (k / 64) 0) (k % 64)) (bit_at (get_or other (k / 64) 0) (k % 64))
+    bit_is = ap (λ x. bit_at x (k % 64)) (joined_at (k / 64) l) ∙ bit_at_or (get_or one (k / 64) 0) (get_or other (k / 64) 0) (k % 64)
+
+    cases : ((max (bit_at (get_or one (k / 64) 0) (k % 64)) (bit_at (get_or other (k / 64) 0) (k % 64)) == 1) ≡ true → (is_bit one k ≡ true) ⊎ (is_bit other k ≡ true))
+        × ((max (bit_at (get_or one (k / 64) 0) (k % 64)) (bit_at (get_or other (k / 64) 0) (k % 64)) == 1) ≡ false → (is_bit one k ≡ false) × (is_bit other k ≡ false))
+    cases = either_bit (bit_at (get_or one (k / 64) 0) (k % 64)) (bit_at (get_or other (k / 64) 0) (k % 64)) (bit_at-lt (get_or one (k / 64) 0) (k % 64)) (bit_at-lt (get_or other (k / 64) 0) (k % 64))
+
+    pub in_either : is_bit (joined words one other) k ≡ true → (is_bit one k ≡ true) ⊎ (is_bit other k ≡ true)
+    in_either e = cases.0 (ap (λ x. x == 1) (sym bit_is) ∙ e)
+
+    pub in_neither : is_bit (joined words one other) k ≡ false → (is_bit one k ≡ false) × (is_bit other k ≡ false)
+    in_neither e = cases.1 (ap (λ x. x == 1) (sym bit_is) ∙ e)
+
+-- two sets of n slots, and the words of both together
+module _ (n words : ℕ) (one other : List ℕ) (w : n ≤ words * 64) where
+  clear_below : (from k : ℕ) → k ≤ n → ((j : ℕ) → from ≤ j → j < k → is_bit (joined words one other) j ≡ false) → IsClear (bits n one) from k × IsClear (bits n other) from k
+  clear_below from k l c = (
+    record { each = λ j a b. bits_at n one j (omega arith) ∙ (in_neither words one other j (omega arith) (c j a b)).0 },
+    record { each = λ j a b. bits_at n other j (omega arith) ∙ (in_neither words one other j (omega arith) (c j a b)).1 },
+  )
+
+  pub next_in : (from k : ℕ) → from ≤ k → k < n → is_bit (joined words one other) k ≡ true → ((j : ℕ) → from ≤ j → j < k → is_bit (joined words one other) j ≡ false) → IsNextInEither (bits n one) (bits n other) from k
+  next_in from k l m t c = record {
+    low = l;
+    high = rw (bits_length n one) m;
+    is = elim (in_either words one other k (omega arith) t) [ inl x ↦ inl (bits_at n one k m ∙ x) | inr x ↦ inr (bits_at n other k m ∙ x) ];
+    one_clear = (clear_below from k (omega arith) c).0;
+    other_clear = (clear_below from k (omega arith) c).1;
+  }
+
+  pub none_in : (from : ℕ) → ((k : ℕ) → from ≤ k → k < n → is_bit (joined words one other) k ≡ false) → IsNextOfEither (bits n one) (bits n other) from None
+  none_in from c = rw (bits_length n one) (clear_below from n (omega arith) c)
 
 pub small : (n : ℕ) (words : List ℕ) → n < 2 ^ 32 → length (bits n words) < 2 ^ 32
 small n words l = rw (bits_length n words) l

@@ -1,19 +1,21 @@
 -- The walk along a chain of hard links, as lists.
-use Rattle.std.proofs.Common.{◌≡◌, ◌≢◌, ◌∙◌, sym, ap, subst, ℕ, zero, suc, ◌+◌, ◌-◌, ◌*◌, ◌/◌, ◌<◌, ◌≤◌, ◌^◌, ◌⊎◌, inl, inr, List, [], ◌∷◌, ◌++◌, length, get_or, set, Bool, refl, arith, length-append}
+use Rattle.std.proofs.Common.{◌≡◌, ◌≢◌, ◌∙◌, sym, ap, subst, ℕ, zero, suc, ◌+◌, ◌-◌, ◌*◌, ◌/◌, ◌<◌, ◌≤◌, ◌^◌, ◌⊎◌, inl, inr, List, [], ◌∷◌, ◌++◌, length, get_or, set, replicate, Bool, true, false, refl, arith, length-append}
 use Rattle.std.specs.List.{sum_by}
 use Rattle.std.proofs.lemmas.List.Sums.{sum_by-set}
-use Rattle.std.proofs.lemmas.List.{get_or-set_same, get_or-set_other, length-set, get_or_at, get_or_append_left, get_or_default}
-use Rattle.std.proofs.lemmas.Bool.{cases_eq, cases_order}
+use Rattle.std.proofs.lemmas.List.{get_or_past, get_or-replicate, length-replicate, get_or-set_same, get_or-set_other, length-set, get_or_at, get_or_append_left, get_or_default}
+use Rattle.std.proofs.lemmas.Bool.{cases_eq, cases_lt, cases_order}
 use Rattle.romfs_format.specs.declared.head.End.{End}
 use Rattle.romfs_format.specs.declared.head.End.TheVariants.{AtDirectory, AtOther, Nowhere}
 use Rattle.romfs_format.specs.Fields.{spec, cleared}
-use Rattle.romfs_format.specs.Links.{IsHardLink, IsFinal, stays, follows, EndsAs}
+use Rattle.romfs_format.specs.Links.{IsHardLink, IsTarget, IsFinal, here, stays, follows, EndsAs}
+use Rattle.romfs_format.specs.Chains.{IsSomeMember}
 use Rattle.romfs_rules.specs.Marks.{AreMarks}
-use Rattle.romfs_rules.specs.Leads.{IsInSomeChain}
+use Rattle.romfs_rules.proofs.Destined.{goes_on}
+use Rattle.romfs_rules.specs.SlotWords.{Words}
 use Rattle.romfs_rules.specs.SlotSets.{IsClear}
 use Rattle.romfs_rules.proofs.Unions.{over_to, outside_set}
 use Rattle.romfs_rules.specs.Ends.{HasEnds, AreEnds, KnowsEnd, Passes, IsLeft}
-use Rattle.romfs_rules.proofs.Slots.{twice_cleared, cleared_in_some_chain}
+use Rattle.romfs_rules.proofs.Slots.{twice_cleared, cleared_destination}
 
 -- from within a closed set of hard links no chain leaves
 never_leaves : (a : List ℕ) (S : ℕ → Type 0) (inside : (h : ℕ) → S h → IsHardLink a h × S (cleared (spec a h))) {h e : ℕ} → IsFinal a h e → ¬ S h
@@ -29,6 +31,13 @@ back a h Nowhere l x = no l x
     no : {h : ℕ} → IsHardLink a h → ((e : ℕ) → ¬ IsFinal a (cleared (spec a h)) e) → (e : ℕ) → ¬ IsFinal a h e
     no l x e (stays n) = n l
     no l x e (follows m f) = x e f
+
+-- where a member leads as a hard link, and where that leads
+pub first_target : (a : List ℕ) (h : ℕ) → IsSomeMember a h → IsHardLink a h → IsTarget a (cleared (spec a h))
+first_target a h m l = (m.0, h, m.1, here l)
+
+pub next_target : (a : List ℕ) (h : ℕ) → IsTarget a h → IsHardLink a h → IsTarget a (cleared (spec a h))
+next_target a h t l = (t.0, t.1, t.2, goes_on a t.3 l)
 
 -- a walk that is under way, from one header to another
 pub record Going (a : List ℕ) (ends : List End) (from at : ℕ) (marks : List ℕ) : Type 0 where
@@ -149,11 +158,12 @@ module _ (a : List ℕ) (ends : List End) where
 
 -- what a walk that is under way has left of the marks from before it, and of where it began
 pub record Passing (from at : ℕ) (before marks : List ℕ) : Type 0 where
+  pub sized : length marks ≡ length before
   pub kept : (k : ℕ) → get_or before k 0 ≢ 0 → get_or marks k 0 ≢ 0
   pub began : (from ≡ at) ⊎ (get_or marks (from / 16) 0 ≢ 0)
 
 pub passing : (from : ℕ) (marks : List ℕ) → Passing from from marks marks
-passing from marks = record { kept = λ k h. h; began = inl refl }
+passing from marks = record { sized = refl; kept = λ k h. h; began = inl refl }
 
 set_mark : (marks : List ℕ) (i k n : ℕ) → i < length marks → get_or marks k 0 ≢ 0 → get_or (set marks i (n + 1)) k 0 ≢ 0
 set_mark marks i k n l h e = elim (cases_eq k i) [
@@ -163,6 +173,7 @@ set_mark marks i k n l h e = elim (cases_eq k i) [
 
 pub passing_on : (from at to n : ℕ) (before marks : List ℕ) → Passing from at before marks → at / 16 < length marks → Passing from to before (set marks (at / 16) (n + 1))
 passing_on from at to n before marks p l = record {
+  sized = length-set marks (at / 16) (n + 1) ∙ p.sized;
   kept = λ k h. set_mark marks (at / 16) k n l (p.kept k h);
   began = inr (elim p.began [
     | inl q ↦ (rw q (λ e. let s = get_or-set_same marks (at / 16) (n + 1) 0 l in omega arith))
@@ -171,10 +182,10 @@ passing_on from at to n before marks p l = record {
 }
 
 pub passed_at : (from at : ℕ) (before marks : List ℕ) → Passing from at before marks → get_or marks (at / 16) 0 ≢ 0 → Passes from before marks
-passed_at from at before marks p h = record { kept = p.kept; passed = elim p.began [ inl q ↦ rw q h | inr x ↦ x ] }
+passed_at from at before marks p h = record { sized = p.sized; kept = p.kept; passed = elim p.began [ inl q ↦ rw q h | inr x ↦ x ] }
 
 pub passed_on : (from at : ℕ) (before marks : List ℕ) → Passing from at before marks → (from ≡ at → ⊥) → Passes from before marks
-passed_on from at before marks p h = record { kept = p.kept; passed = elim p.began [ inl q ↦ absurd (h q) | inr x ↦ x ] }
+passed_on from at before marks p h = record { sized = p.sized; kept = p.kept; passed = elim p.began [ inl q ↦ absurd (h q) | inr x ↦ x ] }
 
 -- the walks from all slots before this one
 pub record Found (a walks : List ℕ) (ends : List End) (slot : ℕ) : Type 0 where
@@ -183,13 +194,28 @@ pub record Found (a walks : List ℕ) (ends : List End) (slot : ℕ) : Type 0 wh
   pub known : HasEnds a walks ends
   pub passed : (k : ℕ) → k < slot → ¬ IsLeft a walks k
 
+-- where no walk has been
+pub found_none : (a : List ℕ) (n : ℕ) → n ≡ length a / 16 → Found a (replicate n 0) [] 0
+found_none a n e = record {
+  sized = length-replicate n 0 ∙ e;
+  few = omega arith;
+  known = record { each = λ k m q. absurd (let z = nought k in omega arith) };
+  passed = λ k l. absurd (omega arith);
+}
+  where
+    nought : (k : ℕ) → get_or {A = ℕ} (replicate n 0) k 0 ≡ 0
+    nought k = elim (cases_lt k n) [
+      | inl l ↦ get_or-replicate n k 0 0 l
+      | inr l ↦ get_or_past (replicate n 0) k 0 (let z : length (replicate {A = ℕ} n 0) ≡ n = length-replicate n 0 in omega arith)
+    ]
+
 slot_of : (k : ℕ) → k * 16 / 16 ≡ k
 slot_of k = omega arith
 
 module _ (a walks : List ℕ) (ends : List End) (slot : ℕ) (f : Found a walks ends slot) where
-  pub found_more : (more : List ℕ) (r : End) → length more ≡ length walks → HasEnds a more (ends ++ r ∷ []) → Passes (slot * 16) walks more → Found a more (ends ++ r ∷ []) (slot + 1)
-  found_more more r s h p = record {
-    sized = s ∙ f.sized;
+  pub found_more : (more : List ℕ) (r : End) → HasEnds a more (ends ++ r ∷ []) → Passes (slot * 16) walks more → Found a more (ends ++ r ∷ []) (slot + 1)
+  found_more more r h p = record {
+    sized = p.sized ∙ f.sized;
     few = (let l = length-append ends (r ∷ []) in let w = f.few in omega arith);
     known = h;
     passed = λ k l x. elim (cases_eq k slot) [
@@ -209,34 +235,32 @@ module _ (a walks : List ℕ) (ends : List End) (slot : ℕ) (f : Found a walks 
     ];
   }
 
-  pub found_all : length a / 16 ≤ slot → AreEnds a walks ends
-  found_all all = record {
+  pub found_all : (slots : List Bool) → AreMarks a (IsTarget a) slots → length a / 16 ≤ slot → AreEnds a (record { slots = slots; by_slot = walks }) ends
+  found_all slots m all = record {
+    targets = m;
     sized = f.sized;
     known = f.known;
-    all = λ h c x e. f.passed (h / 16) (let i = x.0.1 in omega arith) (rw (cleared_in_some_chain a h c) (c, (x, e)));
+    all = λ h c x e. f.passed (h / 16) (let i = x.0.1 in omega arith) (rw (cleared_destination a c.3) (c, (x, e)));
   }
 
--- over slots whose headers are in no chain
-pub found_to : (a walks : List ℕ) (ends : List End) (headers : List Bool) → AreMarks a (IsInSomeChain a) headers → (low high : ℕ) → low ≤ high → IsClear headers low high → Found a walks ends low → Found a walks ends high
-found_to a walks ends headers m low high l c f = over_to (λ k. Found a walks ends k) low high l f (λ k n o x. found_same a walks ends k x (λ y. outside_set a (IsInSomeChain a) headers m low high c k n o y.1.0.0 y.0))
+-- over slots whose headers are on no destination chain
+pub found_to : (a walks : List ℕ) (ends : List End) (targets : List Bool) → AreMarks a (IsTarget a) targets → (low high : ℕ) → low ≤ high → IsClear targets low high → Found a walks ends low → Found a walks ends high
+found_to a walks ends targets m low high l c f = over_to (λ k. Found a walks ends k) low high l f (λ k n o x. found_same a walks ends k x (λ y. outside_set a (IsTarget a) targets m low high c k n o y.1.0.0 y.0))
 
 -- the number of a walk says where its chain ends
-module _ (a walks : List ℕ) (ends : List End) (at : ℕ) (k : KnowsEnd a walks ends at) where
-  pub known_slot : at / 16 < length walks
-  known_slot = let l = k.hard.0.1 in let s = k.known.sized in omega arith
+module _ (a : List ℕ) (walks : Words) (ends : List End) (at : ℕ) (k : KnowsEnd a walks ends at) where
+  pub known_slot : get_or walks.slots (at / 16) false ≡ true
+  known_slot = k.known.targets.all at k.target k.hard.0
 
-  module _ (walk : ℕ) (is : walk ≡ get_or walks (at / 16) walk) where
-    reads : get_or walks (at / 16) 0 ≡ suc (walk - 1)
-    reads =
-        let e : get_or walks (at / 16) 0 ≡ walk = get_or_default walks (at / 16) 0 walk known_slot ∙ sym is in
-        let m = k.known.all at k.chained k.hard in
-        omega arith
+  module _ (walk : ℕ) (is : walk ≡ get_or walks.by_slot (at / 16) 0) where
+    reads : get_or walks.by_slot (at / 16) 0 ≡ suc (walk - 1)
+    reads = let m = k.known.all at k.target k.hard in omega arith
 
     pub walk_counts : walk ≢ 0
-    walk_counts e = k.known.all at k.chained k.hard (get_or_default walks (at / 16) 0 walk known_slot ∙ sym is ∙ e)
+    walk_counts e = k.known.all at k.target k.hard (sym is ∙ e)
 
     pub ended_in : walk - 1 < length ends
     ended_in = (k.known.known.each (at / 16) (walk - 1) reads).0
 
     pub ended_as : (end : End) → end ≡ get_or ends (walk - 1) end → EndsAs a at end
-    ended_as end e = subst (λ r. EndsAs a at r) (get_or_default ends (walk - 1) AtDirectory end ended_in ∙ sym e) (subst (λ y. EndsAs a y (get_or ends (walk - 1) AtDirectory)) (cleared_in_some_chain a at k.chained) (k.known.known.each (at / 16) (walk - 1) reads).1)
+    ended_as end e = subst (λ r. EndsAs a at r) (get_or_default ends (walk - 1) AtDirectory end ended_in ∙ sym e) (subst (λ y. EndsAs a y (get_or ends (walk - 1) AtDirectory)) (cleared_destination a k.target.3) (k.known.known.each (at / 16) (walk - 1) reads).1)

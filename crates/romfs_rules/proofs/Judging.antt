@@ -13,7 +13,7 @@ use Rattle.romfs_format.specs.Fields.{root, IsInside, name, size, data_at}
 use Rattle.romfs_format.specs.Chains.{IsSomeMember}
 use Rattle.romfs_format.specs.Links.{IsHardLink, IsDirectory, IsFinal, stays, follows, EndsAs}
 use Rattle.romfs_format.specs.Rules.{IsRootElsewhere, IsUsed, HasData, BreaksHeader, number}
-use Rattle.romfs_rules.specs.Marks.{AreMarks, IsElsewhere}
+use Rattle.romfs_rules.specs.Marks.{AreMarks, IsListOf, IsElsewhere}
 use Rattle.romfs_rules.specs.Judge.{HasSlot, IsHeaderRule, KeepsBefore}
 use Rattle.romfs_rules.specs.Namesakes.{AreNamesakes}
 use Rattle.romfs_rules.proofs.Slots.{marked}
@@ -82,12 +82,16 @@ alone a h only once e = once (inr ((root_elsewhere a h (only e)).0 (subst (λ y.
 pub listed_says : (a : List ℕ) (h : ℕ) (hs : List ℕ) (b : Bool) → AreNamesakes a hs → IsTrue b ↔ Contains hs h → IsTrue b ↔ BreaksHeader a SameName h
 listed_says a h hs b n t = (λ y. n.each h (t.0 y), λ x. t.1 (n.all h x))
 
+-- a test that looks a header up in a list
+pub list_says : (a : List ℕ) (P : ℕ → Type 0) (hs : List ℕ) (h : ℕ) (b : Bool) → IsListOf a P hs → HasSlot a h → IsTrue b ↔ Contains hs h → IsTrue b ↔ P h
+list_says a P hs h b l s t = (λ y. l.each h (t.0 y), λ p. t.1 (l.all h p s.inside s.aligned))
+
 -- headers that rise do not fall
-pub not_falling : (a hs : List ℕ) → AreNamesakes a hs → IsNonDecreasing hs
-not_falling a hs n i j d l k = elim (cases_order i j) [
+pub not_falling : (hs : List ℕ) → ((i j : ℕ) → i < j → j < length hs → get_or hs i 0 < get_or hs j 0) → IsNonDecreasing hs
+not_falling hs n i j d l k = elim (cases_order i j) [
   | inl e ↦ (let same : get_or hs i d ≡ get_or hs j d = ap (λ m. get_or hs m d) e in omega arith)
   | inr (inl m) ↦ (
-      let r = n.rising i j m k in
+      let r = n i j m k in
       let x = get_or_default_zero hs i d (omega arith) in
       let y = get_or_default_zero hs j d k in
       omega arith)

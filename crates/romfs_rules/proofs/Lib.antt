@@ -1,4 +1,6 @@
 pub mod Bits
+pub mod Ranks
+pub mod Spreading
 pub mod Unions
 pub mod Slots
 pub mod Standing

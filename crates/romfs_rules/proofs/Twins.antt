@@ -13,6 +13,8 @@ use Rattle.romfs_rules.specs.Leads.{IsInSomeChain}
 use Rattle.romfs_rules.proofs.Standing.{in_some_chain}
 use Rattle.romfs_rules.proofs.Links.{standing}
 use Rattle.romfs_rules.proofs.Slots.{cleared_in_chain}
+use Rattle.romfs_rules.specs.SlotSets.{rank}
+use Rattle.romfs_rules.proofs.Ranks.{rank_below}
 
 -- g comes after h along next
 pub data Follows (a : List ℕ) : ℕ → ℕ → Type 0 where
@@ -59,24 +61,26 @@ module _ (a : List ℕ) where
   next_linked h g l n i = record { inside = i; dir = l.dir; stands = record { opened = l.stands.opened; in_chain = (suc l.stands.in_chain.0, (h, l.stands.in_chain.1, n)) } }
 
   -- what the set is of
-  pub numbered : (set : List Bool) (heads numbers : List ℕ) → AreMarks a (IsInSomeChain a) set → AreCollected set (length set) heads numbers → AreNumbered a heads numbers
-  numbered set heads numbers r c = record {
-    sized = c.sized ∙ r.sized;
+  pub numbered : (set : List Bool) (heads : List ℕ) → AreMarks a (IsInSomeChain a) set → AreCollected set (length set) heads → AreNumbered a heads set
+  numbered set heads r c = record {
+    sized = r.sized;
     rising = c.rising;
     each = λ i l. (let k = c.each i l in rw (k.2) (linked k.0 k.3));
     place = λ h l. (
         let q = linked_clear h l in
         let i = l.inside.1 in
         let s = r.sized in
-        let p = c.place (h / 16) (omega arith) (r.all h (in_some_chain a l.dir h l.stands.opened l.stands.in_chain) l.inside) in
-        (p.0, p.1 ∙ q));
+        let m = r.all h (in_some_chain a l.dir h l.stands.opened l.stands.in_chain) l.inside in
+        let b = rank_below set (h / 16) (length set) m (omega arith) in
+        let n = c.count in
+        (omega arith, c.place (h / 16) (omega arith) m ∙ q));
   }
     where
       linked : (k : ℕ) → get_or set k false ≡ true → IsLinked a (k * 16)
       linked k m = let p = r.each k m in let s = standing a (k * 16) p.0 in record { inside = p.1; dir = s.0; stands = s.1 }
 
-  pub next_number : (heads numbers : List ℕ) (h after : ℕ) → AreNumbered a heads numbers → IsLinked a h → after ≡ next a h → after ≢ 0 → IsInside a after → IsNextNumber a heads h (get_or numbers (after / 16) 0)
-  next_number heads numbers h after n l e z i =
+  pub next_number : (heads : List ℕ) (set : List Bool) (h after : ℕ) → AreNumbered a heads set → IsLinked a h → after ≡ next a h → after ≢ 0 → IsInside a after → IsNextNumber a heads h (rank set (after / 16))
+  next_number heads set h after n l e z i =
       let p = n.place after (next_linked h after l (l.inside, e, z) i) in
       let b = p.0 in
       record {
@@ -161,7 +165,7 @@ keeps a h q n i d e =
     gives (h == root a) (unless_dotted (name a h)) q (not_equal h (root a) n)
     (names (name a h) q e (λ z. d (i, inl (e ∙ ap (λ y. Some y) z))) (λ z. d (i, inr (e ∙ ap (λ y. Some y) z))))
 
-module _ (a heads numbers next class : List ℕ) (noted : List Bool) (n : AreNumbered a heads numbers) (t : AreNextNumbers a heads next)
+module _ (a heads : List ℕ) (set : List Bool) (next class : List ℕ) (noted : List Bool) (n : AreNumbered a heads set) (t : AreNextNumbers a heads next)
     (c : AreClasses (λ i. kept_name a (get_or heads i 0)) (length heads) class) (m : AreNoted next class noted) (only : ¬ IsElsewhere a (root a)) where
   at_last : {y : ℕ} {x : ℕ} → x ≡ length heads → After next x y → y ≡ length heads
   at_last e (one f) = sym f ∙ ap (λ z. get_or next z 0) e ∙ t.last
@@ -247,8 +251,8 @@ module _ (a heads numbers next class : List ℕ) (noted : List Bool) (n : AreNum
       go (Some q) e f =
           let p = n.place h (member_linked d h y v.0) in
           let r = n.place g (member_linked d g x u.0) in
-          let i = get_or numbers (h / 16) 0 in
-          let j = get_or numbers (g / 16) 0 in
+          let i = rank set (h / 16) in
+          let j = rank set (g / 16) in
           let k = its_name d h q y v.0 e in
           let l = its_name d g q x u.0 (s ∙ e) in
           let w : j < i = elim (cases_order i j) [

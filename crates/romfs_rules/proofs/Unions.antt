@@ -84,32 +84,7 @@ united_marks a P Q one other both m n u = record {
   all = λ h p i. elim p [ inl q ↦ u.new (h / 16) (n.all h q i) | inr q ↦ u.old (h / 16) (m.all h q i) ];
 }
 
--- an empty set joined with two
-pub united_empty : (n : ℕ) (one other first both : List Bool) → n ≡ length one → IsUnion (replicate n false) one first → IsUnion first other both → IsUnion one other both
-united_empty n one other first both e u w = record {
-  sized = w.sized ∙ u.sized ∙ length-replicate n false ∙ e;
-  each = λ k m. elim (w.each k m) [
-    | inl x ↦ elim (u.each k x) [ inl y ↦ absurd (true≢false (sym y ∙ no_marks (replicate n false) n refl k)) | inr y ↦ inl y ]
-    | inr x ↦ inr x
-  ];
-  old = λ k m. w.old k (u.new k m);
-  new = w.new;
-}
-
--- the next slot of the joined set is that of either
-module _ (one other both : List Bool) (u : IsUnion one other both) where
-  clear_one : (low high : ℕ) → IsClear both low high → IsClear one low high
-  clear_one low high c = record { each = λ k l h. unset one k (λ m. true≢false (sym (u.old k m) ∙ c.each k l h)) }
-
-  clear_other : (low high : ℕ) → IsClear both low high → IsClear other low high
-  clear_other low high c = record { each = λ k l h. unset other k (λ m. true≢false (sym (u.new k m) ∙ c.each k l h)) }
-
-  pub next_united : (from : ℕ) (next : Option ℕ) → IsNext both from next → IsNextOfEither one other from next
-  next_united from None c = (clear_one from (length one) (subst (IsClear both from) u.sized c), clear_other from (length one) (subst (IsClear both from) u.sized c))
-  next_united from (Some k) n = record {
-    low = n.low;
-    high = subst (λ x. k < x) u.sized n.high;
-    is = u.each k n.is;
-    one_clear = clear_one from k n.clear;
-    other_clear = clear_other from k n.clear;
-  }
+-- the next slot of either of a set and the same is the next of the set
+pub next_of_one : (one : List Bool) (from : ℕ) (next : Option ℕ) → IsNextOfEither one one from next → IsNext one from next
+next_of_one one from None c = c.0
+next_of_one one from (Some k) n = record { low = n.low; high = n.high; is = elim n.is [ inl x ↦ x | inr x ↦ x ]; clear = n.one_clear }

@@ -2,34 +2,37 @@
 use Rattle.std.specs.Prelude.{◌≡◌, ◌≢◌, ℕ, suc, ◌*◌, ◌/◌, ◌<◌, List, length, get_or}
 use Rattle.romfs_format.specs.declared.head.End.{End}
 use Rattle.romfs_format.specs.declared.head.End.TheVariants.{AtDirectory}
-use Rattle.romfs_format.specs.Links.{IsHardLink, EndsAs}
-use Rattle.romfs_rules.specs.Leads.{IsInSomeChain}
+use Rattle.romfs_format.specs.Links.{IsHardLink, IsTarget, EndsAs}
+use Rattle.romfs_rules.specs.Marks.{AreMarks}
+use Rattle.romfs_rules.specs.SlotWords.{Words}
 
 -- by slot, walks has the number of the walk that passed there, or 0; by walk, from 1, ends has where its chain ends
 pub record HasEnds (a walks : List ℕ) (ends : List End) : Type 0 where
   pub each : (k n : ℕ) → get_or walks k 0 ≡ suc n → (n < length ends) × EndsAs a (k * 16) (get_or ends n AtDirectory)
 
--- and each hard link in a chain was passed
-pub record AreEnds (a walks : List ℕ) (ends : List End) : Type 0 where
-  pub sized : length walks ≡ length a / 16
-  pub known : HasEnds a walks ends
-  pub all : (h : ℕ) → IsInSomeChain a h → IsHardLink a h → get_or walks (h / 16) 0 ≢ 0
+-- and each hard link on the destination chain of a member was passed
+pub record AreEnds (a : List ℕ) (walks : Words) (ends : List End) : Type 0 where
+  pub targets : AreMarks a (IsTarget a) walks.slots
+  pub sized : length walks.by_slot ≡ length a / 16
+  pub known : HasEnds a walks.by_slot ends
+  pub all : (h : ℕ) → IsTarget a h → IsHardLink a h → get_or walks.by_slot (h / 16) 0 ≢ 0
 
--- h is a hard link in a chain of the image, whose ends these are
-pub record KnowsEnd (a walks : List ℕ) (ends : List End) (h : ℕ) : Type 0 where
+-- h is such a hard link of the image, whose ends these are
+pub record KnowsEnd (a : List ℕ) (walks : Words) (ends : List End) (h : ℕ) : Type 0 where
   pub known : AreEnds a walks ends
-  pub chained : IsInSomeChain a h
+  pub target : IsTarget a h
   pub hard : IsHardLink a h
 
 -- the slot holds a hard link that was not passed
 abbrev pub IsUnpassed : List ℕ → List ℕ → ℕ → Type 0
 IsUnpassed a walks slot = IsHardLink a (slot * 16) × (get_or walks slot 0 ≡ 0)
 
--- and stands in a chain
+-- and stands on the destination chain of a member
 abbrev pub IsLeft : List ℕ → List ℕ → ℕ → Type 0
-IsLeft a walks slot = IsInSomeChain a (slot * 16) × IsUnpassed a walks slot
+IsLeft a walks slot = IsTarget a (slot * 16) × IsUnpassed a walks slot
 
 -- what the marks are after a walk, from what they were before: none is lost, and the header it began at has one
 pub record Passes (from : ℕ) (before after : List ℕ) : Type 0 where
+  pub sized : length after ≡ length before
   pub kept : (k : ℕ) → get_or before k 0 ≢ 0 → get_or after k 0 ≢ 0
   pub passed : get_or after (from / 16) 0 ≢ 0

@@ -8,9 +8,8 @@ use Rattle.romfs_format.specs.declared.rule.ImageFault.{ImageFault}
 use Rattle.romfs_format.specs.Fields.{root, IsInside, cleared}
 use Rattle.romfs_format.specs.Links.{IsTarget}
 use Rattle.romfs_format.specs.Rules.{BreaksHeader, BreaksHeaderAs, number, IsNamedBefore, IsLinkedTwice}
-use Rattle.romfs_rules.specs.Marks.{AreMarks, IsElsewhere}
+use Rattle.romfs_rules.specs.Marks.{AreMarks, IsListOf, IsElsewhere}
 use Rattle.romfs_rules.specs.InChains.{AreChains}
-use Rattle.romfs_rules.specs.SlotSets.{IsUnion}
 use Rattle.romfs_rules.specs.Ends.{AreEnds}
 use Rattle.romfs_rules.specs.Outside.{IsLeast}
 use Rattle.romfs_rules.specs.Namesakes.{AreNamesakes}
@@ -19,10 +18,9 @@ use Rattle.romfs_rules.specs.Namesakes.{AreNamesakes}
 pub record AreSets {A : Type 0} (a : List ℕ) (sets : Sets A) : Type 0 where
   pub chains : AreChains a sets.chains.now
   pub targets : AreMarks a (IsTarget a) sets.targets.now
-  pub reached : IsUnion sets.chains.now.headers sets.targets.now sets.reached.now
-  pub twice : AreMarks a (IsLinkedTwice a) sets.twice.now
+  pub twice : IsListOf a (IsLinkedTwice a) sets.twice.now
   pub namesakes : ¬ IsElsewhere a (root a) → AreNamesakes a sets.namesakes.now
-  pub ends : AreEnds a sets.ends.now.walks.items sets.ends.now.ends.items
+  pub ends : AreEnds a sets.ends.now.walks sets.ends.now.ends.items
 
 -- a header may stand at h
 pub record HasSlot (a : List ℕ) (h : ℕ) : Type 0 where

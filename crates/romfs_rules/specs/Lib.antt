@@ -1,4 +1,5 @@
 pub mod SlotSets
+pub mod SlotWords
 pub mod Marks
 pub mod Leads
 pub mod InChains

@@ -1,7 +1,7 @@
 -- Sets of headers of an image, as marks by slot: a slot is 16 bytes, and each header inside the image has one.
-use Rattle.std.specs.Prelude.{◌≡◌, ◌≢◌, ℕ, ◌+◌, ◌*◌, ◌/◌, ◌^◌, ◌<◌, ◌≤◌, List, length, Bool, true, false, get_or, IsSome}
+use Rattle.std.specs.Prelude.{◌≡◌, ◌≢◌, ℕ, ◌+◌, ◌*◌, ◌/◌, ◌^◌, ◌<◌, ◌≤◌, List, length, Bool, true, false, get_or, IsSome, Contains}
 use Rattle.romfs_format.specs.declared.head.Kind.TheVariants.{Directory}
-use Rattle.romfs_format.specs.Fields.{root, IsInside, kind, text_at}
+use Rattle.romfs_format.specs.Fields.{root, IsInside, kind, text_at, cleared}
 use Rattle.romfs_format.specs.Chains.{IsInChain, IsDotted, IsOpened}
 use Rattle.romfs_format.specs.Rules.{IsNamesake}
 
@@ -20,6 +20,12 @@ pub record AreMarks (a : List ℕ) (P : ℕ → Type 0) (marks : List Bool) : Ty
   pub sized : length marks ≡ length a / 16
   pub each : (k : ℕ) → get_or marks k false ≡ true → P (k * 16) × IsInside a (k * 16)
   pub all : (h : ℕ) → P h → IsInside a h → IsMarked marks h
+
+-- the headers inside the image of which P holds, rising
+pub record IsListOf (a : List ℕ) (P : ℕ → Type 0) (found : List ℕ) : Type 0 where
+  pub each : (h : ℕ) → Contains found h → P h
+  pub all : (h : ℕ) → P h → IsInside a h → cleared h ≡ h → Contains found h
+  pub rising : (i j : ℕ) → i < j → j < length found → get_or found i 0 < get_or found j 0
 
 -- h is in the root's chain
 abbrev pub IsInRootChain : List ℕ → ℕ → Type 0

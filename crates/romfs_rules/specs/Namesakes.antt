@@ -3,6 +3,7 @@ use Rattle.std.specs.Prelude.{◌≡◌, ℕ, ◌+◌, ◌*◌, ◌/◌, ◌<◌
 use Rattle.romfs_format.specs.Fields.{IsInside}
 use Rattle.romfs_format.specs.Chains.{IsNext, Stands}
 use Rattle.romfs_rules.specs.Marks.{HasNamesake}
+use Rattle.romfs_rules.specs.SlotSets.{rank}
 
 -- exactly the headers with a namesake at a lower place, rising and each once
 pub record AreNamesakes (a found : List ℕ) : Type 0 where
@@ -16,20 +17,20 @@ pub record IsLinked (a : List ℕ) (h : ℕ) : Type 0 where
   pub dir : ℕ
   pub stands : Stands a dir h
 
--- the headers of the first slots that are in the set, in order, and how many of them stand before each slot
-pub record AreCollected (set : List Bool) (slots : ℕ) (heads numbers : List ℕ) : Type 0 where
-  pub sized : length numbers ≡ slots
-  pub few : length heads ≤ slots
+-- the headers of the slots below n that are in the set, in order
+pub record AreCollected (set : List Bool) (n : ℕ) (heads : List ℕ) : Type 0 where
+  pub count : length heads ≡ rank set n
+  pub few : length heads ≤ n
   pub rising : (i j : ℕ) → i < j → j < length heads → get_or heads i 0 < get_or heads j 0
-  pub each : (i : ℕ) → i < length heads → (k : ℕ) × (k < slots) × (get_or heads i 0 ≡ k * 16) × (get_or set k false ≡ true)
-  pub place : (k : ℕ) → k < slots → get_or set k false ≡ true → (get_or numbers k 0 < length heads) × (get_or heads (get_or numbers k 0) 0 ≡ k * 16)
+  pub each : (i : ℕ) → i < length heads → (k : ℕ) × (k < n) × (get_or heads i 0 ≡ k * 16) × (get_or set k false ≡ true)
+  pub place : (k : ℕ) → k < n → get_or set k false ≡ true → get_or heads (rank set k) 0 ≡ k * 16
 
--- all headers that are linked, in order, and the number of each by its slot
-pub record AreNumbered (a heads numbers : List ℕ) : Type 0 where
-  pub sized : length numbers ≡ length a / 16
+-- all headers that are linked, in order, each at the number of its slot
+pub record AreNumbered (a heads : List ℕ) (set : List Bool) : Type 0 where
+  pub sized : length set ≡ length a / 16
   pub rising : (i j : ℕ) → i < j → j < length heads → get_or heads i 0 < get_or heads j 0
   pub each : (i : ℕ) → i < length heads → IsLinked a (get_or heads i 0)
-  pub place : (h : ℕ) → IsLinked a h → (get_or numbers (h / 16) 0 < length heads) × (get_or heads (get_or numbers (h / 16) 0) 0 ≡ h)
+  pub place : (h : ℕ) → IsLinked a h → (rank set (h / 16) < length heads) × (get_or heads (rank set (h / 16)) 0 ≡ h)
 
 -- the number of the header after h, or that of headers where there is none inside the image
 pub record IsNextNumber (a heads : List ℕ) (h number : ℕ) : Type 0 where

@@ -1,5 +1,5 @@
 -- Sets of slots, as a bit for each: 64 a word, the lowest first.
-use Rattle.std.specs.Prelude.{◌≡◌, ℕ, ◌/◌, ◌%◌, ◌<◌, ◌≤◌, ◌==◌, ◌⊎◌, List, length, map, Bool, true, false, get_or, Option, MatchOption}
+use Rattle.std.specs.Prelude.{◌≡◌, ℕ, zero, suc, ◌+◌, ◌*◌, ◌/◌, ◌%◌, ◌<◌, ◌≤◌, ◌==◌, ◌⊎◌, List, length, map, Bool, true, false, cond, get_or, Option, MatchOption}
 use Rattle.std.specs.Int.{bit_at}
 use Rattle.std.specs.List.{range_with_len}
 
@@ -10,6 +10,16 @@ is_bit words k = bit_at (get_or words (k / 64) 0) (k % 64) == 1
 -- whether each of the first n slots is in the set
 unfoldable pub bits : ℕ → List ℕ → List Bool
 bits n words = map (is_bit words) (range_with_len 0 n)
+
+-- how many of the first n slots are in the set: the number of slot n there
+unfoldable pub rank : List Bool → ℕ → ℕ
+rank set zero = 0
+rank set (suc n) = rank set n + cond (get_or set n false) 1 0
+
+-- for each word of the set's slots, how many of the set stand before it
+pub record AreCounts (set : List Bool) (before : List ℕ) : Type 0 where
+  pub sized : length before ≡ length set / 64 + 1
+  pub each : (w : ℕ) → w < length before → get_or before w 0 ≡ rank set (w * 64)
 
 -- no slot from low on, below high, is in the set
 pub record IsClear (set : List Bool) (low high : ℕ) : Type 0 where

@@ -1,36 +1,63 @@
 //! Where the hard links of an image end.
+//!
+//! Hard links may lead to one another in chains that many share. So each walk along a chain leaves its number at the
+//! headers that it passes, and a walk that comes to another's number ends as that one did:
+//!
+//! ```text
+//! 3 -> 3 -> 1 -> 1 -> file      the third walk stops at the first 1, and ends at a file
+//! ```
+//!
+//! A walk that comes to its own number goes round, and ends nowhere. Each header is passed once.
 
-ghost use Rattle.std.specs.Prelude.{◌≡◌, ℕ, List, ◌+◌, ◌*◌, ◌++◌, [], ◌∷◌, ◌<◌, ◌↔◌, ◌^◌, ◌/◌, length, false, IsTrue, IfOk};
+ghost use Rattle.std.specs.Prelude.{◌≡◌, ℕ, List, ◌+◌, ◌*◌, ◌++◌, [], ◌∷◌, ◌<◌, ◌↔◌, ◌^◌, ◌/◌, length, get_or, true, false, IsTrue, IfOk};
 ghost use Rattle.romfs_format.specs.Fields.{root, cleared};
-ghost use Rattle.romfs_format.specs.Links.{IsHardLink, IsDirectory, EndsAs};
+ghost use Rattle.romfs_format.specs.Chains.{IsSomeMember};
+ghost use Rattle.romfs_format.specs.Links.{IsHardLink, IsDirectory, IsTarget, EndsAs};
 ghost use Rattle.romfs_rules.specs.Marks.{IsVolumeImage, AreMarks};
-ghost use Rattle.romfs_rules.specs.InChains.{AreChains};
 ghost use Rattle.romfs_rules.specs.Ends.{HasEnds, AreEnds, KnowsEnd, Passes, IsUnpassed};
 
-use crate::chains::Chains;
 use crate::slot::{is_hard_link, is_inside};
+use crate::slot_set::SlotSet;
+use crate::slot_words::SlotWords;
 use romfs_format::head::{End, Kind};
 use romfs_format::read::{kind_of, word};
 use std::alloc::{AllocError, Allocator};
 
-/// Where the chains of the hard links of an image end.
+/// Where the chains end of the hard links that members' hard links lead over.
 #[derive(Drop)]
-pub(crate) struct Ends<A: Allocator> {
-    /// By slot, the number of the walk that passed there, from 1; 0 where none did.
-    pub(crate) walks: Vec<u32, A>,
+pub(crate) struct Ends<'s, A: Allocator> {
+    /// The number of the walk that passed each, from 1; 0 where none did.
+    pub(crate) walks: SlotWords<'s, A>,
     /// Where each walk ended.
     pub(crate) ends: Vec<End, A>,
 }
 
-impl<A: Allocator> Ends<A> {
-    /// Where the chain of a hard link ends that is in a chain of the image.
-    pub(crate) fn at(&self, at: usize) -> End
-        requires { (a : List ℕ) × KnowsEnd a self.now.walks.items self.now.ends.items at }
-        ensures { (a : List ℕ) → KnowsEnd a self.now.walks.items self.now.ends.items at
+impl<'s, A: Allocator> Ends<'s, A> {
+    /// Where the chain of one of these hard links ends.
+    fn at(&self, at: usize) -> End
+        requires { (a : List ℕ) × KnowsEnd a self.now.walks self.now.ends.items at }
+        ensures { (a : List ℕ) → KnowsEnd a self.now.walks self.now.ends.items at
             → EndsAs a at result }
     {
-        let walk = self.walks[at / 16];
+        let walk = self.walks.at(at / 16);
         self.ends[walk as usize - 1]
+    }
+
+    /// Where the chain of a member ends that is a hard link.
+    pub(crate) fn of_member(&self, image: &[u8], top: usize, at: usize) -> End
+        requires small { length image.now < 2 ^ 32 }
+        requires top { top ≡ root image.now }
+        requires ends { AreEnds image.now self.now.walks self.now.ends.items }
+        requires member { IsSomeMember image.now at }
+        requires hard { IsHardLink image.now at }
+        ensures { EndsAs image.now at result }
+    {
+        let to = word(image, at + 4) as usize / 16 * 16;
+        if is_hard_link(image, top, to) {
+            self.at(to)
+        } else {
+            end_at(image, top, to)
+        }
     }
 }
 
@@ -43,33 +70,13 @@ fn is_directory(image: &[u8], top: usize, at: usize) -> bool
     is_inside(image, top, at) && kind_of(word(image, at)) == Kind::Directory
 }
 
-/// Where the chain of a hard link ends. Marks each hard link on the way with the number of this
-/// walk, up to one that an earlier walk passed.
-fn end_of(image: &[u8], top: usize, from: usize, walks: &mut [u32], ends: &[End]) -> End
-    requires small { length image.now < 2 ^ 32 }
+/// Where a chain ends at a header that is no hard link.
+fn end_at(image: &[u8], top: usize, at: usize) -> End
+    requires at { at < 2 ^ 32 }
     requires top { top ≡ root image.now }
-    requires aligned { cleared from ≡ from }
-    requires hard { IsHardLink image.now from }
-    requires sized { length walks.old ≡ length image.now / 16 }
-    requires few { length ends.now + 1 < 2 ^ 32 }
-    requires known { HasEnds image.now walks.old ends.now }
-    ensures end { EndsAs image.now from result }
-    ensures known { HasEnds image.now walks.new (ends.now ++ result ∷ []) }
-    ensures passes { Passes from walks.old walks.new }
+    requires last { ¬ IsHardLink image.now at }
+    ensures { EndsAs image.now at result }
 {
-    let mine = ends.len() as u32 + 1;
-    let mut at = from;
-    while is_hard_link(image, top, at) {
-        let walk = walks[at / 16];
-        if walk == mine {
-            return End::Nowhere;
-        }
-        if walk != 0 {
-            return ends[walk as usize - 1];
-        }
-        walks[at / 16] = mine;
-        at = word(image, at + 4) as usize / 16 * 16;
-    }
     if is_directory(image, top, at) {
         End::AtDirectory
     } else {
@@ -77,34 +84,72 @@ fn end_of(image: &[u8], top: usize, from: usize, walks: &mut [u32], ends: &[End]
     }
 }
 
+/// Where the chain of a hard link ends. Marks each hard link on the way with the number of this
+/// walk, up to one that an earlier walk passed.
+fn end_of<A: Allocator>(
+    image: &[u8],
+    top: usize,
+    from: usize,
+    walks: &mut SlotWords<A>,
+    ends: &[End],
+) -> End
+    requires small { length image.now < 2 ^ 32 }
+    requires top { top ≡ root image.now }
+    requires aligned { cleared from ≡ from }
+    requires hard { IsHardLink image.now from }
+    requires target { IsTarget image.now from }
+    requires targets { AreMarks image.now (IsTarget image.now) walks.old.slots }
+    requires sized { length walks.old.by_slot ≡ length image.now / 16 }
+    requires few { length ends.now + 1 < 2 ^ 32 }
+    requires known { HasEnds image.now walks.old.by_slot ends.now }
+    ensures end { EndsAs image.now from result }
+    ensures known { HasEnds image.now walks.new.by_slot (ends.now ++ result ∷ []) }
+    ensures passes { Passes from walks.old.by_slot walks.new.by_slot }
+    ensures same { walks.new.slots ≡ walks.old.slots }
+{
+    let mine = ends.len() as u32 + 1;
+    let mut at = from;
+    while is_hard_link(image, top, at) {
+        let walk = walks.at(at / 16);
+        if walk == mine {
+            return End::Nowhere;
+        }
+        if walk != 0 {
+            return ends[walk as usize - 1];
+        }
+        walks.put(at / 16, mine);
+        at = word(image, at + 4) as usize / 16 * 16;
+    }
+    end_at(image, top, at)
+}
+
 /// Whether a slot holds a hard link that no walk passed.
-fn is_left(image: &[u8], top: usize, slot: usize, walks: &[u32]) -> bool
+fn is_left<A: Allocator>(image: &[u8], top: usize, slot: usize, walks: &SlotWords<A>) -> bool
     requires small { length image.now < 2 ^ 32 }
     requires top { top ≡ root image.now }
     requires slot { slot < length image.now / 16 }
-    requires sized { length walks.now ≡ length image.now / 16 }
-    ensures { IsTrue result ↔ IsUnpassed image.now walks.now slot }
+    requires there { get_or walks.now.slots slot false ≡ true }
+    ensures { IsTrue result ↔ IsUnpassed image.now walks.now.by_slot slot }
 {
-    walks[slot] == 0 && is_hard_link(image, top, slot * 16)
+    walks.at(slot) == 0 && is_hard_link(image, top, slot * 16)
 }
 
-/// Follows each hard link in a chain of the image to where it ends.
-pub(crate) fn find_ends<A: Allocator + Copy>(
+/// Follows each hard link that members' hard links lead over to where it ends.
+pub(crate) fn find_ends<'s, A: Allocator + Copy>(
     alloc: A,
     image: &[u8],
     top: usize,
-    chains: &Chains<A>,
-) -> Result<Ends<A>, AllocError>
+    targets: &'s SlotSet<A>,
+) -> Result<Ends<'s, A>, AllocError>
     requires volume { IsVolumeImage image.now }
     requires top { top ≡ root image.now }
-    requires chains { AreChains image.now chains.now }
-    ensures { IfOk result (λ found. AreEnds image.now found.walks.items found.ends.items) }
+    requires targets { AreMarks image.now (IsTarget image.now) targets.now }
+    ensures { IfOk result (λ found. AreEnds image.now found.walks found.ends.items) }
 {
-    let slots = image.len() / 16;
-    let mut walks = vec![in alloc; 0u32; slots]?;
+    let mut walks = SlotWords::new(alloc, targets)?;
     let mut ends = Vec::new(alloc);
     let mut from = 0;
-    while let Some(slot) = chains.headers.next_from(from) {
+    while let Some(slot) = targets.next_from(from) {
         if is_left(image, top, slot, &walks) {
             let end = end_of(image, top, slot * 16, &mut walks, &ends);
             ends.push(end)?;

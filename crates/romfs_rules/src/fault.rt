@@ -15,9 +15,8 @@ use crate::ends::find_ends;
 use crate::judge::{Sets, fault_of, header_fault};
 use crate::namesakes::find_namesakes;
 use crate::outside::find_outside;
-use crate::reached::find_reached;
 use crate::targets::mark_targets;
-use crate::twice::mark_twice;
+use crate::twice::find_twice;
 use crate::volume::{image_of, volume_fault};
 use romfs_format::read::{root_of, word};
 use romfs_format::{ImageFault, Profile};
@@ -56,15 +55,13 @@ fn header_fault_in<A: Allocator + Copy>(
 {
     let chains = find_chains(alloc, bytes, top)?;
     let namesakes = namesakes_below(alloc, bytes, top, &chains)?;
-    let ends = find_ends(alloc, bytes, top, &chains)?;
+    let twice = find_twice(alloc, bytes, top, &chains)?;
     let targets = mark_targets(alloc, bytes, top, &chains)?;
-    let twice = mark_twice(alloc, bytes, top, &chains)?;
-    let reached = find_reached(alloc, &chains, &targets)?;
-    let outside = find_outside(bytes, top, &chains, &targets, &reached);
+    let ends = find_ends(alloc, bytes, top, &targets)?;
+    let outside = find_outside(bytes, top, &chains, &targets);
     let sets = Sets {
         chains: &chains,
         targets: &targets,
-        reached: &reached,
         twice: &twice,
         namesakes: &namesakes,
         ends: &ends,
@@ -99,7 +96,7 @@ fn fault_in<A: Allocator + Copy>(
 /// error comes only where memory was refused.
 ///
 /// It takes n log n steps in headers and one pass over the bytes of the image, whatever they are. Beside them
-/// it takes at most 8 bytes for each 16 of the image and 64 for each header in a chain, and keeps nothing.
+/// it takes at most a byte for each 40 of the image and 64 for each header that is reached, and keeps nothing.
 pub fn first_fault<A: Allocator + Copy>(
     alloc: A,
     bytes: &[u8],

@@ -13,9 +13,9 @@ ghost use Rattle.romfs_format.specs.Rules.{IsFaultOfAs};
 
 use crate::chains::Chains;
 use crate::ends::Ends;
+use crate::listed::is_listed;
 use crate::member::{is_in_chain, is_some_member};
 use crate::outside::Outside;
-use crate::reached::next_reached;
 use crate::slot::is_hard_link;
 use crate::slot_set::SlotSet;
 use romfs_format::head::{End, Kind};
@@ -23,22 +23,20 @@ use romfs_format::read::{header_bytes, kind_of, text_at, word, word_sum};
 use romfs_format::rule::{ImageFault, Profile, Rule};
 use std::alloc::Allocator;
 
-/// The sets of headers that the rules are judged by: sets of slots, and a rising list.
+/// The sets of headers that the rules are judged by.
 #[derive(Drop)]
 pub(crate) struct Sets<'s, A: Allocator> {
     /// The headers in chains.
     pub(crate) chains: &'s Chains<A>,
     /// Those that the hard links of members lead over.
     pub(crate) targets: &'s SlotSet<A>,
-    /// Both together.
-    pub(crate) reached: &'s SlotSet<A>,
-    /// Those that two links name.
-    pub(crate) twice: &'s SlotSet<A>,
+    /// Those that two links name, rising.
+    pub(crate) twice: &'s [u32],
     /// Those whose name a member of the same directory has at a lower place. It may be empty
     /// where the root's header stands in the chain of another directory.
     pub(crate) namesakes: &'s [u32],
-    /// Where the hard links in chains end.
-    pub(crate) ends: &'s Ends<A>,
+    /// Where the hard links of members end.
+    pub(crate) ends: &'s Ends<'s, A>,
 }
 
 /// Whether a header is a member, or a member's hard links lead over it.
@@ -171,16 +169,7 @@ fn breaks_twice<A: Allocator>(image: &[u8], top: usize, sets: &Sets<A>, at: usiz
     requires slot { HasSlot image.now at }
     ensures { IsTrue result ↔ BreaksHeader image.now Rule.Twice at }
 {
-    sets.twice.contains(at / 16) || at == top && sets.chains.root_elsewhere
-}
-
-/// Whether a header is among headers in rising order.
-fn is_listed(headers: &[u32], at: usize) -> bool
-    requires rising { IsNonDecreasing headers.now }
-    requires at { at < 2 ^ 32 }
-    ensures { IsTrue result ↔ Contains headers.now at }
-{
-    headers.binary_search(&(at as u32)).is_ok()
+    is_listed(sets.twice, at) || at == top && sets.chains.root_elsewhere
 }
 
 /// Whether a member is a hard link whose chain ends in this way.
@@ -199,7 +188,7 @@ fn member_ends_as<A: Allocator>(
         × EndsAs image.now at end) }
 {
     if is_hard_link(image, top, at) && is_some_member(image, top, at, sets.chains) {
-        sets.ends.at(at) == end
+        sets.ends.of_member(image, top, at) == end
     } else {
         false
     }
@@ -383,7 +372,7 @@ fn fault_inside<A: Allocator>(
         return Some(fault);
     }
     let mut from = top / 16 + 1;
-    while let Some(slot) = next_reached(sets.chains, sets.targets, sets.reached, from) {
+    while let Some(slot) = sets.chains.headers.next_of_either(sets.targets, from) {
         if let Some(fault) = fault_at(image, top, profile, sets, slot * 16) {
             return Some(fault);
         }

@@ -9,34 +9,21 @@ ghost use Rattle.romfs_rules.specs.Namesakes.{IsLinked, AreCollected, AreNumbere
 use crate::chains::Chains;
 use crate::climb::note_higher;
 use crate::forest::{Forest, lists};
+use crate::listed::headers_of;
 use crate::names::classes;
 use crate::slot::is_inside;
-use crate::slot_set::SlotSet;
+use crate::slot_numbers::SlotNumbers;
 use romfs_format::read::word;
 use std::alloc::{AllocError, Allocator};
 
-/// The headers of a set in order, and how many of them stand before each slot.
-fn collect<A: Allocator + Copy>(
-    alloc: A,
-    set: &SlotSet<A>,
-) -> Result<(Vec<u32, A>, Vec<u32, A>), AllocError>
-    requires few { length set.now < 2 ^ 28 }
-    ensures { IfOk result (λ both.
-        AreCollected set.now (length set.now) both.0.items both.1.items) }
-{
-    let mut heads = Vec::new(alloc);
-    let mut numbers = Vec::with_capacity(alloc, set.slots())?;
-    for slot in 0..set.slots() {
-        numbers.push(heads.len() as u32)?;
-        if set.contains(slot) {
-            heads.push((slot * 16) as u32)?;
-        }
-    }
-    Ok((heads, numbers))
-}
-
 /// The number of the header after one, or that of headers where there is none inside the image.
-fn next_number(image: &[u8], top: usize, heads: &[u32], numbers: &[u32], at: usize) -> u32
+fn next_number<A: Allocator>(
+    image: &[u8],
+    top: usize,
+    heads: &[u32],
+    numbers: &SlotNumbers<A>,
+    at: usize,
+) -> u32
     requires small { length image.now < 2 ^ 32 }
     requires top { top ≡ root image.now }
     requires few { length heads.now < 2 ^ 32 }
@@ -46,7 +33,7 @@ fn next_number(image: &[u8], top: usize, heads: &[u32], numbers: &[u32], at: usi
 {
     let after = word(image, at) as usize / 16 * 16;
     if after != 0 && is_inside(image, top, after) {
-        numbers[after / 16]
+        numbers.number(after / 16)
     } else {
         heads.len() as u32
     }
@@ -58,7 +45,7 @@ fn next_numbers<A: Allocator + Copy>(
     image: &[u8],
     top: usize,
     heads: &[u32],
-    numbers: &[u32],
+    numbers: &SlotNumbers<A>,
 ) -> Result<Vec<u32, A>, AllocError>
     requires small { length image.now < 2 ^ 32 }
     requires top { top ≡ root image.now }
@@ -104,7 +91,8 @@ pub(crate) fn find_namesakes<A: Allocator + Copy>(
     requires alone { ¬ IsElsewhere image.now (root image.now) }
     ensures { IfOk result (λ found. AreNamesakes image.now found.items) }
 {
-    let (heads, numbers) = collect(alloc, &chains.headers)?;
+    let heads = headers_of(alloc, &chains.headers)?;
+    let numbers = SlotNumbers::of(alloc, &chains.headers)?;
     let next = next_numbers(alloc, image, top, &heads, &numbers)?;
     drop(numbers);
     let class = classes(alloc, image, top, &heads)?;

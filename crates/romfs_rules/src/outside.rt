@@ -5,7 +5,6 @@ ghost use Rattle.romfs_format.specs.Fields.{root, IsInside, cleared};
 ghost use Rattle.romfs_format.specs.Links.{IsTarget, IsReached};
 ghost use Rattle.romfs_rules.specs.Marks.{IsVolumeImage, AreMarks};
 ghost use Rattle.romfs_rules.specs.InChains.{AreChains};
-ghost use Rattle.romfs_rules.specs.SlotSets.{IsUnion};
 ghost use Rattle.romfs_rules.specs.Leads.{IsTheOne};
 ghost use Rattle.romfs_rules.specs.Outside.{Names, NamesDestination, IsLeast, IsBelow, IsAbove, lesser, Notes};
 
@@ -13,7 +12,6 @@ use crate::chains::Chains;
 use crate::lead::destination_of;
 use crate::link::{first_link, next_link};
 use crate::member::is_some_member;
-use crate::reached::next_reached;
 use crate::slot_set::SlotSet;
 use std::alloc::Allocator;
 
@@ -117,13 +115,11 @@ pub(crate) fn find_outside<A: Allocator>(
     top: usize,
     chains: &Chains<A>,
     targets: &SlotSet<A>,
-    reached: &SlotSet<A>,
 ) -> Outside
     requires volume { IsVolumeImage image.now }
     requires top { top ≡ root image.now }
     requires chains { AreChains image.now chains.now }
     requires targets { AreMarks image.now (IsTarget image.now) targets.now }
-    requires reached { IsUnion chains.now.headers targets.now reached.now }
     ensures below { IsLeast (λ h. IsReached image.now h × IsBelow image.now h) result.below }
     ensures above { IsLeast (λ h. IsReached image.now h × IsAbove image.now h) result.above }
 {
@@ -133,7 +129,7 @@ pub(crate) fn find_outside<A: Allocator>(
     };
     let mut found = note_named(none, image, top, top, chains, targets);
     let mut from = top / 16 + 1;
-    while let Some(slot) = next_reached(chains, targets, reached, from) {
+    while let Some(slot) = chains.headers.next_of_either(targets, from) {
         found = note_named(found, image, top, slot * 16, chains, targets);
         from = slot + 1;
     }

@@ -3,8 +3,8 @@
 //! A set has a bit for each slot of an image, 64 a word, so that it takes an eighth of a byte for 16 bytes of the
 //! image. To go over its slots upward skips a word that has none in one step.
 
-ghost use Rattle.std.specs.Prelude.{◌≡◌, ◌<◌, ◌^◌, false, true, length, get_or, set, replicate, IfOk};
-ghost use Rattle.romfs_rules.specs.SlotSets.{IsNext, IsUnion};
+ghost use Rattle.std.specs.Prelude.{◌≡◌, ◌+◌, ◌*◌, ◌/◌, ◌<◌, ◌≤◌, ◌^◌, false, true, length, get_or, set, replicate, IfOk};
+ghost use Rattle.romfs_rules.specs.SlotSets.{IsNext, IsNextOfEither, IsUnion, rank};
 
 use std::alloc::{AllocError, Allocator};
 use std::marker::Model;
@@ -17,14 +17,15 @@ pub(crate) struct SlotSet<A: Allocator> {
 }
 
 impl<A: Allocator> Model for SlotSet<A> {
-    ghost use Rattle.std.specs.Prelude.{◌<◌, ◌≤◌, ◌*◌, ◌^◌, List, Bool, length};
+    ghost use Rattle.std.specs.Prelude.{◌<◌, ◌≤◌, ◌*◌, ◌/◌, ◌^◌, List, Bool, length};
     ghost use Rattle.romfs_rules.specs.SlotSets.{bits};
 
     ghost Value = { List Bool };
 
     ghost view = { λ held. bits held.slots held.words.items };
 
-    ghost invariant = { λ held. (held.slots ≤ length held.words.items * 64) × (held.slots < 2 ^ 32) };
+    ghost invariant = { λ held. (held.slots ≤ length held.words.items * 64) × (held.slots < 2 ^ 32)
+        × (held.slots / 64 < length held.words.items) };
 }
 
 impl<A: Allocator> SlotSet<A> {
@@ -53,6 +54,24 @@ impl<A: Allocator> SlotSet<A> {
         self.words[slot / 64] >> (slot % 64) & 1 == 1
     }
 
+    /// How many of the set stand in a whole word of slots.
+    pub(crate) fn count_in_word(&self, word: usize) -> u32
+        requires { word * 64 + 64 ≤ length self.now }
+        ensures count { rank self.now (word * 64 + 64) ≡ rank self.now (word * 64) + result }
+        ensures few { result ≤ 64 }
+    {
+        self.words[word].count_ones()
+    }
+
+    /// How many of the set stand before a slot in its word.
+    pub(crate) fn count_before(&self, slot: usize) -> u32
+        requires { slot ≤ length self.now }
+        ensures count { rank self.now slot ≡ rank self.now (slot / 64 * 64) + result }
+        ensures few { result ≤ 64 }
+    {
+        (self.words[slot / 64] & ((1u64 << (slot % 64)) - 1)).count_ones()
+    }
+
     /// Adds a slot.
     pub(crate) fn insert(&mut self, slot: usize)
         requires { slot < length self.old }
@@ -73,14 +92,15 @@ impl<A: Allocator> SlotSet<A> {
         }
     }
 
-    /// The first slot of the set from a slot on.
-    pub(crate) fn next_from(&self, from: usize) -> Option<usize>
-        ensures next { IsNext self.now from result }
-        ensures small { length self.now < 2 ^ 32 }
+    /// The first slot from a slot on that is in this set or in another.
+    pub(crate) fn next_of_either(&self, other: &SlotSet<A>, from: usize) -> Option<usize>
+        requires { length other.now ≡ length self.now }
+        ensures { IsNextOfEither self.now other.now from result }
     {
         let mut slot = from;
         while slot < self.slots {
-            let word = self.words[slot / 64] & (u64::MAX << (slot % 64));
+            let both = self.words[slot / 64] | other.words[slot / 64];
+            let word = both & (u64::MAX << (slot % 64));
             if word != 0 {
                 let found = slot / 64 * 64 + word.trailing_zeros() as usize;
                 return if found < self.slots {
@@ -92,5 +112,15 @@ impl<A: Allocator> SlotSet<A> {
             slot = (slot / 64 + 1) * 64;
         }
         None
+    }
+
+    /// The first slot of the set from a slot on.
+    #[tactic(auto, using(crate::proofs::Unions::next_of_one))]
+    pub(crate) fn next_from(&self, from: usize) -> Option<usize>
+        ensures next { IsNext self.now from result }
+        ensures small { length self.now < 2 ^ 32 }
+    {
+        let _ = &self.words;
+        self.next_of_either(self, from)
     }
 }

@@ -3,12 +3,13 @@
 ghost use Rattle.std.specs.Prelude.{◌≡◌, ◌+◌, ◌*◌, ◌<◌, ◌≤◌, ◌/◌, ◌^◌, ◌↔◌, length, IsTrue, IfOk};
 ghost use Rattle.romfs_format.specs.Fields.{root, IsInside, cleared};
 ghost use Rattle.romfs_format.specs.Rules.{IsLinkedTwice};
-ghost use Rattle.romfs_rules.specs.Marks.{IsVolumeImage, AreMarks};
+ghost use Rattle.romfs_rules.specs.Marks.{IsVolumeImage, AreMarks, IsListOf};
 ghost use Rattle.romfs_rules.specs.InChains.{AreChains};
 ghost use Rattle.romfs_rules.specs.Twice.{Counts, CountsBoth};
 
 use crate::chains::Chains;
 use crate::link::{first_link, next_link};
+use crate::listed::headers_of;
 use crate::slot::is_inside;
 use crate::slot_set::SlotSet;
 use std::alloc::{AllocError, Allocator};
@@ -65,7 +66,7 @@ fn count_links<A: Allocator>(
 }
 
 /// Marks the headers that two links name.
-pub(crate) fn mark_twice<A: Allocator + Copy>(
+fn mark_twice<A: Allocator + Copy>(
     alloc: A,
     image: &[u8],
     top: usize,
@@ -85,4 +86,20 @@ pub(crate) fn mark_twice<A: Allocator + Copy>(
         from = slot + 1;
     }
     Ok(twice)
+}
+
+/// The headers that two links name, rising.
+pub(crate) fn find_twice<A: Allocator + Copy>(
+    alloc: A,
+    image: &[u8],
+    top: usize,
+    chains: &Chains<A>,
+) -> Result<Vec<u32, A>, AllocError>
+    requires volume { IsVolumeImage image.now }
+    requires top { top ≡ root image.now }
+    requires chains { AreChains image.now chains.now }
+    ensures { IfOk result (λ found. IsListOf image.now (IsLinkedTwice image.now) found.items) }
+{
+    let twice = mark_twice(alloc, image, top, chains)?;
+    headers_of(alloc, &twice)
 }

@@ -1,8 +1,15 @@
+use Rattle.std.proofs.Common.{◌≡◌}
+use Rattle.romfs_format.specs.Links.{IsTarget}
 use Rattle.romfs_rules.proofs.EndWalk.{Going, Passing, unmarked}
 use Rattle.romfs_rules.proofs.ends.end_of.Given as goal
 
-abbrev pub invariant-loop-walk : goal.invariant-loop-walk
-invariant-loop-walk l = record { going : Going l.image l.ends l.from l.at l.walks; passing : Passing l.from l.at l.initial.walks l.walks }
+abbrev pub invariant-loop-walks : goal.invariant-loop-walks
+invariant-loop-walks g l = record {
+  target : IsTarget l.image l.at;
+  same : l.walks.slots ≡ l.initial.walks.slots;
+  going : Going l.image l.ends l.from l.at l.walks.by_slot;
+  passing : Passing l.from l.at l.initial.walks.by_slot l.walks.by_slot;
+}
 
-abbrev pub decreases-loop-walk : goal.decreases-loop-walk
-decreases-loop-walk l = unmarked l.walks
+abbrev pub decreases-loop-walks : goal.decreases-loop-walks
+decreases-loop-walks g l = unmarked l.walks.by_slot

@@ -4,8 +4,7 @@ pub header_fault-requires-clause-sets : goal.header_fault-requires-clause-sets
 header_fault-requires-clause-sets g c = record {
   chains = c.in_ok-chains.ensures;
   targets = c.in_ok-targets.ensures;
-  reached = c.in_ok-reached.ensures;
-  twice = c.in_ok-twice.ensures;
-  namesakes = rw c.deref.ensures.value c.in_ok-namesakes.ensures;
+  twice = rw c.deref.ensures.value c.in_ok-twice.ensures;
+  namesakes = rw c.deref-2.ensures.value c.in_ok-namesakes.ensures;
   ends = c.in_ok-ends.ensures;
 }

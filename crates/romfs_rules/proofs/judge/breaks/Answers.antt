@@ -2,7 +2,7 @@ use Rattle.romfs_rules.proofs.Judging.{listed_says, not_falling}
 use Rattle.romfs_rules.proofs.judge.breaks.Goals as goal
 
 pub is_listed-requires-clause-rising : goal.is_listed-requires-clause-rising
-is_listed-requires-clause-rising g c = not_falling c.args.image.now _ (c.requires.sets.namesakes (c.requires.named c.in-SameName.is))
+is_listed-requires-clause-rising g c = not_falling _ (c.requires.sets.namesakes (c.requires.named c.in-SameName.is)).rising
 
 pub returns-in-NameOpen : goal.returns-in-NameOpen
 returns-in-NameOpen g c = rw c.in-NameOpen.is c.breaks_name_open.ensures

@@ -1,17 +1,20 @@
 use Rattle.std.proofs.Common.{◌∙◌, sym, subst}
 use Rattle.romfs_format.specs.Rules.{IsLinkedTwice}
 use Rattle.romfs_rules.specs.Marks.{IsElsewhere}
-use Rattle.romfs_rules.proofs.Judging.{mark_says, or_else, or_true, root_elsewhere}
+use Rattle.romfs_rules.proofs.Judging.{list_says, not_falling, or_else, or_true, root_elsewhere}
 use Rattle.romfs_rules.proofs.judge.breaks_twice.Goals as goal
 
-pub returns-then-contains : goal.returns-then-contains
-returns-then-contains g c = or_true (mark_says c.args.image.now (IsLinkedTwice c.args.image.now) c.args.sets.now.twice.now c.args.at c.contains.result c.requires.sets.twice c.requires.slot c.contains.ensures) c.if-contains.true
+pub is_listed-requires-clause-rising : goal.is_listed-requires-clause-rising
+is_listed-requires-clause-rising g c = not_falling _ c.requires.sets.twice.rising
+
+pub returns-then-is_listed : goal.returns-then-is_listed
+returns-then-is_listed g c = or_true (list_says c.args.image.now (IsLinkedTwice c.args.image.now) c.args.sets.now.twice.now c.args.at c.is_listed.result c.requires.sets.twice c.requires.slot c.is_listed.ensures) c.if-is_listed.true
 
 pub returns-then-at-top : goal.returns-then-at-top
 returns-then-at-top g c =
     let a = c.args.image.now in
-    let twice = mark_says a (IsLinkedTwice a) c.args.sets.now.twice.now c.args.at c.contains.result c.requires.sets.twice c.requires.slot c.contains.ensures in
+    let twice = list_says a (IsLinkedTwice a) c.args.sets.now.twice.now c.args.at c.is_listed.result c.requires.sets.twice c.requires.slot c.is_listed.ensures in
     let e = c.if-at-top.true ∙ c.requires.top in
     let law = root_elsewhere a c.args.at e in
     let flag = c.requires.sets.chains.root in
-    or_else twice c.if-contains.false (λ t. law.0 (subst (IsElsewhere a) (sym e) (flag.0 t)), λ x. flag.1 (subst (IsElsewhere a) e (law.1 x)))
+    or_else twice c.if-is_listed.false (λ t. law.0 (subst (IsElsewhere a) (sym e) (flag.0 t)), λ x. flag.1 (subst (IsElsewhere a) e (law.1 x)))

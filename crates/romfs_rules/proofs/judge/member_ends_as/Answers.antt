@@ -3,7 +3,6 @@ use Rattle.std.proofs.Common.{◌≡◌, ◌∙◌, sym, ap, true, refl, rules}
 use Rattle.romfs_format.specs.declared.head.End.{End}
 use Rattle.romfs_format.specs.declared.head.End.TheVariants.{AtDirectory, AtOther, Nowhere}
 use Rattle.romfs_format.specs.contracts.head.End.{the_type}
-use Rattle.romfs_rules.proofs.Standing.{member_in_chain}
 use Rattle.romfs_rules.proofs.Judging.{link_says}
 use Rattle.romfs_rules.proofs.judge.member_ends_as.Goals as goal
 
@@ -13,26 +12,12 @@ end_same AtDirectory = refl
 end_same AtOther = refl
 end_same Nowhere = refl
 
-pub at-requires : goal.at-requires
-at-requires g c = (
-  c.args.image.now,
-  record {
-    known = c.requires.sets.ends;
-    chained = member_in_chain c.args.image.now c.args.at (c.if-is_some_member.ensures.0 refl);
-    hard = c.is_hard_link.ensures.0 c.if-is_hard_link.true;
-  },
-)
-
 pub returns-then-is_some_member : goal.returns-then-is_some_member
 returns-then-is_some_member g c =
     let member = c.if-is_some_member.ensures.0 refl in
     let hard = c.is_hard_link.ensures.0 c.if-is_hard_link.true in
-    let ends = c.at.ensures c.args.image.now (record {
-      known = c.requires.sets.ends;
-      chained = member_in_chain c.args.image.now c.args.at member;
-      hard = hard;
-    }) in
-    link_says c.args.image.now c.args.at c.at.result c.args.end c.eq.result (member, hard, ends) (
-      λ t. same_true the_type (search rules) c.at.result c.args.end (sym c.eq.ensures ∙ t),
+    let ends = c.of_member.ensures in
+    link_says c.args.image.now c.args.at c.of_member.result c.args.end c.eq.result (member, hard, ends) (
+      λ t. same_true the_type (search rules) c.of_member.result c.args.end (sym c.eq.ensures ∙ t),
       λ e. c.eq.ensures ∙ ap (λ (x : End). sameb the_type x c.args.end) e ∙ end_same c.args.end,
     )

@@ -1,30 +1,38 @@
-use Rattle.std.proofs.Common.{subst, length, get_or}
+use Rattle.std.proofs.Common.{arith, subst, length, get_or}
 use Rattle.std.proofs.lemmas.Result.{IfOk-weaker}
 use Rattle.romfs_rules.specs.Namesakes.{AreNextNumbers, AreChosen, AreNamesakes}
 use Rattle.romfs_rules.specs.Names.{kept_name, AreClasses}
+use Rattle.romfs_rules.proofs.HeadNumbers.{grown}
 use Rattle.romfs_rules.proofs.Twins.{numbered, namesakes}
 use Rattle.romfs_rules.proofs.namesakes.find_namesakes.Goals as goal
 
 pub next_numbers-requires-clause-numbered : goal.next_numbers-requires-clause-numbered
 next_numbers-requires-clause-numbered g c =
-    rw (c.deref.ensures.value, c.deref-2.ensures.value) (numbered _ _ _ _ c.requires.chains.headers c.in_ok-heads.ensures)
+    rw c.deref.ensures.value (rw c.in_ok-numbers.ensures (numbered _ _ _ c.requires.chains.headers c.in_ok-heads.ensures))
 
 pub classes-requires-clause-inside : goal.classes-requires-clause-inside
 classes-requires-clause-inside g c =
-    let n = numbered _ _ _ _ c.requires.chains.headers c.in_ok-heads.ensures in
-    rw c.deref-3.ensures.value (λ i l. (n.each i l).inside.1)
+    let n = numbered _ _ _ c.requires.chains.headers c.in_ok-heads.ensures in
+    rw c.deref-2.ensures.value (λ i l. (n.each i l).inside.1)
 
 pub chosen-requires-clause-rising : goal.chosen-requires-clause-rising
-chosen-requires-clause-rising g c = rw c.deref-5.ensures.value (c.in_ok-heads.ensures.rising)
+chosen-requires-clause-rising g c = rw c.deref-4.ensures.value (c.in_ok-heads.ensures.rising)
 
 pub returns : goal.returns
 returns g c =
     let a = c.args.image.now in
     let heads = c.in_ok-heads.heads.items in
-    let n = numbered a _ heads c.in_ok-heads.numbers.items c.requires.chains.headers c.in_ok-heads.ensures in
+    let n = numbered a _ heads c.requires.chains.headers c.in_ok-heads.ensures in
     let next : AreNextNumbers a heads c.in_ok-next.next.items = rw c.deref.ensures.value at c.in_ok-next.ensures in
     let class : AreClasses (λ i. kept_name a (get_or heads i 0)) (length heads) c.in_ok-class.class.items =
-    subst (λ hs. AreClasses (λ i. kept_name a (get_or hs i 0)) (length hs) c.in_ok-class.class.items) c.deref-3.ensures.value c.in_ok-class.ensures in
+    subst (λ hs. AreClasses (λ i. kept_name a (get_or hs i 0)) (length hs) c.in_ok-class.class.items) c.deref-2.ensures.value c.in_ok-class.ensures in
     IfOk-weaker c.chosen.result (λ found. AreChosen heads c.in_ok-noted.noted.items (length heads) found.items) (λ found. AreNamesakes a found.items)
-    (λ found w. namesakes a heads c.in_ok-heads.numbers.items c.in_ok-next.next.items c.in_ok-class.class.items c.in_ok-noted.noted.items n next class c.in_ok-noted.ensures c.requires.alone found.items w)
-    (rw (c.deref-5.ensures.value, c.deref-6.ensures.value) at c.chosen.ensures)
+    (λ found w. namesakes a heads c.args.chains.now.headers c.in_ok-next.next.items c.in_ok-class.class.items c.in_ok-noted.noted.items n next class c.in_ok-noted.ensures c.requires.alone found.items w)
+    (rw (c.deref-4.ensures.value, c.deref-5.ensures.value) at c.chosen.ensures)
+
+pub note_higher-requires : goal.note_higher-requires
+note_higher-requires g c =
+    let few = c.in_ok-heads.ensures.few in
+    let sized = c.requires.chains.headers.sized in
+    let small = c.requires.volume.small in
+    grown (omega arith) (rw c.deref.ensures.value at c.in_ok-next.ensures) (rw c.deref-2.ensures.value at c.in_ok-class.ensures) (rw c.deref-3.ensures.value at c.in_ok-first.ensures)

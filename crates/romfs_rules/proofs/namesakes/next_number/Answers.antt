@@ -4,5 +4,5 @@ use Rattle.romfs_rules.proofs.Twins.{next_number}
 use Rattle.romfs_rules.proofs.namesakes.next_number.Goals as goal
 
 pub returns-then-is_inside : goal.returns-then-is_inside
-returns-then-is_inside c =
-    next_number c.args.image.now c.args.heads.now c.args.numbers.now c.args.at (cleared c.word.result) c.requires.numbered c.requires.at (ap cleared c.word.ensures) c.if-after-ne0.true (c.if-is_inside.ensures.0 refl)
+returns-then-is_inside g c =
+    rw c.number.ensures (next_number c.args.image.now c.args.heads.now c.args.numbers.now c.args.at (cleared c.word.result) c.requires.numbered c.requires.at (ap cleared c.word.ensures) c.if-after-ne0.true (c.if-is_inside.ensures.0 refl))
