@@ -35,6 +35,7 @@ whitening_begun all = record { more = λ ks b. b }
 -- what is past the end of members
 abbrev pub nothing : Named
 nothing = record {
+  key = 0;
   name = record { ref_ptr = (0, 0); now = [] };
   head = record { offset = 0; next = 0; kind = HardLink; exec = false; spec = 0; size = 0; name_at = 0; name_len = 0 };
 }

@@ -3,6 +3,7 @@ pub mod Listed
 pub mod Plain
 pub mod Stepping
 pub mod Joining
+pub mod Keyed
 pub mod ByName
 pub mod Layered
 pub mod Building

@@ -1,17 +1,20 @@
 //! The members of a directory in the order of their names.
 
-ghost use Rattle.std.specs.Prelude.{◌≡◌, ◌++◌, map, IfOk, All, MatchOption, nat_eq};
+ghost use Rattle.std.specs.Prelude.{◌≡◌, ◌∷◌, ◌++◌, map, IfOk, All, MatchOption, nat_eq};
 ghost use Rattle.std.specs.List.{starts_with};
 ghost use Rattle.std.specs.List.Sorted.{IsPermutation};
 ghost use Rattle.romfs_format.specs.Heads.{name_of};
 ghost use Rattle.romfs_image.specs.Images.{IsImage};
 ghost use Rattle.romfs_image.specs.Readers.{IsGiven};
 ghost use Rattle.stack_model.specs.Stack.{marker, IsMarker};
-ghost use Rattle.layer_tree.specs.Members.{AreNamed, IsByName};
+ghost use Rattle.name_keys.specs.Keys.{key, AreBytes};
+ghost use Rattle.path_tree.specs.Rows.{name_cmp};
+ghost use Rattle.layer_tree.specs.Members.{AreNamed, IsKeyed, IsByName};
 ghost use Rattle.layer_tree.specs.Reading.{AreByName};
 
 use romfs_image::{Head, Image, Kind, Members};
 use std::alloc::{AllocError, Allocator};
+use std::cmp::Ordering;
 
 /// The names of markers begin with this.
 const MARKER: &[u8; 4] = b".wh.";
@@ -19,6 +22,8 @@ const MARKER: &[u8; 4] = b".wh.";
 /// A member with its name.
 #[derive(Clone, Copy)]
 pub(crate) struct Named<'a> {
+    /// The name's first eight bytes as a number, so that two names are mostly told apart without a look at them.
+    pub key: u64,
     pub name: &'a [u8],
     pub head: Head,
 }
@@ -51,17 +56,37 @@ fn named_members<'a, A: Allocator + Copy>(
     let mut named = Vec::new(alloc);
     for head in members {
         let name = image.name(&head);
-        named.push(Named { name, head })?;
+        let key = key_of(name);
+        named.push(Named { key, name, head })?;
     }
     Ok(named)
 }
 
 /// Sorts members by name, byte by byte.
 fn sort_by_name<A: Allocator>(members: &mut Vec<Named<'_>, A>)
+    requires { All IsKeyed members.old.items }
     ensures same { IsPermutation members.old.items members.new.items }
     ensures sorted { IsByName members.new.items }
 {
-    members.sort_unstable_by(|x, y| x.name.cmp(y.name));
+    members.sort_unstable_by(|x, y| order(x, y));
+}
+
+/// How members stand by their keys, and by their names where these are equal.
+fn order(x: &Named<'_>, y: &Named<'_>) -> Ordering
+    ensures { result ≡ name_cmp (x.now.key ∷ x.now.name.now) (y.now.key ∷ y.now.name.now) }
+{
+    match x.key.cmp(&y.key) {
+        Ordering::Equal => x.name.cmp(y.name),
+        other => other,
+    }
+}
+
+/// The key of a name: its first eight bytes as a number.
+fn key_of(name: &[u8]) -> u64
+    ensures value { result ≡ key 8 name.now }
+    ensures bytes { AreBytes name.now }
+{
+    name_keys::key_of(name)
 }
 
 /// Whether a name is a marker's.

@@ -17,7 +17,7 @@ ghost use Rattle.layer_tree.specs.Reading.{IsAtDepth, IsEntryIn, AreByName, AreB
 use crate::members::{Named, is_marker, sorted_members, whiteout_of};
 use crate::place::{Entry, Mark, Place};
 use crate::tree::{Child, Tree};
-use path_tree::{Branch, child, merge};
+use path_tree::{Branch, Name, child, merge};
 use romfs_image::{Ends, Head, Image, Kind};
 use std::alloc::{AllocError, Allocator};
 
@@ -82,12 +82,14 @@ fn branches_of<A: Allocator + Copy>(
     ensures made { IfOk result (λ made. AreBranchesOf image.now layer head.offset name.now made.0 made.1) }
     ensures ends { ends.new ≡ image.now }
 {
-    if head.kind != Kind::Directory {
-        return file(alloc, image, ends, layer, name, &head);
+    match head.kind {
+        Kind::Directory => {
+            let members = sorted_members(alloc, image, &head)?;
+            let below = branches_below(alloc, image, ends, layer, &members, left)?;
+            folder(alloc, image, layer, name, &head, &members, below)
+        }
+        _ => file(alloc, image, ends, layer, name, &head),
     }
-    let members = sorted_members(alloc, image, &head)?;
-    let below = branches_below(alloc, image, ends, layer, &members, left)?;
-    folder(alloc, image, layer, name, &head, &members, below)
 }
 
 /// The branches of members that are no markers, in the same order.
@@ -106,8 +108,8 @@ fn branches_below<A: Allocator + Copy>(
     ensures built { IfOk result (λ made. AreBuilt image.now layer members.now made.entries.items made.marks.items) }
     ensures ends { ends.new ≡ image.now }
 {
-    let mut entries = Vec::new(alloc);
-    let mut marks = Vec::new(alloc);
+    let mut entries = Vec::with_capacity(alloc, members.len())?;
+    let mut marks = Vec::with_capacity(alloc, members.len())?;
     for member in members {
         if is_marker(member.name) {
             continue;
@@ -161,8 +163,8 @@ fn file<A: Allocator + Copy>(
 {
     let end = ends.target(head)?;
     let entry = entry_at(layer, &end);
-    let entry_name = copied(alloc, name)?;
-    let mark_name = copied(alloc, name)?;
+    let entry_name = Name::of(alloc, name)?;
+    let mark_name = Name::of(alloc, name)?;
     Ok((leaf(alloc, entry_name, entry), leaf(alloc, mark_name, CUT)))
 }
 
@@ -184,8 +186,8 @@ fn folder<A: Allocator + Copy>(
     ensures { IfOk result (λ made. AreBranchesOf image.now layer head.now.offset name.now made.0 made.1) }
 {
     let entry = entry_at(layer, head);
-    let entry_name = copied(alloc, name)?;
-    let mark_name = copied(alloc, name)?;
+    let entry_name = Name::of(alloc, name)?;
+    let mark_name = Name::of(alloc, name)?;
     let whiteouts = whiteouts_of(alloc, members)?;
     let opaque = has_opaque(&whiteouts);
     let marks = merge(alloc, below.marks, whiteouts)?;
@@ -214,22 +216,15 @@ fn whiteouts_of<A: Allocator + Copy>(
         let Some(name) = whiteout_of(member.name) else {
             continue;
         };
-        let name = copied(alloc, name)?;
+        let name = Name::of(alloc, name)?;
         marks.push(leaf(alloc, name, CUT))?;
     }
     Ok(marks)
 }
 
-/// A name of one's own.
-fn copied<A: Allocator>(alloc: A, name: &[u8]) -> Result<Vec<u8, A>, AllocError>
-    ensures { IfOk result (λ copy. copy.items ≡ name.now) }
-{
-    name.to_vec(alloc)
-}
-
 /// A branch with nothing below.
-fn leaf<T: Copy + Drop, A: Allocator>(alloc: A, name: Vec<u8, A>, value: T) -> Branch<T, A>
-    ensures { result ≡ record { name = name.items; value = value; below = [] } }
+fn leaf<T: Copy + Drop, A: Allocator>(alloc: A, name: Name<A>, value: T) -> Branch<T, A>
+    ensures { result ≡ record { name = name; value = value; below = [] } }
 {
     Branch::new(name, value, Vec::new(alloc))
 }

@@ -38,5 +38,6 @@ mod run;
 mod search;
 
 pub use adding::add_keys;
+pub use key::key_of;
 pub use named::Named;
 pub use search::find;

@@ -3,6 +3,7 @@
 ghost use Rattle.std.specs.Prelude.{◌≡◌, [], map, MatchOption, Some, None};
 ghost use Rattle.path_tree.specs.Rows.{spread, whole, name_cmp, named, NamesRise, IsForest, IsUnder};
 
+use crate::name::Name;
 use std::alloc::Allocator;
 use std::cmp::Ordering;
 use std::marker::Model;
@@ -10,7 +11,7 @@ use std::marker::Model;
 /// A value with a name, and the branches below it in the order of their names.
 #[derive(Drop)]
 pub struct Branch<T: Copy + Drop, A: Allocator> {
-    name: Vec<u8, A>,
+    name: Name<A>,
     value: T,
     children: Vec<Branch<T, A>, A>,
 }
@@ -21,7 +22,7 @@ impl<T: Copy + Drop, A: Allocator> Model for Branch<T, A> {
 
     ghost Value = { Shoot T };
 
-    ghost view = { λ b. record { name = b.name.items; value = b.value; below = spread b.children.items } };
+    ghost view = { λ b. record { name = b.name; value = b.value; below = spread b.children.items } };
 
     ghost invariant = { λ b. IsForest b.children.items };
 
@@ -32,9 +33,9 @@ impl<T: Copy + Drop, A: Allocator> Model for Branch<T, A> {
 
 impl<T: Copy + Drop, A: Allocator> Branch<T, A> {
     /// A branch of its parts.
-    pub fn new(name: Vec<u8, A>, value: T, children: Vec<Branch<T, A>, A>) -> Branch<T, A>
+    pub fn new(name: Name<A>, value: T, children: Vec<Branch<T, A>, A>) -> Branch<T, A>
         requires { IsForest children.items }
-        ensures { result ≡ record { name = name.items; value = value; below = spread children.items } }
+        ensures { result ≡ record { name = name; value = value; below = spread children.items } }
     {
         Branch {
             name,
@@ -44,8 +45,8 @@ impl<T: Copy + Drop, A: Allocator> Branch<T, A> {
     }
 
     /// The branch's name, value and children.
-    pub fn into_parts(self) -> (Vec<u8, A>, T, Vec<Branch<T, A>, A>)
-        ensures name { result.0.items ≡ self.name }
+    pub fn into_parts(self) -> (Name<A>, T, Vec<Branch<T, A>, A>)
+        ensures name { result.0 ≡ self.name }
         ensures value { result.1 ≡ self.value }
         ensures below { self.below ≡ spread result.2.items }
         ensures forest { IsForest result.2.items }

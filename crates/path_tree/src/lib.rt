@@ -4,11 +4,14 @@
 //! rows: the value at each path below it, in the order of paths (`specs/Rows.antt`). So what a function does to a
 //! tree is said by what each path has afterwards.
 //!
-//! A name is found by halves. No recursion goes deeper than the tree.
+//! A [`Name`] of at most 23 bytes stands in its branch, and a longer one in an allocation. A name is found by halves.
+//! No recursion goes deeper than the tree.
 #![tactic(auto)]
 
 mod branch;
 mod laying;
+mod name;
 
 pub use branch::{Branch, child};
 pub use laying::{Lay, cover, merge};
+pub use name::Name;

@@ -1,4 +1,5 @@
-use Rattle.std.proofs.Common.{rules, ◌≡◌, arith, length}
+use Rattle.std.proofs.Common.{rules, ◌≡◌, arith, length, sym}
+use Rattle.std.proofs.lemmas.Bool.{eqb-true}
 use Rattle.std.proofs.lemmas.List.{reverse-reverse}
 use Rattle.path_tree.proofs.Merging.{empty}
 use Rattle.layer_tree.proofs.Stepping.{no_marks, keeping_begun, keeping_ended, untouched, left_out, kept_one, below_measure, all_cut, inside}
@@ -6,7 +7,7 @@ use Rattle.layer_tree.proofs.laying.+keeping.Goals as goal
 
 pub kept_below-returns-then-is_empty : goal.kept_below-returns-then-is_empty
 kept_below-returns-then-is_empty g t c =
-    let e : length c.args.marks.now ≡ 0 = search rules in
+    let e : length c.args.marks.now ≡ 0 = eqb-true _ _ (sym c.if-is_empty.ensures) in
     rw (empty c.args.marks.now e) (no_marks c.args.lows.items c.requires.lows)
 
 pub kept_below-loop-low-init : goal.kept_below-loop-low-init

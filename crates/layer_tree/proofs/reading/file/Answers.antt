@@ -8,8 +8,8 @@ use Rattle.layer_tree.proofs.reading.file.Goals as goal
 
 pub returns : goal.returns
 returns g c =
-    let e : c.in_ok-entry_name.entry_name.items ≡ c.args.name.now = c.in_ok-entry_name.ensures in
-    let f : c.in_ok-mark_name.mark_name.items ≡ c.args.name.now = c.in_ok-mark_name.ensures in
+    let e : c.in_ok-entry_name.entry_name ≡ c.args.name.now = c.in_ok-entry_name.ensures in
+    let f : c.in_ok-mark_name.mark_name ≡ c.args.name.now = c.in_ok-mark_name.ensures in
     let other : kind c.args.image.now c.args.head.now.offset ≢ Directory = λ k. c.requires.other (ap (λ (x : Head). x.kind) c.requires.given.is ∙ k) in
     let entry = entered c.args.image.now c.args.layer c.args.head.now.offset c.in_ok-end.end c.entry_at-entry.result (search rules) (search rules) c.entry_at-entry.ensures.layer c.entry_at-entry.ensures.header c.entry_at-entry.ensures.kind in
     record {

@@ -27,8 +27,8 @@ pub returns : goal.returns
 returns g c =
     let a = c.args.image.now in
     let h = c.args.head.now.offset in
-    let e : c.in_ok-entry_name.entry_name.items ≡ c.args.name.now = c.in_ok-entry_name.ensures in
-    let f : c.in_ok-mark_name.mark_name.items ≡ c.args.name.now = c.in_ok-mark_name.ensures in
+    let e : c.in_ok-entry_name.entry_name ≡ c.args.name.now = c.in_ok-entry_name.ensures in
+    let f : c.in_ok-mark_name.mark_name ≡ c.args.name.now = c.in_ok-mark_name.ensures in
     let directory : kind a h ≡ Directory = sym (ap (λ (x : Head). x.kind) c.requires.given.is) ∙ c.requires.directory in
     let held = opaque_is_held a c.requires.sound c.args.layer h c.args.members.now c.args.below.entries.items c.args.below.marks.items c.in_ok-whiteouts.whiteouts.items c.in_ok-marks.marks.items c.requires.members c.requires.below c.in_ok-whiteouts.ensures c.in_ok-marks.ensures in
     let is : c.has_opaque-opaque.result ≡ is_some (named rest_of_opaque c.in_ok-whiteouts.whiteouts.items) = c.has_opaque-opaque.ensures ∙ ap (λ ks. is_some (named rest_of_opaque ks)) c.deref.ensures.value in

@@ -1,0 +1,8 @@
+-- The bytes of a name, wherever they stand.
+use Rattle.std.specs.Prelude.{ℕ, List}
+use Rattle.path_tree.specs.declared.name.Bytes.{Bytes}
+use Rattle.path_tree.specs.declared.name.Bytes.TheVariants.{Here, There}
+
+abbrev pub bytes_of : {A : Type 0} → Bytes A → List ℕ
+bytes_of (Here short) = short
+bytes_of (There long) = long.items

@@ -1,0 +1,91 @@
+//! Names that need no allocation while they are short.
+
+ghost use Rattle.std.specs.Prelude.{◌≡◌, ◌≤◌, length, IfOk};
+
+use std::alloc::{AllocError, Allocator};
+use std::marker::Model;
+
+/// How many bytes stand in the value itself.
+const MOST: usize = 23;
+
+/// A name of at most 23 bytes.
+#[derive(Drop)]
+struct Short {
+    bytes: [u8; 23],
+    len: u8,
+}
+
+impl Model for Short {
+    ghost use Rattle.std.specs.Prelude.{◌≤◌, List, ℕ, take};
+
+    ghost Value = { List ℕ };
+
+    ghost view = { λ s. take s.len s.bytes };
+
+    ghost invariant = { λ s. s.len ≤ 23 };
+}
+
+impl Short {
+    fn of(name: &[u8]) -> Short
+        requires { length name.now ≤ 23 }
+        ensures { result ≡ name.now }
+    {
+        let mut bytes = [0; 23];
+        bytes[..name.len()].copy_from_slice(name);
+        Short {
+            bytes,
+            len: name.len() as u8,
+        }
+    }
+
+    fn as_slice(&self) -> &[u8]
+        ensures { result.now ≡ self.now }
+    {
+        &self.bytes[..self.len as usize]
+    }
+}
+
+#[derive(Drop)]
+enum Bytes<A: Allocator> {
+    Here(Short),
+    There(Vec<u8, A>),
+}
+
+/// A name of any length. It takes 32 bytes, and an allocation only where it has more than 23. A clause sees its bytes.
+#[derive(Drop)]
+pub struct Name<A: Allocator> {
+    bytes: Bytes<A>,
+}
+
+impl<A: Allocator> Model for Name<A> {
+    ghost use Rattle.std.specs.Prelude.{List, ℕ};
+    ghost use Rattle.path_tree.specs.Names.{bytes_of};
+
+    ghost Value = { List ℕ };
+
+    ghost view = { λ n. bytes_of n.bytes };
+}
+
+impl<A: Allocator> Name<A> {
+    /// A name of one's own. `AllocError` comes only where memory was refused for a name of more than 23 bytes.
+    pub fn of(alloc: A, name: &[u8]) -> Result<Name<A>, AllocError>
+        ensures { IfOk result (λ own. own ≡ name.now) }
+    {
+        let bytes = if name.len() <= MOST {
+            Bytes::Here(Short::of(name))
+        } else {
+            Bytes::There(name.to_vec(alloc)?)
+        };
+        Ok(Name { bytes })
+    }
+
+    /// The bytes of the name.
+    pub fn as_slice(&self) -> &[u8]
+        ensures { result.now ≡ self.now }
+    {
+        match &self.bytes {
+            Bytes::Here(short) => short.as_slice(),
+            Bytes::There(long) => long.as_slice(),
+        }
+    }
+}
