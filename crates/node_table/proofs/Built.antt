@@ -11,13 +11,16 @@ use Rattle.stack_model.specs.Attributes.{is_directory}
 use Rattle.path_tree.specs.Rows.{Shoot, whole, NamesRise, name_cmp, spread, IsForest}
 use Rattle.romfs_format.specs.declared.head.Head.{Head}
 use Rattle.romfs_format.specs.Heads.{head_of}
+use Rattle.romfs_image.specs.declared.parts.Part.{Part}
+use Rattle.romfs_image.specs.Readers.{IsDataPart}
+use Rattle.node_table.specs.declared.node.Node.{Node}
 use Rattle.layer_tree.specs.declared.place.Place.{Place}
 use Rattle.layer_tree.specs.declared.place.Entry.{Entry}
 use Rattle.name_keys.specs.Names.{Rise}
 use Rattle.name_keys.specs.Keyed.{AddsKeys}
 use Rattle.node_table.specs.Rows.{Line, names}
 use Rattle.node_table.specs.Walks.{Spot}
-use Rattle.node_table.specs.Building.{line_in, lines_in, directories, IsPosted, AreFollowing, AddsRows, AddsNode}
+use Rattle.node_table.specs.Building.{line_in, lines_in, directories, IsPosted, AreFollowing, AddsRows, IsReadFrom, AddsNode}
 use Rattle.node_table.proofs.Walking.{longer_front}
 
 pub not_directory : (k : Kind) → (k ≡ Directory → ⊥) → is_directory k ≡ false
@@ -118,12 +121,22 @@ lines_rise tell kind cs r = go (is_directory kind)
     go false = λ i j d l m. absurd (omega arith)
 
 -- the node of a branch
-module _ (layers : List (List ℕ)) (tell : Place → ℕ) (spot : Spot Entry) (paths : ℕ) (old new : List Line) (keys keys' : List ℕ) (v : Entry) (is : v ≡ spot.0.now.value) (image : List ℕ) (index : image ≡ get_or layers v.place.layer image) (head : Head) (headed : head ≡ head_of image v.place.header) (parent : ℕ) (parented : parent ≡ tell spot.1.place) (cs : List (Shoot Entry)) (below : spot.0.now.below ≡ spread cs) (forest : IsForest cs) (nlink start end shared : ℕ) (starts_at : start ≡ length old) (ends_at : end ≡ length new) (keyed : AddsKeys shared (names (lines_in tell v.kind cs)) keys keys') where
-  pub made : new ≡ old ++ lines_in tell v.kind cs → nlink ≡ cond (is_directory v.kind) (min (2 + directories cs) (2 ^ 32 - 1)) paths → AddsNode layers tell spot paths old new keys keys' (record { kind = v.kind; place = v.place; head = head; size = 0; mode = 0; nlink = nlink; rdev = 0; parent = parent; rows_start = start; rows_end = end; shared = shared })
+module _ (layers : List (List ℕ)) (tell : Place → ℕ) (spot : Spot Entry) (paths : ℕ) (old new : List Line) (keys keys' : List ℕ) (v : Entry) (is : v ≡ spot.0.now.value) (image : List ℕ) (index : image ≡ get_or layers v.place.layer image) (head : Head) (headed : head ≡ head_of image v.place.header) (part : Part) (lies : IsDataPart image head.offset part) (parent : ℕ) (parented : parent ≡ tell spot.1.place) (cs : List (Shoot Entry)) (below : spot.0.now.below ≡ spread cs) (forest : IsForest cs) (nlink start end shared : ℕ) (starts_at : start ≡ length old) (ends_at : end ≡ length new) (keyed : AddsKeys shared (names (lines_in tell v.kind cs)) keys keys') where
+  abbrev node : Node
+  node = record { kind = v.kind; place = v.place; exec = head.exec; part = part; mode = 0; nlink = nlink; rdev = head.spec; parent = parent; rows_start = start; rows_end = end; shared = shared }
+
+  read : IsReadFrom image v.place.header node
+  read = record {
+    data_is = subst (λ (x : Head). IsDataPart image x.offset part) headed lies;
+    exec_is = ap (λ (x : Head). x.exec) headed;
+    spec_is = ap (λ (x : Head). x.spec) headed;
+  }
+
+  pub made : new ≡ old ++ lines_in tell v.kind cs → nlink ≡ cond (is_directory v.kind) (min (2 + directories cs) (2 ^ 32 - 1)) paths → AddsNode layers tell spot paths old new keys keys' node
   made rows links = record {
     kind_is = ap (λ (e : Entry). e.kind) is;
     place_is = ap (λ (e : Entry). e.place) is;
-    head_is = λ a at. headed ∙ ap (λ x. head_of x v.place.header) (indexed layers v.place.layer a image at index);
+    read = λ a at. subst (λ x. IsReadFrom x v.place.header node) (indexed layers v.place.layer a image at index) read;
     parent_is = parented;
     start_is = starts_at;
     end_is = ends_at;

@@ -2,10 +2,10 @@
 use Rattle.std.proofs.Common.{◌≡◌, ◌∙◌, sym, ap, subst, ℕ, zero, suc, ◌+◌, ◌-◌, ◌^◌, ◌<◌, ◌≤◌, ◌⊎◌, inl, inr, List, [], ◌∷◌, ◌++◌, length, take, drop, get_or, map, refl, arith, length-append, Bool, true, false, cond, Some}
 use Rattle.std.specs.Prelude.{slice_get, slice_index, slice_range, min, count_by}
 use Rattle.std.specs.List.{slice_index_or}
-use Rattle.romfs_format.specs.declared.head.Head.{Head}
-use Rattle.romfs_format.specs.Heads.{head_of}
-use Rattle.romfs_format.specs.Fields.{exec, size, spec}
-use Rattle.romfs_image.specs.Readers.{IsGiven, data_of as data_in}
+use Rattle.romfs_format.specs.declared.head.Kind.{Kind}
+use Rattle.romfs_format.specs.declared.head.Kind.TheVariants.{HardLink, Directory, Regular, SymLink, Block, Character, Socket, Fifo}
+use Rattle.romfs_format.specs.Fields.{kind, exec, size, spec}
+use Rattle.romfs_image.specs.Readers.{data_size}
 use Rattle.stack_model.specs.Listing.{Entry as Listed}
 use Rattle.stack_model.specs.Numbers.{Place as ModelPlace, Child, place, same_place, nodes, children}
 use Rattle.stack_model.specs.Attributes.{is_directory, is_directory_at, kind_at, mode_of, mode, size_of, size_at, rdev_of, rdev, nlink, blocks_all}
@@ -18,7 +18,7 @@ use Rattle.node_table.specs.Rows.{Line, names}
 use Rattle.node_table.specs.Readers.{placed, rows_of}
 use Rattle.node_table.specs.Walks.{Spot}
 use Rattle.node_table.specs.Numbering.{place_of}
-use Rattle.node_table.specs.Building.{line_in, lines_in, directories, AddsNode, completed}
+use Rattle.node_table.specs.Building.{line_in, lines_in, directories, IsReadFrom, AddsNode, completed}
 use Rattle.node_table.specs.Seeds.{AreSeedlings, IsSeed, AreSeeds, AreMade}
 use Rattle.node_table.specs.Held.{IsNode, AreNodes, IsSomeTable}
 
@@ -91,6 +91,16 @@ range_last (x ∷ xs) ys = let z : suc (length (xs ++ ys)) - suc (length xs) ≡
 keyed_by : (shared : ℕ) (keys keys' : List ℕ) (rows rows' : List Line) → keys ≡ keys' → rows ≡ rows' → AreKeyed shared keys (names rows) → AreKeyed shared keys' (names rows')
 keyed_by shared keys keys' rows rows' k r a = subst (λ (x : List ℕ). AreKeyed shared x (names rows')) k (subst (λ (x : List Line). AreKeyed shared keys (names x)) r a)
 
+sizes_agree : (k : Kind) (n : ℕ) → data_size k n ≡ size_of k n
+sizes_agree HardLink n = refl
+sizes_agree Directory n = refl
+sizes_agree Regular n = refl
+sizes_agree SymLink n = refl
+sizes_agree Block n = refl
+sizes_agree Character n = refl
+sizes_agree Socket n = refl
+sizes_agree Fifo n = refl
+
 layer_is : (layers : List (List ℕ)) (k : ℕ) (image : List ℕ) → slice_get layers k ≡ Some image → slice_index_or layers k [] ≡ image
 layer_is [] k image e = absurd (cc)
 layer_is (x ∷ layers) zero image e = cc
@@ -102,7 +112,7 @@ grown layers entries rows more keys more_keys node p level n =
     let k = range_stays keys more_keys node.rows_start node.rows_end n.start (let e = n.end in omega arith) in
     record {
       place = n.place;
-      headed = n.headed;
+      holds = n.holds;
       kind = n.kind;
       size = n.size;
       mode_is = n.mode_is;
@@ -128,8 +138,8 @@ module _ (layers : List (List ℕ)) (entries : List Listed) (tell : Place → �
   here : slice_get layers node.place.layer ≡ Some seed.seat.image
   here = ap (λ (x : Place). slice_get layers x.layer) a.place_is ∙ seed.seat.is
 
-  head : node.head ≡ head_of seed.seat.image spot.0.now.value.place.header
-  head = a.head_is seed.seat.image here ∙ ap (λ (x : Place). head_of seed.seat.image x.header) a.place_is
+  read : IsReadFrom seed.seat.image spot.0.now.value.place.header node
+  read = subst (λ (x : Place). IsReadFrom seed.seat.image x.header node) a.place_is (a.read seed.seat.image here)
 
   layer : slice_index_or layers spot.0.now.value.place.layer [] ≡ seed.seat.image
   layer = layer_is layers spot.0.now.value.place.layer seed.seat.image seed.seat.is
@@ -140,14 +150,14 @@ module _ (layers : List (List ℕ)) (entries : List Listed) (tell : Place → �
   directory_is : is_directory node.kind ≡ is_directory_at layers (place_of spot)
   directory_is = ap is_directory kind_is
 
-  size_is : size_of node.kind node.head.size ≡ size_at layers (place_of spot)
-  size_is = ap (λ k. size_of k node.head.size) kind_is ∙ ap (λ (h : Head). size_of (kind_at layers (place_of spot)) h.size) head ∙ ap (λ x. size_of (kind_at layers (place_of spot)) (size x spot.0.now.value.place.header)) (sym layer)
+  size_is : node.part.len ≡ size_at layers (place_of spot)
+  size_is = read.data_is.size_is ∙ sizes_agree (kind seed.seat.image spot.0.now.value.place.header) _ ∙ ap (λ x. size_of (kind x spot.0.now.value.place.header) (size x spot.0.now.value.place.header)) (sym layer)
 
-  mode_is : mode_of node.kind node.head.exec ≡ mode layers (place_of spot)
-  mode_is = ap (λ k. mode_of k node.head.exec) kind_is ∙ ap (λ (h : Head). mode_of (kind_at layers (place_of spot)) h.exec) head ∙ ap (λ x. mode_of (kind_at layers (place_of spot)) (exec x spot.0.now.value.place.header)) (sym layer)
+  mode_is : mode_of node.kind node.exec ≡ mode layers (place_of spot)
+  mode_is = ap (λ k. mode_of k node.exec) kind_is ∙ ap (mode_of (kind_at layers (place_of spot))) read.exec_is ∙ ap (λ x. mode_of (kind_at layers (place_of spot)) (exec x spot.0.now.value.place.header)) (sym layer)
 
-  rdev_is : rdev_of node.kind node.head.spec ≡ rdev layers (place_of spot)
-  rdev_is = ap (λ k. rdev_of k node.head.spec) kind_is ∙ ap (λ (h : Head). rdev_of (kind_at layers (place_of spot)) h.spec) head ∙ ap (λ x. rdev_of (kind_at layers (place_of spot)) (spec x spot.0.now.value.place.header)) (sym layer)
+  rdev_is : rdev_of node.kind node.rdev ≡ rdev layers (place_of spot)
+  rdev_is = ap (λ k. rdev_of k node.rdev) kind_is ∙ ap (rdev_of (kind_at layers (place_of spot))) read.spec_is ∙ ap (λ x. rdev_of (kind_at layers (place_of spot)) (spec x spot.0.now.value.place.header)) (sym layer)
 
   below : AreSeedlings layers entries tell (place_of spot) a.children
   below = seed.below a.children a.below a.forest
@@ -188,11 +198,11 @@ module _ (layers : List (List ℕ)) (entries : List Listed) (tell : Place → �
   pub is_node : IsNode layers entries new keys' (completed node) (place_of spot)
   is_node = record {
     place = ap placed a.place_is;
-    headed = record {
+    holds = record {
       image = seed.seat.image;
       is = here;
-      given = subst (IsGiven seed.seat.image) (sym head) seed.seat.given;
-      data_is = ap (λ (h : Head). data_in seed.seat.image h.offset) head ∙ seed.data_is seed.seat.image seed.seat.is;
+      lies = read.data_is.lies;
+      data_is = read.data_is.bytes ∙ seed.data_is seed.seat.image seed.seat.is;
     };
     kind = kind_is;
     size = size_is;

@@ -1,9 +1,10 @@
 -- Nodes and rows made from branches with numbers.
 use Rattle.std.specs.Prelude.{◌≡◌, ℕ, ◌+◌, ◌-◌, ◌^◌, ◌<◌, ◌≤◌, List, [], ◌∷◌, ◌++◌, length, map, min, count_by, slice_get, slice_index, Some, ⊤, if◌then◌else◌}
 use Rattle.romfs_format.specs.declared.head.Kind.{Kind}
+use Rattle.romfs_format.specs.Fields.{exec, spec}
 use Rattle.romfs_format.specs.Heads.{head_of}
-use Rattle.romfs_image.specs.Readers.{IsGiven}
-use Rattle.stack_model.specs.Attributes.{is_directory, mode_of, rdev_of, size_of}
+use Rattle.romfs_image.specs.Readers.{IsGiven, IsDataPart}
+use Rattle.stack_model.specs.Attributes.{is_directory, mode_of, rdev_of}
 use Rattle.path_tree.specs.Rows.{Shoot, spread, whole, IsForest}
 use Rattle.layer_tree.specs.declared.place.Place.{Place}
 use Rattle.layer_tree.specs.declared.place.Entry.{Entry}
@@ -64,11 +65,17 @@ pub record IsSeat (layers : List (List ℕ)) (branch : Shoot Entry) : Type 0 whe
 abbrev pub lines_in : (Place → ℕ) → Kind → List (Shoot Entry) → List Line
 lines_in tell kind cs = if is_directory kind then map (line_in tell) cs else []
 
--- the node of a branch, without what its header says; a directory's rows are added at the end, and their keys
+-- the node holds what the header says of the kind's data, permissions and device, as it stands
+pub record IsReadFrom (image : List ℕ) (header : ℕ) (node : Node) : Type 0 where
+  pub data_is : IsDataPart image header node.part
+  pub exec_is : node.exec ≡ exec image header
+  pub spec_is : node.rdev ≡ spec image header
+
+-- the node of a branch, before it is completed; a directory's rows are added at the end, and their keys
 pub record AddsNode (layers : List (List ℕ)) (tell : Place → ℕ) (spot : Spot Entry) (paths : ℕ) (old new : List Line) (keys keys' : List ℕ) (node : Node) : Type 0 where
   pub kind_is : node.kind ≡ spot.0.now.value.kind
   pub place_is : node.place ≡ spot.0.now.value.place
-  pub head_is : (image : List ℕ) → slice_get layers node.place.layer ≡ Some image → node.head ≡ head_of image node.place.header
+  pub read : (image : List ℕ) → slice_get layers node.place.layer ≡ Some image → IsReadFrom image node.place.header node
   pub parent_is : node.parent ≡ tell spot.1.place
   pub start_is : node.rows_start ≡ length old
   pub end_is : node.rows_end ≡ length new
@@ -79,10 +86,9 @@ pub record AddsNode (layers : List (List ℕ)) (tell : Place → ℕ) (spot : Sp
   pub keys_are : AddsKeys node.shared (names (lines_in tell node.kind children)) keys keys'
   pub nlink_is : node.nlink ≡ (if is_directory node.kind then min (2 + directories children) (2 ^ 32 - 1) else paths)
 
--- the node with what its header says
+-- the node with what its kind makes of that
 abbrev pub completed : Node → Node
 completed node = record node {
-  size = size_of node.kind node.head.size;
-  mode = mode_of node.kind node.head.exec;
-  rdev = rdev_of node.kind node.head.spec;
+  mode = mode_of node.kind node.exec;
+  rdev = rdev_of node.kind node.rdev;
 }

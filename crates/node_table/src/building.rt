@@ -27,7 +27,8 @@ pub(crate) struct Parts<A: Allocator> {
 // The header of a place, which its image gives.
 fn header_in<A: Allocator>(image: &Image<A>, header: u32) -> Head
     requires { IsGiven image.now (head_of image.now header) }
-    ensures { result ≡ head_of image.now header }
+    ensures value { result ≡ head_of image.now header }
+    ensures given { IsGiven image.now result }
 {
     match image.head(header) {
         Some(head) => head,
@@ -85,6 +86,7 @@ pub(crate) fn add_node<A: Allocator + Copy>(
     let Entry { kind, place } = spot.0.value();
     let image = &images[place.layer as usize];
     let head = header_in(image, place.header);
+    let part = image.data_part(&head);
     let children = spot.0.children();
     let above = walk.above[start];
     let parent = numbers[above];
@@ -100,11 +102,11 @@ pub(crate) fn add_node<A: Allocator + Copy>(
     Ok(Node {
         kind,
         place,
-        head,
-        size: 0,
+        exec: head.exec,
+        part,
         mode: 0,
         nlink,
-        rdev: 0,
+        rdev: head.spec,
         parent,
         rows_start,
         rows_end: rows.len(),

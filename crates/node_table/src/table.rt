@@ -181,7 +181,7 @@ impl<A: Allocator> Table<A> {
         match node_at(&self.nodes, number) {
             Some(node) => {
                 let image = &self.images[node.place.layer as usize];
-                image.body(&node.head)
+                image.part(node.part)
             }
             None => &[],
         }

@@ -50,7 +50,7 @@ returns g c =
     let keyed = subst (λ (x : List Line). AddsKeys c.in_ok-shared.shared (names x) c.args.keys.now.items c.add_keys.new.keys.items) fresh c.in_ok-shared.ensures in
     let above = c.index-above.ensures ∙ get_or_default c.args.walk.now.above.items c.args.start c.index-above.result.now 0 c.requires.above.placed in
     let parented = ap (slice_index c.args.numbers.now) above ∙ c.requires.above.number_is in
-    made c.args.images.now tell c.args.spot.now c.args.paths old c.match-kind.rows.items c.args.keys.now.items c.add_keys.new.keys.items c.value-kind.result c.value-kind.ensures c.index-images-place.result c.index-images-place.is c.header_in-head.result c.header_in-head.ensures (slice_index c.args.numbers.now c.index-above.result.now) parented cs c.children-children.ensures.below c.children-children.ensures.forest c.match-kind.nlink c.len-rows_start.result c.len.result c.in_ok-shared.shared start end keyed added links
+    made c.args.images.now tell c.args.spot.now c.args.paths old c.match-kind.rows.items c.args.keys.now.items c.add_keys.new.keys.items c.value-kind.result c.value-kind.ensures c.index-images-place.result c.index-images-place.is c.header_in-head.result c.header_in-head.ensures.value c.data_part-part.result c.data_part-part.ensures (slice_index c.args.numbers.now c.index-above.result.now) parented cs c.children-children.ensures.below c.children-children.ensures.forest c.match-kind.nlink c.len-rows_start.result c.len.result c.in_ok-shared.shared start end keyed added links
 
 pub offset_bounds-deref-rows_start : goal.offset_bounds-deref-rows_start
 offset_bounds-deref-rows_start g c =
