@@ -1,19 +1,19 @@
 -- Places numbered one after another.
-use Rattle.std.proofs.Common.{◌≡◌, ◌≢◌, ◌∙◌, sym, ap, subst, ℕ, zero, suc, ◌+◌, ◌-◌, ◌^◌, ◌<◌, ◌≤◌, ◌⊎◌, inl, inr, List, [], ◌∷◌, ◌++◌, length, get_or, map, refl, arith, Bool, true, false, cond, Option, Some, None, IsSome, get_or-set_other, get_or-set_same, length-set}
+use Rattle.std.proofs.Common.{◌≡◌, ◌≢◌, ◌∙◌, sym, ap, subst, ℕ, zero, suc, ◌+◌, ◌-◌, ◌^◌, ◌<◌, ◌≤◌, ◌⊎◌, inl, inr, List, [], ◌∷◌, ◌++◌, length, take, get_or, map, refl, arith, Bool, true, false, cond, Option, Some, None, IsSome, get_or-set_other, get_or-set_same, length-set}
 use Rattle.std.specs.Prelude.{slice_get, slice_index, slice_set, fold, nat_eq, min, count_by}
 use Rattle.std.specs.List.{list_any, position_from}
-use Rattle.std.specs.Ordering.{nat_cmp, is_eq}
-use Rattle.std.proofs.lemmas.Bool.{eqb-true, eq-eqb, and_parts}
-use Rattle.std.proofs.lemmas.Bool.Decides.{nat_tests}
+use Rattle.std.proofs.lemmas.Bool.{cases_order, eqb-true, eq-eqb, and_parts}
+use Rattle.std.proofs.lemmas.List.Elements.{All-push}
 use Rattle.std.proofs.lemmas.List.Recursion.{is_count_by}
 use Rattle.stack_model.specs.Listing.{Entry as Listed, IsAmong}
 use Rattle.stack_model.specs.Numbers.{Place as ModelPlace, place, same_place, noted, nodes, number_of, node_of}
-use Rattle.stack_model.proofs.Numbering.{number_used, entries_numbered}
+use Rattle.stack_model.proofs.Numbering.{number_used, number_listed, entries_numbered}
 use Rattle.layer_tree.specs.declared.place.Place.{Place}
 use Rattle.layer_tree.specs.declared.place.Entry.{Entry}
 use Rattle.node_table.specs.Readers.{placed}
 use Rattle.node_table.specs.Walks.{Spot}
-use Rattle.node_table.specs.Numbering.{key, one_more, place_of, bare, seen, paths_of, IsFirst, IsNumbered}
+use Rattle.node_table.specs.Firsts.{IsFirstOf, AreFirsts}
+use Rattle.node_table.specs.Numbering.{key, key_of, one_more, place_of, bare, seen, paths_of, IsFirst, AreKeys, IsNumbered}
 
 pub same_itself : (p : ModelPlace) → same_place p p ≡ true
 same_itself p = rw (eq-eqb p.0 p.0 refl, eq-eqb p.1 p.1 refl) refl
@@ -157,6 +157,25 @@ seen_last spots i spot l e = let n : suc i ≡ i + 1 = omega arith in subst (λ 
     go (x ∷ spots) zero l e = ap (λ (y : Spot Entry). bare y ∷ []) (sym e)
     go (x ∷ spots) (suc i) l e = ap (λ r. bare x ∷ r) (go spots i (omega arith) e)
 
+taken_last : (spots : List (Spot Entry)) (i : ℕ) (spot : Spot Entry) → i < length spots → spot ≡ get_or spots i spot → take (i + 1) spots ≡ take i spots ++ spot ∷ []
+taken_last spots i spot l e = let n : suc i ≡ i + 1 = omega arith in subst (λ n. take n spots ≡ take i spots ++ spot ∷ []) n (go spots i l e)
+  where
+    go : (spots : List (Spot Entry)) (i : ℕ) → i < length spots → spot ≡ get_or spots i spot → take (suc i) spots ≡ take i spots ++ spot ∷ []
+    go [] i l e = absurd (omega arith)
+    go (x ∷ spots) zero l e = ap (λ y. y ∷ []) (sym e)
+    go (x ∷ spots) (suc i) l e = ap (λ r. x ∷ r) (go spots i (omega arith) e)
+
+-- one more key
+pub keys_more : (spots : List (Spot Entry)) (i : ℕ) (spot : Spot Entry) (keys keys' : List ℕ) (k : ℕ) → i < length spots → spot ≡ get_or spots i spot → AreKeys (take i spots) keys → k ≡ key_of spot → spot.0.now.value.place.header < 2 ^ 32 → keys' ≡ keys ++ k ∷ [] → AreKeys (take (i + 1) spots) keys'
+keys_more spots i spot keys keys' k l e a k_is small p = subst (λ x. AreKeys x keys') (sym (taken_last spots i spot l e)) (record {
+  are = p ∙ ap (λ x. x ++ k ∷ []) a.are ∙ ap (λ n. map key_of (take i spots) ++ n ∷ []) k_is ∙ sym (last (take i spots));
+  small = All-push (λ (s : Spot Entry). s.0.now.value.place.header < 2 ^ 32) (take i spots) spot a.small small;
+})
+  where
+    last : (xs : List (Spot Entry)) → map key_of (xs ++ spot ∷ []) ≡ map key_of xs ++ key_of spot ∷ []
+    last [] = refl
+    last (x ∷ xs) = ap (λ r. key_of x ∷ r) (last xs)
+
 spot_there : (spots : List (Spot Entry)) (i : ℕ) (spot : Spot Entry) → i < length spots → spot ≡ get_or spots i spot → slice_get spots i ≡ Some spot
 spot_there [] i spot l e = absurd (omega arith)
 spot_there (x ∷ spots) zero spot l e = ap Some (sym e)
@@ -203,29 +222,33 @@ key_tells q r l m e =
     let b : q.header ≡ r.header = omega arith in
     cc
 
-pub begins : (spots first : List (Spot Entry)) (paths : List ℕ) (get : ℕ → Option ℕ) → first ≡ [] → paths ≡ [] → ((k : ℕ) → get k ≡ None) → IsNumbered spots 0 first paths get
+pub begins : (spots first : List (Spot Entry)) (starts paths numbers : List ℕ) → first ≡ [] → starts ≡ [] → paths ≡ [] → numbers ≡ [] → IsNumbered spots 0 first starts paths numbers
 unfolding number_of nodes
-begins spots first paths get e f none = record {
-  known = λ q l. none (key q) ∙ nothing (placed q);
+begins spots first starts paths numbers e d f n = record {
   places = ap (map place_of) e ∙ empty;
-  level = ap length f ∙ sym (ap length e);
   each = λ k x g. absurd (let h = rw e at g in cc);
+  starts_level = ap length d ∙ sym (ap length e);
+  starts_are = λ k x g. absurd (let h = rw e at g in cc);
+  level = ap length f ∙ sym (ap length e);
   counted = λ k x g. absurd (let h = rw e at g in cc);
+  numbers_level = ap length n;
+  known = λ k x l. absurd (omega arith);
 }
   where
-    nothing : (q : ModelPlace) → None ≡ number_of [] q
-    nothing q = refl
-
     empty : [] ≡ nodes []
     empty = refl
 
-module _ (spots : List (Spot Entry)) (i : ℕ) (spot : Spot Entry) (first : List (Spot Entry)) (paths : List ℕ) (get get' : ℕ → Option ℕ) (lt : i < length spots) (here : spot ≡ get_or spots i spot) (inv : IsNumbered spots i first paths get) (small : spot.0.now.value.place.header < 2 ^ 32) where
-  D : List Listed
-  D = seen spots i
+length_more : {X : Type 0} (xs : List X) (x : X) → length (xs ++ x ∷ []) ≡ length xs + 1
+length_more [] x = omega arith
+length_more (y ∷ xs) x = omega (arith, length_more xs x)
 
-  p : ModelPlace
-  p = place_of spot
+below_or_at : (k i : ℕ) → k < i + 1 → (k < i) ⊎ (k ≡ i)
+below_or_at zero zero l = inr refl
+below_or_at zero (suc i) l = inl (omega arith)
+below_or_at (suc k) zero l = absurd (omega arith)
+below_or_at (suc k) (suc i) l = elim (below_or_at k i (omega arith)) [ inl m ↦ inl (omega arith) | inr m ↦ inr (ap suc m) ]
 
+module _ (spots : List (Spot Entry)) (i : ℕ) (spot : Spot Entry) (first : List (Spot Entry)) (starts paths numbers : List ℕ) (lt : i < length spots) (here : spot ≡ get_or spots i spot) (inv : IsNumbered spots i first starts paths numbers) where
   more : seen spots (i + 1) ≡ seen spots i ++ bare spot ∷ []
   more = seen_last spots i spot lt here
 
@@ -233,12 +256,9 @@ module _ (spots : List (Spot Entry)) (i : ℕ) (spot : Spot Entry) (first : List
   number_of_first : (k : ℕ) (x : Spot Entry) → slice_get first k ≡ Some x → number_of (seen spots i) (place_of x) ≡ Some (suc k)
   number_of_first k x e = (number_used (seen spots i) (suc k) (place_of x)).1 (subst (λ ps. slice_get ps k ≡ Some (place_of x)) inv.places (get_map first k x e))
 
-  pub number_positive : (n : ℕ) → get (key spot.0.now.value.place) ≡ Some n → (1 ≤ n) × (n - 1 < length paths)
-  number_positive zero e =
-      let f : number_of (seen spots i) (place_of spot) ≡ Some 0 = sym (inv.known spot.0.now.value.place small) ∙ e in
-      absurd (let z = (number_used (seen spots i) 0 (place_of spot)).0 f in cc)
-  number_positive (suc k) e =
-      let f : number_of (seen spots i) (place_of spot) ≡ Some (suc k) = sym (inv.known spot.0.now.value.place small) ∙ e in
+  pub number_positive : (n : ℕ) → number_of (seen spots i) (place_of spot) ≡ Some n → (1 ≤ n) × (n - 1 < length paths)
+  number_positive zero f = absurd (let z = (number_used (seen spots i) 0 (place_of spot)).0 f in cc)
+  number_positive (suc k) f =
       let z = (number_used (seen spots i) (suc k) (place_of spot)).0 f in
       let l = get_below (nodes (seen spots i)) k (place_of spot) z in
       let m = ap length inv.places in
@@ -253,18 +273,28 @@ module _ (spots : List (Spot Entry)) (i : ℕ) (spot : Spot Entry) (first : List
   held : (a b c d : ℕ) → d ≡ one_more c → c ≡ min a (2 ^ 32 - 1) → b ≡ a + 1 → d ≡ min b (2 ^ 32 - 1)
   held a b c d e f g = omega arith
 
-  pub was_known : (n : ℕ) (paths' : List ℕ) → get (key spot.0.now.value.place) ≡ Some n → paths' ≡ slice_set paths (n - 1) (one_more (slice_index paths (n - 1))) → IsNumbered spots (i + 1) first paths' get
-  was_known n paths' e s = record {
-    known = λ q l. inv.known q l ∙ number_by (seen spots i) (seen spots (i + 1)) (placed q) (sym same);
+  -- the numbers of the spots before this one, and its own
+  knows : (n : ℕ) → ((k : ℕ) (x : Spot Entry) → k < i → slice_get spots k ≡ Some x → number_of (seen spots (i + 1)) (place_of x) ≡ Some (slice_index numbers k)) → number_of (seen spots (i + 1)) (place_of spot) ≡ Some n → (k : ℕ) (x : Spot Entry) → slice_get spots k ≡ Some x → (k < i) ⊎ (k ≡ i) → number_of (seen spots (i + 1)) (place_of x) ≡ Some (slice_index (numbers ++ n ∷ []) k)
+  knows n before own k x e (inl l) = before k x l e ∙ ap Some (sym (index_last numbers n k (let v = inv.numbers_level in omega arith)))
+  knows n before own k x e (inr l) =
+      let z : Some spot ≡ Some x = sym (spot_there spots i spot lt here) ∙ ap (slice_get spots) (sym l) ∙ e in
+      let same : spot ≡ x = cc in
+      ap (λ (y : Spot Entry). number_of (seen spots (i + 1)) (place_of y)) (sym same) ∙ own
+      ∙ ap Some (sym (ap (slice_index (numbers ++ n ∷ [])) (l ∙ sym inv.numbers_level) ∙ index_end numbers n))
+
+  pub was_known : (n : ℕ) (paths' numbers' : List ℕ) → number_of (seen spots i) (place_of spot) ≡ Some n → paths' ≡ slice_set paths (n - 1) (one_more (slice_index paths (n - 1))) → numbers' ≡ numbers ++ n ∷ [] → IsNumbered spots (i + 1) first starts paths' numbers'
+  was_known n paths' numbers' k0 s m = record {
     places = inv.places ∙ sym same;
-    level = ap length s ∙ simp length-set inv.level;
     each = inv.each;
+    starts_level = inv.starts_level;
+    starts_are = inv.starts_are;
+    level = ap length s ∙ simp length-set inv.level;
     counted = counts;
+    numbers_level = ap length m ∙ length_more numbers n ∙ ap (λ k. k + 1) inv.numbers_level;
+    known = λ k x l e. subst (λ xs. number_of (seen spots (i + 1)) (place_of x) ≡ Some (slice_index xs k)) (sym m)
+        (knows n (λ k x l e. number_by (seen spots (i + 1)) (seen spots i) (place_of x) same ∙ inv.known k x l e) (number_by (seen spots (i + 1)) (seen spots i) (place_of spot) same ∙ k0) k x e (below_or_at k i l));
   }
     where
-      k0 : number_of (seen spots i) (place_of spot) ≡ Some n
-      k0 = sym (inv.known spot.0.now.value.place small) ∙ e
-
       same : nodes (seen spots (i + 1)) ≡ nodes (seen spots i)
       same = ap nodes more ∙ nodes_known (seen spots i) (bare spot) n k0
 
@@ -274,7 +304,7 @@ module _ (spots : List (Spot Entry)) (i : ℕ) (spot : Spot Entry) (first : List
             let z : Some (suc k) ≡ Some n = sym (number_of_first k x f) ∙ ap (number_of (seen spots i)) q ∙ k0 in
             let y : suc k ≡ n = cc in
             let j : n - 1 ≡ k = omega arith in
-            let b = number_positive n e in
+            let b = number_positive n k0 in
             let b1 = b.1 in
             let lt : k < length paths = omega arith in
             let set_is : paths' ≡ slice_set paths k (one_more (slice_index paths k)) = subst (λ m. paths' ≡ slice_set paths m (one_more (slice_index paths m))) j s in
@@ -288,7 +318,7 @@ module _ (spots : List (Spot Entry)) (i : ℕ) (spot : Spot Entry) (first : List
         where
           apart : (k : ℕ) (x : Spot Entry) → slice_get first k ≡ Some x → same_place (place_of x) (place_of spot) ≡ false → k ≢ n - 1
           apart k x f t q =
-              let b = (number_positive n e).0 in
+              let b = (number_positive n k0).0 in
               let y : suc k ≡ n = omega arith in
               let u = (number_used (seen spots i) n (place_of spot)).0 k0 in
               let v = (number_used (seen spots i) (suc k) (place_of x)).0 (number_of_first k x f) in
@@ -297,46 +327,42 @@ module _ (spots : List (Spot Entry)) (i : ℕ) (spot : Spot Entry) (first : List
               let r : same_place (place_of x) (place_of spot) ≡ true = ap (λ q. same_place q (place_of spot)) z ∙ same_itself (place_of spot) in
               cc
 
-  pub is_new : (n : ℕ) (first' : List (Spot Entry)) (paths' : List ℕ) → get (key spot.0.now.value.place) ≡ None → n ≡ length first + 1 → ((q : ℕ) → get' q ≡ cond (is_eq (nat_cmp (key spot.0.now.value.place) q)) (Some n) (get q)) → first' ≡ first ++ spot ∷ [] → paths' ≡ paths ++ 1 ∷ [] → IsNumbered spots (i + 1) first' paths' get'
-  is_new n first' paths' e l up m o = record {
-    known = λ q small_q. up (key q) ∙ ap (λ b. cond b (Some n) (get (key q))) (tie (key spot.0.now.value.place) (key q)) ∙ learnt q small_q (nat_eq (key spot.0.now.value.place) (key q)) refl;
+  pub is_new : (n : ℕ) (first' : List (Spot Entry)) (starts' paths' numbers' : List ℕ) → number_of (seen spots i) (place_of spot) ≡ None → n ≡ length first + 1 → first' ≡ first ++ spot ∷ [] → starts' ≡ starts ++ i ∷ [] → paths' ≡ paths ++ 1 ∷ [] → numbers' ≡ numbers ++ n ∷ [] → IsNumbered spots (i + 1) first' starts' paths' numbers'
+  is_new n first' starts' paths' numbers' k0 l m d o u = record {
     places = ap (map place_of) m ∙ map_more first spot ∙ ap (λ ps. ps ++ place_of spot ∷ []) inv.places ∙ sym grown;
-    level = ap length o ∙ ends paths 1 ∙ ap (λ k. k + 1) inv.level ∙ sym (ap length m ∙ ends first spot);
     each = λ k x f. elim (get_last first spot k x (subst (λ xs. slice_get xs k ≡ Some x) m f)) [
       | inl g ↦ inv.each k x g
       | inr (a, b) ↦ subst (IsFirst spots) b (record { at = i; is = spot_there spots i spot lt here; new = k0 })
     ];
+    starts_level = ap length d ∙ length_more starts i ∙ ap (λ k. k + 1) inv.starts_level ∙ sym (ap length m ∙ length_more first spot);
+    starts_are = λ k x f. subst (λ xs. slice_get spots (slice_index xs k) ≡ Some x) (sym d) (starting k x (get_last first spot k x (subst (λ xs. slice_get xs k ≡ Some x) m f)));
+    level = ap length o ∙ length_more paths 1 ∙ ap (λ k. k + 1) inv.level ∙ sym (ap length m ∙ length_more first spot);
     counted = λ k x f. counts k x (get_last first spot k x (subst (λ xs. slice_get xs k ≡ Some x) m f));
+    numbers_level = ap length u ∙ length_more numbers n ∙ ap (λ k. k + 1) inv.numbers_level;
+    known = λ k x l e. subst (λ xs. number_of (seen spots (i + 1)) (place_of x) ≡ Some (slice_index xs k)) (sym u) (knows n before own k x e (below_or_at k i l));
   }
     where
-      tie : (a b : ℕ) → is_eq (nat_cmp a b) ≡ nat_eq a b
-      tie a b = grind (arith, nat_tests)
-
-      ends : {X : Type 0} (xs : List X) (x : X) → length (xs ++ x ∷ []) ≡ length xs + 1
-      ends [] x = omega arith
-      ends (y ∷ xs) x = omega (arith, ends xs x)
-
-      k0 : number_of (seen spots i) (place_of spot) ≡ None
-      k0 = sym (inv.known spot.0.now.value.place small) ∙ e
-
       grown : nodes (seen spots (i + 1)) ≡ nodes (seen spots i) ++ place_of spot ∷ []
       grown = ap nodes more ∙ nodes_new (seen spots i) (bare spot) k0
 
       n_is : n ≡ length (nodes (seen spots i)) + 1
       n_is = l ∙ ap (λ k. k + 1) (sym (length_map first) ∙ ap length inv.places)
 
-      learnt : (q : Place) → q.header < 2 ^ 32 → (b : Bool) → nat_eq (key spot.0.now.value.place) (key q) ≡ b → cond b (Some n) (get (key q)) ≡ number_of (seen spots (i + 1)) (placed q)
-      learnt q small_q true f =
-          let g : placed spot.0.now.value.place ≡ placed q = key_tells spot.0.now.value.place q small small_q (eqb-true _ _ f) in
-          ap Some n_is ∙ sym (ap (λ es. number_of es (place_of spot)) more ∙ number_new (seen spots i) (bare spot) k0) ∙ ap (number_of (seen spots (i + 1))) g
-      learnt q small_q false f = elim (same_or_other (placed q) (place_of spot)) [
-        | inl x ↦ absurd (
-            let a : q.layer ≡ spot.0.now.value.place.layer = ap (λ (p : ModelPlace). p.0) x.0 in
-            let b : q.header ≡ spot.0.now.value.place.header = ap (λ (p : ModelPlace). p.1) x.0 in
-            let g : nat_eq (key spot.0.now.value.place) (key q) ≡ true = eq-eqb _ _ (omega arith) in
-            cc)
-        | inr t ↦ inv.known q small_q ∙ sym (ap (λ es. number_of es (placed q)) more ∙ number_other (seen spots i) (bare spot) (placed q) k0 t)
+      own : number_of (seen spots (i + 1)) (place_of spot) ≡ Some n
+      own = ap (λ es. number_of es (place_of spot)) more ∙ number_new (seen spots i) (bare spot) k0 ∙ ap Some (sym n_is)
+
+      before : (k : ℕ) (x : Spot Entry) → k < i → slice_get spots k ≡ Some x → number_of (seen spots (i + 1)) (place_of x) ≡ Some (slice_index numbers k)
+      before k x l e = elim (same_or_other (place_of x) (place_of spot)) [
+        | inl q ↦ absurd (let z : Some (slice_index numbers k) ≡ None = sym (inv.known k x l e) ∙ ap (number_of (seen spots i)) q.0 ∙ k0 in cc)
+        | inr t ↦ ap (λ es. number_of es (place_of x)) more ∙ number_other (seen spots i) (bare spot) (place_of x) k0 t ∙ inv.known k x l e
       ]
+
+      starting : (k : ℕ) (x : Spot Entry) → (slice_get first k ≡ Some x) ⊎ ((k ≡ length first) × (spot ≡ x)) → slice_get spots (slice_index (starts ++ i ∷ []) k) ≡ Some x
+      starting k x (inl f) =
+          let b = get_below first k x f in
+          let v = inv.starts_level in
+          ap (slice_get spots) (index_last starts i k (omega arith)) ∙ inv.starts_are k x f
+      starting k x (inr (a, b)) = ap (slice_get spots) (ap (slice_index (starts ++ i ∷ [])) (a ∙ sym inv.starts_level) ∙ index_end starts i) ∙ spot_there spots i spot lt here ∙ ap Some b
 
       counts : (k : ℕ) (x : Spot Entry) → (slice_get first k ≡ Some x) ⊎ ((k ≡ length first) × (spot ≡ x)) → slice_index paths' k ≡ min (paths_of (seen spots (i + 1)) (place_of x)) (2 ^ 32 - 1)
       counts k x (inl f) =
@@ -357,3 +383,90 @@ module _ (spots : List (Spot Entry)) (i : ℕ) (spot : Spot Entry) (first : List
           let j : k ≡ length paths = a ∙ sym inv.level in
           ap (λ xs. slice_index xs k) o ∙ ap (slice_index (paths ++ 1 ∷ [])) j ∙ index_end paths 1
           ∙ sym (ap (λ (y : Spot Entry). min (paths_of (seen spots (i + 1)) (place_of y)) (2 ^ 32 - 1)) (sym b) ∙ ap (λ c. min c (2 ^ 32 - 1)) one)
+
+-- what is among the first spots
+among_seen : (spots : List (Spot Entry)) (i : ℕ) (e : Listed) → IsAmong e (map bare (take i spots)) → (j : ℕ) × (s : Spot Entry) × (j < i) × (slice_get spots j ≡ Some s) × (e ≡ bare s)
+among_seen [] zero e a = absurd a
+among_seen [] (suc i) e a = absurd a
+among_seen (x ∷ spots) zero e a = absurd a
+among_seen (x ∷ spots) (suc i) e (inl q) = (0, x, omega arith, refl, q)
+among_seen (x ∷ spots) (suc i) e (inr a) = let m = among_seen spots i e a in (suc m.0, m.1, (let l = m.2 in omega arith), m.3, m.4)
+
+spot_below : (spots : List (Spot Entry)) (k : ℕ) → k < length spots → (s : Spot Entry) × (slice_get spots k ≡ Some s)
+spot_below [] k l = absurd (omega arith)
+spot_below (x ∷ spots) zero l = (x, refl)
+spot_below (x ∷ spots) (suc k) l = spot_below spots k (omega arith)
+
+key_at : (spots : List (Spot Entry)) (k : ℕ) (s : Spot Entry) → slice_get spots k ≡ Some s → slice_index (map key_of spots) k ≡ key_of s
+key_at [] k s e = absurd (cc)
+key_at (x ∷ spots) zero s e = let f : x ≡ s = cc in ap (λ (y : Spot Entry). key_of y) f
+key_at (x ∷ spots) (suc k) s e = key_at spots k s e
+
+keys_length : (spots : List (Spot Entry)) → length (map key_of spots) ≡ length spots
+keys_length [] = refl
+keys_length (x ∷ spots) = ap suc (keys_length spots)
+
+get_or_is : {X : Type 0} (xs : List X) (k : ℕ) (x d : X) → slice_get xs k ≡ Some x → get_or xs k d ≡ x
+get_or_is [] k x d e = absurd (cc)
+get_or_is (y ∷ xs) zero x d e = cc
+get_or_is (y ∷ xs) (suc k) x d e = get_or_is xs k x d e
+
+module _ (spots : List (Spot Entry)) (keys firsts : List ℕ) (are : AreKeys spots keys) (f : AreFirsts keys firsts) where
+  pub keys_level : length keys ≡ length spots
+  keys_level = ap length are.are ∙ keys_length spots
+
+  key_is : (k : ℕ) (s : Spot Entry) → slice_get spots k ≡ Some s → slice_index keys k ≡ key_of s
+  key_is k s e = ap (λ xs. slice_index xs k) are.are ∙ key_at spots k s e
+
+  small : (k : ℕ) (s : Spot Entry) → slice_get spots k ≡ Some s → s.0.now.value.place.header < 2 ^ 32
+  small k s e = subst (λ (x : Spot Entry). x.0.now.value.place.header < 2 ^ 32) (get_or_is spots k s s e) (are.small k s (get_below spots k s e))
+
+  -- spots with one key have one place
+  one_place : (j k : ℕ) (s t : Spot Entry) → slice_get spots j ≡ Some s → slice_get spots k ≡ Some t → slice_index keys j ≡ slice_index keys k → place_of s ≡ place_of t
+  one_place j k s t d e q = key_tells s.0.now.value.place t.0.now.value.place (small j s d) (small k t e) (sym (key_is j s d) ∙ q ∙ key_is k t e)
+
+  module _ (i : ℕ) (spot : Spot Entry) (lt : i < length spots) (here : spot ≡ get_or spots i spot) where
+    told : IsFirstOf keys (slice_index keys i) (slice_index firsts i)
+    told = f.each i (let level = keys_level in omega arith)
+
+    pub first_within : slice_index firsts i < length spots
+    first_within = let w = told.within in let level = keys_level in omega arith
+
+    not_after : i < slice_index firsts i → ⊥
+    not_after l = told.before i l refl
+
+    -- a place that stands before has a number
+    pub has_number : (first : List (Spot Entry)) (starts paths numbers : List ℕ) → IsNumbered spots i first starts paths numbers → slice_index firsts i ≢ i → (slice_index firsts i < i) × (number_of (seen spots i) (place_of spot) ≡ Some (slice_index numbers (slice_index firsts i)))
+    has_number first starts paths numbers inv ne =
+        let x = spot_below spots (slice_index firsts i) first_within in
+        let same = one_place (slice_index firsts i) i x.0 spot x.1 (spot_there spots i spot lt here) told.at in
+        (before, sym (ap (number_of (seen spots i)) same) ∙ inv.known (slice_index firsts i) x.0 before x.1)
+      where
+        before : slice_index firsts i < i
+        before = elim (cases_order (slice_index firsts i) i) [
+          | inl q ↦ absurd (ne q)
+          | inr (inl q) ↦ q
+          | inr (inr q) ↦ absurd (not_after q)
+        ]
+
+    -- one that does not has none
+    pub has_none : slice_index firsts i ≡ i → number_of (seen spots i) (place_of spot) ≡ None
+    has_none same = test (number_of (seen spots i) (place_of spot)) refl
+      where
+        test : (o : Option ℕ) → number_of (seen spots i) (place_of spot) ≡ o → o ≡ None
+        test None e = refl
+        test (Some n) e = absurd (
+            let a = number_listed (seen spots i) n (place_of spot) ((number_used (seen spots i) n (place_of spot)).0 e) in
+            let b = among_seen spots i a.0 a.1 in
+            let p : place_of b.1 ≡ place_of spot = ap place (sym b.4) ∙ a.2 in
+            let layers = ap (λ (q : ModelPlace). q.0) p in
+            let headers = ap (λ (q : ModelPlace). q.1) p in
+            let k : key_of b.1 ≡ key_of spot = omega arith in
+            told.before b.0 (let l = b.2 in omega arith) (key_is b.0 b.1 b.3 ∙ k ∙ sym (key_is i spot (spot_there spots i spot lt here))))
+
+    -- as the code finds it
+    pub known_before : (first : List (Spot Entry)) (starts paths numbers : List ℕ) → IsNumbered spots i first starts paths numbers → (before n : ℕ) → before ≡ slice_index firsts i → n ≡ slice_index numbers before → before ≢ i → number_of (seen spots i) (place_of spot) ≡ Some n
+    known_before first starts paths numbers inv before n b m ne = (has_number first starts paths numbers inv (λ e. ne (b ∙ e))).1 ∙ ap Some (sym (m ∙ ap (slice_index numbers) b))
+
+    pub is_before : (first : List (Spot Entry)) (starts paths numbers : List ℕ) → IsNumbered spots i first starts paths numbers → (before : ℕ) → before ≡ slice_index firsts i → before ≢ i → before < i
+    is_before first starts paths numbers inv before b ne = let l = (has_number first starts paths numbers inv (λ e. ne (b ∙ e))).0 in omega arith

@@ -2,9 +2,11 @@ pub mod Names
 pub mod Nodes
 pub mod Paths
 pub mod Walking
+pub mod Seating
 pub mod Counting
 pub mod Built
 pub mod Seeded
+pub mod Sizes
 pub mod Shown
 pub mod Planted
 pub mod Completed

@@ -1,11 +1,11 @@
 -- Nodes and rows made one after another are those of a table.
-use Rattle.std.proofs.Common.{◌≡◌, ◌∙◌, sym, ap, subst, ℕ, zero, suc, ◌+◌, ◌-◌, ◌^◌, ◌<◌, ◌≤◌, ◌⊎◌, inl, inr, List, [], ◌∷◌, ◌++◌, length, take, drop, get_or, map, refl, arith, length-append, Bool, true, false, cond, Option, Some}
+use Rattle.std.proofs.Common.{◌≡◌, ◌∙◌, sym, ap, subst, ℕ, zero, suc, ◌+◌, ◌-◌, ◌^◌, ◌<◌, ◌≤◌, ◌⊎◌, inl, inr, List, [], ◌∷◌, ◌++◌, length, take, drop, get_or, map, refl, arith, length-append, Bool, true, false, cond, Some}
 use Rattle.std.specs.Prelude.{slice_get, slice_index, slice_range, min, count_by}
 use Rattle.std.specs.List.{slice_index_or}
-use Rattle.romfs_format.specs.declared.head.Head.{Head}
-use Rattle.romfs_format.specs.Heads.{head_of}
-use Rattle.romfs_format.specs.Fields.{exec, size, spec}
-use Rattle.romfs_image.specs.Readers.{IsGiven, data_of as data_in}
+use Rattle.romfs_format.specs.declared.head.Kind.{Kind}
+use Rattle.romfs_format.specs.declared.head.Kind.TheVariants.{HardLink, Directory, Regular, SymLink, Block, Character, Socket, Fifo}
+use Rattle.romfs_format.specs.Fields.{kind, exec, size, spec}
+use Rattle.romfs_image.specs.Readers.{data_size}
 use Rattle.stack_model.specs.Listing.{Entry as Listed}
 use Rattle.stack_model.specs.Numbers.{Place as ModelPlace, Child, place, same_place, nodes, children}
 use Rattle.stack_model.specs.Attributes.{is_directory, is_directory_at, kind_at, mode_of, mode, size_of, size_at, rdev_of, rdev, nlink, blocks_all}
@@ -18,7 +18,7 @@ use Rattle.node_table.specs.Rows.{Line, names}
 use Rattle.node_table.specs.Readers.{placed, rows_of}
 use Rattle.node_table.specs.Walks.{Spot}
 use Rattle.node_table.specs.Numbering.{place_of}
-use Rattle.node_table.specs.Building.{line_in, lines_in, directories, AddsNode, completed}
+use Rattle.node_table.specs.Building.{line_in, lines_in, directories, IsReadFrom, AddsNode, completed}
 use Rattle.node_table.specs.Seeds.{AreSeedlings, IsSeed, AreSeeds, AreMade}
 use Rattle.node_table.specs.Held.{IsNode, AreNodes, IsSomeTable}
 
@@ -91,6 +91,16 @@ range_last (x ∷ xs) ys = let z : suc (length (xs ++ ys)) - suc (length xs) ≡
 keyed_by : (shared : ℕ) (keys keys' : List ℕ) (rows rows' : List Line) → keys ≡ keys' → rows ≡ rows' → AreKeyed shared keys (names rows) → AreKeyed shared keys' (names rows')
 keyed_by shared keys keys' rows rows' k r a = subst (λ (x : List ℕ). AreKeyed shared x (names rows')) k (subst (λ (x : List Line). AreKeyed shared keys (names x)) r a)
 
+sizes_agree : (k : Kind) (n : ℕ) → data_size k n ≡ size_of k n
+sizes_agree HardLink n = refl
+sizes_agree Directory n = refl
+sizes_agree Regular n = refl
+sizes_agree SymLink n = refl
+sizes_agree Block n = refl
+sizes_agree Character n = refl
+sizes_agree Socket n = refl
+sizes_agree Fifo n = refl
+
 layer_is : (layers : List (List ℕ)) (k : ℕ) (image : List ℕ) → slice_get layers k ≡ Some image → slice_index_or layers k [] ≡ image
 layer_is [] k image e = absurd (cc)
 layer_is (x ∷ layers) zero image e = cc
@@ -102,7 +112,7 @@ grown layers entries rows more keys more_keys node p level n =
     let k = range_stays keys more_keys node.rows_start node.rows_end n.start (let e = n.end in omega arith) in
     record {
       place = n.place;
-      headed = n.headed;
+      holds = n.holds;
       kind = n.kind;
       size = n.size;
       mode_is = n.mode_is;
@@ -115,7 +125,7 @@ grown layers entries rows more keys more_keys node p level n =
       keyed = keyed_by node.shared _ _ _ _ (sym k) (sym r) n.keyed;
     }
 
-module _ (layers : List (List ℕ)) (entries : List Listed) (get : ℕ → Option ℕ) (paths : ℕ) (spot : Spot Entry) (seed : IsSeed layers entries get paths spot) (old new : List Line) (keys keys' : List ℕ) (level : length keys ≡ length old) (node : Node) (a : AddsNode layers get spot paths old new keys keys' node) where
+module _ (layers : List (List ℕ)) (entries : List Listed) (tell : Place → ℕ) (paths : ℕ) (spot : Spot Entry) (seed : IsSeed layers entries tell paths spot) (old new : List Line) (keys keys' : List ℕ) (level : length keys ≡ length old) (node : Node) (a : AddsNode layers tell spot paths old new keys keys' node) where
   p : ModelPlace
   p = place_of spot
 
@@ -128,8 +138,8 @@ module _ (layers : List (List ℕ)) (entries : List Listed) (get : ℕ → Optio
   here : slice_get layers node.place.layer ≡ Some seed.seat.image
   here = ap (λ (x : Place). slice_get layers x.layer) a.place_is ∙ seed.seat.is
 
-  head : node.head ≡ head_of seed.seat.image spot.0.now.value.place.header
-  head = a.head_is seed.seat.image here ∙ ap (λ (x : Place). head_of seed.seat.image x.header) a.place_is
+  read : IsReadFrom seed.seat.image spot.0.now.value.place.header node
+  read = subst (λ (x : Place). IsReadFrom seed.seat.image x.header node) a.place_is (a.read seed.seat.image here)
 
   layer : slice_index_or layers spot.0.now.value.place.layer [] ≡ seed.seat.image
   layer = layer_is layers spot.0.now.value.place.layer seed.seat.image seed.seat.is
@@ -140,16 +150,16 @@ module _ (layers : List (List ℕ)) (entries : List Listed) (get : ℕ → Optio
   directory_is : is_directory node.kind ≡ is_directory_at layers (place_of spot)
   directory_is = ap is_directory kind_is
 
-  size_is : size_of node.kind node.head.size ≡ size_at layers (place_of spot)
-  size_is = ap (λ k. size_of k node.head.size) kind_is ∙ ap (λ (h : Head). size_of (kind_at layers (place_of spot)) h.size) head ∙ ap (λ x. size_of (kind_at layers (place_of spot)) (size x spot.0.now.value.place.header)) (sym layer)
+  size_is : node.part.len ≡ size_at layers (place_of spot)
+  size_is = read.data_is.size_is ∙ sizes_agree (kind seed.seat.image spot.0.now.value.place.header) _ ∙ ap (λ x. size_of (kind x spot.0.now.value.place.header) (size x spot.0.now.value.place.header)) (sym layer)
 
-  mode_is : mode_of node.kind node.head.exec ≡ mode layers (place_of spot)
-  mode_is = ap (λ k. mode_of k node.head.exec) kind_is ∙ ap (λ (h : Head). mode_of (kind_at layers (place_of spot)) h.exec) head ∙ ap (λ x. mode_of (kind_at layers (place_of spot)) (exec x spot.0.now.value.place.header)) (sym layer)
+  mode_is : mode_of node.kind node.exec ≡ mode layers (place_of spot)
+  mode_is = ap (λ k. mode_of k node.exec) kind_is ∙ ap (mode_of (kind_at layers (place_of spot))) read.exec_is ∙ ap (λ x. mode_of (kind_at layers (place_of spot)) (exec x spot.0.now.value.place.header)) (sym layer)
 
-  rdev_is : rdev_of node.kind node.head.spec ≡ rdev layers (place_of spot)
-  rdev_is = ap (λ k. rdev_of k node.head.spec) kind_is ∙ ap (λ (h : Head). rdev_of (kind_at layers (place_of spot)) h.spec) head ∙ ap (λ x. rdev_of (kind_at layers (place_of spot)) (spec x spot.0.now.value.place.header)) (sym layer)
+  rdev_is : rdev_of node.kind node.rdev ≡ rdev layers (place_of spot)
+  rdev_is = ap (λ k. rdev_of k node.rdev) kind_is ∙ ap (rdev_of (kind_at layers (place_of spot))) read.spec_is ∙ ap (λ x. rdev_of (kind_at layers (place_of spot)) (spec x spot.0.now.value.place.header)) (sym layer)
 
-  below : AreSeedlings layers entries get (place_of spot) a.children
+  below : AreSeedlings layers entries tell (place_of spot) a.children
   below = seed.below a.children a.below a.forest
 
   nlink_is : node.nlink ≡ nlink layers entries (place_of spot)
@@ -159,16 +169,16 @@ module _ (layers : List (List ℕ)) (entries : List Listed) (get : ℕ → Optio
       go true e = ap (λ n. min (2 + n) (2 ^ 32 - 1)) below.count_is ∙ sym (ap (λ b. min (cond b (2 + count_by (λ (c : Child). is_directory_at layers c.place) (children entries (place_of spot))) (count_by (λ (f : Listed). same_place (place_of spot) (place f)) entries)) (2 ^ 32 - 1)) e)
       go false e = seed.paths_are e
 
-  range_is : slice_range new node.rows_start node.rows_end ≡ lines_in get node.kind a.children
+  range_is : slice_range new node.rows_start node.rows_end ≡ lines_in tell node.kind a.children
   range_is =
       ap (λ n. slice_range new n node.rows_end) a.start_is ∙ ap (slice_range new (length old)) a.end_is
       ∙ ap (λ xs. slice_range xs (length old) (length xs)) a.rows_are
-      ∙ range_last old (lines_in get node.kind a.children)
+      ∙ range_last old (lines_in tell node.kind a.children)
 
   -- a key was added for each row
   pub level_still : length keys' ≡ length new
   level_still =
-      let lines = lines_in get node.kind a.children in
+      let lines = lines_in tell node.kind a.children in
       let k = ap length a.keys_are.is in
       let m = ap length a.keys_are.keyed.made in
       let n = length_map (λ (name : List ℕ). key 8 (drop node.shared name)) (names lines) in
@@ -182,17 +192,17 @@ module _ (layers : List (List ℕ)) (entries : List Listed) (get : ℕ → Optio
       ∙ ap (λ xs. slice_range xs (length keys) (length xs)) a.keys_are.is
       ∙ range_last keys a.keys_are.keys
 
-  rows_are : lines_in get node.kind a.children ≡ rows_of layers entries (place_of spot)
-  rows_are = ap (λ b. cond b (map (line_in get) a.children) []) directory_is ∙ ap (λ r. cond (is_directory_at layers (place_of spot)) r []) below.rows_are
+  rows_are : lines_in tell node.kind a.children ≡ rows_of layers entries (place_of spot)
+  rows_are = ap (λ b. cond b (map (line_in tell) a.children) []) directory_is ∙ ap (λ r. cond (is_directory_at layers (place_of spot)) r []) below.rows_are
 
   pub is_node : IsNode layers entries new keys' (completed node) (place_of spot)
   is_node = record {
     place = ap placed a.place_is;
-    headed = record {
+    holds = record {
       image = seed.seat.image;
       is = here;
-      given = subst (IsGiven seed.seat.image) (sym head) seed.seat.given;
-      data_is = ap (λ (h : Head). data_in seed.seat.image h.offset) head ∙ seed.data_is seed.seat.image seed.seat.is;
+      lies = read.data_is.lies;
+      data_is = read.data_is.bytes ∙ seed.data_is seed.seat.image seed.seat.is;
     };
     kind = kind_is;
     size = size_is;
@@ -200,7 +210,7 @@ module _ (layers : List (List ℕ)) (entries : List Listed) (get : ℕ → Optio
     nlink_is = nlink_is;
     rdev_is = rdev_is;
     parent_is = λ d. a.parent_is ∙ seed.parent_is;
-    start = (let s = a.start_is in let e = a.end_is in let r = ap length a.rows_are in omega (arith, length-append old (lines_in get node.kind a.children)));
+    start = (let s = a.start_is in let e = a.end_is in let r = ap length a.rows_are in omega (arith, length-append old (lines_in tell node.kind a.children)));
     end = (let e = a.end_is in omega arith);
     rows_are = range_is ∙ rows_are;
     keyed = keyed_by node.shared _ _ _ _ (sym keys_range_is) (sym range_is) a.keys_are.keyed;
@@ -209,27 +219,27 @@ module _ (layers : List (List ℕ)) (entries : List Listed) (get : ℕ → Optio
 pub begins : (layers : List (List ℕ)) (entries : List Listed) (held : List Node) (rows : List Line) (keys : List ℕ) → held ≡ [] → rows ≡ [] → keys ≡ [] → Making layers entries held rows keys 0
 begins layers entries held rows keys e r k = record { level = ap length e; keys_level = ap length k ∙ sym (ap length r); each = λ k node p f g. absurd (let h = rw e at f in cc) }
 
-pub goes_on : (layers : List (List ℕ)) (entries : List Listed) (get : ℕ → Option ℕ) (first : List (Spot Entry)) (paths : List ℕ) (s : AreSeeds layers entries get first paths) (held held' : List Node) (rows rows' : List Line) (keys keys' : List ℕ) (i : ℕ) (spot : Spot Entry) → i < length first → spot ≡ get_or first i spot → Making layers entries held rows keys i → (node : Node) → AddsNode layers get spot (slice_index paths i) rows rows' keys keys' node → held' ≡ held ++ node ∷ [] → Making layers entries held' rows' keys' (i + 1)
-goes_on layers entries get first paths s held held' rows rows' keys keys' i spot lt at m node a push =
+pub goes_on : (layers : List (List ℕ)) (entries : List Listed) (tell : Place → ℕ) (first : List (Spot Entry)) (paths : List ℕ) (s : AreSeeds layers entries tell first paths) (held held' : List Node) (rows rows' : List Line) (keys keys' : List ℕ) (i : ℕ) (spot : Spot Entry) → i < length first → spot ≡ get_or first i spot → Making layers entries held rows keys i → (node : Node) → AddsNode layers tell spot (slice_index paths i) rows rows' keys keys' node → held' ≡ held ++ node ∷ [] → Making layers entries held' rows' keys' (i + 1)
+goes_on layers entries tell first paths s held held' rows rows' keys keys' i spot lt at m node a push =
     let h = get_there first i spot lt at in
     record {
       level = (let l = ap length push in let v = m.level in omega (arith, length-append held (node ∷ [])));
-      keys_level = level_still layers entries get (slice_index paths i) spot (s.each i spot h) rows rows' keys keys' m.keys_level node a;
+      keys_level = level_still layers entries tell (slice_index paths i) spot (s.each i spot h) rows rows' keys keys' m.keys_level node a;
       each = λ k n p e f. elim (get_last held node k n (subst (λ x. slice_get x k ≡ Some n) push e)) [
         | inl g ↦
             subst (λ (r : List Line). IsNode layers entries r keys' (completed n) p) (sym a.rows_are)
-            (subst (λ (x : List ℕ). IsNode layers entries (rows ++ lines_in get node.kind a.children) x (completed n) p) (sym a.keys_are.is)
-            (grown layers entries rows (lines_in get node.kind a.children) keys a.keys_are.keys (completed n) p m.keys_level (m.each k n p g f)))
+            (subst (λ (x : List ℕ). IsNode layers entries (rows ++ lines_in tell node.kind a.children) x (completed n) p) (sym a.keys_are.is)
+            (grown layers entries rows (lines_in tell node.kind a.children) keys a.keys_are.keys (completed n) p m.keys_level (m.each k n p g f)))
         | inr (j, g) ↦
             let k_is : k ≡ i = j ∙ m.level in
             let z : Some p ≡ Some (place_of spot) = sym f ∙ ap (slice_get (nodes entries)) k_is ∙ subst (λ ps. slice_get ps i ≡ Some (place_of spot)) s.places (get_map place_of first i spot h) in
             let p_is : place_of spot ≡ p = cc in
-            subst (λ (x : Node). IsNode layers entries rows' keys' (completed x) p) g (subst (IsNode layers entries rows' keys' (completed node)) p_is (is_node layers entries get (slice_index paths i) spot (s.each i spot h) rows rows' keys keys' m.keys_level node a))
+            subst (λ (x : Node). IsNode layers entries rows' keys' (completed x) p) g (subst (IsNode layers entries rows' keys' (completed node)) p_is (is_node layers entries tell (slice_index paths i) spot (s.each i spot h) rows rows' keys keys' m.keys_level node a))
       ];
     }
 
-pub ends : (layers : List (List ℕ)) (entries : List Listed) (get : ℕ → Option ℕ) (first : List (Spot Entry)) (paths : List ℕ) (s : AreSeeds layers entries get first paths) (held : List Node) (rows : List Line) (keys : List ℕ) (i : ℕ) → i ≡ length first → Making layers entries held rows keys i → AreMade layers held rows keys
-ends layers entries get first paths s held rows keys i e m = (
+pub ends : (layers : List (List ℕ)) (entries : List Listed) (tell : Place → ℕ) (first : List (Spot Entry)) (paths : List ℕ) (s : AreSeeds layers entries tell first paths) (held : List Node) (rows : List Line) (keys : List ℕ) (i : ℕ) → i ≡ length first → Making layers entries held rows keys i → AreMade layers held rows keys
+ends layers entries tell first paths s held rows keys i e m = (
   entries,
   s.listing,
   record {

@@ -5,7 +5,7 @@ use Rattle.std.specs.List.{slice_index_or}
 use Rattle.std.specs.Option.{option_map}
 use Rattle.romfs_format.specs.declared.head.Kind.{Kind}
 use Rattle.romfs_format.specs.declared.head.Kind.TheVariants.{HardLink, Directory, Regular, SymLink, Block, Character, Socket, Fifo}
-use Rattle.romfs_image.specs.Readers.{IsGiven, data_of as data_in}
+use Rattle.romfs_image.specs.Readers.{bytes_at, IsPart}
 use Rattle.stack_model.specs.Listing.{Entry}
 use Rattle.stack_model.specs.Numbers.{Place, Child, nodes, node_of, number_of, number, same_name, parent, children, child}
 use Rattle.stack_model.specs.Attributes.{is_directory, is_directory_at, kind_at}
@@ -162,10 +162,10 @@ module _ (layers : List (List ℕ)) (entries : List Entry) (held : List Node) (r
   pub parent_none : (n : ℕ) → held_at held n ≡ None → None ≡ parent_at stack n
   parent_none n e = rw (nowhere n e) refl
 
-  pub data_is : (n : ℕ) (node : Node) (image : List ℕ) → held_at held n ≡ Some node → image ≡ slice_index_or layers node.place.layer image → data_in image node.head.offset ≡ data_at stack n
+  pub data_is : (n : ℕ) (node : Node) (image : List ℕ) → held_at held n ≡ Some node → image ≡ slice_index_or layers node.place.layer image → bytes_at image node.part.start node.part.len ≡ data_at stack n
   data_is n node image e i =
       let h = here n node e in
-      let a = h.holds.headed in
+      let a = h.holds.holds in
       let same : image ≡ a.image = i ∙ indexed layers node.place.layer a.image image a.is in
       rw (h.is, same) a.data_is
 
@@ -173,9 +173,9 @@ module _ (layers : List (List ℕ)) (entries : List Entry) (held : List Node) (r
   data_none n e = rw (nowhere n e) refl
 
   pub image_there : (n : ℕ) (node : Node) → held_at held n ≡ Some node → node.place.layer < length layers
-  image_there n node e = let a = (here n node e).holds.headed in below layers node.place.layer a.image a.is
+  image_there n node e = let a = (here n node e).holds.holds in below layers node.place.layer a.image a.is
 
-  pub image_gives : (n : ℕ) (node : Node) (image : List ℕ) → held_at held n ≡ Some node → image ≡ slice_index_or layers node.place.layer image → IsGiven image node.head
-  image_gives n node image e i =
-      let a = (here n node e).holds.headed in
-      rw (i ∙ indexed layers node.place.layer a.image image a.is) a.given
+  pub part_lies : (n : ℕ) (node : Node) (image : List ℕ) → held_at held n ≡ Some node → image ≡ slice_index_or layers node.place.layer image → IsPart image node.part
+  part_lies n node image e i =
+      let a = (here n node e).holds.holds in
+      rw (i ∙ indexed layers node.place.layer a.image image a.is) a.lies

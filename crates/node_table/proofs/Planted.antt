@@ -1,27 +1,28 @@
 -- The first branches of a stack's tree, by number, agree with the listing of its layers.
-use Rattle.std.proofs.Common.{◌≡◌, ◌∙◌, sym, ap, subst, ℕ, zero, suc, ◌+◌, ◌-◌, ◌^◌, List, [], ◌∷◌, ◌++◌, length, take, map, refl, arith, Bool, true, false, cond, Option, Some}
-use Rattle.std.specs.Prelude.{slice_get, slice_index, find, min, count_by, unwrap_or}
+use Rattle.std.proofs.Common.{◌≡◌, ◌∙◌, sym, ap, subst, ℕ, zero, suc, ◌+◌, ◌-◌, ◌^◌, ◌<◌, List, [], ◌∷◌, ◌++◌, length, take, map, refl, arith, append_assoc, length-append, cond, Some}
+use Rattle.std.specs.Prelude.{slice_get, slice_index, min, count_by, unwrap_or}
 use Rattle.std.specs.List.{AllByRecursion}
-use Rattle.std.specs.Option.{option_map}
 use Rattle.romfs_image.specs.Images.{IsImage}
 use Rattle.romfs_image.specs.Readers.{data_of as data_in}
 use Rattle.stack_model.specs.Stack.{Path}
 use Rattle.stack_model.specs.Listing.{Entry as Listed}
-use Rattle.stack_model.specs.Numbers.{Place as ModelPlace, Child, place, same_place, same_path, number, children}
+use Rattle.stack_model.specs.Numbers.{Place as ModelPlace, Child, place, same_place, number, children}
 use Rattle.stack_model.specs.Attributes.{is_directory, is_directory_at, data_of}
-use Rattle.path_tree.specs.Rows.{Shoot, Rows, prefixed, spread, whole, IsForest}
+use Rattle.path_tree.specs.Rows.{Shoot, Rows, prefixed, spread, whole, NamesRise, IsForest, length_prefixed}
 use Rattle.layer_tree.specs.declared.place.Entry.{Entry}
 use Rattle.layer_tree.specs.Trees.{TreeRows, IsTreeOf, listed}
 use Rattle.layer_tree.proofs.Listed.{is_listing}
 use Rattle.node_table.specs.Readers.{placed}
-use Rattle.node_table.specs.Walks.{Spot, under, IsLocated, AreWalked, AddsWalk}
-use Rattle.node_table.specs.Numbering.{place_of, bare, seen, paths_of, IsFirst, IsNumbered}
-use Rattle.node_table.specs.Building.{number_in, line_in}
+use Rattle.node_table.specs.Walks.{Spot, under, IsLocated, AreWalked, size_of, AreAbove, AddsWalk}
+use Rattle.node_table.specs.Numbering.{place_of, bare, seen, paths_of, number_among, IsFirst, IsNumbered}
+use Rattle.node_table.specs.Building.{line_in, IsPosted, AreFollowing, ArePosts}
 use Rattle.node_table.specs.Seeds.{line_of, AreSeedlings, IsSeed, AreSomeSeeds}
+use Rattle.node_table.proofs.Paths.{spread_append, child_located}
+use Rattle.node_table.proofs.Sizes.{same_value, same_size, ends_within}
 use Rattle.node_table.proofs.Counting.{count, counted}
 use Rattle.node_table.proofs.Seeded as seeded
 use Rattle.node_table.proofs.Seeded.{child_of, row_at, places_same, bare_places, nodes_by, number_of_by, nil_right}
-use Rattle.node_table.proofs.Shown.{IsPlaced, rows_placed, kind_placed, header_small, data_placed}
+use Rattle.node_table.proofs.Shown.{IsPlaced, rows_placed, kind_placed, data_placed}
 
 all_get : {X : Type 0} (P : X → Type 0) (xs : List X) (k : ℕ) (x : X) → AllByRecursion P xs → slice_get xs k ≡ Some x → P x
 all_get P [] k x a e = absurd (cc)
@@ -66,7 +67,17 @@ paths_by es fs p e =
     ∙ ap (count (same_place p)) e
     ∙ sym (count_places p fs) ∙ counted (λ (e : Listed). same_place p (place e)) fs
 
-module _ (layers : List (List ℕ)) (t : TreeRows) (is : IsTreeOf 0 layers t) (sound : AllByRecursion IsImage layers) (root : Shoot Entry) (whole_is : t.entries ≡ whole root) (spots : List (Spot Entry)) (walked : AreWalked root root.value spots) (first : List (Spot Entry)) (paths : List ℕ) (get : ℕ → Option ℕ) (num : IsNumbered spots (length spots) first paths get) where
+below : {X : Type 0} (xs : List X) (k : ℕ) (x : X) → slice_get xs k ≡ Some x → k < length xs
+below [] k x e = absurd (cc)
+below (y ∷ xs) zero x e = omega arith
+below (y ∷ xs) (suc k) x e = let l = below xs k x e in omega arith
+
+there : {X : Type 0} (xs : List X) (k : ℕ) → k < length xs → (x : X) × (slice_get xs k ≡ Some x)
+there [] k l = absurd (omega arith)
+there (x ∷ xs) zero l = (x, refl)
+there (x ∷ xs) (suc k) l = there xs k (omega arith)
+
+module _ (layers : List (List ℕ)) (t : TreeRows) (is : IsTreeOf 0 layers t) (sound : AllByRecursion IsImage layers) (root : Shoot Entry) (whole_is : t.entries ≡ whole root) (spots : List (Spot Entry)) (walked : AreWalked root root.value spots) (first : List (Spot Entry)) (starts paths numbers : List ℕ) (num : IsNumbered spots (length spots) first starts paths numbers) where
   level : length spots ≡ length t.entries
   level = walked.level ∙ ap length (sym whole_is)
 
@@ -82,22 +93,12 @@ module _ (layers : List (List ℕ)) (t : TreeRows) (is : IsTreeOf 0 layers t) (s
   all_placed : AllByRecursion (λ (r : Path × Entry). IsPlaced layers r.1) t.entries
   all_placed = rows_placed layers t is sound
 
-  numbered : (e : Entry) → IsPlaced layers e → number_in get e.place ≡ number (map listed t.entries) (placed e.place)
-  numbered e p = ap (λ o. unwrap_or o 0) (num.known e.place (header_small layers e p) ∙ number_of_by (seen spots (length spots)) (map listed t.entries) (placed e.place) (sym places_are))
+  numbered : (e : Entry) → number_among spots e.place ≡ number (map listed t.entries) (placed e.place)
+  unfolding number_among
+  numbered e = ap (λ o. unwrap_or o 0) (number_of_by (seen spots (length spots)) (map listed t.entries) (placed e.place) (sym places_are))
 
   spot_placed : (k : ℕ) (spot : Spot Entry) → slice_get spots k ≡ Some spot → IsPlaced layers spot.0.now.value
   spot_placed k spot e = let l = at k spot e in all_get (λ (r : Path × Entry). IsPlaced layers r.1) t.entries k (l.top ++ [], spot.0.now.value) all_placed (row_at t.entries k spot.0.now spot.1 l)
-
-  above_placed : (k : ℕ) (spot : Spot Entry) → slice_get spots k ≡ Some spot → IsPlaced layers spot.1
-  above_placed k spot e = let l = at k spot e in go (λ (r : Path × Entry). same_path (take (length l.top - 1) l.top) r.0) t.entries all_placed l.above_is
-    where
-      go : (f : Path × Entry → Bool) (rows : Rows Entry) → AllByRecursion (λ (r : Path × Entry). IsPlaced layers r.1) rows → option_map (λ (r : Path × Entry). r.1) (find f rows) ≡ Some spot.1 → IsPlaced layers spot.1
-      go f [] a e = absurd (cc)
-      go f (x ∷ rows) a e = test (f x) refl (go f rows a.1)
-        where
-          test : (b : Bool) → f x ≡ b → (option_map (λ (r : Path × Entry). r.1) (find f rows) ≡ Some spot.1 → IsPlaced layers spot.1) → IsPlaced layers spot.1
-          test true g later = let h : Some x.1 ≡ Some spot.1 = rw g at e in let i : x.1 ≡ spot.1 = cc in subst (IsPlaced layers) i a.0
-          test false g later = later (rw g at e)
 
   children_placed : (k : ℕ) (spot : Spot Entry) → slice_get spots k ≡ Some spot → (cs : List (Shoot Entry)) → spot.0.now.below ≡ spread cs → AllByRecursion (λ (c : Shoot Entry). IsPlaced layers c.value) cs
   children_placed k spot e cs below =
@@ -112,7 +113,7 @@ module _ (layers : List (List ℕ)) (t : TreeRows) (is : IsTreeOf 0 layers t) (s
       go top [] a = tt
       go top (c ∷ cs) a = (a.0, go top cs (all_back (λ (r : Path × Entry). IsPlaced layers r.1) (under top (prefixed c.name c.below)) (under top (spread cs)) (subst (AllByRecursion (λ (r : Path × Entry). IsPlaced layers r.1)) (seeded.under_append top (prefixed c.name c.below) (spread cs)) a.1)))
 
-  seedlings : (k : ℕ) (spot : Spot Entry) (f : IsFirst spots spot) (cs : List (Shoot Entry)) → spot.0.now.below ≡ spread cs → IsForest cs → AreSeedlings layers (map listed t.entries) get (place_of spot) cs
+  seedlings : (k : ℕ) (spot : Spot Entry) (f : IsFirst spots spot) (cs : List (Shoot Entry)) → spot.0.now.below ≡ spread cs → IsForest cs → AreSeedlings layers (map listed t.entries) (number_among spots) (place_of spot) cs
   seedlings k spot f cs below forest =
       let c = seeded.children_are t.entries spots level at spot f cs below forest in
       let p = children_placed f.at spot f.is cs below in
@@ -121,15 +122,15 @@ module _ (layers : List (List ℕ)) (t : TreeRows) (is : IsTreeOf 0 layers t) (s
         count_is = sym (counted (λ (c : Shoot Entry). is_directory c.value.kind) cs) ∙ kinds cs p ∙ counted (λ (c : Child). is_directory_at layers c.place) (map child_of cs) ∙ ap (count_by (λ (c : Child). is_directory_at layers c.place)) (sym c);
       }
     where
-      lines : (cs : List (Shoot Entry)) → AllByRecursion (λ (c : Shoot Entry). IsPlaced layers c.value) cs → map (line_in get) cs ≡ map (line_of (map listed t.entries)) (map child_of cs)
+      lines : (cs : List (Shoot Entry)) → AllByRecursion (λ (c : Shoot Entry). IsPlaced layers c.value) cs → map (line_in (number_among spots)) cs ≡ map (line_of (map listed t.entries)) (map child_of cs)
       lines [] a = refl
-      lines (c ∷ cs) a = ap (λ (n : ℕ). record { number = n; name = c.name } ∷ map (line_in get) cs) (numbered c.value a.0) ∙ ap (λ r. record { number = number (map listed t.entries) (placed c.value.place); name = c.name } ∷ r) (lines cs a.1)
+      lines (c ∷ cs) a = ap (λ (n : ℕ). record { number = n; name = c.name } ∷ map (line_in (number_among spots)) cs) (numbered c.value) ∙ ap (λ r. record { number = number (map listed t.entries) (placed c.value.place); name = c.name } ∷ r) (lines cs a.1)
 
       kinds : (cs : List (Shoot Entry)) → AllByRecursion (λ (c : Shoot Entry). IsPlaced layers c.value) cs → count (λ (c : Shoot Entry). is_directory c.value.kind) cs ≡ count (λ (c : Child). is_directory_at layers c.place) (map child_of cs)
       kinds [] a = refl
       kinds (c ∷ cs) a = ap (λ b. cond b (1 + count (λ (c : Shoot Entry). is_directory c.value.kind) cs) (count (λ (c : Shoot Entry). is_directory c.value.kind) cs)) (ap is_directory (kind_placed layers c.value a.0)) ∙ ap (λ n. cond (is_directory_at layers (placed c.value.place)) (1 + n) n) (kinds cs a.1)
 
-  seed : (k : ℕ) (spot : Spot Entry) → slice_get first k ≡ Some spot → IsSeed layers (map listed t.entries) get (slice_index paths k) spot
+  seed : (k : ℕ) (spot : Spot Entry) → slice_get first k ≡ Some spot → IsSeed layers (map listed t.entries) (number_among spots) (slice_index paths k) spot
   seed k spot e =
       let f = num.each k spot e in
       let v = spot.0.now.value in
@@ -138,12 +139,12 @@ module _ (layers : List (List ℕ)) (t : TreeRows) (is : IsTreeOf 0 layers t) (s
         seat = record { image = p.image; is = p.is; given = p.given };
         data_is = λ image s. let z : Some p.image ≡ Some image = sym p.is ∙ s in let q : p.image ≡ image = cc in subst (λ x. data_in x v.place.header ≡ data_of layers (place_of spot)) q (data_placed layers v p);
         kind_is = kind_placed layers v p;
-        parent_is = numbered spot.1 (above_placed f.at spot f.is) ∙ ap (number (map listed t.entries)) (sym (seeded.parent_is t.entries spots level at spot f));
+        parent_is = numbered spot.1 ∙ ap (number (map listed t.entries)) (sym (seeded.parent_is t.entries spots level at spot f));
         below = seedlings k spot f;
         paths_are = λ other. num.counted k spot e ∙ ap (λ c. min c (2 ^ 32 - 1)) (paths_by (seen spots (length spots)) (map listed t.entries) (place_of spot) (sym places_are)) ∙ ap (λ b. min (cond b (2 + count_by (λ (c : Child). is_directory_at layers c.place) (children (map listed t.entries) (place_of spot))) (paths_of (map listed t.entries) (place_of spot))) (2 ^ 32 - 1)) (sym other);
       }
 
-  pub seeds : AreSomeSeeds layers get first paths
+  pub seeds : AreSomeSeeds layers (number_among spots) first paths
   seeds = (
     map listed t.entries,
     record {
@@ -154,6 +155,86 @@ module _ (layers : List (List ℕ)) (t : TreeRows) (is : IsTreeOf 0 layers t) (s
     },
   )
 
+  -- where the numbers and sizes of spots stand
+  module _ (places sizes : List ℕ) (stand : AreAbove spots spots places) (sized : sizes ≡ map size_of spots) where
+    numbers_level : length numbers ≡ length spots
+    numbers_level = num.numbers_level
+
+    tells : (k : ℕ) (spot : Spot Entry) → slice_get spots k ≡ Some spot → slice_index numbers k ≡ number_among spots spot.0.now.value.place
+    unfolding number_among
+    tells k spot e = ap (λ o. unwrap_or o 0) (sym (num.known k spot (below spots k spot e) e))
+
+    size_at : (k : ℕ) (spot : Spot Entry) → slice_get spots k ≡ Some spot → (k < length sizes) × (slice_index sizes k ≡ size_of spot)
+    size_at k spot e = (rw sized (go spots k spot e).0, rw sized (go spots k spot e).1)
+      where
+        go : (xs : List (Spot Entry)) (k : ℕ) (spot : Spot Entry) → slice_get xs k ≡ Some spot → (k < length (map size_of xs)) × (slice_index (map size_of xs) k ≡ size_of spot)
+        go [] k spot e = absurd (cc)
+        go (x ∷ xs) zero spot e = let f : x ≡ spot = cc in (omega arith, ap (λ (y : Spot Entry). size_of y) f)
+        go (x ∷ xs) (suc k) spot e = let r = go xs k spot e in (let l = r.0 in omega arith, r.1)
+
+    -- a branch that is located has its number and size there
+    posted : (j : ℕ) (c : Shoot Entry) (above : Entry) → IsLocated t.entries j c above → IsPosted (number_among spots) numbers sizes j c
+    posted j c above l =
+        let last = ends_within t.entries j c above l in
+        let nl = numbers_level in
+        let sl = level in
+        let x = there spots j (omega arith) in
+        let l' = at j x.0 x.1 in
+        let size = size_at j x.0 x.1 in
+        record {
+          within = omega arith;
+          sized = size.0;
+          number_is = tells j x.0 x.1 ∙ ap (λ (e : Entry). number_among spots e.place) (same_value t.entries j x.0.0.now c x.0.1 above l' l);
+          size_is = size.1 ∙ same_size t.entries j x.0.0.now c x.0.1 above l' l;
+          ends = omega arith;
+        }
+
+    following : (j : ℕ) (s : Shoot Entry) (above : Entry) → IsLocated t.entries j s above → (ls cs : List (Shoot Entry)) → s.below ≡ spread (ls ++ cs) → NamesRise (ls ++ cs) → AreFollowing (number_among spots) numbers sizes (j + suc (length (spread ls))) cs
+    following j s above l ls [] below rise = tt
+    following j s above l ls (c ∷ cs) below rise =
+        let here = child_located t.entries j s above l ls c cs below rise in
+        let again = append_assoc ls (c ∷ []) cs in
+        let rest = following j s above l (ls ++ c ∷ []) cs (below ∙ ap spread (sym again)) (subst NamesRise (sym again) rise) in
+        (posted (j + suc (length (spread ls))) c s.value here, subst (λ n. AreFollowing (number_among spots) numbers sizes n cs) longer rest)
+      where
+        longer : j + suc (length (spread (ls ++ c ∷ []))) ≡ j + suc (length (spread ls)) + length (whole c)
+        longer =
+            let u = ap length (spread_append ls (c ∷ [])) in
+            let v = length-append (spread ls) (spread (c ∷ [])) in
+            let p = length_prefixed c.name c.below in
+            let q = length-append (prefixed c.name c.below) [] in
+            omega arith
+
+    pub posts : ArePosts (number_among spots) numbers places sizes first starts
+    posts = record {
+      level = num.starts_level;
+      above = λ k spot e.
+          let p = slice_index starts k in
+          let s = stand.each p spot (num.starts_are k spot e) in
+          let l = below spots p spot (num.starts_are k spot e) in
+          let pl = stand.level in
+          let nl = numbers_level in
+          let m = below spots (slice_index places p) s.spot s.is in
+          record {
+            placed = omega arith;
+            within = omega arith;
+            number_is = tells (slice_index places p) s.spot s.is ∙ ap (λ (e : Entry). number_among spots e.place) s.value_is;
+          };
+      children = λ k spot e.
+          let p = slice_index starts k in
+          let l = below spots p spot (num.starts_are k spot e) in
+          let nl = numbers_level in
+          record {
+            within = omega arith;
+            each = λ cs under forest. following p spot.0.now spot.1 (at p spot (num.starts_are k spot e)) [] cs under forest.names;
+          };
+    }
+
 -- a walk that began with nothing
-pub walked_all : (root : Shoot Entry) (above : Entry) (old out : List (Spot Entry)) → old ≡ [] → above ≡ root.value → AddsWalk root above old out → AreWalked root root.value out
-walked_all root above old out none same a = subst (λ v. AreWalked root v out) same (subst (AreWalked root above) (sym (a.is ∙ ap (λ x. x ++ a.spots) none)) a.walked)
+pub walked_all : (root : Shoot Entry) (above : Entry) (old out : List (Spot Entry)) (places places' sizes sizes' : List ℕ) → old ≡ [] → places ≡ [] → sizes ≡ [] → above ≡ root.value → AddsWalk root above old out places places' sizes sizes' → AreWalked root root.value out × AreAbove out out places' × (sizes' ≡ map size_of out)
+walked_all root above old out places places' sizes sizes' none no_places no_sizes same a =
+    let is : out ≡ a.spots = a.is ∙ ap (λ x. x ++ a.spots) none in (
+      subst (λ v. AreWalked root v out) same (subst (AreWalked root above) (sym is) a.walked),
+      subst (λ (x : List (Spot Entry)). AreAbove out x places') (sym is) (subst (AreAbove out a.spots) (sym (a.places_are ∙ ap (λ x. x ++ a.more) no_places)) a.stand),
+      a.sizes_are ∙ ap (λ x. x ++ map size_of a.spots) no_sizes ∙ ap (map size_of) (sym is),
+    )

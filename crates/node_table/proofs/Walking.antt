@@ -1,10 +1,38 @@
 -- A walk over a branch and all below it.
-use Rattle.std.proofs.Common.{◌≡◌, ◌∙◌, sym, ap, subst, ℕ, zero, suc, ◌+◌, ◌<◌, ◌≤◌, ◌⊎◌, inl, inr, List, [], ◌∷◌, ◌++◌, length, take, drop, get_or, refl, arith, append_assoc, length-append, Some}
-use Rattle.std.specs.Prelude.{slice_get}
+use Rattle.std.proofs.Common.{◌≡◌, ◌∙◌, sym, ap, subst, ℕ, zero, suc, ◌+◌, ◌-◌, ◌<◌, ◌≤◌, ◌⊎◌, inl, inr, List, [], ◌∷◌, ◌++◌, length, take, drop, get_or, refl, arith, append_assoc, length-append, Some}
+use Rattle.std.specs.Prelude.{slice_get, slice_index, slice_set, map}
 use Rattle.std.specs.Borrow.{Bor}
 use Rattle.path_tree.specs.Rows.{Shoot, Rows, prefixed, spread, NamesRise, IsForest, length_prefixed}
-use Rattle.node_table.specs.Walks.{Spot, IsLocated, AddsWalk}
+use Rattle.node_table.specs.Walks.{Spot, IsLocated, size_of, StandsAt, AreAbove, AddsWalk}
 use Rattle.node_table.proofs.Paths.{spread_append, child_located}
+
+-- what stands at a place still stands there as more are added
+get_stays : {X : Type 0} (xs ys : List X) (k : ℕ) (x : X) → slice_get xs k ≡ Some x → slice_get (xs ++ ys) k ≡ Some x
+get_stays [] ys k x e = absurd (cc)
+get_stays (y ∷ xs) ys zero x e = e
+get_stays (y ∷ xs) ys (suc k) x e = get_stays xs ys k x e
+
+get_end : {X : Type 0} (xs ys : List X) (x : X) → slice_get (xs ++ x ∷ ys) (length xs) ≡ Some x
+get_end [] ys x = refl
+get_end (y ∷ xs) ys x = get_end xs ys x
+
+index_front : (xs ys : List ℕ) (k : ℕ) → k < length xs → slice_index (xs ++ ys) k ≡ slice_index xs k
+index_front [] ys k l = absurd (omega arith)
+index_front (x ∷ xs) ys zero l = refl
+index_front (x ∷ xs) ys (suc k) l = index_front xs ys k (omega arith)
+
+index_back : (xs ys : List ℕ) (k : ℕ) → slice_index (xs ++ ys) (length xs + k) ≡ slice_index ys k
+index_back [] ys k = let n : 0 + k ≡ k = omega arith in ap (slice_index ys) n
+index_back (x ∷ xs) ys k = let n : suc (length xs) + k ≡ suc (length xs + k) = omega arith in ap (slice_index (x ∷ xs ++ ys)) n ∙ index_back xs ys k
+
+below : {X : Type 0} (xs : List X) (k : ℕ) (x : X) → slice_get xs k ≡ Some x → k < length xs
+below [] k x e = absurd (cc)
+below (y ∷ xs) zero x e = omega arith
+below (y ∷ xs) (suc k) x e = let l = below xs k x e in omega arith
+
+written : (xs ys : List ℕ) (x y : ℕ) → slice_set (xs ++ x ∷ ys) (length xs) y ≡ xs ++ y ∷ ys
+written [] ys x y = refl
+written (z ∷ xs) ys x y = ap (λ r. z ∷ r) (written xs ys x y)
 
 module _ {T : Type 0} where
   -- what stands where in two lists one after another
@@ -43,19 +71,57 @@ module _ {T : Type 0} where
           let r = go cs i (omega arith) f in
           omega arith
 
-  -- how far a walk has come: the branch, and the children below the place i with all below them
-  pub record Walking (branch : Shoot T) (above : T) (cs : List (Shoot T)) (old out : List (Spot T)) (i : ℕ) : Type 0 where
-    pub spots : List (Spot T)
-    pub is : out ≡ old ++ spots
-    pub level : length spots ≡ suc (length (spread (take i cs)))
-    pub each : (rows : Rows T) (j : ℕ) → IsLocated rows j branch above → (k : ℕ) (spot : Spot T) → slice_get spots k ≡ Some spot → IsLocated rows (j + k) spot.0.now spot.1
+  stands_more : (all more : List (Spot T)) (place : ℕ) (value : T) → StandsAt all place value → StandsAt (all ++ more) place value
+  stands_more all more place value s = record { spot = s.spot; is = get_stays all more place s.spot s.is; value_is = s.value_is }
 
-  pub begins : (branch : Bor (Shoot T)) (above : T) (cs : List (Shoot T)) (old out : List (Spot T)) → out ≡ old ++ (branch, above) ∷ [] → Walking branch.now above cs old out 0
-  begins branch above cs old out e = record {
-    spots = (branch, above) ∷ [];
+  above_more : (all more spots : List (Spot T)) (places : List ℕ) → AreAbove all spots places → AreAbove (all ++ more) spots places
+  above_more all more spots places a = record { level = a.level; each = λ k spot e. stands_more all more (slice_index places k) spot.1 (a.each k spot e) }
+
+  above_joined : (all xs ys : List (Spot T)) (ps qs : List ℕ) → AreAbove all xs ps → AreAbove all ys qs → AreAbove all (xs ++ ys) (ps ++ qs)
+  above_joined all xs ys ps qs a b = record {
+    level = length-append ps qs ∙ ap (λ n. n + length qs) a.level ∙ ap (λ n. length xs + n) b.level ∙ sym (length-append xs ys);
+    each = λ k spot e. elim (get_append xs ys k spot e) [
+      | inl f ↦ subst (λ n. StandsAt all n spot.1) (sym (index_front ps qs k (let l = below xs k spot f in let level = a.level in omega arith))) (a.each k spot f)
+      | inr (m, f, g) ↦ subst (λ n. StandsAt all n spot.1) (sym (ap (slice_index (ps ++ qs)) (f ∙ ap (λ n. n + m) (sym a.level)) ∙ index_back ps qs m)) (b.each m spot g)
+    ];
+  }
+
+  map_append : (xs ys : List (Spot T)) → map size_of (xs ++ ys) ≡ map size_of xs ++ map size_of ys
+  map_append [] ys = refl
+  map_append (x ∷ xs) ys = ap (λ r. size_of x ∷ r) (map_append xs ys)
+
+  map_length : (xs : List (Spot T)) → length (map size_of xs) ≡ length xs
+  map_length [] = refl
+  map_length (x ∷ xs) = ap suc (map_length xs)
+
+  -- how far a walk has come: the branch, and the children below the place i with all below them; its size is not yet
+  -- written
+  pub record Walking (branch : Shoot T) (above : T) (cs : List (Shoot T)) (old out : List (Spot T)) (places places' sizes sizes' : List ℕ) (i : ℕ) : Type 0 where
+    pub first : Bor (Shoot T)
+    pub first_is : first.now ≡ branch
+    pub rest : List (Spot T)
+    pub is : out ≡ old ++ (first, above) ∷ rest
+    pub level : length rest ≡ length (spread (take i cs))
+    pub each : (rows : Rows T) (j : ℕ) → IsLocated rows j branch above → (k : ℕ) (spot : Spot T) → slice_get ((first, above) ∷ rest) k ≡ Some spot → IsLocated rows (j + k) spot.0.now spot.1
+    pub more : List ℕ
+    pub places_are : places' ≡ places ++ more
+    pub stand : AreAbove out ((first, above) ∷ rest) more
+    pub sizes_are : sizes' ≡ sizes ++ 0 ∷ map size_of rest
+    pub sizes_level : length sizes ≡ length old
+
+  pub begins : (branch : Bor (Shoot T)) (above : T) (place : ℕ) (cs : List (Shoot T)) (old out : List (Spot T)) (places places' sizes sizes' : List ℕ) → StandsAt old place above ⊎ ((place ≡ length old) × (branch.now.value ≡ above)) → length sizes ≡ length old → out ≡ old ++ (branch, above) ∷ [] → places' ≡ places ++ place ∷ [] → sizes' ≡ sizes ++ 0 ∷ [] → Walking branch.now above cs old out places places' sizes sizes' 0
+  begins branch above place cs old out places places' sizes sizes' up level e p s = record {
+    first = branch;
+    first_is = refl;
+    rest = [];
     is = e;
     level = omega arith;
     each = λ rows j l k spot f. first rows j l k spot f;
+    more = place ∷ [];
+    places_are = p;
+    stand = record { level = refl; each = λ k spot f. one k spot f };
+    sizes_are = s;
+    sizes_level = level;
   }
     where
       first : (rows : Rows T) (j : ℕ) → IsLocated rows j branch.now above → (k : ℕ) (spot : Spot T) → slice_get ((branch, above) ∷ []) k ≡ Some spot → IsLocated rows (j + k) spot.0.now spot.1
@@ -64,15 +130,47 @@ module _ {T : Type 0} where
           subst (λ (x : Spot T). IsLocated rows (j + 0) x.0.now x.1) s (subst (λ n. IsLocated rows n branch.now above) (omega arith) l)
       first rows j l (suc k) spot f = absurd (cc)
 
-  pub goes_on : (branch : Shoot T) (above : T) (cs : List (Shoot T)) (old out out' : List (Spot T)) (i : ℕ) (c : Shoot T) → branch.below ≡ spread cs → IsForest cs → i < length cs → c ≡ get_or cs i c → Walking branch above cs old out i → AddsWalk c branch.value out out' → Walking branch above cs old out' (i + 1)
-  goes_on branch above cs old out out' i c below forest lt at w a = record {
-    spots = w.spots ++ a.spots;
-    is = a.is ∙ ap (λ x. x ++ a.spots) w.is ∙ append_assoc old w.spots a.spots;
-    level = levels;
-    each = λ rows j l k spot f. elim (get_append w.spots a.spots k spot f) [
+      here : StandsAt old place above ⊎ ((place ≡ length old) × (branch.now.value ≡ above)) → StandsAt (old ++ (branch, above) ∷ []) place above
+      here (inl s) = stands_more old ((branch, above) ∷ []) place above s
+      here (inr (a, b)) = record { spot = (branch, above); is = ap (slice_get (old ++ (branch, above) ∷ [])) a ∙ get_end old [] (branch, above); value_is = b }
+
+      one : (k : ℕ) (spot : Spot T) → slice_get ((branch, above) ∷ []) k ≡ Some spot → StandsAt out (slice_index (place ∷ []) k) spot.1
+      one zero spot f =
+          let s : (branch, above) ≡ spot = cc in
+          subst (λ (x : Spot T). StandsAt out place x.1) s (subst (λ (x : List (Spot T)). StandsAt x place above) (sym e) (here up))
+      one (suc k) spot f = absurd (cc)
+
+  -- the branch stands where it was put
+  pub stands : (branch : Shoot T) (above : T) (cs : List (Shoot T)) (old out : List (Spot T)) (places places' sizes sizes' : List ℕ) (i : ℕ) (value : T) → value ≡ branch.value → Walking branch above cs old out places places' sizes sizes' i → StandsAt out (length old) value
+  stands branch above cs old out places places' sizes sizes' i value e w = record {
+    spot = (w.first, above);
+    is = ap (λ (x : List (Spot T)). slice_get x (length old)) w.is ∙ get_end old w.rest (w.first, above);
+    value_is = ap (λ (s : Shoot T). s.value) w.first_is ∙ sym e;
+  }
+
+  pub levels : (branch : Shoot T) (above : T) (cs : List (Shoot T)) (old out : List (Spot T)) (places places' sizes sizes' : List ℕ) (i : ℕ) → Walking branch above cs old out places places' sizes sizes' i → length sizes' ≡ length out
+  levels branch above cs old out places places' sizes sizes' i w =
+      let a = ap length w.sizes_are in
+      let b = ap length w.is in
+      let level = w.sizes_level in
+      omega (arith, length-append sizes (0 ∷ map size_of w.rest), length-append old ((w.first, above) ∷ w.rest), map_length w.rest)
+
+  pub goes_on : (branch : Shoot T) (above : T) (cs : List (Shoot T)) (old out out' : List (Spot T)) (places p p' sizes s s' : List ℕ) (i : ℕ) (c : Shoot T) → branch.below ≡ spread cs → IsForest cs → i < length cs → c ≡ get_or cs i c → Walking branch above cs old out places p sizes s i → AddsWalk c branch.value out out' p p' s s' → Walking branch above cs old out' places p' sizes s' (i + 1)
+  goes_on branch above cs old out out' places p p' sizes s s' i c below forest lt at w a = record {
+    first = w.first;
+    first_is = w.first_is;
+    rest = w.rest ++ a.spots;
+    is = a.is ∙ ap (λ x. x ++ a.spots) w.is ∙ append_assoc old ((w.first, above) ∷ w.rest) a.spots;
+    level = longer_now;
+    each = λ rows j l k spot f. elim (get_append ((w.first, above) ∷ w.rest) a.spots k spot f) [
       | inl g ↦ w.each rows j l k spot g
       | inr (m, e, g) ↦ subst (λ n. IsLocated rows n spot.0.now spot.1) (omega (arith, w.level)) (a.walked.each rows (j + suc (length (spread (take i cs)))) (child rows j l) m spot g)
     ];
+    more = w.more ++ a.more;
+    places_are = a.places_are ∙ ap (λ x. x ++ a.more) w.places_are ∙ append_assoc places w.more a.more;
+    stand = above_joined out' ((w.first, above) ∷ w.rest) a.spots w.more a.more (subst (λ (x : List (Spot T)). AreAbove x ((w.first, above) ∷ w.rest) w.more) (sym a.is) (above_more out a.spots ((w.first, above) ∷ w.rest) w.more w.stand)) a.stand;
+    sizes_are = a.sizes_are ∙ ap (λ x. x ++ map size_of a.spots) w.sizes_are ∙ append_assoc sizes (0 ∷ map size_of w.rest) (map size_of a.spots) ∙ ap (λ x. sizes ++ 0 ∷ x) (sym (map_append w.rest a.spots));
+    sizes_level = w.sizes_level;
   }
     where
       split : cs ≡ take i cs ++ c ∷ drop (suc i) cs
@@ -81,11 +179,11 @@ module _ {T : Type 0} where
       child : (rows : Rows T) (j : ℕ) → IsLocated rows j branch above → IsLocated rows (j + suc (length (spread (take i cs)))) c branch.value
       child rows j l = child_located rows j branch above l (take i cs) c (drop (suc i) cs) (below ∙ ap spread split) (subst NamesRise split forest.names)
 
-      levels : length (w.spots ++ a.spots) ≡ suc (length (spread (take (i + 1) cs)))
-      levels =
+      longer_now : length (w.rest ++ a.spots) ≡ length (spread (take (i + 1) cs))
+      longer_now =
           let wl = w.level in
           let al = a.walked.level in
-          let n = length-append w.spots a.spots in
+          let n = length-append w.rest a.spots in
           let t = ap (λ x. length (spread x)) (longer_front cs i c lt at) in
           let u = ap length (spread_append (take i cs) (c ∷ [])) in
           let v = length-append (spread (take i cs)) (spread (c ∷ [])) in
@@ -93,11 +191,17 @@ module _ {T : Type 0} where
           let q = length-append (prefixed c.name c.below) [] in
           omega arith
 
-  pub ends : (branch : Shoot T) (above : T) (cs : List (Shoot T)) (old out : List (Spot T)) (i : ℕ) → branch.below ≡ spread cs → length cs ≤ i → Walking branch above cs old out i → AddsWalk branch above old out
-  ends branch above cs old out i below le w = record {
-    spots = w.spots;
+  pub ends : (branch : Shoot T) (above : T) (cs : List (Shoot T)) (old out : List (Spot T)) (places places' sizes s s' : List ℕ) (i at size : ℕ) → branch.below ≡ spread cs → length cs ≤ i → at ≡ length old → size ≡ length out - at → s' ≡ slice_set s at size → Walking branch above cs old out places places' sizes s i → AddsWalk branch above old out places places' sizes s'
+  ends branch above cs old out places places' sizes s s' i at size below le at_is size_is set w = record {
+    spots = (w.first, above) ∷ w.rest;
     is = w.is;
-    walked = record { level = w.level ∙ ap (λ x. suc (length (spread x))) (all cs i le) ∙ ap (λ x. suc (length x)) (sym below); each = w.each };
+    walked = record { level = level; each = w.each };
+    more = w.more;
+    places_are = w.places_are;
+    stand = w.stand;
+    sizes_are =
+        set ∙ ap (λ x. slice_set x at size) w.sizes_are ∙ ap (λ n. slice_set (sizes ++ 0 ∷ map size_of w.rest) n size) (at_is ∙ sym w.sizes_level)
+        ∙ written sizes (map size_of w.rest) 0 size ∙ ap (λ n. sizes ++ n ∷ map size_of w.rest) mine;
   }
     where
       all : (cs : List (Shoot T)) (i : ℕ) → length cs ≤ i → take i cs ≡ cs
@@ -105,3 +209,16 @@ module _ {T : Type 0} where
       all [] (suc i) l = refl
       all (x ∷ cs) zero l = absurd (omega arith)
       all (x ∷ cs) (suc i) l = ap (λ r. x ∷ r) (all cs i (omega arith))
+
+      rest_level : length w.rest ≡ length branch.below
+      rest_level = w.level ∙ ap (λ x. length (spread x)) (all cs i le) ∙ ap length (sym below)
+
+      level : suc (length w.rest) ≡ suc (length branch.below)
+      level = ap suc rest_level
+
+      mine : size ≡ suc (length w.first.now.below)
+      mine =
+          let b = ap length w.is in
+          let n = ap (λ (x : Shoot T). length x.below) w.first_is in
+          let r = rest_level in
+          omega (arith, size_is, at_is, length-append old ((w.first, above) ∷ w.rest))

@@ -1,33 +1,59 @@
 -- Nodes and rows made from branches with numbers.
-use Rattle.std.specs.Prelude.{◌≡◌, ℕ, ◌+◌, ◌-◌, ◌^◌, List, [], ◌++◌, length, map, min, count_by, slice_get, Option, Some, unwrap_or, if◌then◌else◌}
+use Rattle.std.specs.Prelude.{◌≡◌, ℕ, ◌+◌, ◌-◌, ◌^◌, ◌<◌, ◌≤◌, List, [], ◌∷◌, ◌++◌, length, map, min, count_by, slice_get, slice_index, Some, ⊤, if◌then◌else◌}
 use Rattle.romfs_format.specs.declared.head.Kind.{Kind}
+use Rattle.romfs_format.specs.Fields.{exec, spec}
 use Rattle.romfs_format.specs.Heads.{head_of}
-use Rattle.romfs_image.specs.Readers.{IsGiven}
-use Rattle.stack_model.specs.Attributes.{is_directory, mode_of, rdev_of, size_of}
-use Rattle.path_tree.specs.Rows.{Shoot, spread, IsForest}
+use Rattle.romfs_image.specs.Readers.{IsGiven, IsDataPart}
+use Rattle.stack_model.specs.Attributes.{is_directory, mode_of, rdev_of}
+use Rattle.path_tree.specs.Rows.{Shoot, spread, whole, IsForest}
 use Rattle.layer_tree.specs.declared.place.Place.{Place}
 use Rattle.layer_tree.specs.declared.place.Entry.{Entry}
 use Rattle.node_table.specs.declared.node.Node.{Node}
 use Rattle.name_keys.specs.Keyed.{AddsKeys}
 use Rattle.node_table.specs.Rows.{Line, names}
 use Rattle.node_table.specs.Walks.{Spot}
-use Rattle.node_table.specs.Numbering.{key}
-
--- the number of a place; 0 for one that has none
-abbrev pub number_in : (ℕ → Option ℕ) → Place → ℕ
-number_in get place = unwrap_or (get (key place)) 0
 
 -- the row of a child
-abbrev pub line_in : (ℕ → Option ℕ) → Shoot Entry → Line
-line_in get c = record { number = number_in get c.value.place; name = c.name }
+abbrev pub line_in : (Place → ℕ) → Shoot Entry → Line
+line_in tell c = record { number = tell c.value.place; name = c.name }
 
 abbrev pub directories : List (Shoot Entry) → ℕ
 directories cs = count_by (λ c. is_directory c.value.kind) cs
 
 -- the rows of children are added at the end, and the directories among these counted
-pub record AddsRows (get : ℕ → Option ℕ) (cs : List (Shoot Entry)) (old new : List Line) (n : ℕ) : Type 0 where
-  pub rows_are : new ≡ old ++ map (line_in get) cs
+pub record AddsRows (tell : Place → ℕ) (cs : List (Shoot Entry)) (old new : List Line) (n : ℕ) : Type 0 where
+  pub rows_are : new ≡ old ++ map (line_in tell) cs
   pub count_is : n ≡ directories cs
+
+-- a branch's number and size stand at this place
+pub record IsPosted (tell : Place → ℕ) (numbers sizes : List ℕ) (at : ℕ) (c : Shoot Entry) : Type 0 where
+  pub within : at < length numbers
+  pub sized : at < length sizes
+  pub number_is : slice_index numbers at ≡ tell c.value.place
+  pub size_is : slice_index sizes at ≡ length (whole c)
+  pub ends : at + length (whole c) ≤ length numbers
+
+-- branches stand from this place on, each after the one before it and all below that
+abbrev pub AreFollowing : (Place → ℕ) → List ℕ → List ℕ → ℕ → List (Shoot Entry) → Type 0
+AreFollowing tell numbers sizes at [] = ⊤
+AreFollowing tell numbers sizes at (c ∷ cs) = IsPosted tell numbers sizes at c × AreFollowing tell numbers sizes (at + length (whole c)) cs
+
+-- the children of a spot stand after it
+pub record AreChildren (tell : Place → ℕ) (numbers sizes : List ℕ) (at : ℕ) (spot : Spot Entry) : Type 0 where
+  pub within : at < length numbers
+  pub each : (cs : List (Shoot Entry)) → spot.0.now.below ≡ spread cs → IsForest cs → AreFollowing tell numbers sizes (at + 1) cs
+
+-- the number of the branch above a spot stands at the place that is held for it
+pub record IsAbove (tell : Place → ℕ) (numbers places : List ℕ) (at : ℕ) (spot : Spot Entry) : Type 0 where
+  pub placed : at < length places
+  pub within : slice_index places at < length numbers
+  pub number_is : slice_index numbers (slice_index places at) ≡ tell spot.1.place
+
+-- these spots stand at these places
+pub record ArePosts (tell : Place → ℕ) (numbers places sizes : List ℕ) (first : List (Spot Entry)) (starts : List ℕ) : Type 0 where
+  pub level : length starts ≡ length first
+  pub above : (k : ℕ) (spot : Spot Entry) → slice_get first k ≡ Some spot → IsAbove tell numbers places (slice_index starts k) spot
+  pub children : (k : ℕ) (spot : Spot Entry) → slice_get first k ≡ Some spot → AreChildren tell numbers sizes (slice_index starts k) spot
 
 -- the header at a branch's place is one that the place's image gives
 pub record IsSeat (layers : List (List ℕ)) (branch : Shoot Entry) : Type 0 where
@@ -36,28 +62,33 @@ pub record IsSeat (layers : List (List ℕ)) (branch : Shoot Entry) : Type 0 whe
   pub given : IsGiven image (head_of image branch.value.place.header)
 
 -- the rows of a branch with these children: none where it is no directory
-abbrev pub lines_in : (ℕ → Option ℕ) → Kind → List (Shoot Entry) → List Line
-lines_in get kind cs = if is_directory kind then map (line_in get) cs else []
+abbrev pub lines_in : (Place → ℕ) → Kind → List (Shoot Entry) → List Line
+lines_in tell kind cs = if is_directory kind then map (line_in tell) cs else []
 
--- the node of a branch, without what its header says; a directory's rows are added at the end, and their keys
-pub record AddsNode (layers : List (List ℕ)) (get : ℕ → Option ℕ) (spot : Spot Entry) (paths : ℕ) (old new : List Line) (keys keys' : List ℕ) (node : Node) : Type 0 where
+-- the node holds what the header says of the kind's data, permissions and device, as it stands
+pub record IsReadFrom (image : List ℕ) (header : ℕ) (node : Node) : Type 0 where
+  pub data_is : IsDataPart image header node.part
+  pub exec_is : node.exec ≡ exec image header
+  pub spec_is : node.rdev ≡ spec image header
+
+-- the node of a branch, before it is completed; a directory's rows are added at the end, and their keys
+pub record AddsNode (layers : List (List ℕ)) (tell : Place → ℕ) (spot : Spot Entry) (paths : ℕ) (old new : List Line) (keys keys' : List ℕ) (node : Node) : Type 0 where
   pub kind_is : node.kind ≡ spot.0.now.value.kind
   pub place_is : node.place ≡ spot.0.now.value.place
-  pub head_is : (image : List ℕ) → slice_get layers node.place.layer ≡ Some image → node.head ≡ head_of image node.place.header
-  pub parent_is : node.parent ≡ number_in get spot.1.place
+  pub read : (image : List ℕ) → slice_get layers node.place.layer ≡ Some image → IsReadFrom image node.place.header node
+  pub parent_is : node.parent ≡ tell spot.1.place
   pub start_is : node.rows_start ≡ length old
   pub end_is : node.rows_end ≡ length new
   pub children : List (Shoot Entry)
   pub below : spot.0.now.below ≡ spread children
   pub forest : IsForest children
-  pub rows_are : new ≡ old ++ lines_in get node.kind children
-  pub keys_are : AddsKeys node.shared (names (lines_in get node.kind children)) keys keys'
+  pub rows_are : new ≡ old ++ lines_in tell node.kind children
+  pub keys_are : AddsKeys node.shared (names (lines_in tell node.kind children)) keys keys'
   pub nlink_is : node.nlink ≡ (if is_directory node.kind then min (2 + directories children) (2 ^ 32 - 1) else paths)
 
--- the node with what its header says
+-- the node with what its kind makes of that
 abbrev pub completed : Node → Node
 completed node = record node {
-  size = size_of node.kind node.head.size;
-  mode = mode_of node.kind node.head.exec;
-  rdev = rdev_of node.kind node.head.spec;
+  mode = mode_of node.kind node.exec;
+  rdev = rdev_of node.kind node.rdev;
 }

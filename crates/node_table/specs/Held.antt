@@ -1,6 +1,6 @@
 -- What a table holds, and what of it agrees with the listing of its layers.
 use Rattle.std.specs.Prelude.{◌≡◌, ℕ, zero, suc, ◌≤◌, List, length, slice_get, slice_range, Option, Some, None, true}
-use Rattle.romfs_image.specs.Readers.{IsGiven, data_of as data_in}
+use Rattle.romfs_image.specs.Readers.{bytes_at, IsPart}
 use Rattle.stack_model.specs.Listing.{Entry, IsListing}
 use Rattle.stack_model.specs.Numbers.{Place, nodes, number, parent}
 use Rattle.stack_model.specs.Attributes.{is_directory, kind_at, mode, size_at, rdev, nlink, blocks_of, blocks_all, data_of}
@@ -19,26 +19,26 @@ held_at held (suc k) = slice_get held k
 abbrev pub attr_held : ℕ → Node → Attr
 attr_held n node = record {
   ino = n;
-  size = node.size;
-  blocks = blocks_of node.size;
+  size = node.part.len;
+  blocks = blocks_of node.part.len;
   mode = node.mode;
   nlink = node.nlink;
   rdev = node.rdev;
 }
 
--- the header is one that the place's layer gives, and its data are the place's
-pub record IsHeaded (layers : List (List ℕ)) (layer : ℕ) (node : Node) (p : Place) : Type 0 where
+-- the data that the node holds lie in the place's layer, and are the place's
+pub record HasData (layers : List (List ℕ)) (layer : ℕ) (node : Node) (p : Place) : Type 0 where
   pub image : List ℕ
   pub is : slice_get layers layer ≡ Some image
-  pub given : IsGiven image node.head
-  pub data_is : data_in image node.head.offset ≡ data_of layers p
+  pub lies : IsPart image node.part
+  pub data_is : bytes_at image node.part.start node.part.len ≡ data_of layers p
 
 -- the node holds what the definitions say of its place
 pub record IsNode (layers : List (List ℕ)) (entries : List Entry) (rows : List Line) (keys : List ℕ) (node : Node) (p : Place) : Type 0 where
   pub place : placed node.place ≡ p
-  pub headed : IsHeaded layers node.place.layer node p
+  pub holds : HasData layers node.place.layer node p
   pub kind : node.kind ≡ kind_at layers p
-  pub size : node.size ≡ size_at layers p
+  pub size : node.part.len ≡ size_at layers p
   pub mode_is : node.mode ≡ mode layers p
   pub nlink_is : node.nlink ≡ nlink layers entries p
   pub rdev_is : node.rdev ≡ rdev layers p

@@ -3,6 +3,7 @@ pub mod Rows
 pub mod Readers
 pub mod Held
 pub mod Walks
+pub mod Firsts
 pub mod Numbering
 pub mod Building
 pub mod Seeds

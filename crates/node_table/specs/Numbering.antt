@@ -1,5 +1,5 @@
 -- Numbers of the places of branches.
-use Rattle.std.specs.Prelude.{◌≡◌, ℕ, ◌+◌, ◌-◌, ◌*◌, ◌^◌, ◌<◌, List, [], length, map, take, min, count_by, slice_get, slice_index, Option, Some, None}
+use Rattle.std.specs.Prelude.{◌≡◌, ℕ, ◌+◌, ◌-◌, ◌*◌, ◌^◌, ◌<◌, List, [], length, map, take, min, count_by, slice_get, slice_index, Some, None, unwrap_or, All}
 use Rattle.stack_model.specs.Listing.{Entry as Listed}
 use Rattle.stack_model.specs.Numbers.{Place as ModelPlace, place, same_place, nodes, number_of}
 use Rattle.layer_tree.specs.declared.place.Place.{Place}
@@ -10,6 +10,10 @@ use Rattle.node_table.specs.Walks.{Spot}
 -- a place as one number
 abbrev pub key : Place → ℕ
 key q = q.layer * 0x100000000 + q.header
+
+-- that of a spot
+abbrev pub key_of : Spot Entry → ℕ
+key_of spot = key spot.0.now.value.place
 
 -- a number of paths and one more, held at the greatest 32-bit number
 abbrev pub one_more : ℕ → ℕ
@@ -37,10 +41,22 @@ pub record IsFirst (spots : List (Spot Entry)) (spot : Spot Entry) : Type 0 wher
   pub is : slice_get spots at ≡ Some spot
   pub new : number_of (seen spots at) (place_of spot) ≡ None
 
+-- the places of spots, each as one number
+pub record AreKeys (spots : List (Spot Entry)) (keys : List ℕ) : Type 0 where
+  pub are : keys ≡ map key_of spots
+  pub small : All (λ (spot : Spot Entry). spot.0.now.value.place.header < 2 ^ 32) spots
+
 -- the first i places are numbered
-pub record IsNumbered (spots : List (Spot Entry)) (i : ℕ) (first : List (Spot Entry)) (paths : List ℕ) (get : ℕ → Option ℕ) : Type 0 where
-  pub known : (q : Place) → q.header < 2 ^ 32 → get (key q) ≡ number_of (seen spots i) (placed q)
+pub record IsNumbered (spots : List (Spot Entry)) (i : ℕ) (first : List (Spot Entry)) (starts paths numbers : List ℕ) : Type 0 where
   pub places : map place_of first ≡ nodes (seen spots i)
-  pub level : length paths ≡ length first
   pub each : (k : ℕ) (spot : Spot Entry) → slice_get first k ≡ Some spot → IsFirst spots spot
+  pub starts_level : length starts ≡ length first
+  pub starts_are : (k : ℕ) (spot : Spot Entry) → slice_get first k ≡ Some spot → slice_get spots (slice_index starts k) ≡ Some spot
+  pub level : length paths ≡ length first
   pub counted : (k : ℕ) (spot : Spot Entry) → slice_get first k ≡ Some spot → slice_index paths k ≡ min (paths_of (seen spots i) (place_of spot)) (2 ^ 32 - 1)
+  pub numbers_level : length numbers ≡ i
+  pub known : (k : ℕ) (spot : Spot Entry) → k < i → slice_get spots k ≡ Some spot → number_of (seen spots i) (place_of spot) ≡ Some (slice_index numbers k)
+
+-- the number of a place that spots have; 0 for another one
+unfoldable pub number_among : List (Spot Entry) → Place → ℕ
+number_among spots q = unwrap_or (number_of (seen spots (length spots)) (placed q)) 0

@@ -1,5 +1,5 @@
 -- Where the branches of a tree stand among its rows.
-use Rattle.std.specs.Prelude.{◌≡◌, ℕ, ◌+◌, ◌-◌, List, [], ◌∷◌, ◌++◌, length, map, take, find, Bool, true, false, ◌&&◌, Some, slice_get}
+use Rattle.std.specs.Prelude.{◌≡◌, ℕ, ◌+◌, ◌-◌, List, [], ◌∷◌, ◌++◌, length, map, take, find, Bool, true, false, ◌&&◌, Some, slice_get, slice_index}
 use Rattle.std.specs.Borrow.{Bor}
 use Rattle.std.specs.List.{AllByRecursion}
 use Rattle.std.specs.Option.{option_map}
@@ -41,8 +41,27 @@ pub record AreWalked {T : Type 0} (branch : Shoot T) (above : T) (spots : List (
   pub level : length spots ≡ length (whole branch)
   pub each : (rows : Rows T) (j : ℕ) → IsLocated rows j branch above → (k : ℕ) (spot : Spot T) → slice_get spots k ≡ Some spot → IsLocated rows (j + k) spot.0.now spot.1
 
--- these are added at the end
-pub record AddsWalk {T : Type 0} (branch : Shoot T) (above : T) (old new : List (Spot T)) : Type 0 where
+-- how many rows the branch has with all below it
+abbrev pub size_of : {T : Type 0} → Spot T → ℕ
+size_of spot = length (whole spot.0.now)
+
+-- a branch with this value stands at this place
+pub record StandsAt {T : Type 0} (spots : List (Spot T)) (place : ℕ) (value : T) : Type 0 where
+  pub spot : Spot T
+  pub is : slice_get spots place ≡ Some spot
+  pub value_is : spot.0.now.value ≡ value
+
+-- the branch above each spot stands at its place
+pub record AreAbove {T : Type 0} (all spots : List (Spot T)) (places : List ℕ) : Type 0 where
+  pub level : length places ≡ length spots
+  pub each : (k : ℕ) (spot : Spot T) → slice_get spots k ≡ Some spot → StandsAt all (slice_index places k) spot.1
+
+-- these are added at the end, with the places of those above them and their sizes
+pub record AddsWalk {T : Type 0} (branch : Shoot T) (above : T) (old new : List (Spot T)) (places places' sizes sizes' : List ℕ) : Type 0 where
   pub spots : List (Spot T)
   pub is : new ≡ old ++ spots
   pub walked : AreWalked branch above spots
+  pub more : List ℕ
+  pub places_are : places' ≡ places ++ more
+  pub stand : AreAbove new spots more
+  pub sizes_are : sizes' ≡ sizes ++ map size_of spots

@@ -1,22 +1,20 @@
 //! The nodes and rows of a table, made from numbered branches.
 
-ghost use Rattle.std.specs.Prelude.{◌≡◌, IfOk};
-ghost use Rattle.std.specs.Ordering.{nat_cmp};
-ghost use Rattle.std.specs.BTreeMap.{get};
+ghost use Rattle.std.specs.Prelude.{◌≡◌, ◌+◌, ◌<◌, length, slice_index, IfOk};
 ghost use Rattle.romfs_format.specs.Heads.{head_of};
 ghost use Rattle.romfs_image.specs.Readers.{IsGiven};
-ghost use Rattle.node_table.specs.Building.{number_in, AddsRows, AddsNode, IsSeat};
+ghost use Rattle.node_table.specs.Numbering.{number_among};
+ghost use Rattle.node_table.specs.Building.{IsAbove, AreFollowing, AreChildren, ArePosts, AddsRows, AddsNode, IsSeat};
 ghost use Rattle.node_table.specs.Seeds.{AreSomeSeeds, AreMade};
 
 use crate::node::Node;
-use crate::numbering::{Numbered, key};
+use crate::numbering::Numbered;
 use crate::row::Row;
-use crate::walk::Spot;
-use layer_tree::{Child, Entry, Place};
+use crate::walk::{Spot, Walked};
+use layer_tree::{Child, Entry};
 use name_keys::add_keys;
 use romfs_image::{Head, Image, Kind};
 use std::alloc::{AllocError, Allocator};
-use std::collections::BTreeMap;
 
 /// What a table is made of beside its images.
 #[derive(Drop)]
@@ -26,17 +24,11 @@ pub(crate) struct Parts<A: Allocator> {
     pub(crate) keys: Vec<u64, A>,
 }
 
-// The number of a place; 0 for one that has none.
-fn number_in<A: Allocator>(numbers: &BTreeMap<u64, u64, A>, place: Place) -> u64
-    ensures { result ≡ number_in (get nat_cmp numbers.now) place }
-{
-    numbers.get(&key(place)).copied().unwrap_or(0)
-}
-
 // The header of a place, which its image gives.
 fn header_in<A: Allocator>(image: &Image<A>, header: u32) -> Head
     requires { IsGiven image.now (head_of image.now header) }
-    ensures { result ≡ head_of image.now header }
+    ensures value { result ≡ head_of image.now header }
+    ensures given { IsGiven image.now result }
 {
     match image.head(header) {
         Some(head) => head,
@@ -44,51 +36,64 @@ fn header_in<A: Allocator>(image: &Image<A>, header: u32) -> Head
     }
 }
 
-// Adds the rows of children, and counts the directories among them.
+// Adds the rows of children, and counts the directories among them. The children stand at `start` and after it.
 fn add_rows<A: Allocator + Copy>(
     alloc: A,
-    numbers: &BTreeMap<u64, u64, A>,
+    walk: &Walked<'_, Entry, A>,
+    numbers: &[u64],
+    start: usize,
     children: &[Child<A>],
     rows: &mut Vec<Row<A>, A>,
 ) -> Result<u64, AllocError>
-    ensures { IfOk result (λ n. AddsRows (get nat_cmp numbers.now) children.now rows.old.items rows.new.items n) }
+    requires { AreFollowing (number_among walk.now.spots.items) numbers.now walk.now.sizes.items start children.now }
+    ensures { IfOk result (λ n. AddsRows (number_among walk.now.spots.items) children.now rows.old.items rows.new.items n) }
 {
     let mut directories = 0;
+    let mut at = start;
     for child in children {
         let entry = child.value();
-        let number = number_in(numbers, entry.place);
+        let number = numbers[at];
+        let size = walk.sizes[at];
         let name = child.name().to_vec(alloc)?;
         rows.push(Row { number, name })?;
         match entry.kind {
             Kind::Directory => directories += 1,
             _ => {}
         }
+        at += size;
     }
     Ok(directories)
 }
 
-// Adds the rows of a branch and their keys, and makes its node but for what its header says.
+// Adds the rows of the branch at `start` and their keys, and makes its node but for what its header says.
 pub(crate) fn add_node<A: Allocator + Copy>(
     alloc: A,
     images: &[Image<A>],
-    numbers: &BTreeMap<u64, u64, A>,
+    walk: &Walked<'_, Entry, A>,
+    numbers: &[u64],
+    start: usize,
     spot: &Spot<'_, Entry, A>,
     paths: u32,
     rows: &mut Vec<Row<A>, A>,
     keys: &mut Vec<u64, A>,
 ) -> Result<Node, AllocError>
-    requires { IsSeat images.now spot.now.0.now }
-    ensures { IfOk result (λ node. AddsNode images.now (get nat_cmp numbers.now) spot.now paths
+    requires seat { IsSeat images.now spot.now.0.now }
+    requires above { IsAbove (number_among walk.now.spots.items) numbers.now walk.now.above.items start spot.now }
+    requires children { AreChildren (number_among walk.now.spots.items) numbers.now walk.now.sizes.items start spot.now }
+    ensures { IfOk result (λ node. AddsNode images.now (number_among walk.now.spots.items) spot.now paths
         rows.old.items rows.new.items keys.old.items keys.new.items node) }
 {
     let Entry { kind, place } = spot.0.value();
     let image = &images[place.layer as usize];
     let head = header_in(image, place.header);
+    let part = image.data_part(&head);
     let children = spot.0.children();
+    let above = walk.above[start];
+    let parent = numbers[above];
     let rows_start = rows.len();
     let nlink = match kind {
         Kind::Directory => {
-            let directories = add_rows(alloc, numbers, children, rows)?;
+            let directories = add_rows(alloc, walk, numbers, start + 1, children, rows)?;
             directories.saturating_add(2).min(u64::from(u32::MAX)) as u32
         }
         _ => paths,
@@ -97,38 +102,42 @@ pub(crate) fn add_node<A: Allocator + Copy>(
     Ok(Node {
         kind,
         place,
-        head,
-        size: 0,
+        exec: head.exec,
+        part,
         mode: 0,
         nlink,
-        rdev: 0,
-        parent: number_in(numbers, spot.1.place),
+        rdev: head.spec,
+        parent,
         rows_start,
         rows_end: rows.len(),
         shared,
     })
 }
 
-// The nodes of all first branches, in the order of their numbers, their rows, and the rows' keys. Room is made for
-// `most` rows at once.
+// The nodes of all first branches, in the order of their numbers, their rows, and the rows' keys.
 pub(crate) fn make<A: Allocator + Copy>(
     alloc: A,
     images: &[Image<A>],
+    walk: &Walked<'_, Entry, A>,
     numbered: &Numbered<'_, A>,
-    most: usize,
 ) -> Result<Parts<A>, AllocError>
-    requires { AreSomeSeeds images.now (get nat_cmp numbered.now.numbers) numbered.now.first.items numbered.now.paths.items }
+    requires seeds { AreSomeSeeds images.now (number_among walk.now.spots.items) numbered.now.first.items numbered.now.paths.items }
+    requires posts { ArePosts (number_among walk.now.spots.items) numbered.now.numbers.items walk.now.above.items
+        walk.now.sizes.items numbered.now.first.items numbered.now.starts.items }
     ensures { IfOk result (λ made. AreMade images.now made.nodes.items made.rows.items made.keys.items) }
 {
     let mut nodes = Vec::with_capacity(alloc, numbered.first.len())?;
-    let mut rows = Vec::with_capacity(alloc, most)?;
-    let mut keys = Vec::with_capacity(alloc, most)?;
+    let mut rows = Vec::with_capacity(alloc, walk.spots.len())?;
+    let mut keys = Vec::with_capacity(alloc, walk.spots.len())?;
     for (at, spot) in numbered.first.iter().enumerate() {
+        let start = numbered.starts[at];
         let paths = numbered.paths[at];
         let node = add_node(
             alloc,
             images,
+            walk,
             &numbered.numbers,
+            start,
             spot,
             paths,
             &mut rows,

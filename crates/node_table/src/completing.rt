@@ -1,9 +1,9 @@
-//! What headers and images say beside the tree: attributes of nodes, and blocks.
+//! What headers and images say beside the tree: modes and device numbers of nodes, and blocks.
 
 ghost use Rattle.std.specs.Prelude.{◌≡◌, ◌≤◌, length, map};
 ghost use Rattle.std.specs.List.{AllByRecursion};
 ghost use Rattle.romfs_image.specs.Images.{IsImage};
-ghost use Rattle.stack_model.specs.Attributes.{blocks_all, mode_of, rdev_of, size_of};
+ghost use Rattle.stack_model.specs.Attributes.{blocks_all, mode_of, rdev_of};
 ghost use Rattle.node_table.specs.Building.{completed};
 
 use crate::node::Node;
@@ -31,16 +31,6 @@ fn mode_of(kind: Kind, exec: bool) -> u32
     }
 }
 
-// Only regular files and symbolic links have data.
-fn size_of(kind: Kind, size: u32) -> u32
-    ensures { result ≡ size_of kind size }
-{
-    match kind {
-        Kind::Regular | Kind::SymLink => size,
-        _ => 0,
-    }
-}
-
 // The numbers of a device, as the kernel's new_encode_dev lays them.
 fn rdev_of(kind: Kind, spec: u32) -> u32
     ensures { result ≡ rdev_of kind spec }
@@ -59,11 +49,8 @@ fn rdev_of(kind: Kind, spec: u32) -> u32
 fn complete(node: &mut Node)
     ensures { node.new ≡ completed node.old }
 {
-    let kind = node.kind;
-    let head = node.head;
-    node.size = size_of(kind, head.size);
-    node.mode = mode_of(kind, head.exec);
-    node.rdev = rdev_of(kind, head.spec);
+    node.mode = mode_of(node.kind, node.exec);
+    node.rdev = rdev_of(node.kind, node.rdev);
 }
 
 // Completes all nodes, in several threads where there are many.

@@ -22,6 +22,7 @@
 
 mod building;
 mod completing;
+mod firsts;
 mod lookup;
 mod node;
 mod numbering;

@@ -24,7 +24,7 @@ pub(crate) fn node_at(nodes: &[Node], number: u64) -> Option<&Node>
 pub(crate) fn attr_of(number: u64, node: &Node) -> Attr
     ensures { result ≡ attr_held number node.now }
 {
-    let size = u64::from(node.size);
+    let size = u64::from(node.part.len);
     Attr {
         ino: number,
         size,

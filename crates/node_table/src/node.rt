@@ -1,7 +1,7 @@
 //! What a table holds of a node.
 
 use layer_tree::Place;
-use romfs_image::{Head, Kind};
+use romfs_image::{Kind, Part};
 
 /// The attributes of a node, as stat(2) has them. Owners and times are 0 for all nodes.
 #[derive(Clone, Copy, Debug, PartialEq, Eq)]
@@ -26,10 +26,14 @@ pub struct Node {
     /// Its kind, which is never a hard link.
     pub kind: Kind,
     pub place: Place,
-    pub(crate) head: Head,
-    pub(crate) size: u32,
+    /// Whether its header says that it is executable.
+    pub(crate) exec: bool,
+    /// Where its data lie in the image of its layer.
+    pub(crate) part: Part,
+    /// Type and permissions; 0 until the node is completed.
     pub(crate) mode: u32,
     pub(crate) nlink: u32,
+    /// The numbers of a device; until the node is completed, its header's spec.info.
     pub(crate) rdev: u32,
     pub(crate) parent: u64,
     pub(crate) rows_start: usize,

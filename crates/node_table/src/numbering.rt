@@ -1,32 +1,46 @@
 //! Numbers of places, in the order of their first path.
 
 ghost use Rattle.std.specs.Prelude.{◌≡◌, ◌<◌, ◌^◌, length, slice_index, slice_set, IfOk};
-ghost use Rattle.std.specs.Ordering.{nat_cmp};
-ghost use Rattle.std.specs.BTreeMap.{get};
-ghost use Rattle.node_table.specs.Numbering.{key, one_more, IsNumbered};
+ghost use Rattle.node_table.specs.Numbering.{key, one_more, AreKeys, IsNumbered};
 
+use crate::firsts::firsts_of;
 use crate::walk::Spot;
 use layer_tree::{Entry, Place};
 use std::alloc::{AllocError, Allocator};
-use std::collections::BTreeMap;
 
 /// The places of branches, numbered from 1 in the order of their first branch.
 #[derive(Drop)]
 pub(crate) struct Numbered<'t, A: Allocator> {
     /// The first branch of each place.
     pub(crate) first: Vec<Spot<'t, Entry, A>, A>,
+    /// Where it stands among all branches.
+    pub(crate) starts: Vec<usize, A>,
     /// How many branches have the place, held at the greatest number of its type.
     pub(crate) paths: Vec<u32, A>,
-    /// The number of each place, by its key.
-    pub(crate) numbers: BTreeMap<u64, u64, A>,
+    /// The number of each branch's place.
+    pub(crate) numbers: Vec<u64, A>,
 }
 
 // A place as one number.
-pub(crate) fn key(place: Place) -> u64
+fn key(place: Place) -> u64
     ensures value { result ≡ key place }
     ensures small { place.header < 2 ^ 32 }
 {
     u64::from(place.layer) * 0x1_0000_0000 + u64::from(place.header)
+}
+
+// The places of branches, each as one number.
+fn keys_of<'t, A: Allocator + Copy>(
+    alloc: A,
+    spots: &[Spot<'t, Entry, A>],
+) -> Result<Vec<u64, A>, AllocError>
+    ensures { IfOk result (λ keys. AreKeys spots.now keys.items) }
+{
+    let mut keys = Vec::with_capacity(alloc, spots.len())?;
+    for spot in spots {
+        keys.push(key(spot.0.value().place))?;
+    }
+    Ok(keys)
 }
 
 // One path more at a place.
@@ -43,28 +57,31 @@ pub(crate) fn number_places<'t, A: Allocator + Copy>(
     alloc: A,
     spots: &[Spot<'t, Entry, A>],
 ) -> Result<Numbered<'t, A>, AllocError>
-    ensures { IfOk result (λ n. IsNumbered spots.now (length spots.now) n.first.items n.paths.items (get nat_cmp n.numbers)) }
+    ensures { IfOk result (λ n. IsNumbered spots.now (length spots.now)
+        n.first.items n.starts.items n.paths.items n.numbers.items) }
 {
-    let mut first = Vec::new(alloc);
-    let mut paths = Vec::new(alloc);
-    let mut numbers: BTreeMap<u64, u64, A> = BTreeMap::new(alloc);
-    for spot in spots {
-        let entry = spot.0.value();
-        let place = key(entry.place);
-        let known = numbers.get(&place).copied();
-        match known {
-            Some(number) => {
-                count_one(&mut paths, (number - 1) as usize);
-            }
-            None => {
-                first.push(*spot)?;
-                paths.push(1)?;
-                numbers.insert(place, first.len() as u64)?;
-            }
+    let keys = keys_of(alloc, spots)?;
+    let firsts = firsts_of(alloc, &keys)?;
+    let mut first = Vec::with_capacity(alloc, spots.len())?;
+    let mut starts = Vec::with_capacity(alloc, spots.len())?;
+    let mut paths = Vec::with_capacity(alloc, spots.len())?;
+    let mut numbers = Vec::with_capacity(alloc, spots.len())?;
+    for (at, spot) in spots.iter().enumerate() {
+        let before = firsts[at];
+        if before == at {
+            first.push(*spot)?;
+            starts.push(at)?;
+            paths.push(1)?;
+            numbers.push(first.len() as u64)?;
+        } else {
+            let number = numbers[before];
+            count_one(&mut paths, (number - 1) as usize);
+            numbers.push(number)?;
         }
     }
     Ok(Numbered {
         first,
+        starts,
         paths,
         numbers,
     })

@@ -17,7 +17,7 @@ use crate::lookup::{attr_of, keys_of, node_at, number_named, rows_of};
 use crate::node::{Attr, Node};
 use crate::numbering::number_places;
 use crate::row::Row;
-use crate::walk::walk;
+use crate::walk::{Walked, walk};
 use layer_tree::Tree;
 use romfs_image::{Image, Kind};
 use std::alloc::{AllocError, Allocator, Global};
@@ -94,10 +94,14 @@ fn parts_of<A: Allocator + Copy>(
     ensures { IfOk result (λ made. AreMade images.now made.nodes.items made.rows.items made.keys.items) }
 {
     let root = tree.root();
-    let mut spots = Vec::new(alloc);
-    walk(root, root.value(), &mut spots)?;
-    let numbered = number_places(alloc, &spots)?;
-    make(alloc, images, &numbered, spots.len())
+    let mut all = Walked {
+        spots: Vec::new(alloc),
+        above: Vec::new(alloc),
+        sizes: Vec::new(alloc),
+    };
+    walk(root, root.value(), 0, &mut all)?;
+    let numbered = number_places(alloc, &all.spots)?;
+    make(alloc, images, &all, &numbered)
 }
 
 impl<A: Allocator> Table<A> {
@@ -177,7 +181,7 @@ impl<A: Allocator> Table<A> {
         match node_at(&self.nodes, number) {
             Some(node) => {
                 let image = &self.images[node.place.layer as usize];
-                image.body(&node.head)
+                image.part(node.part)
             }
             None => &[],
         }

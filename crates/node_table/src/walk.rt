@@ -1,7 +1,7 @@
 //! The branches of a tree in the order of their paths.
 
-ghost use Rattle.std.specs.Prelude.{OnOk};
-ghost use Rattle.node_table.specs.Walks.{AddsWalk};
+ghost use Rattle.std.specs.Prelude.{◌≡◌, ◌⊎◌, length, OnOk};
+ghost use Rattle.node_table.specs.Walks.{AddsWalk, StandsAt};
 
 use path_tree::Branch;
 use std::alloc::{AllocError, Allocator};
@@ -9,18 +9,38 @@ use std::alloc::{AllocError, Allocator};
 /// A branch of a tree, and the value of the branch above it.
 pub(crate) type Spot<'t, T, A> = (&'t Branch<T, A>, T);
 
-// The branch and all below it. No recursion goes deeper than the tree.
+/// Branches in the order of their paths.
+#[derive(Drop)]
+pub(crate) struct Walked<'t, T: Copy + Drop, A: Allocator> {
+    pub(crate) spots: Vec<Spot<'t, T, A>, A>,
+    /// Where the branch above each one stands; the root is above itself.
+    pub(crate) above: Vec<usize, A>,
+    /// How many branches each one is with all below it.
+    pub(crate) sizes: Vec<usize, A>,
+}
+
+// The branch and all below it. No recursion goes deeper than the tree. The branch above stands at `place`, or is this
+// one.
 pub(crate) fn walk<'t, T: Copy + Drop, A: Allocator>(
     branch: &'t Branch<T, A>,
     above: T,
-    out: &mut Vec<Spot<'t, T, A>, A>,
+    place: usize,
+    out: &mut Walked<'t, T, A>,
 ) -> Result<(), AllocError>
-    ensures { OnOk result (AddsWalk branch.now above out.old.items out.new.items) }
+    requires level { length out.old.sizes.items ≡ length out.old.spots.items }
+    requires above { StandsAt out.old.spots.items place above
+        ⊎ ((place ≡ length out.old.spots.items) × (branch.now.value ≡ above)) }
+    ensures { OnOk result (AddsWalk branch.now above out.old.spots.items out.new.spots.items
+        out.old.above.items out.new.above.items out.old.sizes.items out.new.sizes.items) }
 {
-    out.push((branch, above))?;
+    let at = out.spots.len();
+    out.spots.push((branch, above))?;
+    out.above.push(place)?;
+    out.sizes.push(0)?;
     let value = branch.value();
     for child in branch.children() {
-        walk(child, value, out)?;
+        walk(child, value, at, out)?;
     }
+    out.sizes[at] = out.spots.len() - at;
     Ok(())
 }

@@ -1,5 +1,5 @@
 -- What the readers of an image give: headers, the members of a directory, names and data.
-use Rattle.std.specs.Prelude.{◌≡◌, ℕ, ◌%◌, ◌==◌, ◌||◌, ◌&&◌, ◌⊎◌, ◌↔◌, List, [], take, drop, map, slice_get, Bool, false, not, Some, codes, All, Contains}
+use Rattle.std.specs.Prelude.{◌≡◌, ℕ, ◌+◌, ◌^◌, ◌<◌, ◌≤◌, ◌%◌, ◌==◌, ◌||◌, ◌&&◌, ◌⊎◌, ◌↔◌, List, [], length, take, drop, map, slice_get, Bool, false, not, Some, codes, All, Contains}
 use Rattle.std.specs.Option.{option_map_or}
 use Rattle.std.specs.Str.{bytes_eq}
 use Rattle.std.specs.List.{filter}
@@ -11,6 +11,7 @@ use Rattle.romfs_format.specs.Chains.{IsAt, IsMember, IsSomeMember}
 use Rattle.romfs_format.specs.Links.{IsFinal}
 use Rattle.romfs_format.specs.Rules.{IsNamed}
 use Rattle.romfs_format.specs.Heads.{name_of, head_of}
+use Rattle.romfs_image.specs.declared.parts.Part.{Part}
 
 -- a header with an ended name stands at h
 abbrev pub IsPlace : List ℕ → ℕ → Type 0
@@ -37,6 +38,23 @@ data_of_kind _ a h = []
 
 abbrev pub data_of : List ℕ → ℕ → List ℕ
 data_of a h = data_of_kind (kind a h) a h
+
+-- how many data a header with this size has
+abbrev pub data_size : Kind → ℕ → ℕ
+data_size Regular n = n
+data_size SymLink n = n
+data_size _ n = 0
+
+-- the part lies in the image, and a reply's header can say its length
+pub record IsPart (a : List ℕ) (part : Part) : Type 0 where
+  pub within : part.start + part.len ≤ length a
+  pub short : 16 + part.len < 2 ^ 32
+
+-- the part is the data of the header h
+pub record IsDataPart (a : List ℕ) (h : ℕ) (part : Part) : Type 0 where
+  pub lies : IsPart a part
+  pub bytes : bytes_at a part.start part.len ≡ data_of a h
+  pub size_is : part.len ≡ data_size (kind a h) (size a h)
 
 -- hs are the headers of the chain of the directory d, position by position
 pub record IsListed (a : List ℕ) (d : ℕ) (hs : List ℕ) : Type 0 where

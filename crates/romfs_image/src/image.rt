@@ -6,12 +6,12 @@ ghost use Rattle.romfs_format.specs.Links.{IsFinal};
 ghost use Rattle.romfs_format.specs.Rules.{IsSound, IsSoundAs};
 ghost use Rattle.romfs_image.specs.Images.{IsImage};
 ghost use Rattle.romfs_format.specs.Heads.{name_of, head_of};
-ghost use Rattle.romfs_image.specs.Readers.{data_of, IsPlace, IsGiven, AreMembers};
+ghost use Rattle.romfs_image.specs.Readers.{data_of, bytes_at, IsPlace, IsGiven, IsPart, IsDataPart, AreMembers};
 ghost use Rattle.romfs_image.specs.Refusals.{IsRefusal, IsRefusalAs};
 
 use crate::ends::Ends;
 use crate::members::Members;
-use crate::parts::{data_in, end_of, members_of, name_in, place_at};
+use crate::parts::{Part, bytes_in, data_in, data_part, end_of, members_of, name_in, place_at};
 use crate::refusal::CheckFault;
 use romfs_format::read::{head_at, root_of, word};
 use romfs_format::{Head, Kind, Profile};
@@ -21,7 +21,7 @@ use std::marker::Model;
 
 /// The accessible bytes of an image that keeps every rule. A clause sees these bytes.
 ///
-/// `members`, `target`, `name` and `body` ask for a header that this image gave, by `root`, `members`
+/// `members`, `target`, `name`, `body` and `data_part` ask for a header that this image gave, by `root`, `members`
 /// or `target`; by `head` a caller comes back to such a header from its offset. No reader takes
 /// memory.
 #[derive(Drop)]
@@ -184,5 +184,23 @@ impl<A: Allocator> Image<A> {
         ensures short { 16 + length result.now < 2 ^ 32 }
     {
         data_in(&self.bytes, head)
+    }
+
+    /// Where the data of a header lie that `body` gives: a part of no bytes for headers of kinds that have none. Who
+    /// keeps it comes back to the data by `part` and reads no header again.
+    pub fn data_part(&self, head: &Head) -> Part
+        requires { IsGiven self.now head.now }
+        ensures { IsDataPart self.now head.now.offset result }
+    {
+        data_part(&self.bytes, head)
+    }
+
+    /// The bytes of a part that `data_part` gave.
+    pub fn part(&self, part: Part) -> &[u8]
+        requires { IsPart self.now part }
+        ensures value { result.now ≡ bytes_at self.now part.start part.len }
+        ensures short { 16 + length result.now < 2 ^ 32 }
+    {
+        bytes_in(&self.bytes, part)
     }
 }

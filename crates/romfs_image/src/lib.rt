@@ -35,5 +35,6 @@ pub mod sample;
 pub use ends::Ends;
 pub use image::Image;
 pub use members::Members;
+pub use parts::Part;
 pub use refusal::CheckFault;
 pub use romfs_format::{Head, ImageFault, Kind, Profile, Rule};

@@ -1,15 +1,22 @@
 //! What the readers of an image read, from its bytes.
 
-ghost use Rattle.std.specs.Prelude.{◌≡◌, ◌≢◌, [], ◌+◌, ◌*◌, ◌/◌, ◌≤◌, length, MatchOption, IsTrue, IsFalse, All};
+ghost use Rattle.std.specs.Prelude.{◌≡◌, ◌≢◌, [], ◌+◌, ◌*◌, ◌/◌, ◌^◌, ◌<◌, ◌≤◌, length, MatchOption, IsTrue, IsFalse, All};
 ghost use Rattle.romfs_format.specs.Fields.{root};
 ghost use Rattle.romfs_format.specs.Links.{IsFinal};
 ghost use Rattle.romfs_image.specs.Images.{IsImage};
 ghost use Rattle.romfs_format.specs.Heads.{name_of, head_of, IsHeadIn};
-ghost use Rattle.romfs_image.specs.Readers.{data_of, IsPlace, IsGiven, AreMembers, bytes_at};
+ghost use Rattle.romfs_image.specs.Readers.{data_of, IsPlace, IsGiven, IsPart, IsDataPart, AreMembers, bytes_at};
 
 use crate::members::Members;
 use romfs_format::head::{Head, Kind};
 use romfs_format::read::{head_at, text_at};
+
+/// A part of an image's bytes: where it begins, from the image's first byte on, and how long it is.
+#[derive(Clone, Copy, Debug, PartialEq, Eq)]
+pub struct Part {
+    pub start: u32,
+    pub len: u32,
+}
 
 /// The header at an offset, if a header with an ended name can stand there.
 pub(crate) fn place_at(image: &[u8], top: u32, offset: u32) -> Option<Head>
@@ -87,17 +94,38 @@ pub(crate) fn name_in<'a>(image: &'a [u8], head: &Head) -> &'a [u8]
     bytes_at(image, head.name_at, head.name_len)
 }
 
+/// Where the data of a header that is given lie.
+pub(crate) fn data_part(image: &[u8], head: &Head) -> Part
+    requires image { IsImage image.now }
+    requires given { IsGiven image.now head.now }
+    ensures { IsDataPart image.now head.now.offset result }
+{
+    match head.kind {
+        Kind::Regular | Kind::SymLink => {
+            let start = head.name_at + (head.name_len + 1 + 15) / 16 * 16;
+            Part {
+                start,
+                len: head.size,
+            }
+        }
+        _ => Part { start: 0, len: 0 },
+    }
+}
+
+/// The bytes of a part.
+pub(crate) fn bytes_in(image: &[u8], part: Part) -> &[u8]
+    requires { IsPart image.now part }
+    ensures value { result.now ≡ bytes_at image.now part.start part.len }
+    ensures short { 16 + length result.now < 2 ^ 32 }
+{
+    bytes_at(image, part.start, part.len)
+}
+
 /// The data of a header that is given.
 pub(crate) fn data_in<'a>(image: &'a [u8], head: &Head) -> &'a [u8]
     requires image { IsImage image.now }
     requires given { IsGiven image.now head.now }
     ensures { result.now ≡ data_of image.now head.now.offset }
 {
-    match head.kind {
-        Kind::Regular | Kind::SymLink => {
-            let at = head.name_at + (head.name_len + 1 + 15) / 16 * 16;
-            bytes_at(image, at, head.size)
-        }
-        _ => &[],
-    }
+    bytes_in(image, data_part(image, head))
 }

@@ -1,20 +1,25 @@
-use Rattle.std.proofs.Common.{◌≡◌, ◌<◌, ◌∙◌, length, List, ℕ, sym, ap, arith}
-use Rattle.std.specs.Ordering.{nat_cmp}
-use Rattle.std.specs.BTreeMap.{get}
+use Rattle.std.proofs.Common.{◌≡◌, ◌<◌, ◌+◌, ◌∙◌, length, List, ℕ, sym, ap, subst, drop, arith}
+use Rattle.std.specs.Prelude.{slice_index}
+use Rattle.std.proofs.lemmas.List.{get_or_default}
+use Rattle.node_table.specs.Numbering.{number_among}
 use Rattle.node_table.specs.Rows.{Line}
-use Rattle.node_table.specs.Building.{line_in, number_in}
-use Rattle.node_table.proofs.Built.{directory, other}
+use Rattle.node_table.specs.Building.{line_in, AreFollowing}
+use Rattle.node_table.proofs.Built.{directory, other, follows}
 use Rattle.node_table.proofs.building.add_rows.Goals as goal
 use Rattle.node_table.proofs.building.add_rows.Goals.{in-Directory, in_default}
 
 pub loop-child-preserved : goal.loop-child-preserved
 loop-child-preserved g c =
+    let tell = number_among c.args.walk.now.spots.items in
     let lt : c.loop-child.child-index < length c.args.children.now = omega arith in
     let nm : c.in_ok-name.name.items ≡ c.child-item.result.name = c.in_ok-name.ensures.items_if_clones_equal (λ x y e. e) ∙ c.name.ensures in
-    let nr : c.number_in-number.result ≡ number_in (get nat_cmp c.args.numbers.now) c.child-item.result.value.place = c.number_in-number.ensures ∙ ap (λ e. number_in (get nat_cmp c.args.numbers.now) e.place) c.value-entry.ensures in
-    let line : Line = record { number = c.number_in-number.result; name = c.in_ok-name.name.items } in
-    let is : line ≡ line_in (get nat_cmp c.args.numbers.now) c.child-item.result = ap (λ (n : ℕ). record { number = n; name = c.in_ok-name.name.items }) nr ∙ ap (λ (x : List ℕ). record { number = number_in (get nat_cmp c.args.numbers.now) c.child-item.result.value.place; name = x }) nm in
+    let f = follows tell c.args.numbers.now c.args.walk.now.sizes.items c.loop-child.at c.args.children.now c.loop-child.child-index c.child-item.result lt c.child-item.is c.loop-child.invariant.1 in
+    let number : ℕ = slice_index c.args.numbers.now c.loop-child.at in
+    let line : Line = record { number = number; name = c.in_ok-name.name.items } in
+    let is : line ≡ line_in tell c.child-item.result = ap (λ (n : ℕ). record { number = n; name = c.in_ok-name.name.items }) f.0.number_is ∙ ap (λ (x : List ℕ). record { number = tell c.child-item.result.value.place; name = x }) nm in
+    let size = c.index-size.ensures ∙ get_or_default c.args.walk.now.sizes.items c.loop-child.at c.index-size.result.now 0 f.0.sized ∙ f.0.size_is in
+    let rest = subst (λ n. AreFollowing tell c.args.numbers.now c.args.walk.now.sizes.items (c.loop-child.at + n) (drop (c.loop-child.child-index + 1) c.args.children.now)) (sym size) f.1 in
     elim c.match-entry.branch [
-      | in-Directory w ↦ rw w.directories-is (directory (get nat_cmp c.args.numbers.now) c.args.children.now c.args.rows.now.items c.loop-child.rows.items c.push.new.self.items c.loop-child.directories c.loop-child.child-index c.child-item.result lt c.child-item.is c.loop-child.invariant line is c.in_ok-push.ensures.items (ap (λ e. e.kind) (sym c.value-entry.ensures) ∙ w.in-Directory.is))
-      | in_default w ↦ rw w.directories-is (other (get nat_cmp c.args.numbers.now) c.args.children.now c.args.rows.now.items c.loop-child.rows.items c.push.new.self.items c.loop-child.directories c.loop-child.child-index c.child-item.result lt c.child-item.is c.loop-child.invariant line is c.in_ok-push.ensures.items (λ k. w.in_default.not-Directory (ap (λ e. e.kind) c.value-entry.ensures ∙ k)))
+      | in-Directory w ↦ (rw w.directories-is (directory tell c.args.children.now c.args.rows.now.items c.loop-child.rows.items c.push.new.self.items c.loop-child.directories c.loop-child.child-index c.child-item.result lt c.child-item.is c.loop-child.invariant.0 line is c.in_ok-push.ensures.items (ap (λ e. e.kind) (sym c.value-entry.ensures) ∙ w.in-Directory.is)), rest)
+      | in_default w ↦ (rw w.directories-is (other tell c.args.children.now c.args.rows.now.items c.loop-child.rows.items c.push.new.self.items c.loop-child.directories c.loop-child.child-index c.child-item.result lt c.child-item.is c.loop-child.invariant.0 line is c.in_ok-push.ensures.items (λ k. w.in_default.not-Directory (ap (λ e. e.kind) c.value-entry.ensures ∙ k))), rest)
     ]

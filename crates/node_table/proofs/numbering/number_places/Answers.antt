@@ -1,41 +1,73 @@
-use Rattle.std.proofs.Common.{rules, refl, ◌≡◌, ◌∙◌, ◌<◌, length, Some, sym, ap, arith}
-use Rattle.std.specs.Ordering.{nat_cmp}
-use Rattle.std.specs.BTreeMap.{get}
-use Rattle.node_table.specs.Numbering.{key}
-use Rattle.node_table.proofs.Counting.{begins, number_positive, was_known, is_new}
+use Rattle.std.proofs.Common.{◌≡◌, ◌∙◌, ◌<◌, ◌+◌, length, sym, arith}
+use Rattle.std.specs.Prelude.{slice_index}
+use Rattle.std.proofs.lemmas.List.{get_or_default}
+use Rattle.node_table.proofs.Counting.{begins, keys_level, number_positive, known_before, is_before, has_none, was_known, is_new}
 use Rattle.node_table.proofs.numbering.number_places.Goals as goal
-use Rattle.node_table.proofs.numbering.number_places.Goals.{in-Some, in-None+in_ok-push-in-None+in_ok-push-in-None-2+in_ok-insert-in-None}
+use Rattle.node_table.proofs.numbering.number_places.Goals.{then-before-at+in_ok-push+in_ok-push-2+in_ok-push-3+in_ok-push-4, else-before-at+in_ok-push-5}
 
-pub loop-spot-init : goal.loop-spot-init
-loop-spot-init g c = begins c.args.spots.now c.new-first.result.items c.new-paths.result.items (get nat_cmp c.new-numbers.result) c.new-first.ensures.items c.new-paths.ensures.items (λ k. rw c.new-numbers.ensures.empty refl)
+pub loop-at-init : goal.loop-at-init
+loop-at-init g c = begins _ _ _ _ _ c.in_ok-first.ensures.items c.in_ok-starts.ensures.items c.in_ok-paths.ensures.items c.in_ok-numbers.ensures.items
+
+pub index-number-requires : goal.index-number-requires
+index-number-requires g c =
+    let firsts = c.in_ok-firsts.firsts.items in
+    let keyed = c.in_ok-keys.ensures in
+    let told = rw c.deref.ensures.value at c.in_ok-firsts.ensures in
+    let lt : c.loop-at.at < length c.args.spots.now = omega arith in
+    let within : c.loop-at.at < length firsts = omega (arith, told.level, keys_level _ _ _ keyed told) in
+    let before : c.index-before.result.now ≡ slice_index firsts c.loop-at.at = c.index-before.ensures ∙ get_or_default firsts c.loop-at.at c.index-before.result.now 0 within in
+    let l = is_before _ _ _ keyed told c.loop-at.at c.index-spots-at.result lt c.index-spots-at.is _ _ _ _ c.loop-at.invariant _ before c.if-before-at.false in
+    let level = c.loop-at.invariant.numbers_level in
+    omega (arith, c.loop-at.numbers.ok.0)
 
 pub overflow_sub-number : goal.overflow_sub-number
 overflow_sub-number g c =
-    let lt : c.loop-spot.spot-index < length c.args.spots.now = omega arith in
-    let found : get nat_cmp c.loop-spot.numbers c.key-place.result ≡ c.copied-known.result = search rules in
-    let small = rw c.value-entry.ensures at c.key-place.ensures.small in
-    let at : get nat_cmp c.loop-spot.numbers (key c.spot-item.result.0.now.value.place) ≡ Some c.in-Some.number = ap (λ k. get nat_cmp c.loop-spot.numbers k) (sym (c.key-place.ensures.value ∙ ap (λ e. key e.place) c.value-entry.ensures)) ∙ found ∙ c.in-Some.is in
-    (number_positive c.args.spots.now c.loop-spot.spot-index c.spot-item.result c.loop-spot.first.items c.loop-spot.paths.items (get nat_cmp c.loop-spot.numbers) (get nat_cmp c.loop-spot.numbers) lt c.spot-item.is c.loop-spot.invariant small c.in-Some.number at).0
+    let firsts = c.in_ok-firsts.firsts.items in
+    let keyed = c.in_ok-keys.ensures in
+    let told = rw c.deref.ensures.value at c.in_ok-firsts.ensures in
+    let lt : c.loop-at.at < length c.args.spots.now = omega arith in
+    let within : c.loop-at.at < length firsts = omega (arith, told.level, keys_level _ _ _ keyed told) in
+    let before : c.index-before.result.now ≡ slice_index firsts c.loop-at.at = c.index-before.ensures ∙ get_or_default firsts c.loop-at.at c.index-before.result.now 0 within in
+    let l = is_before _ _ _ keyed told c.loop-at.at c.index-spots-at.result lt c.index-spots-at.is _ _ _ _ c.loop-at.invariant _ before c.if-before-at.false in
+    let level = c.loop-at.invariant.numbers_level in
+    let there : c.index-before.result.now < length c.loop-at.numbers.items = omega arith in
+    let number = c.index-number.ensures ∙ get_or_default c.loop-at.numbers.items c.index-before.result.now c.index-number.result.now 0 there in
+    let k0 = known_before _ _ _ keyed told c.loop-at.at c.index-spots-at.result lt c.index-spots-at.is _ _ _ _ c.loop-at.invariant _ _ before number c.if-before-at.false in
+    (number_positive _ _ c.index-spots-at.result _ _ _ _ lt c.index-spots-at.is c.loop-at.invariant _ k0).0
 
 pub count_one-requires : goal.count_one-requires
 count_one-requires g c =
-    let lt : c.loop-spot.spot-index < length c.args.spots.now = omega arith in
-    let found : get nat_cmp c.loop-spot.numbers c.key-place.result ≡ c.copied-known.result = search rules in
-    let small = rw c.value-entry.ensures at c.key-place.ensures.small in
-    let at : get nat_cmp c.loop-spot.numbers (key c.spot-item.result.0.now.value.place) ≡ Some c.in-Some.number = ap (λ k. get nat_cmp c.loop-spot.numbers k) (sym (c.key-place.ensures.value ∙ ap (λ e. key e.place) c.value-entry.ensures)) ∙ found ∙ c.in-Some.is in
-    (number_positive c.args.spots.now c.loop-spot.spot-index c.spot-item.result c.loop-spot.first.items c.loop-spot.paths.items (get nat_cmp c.loop-spot.numbers) (get nat_cmp c.loop-spot.numbers) lt c.spot-item.is c.loop-spot.invariant small c.in-Some.number at).1
+    let firsts = c.in_ok-firsts.firsts.items in
+    let keyed = c.in_ok-keys.ensures in
+    let told = rw c.deref.ensures.value at c.in_ok-firsts.ensures in
+    let lt : c.loop-at.at < length c.args.spots.now = omega arith in
+    let within : c.loop-at.at < length firsts = omega (arith, told.level, keys_level _ _ _ keyed told) in
+    let before : c.index-before.result.now ≡ slice_index firsts c.loop-at.at = c.index-before.ensures ∙ get_or_default firsts c.loop-at.at c.index-before.result.now 0 within in
+    let l = is_before _ _ _ keyed told c.loop-at.at c.index-spots-at.result lt c.index-spots-at.is _ _ _ _ c.loop-at.invariant _ before c.if-before-at.false in
+    let level = c.loop-at.invariant.numbers_level in
+    let there : c.index-before.result.now < length c.loop-at.numbers.items = omega arith in
+    let number = c.index-number.ensures ∙ get_or_default c.loop-at.numbers.items c.index-before.result.now c.index-number.result.now 0 there in
+    let k0 = known_before _ _ _ keyed told c.loop-at.at c.index-spots-at.result lt c.index-spots-at.is _ _ _ _ c.loop-at.invariant _ _ before number c.if-before-at.false in
+    (number_positive _ _ c.index-spots-at.result _ _ _ _ lt c.index-spots-at.is c.loop-at.invariant _ k0).1
 
-pub loop-spot-preserved : goal.loop-spot-preserved
-loop-spot-preserved g c =
-    let i = c.loop-spot.spot-index in
-    let lt : c.loop-spot.spot-index < length c.args.spots.now = omega arith in
-    let found : get nat_cmp c.loop-spot.numbers c.key-place.result ≡ c.copied-known.result = search rules in
-    let small = rw c.value-entry.ensures at c.key-place.ensures.small in
-    let k = c.key-place.ensures.value ∙ ap (λ e. key e.place) c.value-entry.ensures in
-    let at : get nat_cmp c.loop-spot.numbers (key c.spot-item.result.0.now.value.place) ≡ c.copied-known.result = ap (λ k. get nat_cmp c.loop-spot.numbers k) (sym k) ∙ found in
-    elim c.match-known.branch [
-      | in-Some w ↦
-          rw (w.first-is, w.numbers-is, w.paths-is) (was_known c.args.spots.now i c.spot-item.result c.loop-spot.first.items c.loop-spot.paths.items (get nat_cmp c.loop-spot.numbers) (get nat_cmp c.loop-spot.numbers) lt c.spot-item.is c.loop-spot.invariant small w.in-Some.number w.count_one.new.paths.items (at ∙ w.in-Some.is) w.count_one.ensures)
-      | in-None+in_ok-push-in-None+in_ok-push-in-None-2+in_ok-insert-in-None w ↦
-          is_new c.args.spots.now i c.spot-item.result c.loop-spot.first.items c.loop-spot.paths.items (get nat_cmp c.loop-spot.numbers) (get nat_cmp c.match-known.numbers) lt c.spot-item.is c.loop-spot.invariant small w.len.result c.match-known.first.items c.match-known.paths.items (at ∙ w.in-None.is) (omega (arith, w.len.ensures, w.in_ok-push-in-None.ensures.len, c.loop-spot.first.ok.0)) (rw w.numbers-is (rw k at w.in_ok-insert-in-None.ensures.updates.0)) (rw w.first-is w.in_ok-push-in-None.ensures.items) (rw w.paths-is w.in_ok-push-in-None-2.ensures.items)
+pub loop-at-preserved : goal.loop-at-preserved
+loop-at-preserved g c =
+    let firsts = c.in_ok-firsts.firsts.items in
+    let keyed = c.in_ok-keys.ensures in
+    let told = rw c.deref.ensures.value at c.in_ok-firsts.ensures in
+    let lt : c.loop-at.at < length c.args.spots.now = omega arith in
+    let within : c.loop-at.at < length firsts = omega (arith, told.level, keys_level _ _ _ keyed told) in
+    let before : c.index-before.result.now ≡ slice_index firsts c.loop-at.at = c.index-before.ensures ∙ get_or_default firsts c.loop-at.at c.index-before.result.now 0 within in
+    let level = c.loop-at.invariant.numbers_level in
+    elim c.if-before-at.branch [
+      | then-before-at+in_ok-push+in_ok-push-2+in_ok-push-3+in_ok-push-4 w ↦
+          let k0 = has_none _ _ _ keyed told c.loop-at.at c.index-spots-at.result lt c.index-spots-at.is (sym before ∙ w.if-before-at.true) in
+          let n : w.len.result ≡ length c.loop-at.first.items + 1 = omega (arith, w.len.ensures, w.in_ok-push.ensures.len, c.loop-at.first.ok.0) in
+          rw (w.first-is, w.starts-is, w.paths-is, w.numbers-is) (is_new _ _ c.index-spots-at.result _ _ _ _ lt c.index-spots-at.is c.loop-at.invariant w.len.result _ _ _ _ k0 n w.in_ok-push.ensures.items w.in_ok-push-2.ensures.items w.in_ok-push-3.ensures.items w.in_ok-push-4.ensures.items)
+      | else-before-at+in_ok-push-5 w ↦
+          let l = is_before _ _ _ keyed told c.loop-at.at c.index-spots-at.result lt c.index-spots-at.is _ _ _ _ c.loop-at.invariant _ before w.if-before-at.false in
+          let there : c.index-before.result.now < length c.loop-at.numbers.items = omega arith in
+          let number = w.index-number.ensures ∙ get_or_default c.loop-at.numbers.items c.index-before.result.now w.index-number.result.now 0 there in
+          let k0 = known_before _ _ _ keyed told c.loop-at.at c.index-spots-at.result lt c.index-spots-at.is _ _ _ _ c.loop-at.invariant _ _ before number w.if-before-at.false in
+          rw (w.first-is, w.starts-is, w.paths-is, w.numbers-is) (was_known _ _ c.index-spots-at.result _ _ _ _ lt c.index-spots-at.is c.loop-at.invariant w.index-number.result.now _ _ k0 w.count_one.ensures w.in_ok-push-5.ensures.items)
     ]

@@ -1,7 +1,5 @@
-use Rattle.std.specs.Ordering.{nat_cmp}
-use Rattle.std.specs.BTreeMap.{get}
 use Rattle.node_table.specs.Numbering.{IsNumbered}
 use Rattle.node_table.proofs.numbering.number_places.Given as goal
 
-abbrev pub invariant-loop-spot : goal.invariant-loop-spot
-invariant-loop-spot g l = IsNumbered l.spots l.spot-index l.first.items l.paths.items (get nat_cmp l.numbers)
+abbrev pub invariant-loop-at : goal.invariant-loop-at
+invariant-loop-at g l = IsNumbered l.spots l.at l.first.items l.starts.items l.paths.items l.numbers.items

@@ -1,5 +1,5 @@
 use Rattle.std.proofs.Common.{rules}
-use Rattle.node_table.proofs.Nodes.{data_is, data_none, image_there, image_gives}
+use Rattle.node_table.proofs.Nodes.{data_is, data_none, image_there, part_lies}
 use Rattle.node_table.proofs.table.Table.bytes.Goals as goal
 
 pub index-image-requires : goal.index-image-requires
@@ -7,11 +7,11 @@ index-image-requires g c =
     let l = image_there _ _ _ _ _ _ c.self.invariant c.args.number _ (rw c.deref.ensures.value at c.in-Some.ensures) in
     search (rules, l)
 
-pub body-requires : goal.body-requires
-body-requires g c = image_gives _ _ _ _ _ _ c.self.invariant c.args.number _ _ (rw c.deref.ensures.value at c.in-Some.ensures) c.index-image.ensures
+pub part-requires : goal.part-requires
+part-requires g c = part_lies _ _ _ _ _ _ c.self.invariant c.args.number _ _ (rw c.deref.ensures.value at c.in-Some.ensures) c.index-image.ensures
 
 pub returns-in-Some-clause-value : goal.returns-in-Some-clause-value
-returns-in-Some-clause-value g c = rw (c.body.ensures.value, ← c.self.view_is) (data_is _ _ _ _ _ _ c.self.invariant c.args.number _ _ (rw c.deref.ensures.value at c.in-Some.ensures) c.index-image.ensures)
+returns-in-Some-clause-value g c = rw (c.part.ensures.value, ← c.self.view_is) (data_is _ _ _ _ _ _ c.self.invariant c.args.number _ _ (rw c.deref.ensures.value at c.in-Some.ensures) c.index-image.ensures)
 
 pub returns-in-None-clause-value : goal.returns-in-None-clause-value
 returns-in-None-clause-value g c = rw (← c.self.view_is) (data_none _ _ _ _ _ _ c.self.invariant c.args.number (rw c.deref.ensures.value at c.in-None.ensures))

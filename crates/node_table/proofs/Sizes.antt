@@ -1,0 +1,73 @@
+-- How many rows stand below a path.
+use Rattle.std.proofs.Common.{◌≡◌, ◌∙◌, sym, ap, ℕ, suc, ◌+◌, ◌≤◌, [], ◌∷◌, ◌++◌, length, refl, arith, length-append, Bool, true, false, Some, cond}
+use Rattle.std.specs.Prelude.{slice_get}
+use Rattle.stack_model.specs.Stack.{Path}
+use Rattle.path_tree.specs.Rows.{Shoot, Rows, whole}
+use Rattle.layer_tree.specs.declared.place.Entry.{Entry}
+use Rattle.node_table.specs.Walks.{under, extends, AreApart, IsLocated}
+use Rattle.node_table.proofs.Paths.{same_itself}
+use Rattle.node_table.proofs.Seeded.{row_at, nil_right}
+
+-- how many rows begin with a path
+abbrev count : Path → Rows Entry → ℕ
+count top [] = 0
+count top (x ∷ xs) = cond (extends top x.0) (1 + count top xs) (count top xs)
+
+count_append : (top : Path) (xs ys : Rows Entry) → count top (xs ++ ys) ≡ count top xs + count top ys
+count_append top [] ys = omega arith
+count_append top (x ∷ xs) ys = go (extends top x.0) (count_append top xs ys)
+  where
+    go : (b : Bool) → count top (xs ++ ys) ≡ count top xs + count top ys → cond b (1 + count top (xs ++ ys)) (count top (xs ++ ys)) ≡ cond b (1 + count top xs) (count top xs) + count top ys
+    go true e = omega arith
+    go false e = e
+
+count_apart : (top : Path) (xs : Rows Entry) → AreApart top xs → count top xs ≡ 0
+count_apart top [] a = refl
+count_apart top (x ∷ xs) a = rw a.0 (count_apart top xs a.1)
+
+extends_on : (top q : Path) → extends top (top ++ q) ≡ true
+extends_on [] q = refl
+extends_on (n ∷ top) q = rw (same_itself n) (extends_on top q)
+
+count_under : (top : Path) (xs : Rows Entry) → count top (under top xs) ≡ length xs
+count_under top [] = refl
+count_under top (x ∷ xs) = rw (extends_on top x.0) (let e = count_under top xs in omega arith)
+
+rows_below : (rows : Rows Entry) (j : ℕ) (s : Shoot Entry) (above : Entry) (l : IsLocated rows j s above) → count l.top rows ≡ length (whole s)
+rows_below rows j s above l =
+    ap (count l.top) l.is ∙ count_append l.top (l.before ++ under l.top (whole s)) l.after
+    ∙ ap (λ n. n + count l.top l.after) (count_append l.top l.before (under l.top (whole s)))
+    ∙ sums _ _ _ (count_apart l.top l.before l.apart_before) (count_under l.top (whole s)) (count_apart l.top l.after l.apart_after)
+  where
+    sums : (a b c : ℕ) → a ≡ 0 → b ≡ length (whole s) → c ≡ 0 → a + b + c ≡ length (whole s)
+    sums a b c e f g = omega arith
+
+-- branches that stand at one place have as many rows below them, and one value
+module _ (rows : Rows Entry) (j : ℕ) (s s' : Shoot Entry) (above above' : Entry) (l : IsLocated rows j s above) (l' : IsLocated rows j s' above') where
+  tops : (a b : Path × Entry) → slice_get rows j ≡ Some a → slice_get rows j ≡ Some b → a ≡ b
+  tops a b e f = let g : Some a ≡ Some b = sym e ∙ f in cc
+
+  rows_are : (top top' : Path × Entry) → top ≡ (l.top ++ [], s.value) → top' ≡ (l'.top ++ [], s'.value) → top ≡ top'
+  rows_are top top' e f = tops top top' (row_at rows j s above l ∙ ap Some (sym e)) (row_at rows j s' above' l' ∙ ap Some (sym f))
+
+  pub same_value : s.value ≡ s'.value
+  same_value = ap (λ (r : Path × Entry). r.1) (rows_are (l.top ++ [], s.value) (l'.top ++ [], s'.value) refl refl)
+
+  pub same_size : length (whole s) ≡ length (whole s')
+  same_size =
+      let top = sym (nil_right l.top) ∙ ap (λ (r : Path × Entry). r.0) (rows_are (l.top ++ [], s.value) (l'.top ++ [], s'.value) refl refl) ∙ nil_right l'.top in
+      sym (rows_below rows j s above l) ∙ ap (λ t. count t rows) top ∙ rows_below rows j s' above' l'
+
+-- a branch ends within the rows
+pub ends_within : (rows : Rows Entry) (j : ℕ) (s : Shoot Entry) (above : Entry) → IsLocated rows j s above → j + length (whole s) ≤ length rows
+ends_within rows j s above l =
+    let a = ap length l.is in
+    let b = length-append (l.before ++ under l.top (whole s)) l.after in
+    let c = length-append l.before (under l.top (whole s)) in
+    let d = l.at in
+    let e = count_length (whole s) in
+    omega arith
+  where
+    count_length : (xs : Rows Entry) → length (under l.top xs) ≡ length xs
+    count_length [] = refl
+    count_length (x ∷ xs) = ap suc (count_length xs)

@@ -1,0 +1,5 @@
+use Rattle.node_table.proofs.Seating.{Seating}
+use Rattle.node_table.proofs.firsts.seats_of.Given as goal
+
+abbrev pub invariant-loop-at : goal.invariant-loop-at
+invariant-loop-at g l = Seating l.keys l.seats.items l.at

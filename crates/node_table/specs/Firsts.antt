@@ -1,0 +1,22 @@
+-- Where each number of a list stands first.
+use Rattle.std.specs.Prelude.{◌≡◌, ◌≢◌, ℕ, ◌<◌, List, length, slice_index, All}
+use Rattle.std.specs.List.{Contains}
+use Rattle.std.specs.List.Sorted.{IsSorted}
+use Rattle.std.specs.Ordering.{nat_cmp, ordering_then}
+
+-- each key with its place, in the order of keys, and of places where keys are equal
+pub record AreSeats (keys : List ℕ) (seats : List (ℕ × ℕ)) : Type 0 where
+  pub own : All (λ seat. (seat.1 < length keys) × (slice_index keys seat.1 ≡ seat.0)) seats
+  pub every : (k : ℕ) → k < length keys → Contains seats (slice_index keys k, k)
+  pub rising : IsSorted (λ x y. ordering_then (nat_cmp x.0 y.0) (nat_cmp x.1 y.1)) seats
+
+-- a key stands at this place, and at none before it
+pub record IsFirstOf (keys : List ℕ) (key place : ℕ) : Type 0 where
+  pub within : place < length keys
+  pub at : slice_index keys place ≡ key
+  pub before : (k : ℕ) → k < place → slice_index keys k ≢ key
+
+-- for each place the first place with the same key
+pub record AreFirsts (keys firsts : List ℕ) : Type 0 where
+  pub level : length firsts ≡ length keys
+  pub each : (k : ℕ) → k < length keys → IsFirstOf keys (slice_index keys k) (slice_index firsts k)
