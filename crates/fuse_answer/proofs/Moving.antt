@@ -4,7 +4,7 @@ use Rattle.std.specs.Prelude.{nat_lt, filter}
 use Rattle.std.specs.List.{cons_option}
 use Rattle.std.specs.Option.{option_map, option_map_or}
 use Rattle.std.proofs.lemmas.Int.{ints}
-use Rattle.std.proofs.lemmas.List.{get_or-drop, length-drop, take_more}
+use Rattle.std.proofs.lemmas.List.{get_or-drop, length-drop, take_more, take-append-drop, take-take}
 use Rattle.std.proofs.lemmas.List.FromFn.{length-enumerate_from}
 use Rattle.std.proofs.lemmas.Option.{slice_get-get_or}
 use Rattle.fuse_wire.specs.declared.forget.Forget.{Forget}
@@ -177,6 +177,32 @@ pub row_appended : {A : Type 0} (l : Listing A) (index : ℕ) (before now next :
 row_appended l index before now next from there so_far is =
     is ∙ ap (λ m. m ++ row_given l index) so_far ∙ append_assoc before (given l index) (row_given l index)
     ∙ ap (λ m. before ++ m) (sym (given_next l index from there))
+
+-- what was taken back, with one item more, is no more than all
+pub taken_less : (stack : Stacked) (done : List Forget) (f : Forget) (later all rest : List Forget) → rest ≡ f ∷ later → done ++ rest ≡ all
+    → length (taken_back stack done) + length (taken_back stack (f ∷ [])) ≤ length (taken_back stack all)
+taken_less stack done f later all rest is split =
+    let whole : taken_back stack all ≡ taken_back stack done ++ (taken_back stack (f ∷ []) ++ taken_back stack later) =
+    ap (taken_back stack) (sym split) ∙ taken_on stack done rest
+    ∙ ap (λ fs. taken_back stack done ++ taken_back stack fs) is ∙ ap (λ t. taken_back stack done ++ t) (taken_on stack (f ∷ []) later) in
+    let a = ap length whole in
+    let b = length-append (taken_back stack done) (taken_back stack (f ∷ []) ++ taken_back stack later) in
+    let d = length-append (taken_back stack (f ∷ [])) (taken_back stack later) in
+    omega arith
+
+-- rows before an index give no more than those before a later one
+pub given_less : {A : Type 0} (l : Listing A) (index later : ℕ) → index ≤ later → length (given l index) ≤ length (given l later)
+given_less l index later le =
+    let rows = drop l.from (lines_of l) in
+    let k = index - l.from in
+    let n = later - l.from in
+    let more : k ≤ n = omega arith in
+    let rest = drop k (take n rows) in
+    let parts : take k rows ++ rest ≡ take n rows = ap (λ t. t ++ rest) (sym (take-take k n rows more)) ∙ take-append-drop k (take n rows) in
+    let both : lines_given (take n rows) ≡ lines_given (take k rows) ++ lines_given rest = ap lines_given (sym parts) ∙ given_on (take k rows) rest in
+    let len = ap length both in
+    let sum = length-append (lines_given (take k rows)) (lines_given rest) in
+    omega arith
 
 -- what was taken back of all items was appended, and these are left
 pub record AreTaken (stack : Stacked) (all rest : List Forget) (before now : List Move) : Type 0 where

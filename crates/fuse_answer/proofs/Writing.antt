@@ -1,15 +1,15 @@
 -- The bytes of a directory's rows, row by row.
-use Rattle.std.proofs.Common.{◌≡◌, ◌∙◌, sym, ap, ℕ, zero, suc, ◌+◌, ◌-◌, ◌^◌, ◌<◌, ◌≤◌, List, [], ◌∷◌, ◌++◌, length, drop, take, get_or, Bool, true, false, cond, Some, None, subst, arith, append-nil, append_assoc}
+use Rattle.std.proofs.Common.{◌≡◌, ◌∙◌, sym, ap, ℕ, zero, suc, ◌+◌, ◌-◌, ◌^◌, ◌<◌, ◌≤◌, List, [], ◌∷◌, ◌++◌, length, drop, take, get_or, Bool, true, false, cond, Some, None, subst, arith, append-nil, append_assoc, length-append}
 use Rattle.std.specs.Prelude.{nat_lt, slice_get}
 use Rattle.std.specs.List.{enumerate_from, flat_map}
 use Rattle.std.specs.Option.{option_map_or}
-use Rattle.std.proofs.lemmas.List.{get_or-take, get_or-drop, length-take, length-drop, take_more}
+use Rattle.std.proofs.lemmas.List.{get_or-take, get_or-drop, length-take, length-drop, take_more, take-append-drop, take-take}
 use Rattle.std.proofs.lemmas.List.Concat.{flat_map-append}
 use Rattle.std.proofs.lemmas.List.Folds.{length-flat_map-take}
 use Rattle.std.proofs.lemmas.List.FromFn.{length-enumerate_from}
 use Rattle.std.proofs.lemmas.Option.{get_or_from_slice_get, slice_get-get_or}
 use Rattle.fuse_wire.specs.Replies.{reply_head, reply_with}
-use Rattle.fuse_wire.proofs.Sizes.{length-dirent, length-direntplus}
+use Rattle.fuse_wire.proofs.Sizes.{length-dirent, length-direntplus, length-head}
 use Rattle.node_table.specs.Rows.{Line}
 use Rattle.node_table.specs.Stacked.{Stacked}
 use Rattle.fuse_answer.specs.declared.listing.Listing.{Listing}
@@ -93,6 +93,35 @@ module _ {A : Type 0} (stack : Stacked) (l : Listing A) (whole : IsWhole stack l
       let sized = length-line_bytes stack l.with_entries r in
       let size_is = whole.size_is in
       let small = whole.small in
+      omega arith
+
+  -- rows that are written are no more than all
+  pub written_few : (index : ℕ) → index ≤ l.until → length (written stack l index) ≤ l.size
+  written_few index le =
+      let rows = drop l.from (lines_of l) in
+      let k = index - l.from in
+      let n = l.until - l.from in
+      let less : k ≤ n = omega arith in
+      let rest = drop k (take n rows) in
+      let parts : take k rows ++ rest ≡ take n rows = ap (λ t. t ++ rest) (sym (take-take k n rows less)) ∙ take-append-drop k (take n rows) in
+      let both : listed_data stack l ≡ written stack l index ++ flat_map bytes_of rest = ap (flat_map bytes_of) (sym parts) ∙ flat_map-append bytes_of (take k rows) rest in
+      let len = ap length both in
+      let sum = length-append (written stack l index) (flat_map bytes_of rest) in
+      let all = whole.size_is in
+      omega arith
+
+  -- where all have room, each row has
+  pub row_has_room : (unique index : ℕ) (before now : List ℕ) → l.from ≤ index → index < l.until → now ≡ before ++ (reply_head unique l.size ++ written stack l index)
+      → length now + length (row_bytes stack l index) ≤ length before + (16 + l.size)
+  row_has_room unique index before now from until so_far =
+      let w = written stack l index in
+      let next = ap length (one_written index from until) in
+      let next_len = length-append w (row_bytes stack l index) in
+      let few = written_few (index + 1) (omega arith) in
+      let head = length-head unique l.size in
+      let a = ap length so_far in
+      let b = length-append before (reply_head unique l.size ++ w) in
+      let d = length-append (reply_head unique l.size) w in
       omega arith
 
   -- what was appended before an index

@@ -1,5 +1,6 @@
 -- What a call leaves of a vector that it appends to, and of balances.
-use Rattle.std.specs.Prelude.{◌≡◌, ℕ, ℤ, List, ◌++◌, Result, OnOk, OnErr}
+use Rattle.std.specs.Prelude.{◌≡◌, ℕ, ◌+◌, ◌<◌, ◌≤◌, ◌^◌, ℤ, unsigned_abs, List, ◌++◌, length, Result, OnOk, OnErr, vec_len, vec_capacity}
+use Rattle.std.specs.List.{All}
 use Rattle.std.specs.declared.vec.Vec.{Vec}
 use Rattle.fuse_wire.specs.Requests.{Asked}
 use Rattle.node_table.specs.Stacked.{Stacked}
@@ -9,20 +10,31 @@ use Rattle.reply_model.specs.Replies.{reply}
 use Rattle.reply_model.specs.Moves.{moves}
 use Rattle.rounds.specs.Moves.{IsMoved}
 
--- the call appends exactly these; or, where memory is refused, nothing
+-- the call appends exactly these; or, where the vector has no room for them and gets none, nothing
 abbrev pub Puts : {X A E : Type 0} → Result (Unit {0}) E → Vec X A → Vec X A → List X → Type 0
-Puts result before after appended = OnOk result (after.items ≡ before.items ++ appended) × OnErr result (after.items ≡ before.items)
+Puts result before after appended =
+    OnOk result (after.items ≡ before.items ++ appended)
+    × OnErr result (after.items ≡ before.items)
+    × OnErr result (vec_capacity before < vec_len before + length appended)
+    × (vec_capacity before ≤ vec_capacity after)
 
--- the call appends exactly these; or, where memory is refused, something
+-- the call appends exactly these; or, where the vector has no room for them and gets none, something
 abbrev pub Grows : {X A E : Type 0} → Result (Unit {0}) E → Vec X A → Vec X A → List X → Type 0
 Grows {X = X} result before after appended =
-    OnOk result (after.items ≡ before.items ++ appended) × OnErr result ((some : List X) × (after.items ≡ before.items ++ some))
+    OnOk result (after.items ≡ before.items ++ appended)
+    × OnErr result ((some : List X) × (after.items ≡ before.items ++ some))
+    × OnErr result (vec_capacity before < vec_len before + length appended)
+    × (vec_capacity before ≤ vec_capacity after)
 
--- the reply to a request over a stack is appended; or, where memory is refused, nothing
+-- no move is of more lookups than 64 bits say
+abbrev pub AreSmall : List Move → Type 0
+AreSmall moves = All (λ m. unsigned_abs m.amount ≤ 2 ^ 64) moves
+
+-- the reply to a request over a stack is appended; or, where there is no room for it, nothing
 abbrev pub PutsReply : {A E : Type 0} → Stacked → Session → Asked → Result (Unit {0}) E → Vec ℕ A → Vec ℕ A → Type 0
 PutsReply stack s q result before after = Puts result before after (reply stack.layers stack.entries s q)
 
--- what a request over a stack moves is appended; or, where memory is refused, nothing
+-- what a request over a stack moves is appended; or, where there is no room for it, nothing
 abbrev pub PutsMoves : {A E : Type 0} → Stacked → Session → Asked → Result (Unit {0}) E → Vec Move A → Vec Move A → Type 0
 PutsMoves stack s q result before after = Puts result before after (moves stack.layers stack.entries s q)
 

@@ -1,10 +1,10 @@
 //! The lookups that a request gives and takes, as a list.
 
-ghost use Rattle.std.specs.Prelude.{◌≤◌, ◌<◌, ◌+◌, ◌∷◌, [], length};
+ghost use Rattle.std.specs.Prelude.{◌≤◌, ◌<◌, ◌+◌, ◌^◌, ◌∷◌, [], length, unsigned_abs};
 ghost use Rattle.fuse_wire.specs.Reads.{asked_of, items_of};
 ghost use Rattle.fuse_answer.specs.Answers.{IsSized, moves_of, taken_back};
 ghost use Rattle.fuse_answer.specs.Listings.{lines_answered, lines_given, row_given};
-ghost use Rattle.fuse_answer.specs.Puts.{Puts, PutsMoves, Grows};
+ghost use Rattle.fuse_answer.specs.Puts.{AreSmall, Puts, PutsMoves, Grows};
 
 use crate::content::Answer;
 use crate::decide::decide;
@@ -20,15 +20,16 @@ use std::alloc::{AllocError, Allocator};
 /// READDIRPLUS but `.` and `..`, and what FORGET and BATCH_FORGET take back. Numbers that are not in use, and requests
 /// that are refused, change nothing.
 ///
-/// The session is the one before the request. `AllocError` comes only where memory was refused; the vector is then as
-/// before.
+/// The session is the one before the request. `AllocError` comes only where the vector had no room for the moves and
+/// got none; it is then as before. No amount is of more than 64 bits.
 pub fn moves<A: Allocator, M: Allocator>(
     table: &Table<A>,
     session: Session,
     request: &Request<'_>,
     into: &mut Vec<Move, M>,
 ) -> Result<(), AllocError>
-    ensures { PutsMoves table.now session (asked_of request.now) result into.old into.new }
+    ensures moves { PutsMoves table.now session (asked_of request.now) result into.old into.new }
+    ensures small { AreSmall into.old.items → AreSmall into.new.items }
 {
     match decide(table, session, request) {
         Ok(answer) => put_moves(table, &answer, into),
@@ -43,7 +44,8 @@ fn put_moves<A: Allocator, M: Allocator>(
     into: &mut Vec<Move, M>,
 ) -> Result<(), AllocError>
     requires { IsSized table.now answer.now }
-    ensures { Puts result into.old into.new (moves_of table.now answer.now) }
+    ensures moves { Puts result into.old into.new (moves_of table.now answer.now) }
+    ensures small { AreSmall into.old.items → AreSmall into.new.items }
 {
     let len = into.len();
     let grown = grow(table, answer, into);
@@ -60,7 +62,8 @@ fn grow<A: Allocator, M: Allocator>(
     into: &mut Vec<Move, M>,
 ) -> Result<(), AllocError>
     requires { IsSized table.now answer.now }
-    ensures { Grows result into.old into.new (moves_of table.now answer.now) }
+    ensures moves { Grows result into.old into.new (moves_of table.now answer.now) }
+    ensures small { AreSmall into.old.items → AreSmall into.new.items }
 {
     match answer {
         Answer::Entry(attr) => put(into, attr.ino, 1),
@@ -84,7 +87,8 @@ fn grow_rows<A: Allocator, M: Allocator>(
 ) -> Result<(), AllocError>
     requires in_order { rows.now.from ≤ rows.now.until }
     requires there { rows.now.until ≤ 2 + length rows.now.children.now }
-    ensures { Grows result into.old into.new (lines_given (lines_answered rows.now)) }
+    ensures moves { Grows result into.old into.new (lines_given (lines_answered rows.now)) }
+    ensures small { AreSmall into.old.items → AreSmall into.new.items }
 {
     for index in rows.from..rows.until {
         put_given(rows, index, into)?;
@@ -100,7 +104,8 @@ fn put_given<A: Allocator, M: Allocator>(
 ) -> Result<(), AllocError>
     requires until { index < rows.now.until }
     requires there { rows.now.until ≤ 2 + length rows.now.children.now }
-    ensures { Puts result into.old into.new (row_given rows.now index) }
+    ensures moves { Puts result into.old into.new (row_given rows.now index) }
+    ensures small { AreSmall into.old.items → AreSmall into.new.items }
 {
     let (number, _) = line_at(rows, index);
     let place = index as u64 + 1;
@@ -117,7 +122,8 @@ fn put_taken<A: Allocator, M: Allocator>(
     forget: Forget,
     into: &mut Vec<Move, M>,
 ) -> Result<(), AllocError>
-    ensures { Puts result into.old into.new (taken_back table.now (forget ∷ [])) }
+    ensures moves { Puts result into.old into.new (taken_back table.now (forget ∷ [])) }
+    ensures small { AreSmall into.old.items → AreSmall into.new.items }
 {
     if table.node(forget.node).is_some() {
         put(into, forget.node, -i128::from(forget.nlookup))
@@ -132,7 +138,8 @@ fn grow_taken<A: Allocator, M: Allocator>(
     items: Forgets<'_>,
     into: &mut Vec<Move, M>,
 ) -> Result<(), AllocError>
-    ensures { Grows result into.old into.new (taken_back table.now (items_of items.entry)) }
+    ensures moves { Grows result into.old into.new (taken_back table.now (items_of items.entry)) }
+    ensures small { AreSmall into.old.items → AreSmall into.new.items }
 {
     let mut rest = items;
     for _taken in 0..items.len() {
@@ -147,7 +154,9 @@ fn grow_taken<A: Allocator, M: Allocator>(
 
 // Appends one move.
 fn put<M: Allocator>(into: &mut Vec<Move, M>, node: u64, amount: i128) -> Result<(), AllocError>
-    ensures { Puts result into.old into.new (record { node = node; amount = amount } ∷ []) }
+    requires { unsigned_abs amount ≤ 2 ^ 64 }
+    ensures moves { Puts result into.old into.new (record { node = node; amount = amount } ∷ []) }
+    ensures small { AreSmall into.old.items → AreSmall into.new.items }
 {
     into.push(Move { node, amount })?;
     Ok(())

@@ -20,7 +20,7 @@ use std::alloc::{AllocError, Allocator};
 /// answer, or with the error that refuses the request.
 ///
 /// The session is the one before the request ([`after`](crate::after) says the next). `AllocError` comes only where
-/// memory was refused; the vector is then as before.
+/// the vector had no room for the reply and got none; it is then as before.
 pub fn answer<A: Allocator, O: Allocator>(
     table: &Table<A>,
     session: Session,
@@ -41,7 +41,8 @@ pub fn answer<A: Allocator, O: Allocator>(
 /// Appends the reply to a request, as [`answer`] does, and adds what the request gives and takes to the balances of the
 /// nodes, in which node n has the place n - 1. It looks the request up once.
 ///
-/// `AllocError` comes only where memory was refused; the vector and the balances are then as before.
+/// `AllocError` comes only where the vector had no room for the reply and got none; it and the balances are then as
+/// before.
 pub fn answer_and_move<A: Allocator, O: Allocator>(
     table: &Table<A>,
     session: Session,

@@ -4,7 +4,7 @@ ghost use Rattle.std.specs.Prelude.{◌≡◌, ◌≤◌, ◌<◌, ◌+◌, ◌/
 ghost use Rattle.std.specs.Option.{option_map, option_map_or};
 ghost use Rattle.fuse_wire.specs.Replies.{reply_with};
 ghost use Rattle.fuse_answer.specs.Listings.{IsWhole, IsLineAt, listed_data, row_bytes, wired};
-ghost use Rattle.fuse_answer.specs.Puts.{Puts, Grows};
+ghost use Rattle.fuse_answer.specs.Puts.{Puts};
 
 use crate::listing::Listing;
 use crate::node::wired;
@@ -15,7 +15,7 @@ use std::alloc::{AllocError, Allocator};
 /// The bytes of a `struct fuse_out_header`.
 const HEADER_SIZE: usize = 16;
 
-/// Appends the reply with a directory's rows, in one growth.
+/// Appends the reply with a directory's rows, in one growth: once there is room for it, nothing fails.
 pub(crate) fn put_rows<A: Allocator, O: Allocator>(
     table: &Table<A>,
     unique: u64,
@@ -24,24 +24,6 @@ pub(crate) fn put_rows<A: Allocator, O: Allocator>(
 ) -> Result<(), AllocError>
     requires { IsWhole table.now rows.now }
     ensures { Puts result out.old out.new (reply_with unique (listed_data table.now rows.now)) }
-{
-    let len = out.len();
-    let grown = grow(table, unique, rows, out);
-    if grown.is_err() {
-        out.truncate(len);
-    }
-    grown
-}
-
-// Appends the reply, or some of it where memory is refused.
-fn grow<A: Allocator, O: Allocator>(
-    table: &Table<A>,
-    unique: u64,
-    rows: &Listing<'_, A>,
-    out: &mut Vec<u8, O>,
-) -> Result<(), AllocError>
-    requires { IsWhole table.now rows.now }
-    ensures { Grows result out.old out.new (reply_with unique (listed_data table.now rows.now)) }
 {
     out.reserve(HEADER_SIZE + rows.size)?;
     put_data_head(out, unique, rows.size)?;

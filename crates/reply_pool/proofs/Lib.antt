@@ -1,1 +1,3 @@
 pub mod Light
+pub mod Summing
+pub mod Ordered

@@ -1,2 +1,4 @@
 pub mod Plans
 pub mod Answers
+pub mod Sums
+pub mod Jobs

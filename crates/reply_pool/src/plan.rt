@@ -2,6 +2,8 @@
 
 ghost use Rattle.std.specs.Prelude.{◌≡◌, ◌≤◌};
 
+use stack_core::{Gate, Work};
+
 /// The most workers of a plan.
 pub const MAX_WORKERS: u32 = 64;
 
@@ -48,5 +50,13 @@ impl Plan {
         ensures few { result ≤ 256 }
     {
         self.batch
+    }
+}
+
+/// Passes the gate, where a batch begins with the request of this number.
+pub(crate) fn pass_batch<G: Gate>(gate: &G, plan: Plan, number: u32) {
+    let batch = plan.batch();
+    if number % batch == 0 {
+        gate.pass(Work::Batch, number / batch);
     }
 }

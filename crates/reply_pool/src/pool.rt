@@ -6,13 +6,13 @@ ghost use Rattle.rounds.specs.Moves.{AreWithin};
 ghost use Rattle.rounds.specs.Rounds.{change, AppendsAnswer};
 ghost use Rattle.reply_pool.specs.Answers.{answering};
 
-use crate::plan::Plan;
+use crate::plan::{Plan, pass_batch};
 use fuse_answer::{after, answer_and_move};
 use fuse_wire::Request;
 use node_table::Table;
 use reply_model::Session;
 use rounds::{Answers, Round, Rounds, walk};
-use stack_core::{Gate, Work};
+use stack_core::Gate;
 use std::alloc::{AllocError, Allocator};
 
 /// What answers requests over a table by a plan. A gate is passed before the first request of each batch.
@@ -50,10 +50,7 @@ impl<'a, A: Allocator, G: Gate> Answers for Pool<'a, A, G> {
         replies: &mut Vec<u8, B>,
         balances: &mut [i128],
     ) -> Result<Session, AllocError> {
-        let batch = self.plan.batch();
-        if number % batch == 0 {
-            self.gate.pass(Work::Batch, number / batch);
-        }
+        pass_batch(self.gate, self.plan, number);
         let request = Request::read(message);
         answer_and_move(self.table, session, &request, replies, balances)?;
         Ok(after(session, &request))

@@ -1,7 +1,7 @@
 //! Each request for memory of a call is refused in turn.
 
 use crate::reader::Pieces;
-use crate::runs::{Seen, serve_over};
+use crate::runs::{Seen, TURNS, run_over, sample_table, serve_over};
 use crate::script::{script, script_replies};
 use crate::writer::Taker;
 use reply_pool::Plan;
@@ -71,6 +71,39 @@ fn is_told(seen: &Seen, refused: bool) -> bool {
         Ok((13, 1547))
     };
     seen.end == end && seen.put.is_some()
+}
+
+/// A run of the stream over the table of the sample image, in memory of `alloc`.
+fn run_in<'a, R: Threads + Sync>(
+    rt: &R,
+    plain: &'a Refusing<Global>,
+    alloc: &'a Refusing<Global>,
+    plan: Plan,
+    taker: Taker,
+    stream: &[u8],
+    replies: &[u8],
+) -> Option<Seen> {
+    let table = sample_table(rt, plain)?;
+    let pieces = Pieces::of(stream, usize::MAX);
+    Some(run_over(alloc, &table, plan, TURNS, pieces, taker, replies))
+}
+
+#[test]
+fn running_is_refused(rt: HostRuntime) -> Result<(), Fail> {
+    let stream = long_stream(rt.alloc())?;
+    let replies = long_replies(rt.alloc())?;
+    let plan = Plan::new(2, 3).ok_or("a plan")?;
+    let plain = Refusing::new(rt.alloc(), 0);
+    let requests = refuse_each(rt.alloc(), |refusing, refuse_at| {
+        let taker = Taker::new(rt.alloc());
+        let seen = run_in(&rt, &plain, refusing, plan, taker, &stream, &replies);
+        let is_told = seen.is_some_and(|seen| is_told(&seen, refusing.refused()));
+        assert!(rt; is_told, "at {refuse_at}");
+        Ok(())
+    })?;
+    // Balances, replies, the buffer, and its growth.
+    assert_eq!(rt; requests, 4);
+    Ok(())
 }
 
 /// The stream over the sample image, in memory of `alloc`.

@@ -1,4 +1,4 @@
-//! The twelve-request script over the sample image, and its replies.
+//! The twelve-request script over the sample image, and its replies; and a script of lookups.
 
 use std::alloc::{AllocError, Global};
 use test_kit::bytes::{bytes_of, put_words};
@@ -58,6 +58,29 @@ const LAST_REPLIES: [u32; 97] = [
     0x00000000,
 ];
 
+/// INIT 7.31 of a client that finds `.` and `..` by LOOKUP; LOOKUP of `big` below node 1, of `.` and `..` below node 3, and
+/// of both below node 2, which is no directory; READDIRPLUS of node 1; BATCH_FORGET of 2 lookups of node 2, and of one
+/// of node 9, which is not there; FORGET of 5 lookups of node 6; and a FORGET of node 3 that is one byte short.
+const LOOKUPS: [u32; 132] = [
+    0x38000000, 0x1a000000, 0x01000000, 0x00000000, 0x00000000, 0x00000000, 0x00000000, 0x00000000,
+    0x00000000, 0x00000000, 0x07000000, 0x1f000000, 0x00000200, 0x10000000, 0x2c000000, 0x01000000,
+    0x02000000, 0x00000000, 0x01000000, 0x00000000, 0x00000000, 0x00000000, 0x00000000, 0x00000000,
+    0x62696700, 0x2a000000, 0x01000000, 0x03000000, 0x00000000, 0x03000000, 0x00000000, 0x00000000,
+    0x00000000, 0x00000000, 0x00000000, 0x2e002b00, 0x00000100, 0x00000400, 0x00000000, 0x00000300,
+    0x00000000, 0x00000000, 0x00000000, 0x00000000, 0x00000000, 0x00002e2e, 0x002a0000, 0x00010000,
+    0x00050000, 0x00000000, 0x00020000, 0x00000000, 0x00000000, 0x00000000, 0x00000000, 0x00000000,
+    0x002e002b, 0x00000001, 0x00000006, 0x00000000, 0x00000002, 0x00000000, 0x00000000, 0x00000000,
+    0x00000000, 0x00000000, 0x0000002e, 0x2e005000, 0x00002c00, 0x00000700, 0x00000000, 0x00000100,
+    0x00000000, 0x00000000, 0x00000000, 0x00000000, 0x00000000, 0x00000000, 0x00000000, 0x00000000,
+    0x00000000, 0x00000010, 0x00000000, 0x00000000, 0x00000000, 0x00000000, 0x00000000, 0x00005000,
+    0x00002a00, 0x00000800, 0x00000000, 0x00000000, 0x00000000, 0x00000000, 0x00000000, 0x00000000,
+    0x00000000, 0x00000300, 0x00000000, 0x00000200, 0x00000000, 0x00000200, 0x00000000, 0x00000900,
+    0x00000000, 0x00000100, 0x00000000, 0x00003000, 0x00000200, 0x00000900, 0x00000000, 0x00000600,
+    0x00000000, 0x00000000, 0x00000000, 0x00000000, 0x00000000, 0x00000500, 0x00000000, 0x00002f00,
+    0x00000200, 0x00000a00, 0x00000000, 0x00000300, 0x00000000, 0x00000000, 0x00000000, 0x00000000,
+    0x00000000, 0x00000000, 0x00000000, 0x00000000,
+];
+
 /// The script, 652 bytes.
 pub fn script(alloc: Global) -> Result<Vec<u8>, AllocError> {
     bytes_of(alloc, &SCRIPT)
@@ -72,4 +95,11 @@ pub fn script_replies(alloc: Global) -> Result<Vec<u8>, AllocError> {
     put_words(&mut replies, &LAST_REPLIES)?;
     replies.truncate(1531);
     Ok(replies)
+}
+
+/// The script of lookups, 525 bytes.
+pub fn lookups(alloc: Global) -> Result<Vec<u8>, AllocError> {
+    let mut stream = bytes_of(alloc, &LOOKUPS)?;
+    stream.truncate(525);
+    Ok(stream)
 }

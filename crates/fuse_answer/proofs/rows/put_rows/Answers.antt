@@ -1,0 +1,63 @@
+use Rattle.std.proofs.Common.{◌∙◌, ◌++◌, ap, arith}
+use Rattle.std.proofs.lemmas.Result.{err_from_is_err_and}
+use Rattle.fuse_wire.proofs.Sizes.{length-head, length-reply_with}
+use Rattle.fuse_wire.specs.Replies.{reply_head}
+use Rattle.fuse_answer.specs.Listings.{listed_data}
+use Rattle.fuse_answer.proofs.Writing.{all_rows, head_first, row_has_room, row_next}
+use Rattle.fuse_answer.proofs.rows.put_rows.Goals as goal
+
+pub returns-in_err-reserve : goal.returns-in_err-reserve
+returns-in_err-reserve g c =
+    let failed = err_from_is_err_and c.from_residual.result c.from_residual.ensures.1 in
+    let size = length-reply_with c.args.unique (listed_data c.args.table.now c.args.rows.now) in
+    let whole = c.requires.size_is in
+    let full = c.in_err-reserve.ensures.full in
+    let grown = c.in_err-reserve.ensures.capacity in
+    rw failed.1 (tt, c.in_err-reserve.ensures.items, omega arith, grown)
+
+pub returns-in_err-put_data_head : goal.returns-in_err-put_data_head
+returns-in_err-put_data_head g c =
+    let full = c.in_err-put_data_head.ensures.2 in
+    let len = length-head c.args.unique c.args.rows.now.size in
+    let room = c.in_ok-reserve.ensures.ok in
+    absurd (omega arith)
+
+pub loop-index-init : goal.loop-index-init
+loop-index-init g c =
+    let room = c.in_ok-reserve.ensures.ok in
+    let same = c.in_ok-reserve.ensures.len in
+    let more = c.in_ok-reserve.ensures.capacity in
+    let grown = c.in_ok-put_data_head.ensures.3 in
+    record {
+      so_far = head_first c.args.table.now c.args.rows.now c.requires c.args.unique c.args.out.now.items c.put_data_head.new.out.items
+          (c.in_ok-put_data_head.ensures.0 ∙ ap (λ b. b ++ reply_head c.args.unique c.args.rows.now.size) c.reserve.ensures.items);
+      room = omega arith;
+      grown = omega arith;
+    }
+
+pub loop-index-preserved : goal.loop-index-preserved
+loop-index-preserved g c =
+    let room = c.loop-index.invariant.room in
+    let more = c.loop-index.invariant.grown in
+    let grown = c.in_ok-put_row.ensures.3 in
+    record {
+      so_far = row_next c.args.table.now c.args.rows.now c.requires c.args.unique c.loop-index.index c.args.out.now.items c.loop-index.out.items c.put_row.new.out.items
+          c.loop-index.auto.index c.loop-index-test.true c.loop-index.invariant.so_far c.in_ok-put_row.ensures.0;
+      room = omega arith;
+      grown = omega arith;
+    }
+
+pub returns-in_err-put_row : goal.returns-in_err-put_row
+returns-in_err-put_row g c =
+    let fits = row_has_room c.args.table.now c.args.rows.now c.requires c.args.unique c.loop-index.index c.args.out.now.items c.loop-index.out.items
+    c.loop-index.auto.index c.loop-index-test.true c.loop-index.invariant.so_far in
+    let room = c.loop-index.invariant.room in
+    let full = c.in_err-put_row.ensures.2 in
+    let before = c.args.out.now.ok.0 in
+    let now = c.loop-index.out.ok.0 in
+    absurd (omega arith)
+
+pub returns : goal.returns
+returns g c =
+    let last = c.loop-index.auto.index-end c.requires.in_order in
+    (all_rows c.args.table.now c.args.rows.now c.requires c.args.unique c.loop-index.index c.args.out.now.items c.loop-index.out.items (omega arith) c.loop-index.invariant.so_far, tt, tt, c.loop-index.invariant.grown)

@@ -1,0 +1,45 @@
+use Rattle.std.proofs.Common.{◌≡◌, ◌<◌, List, pos, take, subst, ap, arith, take_all, sym, ◌∙◌, get_or}
+use Rattle.std.specs.Vec.{vec_items}
+use Rattle.reply_model.specs.declared.moves.Move.{Move}
+use Rattle.reply_pool.specs.Sums.{PutsSum}
+use Rattle.reply_pool.proofs.Summing.{IsJoined, all_joined, move_added, next_begun, nothing}
+use Rattle.reply_pool.proofs.sums.join.Goals as goal
+use Rattle.reply_pool.proofs.sums.join.Goals.{then-m-sum+in_ok-put, else-m-sum}
+
+pub loop-m-preserved : goal.loop-m-preserved
+loop-m-preserved g c =
+    let xs = c.args.moves.now in
+    let i = c.loop-m.m-index in
+    let there = c.loop-m-test.true in
+    let small = c.requires.small i nothing there in
+    let was = c.loop-m.invariant in
+    elim c.if-m-sum.branch [
+      | then-m-sum+in_ok-put w ↦
+          (let own : c.if-m-sum.sum.node ≡ (get_or xs i nothing).node = ap (λ (m : Move). m.node) w.sum-is in
+          let zero : c.if-m-sum.sum.amount ≡ pos 0 = ap (λ (m : Move). m.amount) w.sum-is in
+          let below = was.above i (omega arith) there in
+          let other = w.if-m-sum.true in
+          let higher : c.loop-m.sum.node < c.if-m-sum.sum.node = omega arith in
+          let put : PutsSum c.loop-m.sums.items c.if-m-sum.sums.items c.loop-m.sum = subst (λ (xs : List Move). PutsSum c.loop-m.sums.items xs c.loop-m.sum) (sym (ap vec_items w.sums-is)) w.in_ok-put.ensures in
+          let begun = next_begun (take i xs) c.loop-m.sums.items c.if-m-sum.sums.items c.loop-m.sum c.if-m-sum.sum was.joined put higher zero in
+          record {
+            joined = move_added xs c.if-m-sum.sums.items i c.if-m-sum.sum c.plus.result there c.requires.few small begun (sym own) c.plus.ensures;
+            above = λ k le lt. (let s = c.requires.sorted i k nothing (omega arith) lt in omega arith);
+          })
+      | else-m-sum w ↦
+          (let own : c.if-m-sum.sum.node ≡ c.loop-m.sum.node = ap (λ (m : Move). m.node) w.sum-is in
+          let same = w.if-m-sum.false in
+          let joined = subst (λ (s : Move). IsJoined (take i xs) c.if-m-sum.sums.items s) (sym w.sum-is) (subst (λ (ys : List Move). IsJoined (take i xs) ys c.loop-m.sum) (sym (ap vec_items w.sums-is)) was.joined) in
+          record {
+            joined = move_added xs c.if-m-sum.sums.items i c.if-m-sum.sum c.plus.result there c.requires.few small joined (same ∙ sym own) c.plus.ensures;
+            above = λ k le lt. (let s = was.above k (omega arith) lt in omega arith);
+          })
+    ]
+
+pub returns : goal.returns
+returns g c =
+    let n = c.loop-m.m-index in
+    let xs = c.args.moves.now in
+    let all : take n xs ≡ xs = take_all n xs (omega arith) in
+    let joined : IsJoined xs c.loop-m.sums.items c.loop-m.sum = subst (λ ms. IsJoined ms c.loop-m.sums.items c.loop-m.sum) all c.loop-m.invariant.joined in
+    all_joined xs c.loop-m.sums.items c.put-2.new.sums.items c.loop-m.sum joined c.in_ok-put-2.ensures

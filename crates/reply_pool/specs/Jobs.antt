@@ -1,0 +1,28 @@
+-- What a round of jobs comes to.
+use Rattle.std.specs.Prelude.{◌≡◌, ℕ, List}
+use Rattle.std.specs.List.{flat_map}
+use Rattle.fuse_wire.specs.declared.request.Request.{Request}
+use Rattle.fuse_wire.specs.Reads.{asked_of}
+use Rattle.node_table.specs.Stacked.{Stacked}
+use Rattle.reply_model.specs.declared.moves.Move.{Move}
+use Rattle.reply_model.specs.declared.session.Session.{Session}
+use Rattle.reply_model.specs.Replies.{reply}
+use Rattle.reply_model.specs.Moves.{moves}
+use Rattle.reply_pool.specs.declared.jobs.Rounded.{Rounded}
+use Rattle.reply_pool.specs.Sums.{AreSums}
+
+-- a request, with the session before it
+abbrev pub Job : Type 0
+Job = Session × Request
+
+-- the reply to a job, and what it moves
+abbrev pub reply_to : Stacked → Job → List ℕ
+reply_to stack job = reply stack.layers stack.entries job.0 (asked_of job.1)
+
+abbrev pub moved_by : Stacked → Job → List Move
+moved_by stack job = moves stack.layers stack.entries job.0 (asked_of job.1)
+
+-- the replies to jobs one after another, and the sums of what they move by node
+pub record IsRounded {A : Type 0} (stack : Stacked) (jobs : List Job) (rounded : Rounded A) : Type 0 where
+  pub replies : rounded.bytes.items ≡ flat_map (reply_to stack) jobs
+  pub sums : AreSums (flat_map (moved_by stack) jobs) rounded.moves.items
