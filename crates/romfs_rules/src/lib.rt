@@ -2,7 +2,7 @@
 //!
 //! [`first_fault`] answers for every list of bytes, whatever a stranger made: directories whose chains merge, loop or
 //! lead anywhere, links to links, names that come twice. It first collects sets of headers (`chains`, `targets`,
-//! `twice`, `namesakes`, `ends`), most as a bit for every 16 bytes of the image (`slot_set`), then goes upward once over
+//! `twice`, `same_names`, `ends`), as a bit for every 16 bytes of the image (`slot_set`) or as a rising list (`listed`), then goes upward once over
 //! the headers that are reached and asks for the first rule that is broken there (`judge`); the depth is looked at last
 //! (`depth`). Each walk is a loop, and each visits a header a constant number of times.
 //!
@@ -14,15 +14,15 @@ mod climb;
 mod depth;
 mod ends;
 mod fault;
-mod forest;
+mod graph;
 mod judge;
 mod lead;
 mod link;
 mod listed;
 mod member;
 mod names;
-mod namesakes;
 mod outside;
+mod same_names;
 mod slot;
 mod slot_numbers;
 mod slot_set;
