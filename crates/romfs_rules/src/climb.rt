@@ -6,12 +6,12 @@
 //! down to its cycle, or both in the cycle:
 //!
 //! ```text
-//!         e     f
-//!          \   /
-//!     d     b -'        path while f is entered: the whole cycle, then b, f
-//!      \   /
-//!   .-> a -> a' -.      low: of each class on the path, its lowest header
-//!   '------------'
+//!     e   f
+//!      \ /
+//!   d   b         path while f is entered: the whole cycle, then b, f
+//!    \ /
+//! .-> a -> c -.   low: of each class on the path, its lowest header
+//! '-----------'
 //! ```
 //!
 //! So a cycle is put on a path, each tree is climbed from it depth first, and of each class the lowest header on the

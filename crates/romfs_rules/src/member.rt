@@ -8,6 +8,7 @@ ghost use Rattle.romfs_rules.specs.Leads.{IsInSomeChain, StandsKept};
 ghost use Rattle.romfs_rules.specs.InChains.{AreChains};
 
 use crate::chains::Chains;
+use crate::names::is_dot_name;
 use romfs_format::head::Kind;
 use romfs_format::read::{kind_of, text_at, word};
 use std::alloc::Allocator;
@@ -20,7 +21,7 @@ pub(crate) fn is_dotted(image: &[u8], at: usize) -> bool
 {
     match text_at(image, at + 16) {
         None => false,
-        Some(name) => name == b".".as_slice() || name == b"..".as_slice(),
+        Some(name) => is_dot_name(name),
     }
 }
 

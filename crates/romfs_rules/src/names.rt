@@ -1,6 +1,6 @@
 //! Names of headers, as classes of their numbers.
 
-ghost use Rattle.std.specs.Prelude.{◌≡◌, ◌+◌, ◌^◌, ◌<◌, ◌≤◌, ℕ, List, Some, IfOk, bytes_eq, unwrap_or, length, get_or};
+ghost use Rattle.std.specs.Prelude.{◌≡◌, ◌+◌, ◌^◌, ◌<◌, ◌≤◌, ℕ, List, Some, IfOk, bytes_eq, codes, ◌||◌, unwrap_or, length, get_or};
 ghost use Rattle.std.specs.Option.{option_map};
 ghost use Rattle.std.specs.Map.{update};
 ghost use Rattle.romfs_format.specs.Fields.{root as root_of};
@@ -9,6 +9,13 @@ ghost use Rattle.romfs_rules.specs.Names.{kept_name, class_in, IsClass, AreClass
 use romfs_format::read::text_at;
 use std::alloc::{AllocError, Allocator};
 use std::collections::BTreeMap;
+
+/// Whether a name is `.` or `..`.
+pub(crate) fn is_dot_name(name: &[u8]) -> bool
+    ensures { result ≡ (bytes_eq name.now (codes ".") || bytes_eq name.now (codes "..")) }
+{
+    name == b".".as_slice() || name == b"..".as_slice()
+}
 
 // The name that a header has wherever it is a member: not the root's, nor `.` or `..`.
 fn kept_name(image: &[u8], root: usize, at: usize) -> Option<&[u8]>
@@ -21,11 +28,7 @@ fn kept_name(image: &[u8], root: usize, at: usize) -> Option<&[u8]>
         return None;
     }
     let name = text_at(image, at + 16)?;
-    if name == b".".as_slice() || name == b"..".as_slice() {
-        None
-    } else {
-        Some(name)
-    }
+    if is_dot_name(name) { None } else { Some(name) }
 }
 
 // The class of a name, which is the given one where the name is new.
