@@ -5,24 +5,24 @@ use Rattle.std.proofs.Math.Seq.{drop-cons}
 use Rattle.std.proofs.Math.Numerals.{add-one}
 use Rattle.std.proofs.lemmas.Bool.{cases_eq}
 use Rattle.romfs_rules.specs.declared.climb.Step.{Step}
-use Rattle.romfs_rules.specs.Climb.{After, one, more, On, top, under, IsLowest, IsLow, IsSpare, IsCompared, AreLower, IsNoted, Ahead, here, later, IsForest, IsRing, IsFound, IsSkipped, AreKept}
+use Rattle.romfs_rules.specs.Climb.{After, one, more, On, top, under, IsLowest, IsLow, IsSpare, IsCompared, AreLower, IsNoted, Ahead, here, later, IsGraph, IsCycle, IsFound, IsSkipped, AreKept}
 use Rattle.romfs_rules.proofs.MarkLists.{newly_set, still_set}
 use Rattle.romfs_rules.proofs.Climbing.{Covers, covers_next, after_next, low_enters, low_leaves, spare_enters, compared_enters, lower_enters}
 
 -- the path that the steps, the last first, are on
 abbrev pub path : List ℕ → List Step → List ℕ
-path ring [] = ring
-path ring (s ∷ steps) = s.at ∷ path ring steps
+path cycle [] = cycle
+path cycle (s ∷ steps) = s.at ∷ path cycle steps
 
 -- the header whose predecessors are entered
 abbrev pub top_of : ℕ → List Step → ℕ
 top_of bottom [] = bottom
 top_of bottom (s ∷ steps) = s.at
 
-pub data Tower (next class ring : List ℕ) (bottom : ℕ) : List Step → Type 0 where
-  bare : Tower next class ring bottom []
-  over : {s : Step} {steps : List Step} → Tower next class ring bottom steps → s.at < length next → get_or next s.at 0 ≡ top_of bottom steps
-      → IsLowest class (path ring steps) (length class) (get_or class s.at 0) s.low → Tower next class ring bottom (s ∷ steps)
+pub data Tower (next class cycle : List ℕ) (bottom : ℕ) : List Step → Type 0 where
+  bare : Tower next class cycle bottom []
+  over : {s : Step} {steps : List Step} → Tower next class cycle bottom steps → s.at < length next → get_or next s.at 0 ≡ top_of bottom steps
+      → IsLowest class (path cycle steps) (length class) (get_or class s.at 0) s.low → Tower next class cycle bottom (s ∷ steps)
 
 -- x is on the list that one of the steps has still to come to
 pub data Waits (sibling : List ℕ) : List Step → ℕ → Type 0 where
@@ -30,10 +30,10 @@ pub data Waits (sibling : List ℕ) : List Step → ℕ → Type 0 where
   then : {s : Step} {steps : List Step} {x : ℕ} → Waits sibling steps x → Waits sibling (s ∷ steps) x
 
 -- a climb under way to what leads to `bottom`; the list of those to be entered now begins at `from`
-pub record IsUnderWay (next class first sibling ring rest : List ℕ) (bottom from : ℕ) (steps : List Step) (entered noted : List Bool) (low : List ℕ) : Type 0 where
-  pub tower : Tower next class ring bottom steps
-  pub lowest : IsLow class low (path ring steps)
-  pub spare : IsSpare class (path ring steps) noted
+pub record IsUnderWay (next class first sibling cycle rest : List ℕ) (bottom from : ℕ) (steps : List Step) (entered noted : List Bool) (low : List ℕ) : Type 0 where
+  pub tower : Tower next class cycle bottom steps
+  pub lowest : IsLow class low (path cycle steps)
+  pub spare : IsSpare class (path cycle steps) noted
   pub compared : IsCompared next class entered noted
   pub lower : AreLower next class noted
   pub leads : (x : ℕ) → Ahead sibling from x → get_or next x 0 ≡ top_of bottom steps
@@ -60,11 +60,11 @@ on_at [] k l = absurd (omega arith)
 on_at (x ∷ xs) zero l = top
 on_at (x ∷ xs) (suc k) l = under (on_at xs k (omega arith))
 
-pub on_turn : (ring : List ℕ) (turn : ℕ) → turn < length ring → On (reverse ring) (get_or ring turn 0)
-on_turn ring turn l = on_reverse (on_at ring turn l)
+pub on_turn : (cycle : List ℕ) (turn : ℕ) → turn < length cycle → On (reverse cycle) (get_or cycle turn 0)
+on_turn cycle turn l = on_reverse (on_at cycle turn l)
 
-pub drop_turn : (ring : List ℕ) (turn : ℕ) → turn < length ring → drop turn ring ≡ get_or ring turn 0 ∷ drop (turn + 1) ring
-drop_turn ring turn l = rw add-one (drop-cons ring turn 0 l)
+pub drop_turn : (cycle : List ℕ) (turn : ℕ) → turn < length cycle → drop turn cycle ≡ get_or cycle turn 0 ∷ drop (turn + 1) cycle
+drop_turn cycle turn l = rw add-one (drop-cons cycle turn 0 l)
 
 pub reverse_push : {X : Type 0} (xs : List X) (x : X) → reverse (xs ++ x ∷ []) ≡ x ∷ reverse xs
 reverse_push xs x = reverse-append xs (x ∷ [])
@@ -81,11 +81,11 @@ keeps before entered at l k = record {
   each = λ x m. still_set entered at x l (k.each x m);
 }
 
-pub step_fits : {next class first sibling ring rest : List ℕ} {bottom from : ℕ} {s : Step} {steps : List Step} {entered noted : List Bool} {low : List ℕ}
-    → IsUnderWay next class first sibling ring rest bottom from (s ∷ steps) entered noted low → s.at < length next
-step_fits {next = next} {class = class} {ring = ring} {bottom = bottom} {s = s} {steps = steps} w = go w.tower
+pub step_fits : {next class first sibling cycle rest : List ℕ} {bottom from : ℕ} {s : Step} {steps : List Step} {entered noted : List Bool} {low : List ℕ}
+    → IsUnderWay next class first sibling cycle rest bottom from (s ∷ steps) entered noted low → s.at < length next
+step_fits {next = next} {class = class} {cycle = cycle} {bottom = bottom} {s = s} {steps = steps} w = go w.tower
   where
-    go : Tower next class ring bottom (s ∷ steps) → s.at < length next
+    go : Tower next class cycle bottom (s ∷ steps) → s.at < length next
     go (over t i e l) = i
 
 ahead_cases : {sibling : List ℕ} {from x : ℕ} → Ahead sibling from x → (x ≡ from) ⊎ Ahead sibling (get_or sibling from 0) x
@@ -117,49 +117,49 @@ rest_cases : {b x : ℕ} {rest : List ℕ} → On (b ∷ rest) x → (x ≡ b) �
 rest_cases top = inl refl
 rest_cases (under o) = inr o
 
-module _ (next class first sibling ring : List ℕ) (forest : IsForest next class first sibling) (bottom : ℕ) (is : IsRing next ring) (on : On ring bottom) where
-  covers_ring : (u : ℕ) → get_or next u 0 ≡ bottom → Covers next ring u
+module _ (next class first sibling cycle : List ℕ) (graph : IsGraph next class first sibling) (bottom : ℕ) (is : IsCycle next cycle) (on : On cycle bottom) where
+  covers_ring : (u : ℕ) → get_or next u 0 ≡ bottom → Covers next cycle u
   covers_ring u e = record {
     on = λ y a. elim (after_next a) [
-      | inl f ↦ subst (λ z. On ring z) (sym e ∙ f) on
-      | inr b ↦ around b (subst (λ z. On ring z) (sym e) on)
+      | inl f ↦ subst (λ z. On cycle z) (sym e ∙ f) on
+      | inr b ↦ around b (subst (λ z. On cycle z) (sym e) on)
     ];
     after = λ y o. more e (is.tied bottom y on o);
   }
     where
-      around : {x y : ℕ} → After next x y → On ring x → On ring y
-      around (one e) o = subst (λ z. On ring z) e (is.round _ o)
-      around (more e a) o = around a (subst (λ z. On ring z) e (is.round _ o))
+      around : {x y : ℕ} → After next x y → On cycle x → On cycle y
+      around (one e) o = subst (λ z. On cycle z) e (is.round _ o)
+      around (more e a) o = around a (subst (λ z. On cycle z) e (is.round _ o))
 
   -- what comes after a header that leads to the top is the path
-  covers : {steps : List Step} → Tower next class ring bottom steps → (u : ℕ) → get_or next u 0 ≡ top_of bottom steps → Covers next (path ring steps) u
+  covers : {steps : List Step} → Tower next class cycle bottom steps → (u : ℕ) → get_or next u 0 ≡ top_of bottom steps → Covers next (path cycle steps) u
   covers bare u e = covers_ring u e
-  covers (over {s = s} {steps = steps} t i e l) u f = covers_next next (path ring steps) s.at u f (covers t s.at e)
+  covers (over {s = s} {steps = steps} t i e l) u f = covers_next next (path cycle steps) s.at u f (covers t s.at e)
 
   sibling_leads : (u x : ℕ) → u < length next → Ahead sibling (get_or sibling u 0) x → get_or next x 0 ≡ get_or next u 0
-  sibling_leads u x l a = forest.lists.same (get_or next u 0) x (forest.leads.each u l) (ahead_then (forest.lists.whole u l) a)
+  sibling_leads u x l a = graph.lists.same (get_or next u 0) x (graph.leads.each u l) (ahead_then (graph.lists.whole u l) a)
 
   module _ (rest : List ℕ) where
-    pub begins : (entered noted : List Bool) (low : List ℕ) → IsFound next class ring (bottom ∷ rest) entered noted low
-        → IsUnderWay next class first sibling ring rest bottom (get_or first bottom 0) [] entered noted low
+    pub begins : (entered noted : List Bool) (low : List ℕ) → IsFound next class cycle (bottom ∷ rest) entered noted low
+        → IsUnderWay next class first sibling cycle rest bottom (get_or first bottom 0) [] entered noted low
     begins entered noted low f = record {
       tower = bare;
       lowest = f.lowest;
       spare = f.spare;
       compared = f.compared;
       lower = f.lower;
-      leads = λ x a. forest.lists.same bottom x (is.inside bottom on) a;
+      leads = λ x a. graph.lists.same bottom x (is.inside bottom on) a;
       closed = λ x l m. elim (f.closed x l m) [
         | inl e ↦ inl e
         | inr o ↦ elim (rest_cases o) [
-          | inl e ↦ inr (inl (subst (λ t. Ahead sibling (get_or first t 0) x) e (forest.lists.whole x l)))
+          | inl e ↦ inr (inl (subst (λ t. Ahead sibling (get_or first t 0) x) e (graph.lists.whole x l)))
           | inr p ↦ inr (inr (inr p))
         ]
       ];
     }
 
     pub skips : (from at : ℕ) (steps : List Step) (entered noted : List Bool) (low : List ℕ) → IsSkipped sibling entered from at
-        → IsUnderWay next class first sibling ring rest bottom from steps entered noted low → IsUnderWay next class first sibling ring rest bottom at steps entered noted low
+        → IsUnderWay next class first sibling cycle rest bottom from steps entered noted low → IsUnderWay next class first sibling cycle rest bottom at steps entered noted low
     skips from at steps entered noted low s w = record {
       tower = w.tower;
       lowest = w.lowest;
@@ -176,26 +176,26 @@ module _ (next class first sibling ring : List ℕ) (forest : IsForest next clas
 
     pub enters : (at old : ℕ) (steps : List Step) (entered noted noted' : List Bool) (low low' : List ℕ) (s : Step) → s.at ≡ at → s.low ≡ old
         → at < length next → old ≡ get_or low (get_or class at 0) 0 → low' ≡ set low (get_or class at 0) (min old at) → IsNoted noted noted' (length class) old at
-        → IsUnderWay next class first sibling ring rest bottom at steps entered noted low
-        → IsUnderWay next class first sibling ring rest bottom (get_or first at 0) (s ∷ steps) (set entered at true) noted' low'
+        → IsUnderWay next class first sibling cycle rest bottom at steps entered noted low
+        → IsUnderWay next class first sibling cycle rest bottom (get_or first at 0) (s ∷ steps) (set entered at true) noted' low'
     enters at old steps entered noted noted' low low' s sa sl fits o lows made w =
-        let sized = forest.classes.sized in
+        let sized = graph.classes.sized in
         let marked = w.compared.sized in
-        let siblings = forest.lists.siblings in
+        let siblings = graph.lists.siblings in
         let here_next : get_or next at 0 ≡ top_of bottom steps = w.leads at (here (omega arith)) in
-        let cover : Covers next (path ring steps) at = covers w.tower at here_next in
-        let known : get_or class at 0 < length class = (let e = forest.classes.each at fits in omega arith) in
-        let lowest : IsLowest class (path ring steps) (length class) (get_or class at 0) old = subst (λ v. IsLowest class (path ring steps) (length class) (get_or class at 0) v) (sym o) (w.lowest.each _ known) in
-        let spare : IsSpare class (at ∷ path ring steps) noted' = spare_enters next class (path ring steps) at old noted noted' (omega arith) lowest made w.spare in
+        let cover : Covers next (path cycle steps) at = covers w.tower at here_next in
+        let known : get_or class at 0 < length class = (let e = graph.classes.each at fits in omega arith) in
+        let lowest : IsLowest class (path cycle steps) (length class) (get_or class at 0) old = subst (λ v. IsLowest class (path cycle steps) (length class) (get_or class at 0) v) (sym o) (w.lowest.each _ known) in
+        let spare : IsSpare class (at ∷ path cycle steps) noted' = spare_enters next class (path cycle steps) at old noted noted' (omega arith) lowest made w.spare in
         record {
           tower = over w.tower (rw sa fits) (rw sa here_next) (rw (sa, sl) lowest);
-          lowest = rw (sa, lows, o) (low_enters class low (path ring steps) at (omega arith) known w.lowest);
+          lowest = rw (sa, lows, o) (low_enters class low (path cycle steps) at (omega arith) known w.lowest);
           spare = rw sa spare;
-          compared = compared_enters next class (path ring steps) at old noted noted' (omega arith) lowest made cover entered (omega arith) w.compared spare;
-          lower = lower_enters next class (path ring steps) at old noted noted' (omega arith) lowest made (λ y p. inl (cover.after y p)) w.lower;
-          leads = λ x a. rw sa (forest.lists.same at x fits a);
+          compared = compared_enters next class (path cycle steps) at old noted noted' (omega arith) lowest made cover entered (omega arith) w.compared spare;
+          lower = lower_enters next class (path cycle steps) at old noted noted' (omega arith) lowest made (λ y p. inl (cover.after y p)) w.lower;
+          leads = λ x a. rw sa (graph.lists.same at x fits a);
           closed = λ x l m. elim (cases_eq (get_or next x 0) at) [
-            | inl e ↦ inr (inl (subst (λ t. Ahead sibling (get_or first t 0) x) e (forest.lists.whole x l)))
+            | inl e ↦ inr (inl (subst (λ t. Ahead sibling (get_or first t 0) x) e (graph.lists.whole x l)))
             | inr d ↦ elim (w.closed x l (sym (get_or-set_other entered at (get_or next x 0) true false d) ∙ m)) [
               | inl e ↦ inl (still_set entered at x (omega arith) e)
               | inr (inl a) ↦ elim (ahead_cases a) [
@@ -209,18 +209,18 @@ module _ (next class first sibling ring : List ℕ) (forest : IsForest next clas
         }
 
     pub leaves : (at : ℕ) (s : Step) (steps : List Step) (entered noted : List Bool) (low : List ℕ) → length next ≤ at
-        → IsUnderWay next class first sibling ring rest bottom at (s ∷ steps) entered noted low
-        → IsUnderWay next class first sibling ring rest bottom (get_or sibling s.at 0) steps entered noted (set low (get_or class s.at 0) s.low)
+        → IsUnderWay next class first sibling cycle rest bottom at (s ∷ steps) entered noted low
+        → IsUnderWay next class first sibling cycle rest bottom (get_or sibling s.at 0) steps entered noted (set low (get_or class s.at 0) s.low)
     leaves at s steps entered noted low past w = go w.tower
       where
-        go : Tower next class ring bottom (s ∷ steps) → IsUnderWay next class first sibling ring rest bottom (get_or sibling s.at 0) steps entered noted (set low (get_or class s.at 0) s.low)
+        go : Tower next class cycle bottom (s ∷ steps) → IsUnderWay next class first sibling cycle rest bottom (get_or sibling s.at 0) steps entered noted (set low (get_or class s.at 0) s.low)
         go (over t i e l) =
-            let sized = forest.classes.sized in
-            let siblings = forest.lists.siblings in
-            let named = forest.classes.each s.at i in
+            let sized = graph.classes.sized in
+            let siblings = graph.lists.siblings in
+            let named = graph.classes.each s.at i in
             record {
               tower = t;
-              lowest = low_leaves class low (path ring steps) s.at (omega arith) (omega arith) s.low l w.lowest;
+              lowest = low_leaves class low (path cycle steps) s.at (omega arith) (omega arith) s.low l w.lowest;
               spare = record { sized = w.spare.sized; inside = λ x o. w.spare.inside x (under o); each = λ x y o p f k. w.spare.each x y (under o) (under p) f k };
               compared = w.compared;
               lower = w.lower;
@@ -234,7 +234,7 @@ module _ (next class first sibling ring : List ℕ) (forest : IsForest next clas
             }
 
     pub ends : (at : ℕ) (entered noted : List Bool) (low : List ℕ) → length next ≤ at
-        → IsUnderWay next class first sibling ring rest bottom at [] entered noted low → IsFound next class ring rest entered noted low
+        → IsUnderWay next class first sibling cycle rest bottom at [] entered noted low → IsFound next class cycle rest entered noted low
     ends at entered noted low past w = record {
       lowest = w.lowest;
       spare = w.spare;
@@ -242,7 +242,7 @@ module _ (next class first sibling ring : List ℕ) (forest : IsForest next clas
       lower = w.lower;
       closed = λ x k m. elim (w.closed x k m) [
         | inl f ↦ inl f
-        | inr (inl a) ↦ absurd (let b = ahead_low a in let siblings = forest.lists.siblings in omega arith)
+        | inr (inl a) ↦ absurd (let b = ahead_low a in let siblings = graph.lists.siblings in omega arith)
         | inr (inr (inl v)) ↦ absurd (none_wait v)
         | inr (inr (inr p)) ↦ inr p
       ];

@@ -8,9 +8,9 @@ use Rattle.romfs_rules.proofs.Ranks.{rank_zero, rank_member, rank_other, rank_be
 use Rattle.romfs_rules.proofs.Unions.{over_to}
 use Rattle.romfs_rules.specs.SlotSets.{rank, IsClear}
 use Rattle.romfs_rules.specs.Marks.{AreMarks, IsListOf}
-use Rattle.romfs_rules.specs.Climb.{AreLists, IsForest}
+use Rattle.romfs_rules.specs.Climb.{AreLists, IsGraph}
 use Rattle.romfs_rules.specs.Names.{AreClasses}
-use Rattle.romfs_rules.specs.Namesakes.{AreCollected, IsNextNumber, AreNextNumbers, AreChosen}
+use Rattle.romfs_rules.specs.SameNames.{AreCollected, IsNextNumber, AreNextNumbers, AreChosen}
 
 -- a place of a list with one more at the end
 places : (xs : List ℕ) (x k : ℕ) → k < length (xs ++ x ∷ []) → ((k < length xs) × (get_or (xs ++ x ∷ []) k 0 ≡ get_or xs k 0)) ⊎ ((k ≡ length xs) × (get_or (xs ++ x ∷ []) k 0 ≡ x))
@@ -167,7 +167,7 @@ module _ (heads : List ℕ) (noted : List Bool) (count : ℕ) (found : List ℕ)
       }
 
 -- headers, the numbers after them and their classes, with the lists of those before each
-pub grown : {a heads next class first sibling : List ℕ} {key : ℕ → Option (List ℕ)} → length heads + 1 < 2 ^ 32 → AreNextNumbers a heads next → AreClasses key (length heads) class → AreLists next first sibling → IsForest next class first sibling
+pub grown : {a heads next class first sibling : List ℕ} {key : ℕ → Option (List ℕ)} → length heads + 1 < 2 ^ 32 → AreNextNumbers a heads next → AreClasses key (length heads) class → AreLists next first sibling → IsGraph next class first sibling
 grown {heads = heads} {next = next} {class = class} few n c l =
     let s = n.sized in
     let t = c.sized in

@@ -15,7 +15,7 @@ use Rattle.romfs_format.specs.Links.{IsHardLink, IsDirectory, IsFinal, stays, fo
 use Rattle.romfs_format.specs.Rules.{IsRootElsewhere, IsUsed, HasData, BreaksHeader, number}
 use Rattle.romfs_rules.specs.Marks.{AreMarks, IsListOf, IsElsewhere}
 use Rattle.romfs_rules.specs.Judge.{HasSlot, IsHeaderRule, KeepsBefore}
-use Rattle.romfs_rules.specs.Namesakes.{AreNamesakes}
+use Rattle.romfs_rules.specs.SameNames.{HaveSameNames}
 use Rattle.romfs_rules.proofs.Slots.{marked}
 
 -- what a test that fails says
@@ -79,7 +79,7 @@ bad_not a h n b e f t = (λ y. absurd (false≢true (sym f ∙ y)), λ x. t.1 (s
 pub alone : (a : List ℕ) (h : ℕ) → (IsElsewhere a (root a) → h ≡ root a) → ¬ BreaksHeader a Twice h → ¬ IsElsewhere a (root a)
 alone a h only once e = once (inr ((root_elsewhere a h (only e)).0 (subst (λ y. IsElsewhere a y) (sym (only e)) e)))
 
-pub listed_says : (a : List ℕ) (h : ℕ) (hs : List ℕ) (b : Bool) → AreNamesakes a hs → IsTrue b ↔ Contains hs h → IsTrue b ↔ BreaksHeader a SameName h
+pub listed_says : (a : List ℕ) (h : ℕ) (hs : List ℕ) (b : Bool) → HaveSameNames a hs → IsTrue b ↔ Contains hs h → IsTrue b ↔ BreaksHeader a SameName h
 listed_says a h hs b n t = (λ y. n.each h (t.0 y), λ x. t.1 (n.all h x))
 
 -- a test that looks a header up in a list

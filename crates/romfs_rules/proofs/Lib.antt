@@ -23,5 +23,5 @@ pub mod Classing
 pub mod Ascent
 pub mod Rounds
 pub mod Siblings
-pub mod Twins
+pub mod SameNaming
 pub mod HeadNumbers

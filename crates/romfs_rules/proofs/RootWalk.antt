@@ -23,7 +23,7 @@ module _ (a : List ℕ) where
   not_zero : IsVolumeImage a → (at : ℕ) → IsInside a at → at ≢ 0
   not_zero v at i z = let h = root_high a v.volume_name in omega arith
 
-  module _ (v : IsVolumeImage a) (top w : ℕ) (t : top ≡ root a) (f : w ≡ spec a top) where
+  module _ (v : IsVolumeImage a) (place w : ℕ) (t : place ≡ root a) (f : w ≡ spec a place) where
     starts : cleared w ≡ cleared (spec a (root a))
     starts = ap cleared (f ∙ ap (spec a) t)
 

@@ -47,31 +47,31 @@ goes_round {path = path} r (more e a) p = goes_round r a (subst (λ z. On path z
 
 module _ (next : List ℕ) where
   -- a walk leaves a header for the next
-  pub walks : (entered seen : List Bool) (from at : ℕ) → at < length next → at < length seen → IsClosed next entered → IsWalk next entered seen from at → IsWalk next entered (set seen at true) from (get_or next at 0)
-  walks entered seen from at l k c w = record {
+  pub walks : (entered visited : List Bool) (from at : ℕ) → at < length next → at < length visited → IsClosed next entered → IsWalk next entered visited from at → IsWalk next entered (set visited at true) from (get_or next at 0)
+  walks entered visited from at l k c w = record {
     fresh = marked (get_or entered (get_or next at 0) false) (λ m. clash _ (c.each at l m) w.fresh);
     leads = inr (elim w.leads [ inl e ↦ subst (λ z. After next z (get_or next at 0)) e (one refl) | inr a ↦ then_next a ]);
-    left = λ x m. elim (was_set seen at x m) [
+    left = λ x m. elim (was_set visited at x m) [
       | inl e ↦ inr (subst (λ z. After next z (get_or next at 0)) (sym e) (one refl))
       | inr o ↦ elim (w.left x o) [ inl e ↦ inl e | inr a ↦ inr (then_next a) ]
     ];
   }
 
-  pub sets_out : (entered seen : List Bool) (from : ℕ) → AreKept seen entered → get_or entered from false ≡ false → IsWalk next entered seen from from
-  sets_out entered seen from k f = record { fresh = f; leads = inl refl; left = λ x m. inl (k.each x m) }
+  pub sets_out : (entered visited : List Bool) (from : ℕ) → AreKept visited entered → get_or entered from false ≡ false → IsWalk next entered visited from from
+  sets_out entered visited from k f = record { fresh = f; leads = inl refl; left = λ x m. inl (k.each x m) }
 
-  pub meets : (entered seen : List Bool) (from at : ℕ) → get_or seen at false ≡ true → IsWalk next entered seen from at → After next at at
-  meets entered seen from at m w = elim (w.left at m) [ inl e ↦ absurd (clash _ e w.fresh) | inr a ↦ a ]
+  pub meets : (entered visited : List Bool) (from at : ℕ) → get_or visited at false ≡ true → IsWalk next entered visited from at → After next at at
+  meets entered visited from at m w = elim (w.left at m) [ inl e ↦ absurd (clash _ e w.fresh) | inr a ↦ a ]
 
   -- what leads to a header that is entered is entered
   pub leads_in : (entered : List Bool) → AreBelow next (length next) → IsClosed next entered → {x y : ℕ} → x < length next → After next x y → get_or entered y false ≡ true → get_or entered x false ≡ true
   leads_in entered b c {x = x} l (one e) m = c.each x l (rw e m)
   leads_in entered b c {x = x} l (more e a) m = c.each x l (rw e (leads_in entered b c (rw (← e) (b.each x l)) a m))
 
-pub closed : {next class ring : List ℕ} {entered noted : List Bool} {low : List ℕ} → IsFound next class ring [] entered noted low → IsClosed next entered
+pub closed : {next class cycle : List ℕ} {entered noted : List Bool} {low : List ℕ} → IsFound next class cycle [] entered noted low → IsClosed next entered
 closed f = record { each = λ x l m. elim (f.closed x l m) [ inl e ↦ e | inr o ↦ absurd (elim o [ ]) ] }
 
--- the entering of a ring that is under way, at `at`, with the last header entered first in `path`
+-- the entering of a cycle that is under way, at `at`, with the last header entered first in `path`
 pub record IsRounding (next class : List ℕ) (first entered : List Bool) (from at : ℕ) (path : List ℕ) (noted : List Bool) (low : List ℕ) : Type 0 where
   pub lowest : IsLow class low path
   pub spare : IsSpare class path noted
@@ -87,7 +87,7 @@ pub record IsRounding (next class : List ℕ) (first entered : List Bool) (from 
   pub on : (x : ℕ) → On path x → On path (get_or next x 0) ⊎ (get_or next x 0 ≡ at)
   pub start : ((at ≡ from) × (path ≡ [])) ⊎ On path from
 
-module _ (next class : List ℕ) (few : length class ≡ length next) (leads : AreBelow next (length next)) (classes : AreBelow class (length next)) (from : ℕ) (ring : After next from from) where
+module _ (next class : List ℕ) (few : length class ≡ length next) (leads : AreBelow next (length next)) (classes : AreBelow class (length next)) (from : ℕ) (cycle : After next from from) where
   pub begins : (entered noted : List Bool) (low : List ℕ) → get_or entered from false ≡ false → IsFound next class [] [] entered noted low → IsRounding next class entered entered from from [] noted low
   begins entered noted low e f = record {
     lowest = f.lowest;
@@ -108,7 +108,7 @@ module _ (next class : List ℕ) (few : length class ≡ length next) (leads : A
   -- all that the start leads to comes after each other
   tied : (x y : ℕ) → (x ≡ from) ⊎ After next from x → (y ≡ from) ⊎ After next from y → After next x y
   tied x y a b =
-      let back : After next x from = elim a [ inl e ↦ subst (λ z. After next z from) (sym e) ring | inr c ↦ comes_back c ring ] in
+      let back : After next x from = elim a [ inl e ↦ subst (λ z. After next z from) (sym e) cycle | inr c ↦ comes_back c cycle ] in
       elim b [ inl e ↦ subst (λ z. After next x z) (sym e) back | inr c ↦ then_after back c ]
 
   pub enters : (first entered noted noted' : List Bool) (at old : ℕ) (path low low' : List ℕ) → at < length next → at < length entered → old ≡ get_or low (get_or class at 0) 0
@@ -176,26 +176,26 @@ drop_past [] (suc k) l = refl
 drop_past (x ∷ xs) zero l = absurd (omega arith)
 drop_past (x ∷ xs) (suc k) l = drop_past xs k (omega arith)
 
--- a ring that is being taken off the path
+-- a cycle that is being taken off the path
 pub record IsClearing (class low rest : List ℕ) : Type 0 where
   pub sized : length low ≡ length class
   pub each : (c : ℕ) → c < length class → (get_or low c 0 ≡ length class) ⊎ ((x : ℕ) × On rest x × (get_or class x 0 ≡ c))
 
-pub clears_none : (class low ring : List ℕ) → IsLow class low (reverse ring) → IsClearing class low ring
-clears_none class low ring w = record {
+pub clears_none : (class low cycle : List ℕ) → IsLow class low (reverse cycle) → IsClearing class low cycle
+clears_none class low cycle w = record {
   sized = w.sized;
-  each = λ c l. elim ((w.each c l).there) [ inl e ↦ inl e | inr o ↦ inr (get_or low c 0, on_reversed ring o.0, o.1) ];
+  each = λ c l. elim ((w.each c l).there) [ inl e ↦ inl e | inr o ↦ inr (get_or low c 0, on_reversed cycle o.0, o.1) ];
 }
 
-pub clears_more : (class low ring : List ℕ) (turn : ℕ) → turn < length ring → get_or class (get_or ring turn 0) 0 < length class → IsClearing class low (drop turn ring)
-    → IsClearing class (set low (get_or class (get_or ring turn 0) 0) (length class)) (drop (turn + 1) ring)
-clears_more class low ring turn l k w = record {
+pub clears_more : (class low cycle : List ℕ) (turn : ℕ) → turn < length cycle → get_or class (get_or cycle turn 0) 0 < length class → IsClearing class low (drop turn cycle)
+    → IsClearing class (set low (get_or class (get_or cycle turn 0) 0) (length class)) (drop (turn + 1) cycle)
+clears_more class low cycle turn l k w = record {
   sized = length-set low _ _ ∙ w.sized;
-  each = λ c b. let v = get_or class (get_or ring turn 0) 0 in elim (cases_eq c v) [
+  each = λ c b. let v = get_or class (get_or cycle turn 0) 0 in elim (cases_eq c v) [
     | inl e ↦ inl (rw e (get_or-set_same low v (length class) 0 (let s = w.sized in omega arith)))
     | inr d ↦ elim (w.each c b) [
       | inl e ↦ inl (get_or-set_other low v c (length class) 0 d ∙ e)
-      | inr o ↦ elim (on_cases (subst (λ p. On p o.0) (drop_turn ring turn l) o.1)) [
+      | inr o ↦ elim (on_cases (subst (λ p. On p o.0) (drop_turn cycle turn l) o.1)) [
         | inl e ↦ absurd (d (sym o.2 ∙ ap (λ z. get_or class z 0) e))
         | inr p ↦ inr (o.0, p, o.2)
       ]
@@ -234,9 +234,9 @@ all_noted next class low entered noted f all w = record {
   ];
 }
 
--- a ring is left, where all that leads to it has been entered
-pub left : (next class low low' : List ℕ) (entered noted : List Bool) (ring : List ℕ) → IsFound next class ring [] entered noted low → IsLow class low' [] → IsFound next class [] [] entered noted low'
-left next class low low' entered noted ring f w = record {
+-- a cycle is left, where all that leads to it has been entered
+pub left : (next class low low' : List ℕ) (entered noted : List Bool) (cycle : List ℕ) → IsFound next class cycle [] entered noted low → IsLow class low' [] → IsFound next class [] [] entered noted low'
+left next class low low' entered noted cycle f w = record {
   lowest = w;
   spare = record { sized = f.spare.sized; inside = λ x o. absurd (elim o [ ]); each = λ x y o p e l. absurd (elim o [ ]) };
   compared = f.compared;

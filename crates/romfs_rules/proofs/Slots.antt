@@ -26,7 +26,7 @@ pub twice_cleared : (n : ℕ) → cleared (cleared n) ≡ cleared n
 twice_cleared n = omega arith
 
 pub inside_root : (a : List ℕ) → IsVolumeImage a → IsInside a (root a)
-inside_root a v = (omega arith, v.top)
+inside_root a v = (omega arith, v.inside)
 
 pub cleared_at : (a : List ℕ) (d n h : ℕ) → IsAt a d n h → cleared h ≡ h
 cleared_at a d zero h x = rw (x.0) (omega arith)

@@ -1,11 +1,11 @@
 -- Walks over sets of slots: what holds below a slot, and the slots between that are not in the set.
-use Rattle.std.proofs.Common.{◌≡◌, ◌∙◌, sym, subst, ℕ, zero, suc, ◌+◌, ◌-◌, ◌*◌, ◌/◌, ◌<◌, ◌≤◌, ◌⊎◌, inl, inr, List, length, Bool, true, false, get_or, set, replicate, Option, Some, None, refl, arith}
+use Rattle.std.proofs.Common.{◌≡◌, ◌∙◌, sym, subst, ℕ, zero, suc, ◌+◌, ◌-◌, ◌*◌, ◌/◌, ◌<◌, ◌≤◌, ◌⊎◌, inl, inr, List, length, Bool, true, false, get_or, set, Option, Some, None, refl, arith}
 use Rattle.std.proofs.lemmas.Bool.{cases_eq, cases_lt, true≢false}
-use Rattle.std.proofs.lemmas.List.{length-set, length-replicate, get_or_past}
+use Rattle.std.proofs.lemmas.List.{length-set, get_or_past}
 use Rattle.romfs_rules.specs.SlotSets.{IsClear, IsNextIn, IsNext, IsNextOfEither, IsUnion}
 use Rattle.romfs_format.specs.Fields.{IsInside}
 use Rattle.romfs_rules.specs.Marks.{AreMarks}
-use Rattle.romfs_rules.proofs.MarkLists.{no_marks, was_set, still_set, newly_set}
+use Rattle.romfs_rules.proofs.MarkLists.{was_set, still_set, newly_set}
 
 -- what goes on from each slot to the next goes on over any number of slots
 pub over : (P : ℕ → Type 0) (low count : ℕ) → P low → ((k : ℕ) → low ≤ k → k < low + count → P k → P (k + 1)) → P (low + count)

@@ -205,14 +205,14 @@ module _ (profile : Profile) (a : List ℕ) (v : IsVolumeImage a) where
   none_below = record { keeps = λ h s l. let i = s.inside.0 in absurd (omega arith) }
 
   -- the first fault is at the root, or further up
-  pub at_root : (f : ImageFault) (top : ℕ) → top ≡ root a → (f.place ≡ top) × IsFirstRule profile a top f.rule → IsFirstInside profile a f.rule f.place
-  at_root f top t (e, r) = subst (IsFirstInside profile a f.rule) (sym (e ∙ t)) (record { slot = root_slot; rule = subst (λ h. IsFirstRule profile a h f.rule) t r; below = none_below })
+  pub at_root : (f : ImageFault) (place : ℕ) → place ≡ root a → (f.place ≡ place) × IsFirstRule profile a place f.rule → IsFirstInside profile a f.rule f.place
+  at_root f place t (e, r) = subst (IsFirstInside profile a f.rule) (sym (e ∙ t)) (record { slot = root_slot; rule = subst (λ h. IsFirstRule profile a h f.rule) t r; below = none_below })
 
   pub at_slot : (f : ImageFault) (h : ℕ) → HasSlot a h → KeepsBelow profile a h → (f.place ≡ h) × IsFirstRule profile a h f.rule → IsFirstInside profile a f.rule f.place
   at_slot f h s k (e, r) = subst (IsFirstInside profile a f.rule) (sym e) (record { slot = s; rule = r; below = k })
 
-  pub root_kept : (slot top : ℕ) → top ≡ root a → slot ≡ top / 16 + 1 → KeepsHeaderRules profile a top → KeepsBelow profile a (slot * 16)
-  root_kept slot top t e k =
+  pub root_kept : (slot place : ℕ) → place ≡ root a → slot ≡ place / 16 + 1 → KeepsHeaderRules profile a place → KeepsBelow profile a (slot * 16)
+  root_kept slot place t e k =
       let c = cleared_root a in
       let q : root a / 16 * 16 ≡ root a = c in
       let r : (root a / 16 + 1) * 16 ≡ slot * 16 = omega arith in

@@ -78,22 +78,22 @@ pub record IsNoted (before after : List Bool) (n old at : ℕ) : Type 0 where
   pub only : (x : ℕ) → get_or after x false ≡ true → (get_or before x false ≡ true) ⊎ ((x ≡ max old at) × (old < n) × (old ≢ at))
 
 -- headers that each lead on to one, their classes, and the lists of those that lead to each
-pub record IsForest (next class first sibling : List ℕ) : Type 0 where
+pub record IsGraph (next class first sibling : List ℕ) : Type 0 where
   pub few : length next < 2 ^ 32
   pub leads : AreBelow next (length next)
   pub classes : AreBelow class (length next)
   pub lists : AreLists next first sibling
 
 -- headers of which each comes after each
-pub record IsRing (next ring : List ℕ) : Type 0 where
-  pub inside : (x : ℕ) → On ring x → x < length next
-  pub round : (x : ℕ) → On ring x → On ring (get_or next x 0)
-  pub tied : (x y : ℕ) → On ring x → On ring y → After next x y
+pub record IsCycle (next cycle : List ℕ) : Type 0 where
+  pub inside : (x : ℕ) → On cycle x → x < length next
+  pub round : (x : ℕ) → On cycle x → On cycle (get_or next x 0)
+  pub tied : (x y : ℕ) → On cycle x → On cycle y → After next x y
 
--- what has been found where the path holds a ring, and what leads to the headers that wait is still to be entered
-pub record IsFound (next class ring waits : List ℕ) (entered noted : List Bool) (low : List ℕ) : Type 0 where
-  pub lowest : IsLow class low ring
-  pub spare : IsSpare class ring noted
+-- what has been found where the path holds a cycle, and what leads to the headers that wait is still to be entered
+pub record IsFound (next class cycle waits : List ℕ) (entered noted : List Bool) (low : List ℕ) : Type 0 where
+  pub lowest : IsLow class low cycle
+  pub spare : IsSpare class cycle noted
   pub compared : IsCompared next class entered noted
   pub lower : AreLower next class noted
   pub closed : (x : ℕ) → x < length next → get_or entered (get_or next x 0) false ≡ true → (get_or entered x false ≡ true) ⊎ On waits (get_or next x 0)
@@ -111,21 +111,21 @@ pub record IsSkipped (sibling : List ℕ) (entered : List Bool) (from at : ℕ) 
 pub record IsClosed (next : List ℕ) (entered : List Bool) : Type 0 where
   pub each : (x : ℕ) → x < length next → get_or entered (get_or next x 0) false ≡ true → get_or entered x false ≡ true
 
--- a walk from one header to another, over headers that were not entered before; `seen` marks those that it has left
-pub record IsWalk (next : List ℕ) (entered seen : List Bool) (from to : ℕ) : Type 0 where
+-- a walk from one header to another, over headers that were not entered before; `visited` marks those that it has left
+pub record IsWalk (next : List ℕ) (entered visited : List Bool) (from to : ℕ) : Type 0 where
   pub fresh : get_or entered to false ≡ false
   pub leads : (to ≡ from) ⊎ After next from to
-  pub left : (x : ℕ) → get_or seen x false ≡ true → (get_or entered x false ≡ true) ⊎ After next x to
+  pub left : (x : ℕ) → get_or visited x false ≡ true → (get_or entered x false ≡ true) ⊎ After next x to
 
 -- a walk from one header to another that comes back to itself, whatever has been entered before
 pub record IsMet (next : List ℕ) (before after : List Bool) (from to : ℕ) : Type 0 where
   pub inside : to < length next
   pub walk : (entered : List Bool) → IsClosed next entered → AreKept before entered → get_or entered from false ≡ false → IsWalk next entered after from to
-  pub ring : (entered : List Bool) → IsClosed next entered → AreKept before entered → get_or entered from false ≡ false → After next to to
+  pub cycle : (entered : List Bool) → IsClosed next entered → AreKept before entered → get_or entered from false ≡ false → After next to to
 
--- the ring of a header, entered, as the path of what has been found
-pub record IsGathered (next class : List ℕ) (from : ℕ) (ring : List ℕ) (entered noted : List Bool) (low : List ℕ) : Type 0 where
-  pub start : On ring from
-  pub is : IsRing next (reverse ring)
-  pub found : IsFound next class (reverse ring) ring entered noted low
-  pub all : (x : ℕ) → On ring x → get_or entered x false ≡ true
+-- the cycle of a header, entered, as the path of what has been found
+pub record IsGathered (next class : List ℕ) (from : ℕ) (cycle : List ℕ) (entered noted : List Bool) (low : List ℕ) : Type 0 where
+  pub start : On cycle from
+  pub is : IsCycle next (reverse cycle)
+  pub found : IsFound next class (reverse cycle) cycle entered noted low
+  pub all : (x : ℕ) → On cycle x → get_or entered x false ≡ true

@@ -12,14 +12,14 @@ use Rattle.romfs_rules.specs.Marks.{AreMarks, IsListOf, IsElsewhere}
 use Rattle.romfs_rules.specs.InChains.{AreChains}
 use Rattle.romfs_rules.specs.Ends.{AreEnds}
 use Rattle.romfs_rules.specs.Outside.{IsLeast}
-use Rattle.romfs_rules.specs.Namesakes.{AreNamesakes}
+use Rattle.romfs_rules.specs.SameNames.{HaveSameNames}
 
 -- the sets are what their names say; equal names are known where the root stands in no chain but its own
 pub record AreSets {A : Type 0} (a : List ℕ) (sets : Sets A) : Type 0 where
   pub chains : AreChains a sets.chains.now
   pub targets : AreMarks a (IsTarget a) sets.targets.now
   pub twice : IsListOf a (IsLinkedTwice a) sets.twice.now
-  pub namesakes : ¬ IsElsewhere a (root a) → AreNamesakes a sets.namesakes.now
+  pub same_names : ¬ IsElsewhere a (root a) → HaveSameNames a sets.same_names.now
   pub ends : AreEnds a sets.ends.now.walks sets.ends.now.ends.items
 
 -- a header may stand at h

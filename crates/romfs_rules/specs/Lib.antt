@@ -11,4 +11,4 @@ pub mod Ends
 pub mod Judge
 pub mod Climb
 pub mod Names
-pub mod Namesakes
+pub mod SameNames

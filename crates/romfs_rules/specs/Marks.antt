@@ -9,7 +9,7 @@ use Rattle.romfs_format.specs.Rules.{IsNamesake}
 pub record IsVolumeImage (a : List ℕ) : Type 0 where
   pub small : length a < 2 ^ 32
   pub volume_name : IsSome (text_at a 16)
-  pub top : root a + 16 ≤ length a
+  pub inside : root a + 16 ≤ length a
   pub directory : kind a (root a) ≡ Directory
 
 abbrev pub IsMarked : List Bool → ℕ → Type 0
@@ -45,5 +45,5 @@ pub record Opens (a : List ℕ) (h : ℕ) : Type 0 where
   pub kept : ¬ IsDotted a h
 
 -- a member of the same directory with the same name has a lower place than h
-abbrev pub HasNamesake : List ℕ → ℕ → Type 0
-HasNamesake a h = (g : ℕ) × IsNamesake a g h
+abbrev pub HasSameName : List ℕ → ℕ → Type 0
+HasSameName a h = (g : ℕ) × IsNamesake a g h

@@ -2,7 +2,7 @@
 
 ghost use Rattle.std.specs.Prelude.{◌≡◌, ◌+◌, ◌/◌, ◌<◌, ◌⊎◌, ◌++◌, ◌^◌, length, false, IfOk};
 ghost use Rattle.std.specs.Option.{option_to_list};
-ghost use Rattle.romfs_format.specs.Fields.{root, IsInside};
+ghost use Rattle.romfs_format.specs.Fields.{root as root_of, IsInside};
 ghost use Rattle.romfs_rules.specs.Marks.{IsVolumeImage, IsInRootChain, IsElsewhere, AreMarks};
 ghost use Rattle.romfs_rules.specs.Leads.{AreSeeds, LeadsOn, Adds};
 ghost use Rattle.romfs_rules.specs.InChains.{AreChains};
@@ -23,26 +23,26 @@ pub(crate) struct Chains<A: Allocator> {
     pub(crate) root_elsewhere: bool,
 }
 
-/// Marks the headers of the root's chain, up to one that lies outside or comes again.
+// Marks the headers of the root's chain, up to one that lies outside or comes again.
 fn mark_root_chain<A: Allocator + Copy>(
     alloc: A,
     image: &[u8],
-    top: usize,
+    root: usize,
 ) -> Result<SlotSet<A>, AllocError>
     requires volume { IsVolumeImage image.now }
-    requires top { top ≡ root image.now }
+    requires root { root ≡ root_of image.now }
     ensures { IfOk result (λ marks. AreMarks image.now (IsInRootChain image.now) marks) }
 {
     let mut marks = SlotSet::new(alloc, image.len() / 16)?;
-    let mut at = (word(image, top + 4) / 16 * 16) as usize;
-    while is_fresh(image, top, at, &marks) {
+    let mut at = (word(image, root + 4) / 16 * 16) as usize;
+    while is_fresh(image, root, at, &marks) {
         marks.insert(at / 16);
         at = (word(image, at) / 16 * 16) as usize;
     }
     Ok(marks)
 }
 
-/// Adds a word, if there is one.
+// Adds a word, if there is one.
 fn push_some<A: Allocator>(todo: &mut Vec<u32, A>, word: Option<u32>) -> Result<(), AllocError>
     ensures { IfOk result (λ _. todo.new.items ≡ todo.old.items ++ option_to_list word) }
 {
@@ -52,65 +52,65 @@ fn push_some<A: Allocator>(todo: &mut Vec<u32, A>, word: Option<u32>) -> Result<
     Ok(())
 }
 
-/// The first headers of the root's own directories.
+// The first headers of the root's own directories.
 fn seeds<A: Allocator + Copy>(
     alloc: A,
     image: &[u8],
-    top: usize,
+    root: usize,
     root_chain: &SlotSet<A>,
 ) -> Result<Vec<u32, A>, AllocError>
     requires small { length image.now < 2 ^ 32 }
-    requires top { top ≡ root image.now }
+    requires root { root ≡ root_of image.now }
     requires root_chain { AreMarks image.now (IsInRootChain image.now) root_chain.now }
     ensures { IfOk result (λ todo. AreSeeds image.now todo.items) }
 {
     let mut todo = Vec::new(alloc);
     let mut from = 0;
     while let Some(slot) = root_chain.next_from(from) {
-        push_some(&mut todo, first_below(image, top, slot * 16))?;
+        push_some(&mut todo, first_below(image, root, slot * 16))?;
         from = slot + 1;
     }
     Ok(todo)
 }
 
-/// Adds what a header leads on to.
+// Adds what a header leads on to.
 fn follow<A: Allocator>(
     image: &[u8],
-    top: usize,
+    root: usize,
     at: usize,
     todo: &mut Vec<u32, A>,
 ) -> Result<(), AllocError>
     requires small { length image.now < 2 ^ 32 }
-    requires top { top ≡ root image.now }
+    requires root { root ≡ root_of image.now }
     requires inside { IsInside image.now at }
     ensures { IfOk result (λ _. Adds (LeadsOn image.now at) todo.old.items todo.new.items) }
 {
     push_some(todo, next_of(image, at))?;
-    push_some(todo, first_below(image, top, at))?;
+    push_some(todo, first_below(image, root, at))?;
     Ok(())
 }
 
-/// Marks the headers of the chains of all opened directories but the root.
+// Marks the headers of the chains of all opened directories but the root.
 fn mark_elsewhere<A: Allocator + Copy>(
     alloc: A,
     image: &[u8],
-    top: usize,
+    root: usize,
     root_chain: &SlotSet<A>,
 ) -> Result<SlotSet<A>, AllocError>
     requires volume { IsVolumeImage image.now }
-    requires top { top ≡ root image.now }
+    requires root { root ≡ root_of image.now }
     requires root_chain { AreMarks image.now (IsInRootChain image.now) root_chain.now }
     ensures { IfOk result (λ marks. AreMarks image.now (IsElsewhere image.now) marks) }
 {
     let mut marks = SlotSet::new(alloc, image.len() / 16)?;
-    let mut todo = seeds(alloc, image, top, root_chain)?;
+    let mut todo = seeds(alloc, image, root, root_chain)?;
     while let Some(word) = todo.pop() {
         let at = word as usize;
-        if !is_fresh(image, top, at, &marks) {
+        if !is_fresh(image, root, at, &marks) {
             continue;
         }
         marks.insert(at / 16);
-        follow(image, top, at, &mut todo)?;
+        follow(image, root, at, &mut todo)?;
     }
     Ok(marks)
 }
@@ -119,15 +119,15 @@ fn mark_elsewhere<A: Allocator + Copy>(
 pub(crate) fn find_chains<A: Allocator + Copy>(
     alloc: A,
     image: &[u8],
-    top: usize,
+    root: usize,
 ) -> Result<Chains<A>, AllocError>
     requires volume { IsVolumeImage image.now }
-    requires top { top ≡ root image.now }
+    requires root { root ≡ root_of image.now }
     ensures { IfOk result (AreChains image.now) }
 {
-    let root_chain = mark_root_chain(alloc, image, top)?;
-    let mut headers = mark_elsewhere(alloc, image, top, &root_chain)?;
-    let root_elsewhere = headers.contains(top / 16);
+    let root_chain = mark_root_chain(alloc, image, root)?;
+    let mut headers = mark_elsewhere(alloc, image, root, &root_chain)?;
+    let root_elsewhere = headers.contains(root / 16);
     headers.add_all(&root_chain);
     Ok(Chains {
         headers,

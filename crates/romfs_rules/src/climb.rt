@@ -1,12 +1,31 @@
 //! Headers of which a lower one of the same class comes before or after.
+//!
+//! Chains may merge and go round, so that a header may stand in the chains of many directories, and to compare the
+//! names of each chain on its own would be quadratic. But each header leads on to one. Seen against that direction the
+//! headers are cycles with trees that grow from them; two headers stand in one chain where one lies on the other's way
+//! down to its cycle, or both in the cycle:
+//!
+//! ```text
+//!     e   f
+//!      \ /
+//!   d   b         path while f is entered: the whole cycle, then b, f
+//!    \ /
+//! .-> a -> c -.   low: of each class on the path, its lowest header
+//! '-----------'
+//! ```
+//!
+//! So a cycle is put on a path, each tree is climbed from it depth first, and of each class the lowest header on the
+//! path is kept; what is entered is compared with that header alone, and the higher of both is noted. To leave a header
+//! puts back what was lowest before it. Each header is entered once: beside the names' classes, which take n log n
+//! steps, the climb takes n.
 
 ghost use Rattle.std.specs.Prelude.{◌≡◌, ◌≢◌, ◌+◌, ◌<◌, ◌≤◌, ◌^◌, ◌⊎◌, ℕ, List, Bool, true, false, IfOk, length, get_or, set, min, drop, reverse, []};
-ghost use Rattle.romfs_rules.specs.Climb.{After, AreBelow, IsForest, IsFound, IsLow, IsRing, IsMet, IsGathered, IsNoted, IsSkipped, AreKept, AreNoted};
+ghost use Rattle.romfs_rules.specs.Climb.{After, AreBelow, IsGraph, IsFound, IsLow, IsCycle, IsMet, IsGathered, IsNoted, IsSkipped, AreKept, AreNoted};
 
-use crate::forest::Forest;
+use crate::graph::Graph;
 use std::alloc::{AllocError, Allocator};
 
-/// What a climb has found.
+// What a climb has found.
 #[derive(Drop)]
 struct Found<A: Allocator> {
     entered: Vec<bool, A>,
@@ -15,39 +34,39 @@ struct Found<A: Allocator> {
     noted: Vec<bool, A>,
 }
 
-/// A header on the path, and what was the lowest of its class before it.
+// A header on the path, and what was the lowest of its class before it.
 #[derive(Clone, Copy)]
 struct Step {
     at: u32,
     low: u32,
 }
 
-/// Puts a header on the path, and notes the higher of it and the lowest of its class there.
-fn enter<A: Allocator>(forest: &Forest<A>, found: &mut Found<A>, at: u32) -> u32
-    requires class { AreBelow forest.now.class.items (length forest.now.next.items) }
-    requires at { at < length forest.now.next.items }
-    requires low { length found.old.low.items ≡ length forest.now.next.items }
-    requires entered { length found.old.entered.items ≡ length forest.now.next.items }
-    requires noted { length found.old.noted.items ≡ length forest.now.next.items }
-    ensures lowest { result ≡ get_or found.old.low.items (get_or forest.now.class.items at 0) 0 }
+// Puts a header on the path, and notes the higher of it and the lowest of its class there.
+fn enter<A: Allocator>(graph: &Graph<A>, found: &mut Found<A>, at: u32) -> u32
+    requires class { AreBelow graph.now.class.items (length graph.now.next.items) }
+    requires at { at < length graph.now.next.items }
+    requires low { length found.old.low.items ≡ length graph.now.next.items }
+    requires entered { length found.old.entered.items ≡ length graph.now.next.items }
+    requires noted { length found.old.noted.items ≡ length graph.now.next.items }
+    ensures lowest { result ≡ get_or found.old.low.items (get_or graph.now.class.items at 0) 0 }
     ensures low { found.new.low.items
-        ≡ set found.old.low.items (get_or forest.now.class.items at 0) (min result at) }
+        ≡ set found.old.low.items (get_or graph.now.class.items at 0) (min result at) }
     ensures entered { found.new.entered.items ≡ set found.old.entered.items at true }
     ensures noted { IsNoted found.old.noted.items found.new.noted.items
-        (length forest.now.next.items) result at }
+        (length graph.now.next.items) result at }
 {
     let place = at as usize;
-    let class = forest.class[place] as usize;
+    let class = graph.class[place] as usize;
     let lowest = found.low[class];
     found.entered[place] = true;
     found.low[class] = lowest.min(at);
-    if lowest != at && (lowest as usize) < forest.next.len() {
+    if lowest != at && (lowest as usize) < graph.next.len() {
         found.noted[lowest.max(at) as usize] = true;
     }
     lowest
 }
 
-/// The first header on a list that has not been entered.
+// The first header on a list that has not been entered.
 fn skip_entered(sibling: &[u32], entered: &[bool], from: u32) -> u32
     requires sized { length entered.now ≡ length sibling.now }
     requires rising { (x : ℕ) → x < length sibling.now → x < get_or sibling.now x 0 }
@@ -61,172 +80,172 @@ fn skip_entered(sibling: &[u32], entered: &[bool], from: u32) -> u32
     at
 }
 
-/// Takes the last header off the path, and gives the next that leads where it does.
-fn leave<A: Allocator>(forest: &Forest<A>, found: &mut Found<A>, step: Step) -> u32
-    requires class { AreBelow forest.now.class.items (length forest.now.next.items) }
-    requires sibling { length forest.now.sibling.items ≡ length forest.now.next.items }
-    requires at { step.at < length forest.now.next.items }
-    requires low { length found.old.low.items ≡ length forest.now.next.items }
-    ensures next { result ≡ get_or forest.now.sibling.items step.at 0 }
+// Takes the last header off the path, and gives the next that leads where it does.
+fn leave<A: Allocator>(graph: &Graph<A>, found: &mut Found<A>, step: Step) -> u32
+    requires class { AreBelow graph.now.class.items (length graph.now.next.items) }
+    requires sibling { length graph.now.sibling.items ≡ length graph.now.next.items }
+    requires at { step.at < length graph.now.next.items }
+    requires low { length found.old.low.items ≡ length graph.now.next.items }
+    ensures next { result ≡ get_or graph.now.sibling.items step.at 0 }
     ensures low { found.new.low.items
-        ≡ set found.old.low.items (get_or forest.now.class.items step.at 0) step.low }
+        ≡ set found.old.low.items (get_or graph.now.class.items step.at 0) step.low }
     ensures entered { found.new.entered.items ≡ found.old.entered.items }
     ensures noted { found.new.noted.items ≡ found.old.noted.items }
 {
     let place = step.at as usize;
-    found.low[forest.class[place] as usize] = step.low;
-    forest.sibling[place]
+    found.low[graph.class[place] as usize] = step.low;
+    graph.sibling[place]
 }
 
-/// Enters all that leads to one header of a ring, where the whole ring is on the path.
+// Enters all that leads to one header of a cycle, where the whole cycle is on the path.
 fn climb<A: Allocator + Copy>(
     alloc: A,
-    forest: &Forest<A>,
+    graph: &Graph<A>,
     found: &mut Found<A>,
-    ring: &[u32],
+    cycle: &[u32],
     turn: usize,
 ) -> Result<(), AllocError>
-    requires turn { turn < length ring.now }
-    requires forest { IsForest forest.now.next.items forest.now.class.items
-        forest.now.first.items forest.now.sibling.items }
-    requires ring { IsRing forest.now.next.items (reverse ring.now) }
-    requires found { IsFound forest.now.next.items forest.now.class.items
-        (reverse ring.now) (drop turn ring.now)
+    requires turn { turn < length cycle.now }
+    requires graph { IsGraph graph.now.next.items graph.now.class.items
+        graph.now.first.items graph.now.sibling.items }
+    requires cycle { IsCycle graph.now.next.items (reverse cycle.now) }
+    requires found { IsFound graph.now.next.items graph.now.class.items
+        (reverse cycle.now) (drop turn cycle.now)
         found.old.entered.items found.old.noted.items found.old.low.items }
-    ensures found { IfOk result (λ _. IsFound forest.now.next.items forest.now.class.items
-        (reverse ring.now) (drop (turn + 1) ring.now)
+    ensures found { IfOk result (λ _. IsFound graph.now.next.items graph.now.class.items
+        (reverse cycle.now) (drop (turn + 1) cycle.now)
         found.new.entered.items found.new.noted.items found.new.low.items) }
     ensures kept { AreKept found.old.entered.items found.new.entered.items }
 {
     let mut steps: Vec<Step, A> = Vec::new(alloc);
-    let mut from = forest.first[ring[turn] as usize];
+    let mut from = graph.first[cycle[turn] as usize];
     loop {
-        let at = skip_entered(&forest.sibling, &found.entered, from);
-        if (at as usize) < forest.next.len() {
-            let low = enter(forest, found, at);
+        let at = skip_entered(&graph.sibling, &found.entered, from);
+        if (at as usize) < graph.next.len() {
+            let low = enter(graph, found, at);
             steps.push(Step { at, low })?;
-            from = forest.first[at as usize];
+            from = graph.first[at as usize];
         } else {
             match steps.pop() {
-                Some(step) => from = leave(forest, found, step),
+                Some(step) => from = leave(graph, found, step),
                 None => return Ok(()),
             }
         }
     }
 }
 
-/// A header of the ring that a header leads to: a walk from there comes back to it.
-fn seek(next: &[u32], seen: &mut [bool], from: u32) -> u32
+// A header of the cycle that a header leads to: a walk from there comes back to it.
+fn seek(next: &[u32], visited: &mut [bool], from: u32) -> u32
     requires next { AreBelow next.now (length next.now) }
-    requires seen { length seen.old ≡ length next.now }
+    requires visited { length visited.old ≡ length next.now }
     requires from { from < length next.now }
-    ensures { IsMet next.now seen.old seen.new from result }
+    ensures { IsMet next.now visited.old visited.new from result }
 {
     let mut at = from;
-    while !seen[at as usize] {
-        seen[at as usize] = true;
+    while !visited[at as usize] {
+        visited[at as usize] = true;
         at = next[at as usize];
     }
     at
 }
 
-/// Enters the headers of a ring, from one of them on.
+// Enters the headers of a cycle, from one of them on.
 fn gather<A: Allocator + Copy>(
     alloc: A,
-    forest: &Forest<A>,
+    graph: &Graph<A>,
     found: &mut Found<A>,
     from: u32,
 ) -> Result<Vec<u32, A>, AllocError>
-    requires from { from < length forest.now.next.items }
+    requires from { from < length graph.now.next.items }
     requires fresh { get_or found.old.entered.items from false ≡ false }
-    requires ring { After forest.now.next.items from from }
-    requires forest { IsForest forest.now.next.items forest.now.class.items
-        forest.now.first.items forest.now.sibling.items }
-    requires found { IsFound forest.now.next.items forest.now.class.items [] []
+    requires cycle { After graph.now.next.items from from }
+    requires graph { IsGraph graph.now.next.items graph.now.class.items
+        graph.now.first.items graph.now.sibling.items }
+    requires found { IsFound graph.now.next.items graph.now.class.items [] []
         found.old.entered.items found.old.noted.items found.old.low.items }
-    ensures gathered { IfOk result (λ ring. IsGathered forest.now.next.items forest.now.class.items
-        from ring.items found.new.entered.items found.new.noted.items found.new.low.items) }
+    ensures gathered { IfOk result (λ cycle. IsGathered graph.now.next.items graph.now.class.items
+        from cycle.items found.new.entered.items found.new.noted.items found.new.low.items) }
     ensures kept { AreKept found.old.entered.items found.new.entered.items }
 {
-    let mut ring = Vec::new(alloc);
+    let mut cycle = Vec::new(alloc);
     let mut at = from;
     while !found.entered[at as usize] {
-        enter(forest, found, at);
-        ring.push(at)?;
-        at = forest.next[at as usize];
+        enter(graph, found, at);
+        cycle.push(at)?;
+        at = graph.next[at as usize];
     }
-    Ok(ring)
+    Ok(cycle)
 }
 
-/// Takes a ring off the path.
-fn clear<A: Allocator>(forest: &Forest<A>, found: &mut Found<A>, ring: &[u32])
-    requires few { length forest.now.next.items < 2 ^ 32 }
-    requires class { AreBelow forest.now.class.items (length forest.now.next.items) }
-    requires ring { IsRing forest.now.next.items (reverse ring.now) }
-    requires low { IsLow forest.now.class.items found.old.low.items (reverse ring.now) }
-    ensures low { IsLow forest.now.class.items found.new.low.items [] }
+// Takes a cycle off the path.
+fn clear<A: Allocator>(graph: &Graph<A>, found: &mut Found<A>, cycle: &[u32])
+    requires few { length graph.now.next.items < 2 ^ 32 }
+    requires class { AreBelow graph.now.class.items (length graph.now.next.items) }
+    requires cycle { IsCycle graph.now.next.items (reverse cycle.now) }
+    requires low { IsLow graph.now.class.items found.old.low.items (reverse cycle.now) }
+    ensures low { IsLow graph.now.class.items found.new.low.items [] }
     ensures entered { found.new.entered.items ≡ found.old.entered.items }
     ensures noted { found.new.noted.items ≡ found.old.noted.items }
 {
-    let none = forest.next.len() as u32;
-    for at in ring {
-        found.low[forest.class[*at as usize] as usize] = none;
+    let none = graph.next.len() as u32;
+    for at in cycle {
+        found.low[graph.class[*at as usize] as usize] = none;
     }
 }
 
-/// Enters the ring that a header leads to, and all that leads to it.
+// Enters the cycle that a header leads to, and all that leads to it.
 fn enter_all<A: Allocator + Copy>(
     alloc: A,
-    forest: &Forest<A>,
+    graph: &Graph<A>,
     found: &mut Found<A>,
-    seen: &mut [bool],
+    visited: &mut [bool],
     from: u32,
 ) -> Result<(), AllocError>
-    requires from { from < length forest.now.next.items }
-    requires seen { length seen.old ≡ length forest.now.next.items }
-    requires walked { AreKept seen.old found.old.entered.items }
-    requires forest { IsForest forest.now.next.items forest.now.class.items
-        forest.now.first.items forest.now.sibling.items }
-    requires found { IsFound forest.now.next.items forest.now.class.items [] []
+    requires from { from < length graph.now.next.items }
+    requires visited { length visited.old ≡ length graph.now.next.items }
+    requires walked { AreKept visited.old found.old.entered.items }
+    requires graph { IsGraph graph.now.next.items graph.now.class.items
+        graph.now.first.items graph.now.sibling.items }
+    requires found { IsFound graph.now.next.items graph.now.class.items [] []
         found.old.entered.items found.old.noted.items found.old.low.items }
-    ensures found { IfOk result (λ _. IsFound forest.now.next.items forest.now.class.items [] []
+    ensures found { IfOk result (λ _. IsFound graph.now.next.items graph.now.class.items [] []
         found.new.entered.items found.new.noted.items found.new.low.items) }
     ensures kept { IfOk result (λ _. AreKept found.old.entered.items found.new.entered.items) }
-    ensures walked { IfOk result (λ _. AreKept seen.new found.new.entered.items) }
+    ensures walked { IfOk result (λ _. AreKept visited.new found.new.entered.items) }
     ensures entered { IfOk result (λ _. get_or found.new.entered.items from false ≡ true) }
 {
     if found.entered[from as usize] {
         return Ok(());
     }
-    let start = seek(&forest.next, seen, from);
-    let ring = gather(alloc, forest, found, start)?;
-    for turn in 0..ring.len() {
-        climb(alloc, forest, found, &ring, turn)?;
+    let start = seek(&graph.next, visited, from);
+    let cycle = gather(alloc, graph, found, start)?;
+    for turn in 0..cycle.len() {
+        climb(alloc, graph, found, &cycle, turn)?;
     }
-    clear(forest, found, &ring);
+    clear(graph, found, &cycle);
     Ok(())
 }
 
 /// Notes the headers of which a lower one of the same class comes before or after.
 pub(crate) fn note_higher<A: Allocator + Copy>(
     alloc: A,
-    forest: &Forest<A>,
+    graph: &Graph<A>,
 ) -> Result<Vec<bool, A>, AllocError>
-    requires { IsForest forest.now.next.items forest.now.class.items
-        forest.now.first.items forest.now.sibling.items }
+    requires { IsGraph graph.now.next.items graph.now.class.items
+        graph.now.first.items graph.now.sibling.items }
     ensures { IfOk result
-        (λ noted. AreNoted forest.now.next.items forest.now.class.items noted.items) }
+        (λ noted. AreNoted graph.now.next.items graph.now.class.items noted.items) }
 {
-    let count = forest.next.len();
+    let count = graph.next.len();
     let mut found = Found {
         entered: vec![in alloc; false; count]?,
         low: vec![in alloc; count as u32; count]?,
         noted: vec![in alloc; false; count]?,
     };
     let mut marks = vec![in alloc; false; count]?;
-    let seen = marks.as_mut_slice();
+    let visited = marks.as_mut_slice();
     for from in 0..count {
-        enter_all(alloc, forest, &mut found, seen, from as u32)?;
+        enter_all(alloc, graph, &mut found, visited, from as u32)?;
     }
     let Found {
         entered: _,

@@ -1,7 +1,7 @@
 //! Members whose paths have too many names.
 
 ghost use Rattle.std.specs.Prelude.{◌≡◌, ◌+◌, ◌<◌, ◌↔◌, ◌^◌, ◌++◌, IsTrue, IfOk};
-ghost use Rattle.romfs_format.specs.Fields.{root, IsInside};
+ghost use Rattle.romfs_format.specs.Fields.{root as root_of, IsInside};
 ghost use Rattle.romfs_format.specs.Rules.{BreaksHeader};
 ghost use Rattle.romfs_format.specs.declared.rule.Profile.TheVariants.{Usual};
 ghost use Rattle.romfs_rules.specs.Marks.{IsVolumeImage};
@@ -17,17 +17,17 @@ use crate::slot_set::SlotSet;
 use romfs_format::rule::Rule;
 use std::alloc::{AllocError, Allocator};
 
-/// How many names a path has at most.
+// How many names a path has at most.
 const MAX_NAMES: u32 = 512;
 
-/// A header that is still to come, and how many names lead to the directory of its chain.
+// A header that is still to come, and how many names lead to the directory of its chain.
 #[derive(Clone, Copy)]
 struct Waiting {
     header: u32,
     names: u32,
 }
 
-/// Adds a header, if there is one.
+// Adds a header, if there is one.
 fn push_some<A: Allocator>(
     todo: &mut Vec<Waiting, A>,
     header: Option<u32>,
@@ -41,45 +41,45 @@ fn push_some<A: Allocator>(
     Ok(())
 }
 
-/// Adds what a header leads to.
+// Adds what a header leads to.
 #[tactic(auto, using(crate::proofs::Descent::led))]
 fn follow<A: Allocator>(
     image: &[u8],
-    top: usize,
+    root: usize,
     from: Waiting,
     todo: &mut Vec<Waiting, A>,
 ) -> Result<(), AllocError>
     requires volume { IsVolumeImage image.now }
-    requires top { top ≡ root image.now }
+    requires root { root ≡ root_of image.now }
     requires inside { IsInside image.now from.header }
     requires names { from.names + 1 < 2 ^ 32 }
     ensures { IfOk result (λ _. Adds (LeadsDown image.now from) todo.old.items todo.new.items) }
 {
     let at = from.header as usize;
     push_some(todo, next_of(image, at), from.names)?;
-    push_some(todo, first_below(image, top, at), from.names + 1)?;
+    push_some(todo, first_below(image, root, at), from.names + 1)?;
     Ok(())
 }
 
-/// Whether a header is a member, and its path has too many names.
-fn is_too_deep(image: &[u8], top: usize, at: Waiting) -> bool
+// Whether a header is a member, and its path has too many names.
+fn is_too_deep(image: &[u8], root: usize, at: Waiting) -> bool
     requires volume { IsVolumeImage image.now }
-    requires top { top ≡ root image.now }
+    requires root { root ≡ root_of image.now }
     requires inside { IsInside image.now at.header }
     ensures { IsTrue result ↔ IsTooDeep image.now at }
 {
     let place = at.header as usize;
-    at.names >= MAX_NAMES && place != top && !is_dotted(image, place)
+    at.names >= MAX_NAMES && place != root && !is_dotted(image, place)
 }
 
-/// The least header that is too deep, with one header more than before.
-fn note(image: &[u8], top: usize, deep: Option<u32>, at: Waiting) -> Option<u32>
+// The least header that is too deep, with one header more than before.
+fn note(image: &[u8], root: usize, deep: Option<u32>, at: Waiting) -> Option<u32>
     requires volume { IsVolumeImage image.now }
-    requires top { top ≡ root image.now }
+    requires root { root ≡ root_of image.now }
     requires inside { IsInside image.now at.header }
     ensures { Notes image.now at deep result }
 {
-    if !is_too_deep(image, top, at) {
+    if !is_too_deep(image, root, at) {
         return deep;
     }
     match deep {
@@ -92,23 +92,23 @@ fn note(image: &[u8], top: usize, deep: Option<u32>, at: Waiting) -> Option<u32>
 pub(crate) fn find_deep<A: Allocator + Copy>(
     alloc: A,
     image: &[u8],
-    top: usize,
+    root: usize,
 ) -> Result<Option<u32>, AllocError>
     requires volume { IsVolumeImage image.now }
-    requires top { top ≡ root image.now }
+    requires root { root ≡ root_of image.now }
     requires keeps { KeepsAllHeaderRules Usual image.now }
     ensures { IfOk result (λ deep. IsLeast (BreaksHeader image.now Rule.Deep) deep) }
 {
     let mut marks = SlotSet::new(alloc, image.len() / 16)?;
     let mut todo = Vec::new(alloc);
-    push_some(&mut todo, first_of(image, top, top), 0)?;
+    push_some(&mut todo, first_of(image, root, root), 0)?;
     let mut deep = None;
     while let Some(next) = todo.pop() {
         let at = next.header as usize;
-        if is_fresh(image, top, at, &marks) {
+        if is_fresh(image, root, at, &marks) {
             marks.insert(at / 16);
-            deep = note(image, top, deep, next);
-            follow(image, top, next, &mut todo)?;
+            deep = note(image, root, deep, next);
+            follow(image, root, next, &mut todo)?;
         }
     }
     Ok(deep)

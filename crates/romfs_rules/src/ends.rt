@@ -10,7 +10,7 @@
 //! A walk that comes to its own number goes round, and ends nowhere. Each header is passed once.
 
 ghost use Rattle.std.specs.Prelude.{◌≡◌, ℕ, List, ◌+◌, ◌*◌, ◌++◌, [], ◌∷◌, ◌<◌, ◌↔◌, ◌^◌, ◌/◌, length, get_or, true, false, IsTrue, IfOk};
-ghost use Rattle.romfs_format.specs.Fields.{root, cleared};
+ghost use Rattle.romfs_format.specs.Fields.{root as root_of, cleared};
 ghost use Rattle.romfs_format.specs.Chains.{IsSomeMember};
 ghost use Rattle.romfs_format.specs.Links.{IsHardLink, IsDirectory, IsTarget, EndsAs};
 ghost use Rattle.romfs_rules.specs.Marks.{IsVolumeImage, AreMarks};
@@ -33,7 +33,7 @@ pub(crate) struct Ends<'s, A: Allocator> {
 }
 
 impl<'s, A: Allocator> Ends<'s, A> {
-    /// Where the chain of one of these hard links ends.
+    // Where the chain of one of these hard links ends.
     fn at(&self, at: usize) -> End
         requires { (a : List ℕ) × KnowsEnd a self.now.walks self.now.ends.items at }
         ensures { (a : List ℕ) → KnowsEnd a self.now.walks self.now.ends.items at
@@ -44,57 +44,57 @@ impl<'s, A: Allocator> Ends<'s, A> {
     }
 
     /// Where the chain of a member ends that is a hard link.
-    pub(crate) fn of_member(&self, image: &[u8], top: usize, at: usize) -> End
+    pub(crate) fn of_member(&self, image: &[u8], root: usize, at: usize) -> End
         requires small { length image.now < 2 ^ 32 }
-        requires top { top ≡ root image.now }
+        requires root { root ≡ root_of image.now }
         requires ends { AreEnds image.now self.now.walks self.now.ends.items }
         requires member { IsSomeMember image.now at }
         requires hard { IsHardLink image.now at }
         ensures { EndsAs image.now at result }
     {
         let to = word(image, at + 4) as usize / 16 * 16;
-        if is_hard_link(image, top, to) {
+        if is_hard_link(image, root, to) {
             self.at(to)
         } else {
-            end_at(image, top, to)
+            end_at(image, root, to)
         }
     }
 }
 
-/// Whether a header lies in the image and is a directory.
-fn is_directory(image: &[u8], top: usize, at: usize) -> bool
+// Whether a header lies in the image and is a directory.
+fn is_directory(image: &[u8], root: usize, at: usize) -> bool
     requires at { at < 2 ^ 32 }
-    requires top { top ≡ root image.now }
+    requires root { root ≡ root_of image.now }
     ensures { IsTrue result ↔ IsDirectory image.now at }
 {
-    is_inside(image, top, at) && kind_of(word(image, at)) == Kind::Directory
+    is_inside(image, root, at) && kind_of(word(image, at)) == Kind::Directory
 }
 
-/// Where a chain ends at a header that is no hard link.
-fn end_at(image: &[u8], top: usize, at: usize) -> End
+// Where a chain ends at a header that is no hard link.
+fn end_at(image: &[u8], root: usize, at: usize) -> End
     requires at { at < 2 ^ 32 }
-    requires top { top ≡ root image.now }
+    requires root { root ≡ root_of image.now }
     requires last { ¬ IsHardLink image.now at }
     ensures { EndsAs image.now at result }
 {
-    if is_directory(image, top, at) {
+    if is_directory(image, root, at) {
         End::AtDirectory
     } else {
         End::AtOther
     }
 }
 
-/// Where the chain of a hard link ends. Marks each hard link on the way with the number of this
-/// walk, up to one that an earlier walk passed.
+// Where the chain of a hard link ends. Marks each hard link on the way with the number of this
+// walk, up to one that an earlier walk passed.
 fn end_of<A: Allocator>(
     image: &[u8],
-    top: usize,
+    root: usize,
     from: usize,
     walks: &mut SlotWords<A>,
     ends: &[End],
 ) -> End
     requires small { length image.now < 2 ^ 32 }
-    requires top { top ≡ root image.now }
+    requires root { root ≡ root_of image.now }
     requires aligned { cleared from ≡ from }
     requires hard { IsHardLink image.now from }
     requires target { IsTarget image.now from }
@@ -109,7 +109,7 @@ fn end_of<A: Allocator>(
 {
     let mine = ends.len() as u32 + 1;
     let mut at = from;
-    while is_hard_link(image, top, at) {
+    while is_hard_link(image, root, at) {
         let walk = walks.at(at / 16);
         if walk == mine {
             return End::Nowhere;
@@ -120,29 +120,29 @@ fn end_of<A: Allocator>(
         walks.put(at / 16, mine);
         at = word(image, at + 4) as usize / 16 * 16;
     }
-    end_at(image, top, at)
+    end_at(image, root, at)
 }
 
-/// Whether a slot holds a hard link that no walk passed.
-fn is_left<A: Allocator>(image: &[u8], top: usize, slot: usize, walks: &SlotWords<A>) -> bool
+// Whether a slot holds a hard link that no walk passed.
+fn is_left<A: Allocator>(image: &[u8], root: usize, slot: usize, walks: &SlotWords<A>) -> bool
     requires small { length image.now < 2 ^ 32 }
-    requires top { top ≡ root image.now }
+    requires root { root ≡ root_of image.now }
     requires slot { slot < length image.now / 16 }
     requires there { get_or walks.now.slots slot false ≡ true }
     ensures { IsTrue result ↔ IsUnpassed image.now walks.now.by_slot slot }
 {
-    walks.at(slot) == 0 && is_hard_link(image, top, slot * 16)
+    walks.at(slot) == 0 && is_hard_link(image, root, slot * 16)
 }
 
 /// Follows each hard link that members' hard links lead over to where it ends.
 pub(crate) fn find_ends<'s, A: Allocator + Copy>(
     alloc: A,
     image: &[u8],
-    top: usize,
+    root: usize,
     targets: &'s SlotSet<A>,
 ) -> Result<Ends<'s, A>, AllocError>
     requires volume { IsVolumeImage image.now }
-    requires top { top ≡ root image.now }
+    requires root { root ≡ root_of image.now }
     requires targets { AreMarks image.now (IsTarget image.now) targets.now }
     ensures { IfOk result (λ found. AreEnds image.now found.walks found.ends.items) }
 {
@@ -150,8 +150,8 @@ pub(crate) fn find_ends<'s, A: Allocator + Copy>(
     let mut ends = Vec::new(alloc);
     let mut from = 0;
     while let Some(slot) = targets.next_from(from) {
-        if is_left(image, top, slot, &walks) {
-            let end = end_of(image, top, slot * 16, &mut walks, &ends);
+        if is_left(image, root, slot, &walks) {
+            let end = end_of(image, root, slot * 16, &mut walks, &ends);
             ends.push(end)?;
         }
         from = slot + 1;

@@ -1,11 +1,11 @@
 //! The first rule that an image breaks behind its volume header.
 
 ghost use Rattle.std.specs.Prelude.{◌≡◌, ℕ, List, IfOk};
-ghost use Rattle.romfs_format.specs.Fields.{root, image};
+ghost use Rattle.romfs_format.specs.Fields.{root as root_of, image};
 ghost use Rattle.romfs_format.specs.Rules.{IsVolume};
 ghost use Rattle.romfs_rules.specs.Marks.{IsVolumeImage, IsElsewhere};
 ghost use Rattle.romfs_rules.specs.InChains.{AreChains};
-ghost use Rattle.romfs_rules.specs.Namesakes.{AreNamesakes};
+ghost use Rattle.romfs_rules.specs.SameNames.{HaveSameNames};
 ghost use Rattle.romfs_rules.specs.Judge.{IsHeaderFault};
 ghost use Rattle.romfs_format.specs.Rules.{IsFaultOfAs};
 
@@ -13,8 +13,8 @@ use crate::chains::{Chains, find_chains};
 use crate::depth::find_deep;
 use crate::ends::find_ends;
 use crate::judge::{Sets, fault_of, header_fault};
-use crate::namesakes::find_namesakes;
 use crate::outside::find_outside;
+use crate::same_names::find_same_names;
 use crate::targets::mark_targets;
 use crate::twice::find_twice;
 use crate::volume::{image_of, volume_fault};
@@ -22,69 +22,69 @@ use romfs_format::read::{root_of, word};
 use romfs_format::{ImageFault, Profile};
 use std::alloc::{AllocError, Allocator};
 
-/// The headers with a namesake; none where the root stands in another chain than its own, since then
-/// no fault of a name is the first.
-fn namesakes_below<A: Allocator + Copy>(
+// The headers of which a member of the same directory has the name at a lower place; none where the root stands in another chain than its own, since then
+// no fault of a name is the first.
+fn same_names_below<A: Allocator + Copy>(
     alloc: A,
     bytes: &[u8],
-    top: usize,
+    root: usize,
     chains: &Chains<A>,
 ) -> Result<Vec<u32, A>, AllocError>
     requires volume { IsVolumeImage bytes.now }
-    requires top { top ≡ root bytes.now }
+    requires root { root ≡ root_of bytes.now }
     requires chains { AreChains bytes.now chains.now }
-    ensures { IfOk result (λ found. ¬ IsElsewhere bytes.now (root bytes.now) → AreNamesakes bytes.now found.items) }
+    ensures { IfOk result (λ found. ¬ IsElsewhere bytes.now (root_of bytes.now) → HaveSameNames bytes.now found.items) }
 {
     if chains.root_elsewhere {
         Ok(Vec::new(alloc))
     } else {
-        find_namesakes(alloc, bytes, top, chains)
+        find_same_names(alloc, bytes, root, chains)
     }
 }
 
-/// The first breach of a rule of file headers.
+// The first breach of a rule of file headers.
 fn header_fault_in<A: Allocator + Copy>(
     alloc: A,
     bytes: &[u8],
-    top: usize,
+    root: usize,
     profile: Profile,
 ) -> Result<Option<ImageFault>, AllocError>
     requires volume { IsVolumeImage bytes.now }
-    requires top { top ≡ root bytes.now }
+    requires root { root ≡ root_of bytes.now }
     ensures { IfOk result (IsHeaderFault profile bytes.now) }
 {
-    let chains = find_chains(alloc, bytes, top)?;
-    let namesakes = namesakes_below(alloc, bytes, top, &chains)?;
-    let twice = find_twice(alloc, bytes, top, &chains)?;
-    let targets = mark_targets(alloc, bytes, top, &chains)?;
-    let ends = find_ends(alloc, bytes, top, &targets)?;
-    let outside = find_outside(bytes, top, &chains, &targets);
+    let chains = find_chains(alloc, bytes, root)?;
+    let same_names = same_names_below(alloc, bytes, root, &chains)?;
+    let twice = find_twice(alloc, bytes, root, &chains)?;
+    let targets = mark_targets(alloc, bytes, root, &chains)?;
+    let ends = find_ends(alloc, bytes, root, &targets)?;
+    let outside = find_outside(bytes, root, &chains, &targets);
     let sets = Sets {
         chains: &chains,
         targets: &targets,
         twice: &twice,
-        namesakes: &namesakes,
+        same_names: &same_names,
         ends: &ends,
     };
-    Ok(header_fault(bytes, top, profile, &sets, outside))
+    Ok(header_fault(bytes, root, profile, &sets, outside))
 }
 
-/// The fault of an image that keeps the rules of the volume header, by its accessible bytes; none where
-/// it is sound.
+// The fault of an image that keeps the rules of the volume header, by its accessible bytes; none where
+// it is sound.
 fn fault_in<A: Allocator + Copy>(
     alloc: A,
     bytes: &[u8],
-    top: usize,
+    root: usize,
     profile: Profile,
 ) -> Result<Option<ImageFault>, AllocError>
     requires volume { IsVolumeImage bytes.now }
-    requires top { top ≡ root bytes.now }
+    requires root { root ≡ root_of bytes.now }
     ensures { IfOk result (λ fault. (b : List ℕ) → image b ≡ bytes.now → IsVolume b → IsFaultOfAs profile b fault) }
 {
-    let header = header_fault_in(alloc, bytes, top, profile)?;
+    let header = header_fault_in(alloc, bytes, root, profile)?;
     let deep = match header {
         Some(_) => None,
-        None => find_deep(alloc, bytes, top)?,
+        None => find_deep(alloc, bytes, root)?,
     };
     Ok(fault_of(header, deep))
 }

@@ -2,7 +2,7 @@
 
 ghost use Rattle.std.specs.Prelude.{◌≡◌, ℕ, List, [], ◌+◌, ◌*◌, ◌<◌, ◌≤◌, ◌⊎◌, ◌↔◌, ◌^◌, ◌/◌, length, IsTrue, Contains, IfSome, IfNone, MatchOption};
 ghost use Rattle.std.specs.List.Sorted.{IsNonDecreasing};
-ghost use Rattle.romfs_format.specs.Fields.{root, image, kind, size, spec, data_at};
+ghost use Rattle.romfs_format.specs.Fields.{root as root_of, image, kind, size, spec, data_at};
 ghost use Rattle.romfs_format.specs.Chains.{IsSomeMember};
 ghost use Rattle.romfs_format.specs.Links.{IsHardLink, IsReached, EndsAs};
 ghost use Rattle.romfs_format.specs.Rules.{IsVolume, IsUsed, HasData, IsDevice, HasBadSum, BreaksHeader, BreaksHeaderAs};
@@ -34,30 +34,30 @@ pub(crate) struct Sets<'s, A: Allocator> {
     pub(crate) twice: &'s [u32],
     /// Those whose name a member of the same directory has at a lower place. It may be empty
     /// where the root's header stands in the chain of another directory.
-    pub(crate) namesakes: &'s [u32],
+    pub(crate) same_names: &'s [u32],
     /// Where the hard links of members end.
     pub(crate) ends: &'s Ends<'s, A>,
 }
 
-/// Whether a header is a member, or a member's hard links lead over it.
-fn is_used<A: Allocator>(image: &[u8], top: usize, sets: &Sets<A>, at: usize) -> bool
+// Whether a header is a member, or a member's hard links lead over it.
+fn is_used<A: Allocator>(image: &[u8], root: usize, sets: &Sets<A>, at: usize) -> bool
     requires volume { IsVolumeImage image.now }
-    requires top { top ≡ root image.now }
+    requires root { root ≡ root_of image.now }
     requires sets { AreSets image.now sets.now }
     requires slot { HasSlot image.now at }
     ensures { IsTrue result ↔ IsUsed image.now at }
 {
-    sets.targets.contains(at / 16) || is_some_member(image, top, at, sets.chains)
+    sets.targets.contains(at / 16) || is_some_member(image, root, at, sets.chains)
 }
 
-/// Whether a name is empty or holds `/`.
+// Whether a name is empty or holds `/`.
 fn is_bad_name(name: &[u8]) -> bool
     ensures { IsTrue result ↔ ((name.now ≡ []) ⊎ Contains name.now 47) }
 {
     name.is_empty() || name.contains(&b'/')
 }
 
-/// Whether a header is that of a regular file or a symbolic link.
+// Whether a header is that of a regular file or a symbolic link.
 fn has_data(image: &[u8], at: usize) -> bool
     requires { at + 16 ≤ length image.now }
     ensures { IsTrue result ↔ HasData image.now at }
@@ -65,7 +65,7 @@ fn has_data(image: &[u8], at: usize) -> bool
     matches!(kind_of(word(image, at)), Kind::Regular | Kind::SymLink)
 }
 
-/// Whether the data of a header with this name ends beyond the image.
+// Whether the data of a header with this name ends beyond the image.
 fn is_data_outside(image: &[u8], at: usize, name: &[u8]) -> bool
     requires at { at + 16 ≤ length image.now }
     requires small { length image.now < 2 ^ 32 }
@@ -76,7 +76,7 @@ fn is_data_outside(image: &[u8], at: usize, name: &[u8]) -> bool
     image.len() < at + 16 + (name.len() + 1 + 15) / 16 * 16 + size
 }
 
-/// Whether a header is that of a symbolic link, of a size above 4,095.
+// Whether a header is that of a symbolic link, of a size above 4,095.
 fn is_target_long(image: &[u8], at: usize) -> bool
     requires { at + 16 ≤ length image.now }
     ensures { IsTrue result ↔ ((kind image.now at ≡ Kind.SymLink) × (4095 < size image.now at)) }
@@ -84,7 +84,7 @@ fn is_target_long(image: &[u8], at: usize) -> bool
     kind_of(word(image, at)) == Kind::SymLink && word(image, at + 8) > 4095
 }
 
-/// Whether a header is that of a device.
+// Whether a header is that of a device.
 fn is_device(image: &[u8], at: usize) -> bool
     requires { at + 16 ≤ length image.now }
     ensures { IsTrue result ↔ IsDevice image.now at }
@@ -92,7 +92,7 @@ fn is_device(image: &[u8], at: usize) -> bool
     matches!(kind_of(word(image, at)), Kind::Block | Kind::Character)
 }
 
-/// Whether a header is that of a device, with a major number above 4,095.
+// Whether a header is that of a device, with a major number above 4,095.
 fn is_major_large(image: &[u8], at: usize) -> bool
     requires { at + 16 ≤ length image.now }
     ensures { IsTrue result ↔ (IsDevice image.now at × (4095 < spec image.now at / 2 ^ 16)) }
@@ -100,161 +100,161 @@ fn is_major_large(image: &[u8], at: usize) -> bool
     is_device(image, at) && word(image, at + 4) / 65536 > 4095
 }
 
-/// Whether a name is not ended.
-fn breaks_name_open(image: &[u8], top: usize, at: usize) -> bool
+// Whether a name is not ended.
+fn breaks_name_open(image: &[u8], root: usize, at: usize) -> bool
     requires volume { IsVolumeImage image.now }
-    requires top { top ≡ root image.now }
+    requires root { root ≡ root_of image.now }
     requires slot { HasSlot image.now at }
     requires reached { IsReached image.now at }
     ensures { IsTrue result ↔ BreaksHeader image.now Rule.NameOpen at }
 {
-    at != top && text_at(image, at + 16).is_none()
+    at != root && text_at(image, at + 16).is_none()
 }
 
-/// Whether a member's name is empty or holds `/`.
-fn breaks_name_bad<A: Allocator>(image: &[u8], top: usize, sets: &Sets<A>, at: usize) -> bool
+// Whether a member's name is empty or holds `/`.
+fn breaks_name_bad<A: Allocator>(image: &[u8], root: usize, sets: &Sets<A>, at: usize) -> bool
     requires volume { IsVolumeImage image.now }
-    requires top { top ≡ root image.now }
+    requires root { root ≡ root_of image.now }
     requires sets { AreSets image.now sets.now }
     requires slot { HasSlot image.now at }
     ensures { IsTrue result ↔ BreaksHeader image.now Rule.NameBad at }
 {
     match text_at(image, at + 16) {
         None => false,
-        Some(name) => { is_bad_name(name) && is_some_member(image, top, at, sets.chains) }
+        Some(name) => { is_bad_name(name) && is_some_member(image, root, at, sets.chains) }
     }
 }
 
-/// Whether a header has data, and is used.
-fn is_data_used<A: Allocator>(image: &[u8], top: usize, sets: &Sets<A>, at: usize) -> bool
+// Whether a header has data, and is used.
+fn is_data_used<A: Allocator>(image: &[u8], root: usize, sets: &Sets<A>, at: usize) -> bool
     requires volume { IsVolumeImage image.now }
-    requires top { top ≡ root image.now }
+    requires root { root ≡ root_of image.now }
     requires sets { AreSets image.now sets.now }
     requires slot { HasSlot image.now at }
     ensures { IsTrue result ↔ (IsUsed image.now at × HasData image.now at) }
 {
-    has_data(image, at) && is_used(image, top, sets, at)
+    has_data(image, at) && is_used(image, root, sets, at)
 }
 
-/// Whether the data of a regular file or a symbolic link ends beyond the image.
-fn breaks_data_outside<A: Allocator>(image: &[u8], top: usize, sets: &Sets<A>, at: usize) -> bool
+// Whether the data of a regular file or a symbolic link ends beyond the image.
+fn breaks_data_outside<A: Allocator>(image: &[u8], root: usize, sets: &Sets<A>, at: usize) -> bool
     requires volume { IsVolumeImage image.now }
-    requires top { top ≡ root image.now }
+    requires root { root ≡ root_of image.now }
     requires sets { AreSets image.now sets.now }
     requires slot { HasSlot image.now at }
     ensures { IsTrue result ↔ BreaksHeader image.now Rule.DataOutside at }
 {
     match text_at(image, at + 16) {
         None => false,
-        Some(name) => is_data_outside(image, at, name) && is_data_used(image, top, sets, at),
+        Some(name) => is_data_outside(image, at, name) && is_data_used(image, root, sets, at),
     }
 }
 
-/// Whether the target of a symbolic link is too long.
-fn breaks_target_long<A: Allocator>(image: &[u8], top: usize, sets: &Sets<A>, at: usize) -> bool
+// Whether the target of a symbolic link is too long.
+fn breaks_target_long<A: Allocator>(image: &[u8], root: usize, sets: &Sets<A>, at: usize) -> bool
     requires volume { IsVolumeImage image.now }
-    requires top { top ≡ root image.now }
+    requires root { root ≡ root_of image.now }
     requires sets { AreSets image.now sets.now }
     requires slot { HasSlot image.now at }
     ensures { IsTrue result ↔ BreaksHeader image.now Rule.TargetLong at }
 {
-    is_target_long(image, at) && is_used(image, top, sets, at)
+    is_target_long(image, at) && is_used(image, root, sets, at)
 }
 
-/// Whether two links name a header, or another directory's chain holds the root's.
-fn breaks_twice<A: Allocator>(image: &[u8], top: usize, sets: &Sets<A>, at: usize) -> bool
+// Whether two links name a header, or another directory's chain holds the root's.
+fn breaks_twice<A: Allocator>(image: &[u8], root: usize, sets: &Sets<A>, at: usize) -> bool
     requires volume { IsVolumeImage image.now }
-    requires top { top ≡ root image.now }
+    requires root { root ≡ root_of image.now }
     requires sets { AreSets image.now sets.now }
     requires slot { HasSlot image.now at }
     ensures { IsTrue result ↔ BreaksHeader image.now Rule.Twice at }
 {
-    is_listed(sets.twice, at) || at == top && sets.chains.root_elsewhere
+    is_listed(sets.twice, at) || at == root && sets.chains.root_elsewhere
 }
 
-/// Whether a member is a hard link whose chain ends in this way.
+// Whether a member is a hard link whose chain ends in this way.
 fn member_ends_as<A: Allocator>(
     image: &[u8],
-    top: usize,
+    root: usize,
     sets: &Sets<A>,
     at: usize,
     end: End,
 ) -> bool
     requires volume { IsVolumeImage image.now }
-    requires top { top ≡ root image.now }
+    requires root { root ≡ root_of image.now }
     requires sets { AreSets image.now sets.now }
     requires slot { HasSlot image.now at }
     ensures { IsTrue result ↔ (IsSomeMember image.now at × IsHardLink image.now at
         × EndsAs image.now at end) }
 {
-    if is_hard_link(image, top, at) && is_some_member(image, top, at, sets.chains) {
-        sets.ends.of_member(image, top, at) == end
+    if is_hard_link(image, root, at) && is_some_member(image, root, at, sets.chains) {
+        sets.ends.of_member(image, root, at) == end
     } else {
         false
     }
 }
 
-/// Whether a member is a hard link whose chain never leaves hard links.
-fn breaks_link_loop<A: Allocator>(image: &[u8], top: usize, sets: &Sets<A>, at: usize) -> bool
+// Whether a member is a hard link whose chain never leaves hard links.
+fn breaks_link_loop<A: Allocator>(image: &[u8], root: usize, sets: &Sets<A>, at: usize) -> bool
     requires volume { IsVolumeImage image.now }
-    requires top { top ≡ root image.now }
+    requires root { root ≡ root_of image.now }
     requires sets { AreSets image.now sets.now }
     requires slot { HasSlot image.now at }
     ensures { IsTrue result ↔ BreaksHeader image.now Rule.LinkLoop at }
 {
-    member_ends_as(image, top, sets, at, End::Nowhere)
+    member_ends_as(image, root, sets, at, End::Nowhere)
 }
 
-/// Whether a member is a hard link whose chain ends at a directory.
-fn breaks_link_directory<A: Allocator>(image: &[u8], top: usize, sets: &Sets<A>, at: usize) -> bool
+// Whether a member is a hard link whose chain ends at a directory.
+fn breaks_link_directory<A: Allocator>(image: &[u8], root: usize, sets: &Sets<A>, at: usize) -> bool
     requires volume { IsVolumeImage image.now }
-    requires top { top ≡ root image.now }
+    requires root { root ≡ root_of image.now }
     requires sets { AreSets image.now sets.now }
     requires slot { HasSlot image.now at }
     ensures { IsTrue result ↔ BreaksHeader image.now Rule.LinkDirectory at }
 {
-    member_ends_as(image, top, sets, at, End::AtDirectory)
+    member_ends_as(image, root, sets, at, End::AtDirectory)
 }
 
-/// Whether the major number of a device is too large.
-fn breaks_major_large<A: Allocator>(image: &[u8], top: usize, sets: &Sets<A>, at: usize) -> bool
+// Whether the major number of a device is too large.
+fn breaks_major_large<A: Allocator>(image: &[u8], root: usize, sets: &Sets<A>, at: usize) -> bool
     requires volume { IsVolumeImage image.now }
-    requires top { top ≡ root image.now }
+    requires root { root ≡ root_of image.now }
     requires sets { AreSets image.now sets.now }
     requires slot { HasSlot image.now at }
     ensures { IsTrue result ↔ BreaksHeader image.now Rule.MajorLarge at }
 {
-    is_major_large(image, at) && is_used(image, top, sets, at)
+    is_major_large(image, at) && is_used(image, root, sets, at)
 }
 
-/// Whether the words of a header, its name and the padding do not sum to 0.
-fn is_sum_bad(image: &[u8], top: usize, at: usize) -> bool
-    requires top { top ≡ root image.now }
+// Whether the words of a header, its name and the padding do not sum to 0.
+fn is_sum_bad(image: &[u8], root: usize, at: usize) -> bool
+    requires root { root ≡ root_of image.now }
     requires inside { at + 16 ≤ length image.now }
     requires small { length image.now < 2 ^ 32 }
     ensures { IsTrue result ↔ HasBadSum image.now at }
 {
     match text_at(image, at + 16) {
-        None => at == top,
+        None => at == root,
         Some(name) => word_sum(header_bytes(image, at, name)) != 0,
     }
 }
 
-/// Whether the sum of a header is looked at, and bad.
-fn breaks_header_sum(image: &[u8], top: usize, profile: Profile, at: usize) -> bool
+// Whether the sum of a header is looked at, and bad.
+fn breaks_header_sum(image: &[u8], root: usize, profile: Profile, at: usize) -> bool
     requires volume { IsVolumeImage image.now }
-    requires top { top ≡ root image.now }
+    requires root { root ≡ root_of image.now }
     requires slot { HasSlot image.now at }
     requires reached { IsReached image.now at }
     ensures { IsTrue result ↔ BreaksHeaderAs profile image.now Rule.HeaderSum at }
 {
     match profile {
         Profile::Usual => false,
-        Profile::Strict => is_sum_bad(image, top, at),
+        Profile::Strict => is_sum_bad(image, root, at),
     }
 }
 
-/// The rules of file headers that a header inside the image may break, in the order of their numbers.
+// The rules of file headers that a header inside the image may break, in the order of their numbers.
 const HEADER_RULES: [Rule; 10] = [
     Rule::NameOpen,
     Rule::NameBad,
@@ -268,84 +268,84 @@ const HEADER_RULES: [Rule; 10] = [
     Rule::HeaderSum,
 ];
 
-/// Whether a reached header breaks a rule of file headers. Equal names are known only where the
-/// root's header stands in no other directory's chain.
+// Whether a reached header breaks a rule of file headers. Equal names are known only where the
+// root's header stands in no other directory's chain.
 fn breaks<A: Allocator>(
     image: &[u8],
-    top: usize,
+    root: usize,
     profile: Profile,
     sets: &Sets<A>,
     rule: Rule,
     at: usize,
 ) -> bool
     requires volume { IsVolumeImage image.now }
-    requires top { top ≡ root image.now }
+    requires root { root ≡ root_of image.now }
     requires sets { AreSets image.now sets.now }
     requires slot { HasSlot image.now at }
     requires reached { IsReached image.now at }
     requires rule { IsHeaderRule rule }
-    requires named { rule ≡ Rule.SameName → ¬ IsElsewhere image.now (root image.now) }
+    requires named { rule ≡ Rule.SameName → ¬ IsElsewhere image.now (root_of image.now) }
     ensures { IsTrue result ↔ BreaksHeaderAs profile image.now rule at }
 {
     match rule {
-        Rule::NameOpen => breaks_name_open(image, top, at),
-        Rule::NameBad => breaks_name_bad(image, top, sets, at),
-        Rule::DataOutside => breaks_data_outside(image, top, sets, at),
-        Rule::TargetLong => breaks_target_long(image, top, sets, at),
-        Rule::Twice => breaks_twice(image, top, sets, at),
-        Rule::SameName => is_listed(sets.namesakes, at),
-        Rule::LinkLoop => breaks_link_loop(image, top, sets, at),
-        Rule::LinkDirectory => breaks_link_directory(image, top, sets, at),
-        Rule::MajorLarge => breaks_major_large(image, top, sets, at),
-        Rule::HeaderSum => breaks_header_sum(image, top, profile, at),
+        Rule::NameOpen => breaks_name_open(image, root, at),
+        Rule::NameBad => breaks_name_bad(image, root, sets, at),
+        Rule::DataOutside => breaks_data_outside(image, root, sets, at),
+        Rule::TargetLong => breaks_target_long(image, root, sets, at),
+        Rule::Twice => breaks_twice(image, root, sets, at),
+        Rule::SameName => is_listed(sets.same_names, at),
+        Rule::LinkLoop => breaks_link_loop(image, root, sets, at),
+        Rule::LinkDirectory => breaks_link_directory(image, root, sets, at),
+        Rule::MajorLarge => breaks_major_large(image, root, sets, at),
+        Rule::HeaderSum => breaks_header_sum(image, root, profile, at),
         _ => false,
     }
 }
 
-/// The first rule of file headers that a reached header breaks. Where the root's header stands
-/// in the chain of another directory, only the root may be asked for.
+// The first rule of file headers that a reached header breaks. Where the root's header stands
+// in the chain of another directory, only the root may be asked for.
 fn rule_at<A: Allocator>(
     image: &[u8],
-    top: usize,
+    root: usize,
     profile: Profile,
     sets: &Sets<A>,
     at: usize,
 ) -> Option<Rule>
     requires volume { IsVolumeImage image.now }
-    requires top { top ≡ root image.now }
+    requires root { root ≡ root_of image.now }
     requires sets { AreSets image.now sets.now }
     requires slot { HasSlot image.now at }
     requires reached { IsReached image.now at }
-    requires root_once { IsElsewhere image.now (root image.now) → at ≡ root image.now }
+    requires root_once { IsElsewhere image.now (root_of image.now) → at ≡ root_of image.now }
     ensures { MatchOption result (KeepsHeaderRules profile image.now at) (IsFirstRule profile image.now at) }
 {
     for number in 0..HEADER_RULES.len() {
         let rule = HEADER_RULES[number];
-        if breaks(image, top, profile, sets, rule, at) {
+        if breaks(image, root, profile, sets, rule, at) {
             return Some(rule);
         }
     }
     None
 }
 
-/// The first rule that a reached header breaks, with its place.
+// The first rule that a reached header breaks, with its place.
 fn fault_at<A: Allocator>(
     image: &[u8],
-    top: usize,
+    root: usize,
     profile: Profile,
     sets: &Sets<A>,
     at: usize,
 ) -> Option<ImageFault>
     requires volume { IsVolumeImage image.now }
-    requires top { top ≡ root image.now }
+    requires root { root ≡ root_of image.now }
     requires sets { AreSets image.now sets.now }
     requires slot { HasSlot image.now at }
     requires reached { IsReached image.now at }
-    requires root_once { IsElsewhere image.now (root image.now) → at ≡ root image.now }
+    requires root_once { IsElsewhere image.now (root_of image.now) → at ≡ root_of image.now }
     ensures { MatchOption result (KeepsHeaderRules profile image.now at)
         (λ f. (f.place ≡ at) × IsFirstRule profile image.now at f.rule) }
 {
-    match rule_at(image, top, profile, sets, at) {
+    match rule_at(image, root, profile, sets, at) {
         Some(rule) => Some(ImageFault {
             rule,
             place: at as u32,
@@ -354,26 +354,26 @@ fn fault_at<A: Allocator>(
     }
 }
 
-/// The first header inside the image that breaks a rule of file headers, and the first rule that
-/// it breaks.
+// The first header inside the image that breaks a rule of file headers, and the first rule that
+// it breaks.
 fn fault_inside<A: Allocator>(
     image: &[u8],
-    top: usize,
+    root: usize,
     profile: Profile,
     sets: &Sets<A>,
 ) -> Option<ImageFault>
     requires volume { IsVolumeImage image.now }
-    requires top { top ≡ root image.now }
+    requires root { root ≡ root_of image.now }
     requires sets { AreSets image.now sets.now }
     ensures { MatchOption result (KeepsBelow profile image.now (length image.now))
         (λ f. IsFirstInside profile image.now f.rule f.place) }
 {
-    if let Some(fault) = fault_at(image, top, profile, sets, top) {
+    if let Some(fault) = fault_at(image, root, profile, sets, root) {
         return Some(fault);
     }
-    let mut from = top / 16 + 1;
+    let mut from = root / 16 + 1;
     while let Some(slot) = sets.chains.headers.next_of_either(sets.targets, from) {
-        if let Some(fault) = fault_at(image, top, profile, sets, slot * 16) {
+        if let Some(fault) = fault_at(image, root, profile, sets, slot * 16) {
             return Some(fault);
         }
         from = slot + 1;
@@ -384,13 +384,13 @@ fn fault_inside<A: Allocator>(
 /// The first breach of a rule of file headers.
 pub(crate) fn header_fault<A: Allocator>(
     image: &[u8],
-    top: usize,
+    root: usize,
     profile: Profile,
     sets: &Sets<A>,
     outside: Outside,
 ) -> Option<ImageFault>
     requires volume { IsVolumeImage image.now }
-    requires top { top ≡ root image.now }
+    requires root { root ≡ root_of image.now }
     requires sets { AreSets image.now sets.now }
     requires below { IsLeast (λ h. IsReached image.now h × IsBelow image.now h) outside.below }
     requires above { IsLeast (λ h. IsReached image.now h × IsAbove image.now h) outside.above }
@@ -402,7 +402,7 @@ pub(crate) fn header_fault<A: Allocator>(
             place,
         });
     }
-    if let Some(fault) = fault_inside(image, top, profile, sets) {
+    if let Some(fault) = fault_inside(image, root, profile, sets) {
         return Some(fault);
     }
     match outside.above {

@@ -1,7 +1,7 @@
 //! Where a header leads.
 
 ghost use Rattle.std.specs.Prelude.{◌≡◌, ◌≢◌, ◌+◌, ◌*◌, ◌/◌, ◌<◌, ◌≤◌, ◌^◌, length};
-ghost use Rattle.romfs_format.specs.Fields.{root, IsInside};
+ghost use Rattle.romfs_format.specs.Fields.{root as root_of, IsInside};
 ghost use Rattle.romfs_format.specs.Chains.{IsFirst, IsNext};
 ghost use Rattle.romfs_format.specs.Links.{IsHardLink, destination};
 ghost use Rattle.romfs_rules.specs.Marks.{Opens};
@@ -23,8 +23,8 @@ pub(crate) fn next_of(image: &[u8], at: usize) -> Option<u32>
 
 /// The first header of a directory.
 #[tactic(auto, using(crate::proofs::Leads::first_none, crate::proofs::Leads::first_own, crate::proofs::Leads::first_some))]
-pub(crate) fn first_of(image: &[u8], top: usize, at: usize) -> Option<u32>
-    requires top { top ≡ root image.now }
+pub(crate) fn first_of(image: &[u8], root: usize, at: usize) -> Option<u32>
+    requires root { root ≡ root_of image.now }
     requires inside { IsInside image.now at }
     ensures { IsTheOne (IsFirst image.now at) result }
 {
@@ -32,7 +32,7 @@ pub(crate) fn first_of(image: &[u8], top: usize, at: usize) -> Option<u32>
     if first == 0 {
         return None;
     }
-    if first as usize == at && at != top {
+    if first as usize == at && at != root {
         None
     } else {
         Some(first)
@@ -41,16 +41,16 @@ pub(crate) fn first_of(image: &[u8], top: usize, at: usize) -> Option<u32>
 
 /// The first header of a header that opens as a directory, unless it is the root's.
 #[tactic(auto, using(crate::proofs::Leads::down_root, crate::proofs::Leads::down_shut, crate::proofs::Leads::down_open))]
-pub(crate) fn first_below(image: &[u8], top: usize, at: usize) -> Option<u32>
+pub(crate) fn first_below(image: &[u8], root: usize, at: usize) -> Option<u32>
     requires small { length image.now < 2 ^ 32 }
-    requires top { top ≡ root image.now }
+    requires root { root ≡ root_of image.now }
     requires inside { IsInside image.now at }
-    ensures { IsTheOne (λ g. (at ≢ root image.now) × Opens image.now at × IsFirst image.now at g) result }
+    ensures { IsTheOne (λ g. (at ≢ root_of image.now) × Opens image.now at × IsFirst image.now at g) result }
 {
-    if at == top || !opens(image, at) {
+    if at == root || !opens(image, at) {
         return None;
     }
-    first_of(image, top, at)
+    first_of(image, root, at)
 }
 
 /// The destination of a hard link.

@@ -1,9 +1,10 @@
 //! Which rule of romfs an image breaks.
 //!
 //! [`first_fault`] answers for every list of bytes, whatever a stranger made: directories whose chains merge, loop or
-//! lead anywhere, links to links, names that come twice. It first collects sets of headers (`chains`, `targets`,
-//! `twice`, `namesakes`, `ends`), most as a bit for every 16 bytes of the image (`slot_set`), then goes upward once over
-//! the headers that are reached and asks for the first rule that is broken there (`judge`); the depth is looked at last
+//! lead anywhere, links to links, names that come twice. It first collects sets of headers (`chains`, `same_names`,
+//! `twice`, `targets`, `ends`), as a bit for every 16 bytes of the image (`slot_set`) or as a rising list (`listed`);
+//! what is kept for a header of a set is kept by its number there (`slot_numbers`). Then it goes upward once over the
+//! headers that are reached and asks for the first rule that is broken there (`judge`); the depth is looked at last
 //! (`depth`). Each walk is a loop, and each visits a header a constant number of times.
 //!
 //! Nothing is public but that call: its promise is `IsFaultOfAs`, of `romfs_format`.
@@ -14,15 +15,15 @@ mod climb;
 mod depth;
 mod ends;
 mod fault;
-mod forest;
+mod graph;
 mod judge;
 mod lead;
 mod link;
 mod listed;
 mod member;
 mod names;
-mod namesakes;
 mod outside;
+mod same_names;
 mod slot;
 mod slot_numbers;
 mod slot_set;

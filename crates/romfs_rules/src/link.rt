@@ -1,7 +1,7 @@
 //! The headers that the fields of a header name.
 
 ghost use Rattle.std.specs.Prelude.{◌≡◌, ◌<◌, ◌^◌, length};
-ghost use Rattle.romfs_format.specs.Fields.{root, IsInside, cleared};
+ghost use Rattle.romfs_format.specs.Fields.{root as root_of, IsInside, cleared};
 ghost use Rattle.romfs_format.specs.Links.{first_of, next_of, IsLink};
 ghost use Rattle.romfs_rules.specs.Leads.{IsTheOne};
 ghost use Rattle.romfs_rules.specs.InChains.{AreChains};
@@ -30,19 +30,19 @@ pub(crate) fn next_link<A: Allocator>(image: &[u8], at: usize, chains: &Chains<A
 #[tactic(auto, using(crate::proofs::Links::first_named, crate::proofs::Links::no_first))]
 pub(crate) fn first_link<A: Allocator>(
     image: &[u8],
-    top: usize,
+    root: usize,
     at: usize,
     chains: &Chains<A>,
 ) -> Option<u32>
     requires small { length image.now < 2 ^ 32 }
-    requires top { top ≡ root image.now }
+    requires root { root ≡ root_of image.now }
     requires inside { IsInside image.now at }
     requires slot { cleared at ≡ at }
     requires chains { AreChains image.now chains.now }
     ensures { IsTheOne (IsLink image.now (first_of at)) result }
 {
-    if is_opened(image, top, at, chains) {
-        first_of(image, top, at)
+    if is_opened(image, root, at, chains) {
+        first_of(image, root, at)
     } else {
         None
     }

@@ -2,7 +2,7 @@
 
 ghost use Rattle.std.specs.Prelude.{◌≡◌, ◌<◌, ◌≤◌, ◌↔◌, ◌^◌, ℕ, IfOk, IsTrue, Contains, length};
 ghost use Rattle.std.specs.List.Sorted.{IsNonDecreasing};
-ghost use Rattle.romfs_rules.specs.Namesakes.{AreCollected};
+ghost use Rattle.romfs_rules.specs.SameNames.{AreCollected};
 
 use crate::slot_set::SlotSet;
 use std::alloc::{AllocError, Allocator};

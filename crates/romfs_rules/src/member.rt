@@ -1,13 +1,14 @@
 //! What a header is to the directories in whose chains it stands.
 
 ghost use Rattle.std.specs.Prelude.{◌≡◌, ◌+◌, ◌*◌, ◌/◌, ◌<◌, ◌≤◌, ◌↔◌, ◌^◌, List, Bool, length, get_or, false, IsTrue};
-ghost use Rattle.romfs_format.specs.Fields.{root, IsInside, cleared};
+ghost use Rattle.romfs_format.specs.Fields.{root as root_of, IsInside, cleared};
 ghost use Rattle.romfs_format.specs.Chains.{IsDotted, IsOpened, IsSomeMember};
 ghost use Rattle.romfs_rules.specs.Marks.{Opens};
 ghost use Rattle.romfs_rules.specs.Leads.{IsInSomeChain, StandsKept};
 ghost use Rattle.romfs_rules.specs.InChains.{AreChains};
 
 use crate::chains::Chains;
+use crate::names::is_dot_name;
 use romfs_format::head::Kind;
 use romfs_format::read::{kind_of, text_at, word};
 use std::alloc::Allocator;
@@ -20,7 +21,7 @@ pub(crate) fn is_dotted(image: &[u8], at: usize) -> bool
 {
     match text_at(image, at + 16) {
         None => false,
-        Some(name) => name == b".".as_slice() || name == b"..".as_slice(),
+        Some(name) => is_dot_name(name),
     }
 }
 
@@ -48,29 +49,29 @@ pub(crate) fn is_in_chain<A: Allocator>(image: &[u8], at: usize, chains: &Chains
 #[tactic(auto, using(crate::proofs::Standing::opened, crate::proofs::Standing::opened_root))]
 pub(crate) fn is_opened<A: Allocator>(
     image: &[u8],
-    top: usize,
+    root: usize,
     at: usize,
     chains: &Chains<A>,
 ) -> bool
     requires small { length image.now < 2 ^ 32 }
-    requires top { top ≡ root image.now }
+    requires root { root ≡ root_of image.now }
     requires inside { IsInside image.now at }
     requires slot { cleared at ≡ at }
     requires chains { AreChains image.now chains.now }
     ensures { IsTrue result ↔ IsOpened image.now at }
 {
-    at == top || is_in_chain(image, at, chains) && opens(image, at)
+    at == root || is_in_chain(image, at, chains) && opens(image, at)
 }
 
-/// Whether a header stands in a chain, the root's in another than its own.
-fn stands_kept<A: Allocator>(image: &[u8], top: usize, at: usize, chains: &Chains<A>) -> bool
-    requires top { top ≡ root image.now }
+// Whether a header stands in a chain, the root's in another than its own.
+fn stands_kept<A: Allocator>(image: &[u8], root: usize, at: usize, chains: &Chains<A>) -> bool
+    requires root { root ≡ root_of image.now }
     requires inside { IsInside image.now at }
     requires slot { cleared at ≡ at }
     requires chains { AreChains image.now chains.now }
     ensures { IsTrue result ↔ StandsKept image.now at }
 {
-    if at == top {
+    if at == root {
         chains.root_elsewhere
     } else {
         is_in_chain(image, at, chains)
@@ -81,16 +82,16 @@ fn stands_kept<A: Allocator>(image: &[u8], top: usize, at: usize, chains: &Chain
 #[tactic(auto, using(crate::proofs::Standing::member_unless, crate::proofs::Standing::some_member))]
 pub(crate) fn is_some_member<A: Allocator>(
     image: &[u8],
-    top: usize,
+    root: usize,
     at: usize,
     chains: &Chains<A>,
 ) -> bool
     requires small { length image.now < 2 ^ 32 }
-    requires top { top ≡ root image.now }
+    requires root { root ≡ root_of image.now }
     requires inside { IsInside image.now at }
     requires slot { cleared at ≡ at }
     requires chains { AreChains image.now chains.now }
     ensures { IsTrue result ↔ IsSomeMember image.now at }
 {
-    stands_kept(image, top, at, chains) && !is_dotted(image, at)
+    stands_kept(image, root, at, chains) && !is_dotted(image, at)
 }

@@ -1,34 +1,37 @@
 //! Names of headers, as classes of their numbers.
 
-ghost use Rattle.std.specs.Prelude.{◌≡◌, ◌+◌, ◌^◌, ◌<◌, ◌≤◌, ℕ, List, Some, IfOk, bytes_eq, unwrap_or, length, get_or};
+ghost use Rattle.std.specs.Prelude.{◌≡◌, ◌+◌, ◌^◌, ◌<◌, ◌≤◌, ℕ, List, Some, IfOk, bytes_eq, codes, ◌||◌, unwrap_or, length, get_or};
 ghost use Rattle.std.specs.Option.{option_map};
 ghost use Rattle.std.specs.Map.{update};
-ghost use Rattle.romfs_format.specs.Fields.{root};
+ghost use Rattle.romfs_format.specs.Fields.{root as root_of};
 ghost use Rattle.romfs_rules.specs.Names.{kept_name, class_in, IsClass, AreClasses};
 
 use romfs_format::read::text_at;
 use std::alloc::{AllocError, Allocator};
 use std::collections::BTreeMap;
 
-/// The name that a header has wherever it is a member: not the root's, nor `.` or `..`.
-fn kept_name(image: &[u8], top: usize, at: usize) -> Option<&[u8]>
+/// Whether a name is `.` or `..`.
+pub(crate) fn is_dot_name(name: &[u8]) -> bool
+    ensures { result ≡ (bytes_eq name.now (codes ".") || bytes_eq name.now (codes "..")) }
+{
+    name == b".".as_slice() || name == b"..".as_slice()
+}
+
+// The name that a header has wherever it is a member: not the root's, nor `.` or `..`.
+fn kept_name(image: &[u8], root: usize, at: usize) -> Option<&[u8]>
     requires small { length image.now < 2 ^ 32 }
-    requires top { top ≡ root image.now }
+    requires root { root ≡ root_of image.now }
     requires inside { at + 16 ≤ length image.now }
     ensures { option_map (λ name. name.now) result ≡ kept_name image.now at }
 {
-    if at == top {
+    if at == root {
         return None;
     }
     let name = text_at(image, at + 16)?;
-    if name == b".".as_slice() || name == b"..".as_slice() {
-        None
-    } else {
-        Some(name)
-    }
+    if is_dot_name(name) { None } else { Some(name) }
 }
 
-/// The class of a name, which is the given one where the name is new.
+// The class of a name, which is the given one where the name is new.
 fn class_of<'a, A: Allocator + Clone>(
     known: &mut BTreeMap<&'a [u8], u32, A>,
     name: &'a [u8],
@@ -45,20 +48,20 @@ fn class_of<'a, A: Allocator + Clone>(
     Ok(class)
 }
 
-/// The class of a header by its name, which is the given one where no header before has the name.
+// The class of a header by its name, which is the given one where no header before has the name.
 fn class_at<'a, A: Allocator + Clone>(
     image: &'a [u8],
-    top: usize,
+    root: usize,
     known: &mut BTreeMap<&'a [u8], u32, A>,
     at: usize,
     class: u32,
 ) -> Result<u32, AllocError>
     requires small { length image.now < 2 ^ 32 }
-    requires top { top ≡ root image.now }
+    requires root { root ≡ root_of image.now }
     requires inside { at + 16 ≤ length image.now }
     ensures { IfOk result (λ c. IsClass (kept_name image.now at) class c known.old known.new) }
 {
-    match kept_name(image, top, at) {
+    match kept_name(image, root, at) {
         Some(name) => class_of(known, name, class),
         None => Ok(class),
     }
@@ -68,11 +71,11 @@ fn class_at<'a, A: Allocator + Clone>(
 pub(crate) fn classes<A: Allocator + Copy>(
     alloc: A,
     image: &[u8],
-    top: usize,
+    root: usize,
     heads: &[u32],
 ) -> Result<Vec<u32, A>, AllocError>
     requires small { length image.now < 2 ^ 32 }
-    requires top { top ≡ root image.now }
+    requires root { root ≡ root_of image.now }
     requires few { length heads.now < 2 ^ 32 }
     requires inside { (i : ℕ) → i < length heads.now →
         get_or heads.now i 0 + 16 ≤ length image.now }
@@ -82,7 +85,7 @@ pub(crate) fn classes<A: Allocator + Copy>(
     let mut known = BTreeMap::new(alloc);
     let mut classes = Vec::with_capacity(alloc, heads.len() + 1)?;
     for (number, at) in heads.iter().enumerate() {
-        let class = class_at(image, top, &mut known, *at as usize, number as u32)?;
+        let class = class_at(image, root, &mut known, *at as usize, number as u32)?;
         classes.push(class)?;
     }
     classes.push(heads.len() as u32)?;

@@ -1,7 +1,7 @@
 //! Headers that are reached, and lie outside the image.
 
 ghost use Rattle.std.specs.Prelude.{◌≡◌, ◌*◌, ◌/◌, ◌<◌, ◌^◌, length};
-ghost use Rattle.romfs_format.specs.Fields.{root, IsInside, cleared};
+ghost use Rattle.romfs_format.specs.Fields.{root as root_of, IsInside, cleared};
 ghost use Rattle.romfs_format.specs.Links.{IsTarget, IsReached};
 ghost use Rattle.romfs_rules.specs.Marks.{IsVolumeImage, AreMarks};
 ghost use Rattle.romfs_rules.specs.InChains.{AreChains};
@@ -24,30 +24,30 @@ pub(crate) struct Outside {
     pub above: Option<u32>,
 }
 
-/// The destination of a hard link that is a member, or that a member's hard link leads over.
+// The destination of a hard link that is a member, or that a member's hard link leads over.
 fn named_destination<A: Allocator>(
     image: &[u8],
-    top: usize,
+    root: usize,
     at: usize,
     chains: &Chains<A>,
     targets: &SlotSet<A>,
 ) -> Option<u32>
     requires small { length image.now < 2 ^ 32 }
-    requires top { top ≡ root image.now }
+    requires root { root ≡ root_of image.now }
     requires inside { IsInside image.now at }
     requires slot { cleared at ≡ at }
     requires chains { AreChains image.now chains.now }
     requires targets { AreMarks image.now (IsTarget image.now) targets.now }
     ensures { IsTheOne (NamesDestination image.now at) result }
 {
-    if targets.contains(at / 16) || is_some_member(image, top, at, chains) {
+    if targets.contains(at / 16) || is_some_member(image, root, at, chains) {
         destination_of(image, at)
     } else {
         None
     }
 }
 
-/// The lesser of a word and what was found before.
+// The lesser of a word and what was found before.
 fn lesser(found: Option<u32>, word: u32) -> u32
     ensures { result ≡ lesser found word }
 {
@@ -57,10 +57,10 @@ fn lesser(found: Option<u32>, word: u32) -> u32
     }
 }
 
-/// What is found with one header more, if there is one.
+// What is found with one header more, if there is one.
 #[tactic(auto, using(crate::proofs::Reach::unnamed, crate::proofs::Reach::noted, crate::proofs::Reach::unnoted))]
-fn note(found: Outside, image: &[u8], top: usize, word: Option<u32>) -> Outside
-    requires top { top ≡ root image.now }
+fn note(found: Outside, image: &[u8], root: usize, word: Option<u32>) -> Outside
+    requires root { root ≡ root_of image.now }
     ensures below { Notes (λ h. word ≡ Some h) (IsBelow image.now) found.below result.below }
     ensures above { Notes (λ h. word ≡ Some h) (IsAbove image.now) found.above result.above }
 {
@@ -68,7 +68,7 @@ fn note(found: Outside, image: &[u8], top: usize, word: Option<u32>) -> Outside
         return found;
     };
     let at = word as usize;
-    if at < top {
+    if at < root {
         Outside {
             below: Some(lesser(found.below, word)),
             above: found.above,
@@ -83,17 +83,17 @@ fn note(found: Outside, image: &[u8], top: usize, word: Option<u32>) -> Outside
     }
 }
 
-/// What is found with the headers more that a header leads to.
+// What is found with the headers more that a header leads to.
 fn note_named<A: Allocator>(
     found: Outside,
     image: &[u8],
-    top: usize,
+    root: usize,
     at: usize,
     chains: &Chains<A>,
     targets: &SlotSet<A>,
 ) -> Outside
     requires small { length image.now < 2 ^ 32 }
-    requires top { top ≡ root image.now }
+    requires root { root ≡ root_of image.now }
     requires inside { IsInside image.now at }
     requires slot { cleared at ≡ at }
     requires chains { AreChains image.now chains.now }
@@ -102,22 +102,22 @@ fn note_named<A: Allocator>(
     ensures above { Notes (Names image.now at) (IsAbove image.now) found.above result.above }
 {
     let next = next_link(image, at, chains);
-    let first = first_link(image, top, at, chains);
-    let destination = named_destination(image, top, at, chains, targets);
-    let with_next = note(found, image, top, next);
-    let with_first = note(with_next, image, top, first);
-    note(with_first, image, top, destination)
+    let first = first_link(image, root, at, chains);
+    let destination = named_destination(image, root, at, chains, targets);
+    let with_next = note(found, image, root, next);
+    let with_first = note(with_next, image, root, first);
+    note(with_first, image, root, destination)
 }
 
 /// Finds the least headers outside the image that are reached, on either side.
 pub(crate) fn find_outside<A: Allocator>(
     image: &[u8],
-    top: usize,
+    root: usize,
     chains: &Chains<A>,
     targets: &SlotSet<A>,
 ) -> Outside
     requires volume { IsVolumeImage image.now }
-    requires top { top ≡ root image.now }
+    requires root { root ≡ root_of image.now }
     requires chains { AreChains image.now chains.now }
     requires targets { AreMarks image.now (IsTarget image.now) targets.now }
     ensures below { IsLeast (λ h. IsReached image.now h × IsBelow image.now h) result.below }
@@ -127,10 +127,10 @@ pub(crate) fn find_outside<A: Allocator>(
         below: None,
         above: None,
     };
-    let mut found = note_named(none, image, top, top, chains, targets);
-    let mut from = top / 16 + 1;
+    let mut found = note_named(none, image, root, root, chains, targets);
+    let mut from = root / 16 + 1;
     while let Some(slot) = chains.headers.next_of_either(targets, from) {
-        found = note_named(found, image, top, slot * 16, chains, targets);
+        found = note_named(found, image, root, slot * 16, chains, targets);
         from = slot + 1;
     }
     found

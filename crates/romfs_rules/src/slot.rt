@@ -1,7 +1,7 @@
 //! Headers and their slots.
 
 ghost use Rattle.std.specs.Prelude.{◌≡◌, ◌+◌, ◌<◌, ◌≤◌, ◌/◌, ◌⊎◌, ◌↔◌, ◌^◌, Bool, false, length, get_or, IsTrue};
-ghost use Rattle.romfs_format.specs.Fields.{root, IsInside};
+ghost use Rattle.romfs_format.specs.Fields.{root as root_of, IsInside};
 ghost use Rattle.romfs_format.specs.Links.{IsHardLink};
 ghost use Rattle.romfs_rules.specs.Marks.{IsMarked};
 
@@ -11,35 +11,35 @@ use romfs_format::read::{kind_of, word};
 use std::alloc::Allocator;
 
 /// Whether a header lies in the image.
-pub(crate) fn is_inside(image: &[u8], top: usize, at: usize) -> bool
+pub(crate) fn is_inside(image: &[u8], root: usize, at: usize) -> bool
     requires at { at < 2 ^ 32 }
-    requires top { top ≡ root image.now }
+    requires root { root ≡ root_of image.now }
     ensures { IsTrue result ↔ IsInside image.now at }
 {
-    top <= at && at + 16 <= image.len()
+    root <= at && at + 16 <= image.len()
 }
 
 /// Whether a header lies in the image, and has no mark.
 pub(crate) fn is_fresh<A: Allocator>(
     image: &[u8],
-    top: usize,
+    root: usize,
     at: usize,
     marks: &SlotSet<A>,
 ) -> bool
     requires at { at < 2 ^ 32 }
-    requires top { top ≡ root image.now }
+    requires root { root ≡ root_of image.now }
     requires sized { length marks.now ≡ length image.now / 16 }
     ensures fresh { IsTrue result → IsInside image.now at × (at / 16 < length marks.now) × (get_or marks.now (at / 16) false ≡ false) }
     ensures stale { result ≡ false → (¬ IsInside image.now at) ⊎ IsMarked marks.now at }
 {
-    is_inside(image, top, at) && !marks.contains(at / 16)
+    is_inside(image, root, at) && !marks.contains(at / 16)
 }
 
 /// Whether a header lies in the image and is a hard link.
-pub(crate) fn is_hard_link(image: &[u8], top: usize, at: usize) -> bool
+pub(crate) fn is_hard_link(image: &[u8], root: usize, at: usize) -> bool
     requires at { at < 2 ^ 32 }
-    requires top { top ≡ root image.now }
+    requires root { root ≡ root_of image.now }
     ensures { IsTrue result ↔ IsHardLink image.now at }
 {
-    is_inside(image, top, at) && kind_of(word(image, at)) == Kind::HardLink
+    is_inside(image, root, at) && kind_of(word(image, at)) == Kind::HardLink
 }

@@ -1,7 +1,7 @@
 //! The headers on the destination chains of hard links.
 
 ghost use Rattle.std.specs.Prelude.{◌≡◌, ◌<◌, ◌/◌, ◌^◌, ◌↔◌, length, IfOk};
-ghost use Rattle.romfs_format.specs.Fields.{root};
+ghost use Rattle.romfs_format.specs.Fields.{root as root_of};
 ghost use Rattle.romfs_format.specs.Links.{IsTarget};
 ghost use Rattle.romfs_rules.specs.Marks.{IsVolumeImage, AreMarks};
 ghost use Rattle.romfs_rules.specs.InChains.{AreChains};
@@ -14,10 +14,10 @@ use crate::slot_set::SlotSet;
 use romfs_format::read::word;
 use std::alloc::{AllocError, Allocator};
 
-/// Marks the headers on the destination chain of a header, up to one that has a mark.
-fn mark_destinations<A: Allocator>(image: &[u8], top: usize, from: usize, marks: &mut SlotSet<A>)
+// Marks the headers on the destination chain of a header, up to one that has a mark.
+fn mark_destinations<A: Allocator>(image: &[u8], root: usize, from: usize, marks: &mut SlotSet<A>)
     requires volume { IsVolumeImage image.now }
-    requires top { top ≡ root image.now }
+    requires root { root ≡ root_of image.now }
     requires from { from < 2 ^ 32 }
     requires sized { length marks.old ≡ length image.now / 16 }
     requires closed { IsClosed image.now marks.old }
@@ -25,9 +25,9 @@ fn mark_destinations<A: Allocator>(image: &[u8], top: usize, from: usize, marks:
     ensures closed { IsClosed image.now marks.new }
 {
     let mut at = from;
-    while is_hard_link(image, top, at) {
+    while is_hard_link(image, root, at) {
         at = word(image, at + 4) as usize / 16 * 16;
-        if !is_fresh(image, top, at, marks) {
+        if !is_fresh(image, root, at, marks) {
             return;
         }
         marks.insert(at / 16);
@@ -38,11 +38,11 @@ fn mark_destinations<A: Allocator>(image: &[u8], top: usize, from: usize, marks:
 pub(crate) fn mark_targets<A: Allocator + Copy>(
     alloc: A,
     image: &[u8],
-    top: usize,
+    root: usize,
     chains: &Chains<A>,
 ) -> Result<SlotSet<A>, AllocError>
     requires volume { IsVolumeImage image.now }
-    requires top { top ≡ root image.now }
+    requires root { root ≡ root_of image.now }
     requires chains { AreChains image.now chains.now }
     ensures { IfOk result (λ marks. AreMarks image.now (IsTarget image.now) marks) }
 {
@@ -50,8 +50,8 @@ pub(crate) fn mark_targets<A: Allocator + Copy>(
     let mut from = 0;
     while let Some(slot) = chains.headers.next_from(from) {
         let at = slot * 16;
-        if is_hard_link(image, top, at) && is_some_member(image, top, at, chains) {
-            mark_destinations(image, top, at, &mut marks);
+        if is_hard_link(image, root, at) && is_some_member(image, root, at, chains) {
+            mark_destinations(image, root, at, &mut marks);
         }
         from = slot + 1;
     }

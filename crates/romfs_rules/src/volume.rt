@@ -2,7 +2,7 @@
 
 ghost use Rattle.std.specs.Prelude.{◌≡◌, ◌+◌, ◌<◌, ◌≤◌, ◌^◌, ◌↔◌, length, MatchOption, IfNone, IsTrue};
 ghost use Rattle.romfs_format.specs.declared.rule.Profile.{Profile};
-ghost use Rattle.romfs_format.specs.Fields.{image, root, summed, word};
+ghost use Rattle.romfs_format.specs.Fields.{image, root as root_of, summed, word};
 ghost use Rattle.romfs_format.specs.Rules.{IsFaultAs, StartsWith, magic, IsVolume};
 ghost use Rattle.romfs_rules.specs.Marks.{IsVolumeImage};
 
@@ -21,7 +21,7 @@ pub(crate) fn image_of(bytes: &[u8], full: usize) -> &[u8]
     &bytes[..full]
 }
 
-/// What the checksum goes over.
+// What the checksum goes over.
 fn summed(image: &[u8]) -> &[u8]
     ensures { result.now ≡ summed image.now }
 {
@@ -43,7 +43,7 @@ fn is_magic(bytes: &[u8]) -> bool
 pub(crate) fn volume_fault(bytes: &[u8]) -> Option<ImageFault>
     ensures fault { MatchOption result (IsVolume bytes.now) (λ fault. (profile : Profile) → IsFaultAs profile bytes.now fault.rule fault.place) }
     ensures image { IfNone result (IsVolumeImage (image bytes.now)) }
-    ensures sound { IfNone result ((16 ≤ word bytes.now 8) × (word bytes.now 8 ≤ length bytes.now) × (root (image bytes.now) + 16 ≤ word bytes.now 8)) }
+    ensures sound { IfNone result ((16 ≤ word bytes.now 8) × (word bytes.now 8 ≤ length bytes.now) × (root_of (image bytes.now) + 16 ≤ word bytes.now 8)) }
 {
     if bytes.len() < 16 {
         return Some(ImageFault {
@@ -77,11 +77,11 @@ pub(crate) fn volume_fault(bytes: &[u8]) -> Option<ImageFault>
             place: 16,
         }),
         Some(name) => {
-            let top = 16 + (name.len() + 1 + 15) / 16 * 16;
-            if image.len() < top + 16 || kind_of(word(image, top)) != Kind::Directory {
+            let root = 16 + (name.len() + 1 + 15) / 16 * 16;
+            if image.len() < root + 16 || kind_of(word(image, root)) != Kind::Directory {
                 Some(ImageFault {
                     rule: Rule::NoRoot,
-                    place: top as u32,
+                    place: root as u32,
                 })
             } else {
                 None

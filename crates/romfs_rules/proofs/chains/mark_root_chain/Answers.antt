@@ -6,7 +6,7 @@ use Rattle.romfs_rules.proofs.chains.mark_root_chain.Goals as goal
 
 pub loop-marks-init : goal.loop-marks-init
 loop-marks-init g c = record {
-  walked = begun c.args.image.now c.requires.volume c.args.top c.word.result c.requires.top c.word.ensures c.in_ok-marks.marks c.in_ok-marks.ensures;
+  walked = begun c.args.image.now c.requires.volume c.args.root c.word.result c.requires.root c.word.ensures c.in_ok-marks.marks c.in_ok-marks.ensures;
   narrow = omega arith;
 }
 

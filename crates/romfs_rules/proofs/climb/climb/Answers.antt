@@ -7,18 +7,18 @@ use Rattle.romfs_rules.proofs.climb.climb.Goals as goal
 
 pub index-from-requires : goal.index-from-requires
 index-from-requires g c =
-    let i = c.requires.ring.inside _ (on_turn c.args.ring.now c.args.turn c.requires.turn) in
-    let f = c.requires.forest.lists.firsts in
-    omega (arith, c.args.forest.now.first.ok.0)
+    let i = c.requires.cycle.inside _ (on_turn c.args.cycle.now c.args.turn c.requires.turn) in
+    let f = c.requires.graph.lists.firsts in
+    omega (arith, c.args.graph.now.first.ok.0)
 
 pub loop-found-init : goal.loop-found-init
 loop-found-init g c =
-    let f = c.requires.forest in
-    let o = on_turn c.args.ring.now c.args.turn c.requires.turn in
-    let i = c.requires.ring.inside _ o in
-    let e = get_or_read c.args.forest.now.first.items (get_or c.args.ring.now c.args.turn 0) c.index-from.result.now (let k = f.lists.firsts in omega arith) c.index-from.ensures 0 in
+    let f = c.requires.graph in
+    let o = on_turn c.args.cycle.now c.args.turn c.requires.turn in
+    let i = c.requires.cycle.inside _ o in
+    let e = get_or_read c.args.graph.now.first.items (get_or c.args.cycle.now c.args.turn 0) c.index-from.result.now (let k = f.lists.firsts in omega arith) c.index-from.ensures 0 in
     record {
-      under_way = rw (c.new-steps.ensures.items, e) (begins _ _ _ _ _ f _ c.requires.ring o _ _ _ _ (rw (← drop_turn c.args.ring.now c.args.turn c.requires.turn) c.requires.found));
+      under_way = rw (c.new-steps.ensures.items, e) (begins _ _ _ _ _ f _ c.requires.cycle o _ _ _ _ (rw (← drop_turn c.args.cycle.now c.args.turn c.requires.turn) c.requires.found));
       kept = record { each = λ x m. m };
       entered = c.requires.found.compared.sized;
       noted = c.requires.found.spare.sized ∙ f.classes.sized;
@@ -28,7 +28,7 @@ loop-found-init g c =
 pub loop-found-smaller-then-at-len : goal.loop-found-smaller-then-at-len
 loop-found-smaller-then-at-len g c =
     let fresh = rw (c.deref.ensures.value, c.deref-in-loop-found.ensures.value) at c.skip_entered-at.ensures.fresh in
-    let s = c.requires.forest.lists.siblings in
+    let s = c.requires.graph.lists.siblings in
     let v = c.loop-found.invariant.entered in
     let k = marks_fall c.loop-found.found.entered.items c.skip_entered-at.result (omega arith) (fresh (omega arith)) in
     let u = ap unmarked c.enter-low.ensures.entered in
@@ -37,15 +37,15 @@ loop-found-smaller-then-at-len g c =
 
 pub loop-found-preserved-then-at-len : goal.loop-found-preserved-then-at-len
 loop-found-preserved-then-at-len g c =
-    let f = c.requires.forest in
+    let f = c.requires.graph in
     let l = c.loop-found.invariant in
     let at = c.skip_entered-at.result in
-    let o = on_turn c.args.ring.now c.args.turn c.requires.turn in
-    let s : IsSkipped c.args.forest.now.sibling.items c.loop-found.found.entered.items c.loop-found.from at = rw (c.deref.ensures.value, c.deref-in-loop-found.ensures.value) at c.skip_entered-at.ensures.skipped in
-    let i : at < length c.args.forest.now.next.items = omega arith in
-    let e = get_or_read c.args.forest.now.first.items at c.index-from-then-at-len.result.now (let k = f.lists.firsts in omega arith) c.index-from-then-at-len.ensures 0 in
+    let o = on_turn c.args.cycle.now c.args.turn c.requires.turn in
+    let s : IsSkipped c.args.graph.now.sibling.items c.loop-found.found.entered.items c.loop-found.from at = rw (c.deref.ensures.value, c.deref-in-loop-found.ensures.value) at c.skip_entered-at.ensures.skipped in
+    let i : at < length c.args.graph.now.next.items = omega arith in
+    let e = get_or_read c.args.graph.now.first.items at c.index-from-then-at-len.result.now (let k = f.lists.firsts in omega arith) c.index-from-then-at-len.ensures 0 in
     record {
-      under_way = rw (c.in_ok-push.ensures.items, reverse_push, c.enter-low.ensures.entered, e) (enters _ _ _ _ _ f _ c.requires.ring o _ at _ _ _ _ _ _ _ (record { at = at; low = c.enter-low.result }) refl refl i c.enter-low.ensures.lowest c.enter-low.ensures.low (rw f.classes.sized c.enter-low.ensures.noted) (skips _ _ _ _ _ f _ c.requires.ring o _ _ at _ _ _ _ s l.under_way));
+      under_way = rw (c.in_ok-push.ensures.items, reverse_push, c.enter-low.ensures.entered, e) (enters _ _ _ _ _ f _ c.requires.cycle o _ at _ _ _ _ _ _ _ (record { at = at; low = c.enter-low.result }) refl refl i c.enter-low.ensures.lowest c.enter-low.ensures.low (rw f.classes.sized c.enter-low.ensures.noted) (skips _ _ _ _ _ f _ c.requires.cycle o _ _ at _ _ _ _ s l.under_way));
       kept = rw c.enter-low.ensures.entered (keeps _ _ at (let v = l.entered in omega arith) l.kept);
       entered = ap length c.enter-low.ensures.entered ∙ length-set _ at true ∙ l.entered;
       noted = c.enter-low.ensures.noted.sized ∙ l.noted;
@@ -57,14 +57,14 @@ leave-from-requires-clause-at g c = step_fits (rw (popped _ _ _ c.in-Some.ensure
 
 pub loop-found-preserved : goal.loop-found-preserved
 loop-found-preserved g c =
-    let f = c.requires.forest in
+    let f = c.requires.graph in
     let l = c.loop-found.invariant in
     let at = c.skip_entered-at.result in
-    let o = on_turn c.args.ring.now c.args.turn c.requires.turn in
-    let s : IsSkipped c.args.forest.now.sibling.items c.loop-found.found.entered.items c.loop-found.from at = rw (c.deref.ensures.value, c.deref-in-loop-found.ensures.value) at c.skip_entered-at.ensures.skipped in
+    let o = on_turn c.args.cycle.now c.args.turn c.requires.turn in
+    let s : IsSkipped c.args.graph.now.sibling.items c.loop-found.found.entered.items c.loop-found.from at = rw (c.deref.ensures.value, c.deref-in-loop-found.ensures.value) at c.skip_entered-at.ensures.skipped in
     let e = c.leave-from.ensures in
     record {
-      under_way = rw (e.next, e.low, e.entered, e.noted) (leaves _ _ _ _ _ f _ c.requires.ring o _ at _ _ _ _ _ (omega arith) (rw (popped _ _ _ c.in-Some.ensures.items) at (skips _ _ _ _ _ f _ c.requires.ring o _ _ at _ _ _ _ s l.under_way)));
+      under_way = rw (e.next, e.low, e.entered, e.noted) (leaves _ _ _ _ _ f _ c.requires.cycle o _ at _ _ _ _ _ (omega arith) (rw (popped _ _ _ c.in-Some.ensures.items) at (skips _ _ _ _ _ f _ c.requires.cycle o _ _ at _ _ _ _ s l.under_way)));
       kept = rw e.entered l.kept;
       entered = ap length e.entered ∙ l.entered;
       noted = ap length e.noted ∙ l.noted;
@@ -73,10 +73,10 @@ loop-found-preserved g c =
 
 pub returns-in-None-clause-found : goal.returns-in-None-clause-found
 returns-in-None-clause-found g c =
-    let f = c.requires.forest in
+    let f = c.requires.graph in
     let l = c.loop-found.invariant in
     let at = c.skip_entered-at.result in
-    let o = on_turn c.args.ring.now c.args.turn c.requires.turn in
-    let s : IsSkipped c.args.forest.now.sibling.items c.loop-found.found.entered.items c.loop-found.from at = rw (c.deref.ensures.value, c.deref-in-loop-found.ensures.value) at c.skip_entered-at.ensures.skipped in
+    let o = on_turn c.args.cycle.now c.args.turn c.requires.turn in
+    let s : IsSkipped c.args.graph.now.sibling.items c.loop-found.found.entered.items c.loop-found.from at = rw (c.deref.ensures.value, c.deref-in-loop-found.ensures.value) at c.skip_entered-at.ensures.skipped in
     let n : length c.loop-found.steps.items ≡ 0 = (let z = c.in-None.ensures.cases.0 in omega (arith, c.loop-found.steps.ok.0)) in
-    ends _ _ _ _ _ f _ c.requires.ring o _ at _ _ _ (omega arith) (rw (no_steps c.loop-found.steps.items n) at (skips _ _ _ _ _ f _ c.requires.ring o _ _ at _ _ _ _ s l.under_way))
+    ends _ _ _ _ _ f _ c.requires.cycle o _ at _ _ _ (omega arith) (rw (no_steps c.loop-found.steps.items n) at (skips _ _ _ _ _ f _ c.requires.cycle o _ _ at _ _ _ _ s l.under_way))

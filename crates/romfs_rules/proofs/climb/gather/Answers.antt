@@ -7,9 +7,9 @@ use Rattle.romfs_rules.proofs.climb.gather.Goals as goal
 
 pub loop-found-init : goal.loop-found-init
 loop-found-init g c =
-    let f = c.requires.forest in
+    let f = c.requires.graph in
     record {
-      rounding = rw c.new-ring.ensures.items (begins _ _ f.classes.sized f.leads f.classes _ c.requires.ring _ _ _ c.requires.fresh c.requires.found);
+      rounding = rw c.new-cycle.ensures.items (begins _ _ f.classes.sized f.leads f.classes _ c.requires.cycle _ _ _ c.requires.fresh c.requires.found);
       inside = c.requires.from;
       entered = c.requires.found.compared.sized;
       noted = c.requires.found.spare.sized ∙ f.classes.sized;
@@ -28,13 +28,13 @@ loop-found-smaller g c =
 
 pub loop-found-preserved : goal.loop-found-preserved
 loop-found-preserved g c =
-    let f = c.requires.forest in
+    let f = c.requires.graph in
     let l = c.loop-found.invariant in
     let at = c.loop-found.at in
     let i : at < length c.loop-found.found.entered.items = (let a = l.inside in let b = l.entered in omega arith) in
-    let e = get_or_read c.args.forest.now.next.items at _ l.inside c.index-at.ensures 0 in
+    let e = get_or_read c.args.graph.now.next.items at _ l.inside c.index-at.ensures 0 in
     record {
-      rounding = rw (c.in_ok-push.ensures.items, reverse_push, c.enter.ensures.entered, e) (enters _ _ f.classes.sized f.leads f.classes _ c.requires.ring _ _ _ _ at _ _ _ _ l.inside i c.enter.ensures.lowest c.enter.ensures.low (rw f.classes.sized c.enter.ensures.noted) l.rounding);
+      rounding = rw (c.in_ok-push.ensures.items, reverse_push, c.enter.ensures.entered, e) (enters _ _ f.classes.sized f.leads f.classes _ c.requires.cycle _ _ _ _ at _ _ _ _ l.inside i c.enter.ensures.lowest c.enter.ensures.low (rw f.classes.sized c.enter.ensures.noted) l.rounding);
       inside = rw e (f.leads.each at l.inside);
       entered = ap length c.enter.ensures.entered ∙ length-set _ at true ∙ l.entered;
       noted = c.enter.ensures.noted.sized ∙ l.noted;
@@ -43,9 +43,9 @@ loop-found-preserved g c =
 
 pub returns-clause-gathered : goal.returns-clause-gathered
 returns-clause-gathered g c =
-    let f = c.requires.forest in
+    let f = c.requires.graph in
     let l = c.loop-found.invariant in
     let at = c.loop-found.at in
     let i : at < length c.loop-found.found.entered.items = (let a = l.inside in let b = l.entered in omega arith) in
     let e = get_or_read c.loop-found.found.entered.items at _ i c.index.ensures false in
-    gathered _ _ f.classes.sized f.leads f.classes _ c.requires.ring _ _ _ at _ _ l.entered (sym e ∙ c.loop-found-test.false) l.rounding
+    gathered _ _ f.classes.sized f.leads f.classes _ c.requires.cycle _ _ _ at _ _ l.entered (sym e ∙ c.loop-found-test.false) l.rounding

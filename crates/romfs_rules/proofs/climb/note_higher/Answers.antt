@@ -7,18 +7,18 @@ use Rattle.romfs_rules.proofs.climb.note_higher.Goals as goal
 pub loop-from-init : goal.loop-from-init
 loop-from-init g c =
     let f = c.requires in
-    let v = c.args.forest.now.next.ok.0 in
-    let n : c.len-count.result ≡ length c.args.forest.now.next.items = omega (arith, v) in
+    let v = c.args.graph.now.next.ok.0 in
+    let n : c.len-count.result ≡ length c.args.graph.now.next.items = omega (arith, v) in
     let entered = c.in_ok-vec.ensures.items_if_clones_equal (λ y e. e) in
     let low = c.in_ok-vec-2.ensures.items_if_clones_equal (λ y e. e) in
     let noted = c.in_ok-vec-3.ensures.items_if_clones_equal (λ y e. e) in
-    let seen = c.as_mut_slice-seen.ensures.value ∙ c.in_ok-marks.ensures.items_if_clones_equal (λ y e. e) in
-    let size : length c.in_ok-vec.field-0.items ≡ length c.args.forest.now.next.items = ap length entered ∙ length-replicate _ false ∙ n in
+    let visited = c.as_mut_slice-visited.ensures.value ∙ c.in_ok-marks.ensures.items_if_clones_equal (λ y e. e) in
+    let size : length c.in_ok-vec.field-0.items ≡ length c.args.graph.now.next.items = ap length entered ∙ length-replicate _ false ∙ n in
     record {
       found = nothing _ _ _ _ _ f.classes.sized size (ap length noted ∙ length-replicate _ false ∙ n ∙ sym f.classes.sized) (ap length low ∙ length-replicate _ _ ∙ n ∙ sym f.classes.sized)
           (no_marks _ _ entered) (no_marks _ _ noted) (λ k l. ap (λ xs. get_or xs k 0) low ∙ get_or-replicate _ k _ 0 (let s = f.classes.sized in omega arith) ∙ n ∙ sym f.classes.sized);
-      walked = record { each = λ x m. absurd (clash _ m (no_marks _ _ seen x)) };
-      seen = ap length seen ∙ length-replicate _ false ∙ n;
+      walked = record { each = λ x m. absurd (clash _ m (no_marks _ _ visited x)) };
+      visited = ap length visited ∙ length-replicate _ false ∙ n;
       entered = size;
       each = λ x l. absurd (omega arith);
     }
@@ -29,7 +29,7 @@ loop-from-preserved g c =
     record {
       found = e.found;
       walked = e.walked;
-      seen = c.enter_all.auto.seen ∙ c.loop-from.invariant.seen;
+      visited = c.enter_all.auto.visited ∙ c.loop-from.invariant.visited;
       entered = e.found.compared.sized;
       each = below_more _ _ (λ x l. e.kept.each x (c.loop-from.invariant.each x l)) e.entered;
     }

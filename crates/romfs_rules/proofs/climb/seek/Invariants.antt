@@ -3,11 +3,11 @@ use Rattle.romfs_rules.specs.Climb.{AreKept, IsClosed, IsWalk}
 use Rattle.romfs_rules.proofs.MarkLists.{unmarked}
 use Rattle.romfs_rules.proofs.climb.seek.Given as goal
 
-abbrev pub invariant-loop-seen : goal.invariant-loop-seen
-invariant-loop-seen l = record {
+abbrev pub invariant-loop-visited : goal.invariant-loop-visited
+invariant-loop-visited l = record {
   inside : l.at < length l.next;
-  walk : (entered : List Bool) → IsClosed l.next entered → AreKept l.initial.seen entered → get_or entered l.from false ≡ false → IsWalk l.next entered l.seen l.from l.at;
+  walk : (entered : List Bool) → IsClosed l.next entered → AreKept l.initial.visited entered → get_or entered l.from false ≡ false → IsWalk l.next entered l.visited l.from l.at;
 }
 
-abbrev pub decreases-loop-seen : goal.decreases-loop-seen
-decreases-loop-seen l = unmarked l.seen
+abbrev pub decreases-loop-visited : goal.decreases-loop-visited
+decreases-loop-visited l = unmarked l.visited

@@ -12,7 +12,7 @@ loop-next-init g c =
     begun image c.requires.keeps c.push_some.new.todo.items c.in_ok-marks.marks c.first_of.result
     (rw marks (length-replicate (length image / 16) false))
     (no_marks c.in_ok-marks.marks (length image / 16) marks)
-    (rw c.requires.top at c.first_of.ensures)
+    (rw c.requires.root at c.first_of.ensures)
     (rw c.new-todo.ensures.items at c.in_ok-push_some.ensures)
 
 pub follow-requires-clause-names : goal.follow-requires-clause-names

@@ -1,8 +1,7 @@
-use Rattle.std.proofs.Common.{sym, ◌∙◌, ap, ◌/◌, ◌<◌, ◌^◌, length, arith, refl}
+use Rattle.std.proofs.Common.{sym, ◌∙◌, ◌/◌, ◌<◌, ◌^◌, length, arith, refl}
 use Rattle.std.proofs.lemmas.Bool.{false≢true}
-use Rattle.romfs_format.specs.declared.head.End.TheVariants.{AtDirectory, AtOther, Nowhere}
-use Rattle.romfs_format.specs.Fields.{spec, cleared}
-use Rattle.romfs_format.specs.Links.{stays}
+use Rattle.romfs_format.specs.declared.head.End.TheVariants.{Nowhere}
+use Rattle.romfs_format.specs.Fields.{spec}
 use Rattle.romfs_rules.proofs.EndWalk.{goes, arrives, comes_back, passes, fewer, meets, passing, passing_on, passed_at, passed_on, next_target}
 use Rattle.romfs_rules.proofs.ends.end_of.Goals as goal
 

@@ -1,4 +1,4 @@
-use Rattle.std.proofs.Common.{◌≡◌, ◌∙◌, sym, ap, subst, length, get_or, true, false, refl, arith, replicate, ℕ, List}
+use Rattle.std.proofs.Common.{◌∙◌, sym, subst, length, arith}
 use Rattle.std.proofs.lemmas.Bool.{false≢true}
 use Rattle.romfs_rules.specs.Ends.{AreEnds}
 use Rattle.romfs_rules.proofs.EndWalk.{found_more, found_same, found_to, found_all, found_none}

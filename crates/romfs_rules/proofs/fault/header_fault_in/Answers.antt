@@ -5,6 +5,6 @@ header_fault-requires-clause-sets g c = record {
   chains = c.in_ok-chains.ensures;
   targets = c.in_ok-targets.ensures;
   twice = rw c.deref.ensures.value c.in_ok-twice.ensures;
-  namesakes = rw c.deref-2.ensures.value c.in_ok-namesakes.ensures;
+  same_names = rw c.deref-2.ensures.value c.in_ok-same_names.ensures;
   ends = c.in_ok-ends.ensures;
 }

@@ -2,7 +2,7 @@ use Rattle.romfs_rules.proofs.Judging.{listed_says, not_falling}
 use Rattle.romfs_rules.proofs.judge.breaks.Goals as goal
 
 pub is_listed-requires-clause-rising : goal.is_listed-requires-clause-rising
-is_listed-requires-clause-rising g c = not_falling _ (c.requires.sets.namesakes (c.requires.named c.in-SameName.is)).rising
+is_listed-requires-clause-rising g c = not_falling _ (c.requires.sets.same_names (c.requires.named c.in-SameName.is)).rising
 
 pub returns-in-NameOpen : goal.returns-in-NameOpen
 returns-in-NameOpen g c = rw c.in-NameOpen.is c.breaks_name_open.ensures
@@ -20,7 +20,7 @@ pub returns-in-Twice : goal.returns-in-Twice
 returns-in-Twice g c = rw c.in-Twice.is c.breaks_twice.ensures
 
 pub returns-in-SameName : goal.returns-in-SameName
-returns-in-SameName g c = rw c.in-SameName.is (listed_says c.args.image.now c.args.at c.args.sets.now.namesakes.now c.is_listed.result (c.requires.sets.namesakes (c.requires.named c.in-SameName.is)) c.is_listed.ensures)
+returns-in-SameName g c = rw c.in-SameName.is (listed_says c.args.image.now c.args.at c.args.sets.now.same_names.now c.is_listed.result (c.requires.sets.same_names (c.requires.named c.in-SameName.is)) c.is_listed.ensures)
 
 pub returns-in-MajorLarge : goal.returns-in-MajorLarge
 returns-in-MajorLarge g c = rw c.in-MajorLarge.is c.breaks_major_large.ensures

@@ -10,11 +10,11 @@ is_listed-requires-clause-rising g c = not_falling _ c.requires.sets.twice.risin
 pub returns-then-is_listed : goal.returns-then-is_listed
 returns-then-is_listed g c = or_true (list_says c.args.image.now (IsLinkedTwice c.args.image.now) c.args.sets.now.twice.now c.args.at c.is_listed.result c.requires.sets.twice c.requires.slot c.is_listed.ensures) c.if-is_listed.true
 
-pub returns-then-at-top : goal.returns-then-at-top
-returns-then-at-top g c =
+pub returns-then-at-root : goal.returns-then-at-root
+returns-then-at-root g c =
     let a = c.args.image.now in
     let twice = list_says a (IsLinkedTwice a) c.args.sets.now.twice.now c.args.at c.is_listed.result c.requires.sets.twice c.requires.slot c.is_listed.ensures in
-    let e = c.if-at-top.true ∙ c.requires.top in
+    let e = c.if-at-root.true ∙ c.requires.root in
     let law = root_elsewhere a c.args.at e in
     let flag = c.requires.sets.chains.root in
     or_else twice c.if-is_listed.false (λ t. law.0 (subst (IsElsewhere a) (sym e) (flag.0 t)), λ x. flag.1 (subst (IsElsewhere a) e (law.1 x)))

@@ -5,22 +5,22 @@ use Rattle.romfs_rules.proofs.Verdict.{root_first, scan_more, scanned_to, scan_a
 use Rattle.romfs_rules.proofs.judge.fault_inside.Goals as goal
 
 pub fault_at-requires-clause-slot : goal.fault_at-requires-clause-slot
-fault_at-requires-clause-slot g c = subst (HasSlot c.args.image.now) (sym c.requires.top) (root_slot c.args.profile c.args.image.now c.requires.volume)
+fault_at-requires-clause-slot g c = subst (HasSlot c.args.image.now) (sym c.requires.root) (root_slot c.args.profile c.args.image.now c.requires.volume)
 
 pub returns-in-Some : goal.returns-in-Some
-returns-in-Some g c = at_root c.args.profile c.args.image.now c.requires.volume c.in-Some.fault c.args.top c.requires.top c.in-Some.ensures
+returns-in-Some g c = at_root c.args.profile c.args.image.now c.requires.volume c.in-Some.fault c.args.root c.requires.root c.in-Some.ensures
 
 pub loop-slot-init : goal.loop-slot-init
 loop-slot-init g c =
     let a = c.args.image.now in
-    let t = c.requires.top in
+    let t = c.requires.root in
     let k = cleared_root a in
-    let v = c.requires.volume.top in
+    let v = c.requires.volume.inside in
     let s = c.requires.sets.chains.headers.sized in
     record {
       behind = omega arith;
       low = omega arith;
-      keeps = root_kept c.args.profile a c.requires.volume _ c.args.top t refl c.in_default.ensures;
+      keeps = root_kept c.args.profile a c.requires.volume _ c.args.root t refl c.in_default.ensures;
     }
 
 pub fault_at-requires-in-Some-next_of_either-clause-slot : goal.fault_at-requires-in-Some-next_of_either-clause-slot

@@ -1,4 +1,4 @@
-use Rattle.std.proofs.Common.{◌≡◌, sym, subst, length, arith}
+use Rattle.std.proofs.Common.{length, arith}
 use Rattle.romfs_rules.proofs.HeadNumbers.{collects_none, collects_marked, collects_to}
 use Rattle.romfs_rules.proofs.listed.headers_of.Goals as goal
 

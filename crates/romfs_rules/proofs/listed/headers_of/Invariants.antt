@@ -1,5 +1,5 @@
 use Rattle.std.proofs.Common.{◌-◌, ◌≤◌, length}
-use Rattle.romfs_rules.specs.Namesakes.{AreCollected}
+use Rattle.romfs_rules.specs.SameNames.{AreCollected}
 use Rattle.romfs_rules.proofs.listed.headers_of.Given as goal
 
 abbrev pub invariant-loop-slot : goal.invariant-loop-slot

@@ -5,16 +5,16 @@ use Rattle.romfs_rules.proofs.Reach.{IsFoundBefore, nothing, scans, scanned_to, 
 use Rattle.romfs_rules.proofs.outside.find_outside.Goals as goal
 
 pub note_named-found-requires-clause-slot : goal.note_named-found-requires-clause-slot
-note_named-found-requires-clause-slot g c = let t = c.requires.top in rw t (cleared_root c.args.image.now)
+note_named-found-requires-clause-slot g c = let t = c.requires.root in rw t (cleared_root c.args.image.now)
 
 pub loop-slot-init : goal.loop-slot-init
 loop-slot-init g c =
     let a = c.args.image.now in
-    let slot = c.args.top / 16 in
-    let t = c.requires.top in
+    let slot = c.args.root / 16 in
+    let t = c.requires.root in
     let k = cleared_root a in
-    let e : c.args.top ≡ slot * 16 = omega arith in
-    let v = c.requires.volume.top in
+    let e : c.args.root ≡ slot * 16 = omega arith in
+    let v = c.requires.volume.inside in
     let s = c.requires.chains.headers.sized in
     let inside = slot_inside a slot (omega arith) (omega arith) in
     let after = c.note_named-found in

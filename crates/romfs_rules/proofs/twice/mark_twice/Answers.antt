@@ -7,11 +7,11 @@ use Rattle.romfs_rules.proofs.twice.mark_twice.Goals as goal
 pub loop-slot-init : goal.loop-slot-init
 loop-slot-init g c =
     let a = c.args.image.now in
-    let slot = c.args.top / 16 in
-    let e : c.args.top ≡ slot * 16 = (let k = cleared_root a in let t = c.requires.top in omega arith) in
-    let v = c.requires.volume.top in
+    let slot = c.args.root / 16 in
+    let e : c.args.root ≡ slot * 16 = (let k = cleared_root a in let t = c.requires.root in omega arith) in
+    let v = c.requires.volume.inside in
     let s = c.requires.chains.headers.sized in
-    let t = c.requires.top in
+    let t = c.requires.root in
     record {
       behind = omega arith;
       low = omega arith;
@@ -20,7 +20,7 @@ loop-slot-init g c =
     }
 
 pub count_links-requires-clause-slot : goal.count_links-requires-clause-slot
-count_links-requires-clause-slot g c = let t = c.requires.top in rw t (cleared_root c.args.image.now)
+count_links-requires-clause-slot g c = let t = c.requires.root in rw t (cleared_root c.args.image.now)
 
 pub loop-slot-preserved : goal.loop-slot-preserved
 loop-slot-preserved g c =

@@ -1,5 +1,4 @@
-use Rattle.std.proofs.Common.{◌≡◌, ◌*◌, ◌/◌, ap, refl, arith}
-use Rattle.romfs_format.specs.Fields.{cleared, spec}
+use Rattle.std.proofs.Common.{refl}
 use Rattle.romfs_rules.proofs.EndWalk.{back, first_target}
 use Rattle.romfs_rules.proofs.ends.Ends.of_member.Goals as goal
 

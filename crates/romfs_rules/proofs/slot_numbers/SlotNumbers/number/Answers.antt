@@ -1,4 +1,4 @@
-use Rattle.std.proofs.Common.{◌≡◌, ◌∙◌, ap, subst, ◌/◌, ◌<◌, ◌≤◌, ◌^◌, length, get_or, arith, sym}
+use Rattle.std.proofs.Common.{◌≡◌, ◌∙◌, ap, ◌/◌, ◌<◌, length, get_or, arith}
 use Rattle.std.proofs.lemmas.Grind.{get_or_default_zero}
 use Rattle.romfs_rules.proofs.Ranks.{rank_few}
 use Rattle.romfs_rules.proofs.slot_numbers.SlotNumbers.number.Goals as goal

@@ -1,6 +1,5 @@
-use Rattle.std.proofs.Common.{◌+◌, ◌*◌, arith, ap, sym, ◌∙◌, ◌≡◌}
-use Rattle.romfs_rules.specs.SlotSets.{rank}
-use Rattle.romfs_rules.proofs.Ranks.{rank_zero, rank_few, no_counts, counts_more}
+use Rattle.std.proofs.Common.{◌+◌, ◌*◌, arith, sym}
+use Rattle.romfs_rules.proofs.Ranks.{rank_zero, rank_few, no_counts}
 use Rattle.romfs_rules.proofs.slot_numbers.SlotNumbers.of.Goals as goal
 
 pub loop-word-init : goal.loop-word-init

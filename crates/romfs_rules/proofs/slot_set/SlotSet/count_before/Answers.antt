@@ -1,6 +1,6 @@
 use lib.Bits.{and_mask}
 use lib.Pow.{pow-lt}
-use Rattle.std.proofs.Common.{bit_and, ◌-◌, ◌≡◌, ◌∙◌, sym, ap, subst, ℕ, ◌+◌, ◌*◌, ◌/◌, ◌%◌, ◌^◌, ◌<◌, ◌≤◌, arith, length, get_or, List, Bool, count_ones, refl}
+use Rattle.std.proofs.Common.{bit_and, ◌-◌, ◌≡◌, ◌∙◌, sym, ap, ◌+◌, ◌*◌, ◌/◌, ◌%◌, ◌^◌, ◌<◌, arith, length, get_or, count_ones}
 use Rattle.std.proofs.lemmas.Grind.{get_or_default_zero}
 use Rattle.romfs_rules.specs.SlotSets.{rank, bits}
 use Rattle.romfs_rules.proofs.Bits.{bits_length}

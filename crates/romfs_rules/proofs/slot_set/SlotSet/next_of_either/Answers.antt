@@ -1,4 +1,4 @@
-use Rattle.std.proofs.Common.{◌≡◌, ◌∙◌, sym, ap, ◌/◌, ◌<◌, ◌≤◌, arith, refl, get_or, length, bit_or, rules}
+use Rattle.std.proofs.Common.{◌≡◌, ◌∙◌, sym, ap, ◌/◌, ◌<◌, arith, refl, get_or, length, bit_or, rules}
 use Rattle.std.proofs.lemmas.Grind.{get_or_default_zero}
 use Rattle.romfs_rules.specs.SlotSets.{bits}
 use Rattle.romfs_rules.proofs.Bits.{bits_length, joined, joined_at, rest, none_left, low_from, low_is, low_first, clear_more, next_in, none_in}

@@ -1,4 +1,4 @@
-use Rattle.std.proofs.Common.{◌≡◌, ◌∙◌, ap, ℕ, length, replicate}
+use Rattle.std.proofs.Common.{◌∙◌, ap, ℕ, length, replicate}
 use Rattle.romfs_rules.proofs.Spreading.{spread_none}
 use Rattle.romfs_rules.proofs.slot_words.SlotWords.new.Goals as goal
 

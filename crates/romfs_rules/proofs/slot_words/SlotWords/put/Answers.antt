@@ -1,4 +1,4 @@
-use Rattle.std.proofs.Common.{◌≡◌, ◌∙◌, sym, ap, ℕ, ◌<◌, length, get_or, set, false, true, arith}
+use Rattle.std.proofs.Common.{◌≡◌, ◌∙◌, ap, get_or, set, false, true, arith}
 use Rattle.romfs_rules.specs.SlotSets.{rank}
 use Rattle.romfs_rules.specs.SlotWords.{Words, spread}
 use Rattle.romfs_rules.proofs.Spreading.{number_fits, put_is}

@@ -2,13 +2,13 @@
 use Rattle.std.specs.Prelude.{◌≡◌, ℕ, ◌+◌, ◌*◌, ◌/◌, ◌<◌, ◌≤◌, List, length, get_or, Bool, true, false, Contains}
 use Rattle.romfs_format.specs.Fields.{IsInside}
 use Rattle.romfs_format.specs.Chains.{IsNext, Stands}
-use Rattle.romfs_rules.specs.Marks.{HasNamesake}
+use Rattle.romfs_rules.specs.Marks.{HasSameName}
 use Rattle.romfs_rules.specs.SlotSets.{rank}
 
--- exactly the headers with a namesake at a lower place, rising and each once
-pub record AreNamesakes (a found : List ℕ) : Type 0 where
-  pub each : (h : ℕ) → Contains found h → HasNamesake a h
-  pub all : (h : ℕ) → HasNamesake a h → Contains found h
+-- exactly the headers with the name of a member of their directory at a lower place, rising and each once
+pub record HaveSameNames (a found : List ℕ) : Type 0 where
+  pub each : (h : ℕ) → Contains found h → HasSameName a h
+  pub all : (h : ℕ) → HasSameName a h → Contains found h
   pub rising : (i j : ℕ) → i < j → j < length found → get_or found i 0 < get_or found j 0
 
 -- h lies in the image, in the chain of some opened directory

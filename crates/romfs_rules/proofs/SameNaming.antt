@@ -1,14 +1,14 @@
--- Headers with a namesake, by their numbers: one comes after the other.
+-- Members of one name, by their numbers: one comes after the other.
 use Rattle.std.proofs.Common.{◌≡◌, ◌≢◌, ◌∙◌, sym, ap, subst, ℕ, zero, suc, ◌*◌, ◌/◌, ◌<◌, ◌⊎◌, inl, inr, List, length, get_or, Bool, true, false, Option, Some, None, IsSome, bytes_eq, codes, if◌then◌else◌, refl, arith}
 use Rattle.std.proofs.lemmas.Bool.{cases_eq, cases_order, false≢true, eqb-true, eq-eqb}
 use Rattle.std.proofs.lemmas.Slice.Eq.{bytes_eq-Decides}
 use Rattle.std.specs.Prelude.{◌==◌, ◌||◌, Contains}
 use Rattle.romfs_format.specs.Fields.{root, IsInside, name, next}
 use Rattle.romfs_format.specs.Chains.{IsNext, IsAt, IsInChain, IsPassedOver, IsDotted, IsOpened, IsMember}
-use Rattle.romfs_rules.specs.Marks.{IsElsewhere, HasNamesake, AreMarks}
+use Rattle.romfs_rules.specs.Marks.{IsElsewhere, HasSameName, AreMarks}
 use Rattle.romfs_rules.specs.Climb.{After, one, more, AreNoted}
 use Rattle.romfs_rules.specs.Names.{unless_dotted, kept_name, AreClasses}
-use Rattle.romfs_rules.specs.Namesakes.{IsLinked, AreNumbered, IsNextNumber, AreNextNumbers, AreCollected, AreChosen, AreNamesakes}
+use Rattle.romfs_rules.specs.SameNames.{IsLinked, AreNumbered, IsNextNumber, AreNextNumbers, AreCollected, AreChosen, HaveSameNames}
 use Rattle.romfs_rules.specs.Leads.{IsInSomeChain}
 use Rattle.romfs_rules.proofs.Standing.{in_some_chain}
 use Rattle.romfs_rules.proofs.Links.{standing}
@@ -204,9 +204,9 @@ module _ (a heads : List ℕ) (set : List Bool) (next class : List ℕ) (noted :
   over d h q e (inr x) = (kept a h q e).2 x
 
   -- in the chain of one directory, with one name
-  twins : (i y : ℕ) (q : List ℕ) → i < length heads → y < length heads → y < i → kept_name a (get_or heads i 0) ≡ Some q → kept_name a (get_or heads y 0) ≡ Some q
-      → (d : ℕ) → IsOpened a d → IsInChain a d (get_or heads i 0) → IsInChain a d (get_or heads y 0) → HasNamesake a (get_or heads i 0)
-  twins i y q l k b e f d o x z =
+  share_name : (i y : ℕ) (q : List ℕ) → i < length heads → y < length heads → y < i → kept_name a (get_or heads i 0) ≡ Some q → kept_name a (get_or heads y 0) ≡ Some q
+      → (d : ℕ) → IsOpened a d → IsInChain a d (get_or heads i 0) → IsInChain a d (get_or heads y 0) → HasSameName a (get_or heads i 0)
+  share_name i y q l k b e f d o x z =
       let g = (kept a (get_or heads i 0) q e).1 in
       let h = (kept a (get_or heads y 0) q f).1 in (
         get_or heads y 0,
@@ -219,7 +219,7 @@ module _ (a heads : List ℕ) (set : List Bool) (next class : List ℕ) (noted :
         ),
       )
 
-  pub noted_right : (i : ℕ) → i < length heads → get_or noted i false ≡ true → HasNamesake a (get_or heads i 0)
+  pub noted_right : (i : ℕ) → i < length heads → get_or noted i false ≡ true → HasSameName a (get_or heads i 0)
   noted_right i l k =
       let h = m.each i k in
       let y = h.0 in
@@ -227,8 +227,8 @@ module _ (a heads : List ℕ) (set : List Bool) (next class : List ℕ) (noted :
       let b = w.below in
       let s = c.only y i (omega arith) (omega arith) (omega arith) w.same in
       elim w.along [
-        | inl r ↦ (let p = (n.each i l).stands in twins i y s.2.0 l s.0 b s.2.2 s.2.1 (n.each i l).dir p.opened p.in_chain (in_chain_too a _ p.in_chain (forth l s.0 r)))
-        | inr r ↦ (let p = (n.each y s.0).stands in twins i y s.2.0 l s.0 b s.2.2 s.2.1 (n.each y s.0).dir p.opened (in_chain_too a _ p.in_chain (forth s.0 l r)) p.in_chain)
+        | inl r ↦ (let p = (n.each i l).stands in share_name i y s.2.0 l s.0 b s.2.2 s.2.1 (n.each i l).dir p.opened p.in_chain (in_chain_too a _ p.in_chain (forth l s.0 r)))
+        | inr r ↦ (let p = (n.each y s.0).stands in share_name i y s.2.0 l s.0 b s.2.2 s.2.1 (n.each y s.0).dir p.opened (in_chain_too a _ p.in_chain (forth s.0 l r)) p.in_chain)
       ]
 
   member_linked : (d h : ℕ) → IsMember a d h → IsInside a h → IsLinked a h
@@ -243,7 +243,7 @@ module _ (a heads : List ℕ) (set : List Bool) (next class : List ℕ) (noted :
   its_name : (d h : ℕ) (q : List ℕ) → IsMember a d h → IsInside a h → name a h ≡ Some q → kept_name a h ≡ Some q
   its_name d h q k i e = keeps a h q (not_root d h k) i (λ x. k.kept (inr x)) e
 
-  pub noted_whole : (h : ℕ) → HasNamesake a h → (i : ℕ) × (i < length heads) × (get_or heads i 0 ≡ h) × (get_or noted i false ≡ true)
+  pub noted_whole : (h : ℕ) → HasSameName a h → (i : ℕ) × (i < length heads) × (get_or heads i 0 ≡ h) × (get_or noted i false ≡ true)
   noted_whole h (g, (b, (d, x, y), u, v, s)) = go (name a h) refl v.1
     where
       go : (o : Option (List ℕ)) → name a h ≡ o → IsSome o → (i : ℕ) × (i < length heads) × (get_or heads i 0 ≡ h) × (get_or noted i false ≡ true)
@@ -267,9 +267,9 @@ module _ (a heads : List ℕ) (set : List Bool) (next class : List ℕ) (noted :
           ] in
           (i, p.0, p.1, m.all i (let z = t.sized in let pp = p.0 in omega arith) (j, record { below = w; same = same; along = along }))
 
-  pub namesakes : (found : List ℕ) → AreChosen heads noted (length heads) found → AreNamesakes a found
-  namesakes found w = record {
-    each = λ h x. (let r = w.each h x in subst (λ y. HasNamesake a y) r.3 (noted_right r.0 r.1 r.2));
+  pub same_names : (found : List ℕ) → AreChosen heads noted (length heads) found → HaveSameNames a found
+  same_names found w = record {
+    each = λ h x. (let r = w.each h x in subst (λ y. HasSameName a y) r.3 (noted_right r.0 r.1 r.2));
     all = λ h k. (let r = noted_whole h k in subst (λ y. Contains found y) r.2 (w.all r.0 r.1 r.3));
     rising = w.rising;
   }

@@ -7,7 +7,7 @@ use std::alloc::{AllocError, Allocator};
 
 /// Numbered headers, each of which leads on to one.
 #[derive(Drop)]
-pub(crate) struct Forest<A: Allocator> {
+pub(crate) struct Graph<A: Allocator> {
     /// The header that each leads on to.
     pub next: Vec<u32, A>,
     /// The class of each: a number below that of headers.

@@ -1,10 +1,10 @@
 use Rattle.std.proofs.Common.{arith, subst, length, get_or}
 use Rattle.std.proofs.lemmas.Result.{IfOk-weaker}
-use Rattle.romfs_rules.specs.Namesakes.{AreNextNumbers, AreChosen, AreNamesakes}
+use Rattle.romfs_rules.specs.SameNames.{AreNextNumbers, AreChosen, HaveSameNames}
 use Rattle.romfs_rules.specs.Names.{kept_name, AreClasses}
 use Rattle.romfs_rules.proofs.HeadNumbers.{grown}
-use Rattle.romfs_rules.proofs.Twins.{numbered, namesakes}
-use Rattle.romfs_rules.proofs.namesakes.find_namesakes.Goals as goal
+use Rattle.romfs_rules.proofs.SameNaming.{numbered, same_names}
+use Rattle.romfs_rules.proofs.same_names.find_same_names.Goals as goal
 
 pub next_numbers-requires-clause-numbered : goal.next_numbers-requires-clause-numbered
 next_numbers-requires-clause-numbered g c =
@@ -26,8 +26,8 @@ returns g c =
     let next : AreNextNumbers a heads c.in_ok-next.next.items = rw c.deref.ensures.value at c.in_ok-next.ensures in
     let class : AreClasses (λ i. kept_name a (get_or heads i 0)) (length heads) c.in_ok-class.class.items =
     subst (λ hs. AreClasses (λ i. kept_name a (get_or hs i 0)) (length hs) c.in_ok-class.class.items) c.deref-2.ensures.value c.in_ok-class.ensures in
-    IfOk-weaker c.chosen.result (λ found. AreChosen heads c.in_ok-noted.noted.items (length heads) found.items) (λ found. AreNamesakes a found.items)
-    (λ found w. namesakes a heads c.args.chains.now.headers c.in_ok-next.next.items c.in_ok-class.class.items c.in_ok-noted.noted.items n next class c.in_ok-noted.ensures c.requires.alone found.items w)
+    IfOk-weaker c.chosen.result (λ found. AreChosen heads c.in_ok-noted.noted.items (length heads) found.items) (λ found. HaveSameNames a found.items)
+    (λ found w. same_names a heads c.args.chains.now.headers c.in_ok-next.next.items c.in_ok-class.class.items c.in_ok-noted.noted.items n next class c.in_ok-noted.ensures c.requires.alone found.items w)
     (rw (c.deref-4.ensures.value, c.deref-5.ensures.value) at c.chosen.ensures)
 
 pub note_higher-requires : goal.note_higher-requires

@@ -1,7 +1,7 @@
 use Rattle.std.proofs.Common.{ap, refl}
 use Rattle.romfs_format.specs.Fields.{cleared}
-use Rattle.romfs_rules.proofs.Twins.{next_number}
-use Rattle.romfs_rules.proofs.namesakes.next_number.Goals as goal
+use Rattle.romfs_rules.proofs.SameNaming.{next_number}
+use Rattle.romfs_rules.proofs.same_names.next_number.Goals as goal
 
 pub returns-then-is_inside : goal.returns-then-is_inside
 returns-then-is_inside g c =

@@ -1,5 +1,5 @@
-use Rattle.romfs_rules.specs.Namesakes.{AreChosen}
-use Rattle.romfs_rules.proofs.namesakes.chosen.Given as goal
+use Rattle.romfs_rules.specs.SameNames.{AreChosen}
+use Rattle.romfs_rules.proofs.same_names.chosen.Given as goal
 
 abbrev pub invariant-loop-number : goal.invariant-loop-number
 invariant-loop-number g l = AreChosen l.heads l.noted l.number l.found.items

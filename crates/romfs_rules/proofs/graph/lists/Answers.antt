@@ -1,7 +1,7 @@
 use Rattle.std.proofs.Common.{◌≡◌, subst, ◌+◌, ◌-◌, ◌<◌, length, get_or, arith}
 use Rattle.std.proofs.lemmas.List.{get_or_read}
 use Rattle.romfs_rules.proofs.Siblings.{AreListed, listed_more}
-use Rattle.romfs_rules.proofs.forest.lists.Goals as goal
+use Rattle.romfs_rules.proofs.graph.lists.Goals as goal
 
 pub loop-at-preserved : goal.loop-at-preserved
 loop-at-preserved g c =

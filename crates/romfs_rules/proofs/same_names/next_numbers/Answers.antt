@@ -1,6 +1,6 @@
 use Rattle.std.proofs.Common.{◌≡◌, subst, length, refl, arith}
 use Rattle.romfs_rules.proofs.HeadNumbers.{AreNextSoFar, follow_more, follow_all}
-use Rattle.romfs_rules.proofs.namesakes.next_numbers.Goals as goal
+use Rattle.romfs_rules.proofs.same_names.next_numbers.Goals as goal
 
 pub loop-at-preserved : goal.loop-at-preserved
 loop-at-preserved g c = rw c.in_ok-push.ensures.items (follow_more _ _ _ _ _ c.loop-at.invariant c.next_number.ensures)

@@ -1,14 +1,14 @@
 //! Members of a directory that have the name of another.
 
 ghost use Rattle.std.specs.Prelude.{◌≡◌, ◌≢◌, ◌+◌, ◌/◌, ◌^◌, ◌<◌, ◌≤◌, ◌↔◌, ℕ, List, Bool, IfOk, IsTrue, length, get_or};
-ghost use Rattle.romfs_format.specs.Fields.{root};
+ghost use Rattle.romfs_format.specs.Fields.{root as root_of};
 ghost use Rattle.romfs_rules.specs.Marks.{IsVolumeImage, IsElsewhere};
 ghost use Rattle.romfs_rules.specs.InChains.{AreChains};
-ghost use Rattle.romfs_rules.specs.Namesakes.{IsLinked, AreCollected, AreNumbered, IsNextNumber, AreNextNumbers, AreChosen, AreNamesakes};
+ghost use Rattle.romfs_rules.specs.SameNames.{IsLinked, AreCollected, AreNumbered, IsNextNumber, AreNextNumbers, AreChosen, HaveSameNames};
 
 use crate::chains::Chains;
 use crate::climb::note_higher;
-use crate::forest::{Forest, lists};
+use crate::graph::{Graph, lists};
 use crate::listed::headers_of;
 use crate::names::classes;
 use crate::slot::is_inside;
@@ -16,52 +16,52 @@ use crate::slot_numbers::SlotNumbers;
 use romfs_format::read::word;
 use std::alloc::{AllocError, Allocator};
 
-/// The number of the header after one, or that of headers where there is none inside the image.
+// The number of the header after one, or that of headers where there is none inside the image.
 fn next_number<A: Allocator>(
     image: &[u8],
-    top: usize,
+    root: usize,
     heads: &[u32],
     numbers: &SlotNumbers<A>,
     at: usize,
 ) -> u32
     requires small { length image.now < 2 ^ 32 }
-    requires top { top ≡ root image.now }
+    requires root { root ≡ root_of image.now }
     requires few { length heads.now < 2 ^ 32 }
     requires numbered { AreNumbered image.now heads.now numbers.now }
     requires at { IsLinked image.now at }
     ensures { IsNextNumber image.now heads.now at result }
 {
     let after = word(image, at) as usize / 16 * 16;
-    if after != 0 && is_inside(image, top, after) {
+    if after != 0 && is_inside(image, root, after) {
         numbers.number(after / 16)
     } else {
         heads.len() as u32
     }
 }
 
-/// The number of the header after each, and one more, for none, that leads to itself.
+// The number of the header after each, and one more, for none, that leads to itself.
 fn next_numbers<A: Allocator + Copy>(
     alloc: A,
     image: &[u8],
-    top: usize,
+    root: usize,
     heads: &[u32],
     numbers: &SlotNumbers<A>,
 ) -> Result<Vec<u32, A>, AllocError>
     requires small { length image.now < 2 ^ 32 }
-    requires top { top ≡ root image.now }
+    requires root { root ≡ root_of image.now }
     requires few { length heads.now < 2 ^ 32 }
     requires numbered { AreNumbered image.now heads.now numbers.now }
     ensures { IfOk result (λ next. AreNextNumbers image.now heads.now next.items) }
 {
     let mut next = Vec::with_capacity(alloc, heads.len() + 1)?;
     for at in heads {
-        next.push(next_number(image, top, heads, numbers, *at as usize))?;
+        next.push(next_number(image, root, heads, numbers, *at as usize))?;
     }
     next.push(heads.len() as u32)?;
     Ok(next)
 }
 
-/// Those of the headers that are noted.
+// Those of the headers that are noted.
 fn chosen<A: Allocator>(alloc: A, heads: &[u32], noted: &[bool]) -> Result<Vec<u32, A>, AllocError>
     requires sized { length heads.now ≤ length noted.now }
     requires rising { (i j : ℕ) → i < j → j < length heads.now →
@@ -79,27 +79,27 @@ fn chosen<A: Allocator>(alloc: A, heads: &[u32], noted: &[bool]) -> Result<Vec<u
 
 /// The members that have the name of another member of their directory that stands at a lower
 /// place, in the order of their places.
-pub(crate) fn find_namesakes<A: Allocator + Copy>(
+pub(crate) fn find_same_names<A: Allocator + Copy>(
     alloc: A,
     image: &[u8],
-    top: usize,
+    root: usize,
     chains: &Chains<A>,
 ) -> Result<Vec<u32, A>, AllocError>
     requires volume { IsVolumeImage image.now }
-    requires top { top ≡ root image.now }
+    requires root { root ≡ root_of image.now }
     requires chains { AreChains image.now chains.now }
-    requires alone { ¬ IsElsewhere image.now (root image.now) }
-    ensures { IfOk result (λ found. AreNamesakes image.now found.items) }
+    requires alone { ¬ IsElsewhere image.now (root_of image.now) }
+    ensures { IfOk result (λ found. HaveSameNames image.now found.items) }
 {
     let heads = headers_of(alloc, &chains.headers)?;
     let numbers = SlotNumbers::of(alloc, &chains.headers)?;
-    let next = next_numbers(alloc, image, top, &heads, &numbers)?;
+    let next = next_numbers(alloc, image, root, &heads, &numbers)?;
     drop(numbers);
-    let class = classes(alloc, image, top, &heads)?;
+    let class = classes(alloc, image, root, &heads)?;
     let (first, sibling) = lists(alloc, &next)?;
     let noted = note_higher(
         alloc,
-        &Forest {
+        &Graph {
             next,
             class,
             first,

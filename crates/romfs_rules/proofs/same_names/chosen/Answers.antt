@@ -1,6 +1,6 @@
 use Rattle.romfs_rules.proofs.HeadNumbers.{chooses_plain, chooses_noted}
-use Rattle.romfs_rules.proofs.namesakes.chosen.Goals as goal
-use Rattle.romfs_rules.proofs.namesakes.chosen.Goals.{then-noted-number+in_ok-push, else-noted-number}
+use Rattle.romfs_rules.proofs.same_names.chosen.Goals as goal
+use Rattle.romfs_rules.proofs.same_names.chosen.Goals.{then-noted-number+in_ok-push, else-noted-number}
 
 pub loop-number-preserved : goal.loop-number-preserved
 loop-number-preserved g c =
