@@ -61,7 +61,7 @@ pub fn merge<T: Lay, A: Allocator + Copy>(
     }
     lows.reverse();
     highs.reverse();
-    let mut out = Vec::new(alloc);
+    let mut out = Vec::with_capacity(alloc, lows.len().max(highs.len()))?;
     loop {
         match (lows.pop(), highs.pop()) {
             (None, None) => break,

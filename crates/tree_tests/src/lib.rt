@@ -8,6 +8,7 @@
 //! - `stacks`: what small stacks show and cut.
 //! - `bracketings`: trees laid in every order.
 //! - `memory`: each request for memory is refused in turn, in whichever thread.
+//! - `readers`: what trees say of the root, of markers' names and of paths through files.
 //! - `gates`: one layer's tree waits until another's was begun.
 #![tactic(auto)]
 
@@ -19,5 +20,7 @@ mod gates;
 mod layers;
 #[cfg(test)]
 mod memory;
+#[cfg(test)]
+mod readers;
 #[cfg(test)]
 mod stacks;

@@ -10,7 +10,7 @@ cover-returns g t c =
     rw (c.new.ensures, c.into_parts-name.ensures.name, c.lay.ensures, c.into_parts-name.ensures.value, c.into_parts-below.ensures.value) (branch_laid g.T.Lay.laid c.args.low c.args.high c.into_parts-below.result.2.items c.into_parts-name.result.2.items c.in_ok-children.children.items c.into_parts-below.ensures.below c.into_parts-name.ensures.below c.in_ok-children.ensures)
 
 pub merge-loop-high-init : goal.merge-loop-high-init
-merge-loop-high-init g t c = rw c.new-out.ensures.items (begun g.T.Lay.laid _ _ _ _ c.reverse.ensures.items c.reverse-2.ensures.items (reverse-reverse _) (reverse-reverse _))
+merge-loop-high-init g t c = rw c.in_ok-out.ensures.items (begun g.T.Lay.laid _ _ _ _ c.reverse.ensures.items c.reverse-2.ensures.items (reverse-reverse _) (reverse-reverse _))
 
 pub merge-loop-high-preserved-in_ok-push-in-None-Some : goal.merge-loop-high-preserved-in_ok-push-in-None-Some
 merge-loop-high-preserved-in_ok-push-in-None-Some g t c =
