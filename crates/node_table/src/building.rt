@@ -4,7 +4,8 @@ ghost use Rattle.std.specs.Prelude.{◌≡◌, ◌+◌, ◌<◌, length, slice_i
 ghost use Rattle.romfs_format.specs.Heads.{head_of};
 ghost use Rattle.romfs_image.specs.Readers.{IsGiven};
 ghost use Rattle.node_table.specs.Numbering.{number_among};
-ghost use Rattle.node_table.specs.Building.{IsAbove, AreFollowing, AreChildren, ArePosts, AddsRows, AddsNode, IsSeat};
+ghost use Rattle.node_table.specs.Building.{IsAbove, AreFollowing, AreChildren, ArePosts};
+ghost use Rattle.node_table.specs.Building.{AddsRows, AddsNode, IsSeat};
 ghost use Rattle.node_table.specs.Seeds.{AreSomeSeeds, AreMade};
 
 use crate::node::Node;
@@ -45,8 +46,10 @@ fn add_rows<A: Allocator + Copy>(
     children: &[Child<A>],
     rows: &mut Vec<Row<A>, A>,
 ) -> Result<u64, AllocError>
-    requires { AreFollowing (number_among walk.now.spots.items) numbers.now walk.now.sizes.items start children.now }
-    ensures { IfOk result (λ n. AddsRows (number_among walk.now.spots.items) children.now rows.old.items rows.new.items n) }
+    requires { AreFollowing (number_among walk.now.spots.items)
+        numbers.now walk.now.sizes.items start children.now }
+    ensures { IfOk result (λ n. AddsRows (number_among walk.now.spots.items)
+        children.now rows.old.items rows.new.items n) }
 {
     let mut directories = 0;
     let mut at = start;
@@ -78,10 +81,12 @@ pub(crate) fn add_node<A: Allocator + Copy>(
     keys: &mut Vec<u64, A>,
 ) -> Result<Node, AllocError>
     requires seat { IsSeat images.now spot.now.0.now }
-    requires above { IsAbove (number_among walk.now.spots.items) numbers.now walk.now.above.items start spot.now }
-    requires children { AreChildren (number_among walk.now.spots.items) numbers.now walk.now.sizes.items start spot.now }
-    ensures { IfOk result (λ node. AddsNode images.now (number_among walk.now.spots.items) spot.now paths
-        rows.old.items rows.new.items keys.old.items keys.new.items node) }
+    requires above { IsAbove (number_among walk.now.spots.items)
+        numbers.now walk.now.above.items start spot.now }
+    requires children { AreChildren (number_among walk.now.spots.items)
+        numbers.now walk.now.sizes.items start spot.now }
+    ensures { IfOk result (λ node. AddsNode images.now (number_among walk.now.spots.items)
+        spot.now paths rows.old.items rows.new.items keys.old.items keys.new.items node) }
 {
     let Entry { kind, place } = spot.0.value();
     let image = &images[place.layer as usize];
@@ -121,10 +126,13 @@ pub(crate) fn make<A: Allocator + Copy>(
     walk: &Walked<'_, Entry, A>,
     numbered: &Numbered<'_, A>,
 ) -> Result<Parts<A>, AllocError>
-    requires seeds { AreSomeSeeds images.now (number_among walk.now.spots.items) numbered.now.first.items numbered.now.paths.items }
-    requires posts { ArePosts (number_among walk.now.spots.items) numbered.now.numbers.items walk.now.above.items
-        walk.now.sizes.items numbered.now.first.items numbered.now.starts.items }
-    ensures { IfOk result (λ made. AreMade images.now made.nodes.items made.rows.items made.keys.items) }
+    requires seeds { AreSomeSeeds images.now (number_among walk.now.spots.items)
+        numbered.now.first.items numbered.now.paths.items }
+    requires posts { ArePosts (number_among walk.now.spots.items)
+        numbered.now.numbers.items walk.now.above.items walk.now.sizes.items
+        numbered.now.first.items numbered.now.starts.items }
+    ensures { IfOk result (λ made.
+        AreMade images.now made.nodes.items made.rows.items made.keys.items) }
 {
     let mut nodes = Vec::with_capacity(alloc, numbered.first.len())?;
     let mut rows = Vec::with_capacity(alloc, walk.spots.len())?;

@@ -13,8 +13,11 @@
 //! ```
 //!
 //! All nodes lie in one vector by their numbers, and all rows in another, those of a directory together; beside each
-//! row lies the key by which its name is found (`name_keys`). A node keeps its header as it was read once, so no answer
-//! parses one. What these parts have to say of the listing is the table's invariant (`specs/Held.antt`).
+//! row lies the key by which its name is found (`name_keys`). A node keeps where its data lie, so no answer parses a
+//! header. What these parts have to say of the listing is the table's invariant (`specs/Held.antt`).
+//!
+//! A table is made in one walk over the tree, which tells for each branch where the one above stands and how many are
+//! below it. Places are numbered by a sort of them; from then on a branch's number is found by where it stands.
 //!
 //! The crate stands on `layer_tree` for the tree of a stack, on `romfs_image` for its images, on `name_keys` for
 //! look-ups, and on `rayon`.

@@ -25,9 +25,9 @@ pub struct Attr {
 pub struct Node {
     /// Its kind, which is never a hard link.
     pub kind: Kind,
-    pub place: Place,
     /// Whether its header says that it is executable.
     pub(crate) exec: bool,
+    pub place: Place,
     /// Where its data lie in the image of its layer.
     pub(crate) part: Part,
     /// Type and permissions; 0 until the node is completed.

@@ -46,7 +46,8 @@ fn keys_of<'t, A: Allocator + Copy>(
 // One path more at a place.
 fn count_one<A: Allocator>(paths: &mut Vec<u32, A>, at: usize)
     requires { at < length paths.old.items }
-    ensures { paths.new.items ≡ slice_set paths.old.items at (one_more (slice_index paths.old.items at)) }
+    ensures { paths.new.items
+        ≡ slice_set paths.old.items at (one_more (slice_index paths.old.items at)) }
 {
     let count = paths[at];
     paths[at] = count.saturating_add(1);

@@ -26,7 +26,7 @@ use std::thread::Threads;
 
 /// The nodes of a stack of layers, by number: attributes, rows and data.
 ///
-/// A clause sees the layers and their listing. Each node and row takes at most 128 bytes beside its name. No reader
+/// A clause sees the layers and their listing. Each node and row takes at most 104 bytes beside its name. No reader
 /// takes memory, and each answers for every number: 1 is the root, and a number that is not in use has nothing.
 #[derive(Drop)]
 pub struct Table<A: Allocator> {
@@ -38,7 +38,9 @@ pub struct Table<A: Allocator> {
     ghost listing: { Listed images.items } by { listed_once images.items },
 }
 
-const _: () = prove!(size_of::<Node>() + size_of::<Row<Global>>() + size_of::<u64>() <= 128);
+const _: () = prove!(size_of::<Node>() <= 64);
+
+const _: () = prove!(size_of::<Node>() + size_of::<Row<Global>>() + size_of::<u64>() <= 104);
 
 impl<A: Allocator> Model for Table<A> {
     ghost use Rattle.node_table.specs.Stacked.{Stacked};

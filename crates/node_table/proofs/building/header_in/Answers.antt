@@ -1,6 +1,5 @@
-use Rattle.std.proofs.Common.{◌≡◌, ◌∙◌, sym, ap, subst, refl, inl, inr}
+use Rattle.std.proofs.Common.{◌∙◌, sym, ap, refl, inl, inr}
 use Rattle.romfs_format.specs.Heads.{head_of}
-use Rattle.romfs_image.specs.Readers.{IsGiven}
 use Rattle.node_table.proofs.building.header_in.Goals as goal
 
 pub returns-in-None-clause-value : goal.returns-in-None-clause-value
