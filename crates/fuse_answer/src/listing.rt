@@ -118,7 +118,7 @@ fn name_length<A: Allocator>(children: &[Row<A>], index: usize) -> usize
         1 => 2,
         _ => {
             let row = &children[index - 2];
-            row.name.len()
+            row.name().len()
         }
     }
 }

@@ -71,7 +71,7 @@ pub(crate) fn line_at<'a, A: Allocator>(rows: &Listing<'a, A>, index: usize) -> 
         1 => (rows.parent, b"..".as_slice()),
         _ => {
             let row = &rows.children[index - 2];
-            (row.number, row.name.as_slice())
+            (row.number, row.name())
         }
     }
 }

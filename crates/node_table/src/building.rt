@@ -14,6 +14,7 @@ use crate::row::Row;
 use crate::walk::{Spot, Walked};
 use layer_tree::{Child, Entry};
 use name_keys::add_keys;
+use path_tree::Name;
 use romfs_image::{Head, Image, Kind};
 use std::alloc::{AllocError, Allocator};
 
@@ -57,7 +58,7 @@ fn add_rows<A: Allocator + Copy>(
         let entry = child.value();
         let number = numbers[at];
         let size = walk.sizes[at];
-        let name = child.name().to_vec(alloc)?;
+        let name = Name::of(alloc, child.name())?;
         rows.push(Row { number, name })?;
         match entry.kind {
             Kind::Directory => directories += 1,

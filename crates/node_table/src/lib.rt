@@ -7,7 +7,7 @@
 //! ```text
 //! if let Some(number) = table.child(1, b"etc") {
 //!     for row in table.rows(number) {
-//!         show(&row.name, table.attr(row.number));
+//!         show(row.name(), table.attr(row.number));
 //!     }
 //! }
 //! ```

@@ -3,14 +3,15 @@
 ghost use Rattle.std.specs.Prelude.{◌≡◌};
 
 use name_keys::Named;
+use path_tree::Name;
 use std::alloc::Allocator;
 use std::marker::Model;
 
-/// A child of a directory: its number, and its name there.
+/// A child of a directory: its number, and its name there. A short name stands in the row itself.
 #[derive(Drop)]
 pub struct Row<A: Allocator> {
     pub number: u64,
-    pub name: Vec<u8, A>,
+    pub(crate) name: Name<A>,
 }
 
 impl<A: Allocator> Model for Row<A> {
@@ -18,7 +19,16 @@ impl<A: Allocator> Model for Row<A> {
 
     ghost Value = { Line };
 
-    ghost view = { λ row. record { number = row.number; name = row.name.items } };
+    ghost view = { λ row. record { number = row.number; name = row.name } };
+}
+
+impl<A: Allocator> Row<A> {
+    /// The child's name in its directory.
+    pub fn name(&self) -> &[u8]
+        ensures { result.now ≡ self.now.name }
+    {
+        self.name.as_slice()
+    }
 }
 
 impl<A: Allocator> Named for Row<A> {

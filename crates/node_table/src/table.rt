@@ -40,7 +40,7 @@ pub struct Table<A: Allocator> {
 
 const _: () = prove!(size_of::<Node>() <= 64);
 
-const _: () = prove!(size_of::<Node>() + size_of::<Row<Global>>() + size_of::<u64>() <= 104);
+const _: () = prove!(size_of::<Node>() + size_of::<Row<Global>>() + size_of::<u64>() <= 112);
 
 impl<A: Allocator> Model for Table<A> {
     ghost use Rattle.node_table.specs.Stacked.{Stacked};

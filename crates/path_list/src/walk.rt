@@ -93,7 +93,7 @@ fn put_below<K: Sink, A: Allocator, B: Allocator>(
     for row in table.rows(number) {
         let below = Trail {
             above: trail,
-            name: row.name.as_slice(),
+            name: row.name(),
         };
         put_line(sink, room, table, row.number, Some(&below))?;
         put_below(sink, room, table, row.number, Some(&below))?;

@@ -1,5 +1,4 @@
 use Rattle.std.proofs.Common.{ap, length, arith}
-use Rattle.node_table.specs.Rows.{Line}
 use Rattle.fuse_answer.proofs.Fitting.{child_length}
 use Rattle.fuse_answer.proofs.listing.name_length.Goals as goal
 
@@ -7,4 +6,4 @@ pub returns-in_default : goal.returns-in_default
 returns-in_default g c =
     child_length c.args.children.now c.args.index c.index-children-index.result c.len.result (omega arith) (omega arith)
     c.index-children-index.is
-    (let e = ap (λ (l : Line). length l.name) c.row.view_is in let f = c.len.ensures in omega arith)
+    (let e = ap length c.name.ensures in let f = c.len.ensures in omega arith)

@@ -8,8 +8,11 @@ pub returns-in_default : goal.returns-in_default
 returns-in_default g c =
     let own : Line = record { number = c.args.rows.now.number; name = codes "." } in
     let upper : Line = record { number = c.args.rows.now.parent; name = codes ".." } in
-    let line : Line = record { number = c.row.inside.number; name = c.as_slice-in_default.result.now } in
-    let same : c.index-rows-index.result ≡ line =
-    c.index-rows-index.is ∙ sym c.row.view_is ∙ ap (λ n. let l : Line = record { number = c.row.inside.number; name = n } in l) (sym c.as_slice-in_default.ensures.value) in
+    let there : Line = c.index-rows-index.result in
+    let line : Line = record { number = c.row.inside.number; name = c.name.result.now } in
+    let number_is : there.number ≡ c.row.inside.number = ap (λ (l : Line). l.number) (c.index-rows-index.is ∙ sym c.row.view_is) in
+    let same : there ≡ line =
+        ap (λ n. let l : Line = record { number = n; name = there.name } in l) number_is
+        ∙ ap (λ n. let l : Line = record { number = c.row.inside.number; name = n } in l) (sym c.name.ensures) in
     line_there own upper c.args.rows.now.children.now c.args.index c.index-rows-index.result (omega arith) c.requires c.index-rows-index.is
     ∙ ap (λ (l : Line). Some (c.args.index + 1, l)) same
