@@ -4,6 +4,5 @@ use Rattle.fuse_answer.proofs.listing.name_length.Goals as goal
 
 pub returns-in_default : goal.returns-in_default
 returns-in_default g c =
-    child_length c.args.children.now c.args.index c.index-children-index.result c.len.result (omega arith) (omega arith)
-    c.index-children-index.is
-    (let e = ap length c.name.ensures in let f = c.len.ensures in omega arith)
+    child_length c.args.children.now c.args.index c.index-children-index.result (length c.name.result.now) (omega arith) (omega arith)
+    c.index-children-index.is (ap length c.name.ensures)

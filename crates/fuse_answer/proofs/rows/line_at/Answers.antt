@@ -1,4 +1,4 @@
-use Rattle.std.proofs.Common.{◌≡◌, ◌∙◌, sym, ap, Some, ◌+◌, arith}
+use Rattle.std.proofs.Common.{◌≡◌, ◌∙◌, sym, ap, Some, ◌+◌, ◌-◌, get_or, arith}
 use Rattle.std.specs.Prelude.{codes}
 use Rattle.node_table.specs.Rows.{Line}
 use Rattle.fuse_answer.proofs.Writing.{line_there}
@@ -8,11 +8,12 @@ pub returns-in_default : goal.returns-in_default
 returns-in_default g c =
     let own : Line = record { number = c.args.rows.now.number; name = codes "." } in
     let upper : Line = record { number = c.args.rows.now.parent; name = codes ".." } in
-    let there : Line = c.index-rows-index.result in
+    let there : Line = get_or c.args.rows.now.children.now (c.args.index - 2) c.index-rows-index.result in
     let line : Line = record { number = c.row.inside.number; name = c.name.result.now } in
-    let number_is : there.number ≡ c.row.inside.number = ap (λ (l : Line). l.number) (c.index-rows-index.is ∙ sym c.row.view_is) in
-    let same : there ≡ line =
-        ap (λ n. let l : Line = record { number = n; name = there.name } in l) number_is
+    let number_is : there.number ≡ c.row.inside.number = ap (λ (l : Line). l.number) (sym c.row.view_is) in
+    let same : c.index-rows-index.result ≡ line =
+        c.index-rows-index.is
+        ∙ ap (λ n. let l : Line = record { number = n; name = there.name } in l) number_is
         ∙ ap (λ n. let l : Line = record { number = c.row.inside.number; name = n } in l) (sym c.name.ensures) in
     line_there own upper c.args.rows.now.children.now c.args.index c.index-rows-index.result (omega arith) c.requires c.index-rows-index.is
     ∙ ap (λ (l : Line). Some (c.args.index + 1, l)) same
