@@ -1,7 +1,7 @@
 //! Moves, summed by node.
 //!
-//! The moves are sorted by their nodes, so that those of one node stand side by side, and joined from the front on. That
-//! takes a number of steps in proportion to the moves and its logarithm, however many nodes there are.
+//! The moves are sorted by their nodes, so that those of one node stand side by side, and joined from the front on. So
+//! the steps go by the number of moves (times its logarithm), and not by that of the nodes.
 
 ghost use Rattle.std.specs.Prelude.{◌≡◌, ◌<◌, ◌+◌, ◌^◌, ◌+ℤ◌, unsigned_abs, length, IfOk, OnOk};
 ghost use Rattle.std.specs.List.Sorted.{IsNonDecreasingBy};

@@ -93,7 +93,8 @@ fn the_script_gives_back_what_it_takes(rt: HostRuntime) -> Result<(), Fail> {
     Ok(())
 }
 
-/// What the script of lookups gives and takes: the first FORGET takes from node 6 more than it has, and the second is short.
+/// What the script of lookups gives and takes: the first FORGET takes more from node 6 than it was given, and the
+/// second is too short to take any.
 fn sums() -> [Move; 5] {
     [(1, 1), (2, 1), (3, 2), (5, 1), (6, -4)].map(|(node, amount)| Move { node, amount })
 }

@@ -58,9 +58,9 @@ const LAST_REPLIES: [u32; 97] = [
     0x00000000,
 ];
 
-/// INIT 7.31 of a client that finds `.` and `..` by LOOKUP; LOOKUP of `big` below node 1, of `.` and `..` below node 3, and
-/// of both below node 2, which is no directory; READDIRPLUS of node 1; BATCH_FORGET of 2 lookups of node 2, and of one
-/// of node 9, which is not there; FORGET of 5 lookups of node 6; and a FORGET of node 3 that is one byte short.
+/// INIT 7.31 of a client that finds `.` and `..` by LOOKUP; LOOKUP of `big` below node 1, of `.` and `..` below node 3,
+/// and of both below node 2, which is no directory; READDIRPLUS of node 1; BATCH_FORGET of 2 lookups of node 2, and of
+/// one of node 9, which is not there; FORGET of 5 lookups of node 6; and a FORGET of node 3 that is one byte short.
 const LOOKUPS: [u32; 132] = [
     0x38000000, 0x1a000000, 0x01000000, 0x00000000, 0x00000000, 0x00000000, 0x00000000, 0x00000000,
     0x00000000, 0x00000000, 0x07000000, 0x1f000000, 0x00000200, 0x10000000, 0x2c000000, 0x01000000,

@@ -14,10 +14,15 @@ use std::thread::Threads;
 struct Holding {
     came: AtomicU64,
     given_up: AtomicU64,
+    /// In the byte of each number, how often its tree was begun.
+    begun: AtomicU64,
 }
 
 impl Gate for Holding {
-    fn pass(&self, _work: Work, number: u32) {
+    fn pass(&self, work: Work, number: u32) {
+        if work == Work::Tree && number < 8 {
+            self.begun.fetch_add(1 << (8 * number), Ordering::SeqCst);
+        }
         if number == 1 {
             self.came.store(1, Ordering::SeqCst);
         } else {
@@ -31,6 +36,7 @@ impl Holding {
         Self {
             came: AtomicU64::new(0),
             given_up: AtomicU64::new(0),
+            begun: AtomicU64::new(0),
         }
     }
 
@@ -46,20 +52,21 @@ impl Holding {
 
 const TWO: [&[Row<'static>]; 2] = [&[(1, b"a", File)], &[(1, b"b", File)]];
 
-/// How often the lowest layer was given up.
-fn given_up<R: Threads + Sync>(rt: &R, alloc: Global) -> Result<u64, BuildFault> {
+/// How often the lowest layer was given up, and how often each tree was begun.
+fn given_up<R: Threads + Sync>(rt: &R, alloc: Global) -> Result<(u64, u64), BuildFault> {
     let images = layers(alloc, &TWO)?;
     if images.is_empty() || 128 < images.len() {
         return Err(BuildFault::Listing);
     }
     let gate = Holding::new();
     stack(rt, alloc, &images, &gate)?;
-    Ok(gate.given_up.load(Ordering::SeqCst))
+    let begun = gate.begun.load(Ordering::SeqCst);
+    Ok((gate.given_up.load(Ordering::SeqCst), begun))
 }
 
 #[test]
 fn the_lowest_tree_waits_for_the_next(rt: HostRuntime) -> Result<(), Fail> {
-    let count = given_up(&rt, rt.alloc())?;
-    assert_eq!(rt; count, 0);
+    let counts = given_up(&rt, rt.alloc())?;
+    assert_eq!(rt; counts, (0, 0x0101));
     Ok(())
 }
