@@ -112,7 +112,7 @@ zero_ends a (suc n) = inl refl
 
 -- a walk that is over
 pub walk_over : (a : List ℕ) (i : IsImage a) (r : ℕ) → r ≡ root a → IsWalk a r 0
-walk_over a i r e = record { small = i.small; top = e; ends = zero_ends a (places a) }
+walk_over a i r e = record { small = i.small; root = e; ends = zero_ends a (places a) }
 
 -- the members of a directory that is given, from the header that its chain begins at
 module _ (a : List ℕ) (i : IsImage a) (head : Head) (g : IsGiven a head) (k : head.kind ≡ Directory) where
@@ -149,4 +149,4 @@ module _ (a : List ℕ) (i : IsImage a) (head : Head) (g : IsGiven a head) (k : 
   chain_given h c t = (starts h (onward h c t)).2
 
   pub chain_walk : (h r : ℕ) → h ≡ cleared head.spec → (h ≡ head.offset → h ≡ root a) → r ≡ root a → IsWalk a r h
-  chain_walk h r c t e = record { small = i.small; top = e; ends = (starts h (onward h c t)).1 }
+  chain_walk h r c t e = record { small = i.small; root = e; ends = (starts h (onward h c t)).1 }

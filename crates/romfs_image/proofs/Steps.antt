@@ -42,7 +42,7 @@ module _ (a : List ℕ) (r d h : ℕ) (w : IsWalk a r h) where
       none (suc n) = refl
 
   pub on : h ≢ 0 → IsInside a h × IsWalk a r (next a h)
-  on z = let s = step a (places a) h z w.ends in (s.inside, record { small = w.small; top = w.top; ends = s.ends })
+  on z = let s = step a (places a) h z w.ends in (s.inside, record { small = w.small; root = w.root; ends = s.ends })
 
   pub over : h ≢ 0 → passes_over a d h ≡ true → members_from a d h ≡ members_from a d (next a h)
   over z p = let s = step a (places a) h z w.ends in rw (s.walk, p) refl

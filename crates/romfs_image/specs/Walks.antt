@@ -1,7 +1,7 @@
 -- Walks along chains and hard links, counted by steps: no list of headers is longer than there are places for headers.
 use Rattle.std.specs.Prelude.{◌≡◌, ◌≢◌, ℕ, zero, suc, ◌/◌, ◌^◌, ◌<◌, ◌==◌, ◌⊎◌, List, [], ◌∷◌, length, if◌then◌else◌}
 use Rattle.romfs_format.specs.declared.head.Head.{Head}
-use Rattle.romfs_format.specs.Fields.{root, IsInside, next}
+use Rattle.romfs_format.specs.Fields.{root as root_of, IsInside, next}
 use Rattle.romfs_image.specs.Readers.{kept}
 
 -- the chain from h on, up to n headers
@@ -25,5 +25,5 @@ members_from a d h = kept a d (chain_from a (places a) h)
 -- a walk along a chain can go on at h, in the image whose root is r
 pub record IsWalk (a : List ℕ) (r h : ℕ) : Type 0 where
   pub small : length a < 2 ^ 32
-  pub top : r ≡ root a
+  pub root : r ≡ root_of a
   pub ends : EndsWithin a (places a) h

@@ -1,7 +1,7 @@
 //! Checked images, and what is read from them.
 
 ghost use Rattle.std.specs.Prelude.{◌≡◌, ◌≢◌, ◌⊎◌, [], ◌+◌, ◌<◌, ◌≤◌, ◌^◌, length, Some, MatchOption, IsNone, IfOk, IfErr, All};
-ghost use Rattle.romfs_format.specs.Fields.{image, root, name, word};
+ghost use Rattle.romfs_format.specs.Fields.{image, root as root_of, name, word};
 ghost use Rattle.romfs_format.specs.Links.{IsFinal};
 ghost use Rattle.romfs_format.specs.Rules.{IsSound, IsSoundAs};
 ghost use Rattle.romfs_image.specs.Images.{IsImage};
@@ -27,19 +27,19 @@ use std::marker::Model;
 #[derive(Drop)]
 pub struct Image<A: Allocator> {
     bytes: Vec<u8, A>,
-    top: u32,
+    root: u32,
 }
 
 impl<A: Allocator> Model for Image<A> {
     ghost use Rattle.std.specs.Prelude.{List, ℕ, ◌≡◌};
-    ghost use Rattle.romfs_format.specs.Fields.{root};
+    ghost use Rattle.romfs_format.specs.Fields.{root as root_of};
     ghost use Rattle.romfs_image.specs.Images.{IsImage};
 
     ghost Value = { List ℕ };
 
     ghost view = { λ held. held.bytes.items };
 
-    ghost invariant = { λ held. IsImage held.bytes.items × (held.top ≡ root held.bytes.items) };
+    ghost invariant = { λ held. IsImage held.bytes.items × (held.root ≡ root_of held.bytes.items) };
 }
 
 /// The accessible bytes alone.
@@ -95,8 +95,8 @@ fn kept<A: Allocator>(bytes: Vec<u8, A>) -> Image<A>
     ensures { result ≡ image bytes.items }
 {
     let bytes = accessible(bytes);
-    let top = root_of(&bytes);
-    Image { bytes, top }
+    let root = root_of(&bytes);
+    Image { bytes, root }
 }
 
 impl<A: Allocator> Image<A> {
@@ -111,12 +111,12 @@ impl<A: Allocator> Image<A> {
     /// The header of the root, which stands after the volume name.
     #[tactic(auto, using(crate::proofs::Keeps::root_inside, crate::proofs::Keeps::root_directory))]
     pub fn root(&self) -> Head
-        ensures value { result ≡ head_of self.now (root self.now) }
+        ensures value { result ≡ head_of self.now (root_of self.now) }
         ensures directory { result.kind ≡ Kind.Directory }
         ensures given { IsGiven self.now result }
         ensures sound { IsImage self.now }
     {
-        head_at(&self.bytes, self.top)
+        head_at(&self.bytes, self.root)
     }
 
     /// The header at an offset in bytes; none where the offset is no multiple of 16, or the header does
@@ -126,9 +126,9 @@ impl<A: Allocator> Image<A> {
     /// name has no end.
     pub fn head(&self, offset: u32) -> Option<Head>
         ensures value { MatchOption result (¬ IsPlace self.now offset) (λ head. IsPlace self.now offset × (head ≡ head_of self.now offset)) }
-        ensures given { (g : Head) → IsGiven self.now g → g.offset ≡ offset → (result ≡ Some g) ⊎ ((offset ≡ root self.now) × IsNone (name self.now offset)) }
+        ensures given { (g : Head) → IsGiven self.now g → g.offset ≡ offset → (result ≡ Some g) ⊎ ((offset ≡ root_of self.now) × IsNone (name self.now offset)) }
     {
-        place_at(&self.bytes, self.top, offset)
+        place_at(&self.bytes, self.root, offset)
     }
 
     /// The members of a directory, each once, in the order of its chain (romfs.rst, "next filehdr" and
@@ -142,7 +142,7 @@ impl<A: Allocator> Image<A> {
         ensures other { directory.now.kind ≢ Kind.Directory → result ≡ [] }
         ensures given { All (λ head. IsGiven self.now head) result }
     {
-        members_of(&self.bytes, self.top, directory)
+        members_of(&self.bytes, self.root, directory)
     }
 
     /// The header that a hard link leads to, after any further hard links (romfs.rst, "spec.info").

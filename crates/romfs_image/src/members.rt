@@ -2,7 +2,7 @@
 
 ghost use Rattle.std.specs.Prelude.{◌≡◌, ◌<◌, ◌∷◌, ◌^◌, [], length, MatchOption};
 ghost use Rattle.std.specs.Iterator.{YieldsFirst, item_count};
-ghost use Rattle.romfs_format.specs.Fields.{root, IsInside};
+ghost use Rattle.romfs_format.specs.Fields.{root as root_of, IsInside};
 ghost use Rattle.romfs_format.specs.Heads.{head_of};
 ghost use Rattle.romfs_image.specs.Readers.{passes_over};
 ghost use Rattle.romfs_image.specs.Walks.{IsWalk, members_from};
@@ -18,7 +18,7 @@ use std::marker::Model;
 #[derive(Drop)]
 pub struct Members<'a> {
     image: &'a [u8],
-    top: u32,
+    root: u32,
     directory: u32,
     at: u32,
 }
@@ -33,18 +33,18 @@ impl<'a> Model for Members<'a> {
 
     ghost view = { λ m. members_from m.image.now m.directory m.at };
 
-    ghost invariant = { λ m. IsWalk m.image.now m.top m.at };
+    ghost invariant = { λ m. IsWalk m.image.now m.root m.at };
 }
 
 impl<'a> Members<'a> {
     /// The members of a directory whose chain goes on at `at`.
-    pub(crate) fn new(image: &'a [u8], top: u32, directory: u32, at: u32) -> Members<'a>
-        requires { IsWalk image.now top at }
+    pub(crate) fn new(image: &'a [u8], root: u32, directory: u32, at: u32) -> Members<'a>
+        requires { IsWalk image.now root at }
         ensures { result ≡ members_from image.now directory at }
     {
         Members {
             image,
-            top,
+            root,
             directory,
             at,
         }
@@ -59,7 +59,7 @@ impl<'a> Iterator for Members<'a> {
     ghost remaining = { item_count (λ left. left) };
 
     fn next(&mut self) -> Option<Head> {
-        match member_from(self.image, self.top, self.directory, self.at) {
+        match member_from(self.image, self.root, self.directory, self.at) {
             None => {
                 self.at = 0;
                 None
@@ -73,14 +73,14 @@ impl<'a> Iterator for Members<'a> {
 }
 
 /// Whether a header is passed over in the chain of a directory.
-fn is_passed_over(image: &[u8], top: u32, directory: u32, head: &Head) -> bool
-    requires top { top ≡ root image.now }
+fn is_passed_over(image: &[u8], root: u32, directory: u32, head: &Head) -> bool
+    requires root { root ≡ root_of image.now }
     requires small { length image.now < 2 ^ 32 }
     requires head { head.now ≡ head_of image.now head.now.offset }
     requires inside { IsInside image.now head.now.offset }
     ensures { result ≡ passes_over image.now directory head.now.offset }
 {
-    if directory == top && head.offset == top {
+    if directory == root && head.offset == root {
         return true;
     }
     match text_at(image, head.name_at as usize) {
@@ -90,14 +90,14 @@ fn is_passed_over(image: &[u8], top: u32, directory: u32, head: &Head) -> bool
 }
 
 /// The first member from a place of a chain on.
-fn member_from(image: &[u8], top: u32, directory: u32, mut at: u32) -> Option<Head>
-    requires { IsWalk image.now top at }
+fn member_from(image: &[u8], root: u32, directory: u32, mut at: u32) -> Option<Head>
+    requires { IsWalk image.now root at }
     ensures { MatchOption result (members_from image.now directory at ≡ [])
-        (λ head. (members_from image.now directory at ≡ head ∷ members_from image.now directory head.next) × IsWalk image.now top head.next) }
+        (λ head. (members_from image.now directory at ≡ head ∷ members_from image.now directory head.next) × IsWalk image.now root head.next) }
 {
     while at != 0 {
         let head = head_at(image, at);
-        if !is_passed_over(image, top, directory, &head) {
+        if !is_passed_over(image, root, directory, &head) {
             return Some(head);
         }
         at = head.next;

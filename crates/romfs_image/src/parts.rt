@@ -1,7 +1,7 @@
 //! What the readers of an image read, from its bytes.
 
 ghost use Rattle.std.specs.Prelude.{◌≡◌, ◌≢◌, [], ◌+◌, ◌*◌, ◌/◌, ◌^◌, ◌<◌, ◌≤◌, length, MatchOption, IsTrue, IsFalse, All};
-ghost use Rattle.romfs_format.specs.Fields.{root};
+ghost use Rattle.romfs_format.specs.Fields.{root as root_of};
 ghost use Rattle.romfs_format.specs.Links.{IsFinal};
 ghost use Rattle.romfs_image.specs.Images.{IsImage};
 ghost use Rattle.romfs_format.specs.Heads.{name_of, head_of, IsHeadIn};
@@ -19,13 +19,13 @@ pub struct Part {
 }
 
 /// The header at an offset, if a header with an ended name can stand there.
-pub(crate) fn place_at(image: &[u8], top: u32, offset: u32) -> Option<Head>
+pub(crate) fn place_at(image: &[u8], root: u32, offset: u32) -> Option<Head>
     requires image { IsImage image.now }
-    requires top { top ≡ root image.now }
+    requires root { root ≡ root_of image.now }
     ensures { MatchOption result (¬ IsPlace image.now offset) (λ head. IsPlace image.now offset × (head ≡ head_of image.now offset)) }
 {
     let place = offset as usize;
-    if offset % 16 != 0 || offset < top || image.len() < place + 16 {
+    if offset % 16 != 0 || offset < root || image.len() < place + 16 {
         return None;
     }
     match text_at(image, place + 16) {
@@ -36,30 +36,30 @@ pub(crate) fn place_at(image: &[u8], top: u32, offset: u32) -> Option<Head>
 
 /// Whether a directory other than the root names its own header as the first, which says that it
 /// is empty.
-fn leads_to_itself(top: u32, directory: &Head) -> bool
-    ensures yes { IsTrue result → (directory.now.spec / 16 * 16 ≡ directory.now.offset) × (directory.now.spec / 16 * 16 ≢ top) }
-    ensures no { IsFalse result → directory.now.spec / 16 * 16 ≡ directory.now.offset → directory.now.spec / 16 * 16 ≡ top }
+fn leads_to_itself(root: u32, directory: &Head) -> bool
+    ensures yes { IsTrue result → (directory.now.spec / 16 * 16 ≡ directory.now.offset) × (directory.now.spec / 16 * 16 ≢ root) }
+    ensures no { IsFalse result → directory.now.spec / 16 * 16 ≡ directory.now.offset → directory.now.spec / 16 * 16 ≡ root }
 {
     let first = directory.spec / 16 * 16;
-    first == directory.offset && first != top
+    first == directory.offset && first != root
 }
 
 /// The members of a header that is given.
-pub(crate) fn members_of<'a>(image: &'a [u8], top: u32, directory: &Head) -> Members<'a>
+pub(crate) fn members_of<'a>(image: &'a [u8], root: u32, directory: &Head) -> Members<'a>
     requires image { IsImage image.now }
-    requires top { top ≡ root image.now }
+    requires root { root ≡ root_of image.now }
     requires given { IsGiven image.now directory.now }
     ensures directory { directory.now.kind ≡ Kind.Directory → AreMembers image.now directory.now.offset result }
     ensures other { directory.now.kind ≢ Kind.Directory → result ≡ [] }
     ensures given { All (λ head. IsGiven image.now head) result }
 {
     if directory.kind != Kind::Directory {
-        return Members::new(image, top, directory.offset, 0);
+        return Members::new(image, root, directory.offset, 0);
     }
-    if leads_to_itself(top, directory) {
-        return Members::new(image, top, directory.offset, 0);
+    if leads_to_itself(root, directory) {
+        return Members::new(image, root, directory.offset, 0);
     }
-    Members::new(image, top, directory.offset, directory.spec / 16 * 16)
+    Members::new(image, root, directory.offset, directory.spec / 16 * 16)
 }
 
 /// Where the chain of hard links from a header that is given ends.

@@ -9,8 +9,8 @@ accessible-bytes-requires-clause-long g c = (bounds c.args.bytes.items c.require
 pub accessible-bytes-requires-clause-within : goal.accessible-bytes-requires-clause-within
 accessible-bytes-requires-clause-within g c = (bounds c.args.bytes.items c.requires).2
 
-pub root_of-top-requires-clause-long : goal.root_of-top-requires-clause-long
-root_of-top-requires-clause-long g c =
+pub root_of-root-requires-clause-long : goal.root_of-root-requires-clause-long
+root_of-root-requires-clause-long g c =
     let full = (bounds c.args.bytes.items c.requires).1 in
     let l = c.accessible-bytes.ensures.length in
     rw c.deref.ensures.value (omega arith)
@@ -20,4 +20,4 @@ invariant_of-result g c =
     let l = c.accessible-bytes.ensures.length in
     let n = c.accessible-bytes.ensures.small in
     let s : word c.args.bytes.items 8 < 2 ^ 32 = omega arith in
-    (rw c.accessible-bytes.ensures.value (checked c.args.bytes.items c.requires s), rw (← c.deref.ensures.value) c.root_of-top.ensures)
+    (rw c.accessible-bytes.ensures.value (checked c.args.bytes.items c.requires s), rw (← c.deref.ensures.value) c.root_of-root.ensures)

@@ -4,7 +4,7 @@ use Rattle.romfs_image.proofs.members.member_from.Given as goal
 
 abbrev pub invariant-loop-at : goal.invariant-loop-at
 invariant-loop-at l = record {
-  walk : IsWalk l.image l.top l.at;
+  walk : IsWalk l.image l.root l.at;
   left : members_from l.image l.directory l.at ≡ members_from l.image l.directory l.initial.at;
 }
 
