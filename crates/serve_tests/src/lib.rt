@@ -4,7 +4,7 @@
 //!
 //! - `streams`: one stream, however it is cut, answered and taken; how often each device is called.
 //! - `memory`: each request for memory is refused in turn.
-//! - `rounds`: rounds of jobs by any plan; each request for memory is refused in turn.
+//! - `batches`: rounds of jobs by any plan; each request for memory is refused in turn.
 //! - `answers`: single answers and their moves, with each request for memory refused in turn.
 //! - `layers`: images that are refused, with no call of a device; the strict profile.
 //!
@@ -15,6 +15,8 @@
 #[cfg(test)]
 mod answers;
 #[cfg(test)]
+mod batches;
+#[cfg(test)]
 mod jobs;
 #[cfg(test)]
 mod layers;
@@ -22,8 +24,6 @@ mod layers;
 mod memory;
 #[cfg(test)]
 mod reader;
-#[cfg(test)]
-mod rounds;
 #[cfg(test)]
 mod runs;
 #[cfg(test)]
