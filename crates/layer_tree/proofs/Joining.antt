@@ -77,7 +77,7 @@ free_if (a ∷ above) path p s c =
     let up : IsFree above path = free_if above path p (λ i h t. s (suc i) h (t.0, t.1)) (λ x. c (inr x)) in
     ((λ x. s zero x.0 (p, (x.1, up)), λ x. c (inl x)), up)
 
-top_in : (layers : List (List ℕ)) (path : Path) (i h : ℕ) → IsTop layers path i h → IsFree layers path → ⊥
+pub top_in : (layers : List (List ℕ)) (path : Path) (i h : ℕ) → IsTop layers path i h → IsFree layers path → ⊥
 top_in [] path i h t f = t
 top_in (a ∷ above) path zero h t f = f.0.0 (h, t.0)
 top_in (a ∷ above) path (suc i) h t f = top_in above path i h t f.1

@@ -13,3 +13,5 @@ pub mod Directories
 pub mod Children
 pub mod Parents
 pub mod Entering
+pub mod Deciding
+pub mod Existing

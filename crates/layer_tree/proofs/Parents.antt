@@ -81,7 +81,7 @@ final_directory : (a : List ℕ) (h e : ℕ) → IsFinal a h e → kind a h ≡ 
 final_directory a h e (stays n) k = k
 final_directory a h e (follows l f) k = absurd (let m = l.1 in cc)
 
-is_directory_or_not : (k : Kind) → (k ≡ Directory) ⊎ (k ≢ Directory)
+pub is_directory_or_not : (k : Kind) → (k ≡ Directory) ⊎ (k ≢ Directory)
 is_directory_or_not Directory = inl refl
 is_directory_or_not HardLink = inr (λ e. cc)
 is_directory_or_not Regular = inr (λ e. cc)

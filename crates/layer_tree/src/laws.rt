@@ -5,7 +5,7 @@ ghost use Rattle.std.specs.List.{AllByRecursion};
 ghost use Rattle.romfs_format.specs.declared.head.Kind.TheVariants.{Directory};
 ghost use Rattle.romfs_image.specs.Images.{IsImage};
 ghost use Rattle.romfs_format.specs.Chains.{Has};
-ghost use Rattle.stack_model.specs.Listing.{IsListing};
+ghost use Rattle.stack_model.specs.Listing.{Entry as Listed, IsListing};
 ghost use Rattle.stack_model.specs.Stack.{Path, IsPlain, IsIn, Shows};
 ghost use Rattle.path_tree.specs.Rows.{Shoot, spread, named, at_path};
 ghost use Rattle.layer_tree.specs.declared.place.Entry.{Entry};
@@ -16,6 +16,14 @@ ghost use Rattle.layer_tree.specs.Trees.{TreeRows, entry_at, cuts_at, AreChildre
 /// layers.
 pub fn entries_are_the_listing()
     ensures { (layers : List (List ℕ)) (t : TreeRows) → IsTreeOf 0 layers t → IsListing layers (listing t) }
+{}
+
+/// Layers that are the accessible bytes of sound images have a listing, whether or not memory is enough to make a tree
+/// of them.
+#[tactic(auto, using(crate::proofs::Existing::some_listing))]
+pub fn sound_layers_have_a_listing()
+    ensures { (layers : List (List ℕ)) → AllByRecursion IsImage layers →
+        (entries : List Listed) × IsListing layers entries }
 {}
 
 /// Trees of one run of layers have the same entries, cut the same paths and have the same children, with the same

@@ -1,5 +1,5 @@
 -- What the images say of the places in a stack's tree.
-use Rattle.std.proofs.Common.{◌≡◌, ◌≢◌, ◌∙◌, sym, ap, subst, ℕ, zero, suc, ◌^◌, ◌<◌, ◌⊎◌, inl, inr, List, [], ◌∷◌, take, drop, map, refl, arith, Option, Some, None, IsSome}
+use Rattle.std.proofs.Common.{◌≡◌, ◌≢◌, ◌∙◌, sym, ap, subst, ℕ, zero, suc, ◌^◌, ◌<◌, inl, inr, List, [], ◌∷◌, take, drop, map, refl, arith, Option, Some, None, IsSome}
 use Rattle.std.specs.Prelude.{slice_get, unwrap_or}
 use Rattle.std.specs.List.{AllByRecursion, slice_index_or}
 use Rattle.std.specs.Option.{option_map_or}
@@ -11,7 +11,7 @@ use Rattle.std.proofs.lemmas.Cmp.{nat_list_cmp_total, lists_total}
 use Rattle.romfs_format.specs.declared.head.Kind.{Kind}
 use Rattle.romfs_format.specs.declared.head.Kind.TheVariants.{HardLink, Directory, Regular, SymLink, Block, Character, Socket, Fifo}
 use Rattle.romfs_format.specs.Fields.{root, kind, name, size, data_at}
-use Rattle.romfs_format.specs.Chains.{IsSomeMember, Leads, Has}
+use Rattle.romfs_format.specs.Chains.{Has}
 use Rattle.romfs_format.specs.Links.{IsFinal, stays, follows}
 use Rattle.romfs_format.specs.Heads.{name_of, head_of}
 use Rattle.romfs_image.specs.Images.{IsImage}
@@ -26,6 +26,7 @@ use Rattle.path_tree.specs.Rows.{Rows, at_path, PathsRise, name_cmp}
 use Rattle.path_tree.proofs.Paths.{same_path_or_not}
 use Rattle.layer_tree.specs.declared.place.Entry.{Entry}
 use Rattle.layer_tree.specs.Trees.{TreeRows, IsTreeOf, listed, listing}
+use Rattle.layer_tree.proofs.Deciding.{leads_to}
 use Rattle.layer_tree.proofs.Listed.{is_listing}
 use Rattle.node_table.specs.Readers.{placed}
 
@@ -36,10 +37,6 @@ pub record IsPlaced (layers : List (List ℕ)) (e : Entry) : Type 0 where
   pub sound : IsImage image
   pub given : IsGiven image (head_of image e.place.header)
   pub kind_is : e.kind ≡ kind image e.place.header
-
-leads_to : (a : List ℕ) (path : Path) (d h : ℕ) → Leads a d path h → (d ≡ h) ⊎ IsSomeMember a h
-leads_to a [] d h l = inl l
-leads_to a (n ∷ path) d h (c, m, f, l) = elim (leads_to a path c h l) [ inl e ↦ inr (subst (λ x. IsSomeMember a x) e (d, m)) | inr x ↦ inr x ]
 
 given_at : (a : List ℕ) (i : IsImage a) (path : Path) (h e : ℕ) → Has a path h → IsFinal a h e → IsGiven a (head_of a e)
 given_at a i path h e l f = record { is = refl; from = elim (leads_to a path (root a) h l) [ inl r ↦ at_root h e r f | inr m ↦ inr (inr (h, m, f)) ] }
