@@ -12,5 +12,5 @@ pub sizes : SizeExamples
 sizes = record { regular = refl; link = refl; directory = refl; device = refl; socket = refl; no_blocks = refl; one_block = refl; two_blocks = refl }
 
 pub layers : LayerExamples
-  unfolding Rattle.stack_model.specs.Numbers.number_of Rattle.stack_model.specs.Numbers.nodes Rattle.stack_model.specs.Numbers.parent Rattle.stack_model.specs.Numbers.children
+unfolding Rattle.stack_model.specs.Numbers.number_of Rattle.stack_model.specs.Numbers.nodes Rattle.stack_model.specs.Numbers.parent Rattle.stack_model.specs.Numbers.children
 layers = record { first_path = refl; numbers = refl; above = refl; children_of = refl; order = refl }
