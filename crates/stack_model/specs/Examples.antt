@@ -1,5 +1,5 @@
 -- Worked examples: modes of each kind, and the numbers of devices.
-use Rattle.std.specs.Prelude.{◌≡◌, false, true, ℕ, List, [], ◌∷◌, map, codes}
+use Rattle.std.specs.Prelude.{◌≡◌, false, true, List, [], ◌∷◌, map, codes}
 use Rattle.std.specs.declared.cmp.Ordering.TheVariants.{Less}
 use Rattle.stack_model.specs.Listing.{Entry, path_cmp}
 use Rattle.stack_model.specs.Numbers.{place, path_of, number, parent, children}
