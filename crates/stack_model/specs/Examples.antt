@@ -1,5 +1,8 @@
 -- Worked examples: modes of each kind, and the numbers of devices.
-use Rattle.std.specs.Prelude.{◌≡◌, false, true}
+use Rattle.std.specs.Prelude.{◌≡◌, false, true, List, [], ◌∷◌, map, codes}
+use Rattle.std.specs.declared.cmp.Ordering.TheVariants.{Less}
+use Rattle.stack_model.specs.Listing.{Entry, path_cmp}
+use Rattle.stack_model.specs.Numbers.{place, path_of, number, parent, children}
 use Rattle.romfs_format.specs.declared.head.Kind.TheVariants.{Directory, Regular, SymLink, Block, Character, Socket, Fifo}
 use Rattle.stack_model.specs.Attributes.{mode_of, size_of, device, rdev_of, blocks_of}
 
@@ -40,3 +43,20 @@ pub record SizeExamples : Type 0 where
   pub no_blocks : blocks_of 0 ≡ 0
   pub one_block : blocks_of 512 ≡ 1
   pub two_blocks : blocks_of 513 ≡ 2
+
+-- paths of two layers: d/x and z are one file of the lower layer, and its header has the number of that of d in the upper
+abbrev pub two_layers : List Entry
+two_layers =
+    record { path = []; layer = 1; header = 0x20 }
+    ∷ record { path = codes "d" ∷ []; layer = 1; header = 0x60 }
+    ∷ record { path = codes "d" ∷ codes "x" ∷ []; layer = 0; header = 0x60 }
+    ∷ record { path = codes "d" ∷ codes "y" ∷ []; layer = 1; header = 0x80 }
+    ∷ record { path = codes "z" ∷ []; layer = 0; header = 0x60 }
+    ∷ []
+
+pub record LayerExamples : Type 0 where
+  pub first_path : path_of two_layers (0, 0x60) ≡ codes "d" ∷ codes "x" ∷ []
+  pub numbers : map (λ e. number two_layers (place e)) two_layers ≡ 1 ∷ 2 ∷ 3 ∷ 4 ∷ 3 ∷ []
+  pub above : parent two_layers (0, 0x60) ≡ (1, 0x60)
+  pub children_of : map (λ c. c.place) (children two_layers (1, 0x60)) ≡ (0, 0x60) ∷ (1, 0x80) ∷ []
+  pub order : path_cmp (codes "a" ∷ codes "b" ∷ []) (codes "a!" ∷ []) ≡ Less

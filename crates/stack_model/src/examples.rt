@@ -1,6 +1,6 @@
 //! Worked examples: attributes, by computation.
 
-ghost use Rattle.stack_model.specs.Examples.{ModeExamples, DeviceExamples, SizeExamples};
+ghost use Rattle.stack_model.specs.Examples.{ModeExamples, DeviceExamples, SizeExamples, LayerExamples};
 
 /// The mode of each kind.
 #[tactic(auto, using(crate::proofs::Worked::modes))]
@@ -18,4 +18,10 @@ pub fn devices_example()
 #[tactic(auto, using(crate::proofs::Worked::sizes))]
 pub fn sizes_example()
     ensures { SizeExamples }
+{}
+
+/// Paths of two layers, their numbers, and what lies above and below.
+#[tactic(auto, using(crate::proofs::Worked::layers))]
+pub fn layers_example()
+    ensures { LayerExamples }
 {}
