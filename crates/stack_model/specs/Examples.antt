@@ -1,4 +1,4 @@
--- Worked examples: modes of each kind, and the numbers of devices.
+-- Worked examples: modes of each kind, the numbers of devices, sizes, and the paths of two layers.
 use Rattle.std.specs.Prelude.{◌≡◌, false, true, List, [], ◌∷◌, map, codes}
 use Rattle.std.specs.declared.cmp.Ordering.TheVariants.{Less}
 use Rattle.stack_model.specs.Listing.{Entry, path_cmp}

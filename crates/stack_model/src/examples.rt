@@ -1,4 +1,4 @@
-//! Worked examples: attributes, by computation.
+//! Worked examples of attributes and of listed paths, by computation.
 
 ghost use Rattle.stack_model.specs.Examples.{ModeExamples, DeviceExamples, SizeExamples, LayerExamples};
 
