@@ -12,8 +12,8 @@ returns-in_default g c =
     let line : Line = record { number = c.row.inside.number; name = c.name.result.now } in
     let number_is : there.number ≡ c.row.inside.number = ap (λ (l : Line). l.number) (sym c.row.view_is) in
     let same : c.index-rows-index.result ≡ line =
-        c.index-rows-index.is
-        ∙ ap (λ n. let l : Line = record { number = n; name = there.name } in l) number_is
-        ∙ ap (λ n. let l : Line = record { number = c.row.inside.number; name = n } in l) (sym c.name.ensures) in
+    c.index-rows-index.is
+    ∙ ap (λ n. let l : Line = record { number = n; name = there.name } in l) number_is
+    ∙ ap (λ n. let l : Line = record { number = c.row.inside.number; name = n } in l) (sym c.name.ensures) in
     line_there own upper c.args.rows.now.children.now c.args.index c.index-rows-index.result (omega arith) c.requires c.index-rows-index.is
     ∙ ap (λ (l : Line). Some (c.args.index + 1, l)) same
