@@ -17,4 +17,5 @@ pub record IsLaid {T : Type 0} (f : T → T → T) (low high b : Shoot T) : Type
 -- the branches of a directory, laid on those of another one
 pub record AreLaid {T : Type 0} (f : T → T → T) (lows highs out : List (Shoot T)) : Type 0 where
   pub forest : IsForest out
-  pub at : (n : List ℕ) (path : List (List ℕ)) → at_path (spread out) (n ∷ path) ≡ laid_at f (at_path (spread lows) (n ∷ path)) (at_path (spread highs) (n ∷ path))
+  pub at : (n : List ℕ) (path : List (List ℕ)) → at_path (spread out) (n ∷ path)
+      ≡ laid_at f (at_path (spread lows) (n ∷ path)) (at_path (spread highs) (n ∷ path))

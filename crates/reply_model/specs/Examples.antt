@@ -166,7 +166,8 @@ pub record InitExamples : Type 0 where
   pub newer : over_empty Fresh (request 26 1 0 (init_in 7 39 2097152 0x73fffffb ++ zeros 48)) ≡ newer_init_reply
   pub agreed :
       replies (empty_image ∷ []) empty_entries Fresh
-      (request 26 1 0 (init_in 8 0 0 0) ∷ request 3 2 1 (zeros 16) ∷ request 26 3 0 (init_in 7 31 131072 0x6001) ∷ request 26 4 0 (init_in 7 31 131072 0x6001) ∷ [])
+      (request 26 1 0 (init_in 8 0 0 0) ∷ request 3 2 1 (zeros 16)
+      ∷ request 26 3 0 (init_in 7 31 131072 0x6001) ∷ request 26 4 0 (init_in 7 31 131072 0x6001) ∷ [])
       ≡ version_reply ++ refused 2 0xfffffffb ++ headed 3 80 ++ drop 16 init_reply ++ refused 4 0xfffffffb
   pub minor_22 : over_empty Fresh (request 26 1 0 (init_in 7 22 131072 0x1)) ≡ older_init_reply
   pub after_minor_22 :

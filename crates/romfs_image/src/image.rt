@@ -126,7 +126,8 @@ impl<A: Allocator> Image<A> {
     /// name has no end.
     pub fn head(&self, offset: u32) -> Option<Head>
         ensures value { MatchOption result (¬ IsPlace self.now offset) (λ head. IsPlace self.now offset × (head ≡ head_of self.now offset)) }
-        ensures given { (g : Head) → IsGiven self.now g → g.offset ≡ offset → (result ≡ Some g) ⊎ ((offset ≡ root_of self.now) × IsNone (name self.now offset)) }
+        ensures given { (g : Head) → IsGiven self.now g → g.offset ≡ offset →
+            (result ≡ Some g) ⊎ ((offset ≡ root_of self.now) × IsNone (name self.now offset)) }
     {
         place_at(&self.bytes, self.root, offset)
     }
