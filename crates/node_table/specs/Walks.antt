@@ -39,7 +39,8 @@ pub record IsLocated {T : Type 0} (rows : Rows T) (j : ℕ) (branch : Shoot T) (
 -- the spots are the branch and all below it, in the order of their rows
 pub record AreWalked {T : Type 0} (branch : Shoot T) (above : T) (spots : List (Spot T)) : Type 0 where
   pub level : length spots ≡ length (whole branch)
-  pub each : (rows : Rows T) (j : ℕ) → IsLocated rows j branch above → (k : ℕ) (spot : Spot T) → slice_get spots k ≡ Some spot → IsLocated rows (j + k) spot.0.now spot.1
+  pub each : (rows : Rows T) (j : ℕ) → IsLocated rows j branch above → (k : ℕ) (spot : Spot T)
+      → slice_get spots k ≡ Some spot → IsLocated rows (j + k) spot.0.now spot.1
 
 -- how many rows the branch has with all below it
 abbrev pub size_of : {T : Type 0} → Spot T → ℕ
