@@ -1,5 +1,5 @@
 -- Names whose keys differ have other bytes.
-use Rattle.std.proofs.Common.{◌≡◌, ◌≢◌, ◌∙◌, sym, ap, ℕ, ◌+◌, ◌<◌, inl, inr, List, [], ◌++◌, length, take, drop, arith, All}
+use Rattle.std.proofs.Common.{◌≡◌, ◌≢◌, ◌∙◌, sym, ap, ℕ, ◌<◌, inl, inr, List, [], ◌++◌, length, take, drop, arith, All}
 use Rattle.std.specs.Cmp.Lexicographic.{slice_cmp}
 use Rattle.std.specs.List.{slice_index_or}
 use Rattle.std.specs.List.Sorted.{IsNonDecreasingBy}
@@ -10,7 +10,6 @@ use Rattle.std.proofs.lemmas.List.{get_or-map, length-map, take-append-drop}
 use Rattle.name_keys.specs.Keys.{key}
 use Rattle.name_keys.specs.Runs.{IsRun}
 use Rattle.name_keys.specs.Keyed.{AreKeyed, Narrows, first_of}
-use Rattle.name_keys.proofs.Alike.{known}
 use Rattle.name_keys.proofs.Fronts.{long_each}
 use Rattle.name_keys.proofs.Order.{Bytes, bytes-drop, each_byte, key_order, cmp-front}
 
@@ -58,15 +57,3 @@ module _ (shared : ℕ) (keys : List ℕ) (names : List (List ℕ)) (is : AreKey
   -- a name that is shorter than what all share is none of these
   pub too_short : (name : List ℕ) → length name < shared → All (λ its. its ≢ name) names
   too_short name s k d l e = let m = long_each shared names is.front k d l in let n = ap length e in absurd (omega arith)
-
-  -- each begins as the first one does
-  pub first_alike : (k : ℕ) (d : List ℕ) → k < length names → take shared (slice_index_or names k d) ≡ take shared (slice_index_or names 0 d)
-  first_alike k d l = is.front.same k d l ∙ sym (is.front.same 0 d (omega arith))
-
-  -- of a name with this key the eight bytes after the front are known, where the lengths are the same
-  pub known_at : (name : List ℕ) (t high low : ℕ) → t ≡ key 8 (drop shared name) → Bytes name → low + 1 ≡ high → IsRun keys t low high →
-      length (slice_index_or names low []) ≡ length name → take 8 (drop shared (slice_index_or names low [])) ≡ take 8 (drop shared name)
-  known_at name t high low made b one run =
-      let n = length-keys in
-      let within = run.within_high in
-      known shared (slice_index_or names low []) name (is.bytes low [] (omega arith)) b (sym (key_at low [] 0 (omega arith)) ∙ run.same low 0 (omega arith) (omega arith) ∙ made)

@@ -18,8 +18,8 @@
 //! ```
 //!
 //! So a look-up searches among numbers that stand side by side, by halves and with no branch on what it compares, and
-//! reads one row. Where the name has bytes past its key, it is compared with the row's as a whole; else their lengths
-//! are, and the front with that of the first row. Where several names have one key, these are searched by whole names.
+//! reads one row, whose name is compared as a whole. Where several names have one key, these are searched by whole
+//! names.
 //!
 //! # What it costs
 //!

@@ -1,6 +1,6 @@
 //! The place of a name in one directory.
 
-ghost use Rattle.std.specs.Prelude.{◌≡◌, ◌≤◌, ◌↔◌, IsTrue, length, map, take, drop};
+ghost use Rattle.std.specs.Prelude.{◌≡◌, map};
 ghost use Rattle.name_keys.specs.Names.{Rise, place_of};
 ghost use Rattle.name_keys.specs.Keyed.{AreKeyed, Narrows};
 
@@ -27,31 +27,11 @@ pub fn find<T: Named>(rows: &[T], keys: &[u64], shared: usize, name: &[u8]) -> O
     if low + 1 != high {
         return find_by_name(rows, name, low, high);
     }
-    if is_name(rows[low].name(), rows[0].name(), shared, name) {
+    if rows[low].name() == name {
         Some(low)
     } else {
         None
     }
-}
-
-/// Whether a row has this name, where `first` begins as the row's name does, and the eight bytes after that front are
-/// the same if the lengths are.
-#[inline(always)]
-fn is_name(its: &[u8], first: &[u8], shared: usize, name: &[u8]) -> bool
-    requires long { shared ≤ length name.now }
-    requires front { shared ≤ length first.now }
-    requires alike { take shared its.now ≡ take shared first.now }
-    requires known { length its.now ≡ length name.now →
-        take 8 (drop shared its.now) ≡ take 8 (drop shared name.now) }
-    ensures { IsTrue result ↔ (its.now ≡ name.now) }
-{
-    if its.len() != name.len() {
-        return false;
-    }
-    if name.len() - shared > 8 {
-        return its == name;
-    }
-    first[..shared] == name[..shared]
 }
 
 /// The place of a name, by halves of the rows from `low` to `high`.
