@@ -14,13 +14,14 @@ use Rattle.romfs_format.specs.Heads.{head_of}
 use Rattle.romfs_image.specs.declared.parts.Part.{Part}
 use Rattle.romfs_image.specs.Readers.{IsDataPart}
 use Rattle.node_table.specs.declared.node.Node.{Node}
+use Rattle.node_table.specs.declared.directory.Directory.{Directory as Folder}
 use Rattle.layer_tree.specs.declared.place.Place.{Place}
 use Rattle.layer_tree.specs.declared.place.Entry.{Entry}
 use Rattle.name_keys.specs.Names.{Rise}
 use Rattle.name_keys.specs.Keyed.{AddsKeys}
 use Rattle.node_table.specs.Rows.{Line, names}
 use Rattle.node_table.specs.Walks.{Spot}
-use Rattle.node_table.specs.Building.{line_in, lines_in, directories, IsPosted, AreFollowing, AddsRows, IsReadFrom, AddsNode}
+use Rattle.node_table.specs.Building.{line_in, directories, IsPosted, AreFollowing, AddsRows, AddsLinked, AddsNothing, AddsByKind, IsReadFrom, AddsNode}
 use Rattle.node_table.proofs.Walking.{longer_front}
 
 pub not_directory : (k : Kind) → (k ≡ Directory → ⊥) → is_directory k ≡ false
@@ -113,17 +114,10 @@ names_rise tell (c ∷ cs) r zero (suc j) d l m = after cs r.0 j (omega arith)
 names_rise tell (c ∷ cs) r (suc i) zero d l m = absurd (omega arith)
 names_rise tell (c ∷ cs) r (suc i) (suc j) d l m = names_rise tell cs r.1 i j d (omega arith) (omega arith)
 
-pub lines_rise : (tell : Place → ℕ) (kind : Kind) (cs : List (Shoot Entry)) → NamesRise cs → Rise (names (lines_in tell kind cs))
-lines_rise tell kind cs r = go (is_directory kind)
-  where
-    go : (b : Bool) → Rise (names (cond b (map (line_in tell) cs) []))
-    go true = names_rise tell cs r
-    go false = λ i j d l m. absurd (omega arith)
-
 -- the node of a branch
-module _ (layers : List (List ℕ)) (tell : Place → ℕ) (spot : Spot Entry) (paths : ℕ) (old new : List Line) (keys keys' : List ℕ) (v : Entry) (is : v ≡ spot.0.now.value) (image : List ℕ) (index : image ≡ get_or layers v.place.layer image) (head : Head) (headed : head ≡ head_of image v.place.header) (part : Part) (lies : IsDataPart image head.offset part) (parent : ℕ) (parented : parent ≡ tell spot.1.place) (cs : List (Shoot Entry)) (below : spot.0.now.below ≡ spread cs) (forest : IsForest cs) (nlink start end shared : ℕ) (starts_at : start ≡ length old) (ends_at : end ≡ length new) (keyed : AddsKeys shared (names (lines_in tell v.kind cs)) keys keys') where
+module _ (layers : List (List ℕ)) (tell : Place → ℕ) (spot : Spot Entry) (paths : ℕ) (v : Entry) (is : v ≡ spot.0.now.value) (image : List ℕ) (index : image ≡ get_or layers v.place.layer image) (head : Head) (headed : head ≡ head_of image v.place.header) (part : Part) (lies : IsDataPart image head.offset part) (held held' : List Folder) (old new : List Line) (keys keys' : List ℕ) (nlink at : ℕ) (stands : at ≡ length held) where
   abbrev node : Node
-  node = record { kind = v.kind; place = v.place; exec = head.exec; part = part; mode = 0; nlink = nlink; rdev = head.spec; parent = parent; rows_start = start; rows_end = end; shared = shared }
+  node = record { kind = v.kind; place = v.place; exec = head.exec; part = part; mode = 0; nlink = nlink; rdev = head.spec; directory = at }
 
   read : IsReadFrom image v.place.header node
   read = record {
@@ -132,39 +126,22 @@ module _ (layers : List (List ℕ)) (tell : Place → ℕ) (spot : Spot Entry) (
     spec_is = ap (λ (x : Head). x.spec) headed;
   }
 
-  pub made : new ≡ old ++ lines_in tell v.kind cs → nlink ≡ cond (is_directory v.kind) (min (2 + directories cs) (2 ^ 32 - 1)) paths → AddsNode layers tell spot paths old new keys keys' node
-  made rows links = record {
+  pub made : AddsByKind tell spot paths (is_directory v.kind) nlink held held' old new keys keys' → AddsNode layers tell spot paths held held' old new keys keys' node
+  made adds = record {
     kind_is = ap (λ (e : Entry). e.kind) is;
     place_is = ap (λ (e : Entry). e.place) is;
     read = λ a at. subst (λ x. IsReadFrom x v.place.header node) (indexed layers v.place.layer a image at index) read;
-    parent_is = parented;
-    start_is = starts_at;
-    end_is = ends_at;
-    children = cs;
-    below = below;
-    forest = forest;
-    rows_are = rows;
-    keys_are = keyed;
-    nlink_is = links;
+    directory_is = stands;
+    adds = adds;
   }
 
--- the rows that a directory adds, and that any other branch does
-pub added_directory : (tell : Place → ℕ) (kind : Kind) (cs : List (Shoot Entry)) (old new : List Line) → kind ≡ Directory → new ≡ old ++ map (line_in tell) cs → new ≡ old ++ lines_in tell kind cs
-added_directory tell kind cs old new k rows = rw (ap is_directory k) rows
+-- what a directory adds, and what any other branch does
+module _ (tell : Place → ℕ) (spot : Spot Entry) (paths : ℕ) (kind : Kind) (nlink : ℕ) (held held' : List Folder) (old new : List Line) (keys keys' : List ℕ) where
+  pub added_directory : kind ≡ Directory → AddsLinked tell spot nlink held held' old new keys keys' → AddsByKind tell spot paths (is_directory kind) nlink held held' old new keys keys'
+  added_directory k a = rw (ap is_directory k) a
 
-pub added_other : (tell : Place → ℕ) (kind : Kind) (cs : List (Shoot Entry)) (old new : List Line) → (kind ≡ Directory → ⊥) → new ≡ old → new ≡ old ++ lines_in tell kind cs
-added_other tell kind cs old new k rows = rw (not_directory kind k) (rows ∙ sym (none old))
-  where
-    none : (xs : List Line) → xs ++ [] ≡ xs
-    none [] = refl
-    none (x ∷ xs) = ap (λ r. x ∷ r) (none xs)
-
--- and how often it is linked
-pub links_directory : (kind : Kind) (cs : List (Shoot Entry)) (paths nlink : ℕ) → kind ≡ Directory → nlink ≡ min (2 + directories cs) (2 ^ 32 - 1) → nlink ≡ cond (is_directory kind) (min (2 + directories cs) (2 ^ 32 - 1)) paths
-links_directory kind cs paths nlink k e = rw (ap is_directory k) e
-
-pub links_other : (kind : Kind) (cs : List (Shoot Entry)) (paths nlink : ℕ) → (kind ≡ Directory → ⊥) → nlink ≡ paths → nlink ≡ cond (is_directory kind) (min (2 + directories cs) (2 ^ 32 - 1)) paths
-links_other kind cs paths nlink k e = rw (not_directory kind k) e
+  pub added_other : (kind ≡ Directory → ⊥) → AddsNothing paths nlink held held' old new keys keys' → AddsByKind tell spot paths (is_directory kind) nlink held held' old new keys keys'
+  added_other k a = rw (not_directory kind k) a
 
 -- the rows from where the old ones end, as the code cuts them
 pub fresh_lines : (old new more seen : List Line) (start : ℕ) → new ≡ old ++ more → start ≡ length old → seen ≡ new → take (length seen - start) (drop start seen) ≡ more

@@ -7,26 +7,28 @@ use Rattle.romfs_format.specs.declared.head.Kind.TheVariants.{HardLink, Director
 use Rattle.romfs_format.specs.Fields.{kind, exec, size, spec}
 use Rattle.romfs_image.specs.Readers.{data_size}
 use Rattle.stack_model.specs.Listing.{Entry as Listed}
-use Rattle.stack_model.specs.Numbers.{Place as ModelPlace, Child, place, same_place, nodes, children}
+use Rattle.stack_model.specs.Numbers.{Place as ModelPlace, Child, place, same_place, nodes, number, parent, children}
 use Rattle.stack_model.specs.Attributes.{is_directory, is_directory_at, kind_at, mode_of, mode, size_of, size_at, rdev_of, rdev, nlink, blocks_all}
 use Rattle.layer_tree.specs.declared.place.Place.{Place}
 use Rattle.layer_tree.specs.declared.place.Entry.{Entry}
+use Rattle.path_tree.specs.Rows.{Shoot}
 use Rattle.node_table.specs.declared.node.Node.{Node}
+use Rattle.node_table.specs.declared.directory.Directory.{Directory as Folder}
 use Rattle.name_keys.specs.Keys.{key}
 use Rattle.name_keys.specs.Keyed.{AreKeyed}
 use Rattle.node_table.specs.Rows.{Line, names}
 use Rattle.node_table.specs.Readers.{placed, rows_of}
 use Rattle.node_table.specs.Walks.{Spot}
 use Rattle.node_table.specs.Numbering.{place_of}
-use Rattle.node_table.specs.Building.{line_in, lines_in, directories, IsReadFrom, AddsNode, completed}
+use Rattle.node_table.specs.Building.{line_in, directories, IsReadFrom, IsMade, AddsDirectory, AddsLinked, AddsNothing, AddsByKind, AddsNode, completed}
 use Rattle.node_table.specs.Seeds.{AreSeedlings, IsSeed, AreSeeds, AreMade}
-use Rattle.node_table.specs.Held.{IsNode, AreNodes, IsSomeTable}
+use Rattle.node_table.specs.Held.{IsDirectory, HasDirectory, IsNode, AreNodes, IsSomeTable}
 
 -- how far the making of nodes has come
-pub record Making (layers : List (List ℕ)) (entries : List Listed) (held : List Node) (rows : List Line) (keys : List ℕ) (i : ℕ) : Type 0 where
+pub record Making (layers : List (List ℕ)) (entries : List Listed) (held : List Node) (folders : List Folder) (rows : List Line) (keys : List ℕ) (i : ℕ) : Type 0 where
   pub level : length held ≡ i
   pub keys_level : length keys ≡ length rows
-  pub each : (k : ℕ) (node : Node) (p : ModelPlace) → slice_get held k ≡ Some node → slice_get (nodes entries) k ≡ Some p → IsNode layers entries rows keys (completed node) p
+  pub each : (k : ℕ) (node : Node) (p : ModelPlace) → slice_get held k ≡ Some node → slice_get (nodes entries) k ≡ Some p → IsNode layers entries folders rows keys (completed node) p
 
 get_map : {X Y : Type 0} (f : X → Y) (xs : List X) (k : ℕ) (x : X) → slice_get xs k ≡ Some x → slice_get (map f xs) k ≡ Some (f x)
 get_map f [] k x e = absurd (cc)
@@ -106,26 +108,78 @@ layer_is [] k image e = absurd (cc)
 layer_is (x ∷ layers) zero image e = cc
 layer_is (x ∷ layers) (suc k) image e = layer_is layers k image e
 
-grown : (layers : List (List ℕ)) (entries : List Listed) (rows more : List Line) (keys more_keys : List ℕ) (node : Node) (p : ModelPlace) → length keys ≡ length rows → IsNode layers entries rows keys node p → IsNode layers entries (rows ++ more) (keys ++ more_keys) node p
-grown layers entries rows more keys more_keys node p level n =
-    let r = range_stays rows more node.rows_start node.rows_end n.start n.end in
-    let k = range_stays keys more_keys node.rows_start node.rows_end n.start (let e = n.end in omega arith) in
+get_front : {X : Type 0} (xs ys : List X) (k : ℕ) (x : X) → slice_get xs k ≡ Some x → slice_get (xs ++ ys) k ≡ Some x
+get_front [] ys k x e = absurd (cc)
+get_front (z ∷ xs) ys zero x e = e
+get_front (z ∷ xs) ys (suc k) x e = get_front xs ys k x e
+
+get_new : {X : Type 0} (xs : List X) (y : X) → slice_get (xs ++ y ∷ []) (length xs) ≡ Some y
+get_new [] y = refl
+get_new (x ∷ xs) y = get_new xs y
+
+grown_directory : (layers : List (List ℕ)) (entries : List Listed) (rows more : List Line) (keys more_keys : List ℕ) (d : Folder) (p : ModelPlace) → length keys ≡ length rows → IsDirectory layers entries rows keys d p → IsDirectory layers entries (rows ++ more) (keys ++ more_keys) d p
+grown_directory layers entries rows more keys more_keys d p level n =
+    let r = range_stays rows more d.rows_start d.rows_end n.start n.end in
+    let k = range_stays keys more_keys d.rows_start d.rows_end n.start (let e = n.end in omega arith) in
     record {
-      place = n.place;
-      holds = n.holds;
-      kind = n.kind;
-      size = n.size;
-      mode_is = n.mode_is;
-      nlink_is = n.nlink_is;
-      rdev_is = n.rdev_is;
       parent_is = n.parent_is;
       start = n.start;
       end = (let e = n.end in omega (arith, length-append rows more));
       rows_are = r ∙ n.rows_are;
-      keyed = keyed_by node.shared _ _ _ _ (sym k) (sym r) n.keyed;
+      keyed = keyed_by d.shared _ _ _ _ (sym k) (sym r) n.keyed;
     }
 
-module _ (layers : List (List ℕ)) (entries : List Listed) (tell : Place → ℕ) (paths : ℕ) (spot : Spot Entry) (seed : IsSeed layers entries tell paths spot) (old new : List Line) (keys keys' : List ℕ) (level : length keys ≡ length old) (node : Node) (a : AddsNode layers tell spot paths old new keys keys' node) where
+grown : (layers : List (List ℕ)) (entries : List Listed) (folders : List Folder) (d : Folder) (rows more : List Line) (keys more_keys : List ℕ) (node : Node) (p : ModelPlace) → length keys ≡ length rows → IsNode layers entries folders rows keys node p → IsNode layers entries (folders ++ d ∷ []) (rows ++ more) (keys ++ more_keys) node p
+grown layers entries folders d rows more keys more_keys node p level n = record {
+  place = n.place;
+  holds = n.holds;
+  kind = n.kind;
+  size = n.size;
+  mode_is = n.mode_is;
+  nlink_is = n.nlink_is;
+  rdev_is = n.rdev_is;
+  directory_is = λ e. let h = n.directory_is e in record {
+    directory = h.directory;
+    is = get_front folders (d ∷ []) node.directory h.directory h.is;
+    holds = grown_directory layers entries rows more keys more_keys h.directory p level h.holds;
+  };
+}
+
+-- a directory that was added last is the place's
+module _ (layers : List (List ℕ)) (entries : List Listed) (tell : Place → ℕ) (spot : Spot Entry) (old new : List Line) (keys keys' : List ℕ) (level : length keys ≡ length old) (cs : List (Shoot Entry)) (d : Folder) (m : IsMade tell spot cs old new keys keys' d) where
+  -- a key was added for each row
+  pub level_made : length keys' ≡ length new
+  level_made =
+      let lines = map (line_in tell) cs in
+      let k = ap length m.keys_are.is in
+      let f = ap length m.keys_are.keyed.made in
+      let n = length_map (λ (name : List ℕ). key 8 (drop d.shared name)) (names lines) in
+      let o = length_map (λ (line : Line). line.name) lines in
+      let r = ap length m.rows_are in
+      omega (arith, length-append keys m.keys_are.keys, length-append old lines)
+
+  range_is : slice_range new d.rows_start d.rows_end ≡ map (line_in tell) cs
+  range_is =
+      ap (λ n. slice_range new n d.rows_end) m.start_is ∙ ap (slice_range new (length old)) m.end_is
+      ∙ ap (λ xs. slice_range xs (length old) (length xs)) m.rows_are
+      ∙ range_last old (map (line_in tell) cs)
+
+  keys_range_is : slice_range keys' d.rows_start d.rows_end ≡ m.keys_are.keys
+  keys_range_is =
+      ap (λ n. slice_range keys' n d.rows_end) (m.start_is ∙ sym level) ∙ ap (slice_range keys' (length keys)) (m.end_is ∙ sym level_made)
+      ∙ ap (λ xs. slice_range xs (length keys) (length xs)) m.keys_are.is
+      ∙ range_last keys m.keys_are.keys
+
+  pub is_made : (p : ModelPlace) → is_directory_at layers p ≡ true → tell spot.1.place ≡ number entries (parent entries p) → AreSeedlings layers entries tell p cs → IsDirectory layers entries new keys' d p
+  is_made p e above below = record {
+    parent_is = m.parent_is ∙ above;
+    start = (let s = m.start_is in let e = m.end_is in let r = ap length m.rows_are in omega (arith, length-append old (map (line_in tell) cs)));
+    end = (let e = m.end_is in omega arith);
+    rows_are = range_is ∙ below.rows_are ∙ sym (rw e refl);
+    keyed = keyed_by d.shared _ _ _ _ (sym keys_range_is) (sym range_is) m.keys_are.keyed;
+  }
+
+module _ (layers : List (List ℕ)) (entries : List Listed) (tell : Place → ℕ) (paths : ℕ) (spot : Spot Entry) (seed : IsSeed layers entries tell paths spot) (folders folders' : List Folder) (old new : List Line) (keys keys' : List ℕ) (level : length keys ≡ length old) (node : Node) (a : AddsNode layers tell spot paths folders folders' old new keys keys' node) where
   p : ModelPlace
   p = place_of spot
 
@@ -159,43 +213,57 @@ module _ (layers : List (List ℕ)) (entries : List Listed) (tell : Place → �
   rdev_is : rdev_of node.kind node.rdev ≡ rdev layers (place_of spot)
   rdev_is = ap (λ k. rdev_of k node.rdev) kind_is ∙ ap (rdev_of (kind_at layers (place_of spot))) read.spec_is ∙ ap (λ x. rdev_of (kind_at layers (place_of spot)) (spec x spot.0.now.value.place.header)) (sym layer)
 
-  below : AreSeedlings layers entries tell (place_of spot) a.children
-  below = seed.below a.children a.below a.forest
+  -- what a directory adds
+  module _ (d : is_directory_at layers (place_of spot) ≡ true) (l : AddsLinked tell spot node.nlink folders folders' old new keys keys') where
+    below : AreSeedlings layers entries tell (place_of spot) l.added.children
+    below = seed.below l.added.children l.added.below l.added.forest
 
-  nlink_is : node.nlink ≡ nlink layers entries (place_of spot)
-  nlink_is = a.nlink_is ∙ ap (λ b. cond b (min (2 + directories a.children) (2 ^ 32 - 1)) paths) directory_is ∙ go (is_directory_at layers (place_of spot)) refl
-    where
-      go : (b : Bool) → is_directory_at layers (place_of spot) ≡ b → cond b (min (2 + directories a.children) (2 ^ 32 - 1)) paths ≡ nlink layers entries (place_of spot)
-      go true e = ap (λ n. min (2 + n) (2 ^ 32 - 1)) below.count_is ∙ sym (ap (λ b. min (cond b (2 + count_by (λ (c : Child). is_directory_at layers c.place) (children entries (place_of spot))) (count_by (λ (f : Listed). same_place (place_of spot) (place f)) entries)) (2 ^ 32 - 1)) e)
-      go false e = seed.paths_are e
+    nlink_directory : node.nlink ≡ nlink layers entries (place_of spot)
+    nlink_directory =
+        l.nlink_is ∙ ap (λ n. min (2 + n) (2 ^ 32 - 1)) (l.added.count_is ∙ below.count_is)
+        ∙ sym (ap (λ b. min (cond b (2 + count_by (λ (c : Child). is_directory_at layers c.place) (children entries (place_of spot))) (count_by (λ (f : Listed). same_place (place_of spot) (place f)) entries)) (2 ^ 32 - 1)) d)
 
-  range_is : slice_range new node.rows_start node.rows_end ≡ lines_in tell node.kind a.children
-  range_is =
-      ap (λ n. slice_range new n node.rows_end) a.start_is ∙ ap (slice_range new (length old)) a.end_is
-      ∙ ap (λ xs. slice_range xs (length old) (length xs)) a.rows_are
-      ∙ range_last old (lines_in tell node.kind a.children)
+    has_directory : HasDirectory layers entries folders' new keys' (completed node) (place_of spot)
+    has_directory = record {
+      directory = l.added.directory;
+      is = ap (λ (x : List Folder). slice_get x node.directory) l.added.is ∙ ap (slice_get (folders ++ l.added.directory ∷ [])) a.directory_is ∙ get_new folders l.added.directory;
+      holds = is_made layers entries tell spot old new keys keys' level l.added.children l.added.directory l.added.made (place_of spot) d seed.parent_is below;
+    }
 
-  -- a key was added for each row
+  -- how often it is linked, and its directory
+  held_by : (b : Bool) → is_directory_at layers (place_of spot) ≡ b → AddsByKind tell spot paths b node.nlink folders folders' old new keys keys' →
+      (node.nlink ≡ nlink layers entries (place_of spot)) × (is_directory_at layers (place_of spot) ≡ true → HasDirectory layers entries folders' new keys' (completed node) (place_of spot))
+  held_by true e l = (nlink_directory e l, λ d. has_directory e l)
+  held_by false e n = (n.nlink_is ∙ seed.paths_are e, λ d. absurd (let f : true ≡ false = sym d ∙ e in cc))
+
+  holds_both : (node.nlink ≡ nlink layers entries (place_of spot)) × (is_directory_at layers (place_of spot) ≡ true → HasDirectory layers entries folders' new keys' (completed node) (place_of spot))
+  holds_both = held_by (is_directory_at layers (place_of spot)) refl (subst (λ b. AddsByKind tell spot paths b node.nlink folders folders' old new keys keys') directory_is a.adds)
+
+  level_by : (b : Bool) → AddsByKind tell spot paths b node.nlink folders folders' old new keys keys' → length keys' ≡ length new
+  level_by true l = level_made layers entries tell spot old new keys keys' level l.added.children l.added.directory l.added.made
+  level_by false n = ap length n.keys_are ∙ level ∙ sym (ap length n.rows_are)
+
+  -- there is a key for each row
   pub level_still : length keys' ≡ length new
-  level_still =
-      let lines = lines_in tell node.kind a.children in
-      let k = ap length a.keys_are.is in
-      let m = ap length a.keys_are.keyed.made in
-      let n = length_map (λ (name : List ℕ). key 8 (drop node.shared name)) (names lines) in
-      let o = length_map (λ (line : Line). line.name) lines in
-      let r = ap length a.rows_are in
-      omega (arith, length-append keys a.keys_are.keys, length-append old lines)
+  level_still = level_by (is_directory node.kind) a.adds
 
-  keys_range_is : slice_range keys' node.rows_start node.rows_end ≡ a.keys_are.keys
-  keys_range_is =
-      ap (λ n. slice_range keys' n node.rows_end) (a.start_is ∙ sym level) ∙ ap (slice_range keys' (length keys)) (a.end_is ∙ sym level_still)
-      ∙ ap (λ xs. slice_range xs (length keys) (length xs)) a.keys_are.is
-      ∙ range_last keys a.keys_are.keys
+  grown_by : (b : Bool) → AddsByKind tell spot paths b node.nlink folders folders' old new keys keys' → (n : Node) (q : ModelPlace) → IsNode layers entries folders old keys n q → IsNode layers entries folders' new keys' n q
+  grown_by true l n q i =
+      let m = l.added.made in
+      subst (λ (x : List Folder). IsNode layers entries x new keys' n q) (sym l.added.is)
+      (subst (λ (x : List Line). IsNode layers entries (folders ++ l.added.directory ∷ []) x keys' n q) (sym m.rows_are)
+      (subst (λ (x : List ℕ). IsNode layers entries (folders ++ l.added.directory ∷ []) (old ++ map (line_in tell) l.added.children) x n q) (sym m.keys_are.is)
+      (grown layers entries folders l.added.directory old (map (line_in tell) l.added.children) keys m.keys_are.keys n q level i)))
+  grown_by false o n q i =
+      subst (λ (x : List Folder). IsNode layers entries x new keys' n q) (sym o.held_are)
+      (subst (λ (x : List Line). IsNode layers entries folders x keys' n q) (sym o.rows_are)
+      (subst (λ (x : List ℕ). IsNode layers entries folders old x n q) (sym o.keys_are) i))
 
-  rows_are : lines_in tell node.kind a.children ≡ rows_of layers entries (place_of spot)
-  rows_are = ap (λ b. cond b (map (line_in tell) a.children) []) directory_is ∙ ap (λ r. cond (is_directory_at layers (place_of spot)) r []) below.rows_are
+  -- nodes that stand stay what they are
+  pub stays : (n : Node) (q : ModelPlace) → IsNode layers entries folders old keys n q → IsNode layers entries folders' new keys' n q
+  stays = grown_by (is_directory node.kind) a.adds
 
-  pub is_node : IsNode layers entries new keys' (completed node) (place_of spot)
+  pub is_node : IsNode layers entries folders' new keys' (completed node) (place_of spot)
   is_node = record {
     place = ap placed a.place_is;
     holds = record {
@@ -207,45 +275,38 @@ module _ (layers : List (List ℕ)) (entries : List Listed) (tell : Place → �
     kind = kind_is;
     size = size_is;
     mode_is = mode_is;
-    nlink_is = nlink_is;
+    nlink_is = holds_both.0;
     rdev_is = rdev_is;
-    parent_is = λ d. a.parent_is ∙ seed.parent_is;
-    start = (let s = a.start_is in let e = a.end_is in let r = ap length a.rows_are in omega (arith, length-append old (lines_in tell node.kind a.children)));
-    end = (let e = a.end_is in omega arith);
-    rows_are = range_is ∙ rows_are;
-    keyed = keyed_by node.shared _ _ _ _ (sym keys_range_is) (sym range_is) a.keys_are.keyed;
+    directory_is = λ d. holds_both.1 (sym directory_is ∙ d);
   }
 
-pub begins : (layers : List (List ℕ)) (entries : List Listed) (held : List Node) (rows : List Line) (keys : List ℕ) → held ≡ [] → rows ≡ [] → keys ≡ [] → Making layers entries held rows keys 0
-begins layers entries held rows keys e r k = record { level = ap length e; keys_level = ap length k ∙ sym (ap length r); each = λ k node p f g. absurd (let h = rw e at f in cc) }
+pub begins : (layers : List (List ℕ)) (entries : List Listed) (held : List Node) (folders : List Folder) (rows : List Line) (keys : List ℕ) → held ≡ [] → rows ≡ [] → keys ≡ [] → Making layers entries held folders rows keys 0
+begins layers entries held folders rows keys e r k = record { level = ap length e; keys_level = ap length k ∙ sym (ap length r); each = λ k node p f g. absurd (let h = rw e at f in cc) }
 
-pub goes_on : (layers : List (List ℕ)) (entries : List Listed) (tell : Place → ℕ) (first : List (Spot Entry)) (paths : List ℕ) (s : AreSeeds layers entries tell first paths) (held held' : List Node) (rows rows' : List Line) (keys keys' : List ℕ) (i : ℕ) (spot : Spot Entry) → i < length first → spot ≡ get_or first i spot → Making layers entries held rows keys i → (node : Node) → AddsNode layers tell spot (slice_index paths i) rows rows' keys keys' node → held' ≡ held ++ node ∷ [] → Making layers entries held' rows' keys' (i + 1)
-goes_on layers entries tell first paths s held held' rows rows' keys keys' i spot lt at m node a push =
+pub goes_on : (layers : List (List ℕ)) (entries : List Listed) (tell : Place → ℕ) (first : List (Spot Entry)) (paths : List ℕ) (s : AreSeeds layers entries tell first paths) (held held' : List Node) (folders folders' : List Folder) (rows rows' : List Line) (keys keys' : List ℕ) (i : ℕ) (spot : Spot Entry) → i < length first → spot ≡ get_or first i spot → Making layers entries held folders rows keys i → (node : Node) → AddsNode layers tell spot (slice_index paths i) folders folders' rows rows' keys keys' node → held' ≡ held ++ node ∷ [] → Making layers entries held' folders' rows' keys' (i + 1)
+goes_on layers entries tell first paths s held held' folders folders' rows rows' keys keys' i spot lt at m node a push =
     let h = get_there first i spot lt at in
     record {
       level = (let l = ap length push in let v = m.level in omega (arith, length-append held (node ∷ [])));
-      keys_level = level_still layers entries tell (slice_index paths i) spot (s.each i spot h) rows rows' keys keys' m.keys_level node a;
+      keys_level = level_still layers entries tell (slice_index paths i) spot (s.each i spot h) folders folders' rows rows' keys keys' m.keys_level node a;
       each = λ k n p e f. elim (get_last held node k n (subst (λ x. slice_get x k ≡ Some n) push e)) [
-        | inl g ↦
-            subst (λ (r : List Line). IsNode layers entries r keys' (completed n) p) (sym a.rows_are)
-            (subst (λ (x : List ℕ). IsNode layers entries (rows ++ lines_in tell node.kind a.children) x (completed n) p) (sym a.keys_are.is)
-            (grown layers entries rows (lines_in tell node.kind a.children) keys a.keys_are.keys (completed n) p m.keys_level (m.each k n p g f)))
+        | inl g ↦ stays layers entries tell (slice_index paths i) spot (s.each i spot h) folders folders' rows rows' keys keys' m.keys_level node a (completed n) p (m.each k n p g f)
         | inr (j, g) ↦
             let k_is : k ≡ i = j ∙ m.level in
             let z : Some p ≡ Some (place_of spot) = sym f ∙ ap (slice_get (nodes entries)) k_is ∙ subst (λ ps. slice_get ps i ≡ Some (place_of spot)) s.places (get_map place_of first i spot h) in
             let p_is : place_of spot ≡ p = cc in
-            subst (λ (x : Node). IsNode layers entries rows' keys' (completed x) p) g (subst (IsNode layers entries rows' keys' (completed node)) p_is (is_node layers entries tell (slice_index paths i) spot (s.each i spot h) rows rows' keys keys' m.keys_level node a))
+            subst (λ (x : Node). IsNode layers entries folders' rows' keys' (completed x) p) g (subst (IsNode layers entries folders' rows' keys' (completed node)) p_is (is_node layers entries tell (slice_index paths i) spot (s.each i spot h) folders folders' rows rows' keys keys' m.keys_level node a))
       ];
     }
 
-pub ends : (layers : List (List ℕ)) (entries : List Listed) (tell : Place → ℕ) (first : List (Spot Entry)) (paths : List ℕ) (s : AreSeeds layers entries tell first paths) (held : List Node) (rows : List Line) (keys : List ℕ) (i : ℕ) → i ≡ length first → Making layers entries held rows keys i → AreMade layers held rows keys
-ends layers entries tell first paths s held rows keys i e m = (
+pub ends : (layers : List (List ℕ)) (entries : List Listed) (tell : Place → ℕ) (first : List (Spot Entry)) (paths : List ℕ) (s : AreSeeds layers entries tell first paths) (held : List Node) (folders : List Folder) (rows : List Line) (keys : List ℕ) (i : ℕ) → i ≡ length first → Making layers entries held folders rows keys i → AreMade layers held folders rows keys
+ends layers entries tell first paths s held folders rows keys i e m = (
   entries,
   s.listing,
   record {
     level = length_map completed held ∙ m.level ∙ e ∙ sym (length_map place_of first) ∙ ap length s.places;
     keys_level = m.keys_level;
-    each = λ k node p f g. let x = get_of_map completed held k node f in subst (λ (n : Node). IsNode layers entries rows keys n p) x.2 (m.each k x.0 p x.1 g);
+    each = λ k node p f g. let x = get_of_map completed held k node f in subst (λ (n : Node). IsNode layers entries folders rows keys n p) x.2 (m.each k x.0 p x.1 g);
   },
 )
 
@@ -257,12 +318,12 @@ front_whole xs tail n e = ap (λ k. take k (xs ++ tail)) e ∙ go xs tail
     go [] tail = nothing tail
     go (x ∷ xs) tail = ap (λ r. x ∷ r) (go xs tail)
 
-pub table_made : (layers : List (List ℕ)) (held new tail : List Node) (rows : List Line) (keys : List ℕ) (n blocks : ℕ) → AreMade layers held rows keys → new ≡ map completed held → n ≡ length new → blocks ≡ blocks_all layers → IsSomeTable layers (take n (new ++ tail)) rows keys blocks
-table_made layers held new tail rows keys n blocks (entries, listing, are) e l b = (
+pub table_made : (layers : List (List ℕ)) (held new tail : List Node) (folders : List Folder) (rows : List Line) (keys : List ℕ) (n blocks : ℕ) → AreMade layers held folders rows keys → new ≡ map completed held → n ≡ length new → blocks ≡ blocks_all layers → IsSomeTable layers (take n (new ++ tail)) folders rows keys blocks
+table_made layers held new tail folders rows keys n blocks (entries, listing, are) e l b = (
   entries,
   record {
     listing = listing;
-    are = subst (λ x. AreNodes layers entries x rows keys) (sym (front_whole new tail n l ∙ e)) are;
+    are = subst (λ x. AreNodes layers entries x folders rows keys) (sym (front_whole new tail n l ∙ e)) are;
     blocks_are = b;
   },
 )

@@ -1,20 +1,19 @@
 -- What a table's parts say of the node with a number.
-use Rattle.std.proofs.Common.{◌≡◌, ◌∙◌, sym, ap, ℕ, zero, suc, ◌<◌, ◌≤◌, List, [], ◌∷◌, length, map, Bool, true, false, Option, Some, None, Bor, MatchOption, cond, refl, arith}
+use Rattle.std.proofs.Common.{◌≡◌, ◌∙◌, sym, ap, subst, ℕ, zero, suc, ◌<◌, ◌≤◌, List, [], ◌∷◌, length, map, Bool, true, false, Option, Some, None, Bor, MatchOption, cond, refl, arith}
 use Rattle.std.specs.Prelude.{slice_get, slice_range, find, unwrap_or}
 use Rattle.std.specs.List.{slice_index_or}
-use Rattle.std.specs.Option.{option_map}
-use Rattle.romfs_format.specs.declared.head.Kind.{Kind}
-use Rattle.romfs_format.specs.declared.head.Kind.TheVariants.{HardLink, Directory, Regular, SymLink, Block, Character, Socket, Fifo}
+use Rattle.std.specs.Option.{option_map, option_map_or, option_and_then}
 use Rattle.romfs_image.specs.Readers.{bytes_at, IsPart}
 use Rattle.stack_model.specs.Listing.{Entry}
 use Rattle.stack_model.specs.Numbers.{Place, Child, nodes, node_of, number_of, number, same_name, parent, children, child}
 use Rattle.stack_model.specs.Attributes.{is_directory, is_directory_at, kind_at}
 use Rattle.stack_model.proofs.Numbering.{number_used}
 use Rattle.node_table.specs.declared.node.Node.{Node}
+use Rattle.node_table.specs.declared.directory.Directory.{Directory}
 use Rattle.node_table.specs.Stacked.{Stacked}
 use Rattle.node_table.specs.Rows.{Line, number_named}
 use Rattle.node_table.specs.Readers.{TellsNode, attr_of, attr_at, parent_of, parent_at, child_of, child_at, rows_of, rows_at, data_at}
-use Rattle.node_table.specs.Held.{held_at, attr_held, IsNode, IsTable}
+use Rattle.node_table.specs.Held.{held_at, kept_of, directory_held, attr_held, IsDirectory, IsNode, IsTable}
 
 -- an element that is there stands below the length
 below : {X : Type 0} (xs : List X) (k : ℕ) (x : X) → slice_get xs k ≡ Some x → k < length xs
@@ -54,7 +53,7 @@ named_child : (f : Place → ℕ) (name : List ℕ) (cs : List Child) → IsName
 named_child f name [] = refl
 named_child f name (c ∷ cs) = step f name c cs (same_name name c.name) refl (named_child f name cs)
 
-module _ (layers : List (List ℕ)) (entries : List Entry) (held : List Node) (rows : List Line) (keys : List ℕ) (blocks : ℕ) (t : IsTable layers entries held rows keys blocks) where
+module _ (layers : List (List ℕ)) (entries : List Entry) (held : List Node) (directories : List Directory) (rows : List Line) (keys : List ℕ) (blocks : ℕ) (t : IsTable layers entries held directories rows keys blocks) where
   abbrev stack : Stacked
   stack = record { layers = layers; entries = entries }
 
@@ -62,7 +61,7 @@ module _ (layers : List (List ℕ)) (entries : List Entry) (held : List Node) (r
   pub record IsHere (n : ℕ) (node : Node) : Type 0 where
     pub at : Place
     pub is : node_of entries n ≡ Some at
-    pub holds : IsNode layers entries rows keys node at
+    pub holds : IsNode layers entries directories rows keys node at
 
   pub here : (n : ℕ) (node : Node) → held_at held n ≡ Some node → IsHere n node
   here zero node e = absurd (cc)
@@ -91,7 +90,7 @@ module _ (layers : List (List ℕ)) (entries : List Entry) (held : List Node) (r
       let h = here n node.now e in
       record { place_is = h.is ∙ ap Some (sym h.holds.place); kind_is = h.holds.kind ∙ ap (kind_at layers) (sym h.holds.place) }
 
-  attr_same : (n : ℕ) (node : Node) (p : Place) → IsNode layers entries rows keys node p → number entries p ≡ n → attr_held n node ≡ attr_of layers entries p
+  attr_same : (n : ℕ) (node : Node) (p : Place) → IsNode layers entries directories rows keys node p → number entries p ≡ n → attr_held n node ≡ attr_of layers entries p
   attr_same n node p h i =
       let size = h.size in
       let mode_is = h.mode_is in
@@ -107,15 +106,51 @@ module _ (layers : List (List ℕ)) (entries : List Entry) (held : List Node) (r
   pub attr_none : (n : ℕ) → held_at held n ≡ None → None ≡ attr_at stack n
   attr_none n e = rw (nowhere n e) refl
 
-  pub rows_are : (n : ℕ) (node : Node) → held_at held n ≡ Some node → slice_range rows node.rows_start node.rows_end ≡ rows_at stack n
-  rows_are n node e = let h = here n node e in rw h.is h.holds.rows_are
+  -- a directory that is held is of a number in use, whose place is a directory
+  pub record IsFound (n : ℕ) (directory : Directory) : Type 0 where
+    pub at : Place
+    pub is : node_of entries n ≡ Some at
+    pub kind : is_directory_at layers at ≡ true
+    pub holds : IsDirectory layers entries rows keys directory at
+
+  found_at : (n : ℕ) (node : Node) (directory : Directory) (h : IsHere n node) (b : Bool) → is_directory node.kind ≡ b → cond b (slice_get directories node.directory) None ≡ Some directory → IsFound n directory
+  found_at n node directory h false e k = absurd (cc)
+  found_at n node directory h true e k =
+      let d = h.holds.directory_is e in
+      let same : Some d.directory ≡ Some directory = sym d.is ∙ k in
+      let is : d.directory ≡ directory = cc in
+      record {
+        at = h.at;
+        is = h.is;
+        kind = ap is_directory (sym h.holds.kind) ∙ e;
+        holds = subst (λ (x : Directory). IsDirectory layers entries rows keys x h.at) is d.holds;
+      }
+
+  pub found : (n : ℕ) (directory : Directory) → directory_held held directories n ≡ Some directory → IsFound n directory
+  found n directory e = go (held_at held n) refl e
+    where
+      go : (o : Option Node) → held_at held n ≡ o → option_and_then (kept_of directories) o ≡ Some directory → IsFound n directory
+      go None f k = absurd (cc)
+      go (Some node) f k = found_at n node directory (here n node f) (is_directory node.kind) refl k
+
+  -- a number of which no directory is held is not in use, or its place is none
+  not_held : (n : ℕ) (node : Node) (h : IsHere n node) (b : Bool) → is_directory node.kind ≡ b → cond b (slice_get directories node.directory) None ≡ None → option_map_or (is_directory_at layers) (Some h.at) false ≡ false
+  not_held n node h true e k = absurd (let d = h.holds.directory_is e in let z : Some d.directory ≡ None = sym d.is ∙ k in cc)
+  not_held n node h false e k = ap is_directory (sym h.holds.kind) ∙ e
+
+  pub not_found : (n : ℕ) → directory_held held directories n ≡ None → option_map_or (is_directory_at layers) (node_of entries n) false ≡ false
+  not_found n e = go (held_at held n) refl e
+    where
+      go : (o : Option Node) → held_at held n ≡ o → option_and_then (kept_of directories) o ≡ None → option_map_or (is_directory_at layers) (node_of entries n) false ≡ false
+      go None f k = ap (λ o. option_map_or (is_directory_at layers) o false) (nowhere n f)
+      go (Some node) f k = let h = here n node f in ap (λ o. option_map_or (is_directory_at layers) o false) h.is ∙ not_held n node h (is_directory node.kind) refl k
+
+  pub rows_are : (n : ℕ) (d : Directory) → directory_held held directories n ≡ Some d → slice_range rows d.rows_start d.rows_end ≡ rows_at stack n
+  rows_are n d e = let h = found n d e in rw h.is h.holds.rows_are
 
   -- the keys of its rows are there
-  pub keys_end : (n : ℕ) (node : Node) → held_at held n ≡ Some node → node.rows_end ≤ length keys
-  keys_end n node e = let level = t.are.keys_level in let end = (here n node e).holds.end in omega arith
-
-  pub rows_none : (n : ℕ) → held_at held n ≡ None → [] ≡ rows_at stack n
-  rows_none n e = rw (nowhere n e) refl
+  pub keys_end : (n : ℕ) (d : Directory) → directory_held held directories n ≡ Some d → d.rows_end ≤ length keys
+  keys_end n d e = let level = t.are.keys_level in let end = (found n d e).holds.end in omega arith
 
   named_of : (p : Place) (name : List ℕ) → number_named name (rows_of layers entries p) ≡ child_of layers entries p name
   named_of p name = go (is_directory_at layers p)
@@ -124,43 +159,33 @@ module _ (layers : List (List ℕ)) (entries : List Entry) (held : List Node) (r
       go true = named_child (number entries) name (children entries p)
       go false = refl
 
-  pub child_is : (n : ℕ) (node : Node) (name : List ℕ) → held_at held n ≡ Some node → number_named name (slice_range rows node.rows_start node.rows_end) ≡ child_at stack n name
-  child_is n node name e = let h = here n node e in rw (h.is, h.holds.rows_are) (named_of h.at name)
+  pub child_is : (n : ℕ) (d : Directory) (name : List ℕ) → directory_held held directories n ≡ Some d → number_named name (slice_range rows d.rows_start d.rows_end) ≡ child_at stack n name
+  child_is n d name e = let h = found n d e in rw (h.is, h.holds.rows_are) (named_of h.at name)
 
-  pub child_none : (n : ℕ) (name : List ℕ) → held_at held n ≡ None → None ≡ child_at stack n name
-  child_none n name e = rw (nowhere n e) refl
+  pub parent_is : (n : ℕ) (d : Directory) → directory_held held directories n ≡ Some d → Some d.parent ≡ parent_at stack n
+  parent_is n d e = let h = found n d e in rw (h.is, h.kind) (ap Some h.holds.parent_is)
 
-  not_directory : (k : Kind) → (k ≡ Directory → ⊥) → is_directory k ≡ false
-  not_directory Directory f = absurd (f refl)
-  not_directory HardLink f = refl
-  not_directory Regular f = refl
-  not_directory SymLink f = refl
-  not_directory Block f = refl
-  not_directory Character f = refl
-  not_directory Socket f = refl
-  not_directory Fifo f = refl
+  -- what is no directory has no rows, no child and no parent
+  pub rows_none : (n : ℕ) → directory_held held directories n ≡ None → [] ≡ rows_at stack n
+  rows_none n e = go (node_of entries n) (not_found n e)
+    where
+      go : (o : Option Place) → option_map_or (is_directory_at layers) o false ≡ false → [] ≡ option_map_or (rows_of layers entries) o []
+      go None f = refl
+      go (Some p) f = rw f refl
 
-  -- the parent of a place that is a directory, or is not
-  parent_go : (p : Place) (b : Bool) → is_directory_at layers p ≡ b → parent_of layers entries p ≡ cond b (Some (number entries (parent entries p))) None
-  parent_go p b e = rw e refl
+  pub child_none : (n : ℕ) (name : List ℕ) → directory_held held directories n ≡ None → None ≡ child_at stack n name
+  child_none n name e = go (node_of entries n) (not_found n e)
+    where
+      go : (o : Option Place) → option_map_or (is_directory_at layers) o false ≡ false → None ≡ option_and_then (λ p. child_of layers entries p name) o
+      go None f = refl
+      go (Some p) f = rw f refl
 
-  pub parent_is : (n : ℕ) (node : Node) → held_at held n ≡ Some node → node.kind ≡ Directory → Some node.parent ≡ parent_at stack n
-  parent_is n node e k =
-      let h = here n node e in
-      let d : is_directory node.kind ≡ true = ap is_directory k in
-      let f : is_directory_at layers h.at ≡ true = ap is_directory (sym h.holds.kind) ∙ d in
-      let q = parent_go h.at true f in
-      rw h.is (ap Some (h.holds.parent_is d) ∙ sym q)
-
-  pub parent_other : (n : ℕ) (node : Node) → held_at held n ≡ Some node → (node.kind ≡ Directory → ⊥) → None ≡ parent_at stack n
-  parent_other n node e k =
-      let h = here n node e in
-      let f : is_directory_at layers h.at ≡ false = ap is_directory (sym h.holds.kind) ∙ not_directory node.kind k in
-      let q = parent_go h.at false f in
-      rw h.is (sym q)
-
-  pub parent_none : (n : ℕ) → held_at held n ≡ None → None ≡ parent_at stack n
-  parent_none n e = rw (nowhere n e) refl
+  pub parent_none : (n : ℕ) → directory_held held directories n ≡ None → None ≡ parent_at stack n
+  parent_none n e = go (node_of entries n) (not_found n e)
+    where
+      go : (o : Option Place) → option_map_or (is_directory_at layers) o false ≡ false → None ≡ option_and_then (parent_of layers entries) o
+      go None f = refl
+      go (Some p) f = rw f refl
 
   pub data_is : (n : ℕ) (node : Node) (image : List ℕ) → held_at held n ≡ Some node → image ≡ slice_index_or layers node.place.layer image → bytes_at image node.part.start node.part.len ≡ data_at stack n
   data_is n node image e i =

@@ -1,5 +1,5 @@
 -- Nodes and rows made from branches with numbers.
-use Rattle.std.specs.Prelude.{◌≡◌, ℕ, ◌+◌, ◌-◌, ◌^◌, ◌<◌, ◌≤◌, List, [], ◌∷◌, ◌++◌, length, map, min, count_by, slice_get, slice_index, Some, ⊤, if◌then◌else◌}
+use Rattle.std.specs.Prelude.{◌≡◌, ℕ, ◌+◌, ◌-◌, ◌^◌, ◌<◌, ◌≤◌, List, [], ◌∷◌, ◌++◌, length, map, min, count_by, slice_get, slice_index, Some, Bool, true, false, ⊤}
 use Rattle.romfs_format.specs.declared.head.Kind.{Kind}
 use Rattle.romfs_format.specs.Fields.{exec, spec}
 use Rattle.romfs_format.specs.Heads.{head_of}
@@ -9,6 +9,7 @@ use Rattle.path_tree.specs.Rows.{Shoot, spread, whole, IsForest}
 use Rattle.layer_tree.specs.declared.place.Place.{Place}
 use Rattle.layer_tree.specs.declared.place.Entry.{Entry}
 use Rattle.node_table.specs.declared.node.Node.{Node}
+use Rattle.node_table.specs.declared.directory.Directory.{Directory}
 use Rattle.name_keys.specs.Keyed.{AddsKeys}
 use Rattle.node_table.specs.Rows.{Line, names}
 use Rattle.node_table.specs.Walks.{Spot}
@@ -61,30 +62,55 @@ pub record IsSeat (layers : List (List ℕ)) (branch : Shoot Entry) : Type 0 whe
   pub is : slice_get layers branch.value.place.layer ≡ Some image
   pub given : IsGiven image (head_of image branch.value.place.header)
 
--- the rows of a branch with these children: none where it is no directory
-abbrev pub lines_in : (Place → ℕ) → Kind → List (Shoot Entry) → List Line
-lines_in tell kind cs = if is_directory kind then map (line_in tell) cs else []
-
 -- the node holds what the header says of the kind's data, permissions and device, as it stands
 pub record IsReadFrom (image : List ℕ) (header : ℕ) (node : Node) : Type 0 where
   pub data_is : IsDataPart image header node.part
   pub exec_is : node.exec ≡ exec image header
   pub spec_is : node.rdev ≡ spec image header
 
--- the node of a branch, before it is completed; a directory's rows are added at the end, and their keys
-pub record AddsNode (layers : List (List ℕ)) (tell : Place → ℕ) (spot : Spot Entry) (paths : ℕ) (old new : List Line) (keys keys' : List ℕ) (node : Node) : Type 0 where
-  pub kind_is : node.kind ≡ spot.0.now.value.kind
-  pub place_is : node.place ≡ spot.0.now.value.place
-  pub read : (image : List ℕ) → slice_get layers node.place.layer ≡ Some image → IsReadFrom image node.place.header node
-  pub parent_is : node.parent ≡ tell spot.1.place
-  pub start_is : node.rows_start ≡ length old
-  pub end_is : node.rows_end ≡ length new
+-- the directory that a branch with these children is: its rows are added at the end, and their keys
+pub record IsMade (tell : Place → ℕ) (spot : Spot Entry) (cs : List (Shoot Entry)) (old new : List Line) (keys keys' : List ℕ) (directory : Directory) : Type 0 where
+  pub parent_is : directory.parent ≡ tell spot.1.place
+  pub start_is : directory.rows_start ≡ length old
+  pub end_is : directory.rows_end ≡ length new
+  pub rows_are : new ≡ old ++ map (line_in tell) cs
+  pub keys_are : AddsKeys directory.shared (names (map (line_in tell) cs)) keys keys'
+
+-- a branch's directory is added, and the directories in it are counted
+pub record AddsDirectory (tell : Place → ℕ) (spot : Spot Entry) (held held' : List Directory) (old new : List Line) (keys keys' : List ℕ) (n : ℕ) : Type 0 where
   pub children : List (Shoot Entry)
   pub below : spot.0.now.below ≡ spread children
   pub forest : IsForest children
-  pub rows_are : new ≡ old ++ lines_in tell node.kind children
-  pub keys_are : AddsKeys node.shared (names (lines_in tell node.kind children)) keys keys'
-  pub nlink_is : node.nlink ≡ (if is_directory node.kind then min (2 + directories children) (2 ^ 32 - 1) else paths)
+  pub directory : Directory
+  pub is : held' ≡ held ++ directory ∷ []
+  pub made : IsMade tell spot children old new keys keys' directory
+  pub count_is : n ≡ directories children
+
+-- a directory is added, which is linked by its name, its own dot and the directories in it
+pub record AddsLinked (tell : Place → ℕ) (spot : Spot Entry) (nlink : ℕ) (held held' : List Directory) (old new : List Line) (keys keys' : List ℕ) : Type 0 where
+  pub count : ℕ
+  pub added : AddsDirectory tell spot held held' old new keys keys' count
+  pub nlink_is : nlink ≡ min (2 + count) (2 ^ 32 - 1)
+
+-- nothing is added, and the node is linked by its paths
+pub record AddsNothing (paths nlink : ℕ) (held held' : List Directory) (old new : List Line) (keys keys' : List ℕ) : Type 0 where
+  pub held_are : held' ≡ held
+  pub rows_are : new ≡ old
+  pub keys_are : keys' ≡ keys
+  pub nlink_is : nlink ≡ paths
+
+-- what is added for a node that is a directory, or is none
+abbrev pub AddsByKind : (Place → ℕ) → Spot Entry → ℕ → Bool → ℕ → List Directory → List Directory → List Line → List Line → List ℕ → List ℕ → Type 0
+AddsByKind tell spot paths true nlink held held' old new keys keys' = AddsLinked tell spot nlink held held' old new keys keys'
+AddsByKind tell spot paths false nlink held held' old new keys keys' = AddsNothing paths nlink held held' old new keys keys'
+
+-- the node of a branch, before it is completed
+pub record AddsNode (layers : List (List ℕ)) (tell : Place → ℕ) (spot : Spot Entry) (paths : ℕ) (held held' : List Directory) (old new : List Line) (keys keys' : List ℕ) (node : Node) : Type 0 where
+  pub kind_is : node.kind ≡ spot.0.now.value.kind
+  pub place_is : node.place ≡ spot.0.now.value.place
+  pub read : (image : List ℕ) → slice_get layers node.place.layer ≡ Some image → IsReadFrom image node.place.header node
+  pub directory_is : node.directory ≡ length held
+  pub adds : AddsByKind tell spot paths (is_directory node.kind) node.nlink held held' old new keys keys'
 
 -- the node with what its kind makes of that
 abbrev pub completed : Node → Node

@@ -8,6 +8,7 @@ use Rattle.path_tree.specs.Rows.{Shoot, spread, IsForest}
 use Rattle.layer_tree.specs.declared.place.Place.{Place as Seat}
 use Rattle.layer_tree.specs.declared.place.Entry.{Entry}
 use Rattle.node_table.specs.declared.node.Node.{Node}
+use Rattle.node_table.specs.declared.directory.Directory.{Directory}
 use Rattle.node_table.specs.Rows.{Line}
 use Rattle.node_table.specs.Walks.{Spot}
 use Rattle.node_table.specs.Numbering.{place_of}
@@ -44,5 +45,6 @@ abbrev pub AreSomeSeeds : List (List ℕ) → (Seat → ℕ) → List (Spot Entr
 AreSomeSeeds layers tell first paths = (entries : List Listed) × AreSeeds layers entries tell first paths
 
 -- nodes, rows and keys make a table of the layers, once the nodes are completed
-abbrev pub AreMade : List (List ℕ) → List Node → List Line → List ℕ → Type 0
-AreMade layers nodes rows keys = (entries : List Listed) × IsListing layers entries × AreNodes layers entries (map completed nodes) rows keys
+abbrev pub AreMade : List (List ℕ) → List Node → List Directory → List Line → List ℕ → Type 0
+AreMade layers nodes directories rows keys =
+    (entries : List Listed) × IsListing layers entries × AreNodes layers entries (map completed nodes) directories rows keys

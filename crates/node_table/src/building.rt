@@ -5,9 +5,10 @@ ghost use Rattle.romfs_format.specs.Heads.{head_of};
 ghost use Rattle.romfs_image.specs.Readers.{IsGiven};
 ghost use Rattle.node_table.specs.Numbering.{number_among};
 ghost use Rattle.node_table.specs.Building.{IsAbove, AreFollowing, AreChildren, ArePosts};
-ghost use Rattle.node_table.specs.Building.{AddsRows, AddsNode, IsSeat};
+ghost use Rattle.node_table.specs.Building.{AddsRows, AddsDirectory, AddsNode, IsSeat};
 ghost use Rattle.node_table.specs.Seeds.{AreSomeSeeds, AreMade};
 
+use crate::directory::{Directories, Directory};
 use crate::node::Node;
 use crate::numbering::Numbered;
 use crate::row::Row;
@@ -22,8 +23,7 @@ use std::alloc::{AllocError, Allocator};
 #[derive(Drop)]
 pub(crate) struct Parts<A: Allocator> {
     pub(crate) nodes: Vec<Node, A>,
-    pub(crate) rows: Vec<Row<A>, A>,
-    pub(crate) keys: Vec<u64, A>,
+    pub(crate) directories: Directories<A>,
 }
 
 // The header of a place, which its image gives.
@@ -69,7 +69,39 @@ fn add_rows<A: Allocator + Copy>(
     Ok(directories)
 }
 
-// Adds the rows of the branch at `start` and their keys, and makes its node but for what its header says.
+// Adds the directory that the branch at `start` is, its rows and their keys, and counts the directories in it.
+fn add_directory<A: Allocator + Copy>(
+    alloc: A,
+    walk: &Walked<'_, Entry, A>,
+    numbers: &[u64],
+    start: usize,
+    spot: &Spot<'_, Entry, A>,
+    into: &mut Directories<A>,
+) -> Result<u64, AllocError>
+    requires above { IsAbove (number_among walk.now.spots.items)
+        numbers.now walk.now.above.items start spot.now }
+    requires children { AreChildren (number_among walk.now.spots.items)
+        numbers.now walk.now.sizes.items start spot.now }
+    ensures { IfOk result (λ n. AddsDirectory (number_among walk.now.spots.items) spot.now
+        into.old.all.items into.new.all.items into.old.rows.items into.new.rows.items
+        into.old.keys.items into.new.keys.items n) }
+{
+    let children = spot.0.children();
+    let above = walk.above[start];
+    let parent = numbers[above];
+    let rows_start = into.rows.len();
+    let directories = add_rows(alloc, walk, numbers, start + 1, children, &mut into.rows)?;
+    let shared = add_keys(&into.rows[rows_start..], &mut into.keys)?;
+    into.all.push(Directory {
+        parent,
+        rows_start,
+        rows_end: into.rows.len(),
+        shared,
+    })?;
+    Ok(directories)
+}
+
+// Makes the node of the branch at `start` but for what its header says, and adds what is to be held of a directory.
 pub(crate) fn add_node<A: Allocator + Copy>(
     alloc: A,
     images: &[Image<A>],
@@ -78,8 +110,7 @@ pub(crate) fn add_node<A: Allocator + Copy>(
     start: usize,
     spot: &Spot<'_, Entry, A>,
     paths: u32,
-    rows: &mut Vec<Row<A>, A>,
-    keys: &mut Vec<u64, A>,
+    into: &mut Directories<A>,
 ) -> Result<Node, AllocError>
     requires seat { IsSeat images.now spot.now.0.now }
     requires above { IsAbove (number_among walk.now.spots.items)
@@ -87,24 +118,21 @@ pub(crate) fn add_node<A: Allocator + Copy>(
     requires children { AreChildren (number_among walk.now.spots.items)
         numbers.now walk.now.sizes.items start spot.now }
     ensures { IfOk result (λ node. AddsNode images.now (number_among walk.now.spots.items)
-        spot.now paths rows.old.items rows.new.items keys.old.items keys.new.items node) }
+        spot.now paths into.old.all.items into.new.all.items into.old.rows.items into.new.rows.items
+        into.old.keys.items into.new.keys.items node) }
 {
     let Entry { kind, place } = spot.0.value();
     let image = &images[place.layer as usize];
     let head = header_in(image, place.header);
     let part = image.data_part(&head);
-    let children = spot.0.children();
-    let above = walk.above[start];
-    let parent = numbers[above];
-    let rows_start = rows.len();
+    let directory = into.all.len();
     let nlink = match kind {
         Kind::Directory => {
-            let directories = add_rows(alloc, walk, numbers, start + 1, children, rows)?;
+            let directories = add_directory(alloc, walk, numbers, start, spot, into)?;
             directories.saturating_add(2).min(u64::from(u32::MAX)) as u32
         }
         _ => paths,
     };
-    let shared = add_keys(&rows[rows_start..], keys)?;
     Ok(Node {
         kind,
         place,
@@ -113,14 +141,11 @@ pub(crate) fn add_node<A: Allocator + Copy>(
         mode: 0,
         nlink,
         rdev: head.spec,
-        parent,
-        rows_start,
-        rows_end: rows.len(),
-        shared,
+        directory,
     })
 }
 
-// The nodes of all first branches, in the order of their numbers, their rows, and the rows' keys.
+// The nodes of all first branches, in the order of their numbers, and their directories.
 pub(crate) fn make<A: Allocator + Copy>(
     alloc: A,
     images: &[Image<A>],
@@ -132,12 +157,15 @@ pub(crate) fn make<A: Allocator + Copy>(
     requires posts { ArePosts (number_among walk.now.spots.items)
         numbered.now.numbers.items walk.now.above.items walk.now.sizes.items
         numbered.now.first.items numbered.now.starts.items }
-    ensures { IfOk result (λ made.
-        AreMade images.now made.nodes.items made.rows.items made.keys.items) }
+    ensures { IfOk result (λ made. AreMade images.now made.nodes.items
+        made.directories.all.items made.directories.rows.items made.directories.keys.items) }
 {
     let mut nodes = Vec::with_capacity(alloc, numbered.first.len())?;
-    let mut rows = Vec::with_capacity(alloc, walk.spots.len())?;
-    let mut keys = Vec::with_capacity(alloc, walk.spots.len())?;
+    let mut directories = Directories {
+        all: Vec::new(alloc),
+        rows: Vec::with_capacity(alloc, walk.spots.len())?,
+        keys: Vec::with_capacity(alloc, walk.spots.len())?,
+    };
     for (at, spot) in numbered.first.iter().enumerate() {
         let start = numbered.starts[at];
         let paths = numbered.paths[at];
@@ -149,10 +177,9 @@ pub(crate) fn make<A: Allocator + Copy>(
             start,
             spot,
             paths,
-            &mut rows,
-            &mut keys,
+            &mut directories,
         )?;
         nodes.push(node)?;
     }
-    Ok(Parts { nodes, rows, keys })
+    Ok(Parts { nodes, directories })
 }

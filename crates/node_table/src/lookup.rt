@@ -2,12 +2,14 @@
 
 ghost use Rattle.std.specs.Prelude.{◌≡◌, ◌≤◌, None, Some, MatchOption, length, slice_range};
 ghost use Rattle.name_keys.specs.Keyed.{AreKeyed};
-ghost use Rattle.node_table.specs.Held.{attr_held, held_at};
+ghost use Rattle.node_table.specs.Held.{attr_held, held_at, directory_held};
 ghost use Rattle.node_table.specs.Rows.{names, number_named};
 
+use crate::directory::Directory;
 use crate::node::{Attr, Node};
 use crate::row::Row;
 use name_keys::find;
+use romfs_image::Kind;
 use std::alloc::Allocator;
 
 // The node of a number, counted from 1.
@@ -35,22 +37,38 @@ pub(crate) fn attr_of(number: u64, node: &Node) -> Attr
     }
 }
 
-// The rows of a node.
-pub(crate) fn rows_of<'a, A: Allocator>(rows: &'a [Row<A>], node: &Node) -> &'a [Row<A>]
-    requires start { node.now.rows_start ≤ node.now.rows_end }
-    requires end { node.now.rows_end ≤ length rows.now }
-    ensures { result.now ≡ slice_range rows.now node.now.rows_start node.now.rows_end }
+// The directory of a number.
+pub(crate) fn directory_at<'a>(
+    nodes: &[Node],
+    directories: &'a [Directory],
+    number: u64,
+) -> Option<&'a Directory>
+    ensures { MatchOption result (directory_held nodes.now directories.now number ≡ None)
+        (λ directory. directory_held nodes.now directories.now number ≡ Some directory.now) }
 {
-    &rows[node.rows_start..node.rows_end]
+    let node = node_at(nodes, number)?;
+    match node.kind {
+        Kind::Directory => directories.get(node.directory),
+        _ => None,
+    }
 }
 
-// The keys of a node's rows.
-pub(crate) fn keys_of<'a>(keys: &'a [u64], node: &Node) -> &'a [u64]
-    requires start { node.now.rows_start ≤ node.now.rows_end }
-    requires end { node.now.rows_end ≤ length keys.now }
-    ensures { result.now ≡ slice_range keys.now node.now.rows_start node.now.rows_end }
+// The rows of a directory.
+pub(crate) fn rows_of<'a, A: Allocator>(rows: &'a [Row<A>], directory: &Directory) -> &'a [Row<A>]
+    requires start { directory.now.rows_start ≤ directory.now.rows_end }
+    requires end { directory.now.rows_end ≤ length rows.now }
+    ensures { result.now ≡ slice_range rows.now directory.now.rows_start directory.now.rows_end }
 {
-    &keys[node.rows_start..node.rows_end]
+    &rows[directory.rows_start..directory.rows_end]
+}
+
+// The keys of a directory's rows.
+pub(crate) fn keys_of<'a>(keys: &'a [u64], directory: &Directory) -> &'a [u64]
+    requires start { directory.now.rows_start ≤ directory.now.rows_end }
+    requires end { directory.now.rows_end ≤ length keys.now }
+    ensures { result.now ≡ slice_range keys.now directory.now.rows_start directory.now.rows_end }
+{
+    &keys[directory.rows_start..directory.rows_end]
 }
 
 // The number of the row with this name, by the keys of these rows.

@@ -35,8 +35,6 @@ pub struct Node {
     pub(crate) nlink: u32,
     /// The numbers of a device; until the node is completed, its header's spec.info.
     pub(crate) rdev: u32,
-    pub(crate) parent: u64,
-    pub(crate) rows_start: usize,
-    pub(crate) rows_end: usize,
-    pub(crate) shared: usize,
+    /// Where a directory stands among all directories; of other kinds it says nothing.
+    pub(crate) directory: usize,
 }

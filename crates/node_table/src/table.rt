@@ -13,34 +13,37 @@ ghost use Rattle.node_table.specs.Readers.{TellsNode, attr_at, parent_at, child_
 
 use crate::building::{Parts, make};
 use crate::completing::{blocks_of, complete_all};
-use crate::lookup::{attr_of, keys_of, node_at, number_named, rows_of};
+use crate::directory::{Directories, Directory};
+use crate::lookup::{attr_of, directory_at, keys_of, node_at, number_named, rows_of};
 use crate::node::{Attr, Node};
 use crate::numbering::number_places;
 use crate::row::Row;
 use crate::walk::{Walked, walk};
 use layer_tree::Tree;
-use romfs_image::{Image, Kind};
+use romfs_image::Image;
 use std::alloc::{AllocError, Allocator, Global};
 use std::marker::Model;
 use std::thread::Threads;
 
 /// The nodes of a stack of layers, by number: attributes, rows and data.
 ///
-/// A clause sees the layers and their listing. Each node and row takes at most 104 bytes beside its name. No reader
+/// A clause sees the layers and their listing. Each node and row takes at most 88 bytes beside a name of more than 23,
+/// and a directory 32 more. No reader
 /// takes memory, and each answers for every number: 1 is the root, and a number that is not in use has nothing.
 #[derive(Drop)]
 pub struct Table<A: Allocator> {
     images: Vec<Image<A>, A>,
     nodes: Vec<Node, A>,
-    rows: Vec<Row<A>, A>,
-    keys: Vec<u64, A>,
+    directories: Directories<A>,
     blocks: u64,
     ghost listing: { Listed images.items } by { listed_once images.items },
 }
 
-const _: () = prove!(size_of::<Node>() <= 64);
+const _: () = prove!(size_of::<Node>() <= 40);
 
-const _: () = prove!(size_of::<Node>() + size_of::<Row<Global>>() + size_of::<u64>() <= 112);
+const _: () = prove!(size_of::<Node>() + size_of::<Row<Global>>() + size_of::<u64>() <= 88);
+
+const _: () = prove!(size_of::<Directory>() <= 32);
 
 impl<A: Allocator> Model for Table<A> {
     ghost use Rattle.node_table.specs.Stacked.{Stacked};
@@ -50,7 +53,8 @@ impl<A: Allocator> Model for Table<A> {
 
     ghost view = { λ held. record { layers = held.images.items; entries = held.listing.0 } };
 
-    ghost invariant = { λ held. IsTable held.images.items held.listing.0 held.nodes.items held.rows.items held.keys.items held.blocks };
+    ghost invariant = { λ held. IsTable held.images.items held.listing.0 held.nodes.items
+        held.directories.all.items held.directories.rows.items held.directories.keys.items held.blocks };
 }
 
 impl<A: Allocator + Copy> Table<A> {
@@ -71,15 +75,13 @@ impl<A: Allocator + Copy> Table<A> {
         let blocks = blocks_of(&images);
         let Parts {
             mut nodes,
-            rows,
-            keys,
+            directories,
         } = parts_of(alloc, &tree, &images)?;
         complete_all(rt, &mut nodes);
         Ok(Table {
             images,
             nodes,
-            rows,
-            keys,
+            directories,
             blocks,
         })
     }
@@ -93,7 +95,8 @@ fn parts_of<A: Allocator + Copy>(
 ) -> Result<Parts<A>, AllocError>
     requires tree { IsTreeOf 0 images.now tree.now }
     requires sound { AllByRecursion IsImage images.now }
-    ensures { IfOk result (λ made. AreMade images.now made.nodes.items made.rows.items made.keys.items) }
+    ensures { IfOk result (λ made. AreMade images.now made.nodes.items
+        made.directories.all.items made.directories.rows.items made.directories.keys.items) }
 {
     let root = tree.root();
     let mut all = Walked {
@@ -137,10 +140,10 @@ impl<A: Allocator> Table<A> {
     pub fn child(&self, number: u64, name: &[u8]) -> Option<u64>
         ensures { result ≡ child_at self.now number name.now }
     {
-        let node = node_at(&self.nodes, number)?;
-        let rows = rows_of(&self.rows, node);
-        let keys = keys_of(&self.keys, node);
-        number_named(rows, keys, node.shared, name)
+        let directory = directory_at(&self.nodes, &self.directories.all, number)?;
+        let rows = rows_of(&self.directories.rows, directory);
+        let keys = keys_of(&self.directories.keys, directory);
+        number_named(rows, keys, directory.shared, name)
     }
 
     /// The children of a directory in the order of their names, without `.` and `..`; empty where the number is no
@@ -148,8 +151,8 @@ impl<A: Allocator> Table<A> {
     pub fn rows(&self, number: u64) -> &[Row<A>]
         ensures { result.now ≡ rows_at self.now number }
     {
-        match node_at(&self.nodes, number) {
-            Some(node) => rows_of(&self.rows, node),
+        match directory_at(&self.nodes, &self.directories.all, number) {
+            Some(directory) => rows_of(&self.directories.rows, directory),
             None => &[],
         }
     }
@@ -159,11 +162,8 @@ impl<A: Allocator> Table<A> {
     pub fn parent(&self, number: u64) -> Option<u64>
         ensures { result ≡ parent_at self.now number }
     {
-        let node = node_at(&self.nodes, number)?;
-        match node.kind {
-            Kind::Directory => Some(node.parent),
-            _ => None,
-        }
+        let directory = directory_at(&self.nodes, &self.directories.all, number)?;
+        Some(directory.parent)
     }
 
     /// The attributes of a node; none where the number is not in use.

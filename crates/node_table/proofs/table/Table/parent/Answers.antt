@@ -1,8 +1,9 @@
-use Rattle.node_table.proofs.Nodes.{parent_is, parent_other}
+use Rattle.std.proofs.Common.{◌∙◌}
+use Rattle.node_table.proofs.Nodes.{parent_is, parent_none}
 use Rattle.node_table.proofs.table.Table.parent.Goals as goal
 
-pub returns-in-Directory : goal.returns-in-Directory
-returns-in-Directory g c = rw (← c.self.view_is) (parent_is _ _ _ _ _ _ c.self.invariant c.args.number _ (rw c.deref.ensures.value at c.in_ok-node.ensures) c.in-Directory.is)
+pub returns-in_err-directory : goal.returns-in_err-directory
+returns-in_err-directory g c = c.from_residual.ensures ∙ rw (← c.self.view_is) (parent_none _ _ _ _ _ _ _ c.self.invariant c.args.number (rw (c.deref.ensures.value, c.deref-2.ensures.value) at c.in_err-directory.ensures))
 
-pub returns-in_default : goal.returns-in_default
-returns-in_default g c = rw (← c.self.view_is) (parent_other _ _ _ _ _ _ c.self.invariant c.args.number _ (rw c.deref.ensures.value at c.in_ok-node.ensures) c.in_default.not-Directory)
+pub returns : goal.returns
+returns g c = rw (← c.self.view_is) (parent_is _ _ _ _ _ _ _ c.self.invariant c.args.number _ (rw (c.deref.ensures.value, c.deref-2.ensures.value) at c.in_ok-directory.ensures))
