@@ -168,6 +168,7 @@ pub fn put_statfs<A: Allocator>(
 
 /// The bytes of a row of READDIR whose name has this many bytes (`FUSE_DIRENT_SIZE`), a multiple of 8. A row of
 /// READDIRPLUS has 128 more.
+#[inline(always)]
 pub fn dirent_size(name_len: usize) -> usize
     requires { name_len < 2 ^ 32 }
     ensures { result ≡ dirent_size name_len }
@@ -177,6 +178,7 @@ pub fn dirent_size(name_len: usize) -> usize
 
 /// Appends a row of READDIR (`struct fuse_dirent`): 24 bytes, the name, and zeros up to a multiple of 8.
 #[tactic(auto, unfolding(crate::specs::Structures::dirent), using(crate::proofs::Sizes::sizes))]
+#[inline(always)]
 pub fn put_dirent<A: Allocator>(out: &mut Vec<u8, A>, row: &Dirent<'_>) -> Result<(), AllocError>
     requires { length row.now.name.now < 2 ^ 32 }
     ensures { Appends result out.old out.new (row_bytes row.now) }
@@ -188,7 +190,8 @@ pub fn put_dirent<A: Allocator>(out: &mut Vec<u8, A>, row: &Dirent<'_>) -> Resul
 
 /// Appends a row of READDIRPLUS (`struct fuse_direntplus`): the node's entry, or 128 zeros for `.` and `..`, which
 /// have none, and the row of READDIR.
-#[tactic(auto, unfolding(crate::specs::Structures::direntplus, crate::specs::Structures::dirent), using(crate::proofs::Sizes::sizes))]
+#[tactic(auto, unfolding(crate::specs::Structures::direntplus), using(crate::proofs::Sizes::sizes))]
+#[inline(always)]
 pub fn put_direntplus<A: Allocator>(
     out: &mut Vec<u8, A>,
     entry: Option<&Attr>,
@@ -197,14 +200,17 @@ pub fn put_direntplus<A: Allocator>(
     requires { length row.now.name.now < 2 ^ 32 }
     ensures { Appends result out.old out.new (plus_row_bytes (option_copied entry.entry) row.now) }
 {
+    out.reserve(ENTRY_OUT_SIZE + dirent_size(row.name.len()))?;
     let mut front = Structure::new();
     entry_or_zeros(&mut front, entry);
-    dirent_front(&mut front, row);
-    put_row(out, &front, row.name)
+    out.extend_from_slice(front.as_slice())?;
+    put_dirent(out, row)?;
+    Ok(())
 }
 
 // `struct fuse_entry_out`, or as many zeros where there is no entry.
 #[tactic(auto, using(crate::proofs::Sizes::sizes))]
+#[inline(always)]
 fn entry_or_zeros(fields: &mut Structure, entry: Option<&Attr>)
     requires { fields.old ≡ [] }
     ensures fields { fields.new ≡ option_map_or entry_out (option_copied entry.entry) (zeros 128) }
@@ -217,6 +223,7 @@ fn entry_or_zeros(fields: &mut Structure, entry: Option<&Attr>)
 }
 
 // Appends the front of a row, its name, and zeros.
+#[inline(always)]
 fn put_row<A: Allocator>(
     out: &mut Vec<u8, A>,
     front: &Structure,
@@ -240,6 +247,7 @@ fn padding(name_len: usize) -> &'static [u8]
 
 // Appends three runs of bytes, one after another, in one growth.
 #[tactic(auto, using(std::proofs::lemmas::Grind::common_steps))]
+#[inline(always)]
 fn put_three<A: Allocator>(
     out: &mut Vec<u8, A>,
     first: &[u8],
