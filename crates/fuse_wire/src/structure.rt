@@ -6,8 +6,8 @@ ghost use Rattle.fuse_wire.specs.Structures.{u16, u32, u64, zeros};
 
 use std::marker::Model;
 
-/// The most bytes that stand together: the front of a `struct fuse_direntplus`, before its name.
-pub const ROOM: usize = 152;
+/// The most bytes that stand together: a `struct fuse_entry_out`.
+pub const ROOM: usize = 128;
 
 /// The fields so far, side by side: to a contract their bytes.
 #[derive(Drop)]
