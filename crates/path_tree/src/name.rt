@@ -11,8 +11,8 @@ const MOST: usize = 23;
 /// A name of at most 23 bytes.
 #[derive(Drop)]
 struct Short {
-    bytes: [u8; 23],
     len: u8,
+    bytes: [u8; 23],
 }
 
 impl Model for Short {
@@ -33,8 +33,8 @@ impl Short {
         let mut bytes = [0; 23];
         bytes[..name.len()].copy_from_slice(name);
         Short {
-            bytes,
             len: name.len() as u8,
+            bytes,
         }
     }
 
