@@ -16,7 +16,8 @@ known shared its name a b e l =
     key_tells 8 (drop shared its) (drop shared name) (bytes-drop shared its (each_byte its a)) (bytes-drop shared name b) (omega arith) e
 
 -- where these are all, the fronts tell
-pub fronts_tell : (shared : ℕ) (its first name : List ℕ) (r : Bool) → length its ≡ length name → length name - shared ≤ 8 → take shared its ≡ take shared first →
+pub fronts_tell : (shared : ℕ) (its first name : List ℕ) (r : Bool) → length its ≡ length name
+    → length name - shared ≤ 8 → take shared its ≡ take shared first →
     take 8 (drop shared its) ≡ take 8 (drop shared name) → r ≡ bytes_eq (take shared first) (take shared name) → IsTrue r ↔ (its ≡ name)
 fronts_tell shared its first name r l s alike e is =
     let n = length-drop shared its in
