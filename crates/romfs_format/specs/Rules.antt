@@ -165,6 +165,3 @@ IsFault b r p = IsFaultAs Usual b r p
 
 abbrev pub IsSound : List ℕ → Type 0
 IsSound b = IsSoundAs Usual b
-
-abbrev pub IsFaultOf : List ℕ → Option ImageFault → Type 0
-IsFaultOf b fault = IsFaultOfAs Usual b fault

@@ -1,5 +1,5 @@
 -- Where the names and data of given headers lie, and which places hold them.
-use Rattle.std.proofs.Common.{◌≡◌, ◌≢◌, ◌∙◌, sym, ap, subst, ℕ, zero, suc, ◌+◌, ◌*◌, ◌/◌, ◌<◌, ◌≤◌, ◌⊎◌, inl, inr, List, [], length, take, drop, Option, Some, None, arith, refl, IsSome, IsNone, IsSomeAnd, MatchOption, All}
+use Rattle.std.proofs.Common.{◌≡◌, ◌≢◌, ◌∙◌, sym, ap, subst, ℕ, zero, suc, ◌+◌, ◌<◌, ◌≤◌, ◌⊎◌, inl, inr, List, [], length, take, drop, Option, Some, None, arith, refl, IsSome, IsNone, IsSomeAnd, MatchOption, All}
 use Rattle.std.specs.Prelude.{unwrap_or}
 use Rattle.std.proofs.lemmas.Bool.{cases_order}
 use Rattle.romfs_format.specs.declared.head.Kind.{Kind}

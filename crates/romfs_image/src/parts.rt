@@ -4,7 +4,7 @@ ghost use Rattle.std.specs.Prelude.{◌≡◌, ◌≢◌, [], ◌+◌, ◌^◌, 
 ghost use Rattle.romfs_format.specs.Fields.{root as root_of, cleared};
 ghost use Rattle.romfs_format.specs.Links.{IsFinal};
 ghost use Rattle.romfs_image.specs.Images.{IsImage};
-ghost use Rattle.romfs_format.specs.Heads.{name_of, head_of, IsHeadIn};
+ghost use Rattle.romfs_format.specs.Heads.{name_of, IsHeadIn};
 ghost use Rattle.romfs_image.specs.Readers.{data_of, IsHeadAt, IsGiven, IsPart, IsDataPart, AreMembers, bytes_at};
 
 use crate::members::Members;

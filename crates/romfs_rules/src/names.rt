@@ -36,11 +36,8 @@ fn class_of<'a, A: Allocator + Clone>(
     ensures known { IfOk result (λ c. (q : List ℕ) →
         class_in known.new q ≡ update bytes_eq (class_in known.old) name.now (Some c) q) }
 {
-    if let Some(class) = known.get(&name) {
-        return Ok(*class);
-    }
-    known.insert(name, class)?;
-    Ok(class)
+    let kept = known.entry(name)?.or_insert(class);
+    Ok(*kept)
 }
 
 // The class of a header by its name, which is the given one where no header before has the name.

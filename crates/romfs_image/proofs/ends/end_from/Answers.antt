@@ -1,4 +1,4 @@
-use Rattle.std.proofs.Common.{rules, ◌≡◌, ◌∙◌, ap, Some, arith}
+use Rattle.std.proofs.Common.{rules, ◌≡◌, ◌∙◌, ap, Some}
 use Rattle.std.specs.Ordering.{nat_cmp}
 use Rattle.std.specs.BTreeMap.{get}
 use Rattle.romfs_format.specs.Fields.{spec, cleared}

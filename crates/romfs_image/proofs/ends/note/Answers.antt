@@ -1,4 +1,4 @@
-use Rattle.std.proofs.Common.{rules, ◌≡◌, sym, ap, subst, arith}
+use Rattle.std.proofs.Common.{rules, ◌≡◌, sym, ap, subst}
 use Rattle.romfs_format.specs.Fields.{spec, cleared}
 use Rattle.romfs_format.specs.Heads.{head_of}
 use Rattle.romfs_format.specs.Links.{IsFinal}

@@ -1,4 +1,4 @@
-use Rattle.std.proofs.Common.{rules, ◌≡◌, ◌∙◌, ap, arith}
+use Rattle.std.proofs.Common.{rules, ◌≡◌, ◌∙◌, ap}
 use Rattle.romfs_format.specs.Fields.{spec, cleared}
 use Rattle.romfs_format.specs.Heads.{head_of}
 use Rattle.romfs_image.proofs.Given.{sets_out, next_inside, moves_on, way_falls, arrives, arrived}
