@@ -45,7 +45,8 @@ unfolding command_in
 parsed_command a words m is matches = (matches (ap is_simple is ∙ program_is_simple)).1 ∙ ap (λ x. subcommand_of x words) is
 
 -- where it gives another error than for want of memory, the words are none
-pub parsed_fault : (a : App) (words : List Text) (error : Error) (fault : LineFault) → a ≡ program → (is_simple_and_free a ≡ true → HasKind (fault_of a words) error)
+pub parsed_fault : (a : App) (words : List Text) (error : Error) (fault : LineFault) → a ≡ program
+    → (is_simple_and_free a ≡ true → HasKind (fault_of a words) error)
     → (fault ≡ Memory) ⊎ (kind_of error ≢ OutOfMemory) → IsLineFault words fault
 unfolding faults_in
 parsed_fault a words error Memory is kinds told = tt
@@ -96,7 +97,8 @@ module _ {Z : Type 0} where
   name_in_rows None = refl
   name_in_rows (Some b) = refl
 
-both_parts : (o : Option (Text × List Row)) (name : Text) (rows : List Row) → Some name ≡ option_map (λ p. p.0) o → Some rows ≡ option_map (λ p. p.1) o → o ≡ Some (name, rows)
+both_parts : (o : Option (Text × List Row)) (name : Text) (rows : List Row)
+    → Some name ≡ option_map (λ p. p.0) o → Some rows ≡ option_map (λ p. p.1) o → o ≡ Some (name, rows)
 both_parts None name rows e f = cc
 both_parts (Some p) name rows e f = ap₂ (λ n r. Some (n, r)) (ap (λ o. unwrap_or o name) (sym e)) (ap (λ o. unwrap_or o rows) (sym f))
 
@@ -163,7 +165,8 @@ batch_fault f fault (inl memory) = inl memory
 batch_fault f fault (inr bad) = inr (λ numbered. bad (subst (λ o. IfSome o (IsNumberTo most_batch)) (sym (first_value-rows f (codes "batch"))) numbered.batch))
 
 -- a line that holds the rows of a command is the line of the words
-pub line_is : (words : List Text) (name : Text) (rows : List Row) (verb : Verb) (r : Result Line LineFault) → IsTaken words → command_in words ≡ Some (name, rows) → verb_word verb ≡ name
+pub line_is : (words : List Text) (name : Text) (rows : List Row) (verb : Verb) (r : Result Line LineFault)
+    → IsTaken words → command_in words ≡ Some (name, rows) → verb_word verb ≡ name
     → IfOk r (λ line. line.verb ≡ verb) → IfOk r (HoldsRows rows) → IfOk r (IsLineOf words)
 line_is words name rows verb (Ok line) taken command named verb_is holds = record {
   taken = taken;

@@ -219,7 +219,8 @@ default_filled a rows fit filled = go (has_row a.id rows) refl a.defaults fit
         added_filled a.id (reading_by a) DefaultValue (d ∷ ds) rows is (rw tests.0 tests.1) filled
 
 -- the default values keep each row filled
-pub defaults_filled : (c : List Rule) (rows : List Row) → list_all fills_default c ≡ true → all_filled rows ≡ true → all_filled (fold with_default rows c) ≡ true
+pub defaults_filled : (c : List Rule) (rows : List Row) → list_all fills_default c ≡ true
+    → all_filled rows ≡ true → all_filled (fold with_default rows c) ≡ true
 defaults_filled [] rows fit filled = filled
 defaults_filled (a ∷ rest) rows fit filled =
     defaults_filled rest (with_default rows a) (both _ _ fit).1 (default_filled a rows (both _ _ fit).0 filled)

@@ -53,7 +53,8 @@ module _ (test : Row → Bool) (fits : Rule → Bool) (s : Shape)
       go true later = (both _ _ all).0
       go false later = later
 
-  by_id_kept : (o : Option Rule) (vs : List Text) (rows : List Row) → fits_if_found o ≡ true → option_map_or (λ a. use_fault s.args_override_self a vs rows) o [] ≡ []
+  by_id_kept : (o : Option Rule) (vs : List Text) (rows : List Row) → fits_if_found o ≡ true
+      → option_map_or (λ a. use_fault s.args_override_self a vs rows) o [] ≡ []
       → list_all test rows ≡ true → list_all test (used_by_id o vs rows) ≡ true
   by_id_kept None vs rows one e before = before
   by_id_kept (Some a) vs rows one e before = kept a vs rows one e before
@@ -61,7 +62,9 @@ module _ (test : Row → Bool) (fits : Rule → Bool) (s : Shape)
   pub settle_kept : (h : Held) → settle_fault s.rules s.args_override_self h ≡ [] → list_all test h.rows ≡ true → list_all test (settled s.rules h).rows ≡ true
   settle_kept h e before = go h.pending e
     where
-      go : (o : Option (Text × List Text)) → option_map_or (λ p. option_map_or (λ a. use_fault s.args_override_self a p.1 h.rows) (arg_by_id s.rules p.0) []) o [] ≡ []
+      go : (o : Option (Text × List Text))
+          → option_map_or (λ p. option_map_or (λ a. use_fault s.args_override_self a p.1 h.rows) (arg_by_id s.rules p.0) []) o []
+          ≡ []
           → list_all test (settled_rows s.rules o h.rows) ≡ true
       go None e = before
       go (Some p) e = by_id_kept (arg_by_id s.rules p.0) p.1 h.rows (found_fits _ s.rules fit) e before
@@ -77,17 +80,21 @@ module _ (test : Row → Bool) (fits : Rule → Bool) (s : Shape)
   option_kept a (Some v) h one e before = react_kept a (v ∷ []) h one e before
   option_kept a None h one e before = settle_kept h e before
 
-  flag_kept : (a : Rule) (v : Option Text) (h : Held) → fits a ≡ true → cond (is_some v) (kind.TooManyValues ∷ []) (react_fault s.rules s.args_override_self a [] h) ≡ []
+  flag_kept : (a : Rule) (v : Option Text) (h : Held) → fits a ≡ true
+      → cond (is_some v) (kind.TooManyValues ∷ []) (react_fault s.rules s.args_override_self a [] h) ≡ []
       → list_all test h.rows ≡ true → list_all test (flag_met s.rules a v h).0.rows ≡ true
   flag_kept a (Some v) h one e before = before
   flag_kept a None h one e before = react_kept a [] h one e before
 
-  long_kept : (o : Option Rule) (v : Option Text) (h : Held) → fits_if_found o ≡ true → long_fault s.rules s.args_override_self o v h ≡ [] → list_all test h.rows ≡ true
+  long_kept : (o : Option Rule) (v : Option Text) (h : Held) → fits_if_found o ≡ true
+      → long_fault s.rules s.args_override_self o v h ≡ [] → list_all test h.rows ≡ true
       → list_all test (long_met s.rules o v h).0.rows ≡ true
   long_kept None v h one e before = before
   long_kept (Some a) v h one e before = go (takes_values a) e
     where
-      go : (b : Bool) → cond b (option_fault s.rules s.args_override_self a v h) (cond (is_some v) (kind.TooManyValues ∷ []) (react_fault s.rules s.args_override_self a [] h)) ≡ []
+      go : (b : Bool)
+          → cond b (option_fault s.rules s.args_override_self a v h) (cond (is_some v) (kind.TooManyValues ∷ []) (react_fault s.rules s.args_override_self a [] h))
+          ≡ []
           → list_all test (cond b (option_met s.rules a v h) (flag_met s.rules a v h)).0.rows ≡ true
       go true e = option_kept a v h one e before
       go false e = flag_kept a v h one e before
@@ -98,14 +105,17 @@ module _ (test : Row → Bool) (fits : Rule → Bool) (s : Shape)
   short_kept None rest h on fault one after e before = before
   short_kept (Some a) rest h on fault one after e before = go (takes_values a) e
     where
-      go : (b : Bool) → cond b (option_fault s.rules s.args_override_self a (attached_value rest) h) (or_else (react_fault s.rules s.args_override_self a [] h) (fault (reacted s.rules a [] h))) ≡ []
+      go : (b : Bool)
+          → cond b (option_fault s.rules s.args_override_self a (attached_value rest) h) (or_else (react_fault s.rules s.args_override_self a [] h) (fault (reacted s.rules a [] h)))
+          ≡ []
           → list_all test (cond b (option_met s.rules a (attached_value rest) h) (on (reacted s.rules a [] h))).0.rows ≡ true
       go true e = option_kept a (attached_value rest) h one e before
       go false e =
           let n = neither _ _ e in
           after (reacted s.rules a [] h) n.1 (react_kept a [] h one n.0 before)
 
-  flags_kept : (k : ℕ) (flags : Text) (skip : ℕ) (so_far : Outcome) (h : Held) → flags_fault s.rules s.args_override_self k flags skip h ≡ [] → list_all test h.rows ≡ true
+  flags_kept : (k : ℕ) (flags : Text) (skip : ℕ) (so_far : Outcome) (h : Held)
+      → flags_fault s.rules s.args_override_self k flags skip h ≡ [] → list_all test h.rows ≡ true
       → list_all test (bundle_met s.rules k flags skip so_far h).0.rows ≡ true
   unfolding flags_fault bundle_met
   flags_kept zero flags skip so_far h e before = before
@@ -156,7 +166,8 @@ module _ (test : Row → Bool) (fits : Rule → Bool) (s : Shape)
   to_positional_kept None word w h e before = before
   to_positional_kept (Some a) word w h e before = go (is_pending a h.pending && takes_several a) e
     where
-      go : (b : Bool) → cond b [] (settle_fault s.rules s.args_override_self h) ≡ [] → list_all test (pushed a.id word (cond b h (settled s.rules h))).rows ≡ true
+      go : (b : Bool) → cond b [] (settle_fault s.rules s.args_override_self h) ≡ []
+          → list_all test (pushed a.id word (cond b h (settled s.rules h))).rows ≡ true
       go true e = before
       go false e = settle_kept h e before
 

@@ -29,11 +29,13 @@ pulled p (Ok n) = record {
   failures = p.failures;
   last = if n == 0 then Some End else Some (Bytes n);
 }
-pulled p (Err e) = record { pulls = up p.pulls; ends = p.ends; failures = up p.failures; last = Some Failure }
+pulled p (Err e) =
+    record { pulls = up p.pulls; ends = p.ends; failures = up p.failures; last = Some Failure }
 
 -- the failures of a sink that took n of these many bytes: taking none of some is one
 abbrev pub failures_after : ℕ → ℕ → ℕ → ℕ
-failures_after failures size n = if n == 0 then (if size == 0 then failures else up failures) else failures
+failures_after failures size n =
+    if n == 0 then (if size == 0 then failures else up failures) else failures
 
 -- the counts of a sink after a push of these many bytes
 abbrev pub pushed : Pushes → ℕ → Result ℕ Failed → Pushes
@@ -42,12 +44,14 @@ pushed p size (Ok n) = record {
   failures = failures_after p.failures size n;
   unflushed = held_sum p.unflushed n;
 }
-pushed p size (Err e) = record { flushes = p.flushes; failures = up p.failures; unflushed = p.unflushed }
+pushed p size (Err e) =
+    record { flushes = p.flushes; failures = up p.failures; unflushed = p.unflushed }
 
 -- the counts of a sink after a flush
 abbrev pub flushed : Pushes → Result (Unit {0}) Failed → Pushes
 flushed p (Ok u) = record { flushes = up p.flushes; failures = p.failures; unflushed = 0 }
-flushed p (Err e) = record { flushes = up p.flushes; failures = up p.failures; unflushed = p.unflushed }
+flushed p (Err e) =
+    record { flushes = up p.flushes; failures = up p.failures; unflushed = p.unflushed }
 
 -- a call counts its failure: none more where it succeeds, and one more where it fails
 abbrev pub CountsFailure : {X E : Type 0} → Result X E → Pushes → Pushes → Type 0

@@ -5,7 +5,8 @@ use Rattle.devices.specs.declared.failed.Failed.{Failed}
 use Rattle.devices.specs.declared.counts.Pushes.{Pushes}
 
 -- the first of some bytes, put, went to a sink; no byte but these is newly unflushed
-pub record PutsFront (bytes put : List ℕ) (old new : Option (List ℕ)) (before after : Pushes) : Type 0 where
+pub record PutsFront (bytes put : List ℕ) (old new : Option (List ℕ))
+    (before after : Pushes) : Type 0 where
   pub more : List ℕ
   pub front : bytes ≡ put ++ more
   pub held : Appends old new put

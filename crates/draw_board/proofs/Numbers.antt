@@ -42,6 +42,7 @@ times-numbers total x (y ∷ ys) = cases (ltb y total) ∙ (omega (arith, times-
     cases true = sum_by-cons (λ z. one z x) y (numbers total ys)
     cases false = omega arith
 
-pub both_numbers : (total x : ℕ) (mine others all : List ℕ) → Unites mine others all → times x (numbers total all) ≡ times x (numbers total mine) + times x (numbers total others)
+pub both_numbers : (total x : ℕ) (mine others all : List ℕ) → Unites mine others all
+    → times x (numbers total all) ≡ times x (numbers total mine) + times x (numbers total others)
 both_numbers total x mine others all u = let f : ℕ → ℕ = among total x in
     omega (arith, times-numbers total x all, times-numbers total x mine, times-numbers total x others, sum_by-IsPermutation f (mine ++ others) all u.both, sum_by-append f mine others)

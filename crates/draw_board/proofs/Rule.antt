@@ -48,7 +48,8 @@ sound_after v p some_left s unseen = let fits = s.within_share in let miss = s.m
 }
 
 -- the other views stay as they are, and the word does not fall
-each_after : (key : Key) (vs : List View) (n n' id : ℕ) (w : View) → ((j : ℕ) (v : View) → get_elem? vs j ≡ some v → FitsBoard key n v) → n ≤ n' → FitsBoard key n' w
+each_after : (key : Key) (vs : List View) (n n' id : ℕ) (w : View)
+    → ((j : ℕ) (v : View) → get_elem? vs j ≡ some v → FitsBoard key n v) → n ≤ n' → FitsBoard key n' w
     → (j : ℕ) (v : View) → get_elem? (set vs id w) j ≡ some v → FitsBoard key n' v
 each_after key vs n n' id w each h fits j v e = ⊎_elim (λ (t : (j ≡ id) × (w ≡ v)). subst (FitsBoard key n') t.1 fits)
     (λ (t : (j ≢ id) × (get_elem? vs j ≡ some v)). let o = each j v t.1 in let p = o.passed in record { sound = o.sound; passed = omega arith; spent = o.spent; told = o.told }) (at_set vs id j w v e)
@@ -119,7 +120,8 @@ draws key slots id me some_left live s r _ at small = (w, keeps, tt, subst (λ (
     kept = moved key s r (n + 1) id me w (omega arith) (record { sound = sound; passed = omega arith; spent = λ z. absurd (omega arith); told = fits.told }) once all_drawn all_shares bounded
 
 -- a step after which the word is the same, and the view has the same positions, misses and share
-unmoved : (key : Key) (s : Table) (r : IsSoundBoard key s) (id : ℕ) (me : Seated) (w : View) → get_elem? s.views id ≡ some me.0 → FitsBoard key (get_or s.words 0 0) w
+unmoved : (key : Key) (s : Table) (r : IsSoundBoard key s) (id : ℕ) (me : Seated) (w : View)
+    → get_elem? s.views id ≡ some me.0 → FitsBoard key (get_or s.words 0 0) w
     → w.positions ≡ me.0.positions → w.left ≡ me.0.left → w.share ≡ me.0.share → IsSoundBoard key (stepped s 0 (get_or s.words 0 0) id me.1 w keeps)
 unmoved key s r id me w at fits same left share = let v : View = me.0 in moved key s r (get_or s.words 0 0) id me w (omega arith) fits
     (λ x. let sum = sum_by-set (held x) s.views id v w at in let t = ap (times x) same in let before = r.once x in omega arith)
@@ -127,7 +129,8 @@ unmoved key s r id me w at fits same left share = let v : View = me.0 in moved k
     (let sum = sum_by-set shared s.views id v w at in let before = r.all_shares in omega arith)
     (let sum = sum_by-set misses s.views id v w at in let before = r.bounded in omega arith)
 
-pub announces : (key : Key) (slots id : ℕ) (me : Seated) (k : ℕ) → Allows (IsSoundBoard key) slots id me 0 (λ n. either (eqb n k) k n) (announced (step slots 0 k k none) me)
+pub announces : (key : Key) (slots id : ℕ) (me : Seated) (k : ℕ)
+    → Allows (IsSoundBoard key) slots id me 0 (λ n. either (eqb n k) k n) (announced (step slots 0 k k none) me)
 announces key slots id me k s r _ at small = let fits = r.each id me.0 at in let n : ℕ = get_or s.words 0 0 in let w : View = record me.0 { asked = k } in
     let kept = unmoved key s r id me w at (record { sound = record { rises = fits.sound.rises; within_share = fits.sound.within_share; missed = fits.sound.missed }; passed = fits.passed; spent = fits.spent; told = fits.told }) refl refl refl in
     (w, keeps, tt, exchanged n k k (λ z. IsSoundBoard key (stepped s 0 z id me.1 w keeps)) (λ e. subst (λ (z : ℕ). IsSoundBoard key (stepped s 0 z id me.1 w keeps)) e kept) (λ _. kept), refl)
@@ -178,7 +181,8 @@ splits key id v some_asked fewer s r at = record {
       told = λ _. own.told (omega arith);
     }
 
-pub joins : (key : Key) (id : ℕ) (v : View) (other : ℕ) (w : View) → 1 ≤ v.share → 1 ≤ w.share → Joins (IsSoundBoard key) id v other w (joined_view v w) spent_view
+pub joins : (key : Key) (id : ℕ) (v : View) (other : ℕ) (w : View) → 1 ≤ v.share → 1 ≤ w.share
+    → Joins (IsSoundBoard key) id v other w (joined_view v w) spent_view
 joins key id v other w live live' s r at apart at' = record {
   one_word = r.one_word;
   room = r.room;
@@ -232,7 +236,8 @@ first_word [] a e = absurd (some-ne-none a (sym e))
 first_word (x ∷ xs) a e = some-injective x a e
 
 -- where a view has all shares, its positions are all that were drawn
-pub closes : (key : Key) (id : ℕ) (v : View) (ws : List ℕ) (xs : List (Unit {0})) (n : ℕ) → v.share ≡ key.1 → Final (Seen (IsSoundBoard key) id v) ws xs → get_elem? ws 0 ≡ some n
+pub closes : (key : Key) (id : ℕ) (v : View) (ws : List ℕ) (xs : List (Unit {0})) (n : ℕ) → v.share ≡ key.1
+    → Final (Seen (IsSoundBoard key) id v) ws xs → get_elem? ws 0 ≡ some n
     → (v.positions ≡ range_with_len 0 n) × (v.seen ≤ n)
 closes key id v ws xs n all last found = let s = last.0 in let r = last.1.0 in let at = last.1.1 in let own = r.each id v at in let shares = r.all_shares in let counts = r.all_drawn in let passed = own.passed in
     let word : get_or s.words 0 0 ≡ n = ap (λ (l : List ℕ). get_or l 0 0) last.2 ∙ first_word ws n found in

@@ -31,7 +31,8 @@ module _ {A : Type 0} where
     none_left (x ∷ xs) z h = let s = sum_by-cons g x xs in omega (arith, h 0 x refl (omega arith), none_left xs (omega arith) (λ i v e. h (suc i) v e), sum_by-cons f x xs)
 
     -- where all of g is at one place, and f is 0 where g is, all of f is there
-    pub all_here : (l : List A) (i : ℕ) (v : A) → get_elem? l i ≡ some v → sum_by g l ≡ g v → ((j : ℕ) (w : A) → get_elem? l j ≡ some w → g w ≡ 0 → f w ≡ 0) → sum_by f l ≡ f v
+    pub all_here : (l : List A) (i : ℕ) (v : A) → get_elem? l i ≡ some v → sum_by g l ≡ g v
+        → ((j : ℕ) (w : A) → get_elem? l j ≡ some w → g w ≡ 0 → f w ≡ 0) → sum_by f l ≡ f v
     all_here [] i v e all h = absurd (some-ne-none v (sym e))
     all_here (x ∷ xs) zero v e all h = let same = some-injective x v e in let p = ap f same in let q = ap g same in let s = sum_by-cons g x xs in
         omega (arith, none_left xs (omega arith) (λ j w. h (suc j) w), sum_by-cons f x xs)

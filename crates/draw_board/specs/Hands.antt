@@ -65,7 +65,8 @@ KeepsShare board old new = IsHandOf board new × (share new ≡ share old)
 
 -- what a thread may promise of a hand that it is lent: one of the same board, with the same share
 abbrev pub GivesBack : Hand → Hand → Type 0
-GivesBack lent back = IsOf lent.seat.table_id (key_of lent.seat.me.0) back × (share back ≡ share lent)
+GivesBack lent back =
+    IsOf lent.seat.table_id (key_of lent.seat.me.0) back × (share back ≡ share lent)
 
 -- a draw of the counter, at a position that the hand had not seen, is added to the hand's
 pub record TakesDraw (total : ℕ) (old new : Hand) (answer : Option ℕ) : Type 0 where
@@ -77,7 +78,8 @@ pub record TakesDraw (total : ℕ) (old new : Hand) (answer : Option ℕ) : Type
 
 -- an answer of nothing spends one miss, and a number spends none
 abbrev pub SpendsMissAtNone : Hand → Hand → Option ℕ → Type 0
-SpendsMissAtNone old new answer = MatchOption answer (left new + 1 ≡ left old) (λ _. left new ≡ left old)
+SpendsMissAtNone old new answer =
+    MatchOption answer (left new + 1 ≡ left old) (λ _. left new ≡ left old)
 
 -- a number is drawn at the position of the same number
 abbrev pub TakesNumber : ℕ → Hand → Hand → ℕ → Type 0
@@ -85,7 +87,8 @@ TakesNumber total old new number = (number < total) × (positions new ≡ positi
 
 -- some misses go from the giver, which keeps some, to another hand, which has drawn nothing,
 -- and has seen what the giver had
-pub record MovesMisses {A : Type 0} (board : Board A) (old new other : Hand) (misses : ℕ) : Type 0 where
+pub record MovesMisses {A : Type 0} (board : Board A) (old new other : Hand)
+    (misses : ℕ) : Type 0 where
   pub some_moved : 0 < misses
   pub some_kept : misses < left old
   pub giver_of_board : IsHandOf board new

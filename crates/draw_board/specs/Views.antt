@@ -35,7 +35,8 @@ pub record FitsBoard (key : Key) (word : ℕ) (v : View) : Type 0 where
 pub record IsSoundBoard (key : Key) (s : Table) : Type 0 where
   pub one_word : length s.words ≡ 1
   pub room : key.0 + key.1 < 2 ^ 63
-  pub each : (id : ℕ) (v : View) → get_elem? s.views id ≡ some v → FitsBoard key (slice_index s.words 0) v
+  pub each : (id : ℕ) (v : View) → get_elem? s.views id ≡ some v
+      → FitsBoard key (slice_index s.words 0) v
   pub once : (position : ℕ) → sum_by (λ v. times position v.positions) s.views ≤ 1
   pub all_drawn : sum_by (λ v. length v.positions) s.views ≡ slice_index s.words 0
   pub all_shares : sum_by (λ v. v.share) s.views ≡ key.1
@@ -77,7 +78,8 @@ given_view v = view (key_of v) [] v.asked v.asked v.seen 0
 -- a rejoin makes one view of two, and leaves nothing in the other
 abbrev pub joined_view : View → View → View
 joined_view v w =
-    view (key_of v) (merged v.positions w.positions) (v.left + w.left) (v.share + w.share) (max v.seen w.seen) 0
+    view (key_of v) (merged v.positions w.positions) (v.left + w.left)
+    (v.share + w.share) (max v.seen w.seen) 0
 
 abbrev pub spent_view : View
 spent_view = view (0, 0) [] 0 0 0 0

@@ -50,10 +50,14 @@ module _ (a : List ℕ) (layer : ℕ) (all : List Named) (i : ℕ) (es : List (S
   pub build_hidden : IsMarker (at_index all i).name.now → Building a layer all (drop (i + 1) all) es ks
   build_hidden h = record { more = λ es' ks' b. w.more es' ks' (rw (next all i l) (hidden (at_index all i) (drop (i + 1) all) es' ks' h b)) }
 
-  pub build_one : (e : Shoot Entry) (k : Shoot Mark) (es' : List (Shoot Entry)) (ks' : List (Shoot Mark)) → ¬ IsMarker (at_index all i).name.now → AreBranchesOf a layer (at_index all i).head.offset (at_index all i).name.now e k → es' ≡ es ++ e ∷ [] → ks' ≡ ks ++ k ∷ [] → Building a layer all (drop (i + 1) all) es' ks'
+  pub build_one : (e : Shoot Entry) (k : Shoot Mark) (es' : List (Shoot Entry)) (ks' : List (Shoot Mark))
+      → ¬ IsMarker (at_index all i).name.now
+      → AreBranchesOf a layer (at_index all i).head.offset (at_index all i).name.now e k → es' ≡ es ++ e ∷ []
+      → ks' ≡ ks ++ k ∷ [] → Building a layer all (drop (i + 1) all) es' ks'
   build_one e k es' ks' n b p q = record { more = λ es'' ks'' c. rw (p, q) (simp append_assoc (w.more (e ∷ es'') (k ∷ ks'') (rw (next all i l) (built (at_index all i) (drop (i + 1) all) e es'' k ks'' n b c)))) }
 
-pub building_ended : (a : List ℕ) (layer : ℕ) (all : List Named) (i : ℕ) (es : List (Shoot Entry)) (ks : List (Shoot Mark)) → length all ≤ i → Building a layer all (drop i all) es ks → AreBuilt a layer all es ks
+pub building_ended : (a : List ℕ) (layer : ℕ) (all : List Named) (i : ℕ) (es : List (Shoot Entry)) (ks : List (Shoot Mark))
+    → length all ≤ i → Building a layer all (drop i all) es ks → AreBuilt a layer all es ks
 building_ended a layer all i es ks l w =
     let b : AreBuilt a layer (drop i all) [] [] = rw (drop_all i all l) none_built in
     subst (λ x. AreBuilt a layer all es x) (append-nil ks) (subst (λ x. AreBuilt a layer all x (ks ++ [])) (append-nil es) (w.more [] [] b))
@@ -96,12 +100,16 @@ module _ (a : List ℕ) (s : IsImage a) (left : ℕ) (ms : List Named) (at : Are
   one_less = (longer, has_more, omega (arith, some_left, long_more))
 
 -- names of what is built rise
-before_built : (a : List ℕ) (layer : ℕ) {ms : List Named} {es : List (Shoot Entry)} {ks : List (Shoot Mark)} → AreBuilt a layer ms es ks → (m : Named) → AllByRecursion (IsBefore m) ms → AllByRecursion (λ t. name_cmp m.name.now t.name ≡ Less) es × AllByRecursion (λ t. name_cmp m.name.now t.name ≡ Less) ks
+before_built : (a : List ℕ) (layer : ℕ) {ms : List Named} {es : List (Shoot Entry)} {ks : List (Shoot Mark)}
+    → AreBuilt a layer ms es ks → (m : Named) → AllByRecursion (IsBefore m) ms
+    → AllByRecursion (λ t. name_cmp m.name.now t.name ≡ Less) es
+    × AllByRecursion (λ t. name_cmp m.name.now t.name ≡ Less) ks
 before_built a layer none_built m r = (tt, tt)
 before_built a layer (hidden x ms es ks h b) m r = before_built a layer b m r.1
 before_built a layer (built x ms e es k ks n w b) m r = let t = before_built a layer b m r.1 in ((rw w.entry_name r.0, t.0), (rw w.mark_name r.0, t.1))
 
-pub forests : (a : List ℕ) (layer : ℕ) {ms : List Named} {es : List (Shoot Entry)} {ks : List (Shoot Mark)} → AreBuilt a layer ms es ks → NamedRise ms → IsForest es × IsForest ks
+pub forests : (a : List ℕ) (layer : ℕ) {ms : List Named} {es : List (Shoot Entry)} {ks : List (Shoot Mark)}
+    → AreBuilt a layer ms es ks → NamedRise ms → IsForest es × IsForest ks
 forests a layer none_built r = (record { names = tt; each = tt }, record { names = tt; each = tt })
 forests a layer (hidden m ms es ks h b) r = forests a layer b r.1
 forests a layer (built m ms e es k ks n w b) r =
@@ -112,7 +120,9 @@ forests a layer (built m ms e es k ks n w b) r =
 marked_before : (x y : List ℕ) → name_cmp (marker ++ x) (marker ++ y) ≡ name_cmp x y
 marked_before x y = refl
 
-before_white : {ms : List Named} {ks : List (Shoot Mark)} → AreWhiteouts ms ks → (m : Named) (n : List ℕ) → m.name.now ≡ marker ++ n → AllByRecursion (IsBefore m) ms → AllByRecursion (λ t. name_cmp n t.name ≡ Less) ks
+before_white : {ms : List Named} {ks : List (Shoot Mark)} → AreWhiteouts ms ks → (m : Named) (n : List ℕ)
+    → m.name.now ≡ marker ++ n → AllByRecursion (IsBefore m) ms
+    → AllByRecursion (λ t. name_cmp n t.name ≡ Less) ks
 before_white none_white m n e r = tt
 before_white (other x ms ks h b) m n e r = before_white b m n e r.1
 before_white (white x ms k ks f c d b) m n e r =
@@ -130,10 +140,15 @@ white_forest (white m ms k ks f c d b) r =
 
 -- the branches that the name n has, and its member
 pub data FoundBuilt (a : List ℕ) (layer d : ℕ) (n : List ℕ) (ms : List Named) (es : List (Shoot Entry)) (ks : List (Shoot Mark)) : Type 0 where
-  nowhere : named n es ≡ None → named n ks ≡ None → ((j : ℕ) (m : Named) → slice_get ms j ≡ Some m → m.name.now ≡ n → IsMarker n) → FoundBuilt a layer d n ms es ks
-  somewhere : (m : Named) (e : Shoot Entry) (k : Shoot Mark) → named n es ≡ Some e → named n ks ≡ Some k → m.name.now ≡ n → ¬ IsMarker n → IsNamedMember a d m → AreBranchesOf a layer m.head.offset n e k → FoundBuilt a layer d n ms es ks
+  nowhere : named n es ≡ None → named n ks ≡ None
+      → ((j : ℕ) (m : Named) → slice_get ms j ≡ Some m → m.name.now ≡ n → IsMarker n)
+      → FoundBuilt a layer d n ms es ks
+  somewhere : (m : Named) (e : Shoot Entry) (k : Shoot Mark) → named n es ≡ Some e → named n ks ≡ Some k
+      → m.name.now ≡ n → ¬ IsMarker n → IsNamedMember a d m → AreBranchesOf a layer m.head.offset n e k
+      → FoundBuilt a layer d n ms es ks
 
-pub find_built : (a : List ℕ) (layer d : ℕ) (n : List ℕ) {ms : List Named} {es : List (Shoot Entry)} {ks : List (Shoot Mark)} → AreBuilt a layer ms es ks → AllByRecursion (IsNamedMember a d) ms → FoundBuilt a layer d n ms es ks
+pub find_built : (a : List ℕ) (layer d : ℕ) (n : List ℕ) {ms : List Named} {es : List (Shoot Entry)} {ks : List (Shoot Mark)}
+    → AreBuilt a layer ms es ks → AllByRecursion (IsNamedMember a d) ms → FoundBuilt a layer d n ms es ks
 find_built a layer d n none_built p = nowhere refl refl (λ j m f g. absurd (cc))
 find_built a layer d n (hidden m ms es ks h b) p = more (find_built a layer d n b p.1)
   where
@@ -155,7 +170,8 @@ find_built a layer d n (built m ms e es k ks h w b) p = more (find_built a layer
       | inr x ↦ later x.0 (let f : named n (e ∷ es) ≡ named n es = rw (w.entry_name, x.1) refl in f) (let g : named n (k ∷ ks) ≡ named n ks = rw (w.mark_name, x.1) refl in g) found
     ]
       where
-        later : m.name.now ≢ n → named n (e ∷ es) ≡ named n es → named n (k ∷ ks) ≡ named n ks → FoundBuilt a layer d n ms es ks → FoundBuilt a layer d n (m ∷ ms) (e ∷ es) (k ∷ ks)
+        later : m.name.now ≢ n → named n (e ∷ es) ≡ named n es → named n (k ∷ ks) ≡ named n ks
+            → FoundBuilt a layer d n ms es ks → FoundBuilt a layer d n (m ∷ ms) (e ∷ es) (k ∷ ks)
         later o u v (nowhere f g q) = nowhere (u ∙ f) (v ∙ g) rest
           where
             rest : (j : ℕ) (x : Named) → slice_get (m ∷ ms) j ≡ Some x → x.name.now ≡ n → IsMarker n
@@ -166,7 +182,8 @@ find_built a layer d n (built m ms e es k ks h w b) p = more (find_built a layer
 -- a mark of the name n, and the marker that it is of
 pub data FoundWhite (n : List ℕ) (ms : List Named) (ks : List (Shoot Mark)) : Type 0 where
   unmarked : named n ks ≡ None → ((j : ℕ) (m : Named) → slice_get ms j ≡ Some m → m.name.now ≡ marker ++ n → ⊥) → FoundWhite n ms ks
-  marked : (j : ℕ) (m : Named) (k : Shoot Mark) → named n ks ≡ Some k → k.value.cut ≡ true → slice_get ms j ≡ Some m → m.name.now ≡ marker ++ n → FoundWhite n ms ks
+  marked : (j : ℕ) (m : Named) (k : Shoot Mark) → named n ks ≡ Some k → k.value.cut ≡ true
+      → slice_get ms j ≡ Some m → m.name.now ≡ marker ++ n → FoundWhite n ms ks
 
 marker_is : (n : List ℕ) → IsMarker (marker ++ n)
 marker_is n = refl

@@ -34,7 +34,8 @@ use Rattle.layer_tree.specs.Members.{AreNamed, IsByName}
 use Rattle.layer_tree.specs.Reading.{IsBefore, NamedRise, IsNamedMember, AreByName}
 
 -- a member goes from what is left to what is named
-pub found_one : (ms after : List Named) (x : Named) (left rest all : List Head) → left ≡ x.head ∷ rest → after ≡ ms ++ x ∷ [] → map (λ m. m.head) ms ++ left ≡ all → map (λ m. m.head) after ++ rest ≡ all
+pub found_one : (ms after : List Named) (x : Named) (left rest all : List Head) → left ≡ x.head ∷ rest
+    → after ≡ ms ++ x ∷ [] → map (λ m. m.head) ms ++ left ≡ all → map (λ m. m.head) after ++ rest ≡ all
 found_one ms after x left rest all l e d =
     let t : map (λ m. m.head) ms ++ (x.head ∷ rest) ≡ all = rw l at d in
     rw e (simp (map-append, append_assoc) t)
@@ -97,7 +98,9 @@ rising_in (m ∷ ms) p = (
 )
 
 -- a header among those of members is that of one of them
-pub of_head : (ms : List Named) (head : Head) (k : ℕ) → k < length (map (λ m. m.head) ms) → slice_index_or (map (λ m. m.head) ms) k head ≡ head → (m : Named) × (slice_get ms k ≡ Some m) × (m.head ≡ head)
+pub of_head : (ms : List Named) (head : Head) (k : ℕ) → k < length (map (λ m. m.head) ms)
+    → slice_index_or (map (λ m. m.head) ms) k head ≡ head
+    → (m : Named) × (slice_get ms k ≡ Some m) × (m.head ≡ head)
 of_head [] head k l e = absurd (omega arith)
 of_head (m ∷ ms) head zero l e = (m, refl, e)
 of_head (m ∷ ms) head (suc k) l e = of_head ms head k (omega arith) e
@@ -137,11 +140,14 @@ module _ (a : List ℕ) (i : IsImage a) (d : ℕ) (o : IsOpened a d) where
       names_differ _ _ (r.members j x (omega arith)) (r.members k x m) (q j k x l m)
 
   -- names of named members
-  same_names : (ms : List Named) → All (λ m. name_now m ≡ name_of a m.head.offset) ms → map name_now ms ≡ map (λ (x : Head). name_of a x.offset) (map (λ m. m.head) ms)
+  same_names : (ms : List Named) → All (λ m. name_now m ≡ name_of a m.head.offset) ms
+      → map name_now ms ≡ map (λ (x : Head). name_of a x.offset) (map (λ m. m.head) ms)
   same_names [] p = refl
   same_names (m ∷ ms) p = rw (p zero m (omega arith), same_names ms (λ k x l. p (suc k) x (omega arith))) refl
 
-  named_member : (hs : List Head) (ms : List Named) → All (IsGiven a) hs → All (λ (x : Head). IsMember a d x.offset) hs → map (λ m. m.head) ms ≡ hs → All (λ m. name_now m ≡ name_of a m.head.offset) ms → All (IsNamedMember a d) ms
+  named_member : (hs : List Head) (ms : List Named) → All (IsGiven a) hs
+      → All (λ (x : Head). IsMember a d x.offset) hs → map (λ m. m.head) ms ≡ hs
+      → All (λ m. name_now m ≡ name_of a m.head.offset) ms → All (IsNamedMember a d) ms
   named_member hs ms given members e names k x l =
       let n : k < length (map (λ (m : Named). m.head) ms) = rw (length-map ms (λ (m : Named). m.head)) l in
       let at : slice_index_or hs k x.head ≡ (slice_index_or ms k x).head = ap (λ ys. slice_index_or ys k x.head) (sym e) ∙ get_or-map (λ (m : Named). m.head) ms k x x.head l in
@@ -153,7 +159,8 @@ module _ (a : List ℕ) (i : IsImage a) (d : ℕ) (o : IsOpened a d) where
         name = has_name (slice_index_or ms k x).head.offset m ∙ ap Some (sym (names k x l));
       }
 
-  pub are_by_name : (hs : List Head) (found ms : List Named) → All (IsGiven a) hs → AreMembers a d hs → AreNamed a hs found → IsPermutation found ms → IsByName ms → AreByName a d ms
+  pub are_by_name : (hs : List Head) (found ms : List Named) → All (IsGiven a) hs → AreMembers a d hs
+      → AreNamed a hs found → IsPermutation found ms → IsByName ms → AreByName a d ms
   are_by_name hs found ms given r n s up =
       let each : All (IsNamedMember a d) found = named_member hs found given r.members n.heads n.names in
       let differ : AllPairs (λ x y. x ≢ y) (map name_now found) = rw (same_names found n.names, n.heads) (to_names (λ (x : Head). name_of a x.offset) hs (members_differ hs r)) in

@@ -17,5 +17,8 @@ module _ (t : TreeRows) (path : Path) (children : List (Shoot Entry)) (are : Are
       here None = refl
       here (Some s) = refl
 
-pub same_children : (first : ℕ) (layers : List (List ℕ)) (s t : TreeRows) → IsTreeOf first layers s → IsTreeOf first layers t → (path : Path) (cs ds : List (Shoot Entry)) → AreChildren s path cs → AreChildren t path ds → (name : List ℕ) (q : Path) → at_path (spread cs) (name ∷ q) ≡ at_path (spread ds) (name ∷ q)
+pub same_children : (first : ℕ) (layers : List (List ℕ)) (s t : TreeRows) → IsTreeOf first layers s
+    → IsTreeOf first layers t → (path : Path) (cs ds : List (Shoot Entry)) → AreChildren s path cs
+    → AreChildren t path ds → (name : List ℕ) (q : Path)
+    → at_path (spread cs) (name ∷ q) ≡ at_path (spread ds) (name ∷ q)
 same_children first layers s t is it path cs ds c d name q = sym (c.at name q) ∙ same_entries first layers s t is it (path ++ name ∷ q) ∙ d.at name q

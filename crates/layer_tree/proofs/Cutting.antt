@@ -15,7 +15,9 @@ use Rattle.layer_tree.specs.Marks.{cuts_itself, cuts_below, cut_by, is_plain}
 pub record IsPlainFrom (path : List (Bor (List ℕ))) (i : ℕ) : Type 0 where
   pub same : is_plain (map (λ n. n.now) path) ≡ is_plain (map (λ n. n.now) (drop i path))
 
-pub plain_step : (path : List (Bor (List ℕ))) (i : ℕ) (d : Bor (List ℕ)) (b : Bool) → i < length path → IsPlainFrom path i → b ≡ starts_with nat_eq (get_or path i d).now marker → is_plain (map (λ n. n.now) path) ≡ (not b && is_plain (map (λ n. n.now) (drop (i + 1) path)))
+pub plain_step : (path : List (Bor (List ℕ))) (i : ℕ) (d : Bor (List ℕ)) (b : Bool) → i < length path
+    → IsPlainFrom path i → b ≡ starts_with nat_eq (get_or path i d).now marker
+    → is_plain (map (λ n. n.now) path) ≡ (not b && is_plain (map (λ n. n.now) (drop (i + 1) path)))
 plain_step path i d b l w e = w.same ∙ rw (add-one, drop-cons path i d l, e) refl
 
 pub plain_end : (path : List (Bor (List ℕ))) (i : ℕ) → length path ≤ i → IsPlainFrom path i → is_plain (map (λ n. n.now) path) ≡ true
@@ -40,11 +42,14 @@ by_through None path = nothing_cut path
 by_through (Some s) path = refl
 
 -- what the marks below a name cut
-pub by_name : (ms : List (Shoot Mark)) → NamesRise ms → (n : List ℕ) (path : List (List ℕ)) → cut_by (λ q. at_path (spread ms) (n ∷ q)) path ≡ cut_through (named n ms) path
+pub by_name : (ms : List (Shoot Mark)) → NamesRise ms → (n : List ℕ) (path : List (List ℕ))
+    → cut_by (λ q. at_path (spread ms) (n ∷ q)) path ≡ cut_through (named n ms) path
 by_name ms r n path = cut_same (λ q. at_path (spread ms) (n ∷ q)) (through (named n ms)) (λ q. at_spread ms r n q) path ∙ by_through (named n ms) path
 
 -- a path is cut by the mark above all of it, or by the branch of its first name
-pub cut_step : (s : Shoot Mark) (ss : List (Shoot Mark)) (o : Option (Shoot Mark)) (n : List ℕ) (path : List (List ℕ)) → s.below ≡ spread ss → NamesRise ss → named n ss ≡ o → cut_by (at_path (whole s)) (n ∷ path) ≡ (cuts_below (Some s.value) || cut_through o path)
+pub cut_step : (s : Shoot Mark) (ss : List (Shoot Mark)) (o : Option (Shoot Mark)) (n : List ℕ) (path : List (List ℕ))
+    → s.below ≡ spread ss → NamesRise ss → named n ss ≡ o
+    → cut_by (at_path (whole s)) (n ∷ path) ≡ (cuts_below (Some s.value) || cut_through o path)
 cut_step s ss o n path e r f =
     ap (λ b. cuts_below (Some s.value) || b) (cut_same (λ q. at_path (whole s) (n ∷ q)) (through o) (λ q. step s ss o n q e r f) path ∙ by_through o path)
 
@@ -59,5 +64,8 @@ module _ (marks : Shoot Mark) (path : List (Bor (List ℕ))) (i : ℕ) (s : Shoo
   pub cut_here : cuts_below (Some s.value) ≡ true → cut_by (at_path (whole marks)) (map (λ n. n.now) path) ≡ true
   cut_here e = at_name ∙ rw e refl
 
-  pub cut_deeper : (ss : List (Shoot Mark)) (o : Option (Shoot Mark)) → s.below ≡ spread ss → NamesRise ss → named (get_or path i d).now ss ≡ o → cuts_below (Some s.value) ≡ false → cut_by (at_path (whole marks)) (map (λ n. n.now) path) ≡ cut_through o (map (λ n. n.now) (drop (i + 1) path))
+  pub cut_deeper : (ss : List (Shoot Mark)) (o : Option (Shoot Mark)) → s.below ≡ spread ss → NamesRise ss
+      → named (get_or path i d).now ss ≡ o → cuts_below (Some s.value) ≡ false
+      → cut_by (at_path (whole marks)) (map (λ n. n.now) path)
+      ≡ cut_through o (map (λ n. n.now) (drop (i + 1) path))
   cut_deeper ss o e r f none = at_name ∙ cut_step s ss o _ _ e r f ∙ rw none refl

@@ -12,7 +12,8 @@ uncut a path u (p, (q, y, rest, e, c)) = by c
     by (d, inr (inl m)) = (u.nowhere q y rest e).1 m
     by (d, inr (inr m)) = (u.nowhere q y rest e).2 m
 
-pub kept_below : (low high : List ℕ) (path : Path) (h : ℕ) → IsPlain path → Has low path h → ¬ IsIn high path → IsUnremoved high path → Shows (low ∷ high ∷ []) path 0 h
+pub kept_below : (low high : List ℕ) (path : Path) (h : ℕ) → IsPlain path → Has low path h → ¬ IsIn high path
+    → IsUnremoved high path → Shows (low ∷ high ∷ []) path 0 h
 kept_below low high path h p has out u = (p, (has, ((out, uncut high path u), tt)))
 
 pub kept_above : (low high : List ℕ) (path : Path) (h : ℕ) → IsPlain path → Has high path h → Shows (low ∷ high ∷ []) path 1 h

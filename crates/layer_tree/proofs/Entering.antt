@@ -12,7 +12,9 @@ use Rattle.layer_tree.specs.Reading.{IsEntryIn}
 pub directory_stays : (a : List ℕ) (h : ℕ) → kind a h ≡ Directory → IsFinal a h h
 directory_stays a h d = stays (λ l. let k = l.1 in absurd (cc))
 
-pub entered : (a : List ℕ) (layer h : ℕ) (end : Head) (entry : Entry) → IsGiven a end → IsFinal a h end.offset → entry.place.layer ≡ layer → entry.place.header ≡ end.offset → entry.kind ≡ end.kind → IsEntryIn a layer h entry
+pub entered : (a : List ℕ) (layer h : ℕ) (end : Head) (entry : Entry) → IsGiven a end → IsFinal a h end.offset
+    → entry.place.layer ≡ layer → entry.place.header ≡ end.offset → entry.kind ≡ end.kind
+    → IsEntryIn a layer h entry
 entered a layer h end entry g f l p k = record {
   number = l;
   final = subst (λ x. IsFinal a h x) (sym p) f;

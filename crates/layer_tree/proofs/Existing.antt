@@ -44,7 +44,8 @@ path_cases p q = go (path_cmp p q) refl
     go Equal e = inr (inl (equal_paths p q e))
     go Greater e = inr (inr (path_order.antisymm q p ∙ ap ordering_reverse e))
 
-all_after : (p q : Path) (fs : List Entry) → path_cmp p q ≡ Less → AllByRecursion (λ f. path_cmp q f.path ≡ Less) fs → AllByRecursion (λ f. path_cmp p f.path ≡ Less) fs
+all_after : (p q : Path) (fs : List Entry) → path_cmp p q ≡ Less
+    → AllByRecursion (λ f. path_cmp q f.path ≡ Less) fs → AllByRecursion (λ f. path_cmp p f.path ≡ Less) fs
 all_after p q [] l r = tt
 all_after p q (f ∷ fs) l r = (path_order.trans p q f.path l r.0, all_after p q fs l r.1)
 
@@ -92,7 +93,8 @@ free_decided [] im path = inl tt
 free_decided (a ∷ above) im path =
     both_decided (both_decided (not_decided (has_decided a im.0 path)) (not_decided (cut_decided a im.0 path))) (free_decided above im.1 path)
 
-no_top : (a : List ℕ) (above : List (List ℕ)) (path : Path) → ¬ (IsIn a path × IsFree above path) → ¬ ((i h : ℕ) × IsTop above path i h) → (i h : ℕ) → ¬ IsTop (a ∷ above) path i h
+no_top : (a : List ℕ) (above : List (List ℕ)) (path : Path) → ¬ (IsIn a path × IsFree above path)
+    → ¬ ((i h : ℕ) × IsTop above path i h) → (i h : ℕ) → ¬ IsTop (a ∷ above) path i h
 no_top a above path m n zero h t = m ((h, t.0), t.1)
 no_top a above path m n (suc i) h t = n (i, h, t)
 
@@ -115,7 +117,8 @@ one_top (a ∷ above) im path (suc i) h zero g t u = absurd (top_in above path i
 one_top (a ∷ above) im path (suc i) h (suc j) g t u = let r = one_top above im.1 path i h j g t u in (ap suc r.0, r.1)
 
 -- where hard links from it end
-top_end : (layers : List (List ℕ)) → AreImages layers → (path : Path) (i h : ℕ) → IsTop layers path i h → (a : List ℕ) × (slice_get layers i ≡ Some a) × ((e : ℕ) × IsFinal a h e)
+top_end : (layers : List (List ℕ)) → AreImages layers → (path : Path) (i h : ℕ) → IsTop layers path i h
+    → (a : List ℕ) × (slice_get layers i ≡ Some a) × ((e : ℕ) × IsFinal a h e)
 top_end [] im path i h t = absurd t
 top_end (a ∷ above) im path zero h t = (a, refl, has_end a im.0 path h t.0)
 top_end (a ∷ above) im path (suc i) h t = top_end above im.1 path i h t
@@ -173,7 +176,9 @@ module _ (layers : List (List ℕ)) (im : AreImages layers) where
 AreAllPaths : List (List ℕ) → List Path → Type 0
 AreAllPaths layers all = (path : Path) (i h : ℕ) → IsTop layers path i h → Contains all path
 
-more_paths : (a : List ℕ) (above : List (List ℕ)) (here up : List Path) → ((path : Path) (h : ℕ) → Has a path h → Contains here path) → AreAllPaths above up → AreAllPaths (a ∷ above) (here ++ up)
+more_paths : (a : List ℕ) (above : List (List ℕ)) (here up : List Path)
+    → ((path : Path) (h : ℕ) → Has a path h → Contains here path) → AreAllPaths above up
+    → AreAllPaths (a ∷ above) (here ++ up)
 unfolding AreAllPaths
 more_paths a above here up f g path zero h t = Contains-append_left here up path (f path h t.0)
 more_paths a above here up f g path (suc i) h t = Contains-append_right here up path (g path i h t)

@@ -47,7 +47,8 @@ single a i layer h n entry mark cut other w = record {
 
 module _ (a : List ℕ) (i : IsImage a) (layer h : ℕ) (ms : List Named) (es : List (Shoot Entry)) (mm ws out : List (Shoot Mark)) (members : AreByName a h ms) (b : AreBuilt a layer ms es mm) (wh : AreWhiteouts ms ws) (laid : AreLaid united mm ws out) where
   -- the member of a name is among the sorted ones
-  member_at : (n : List ℕ) (c : ℕ) → IsMember a h c → name a c ≡ Some n → (j : ℕ) × (m : Named) × (slice_get ms j ≡ Some m) × (m.head.offset ≡ c) × (m.name.now ≡ n)
+  member_at : (n : List ℕ) (c : ℕ) → IsMember a h c → name a c ≡ Some n
+      → (j : ℕ) × (m : Named) × (slice_get ms j ≡ Some m) × (m.head.offset ≡ c) × (m.name.now ≡ n)
   member_at n c x f =
       let w = members.whole c x in
       let e = each_at ms w.0 w.1 members.each w.2 in
@@ -73,13 +74,16 @@ module _ (a : List ℕ) (i : IsImage a) (layer h : ℕ) (ms : List Named) (es : 
   one_member : (n : List ℕ) (c d : ℕ) → IsMember a h c → name a c ≡ Some n → IsMember a h d → name a d ≡ Some n → c ≡ d
   one_member n c d x f y g = one_header a i (n ∷ []) h c d (c, x, f, refl) (d, y, g, refl)
 
-  shown_below : (n : List ℕ) (path : Path) (g : ℕ) → IsPlain (n ∷ path) → Leads a h (n ∷ path) g → FoundBuilt a layer h n ms es mm → IsSomeAnd (through (named n es) path) (λ e. IsEntryIn a layer g e)
+  shown_below : (n : List ℕ) (path : Path) (g : ℕ) → IsPlain (n ∷ path) → Leads a h (n ∷ path) g
+      → FoundBuilt a layer h n ms es mm → IsSomeAnd (through (named n es) path) (λ e. IsEntryIn a layer g e)
   shown_below n path g p l (nowhere f k q) = (let m = member_at n l.0 l.1 l.2 in absurd (p.0 (q m.0 m.1 m.2 m.4)))
   shown_below n path g p l (somewhere m e k f u r s t v) =
       let here : m.head.offset ≡ l.0 = one_member n m.head.offset l.0 t.member (t.name ∙ ap Some r) l.1 l.2 in
       rw f (v.entries.shown path g p.1 (subst (λ x. Leads a x path g) (sym here) l.3))
 
-  only_below : (n : List ℕ) (path : Path) (e : Entry) → through (named n es) path ≡ Some e → FoundBuilt a layer h n ms es mm → IsPlain (n ∷ path) × ((g : ℕ) × Leads a h (n ∷ path) g × IsEntryIn a layer g e)
+  only_below : (n : List ℕ) (path : Path) (e : Entry) → through (named n es) path ≡ Some e
+      → FoundBuilt a layer h n ms es mm
+      → IsPlain (n ∷ path) × ((g : ℕ) × Leads a h (n ∷ path) g × IsEntryIn a layer g e)
   only_below n path e x (nowhere f k q) = (let y = rw f at x in absurd (cc))
   only_below n path e x (somewhere m b k f u r s t v) =
       let w = v.entries.only path e (rw f at x) in
@@ -101,7 +105,9 @@ module _ (a : List ℕ) (i : IsImage a) (layer h : ℕ) (ms : List Named) (es : 
   white_is n path (unmarked f q) = (λ e. (let y = rw f at e in absurd (cc)), λ x. (let m = member_at (marker ++ n) x.0 x.1 x.2 in absurd (q m.0 m.1 m.2 m.4)))
   white_is n path (marked j m k f c s e) = (λ y. (let t = has_at j m s in (m.head.offset, t.member, t.name ∙ ap Some e)), λ x. rw f ((all_cut k c).cut path))
 
-  below_is : (n : List ℕ) (path : Path) → IsPlain (n ∷ path) → FoundBuilt a layer h n ms es mm → (cut_through (named n mm) path ≡ true) ↔ ((c : ℕ) × IsMember a h c × (name a c ≡ Some n) × CutsAt a c path)
+  below_is : (n : List ℕ) (path : Path) → IsPlain (n ∷ path) → FoundBuilt a layer h n ms es mm
+      → (cut_through (named n mm) path ≡ true)
+      ↔ ((c : ℕ) × IsMember a h c × (name a c ≡ Some n) × CutsAt a c path)
   below_is n path p (nowhere f k q) = (λ e. (let y = rw k at e in absurd (cc)), λ x. (let m = member_at n x.0 x.1 x.2 in absurd (p.0 (q m.0 m.1 m.2 m.4))))
   below_is n path p (somewhere m e k f g r s t v) = (
     λ y. (m.head.offset, t.member, t.name ∙ ap Some r, (v.marks.exact path p.1).0 (rw g at y)),
@@ -128,12 +134,15 @@ module _ (a : List ℕ) (i : IsImage a) (layer h : ℕ) (ms : List Named) (es : 
     or_later true y e = refl
     or_later false y e = e
 
-    from_cuts : (n : List ℕ) (path : Path) → IsPlain (n ∷ path) → CutsFrom a h (n ∷ path) → (whole_cut || (cut_through (named n mm) path || cut_through (named n ws) path)) ≡ true
+    from_cuts : (n : List ℕ) (path : Path) → IsPlain (n ∷ path) → CutsFrom a h (n ∷ path)
+        → (whole_cut || (cut_through (named n mm) path || cut_through (named n ws) path)) ≡ true
     from_cuts n path p (inl x) = or_later whole_cut _ (or_later (cut_through (named n mm) path) _ ((white_is n path (find_white n wh)).1 x))
     from_cuts n path p (inr (inl x)) = or_left whole_cut _ (is_whole.1 x)
     from_cuts n path p (inr (inr x)) = or_later whole_cut _ (or_left (cut_through (named n mm) path) _ ((below_is n path p (find_built a layer h n b members.each)).1 x))
 
-    to_cuts : (n : List ℕ) (path : Path) → IsPlain (n ∷ path) → (whole_cut || (cut_through (named n mm) path || cut_through (named n ws) path)) ≡ true → CutsFrom a h (n ∷ path)
+    to_cuts : (n : List ℕ) (path : Path) → IsPlain (n ∷ path)
+        → (whole_cut || (cut_through (named n mm) path || cut_through (named n ws) path)) ≡ true
+        → CutsFrom a h (n ∷ path)
     to_cuts n path p e = elim (or_true whole_cut _ e) [
       | inl x ↦ inr (inl (is_whole.0 x))
       | inr y ↦ elim (or_true (cut_through (named n mm) path) _ y) [

@@ -35,7 +35,8 @@ below_laid None (Some h) = refl
 below_laid (Some l) (Some h) = or_four l.cut h.cut l.opaque h.opaque
 
 -- united marks cut what either cut
-pub cut_united : (f g h : List (List ℕ) → Option Mark) → ((q : Path) → f q ≡ laid_at united (g q) (h q)) → (path : Path) → cut_by f path ≡ (cut_by g path || cut_by h path)
+pub cut_united : (f g h : List (List ℕ) → Option Mark) → ((q : Path) → f q ≡ laid_at united (g q) (h q))
+    → (path : Path) → cut_by f path ≡ (cut_by g path || cut_by h path)
 cut_united f g h e [] = rw (e []) (itself_laid (g []) (h []))
 cut_united f g h e (n ∷ path) =
     rw (e [], below_laid (g []) (h []), cut_united (λ q. f (n ∷ q)) (λ q. g (n ∷ q)) (λ q. h (n ∷ q)) (λ q. e (n ∷ q)) path)
@@ -111,19 +112,25 @@ module _ (first : ℕ) (ls hs : List (List ℕ)) (low high out : TreeRows) (l : 
       over None e = refl
       over (Some x) e = refl
 
-      from_high : (path : Path) (i j k : ℕ) (e : Entry) → i ≡ length ls + j → entry_at high path ≡ Some e → IsEntryOf (first + length ls) hs j k e → IsSomeAnd (entry_at out path) (λ e. IsEntryOf first (ls ++ hs) i k e)
+      from_high : (path : Path) (i j k : ℕ) (e : Entry) → i ≡ length ls + j → entry_at high path ≡ Some e
+          → IsEntryOf (first + length ls) hs j k e
+          → IsSomeAnd (entry_at out path) (λ e. IsEntryOf first (ls ++ hs) i k e)
       from_high path i j k e d f w =
           let g : entry_at out path ≡ Some e = lays.entries path ∙ ap (laid_at upper (unless (cut_by (at_path high.marks) path) (entry_at low path))) f ∙ over (unless (cut_by (at_path high.marks) path) (entry_at low path)) e in
           and_some (IsEntryOf first (ls ++ hs) i k) (entry_at out path) e g (entry_high i j k e d w)
 
-      from_low : (path : Path) (i k : ℕ) (e : Entry) → IsPlain path → IsFree hs path → entry_at low path ≡ Some e → IsEntryOf first ls i k e → IsSomeAnd (entry_at out path) (λ e. IsEntryOf first (ls ++ hs) i k e)
+      from_low : (path : Path) (i k : ℕ) (e : Entry) → IsPlain path → IsFree hs path
+          → entry_at low path ≡ Some e → IsEntryOf first ls i k e
+          → IsSomeAnd (entry_at out path) (λ e. IsEntryOf first (ls ++ hs) i k e)
       from_low path i k e p free f w =
           let c = uncut path p ((free_is hs path).0 free).1 (cut_by (at_path high.marks) path) refl in
           let n = unshown path free (entry_at high path) refl in
           let g : entry_at out path ≡ Some e = lays.entries path ∙ ap (laid_at upper (unless (cut_by (at_path high.marks) path) (entry_at low path))) n ∙ ap (λ b. unless b (entry_at low path)) c ∙ f in
           and_some (IsEntryOf first (ls ++ hs) i k) (entry_at out path) e g (entry_low i k e w)
 
-  decided : (path : Path) (e : Entry) (o p : Option Entry) (b : Bool) → entry_at high path ≡ o → entry_at low path ≡ p → cut_by (at_path high.marks) path ≡ b → laid_at upper (unless b p) o ≡ Some e → (i k : ℕ) × Shows (ls ++ hs) path i k × IsEntryOf first (ls ++ hs) i k e
+  decided : (path : Path) (e : Entry) (o p : Option Entry) (b : Bool) → entry_at high path ≡ o
+      → entry_at low path ≡ p → cut_by (at_path high.marks) path ≡ b → laid_at upper (unless b p) o ≡ Some e
+      → (i k : ℕ) × Shows (ls ++ hs) path i k × IsEntryOf first (ls ++ hs) i k e
   decided path e (Some x) p b f g c r =
       let same : x ≡ e = over (unless b p) r in
       let w = h.only path x f in
@@ -178,6 +185,8 @@ root_uncut lm hm om m e f =
     let v : om.value ≡ united lm.value hm.value = cc in
     ap (λ (x : Mark). x.cut) v ∙ rw (e, f) refl
 
-pub tree_if_ok : {E : Type 0} (first : ℕ) (ls hs : List (List ℕ)) (low high : TreeRows) (r : Result TreeRows E) → IfOk r (λ t. Lays low high t) → IsTreeOf first ls low → IsTreeOf (first + length ls) hs high → IfOk r (λ t. IsTreeOf first (ls ++ hs) t)
+pub tree_if_ok : {E : Type 0} (first : ℕ) (ls hs : List (List ℕ)) (low high : TreeRows) (r : Result TreeRows E)
+    → IfOk r (λ t. Lays low high t) → IsTreeOf first ls low → IsTreeOf (first + length ls) hs high
+    → IfOk r (λ t. IsTreeOf first (ls ++ hs) t)
 tree_if_ok first ls hs low high (Ok t) lays l h = tree_of_both first ls hs low high t l h lays
 tree_if_ok first ls hs low high (Err e) lays l h = tt

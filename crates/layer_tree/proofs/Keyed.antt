@@ -22,7 +22,9 @@ less_by_both x y p q c =
     (λ o e. rw o c)
     (λ o l. absurd (omega arith))
 
-not_less : (x y : Named) → IsKeyed x → IsKeyed y → is_lt (name_cmp (x.key ∷ x.name.now) (y.key ∷ y.name.now)) ≡ false → is_lt (name_cmp x.name.now y.name.now) ≡ false
+not_less : (x y : Named) → IsKeyed x → IsKeyed y
+    → is_lt (name_cmp (x.key ∷ x.name.now) (y.key ∷ y.name.now)) ≡ false
+    → is_lt (name_cmp x.name.now y.name.now) ≡ false
 not_less x y p q f = pick (name_cmp x.name.now y.name.now) refl
   where
     pick : (o : Ordering) → o ≡ name_cmp x.name.now y.name.now → is_lt o ≡ false

@@ -21,7 +21,8 @@ leads_on a d [] e n c l m f = (c, subst (λ x. IsMember a x c) (sym l) m, f, ref
 leads_on a d (k ∷ q) e n c (x, m', f', l) m f = (x, m', f', leads_on a x q e n c l m f)
 
 -- the last name of a path is that of a member
-pub last_member : (a : List ℕ) (d : ℕ) (q : Path) (n : List ℕ) (c : ℕ) → Leads a d (q ++ n ∷ []) c → (e : ℕ) × Leads a d q e × IsMember a e c × (name a c ≡ Some n)
+pub last_member : (a : List ℕ) (d : ℕ) (q : Path) (n : List ℕ) (c : ℕ) → Leads a d (q ++ n ∷ []) c
+    → (e : ℕ) × Leads a d q e × IsMember a e c × (name a c ≡ Some n)
 last_member a d [] n c (x, m, f, l) = (d, refl, subst (λ y. IsMember a d y) l m, subst (λ y. name a y ≡ Some n) l f)
 last_member a d (k ∷ q) n c (x, m, f, l) = let r = last_member a x q n c l in (r.0, (x, m, f, r.1), r.2, r.3)
 

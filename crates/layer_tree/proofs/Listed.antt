@@ -28,7 +28,9 @@ rises_listed : (rows : List (Path × Entry)) → PathsRise rows → Rises (map l
 rises_listed [] r = tt
 rises_listed (x ∷ rows) r = (after x.0 rows r.0, rises_listed rows r.1)
   where
-    after : (p : Path) (rows : List (Path × Entry)) → AllByRecursion (λ y. slice_cmp name_cmp p y.0 ≡ Less) rows → AllByRecursion (λ f. path_cmp p f.path ≡ Less) (map listed rows)
+    after : (p : Path) (rows : List (Path × Entry))
+        → AllByRecursion (λ y. slice_cmp name_cmp p y.0 ≡ Less) rows
+        → AllByRecursion (λ f. path_cmp p f.path ≡ Less) (map listed rows)
     after p [] a = tt
     after p (y ∷ rows) a = (a.0, after p rows a.1)
 
@@ -41,7 +43,8 @@ among_at (x ∷ rows) path e f = elim (same_path_or_not x.0 path) [
 ]
 
 -- in rising rows, each listed one is what is at its path
-at_among : (rows : List (Path × Entry)) → PathsRise rows → (l : Listed) → IsAmong l (map listed rows) → (e : Entry) × (at_path rows l.path ≡ Some e) × (l ≡ listed (l.path, e))
+at_among : (rows : List (Path × Entry)) → PathsRise rows → (l : Listed) → IsAmong l (map listed rows)
+    → (e : Entry) × (at_path rows l.path ≡ Some e) × (l ≡ listed (l.path, e))
 at_among [] r l m = elim m [ ]
 at_among (x ∷ rows) r l (inl i) = (x.1, subst (λ p. at_path (x ∷ rows) p ≡ Some x.1) (sym (ap (λ (k : Listed). k.path) i)) (first x.0), i ∙ ap (λ p. listed (p, x.1)) (sym (ap (λ (k : Listed). k.path) i)))
   where
@@ -58,7 +61,8 @@ at_among (x ∷ rows) r l (inr m) =
       later.2,
     )
   where
-    above : (rows : List (Path × Entry)) → AllByRecursion (λ y. slice_cmp name_cmp x.0 y.0 ≡ Less) rows → IsAmong l (map listed rows) → path_cmp x.0 l.path ≡ Less
+    above : (rows : List (Path × Entry)) → AllByRecursion (λ y. slice_cmp name_cmp x.0 y.0 ≡ Less) rows
+        → IsAmong l (map listed rows) → path_cmp x.0 l.path ≡ Less
     above [] a m = elim m [ ]
     above (y ∷ rows) a (inl i) = subst (λ (k : Listed). path_cmp x.0 k.path ≡ Less) (sym i) a.0
     above (y ∷ rows) a (inr m) = above rows a.1 m

@@ -45,7 +45,9 @@ plain_above [] n p = tt
 plain_above (m ∷ q) n p = (p.0, plain_above q n p.1)
 
 -- a run does not show a path below one that it shows as no directory
-clash : (layers : List (List ℕ)) → AreImages layers → (q : Path) (n : List ℕ) (i h j g : ℕ) (a : List ℕ) → IsPlain (q ++ n ∷ []) → IsTop layers (q ++ n ∷ []) i h → IsTop layers q j g → slice_get layers j ≡ Some a → kind a g ≢ Directory → ⊥
+clash : (layers : List (List ℕ)) → AreImages layers → (q : Path) (n : List ℕ) (i h j g : ℕ) (a : List ℕ)
+    → IsPlain (q ++ n ∷ []) → IsTop layers (q ++ n ∷ []) i h → IsTop layers q j g
+    → slice_get layers j ≡ Some a → kind a g ≢ Directory → ⊥
 clash [] im q n i h j g a p t u s k = t
 clash (b ∷ above) im q n zero h zero g a p t u s k =
     let f : b ≡ a = cc in
@@ -66,7 +68,8 @@ clash (b ∷ above) im q n (suc i) h zero g a p t u s k = has_clash above im.1 i
 clash (b ∷ above) im q n (suc i) h (suc j) g a p t u s k = clash above im.1 q n i h j g a p t u s k
 
 -- a run that shows a path, and shows nothing one name above it, is none
-gap : (layers : List (List ℕ)) → AreImages layers → (q : Path) (n : List ℕ) (i h : ℕ) → IsPlain (q ++ n ∷ []) → IsTop layers (q ++ n ∷ []) i h → ((j g : ℕ) → ¬ IsTop layers q j g) → ⊥
+gap : (layers : List (List ℕ)) → AreImages layers → (q : Path) (n : List ℕ) (i h : ℕ) → IsPlain (q ++ n ∷ [])
+    → IsTop layers (q ++ n ∷ []) i h → ((j g : ℕ) → ¬ IsTop layers q j g) → ⊥
 gap [] im q n i h p t none = t
 gap (a ∷ above) im q n zero h p t none = let d = above_has a im.0 q n (h, t.0) in none zero d.0 (d.1, free above im.1 (λ j g u. none (suc j) g u) t.1)
   where

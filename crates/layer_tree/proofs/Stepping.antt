@@ -31,7 +31,9 @@ greater a b f g = by (name_cmp a b) refl
     by Greater e = above_of a b e
 
 module _ {T : Type 0} where
-  pub pass_one : (name : List ℕ) (branches rest later : List (Shoot T)) (s : Shoot T) → IsPassed name branches rest → rest ≡ s ∷ later → name_cmp s.name name ≡ Less → IsPassed name branches later
+  pub pass_one : (name : List ℕ) (branches rest later : List (Shoot T)) (s : Shoot T)
+      → IsPassed name branches rest → rest ≡ s ∷ later → name_cmp s.name name ≡ Less
+      → IsPassed name branches later
   pass_one name branches rest later s w e l =
       let r : NamesRise (s ∷ later) = subst NamesRise e w.names in
       record {
@@ -45,15 +47,19 @@ module _ {T : Type 0} where
   pub passed_all : (name : List ℕ) (branches rest : List (Shoot T)) → IsPassed name branches rest → NoneBefore name rest → IsFrom name branches rest
   passed_all name branches rest w n = record { none = n; names = w.names; same = w.same }
 
-  pub none_named : (name : List ℕ) (s : Shoot T) (later : List (Shoot T)) → NamesRise (s ∷ later) → name_cmp s.name name ≢ Less → s.name ≢ name → named name (s ∷ later) ≡ None
+  pub none_named : (name : List ℕ) (s : Shoot T) (later : List (Shoot T)) → NamesRise (s ∷ later)
+      → name_cmp s.name name ≢ Less → s.name ≢ name → named name (s ∷ later) ≡ None
   none_named name s later r f g = let l = greater s.name name f g in named_below name (s ∷ later) (l, all_above name s.name later l r.0)
 
   -- the first of these branches has another name, so none has this one
-  pub other_first : (name : List ℕ) (branches later : List (Shoot T)) (s : Shoot T) → NoneBefore name branches → NamesRise branches → branches ≡ s ∷ later → s.name ≢ name → named name branches ≡ None
+  pub other_first : (name : List ℕ) (branches later : List (Shoot T)) (s : Shoot T) → NoneBefore name branches
+      → NamesRise branches → branches ≡ s ∷ later → s.name ≢ name → named name branches ≡ None
   other_first name branches later s f r e g = ap (named name) e ∙ none_named name s later (subst NamesRise e r) (subst (NoneBefore name) e f) g
 
   -- the walk stops at the first name that does not come before
-  pub stop_at : (name : List ℕ) (branches rest later : List (Shoot T)) (s : Shoot T) → IsPassed name branches rest → rest ≡ s ∷ later → name_cmp s.name name ≢ Less → IsFrom name branches rest
+  pub stop_at : (name : List ℕ) (branches rest later : List (Shoot T)) (s : Shoot T)
+      → IsPassed name branches rest → rest ≡ s ∷ later → name_cmp s.name name ≢ Less
+      → IsFrom name branches rest
   stop_at name branches rest later s w e f = passed_all name branches rest w (subst (NoneBefore name) (sym e) f)
 
   pub stop_empty : (name : List ℕ) (branches rest : List (Shoot T)) → IsPassed name branches rest → length rest ≡ 0 → IsFrom name branches rest
@@ -67,11 +73,14 @@ module _ {T : Type 0} where
 pub data Keeps {T : Type 0} (marks : List (Shoot Mark)) : List (Shoot T) → List (Shoot T) → Type 0 where
   None_left : Keeps marks [] []
   Untouched : (l : Shoot T) (ls out : List (Shoot T)) → named l.name marks ≡ None → Keeps marks ls out → Keeps marks (l ∷ ls) (l ∷ out)
-  Left_out : (l : Shoot T) (ls out : List (Shoot T)) (m : Shoot Mark) → named l.name marks ≡ Some m → IsLeftOut m → Keeps marks ls out → Keeps marks (l ∷ ls) out
-  Kept : (l b : Shoot T) (ls out : List (Shoot T)) (m : Shoot Mark) → named l.name marks ≡ Some m → IsKept l m b → Keeps marks ls out → Keeps marks (l ∷ ls) (b ∷ out)
+  Left_out : (l : Shoot T) (ls out : List (Shoot T)) (m : Shoot Mark) → named l.name marks ≡ Some m
+      → IsLeftOut m → Keeps marks ls out → Keeps marks (l ∷ ls) out
+  Kept : (l b : Shoot T) (ls out : List (Shoot T)) (m : Shoot Mark) → named l.name marks ≡ Some m
+      → IsKept l m b → Keeps marks ls out → Keeps marks (l ∷ ls) (b ∷ out)
 
 module _ {T : Type 0} (marks : List (Shoot Mark)) where
-  above : {ls out : List (Shoot T)} → Keeps marks ls out → (n : List ℕ) → AllByRecursion (λ t. name_cmp n t.name ≡ Less) ls → AllByRecursion (λ t. name_cmp n t.name ≡ Less) out
+  above : {ls out : List (Shoot T)} → Keeps marks ls out → (n : List ℕ)
+      → AllByRecursion (λ t. name_cmp n t.name ≡ Less) ls → AllByRecursion (λ t. name_cmp n t.name ≡ Less) out
   above None_left n a = tt
   above (Untouched l ls out e k) n a = (a.0, above k n a.1)
   above (Left_out l ls out m e c k) n a = above k n a.1
@@ -97,7 +106,8 @@ module _ {T : Type 0} (marks : List (Shoot Mark)) where
   unless_none true = refl
   unless_none false = refl
 
-  found : {ls out : List (Shoot T)} → Keeps marks ls out → NamesRise ls → (n : List ℕ) (p : Path) → through (named n out) p ≡ unless (cut_through (named n marks) p) (through (named n ls) p)
+  found : {ls out : List (Shoot T)} → Keeps marks ls out → NamesRise ls → (n : List ℕ) (p : Path)
+      → through (named n out) p ≡ unless (cut_through (named n marks) p) (through (named n ls) p)
   found None_left r n p = sym (unless_none (cut_through (named n marks) p))
   found (Untouched l ls out e k) r n p = elim (same_or_not l.name n) [
     | inl x ↦ (let f : named n marks ≡ None = subst (λ m. named m marks ≡ None) x.0 e in rw (x.1, f) refl)
@@ -139,7 +149,9 @@ all_same : {T : Type 0} (ls : List (Shoot T)) (marks : List (Shoot Mark)) → Al
 all_same [] marks = tt
 all_same (l ∷ ls) marks = (refl, all_same ls marks)
 
-pub keeping_begun : {T : Type 0} (lows L : List (Shoot T)) (marks : List (Shoot Mark)) → IsForest lows → NamesRise marks → L ≡ reverse lows → reverse (reverse lows) ≡ lows → Keeping lows (reverse L) [] marks marks
+pub keeping_begun : {T : Type 0} (lows L : List (Shoot T)) (marks : List (Shoot Mark)) → IsForest lows
+    → NamesRise marks → L ≡ reverse lows → reverse (reverse lows) ≡ lows
+    → Keeping lows (reverse L) [] marks marks
 keeping_begun lows L marks f r e g = rw (e, g) (record { kept = λ more k. k; names = f.names; rest_names = r; same = all_same lows marks; smaller = omega arith })
 
 module _ {T : Type 0} (lows L L' out : List (Shoot T)) (marks rest rest' : List (Shoot Mark)) (l : Shoot T) (inv : Keeping lows (reverse L) out marks rest) (e : L ≡ L' ++ l ∷ []) (from : IsFrom l.name rest rest') where
@@ -157,7 +169,9 @@ module _ {T : Type 0} (lows L L' out : List (Shoot T)) (marks rest rest' : List 
   not_less : (a b : List ℕ) → name_cmp a b ≡ Less → name_cmp b a ≢ Less
   not_less a b f g = not_below_itself a (nat_list_cmp_total.trans a b a f g)
 
-  later : (ls : List (Shoot T)) → AllByRecursion (λ t. name_cmp l.name t.name ≡ Less) ls → AllByRecursion (λ k. named k.name rest ≡ named k.name marks) ls → AllByRecursion (λ k. named k.name rest' ≡ named k.name marks) ls
+  later : (ls : List (Shoot T)) → AllByRecursion (λ t. name_cmp l.name t.name ≡ Less) ls
+      → AllByRecursion (λ k. named k.name rest ≡ named k.name marks) ls
+      → AllByRecursion (λ k. named k.name rest' ≡ named k.name marks) ls
   later [] a s = tt
   later (k ∷ ks) a s = (from.same k.name (not_less l.name k.name a.0) ∙ s.0, later ks a.1 s.1)
 
@@ -169,7 +183,9 @@ module _ {T : Type 0} (lows L L' out : List (Shoot T)) (marks rest rest' : List 
   shorter : length (spread (reverse L')) ≤ length (spread lows)
   shorter = let s = rw turned at inv.smaller in omega (arith, grown l (reverse L'), s)
 
-  on : (out' : List (Shoot T)) → ((more : List (Shoot T)) → Keeps marks (reverse L') more → Keeps marks lows (out' ++ more)) → Keeping lows (reverse L') out' marks rest'
+  on : (out' : List (Shoot T))
+      → ((more : List (Shoot T)) → Keeps marks (reverse L') more → Keeps marks lows (out' ++ more))
+      → Keeping lows (reverse L') out' marks rest'
   on out' k = record { kept = k; names = rises.1; rest_names = from.names; same = all_later; smaller = shorter }
 
   one_more : (x : Shoot T) (more out' : List (Shoot T)) → out' ≡ out ++ x ∷ [] → Keeps marks lows (out ++ (x ∷ more)) → Keeps marks lows (out' ++ more)
@@ -181,13 +197,16 @@ module _ {T : Type 0} (lows L L' out : List (Shoot T)) (marks rest rest' : List 
   pub left_out : (m : Shoot Mark) → named l.name rest' ≡ Some m → IsLeftOut m → Keeping lows (reverse L') out marks rest'
   left_out m n c = on out (λ more k. inv.kept more (rw turned (Left_out l (reverse L') more m (sym at_mark ∙ n) c k)))
 
-  pub kept_one : (m : Shoot Mark) (b : Shoot T) (out' : List (Shoot T)) → named l.name rest' ≡ Some m → IsKept l m b → out' ≡ out ++ b ∷ [] → Keeping lows (reverse L') out' marks rest'
+  pub kept_one : (m : Shoot Mark) (b : Shoot T) (out' : List (Shoot T)) → named l.name rest' ≡ Some m
+      → IsKept l m b → out' ≡ out ++ b ∷ [] → Keeping lows (reverse L') out' marks rest'
   kept_one m b out' n c o = on out' (λ more k. one_more b more out' o (inv.kept (b ∷ more) (rw turned (Kept l b (reverse L') more m (sym at_mark ∙ n) c k))))
 
   pub below_measure : 3 * length l.below + 2 < 3 * length (spread lows)
   below_measure = let s = rw turned at inv.smaller in omega (arith, grown l (reverse L'), s)
 
-pub keeping_ended : {T : Type 0} (lows L out : List (Shoot T)) (marks rest : List (Shoot Mark)) → Keeping lows (reverse L) out marks rest → L ≡ [] → IsForest lows → NamesRise marks → AreKept lows marks out
+pub keeping_ended : {T : Type 0} (lows L out : List (Shoot T)) (marks rest : List (Shoot Mark))
+    → Keeping lows (reverse L) out marks rest → L ≡ [] → IsForest lows → NamesRise marks
+    → AreKept lows marks out
 keeping_ended lows L out marks rest inv e f r = are_kept marks (subst (Keeps marks lows) (append-nil out) (inv.kept [] (rw e None_left))) f r
 
 -- a mark that cuts its branch leaves nothing

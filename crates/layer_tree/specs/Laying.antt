@@ -1,6 +1,6 @@
 -- A tree laid on a tree: the upper one's marks leave out entries of the lower one, its entries cover what is left, and
 -- the marks are united.
-use Rattle.std.specs.Prelude.{◌≡◌, ◌≢◌, ℕ, List, [], ◌∷◌, Bool, true, ◌||◌, Option, None, if◌then◌else◌}
+use Rattle.std.specs.Prelude.{◌≡◌, ◌≢◌, ℕ, List, [], ◌∷◌, Bool, true, ◌||◌, Option, None, MatchOption, if◌then◌else◌}
 use Rattle.path_tree.specs.Rows.{Path, Shoot, name_cmp, named, NamesRise, spread, whole, at_path, IsRising, IsForest, PathsRise}
 use Rattle.std.specs.declared.cmp.Ordering.TheVariants.{Less}
 use Rattle.path_tree.specs.Laying.{laid_at}
@@ -22,9 +22,13 @@ abbrev pub united : Mark → Mark → Mark
 united low high = record { cut = low.cut || high.cut; opaque = low.opaque || high.opaque }
 
 -- these branches are what marks at and below their paths leave of the others
-pub record AreKept {T : Type 0} (lows : List (Shoot T)) (marks : List (Shoot Mark)) (out : List (Shoot T)) : Type 0 where
+pub record AreKept {T : Type 0} (lows : List (Shoot T)) (marks : List (Shoot Mark))
+    (out : List (Shoot T)) : Type 0 where
   pub forest : IsForest out
-  pub at : (n : List ℕ) (path : Path) → at_path (spread out) (n ∷ path) ≡ unless (cut_by (λ q. at_path (spread marks) (n ∷ q)) path) (at_path (spread lows) (n ∷ path))
+  pub at : (n : List ℕ) (path : Path)
+      → at_path (spread out) (n ∷ path)
+      ≡ unless (cut_by (λ q. at_path (spread marks) (n ∷ q)) path)
+      (at_path (spread lows) (n ∷ path))
 
 -- all of a branch is cut
 pub record IsLeftOut (mark : Shoot Mark) : Type 0 where
@@ -34,13 +38,23 @@ pub record IsLeftOut (mark : Shoot Mark) : Type 0 where
 pub record IsKept {T : Type 0} (low : Shoot T) (mark : Shoot Mark) (out : Shoot T) : Type 0 where
   pub name : out.name ≡ low.name
   pub rising : IsRising out
-  pub at : (path : Path) → at_path (whole out) path ≡ unless (cut_by (at_path (whole mark)) path) (at_path (whole low) path)
+  pub at : (path : Path)
+      → at_path (whole out) path
+      ≡ unless (cut_by (at_path (whole mark)) path) (at_path (whole low) path)
+
+-- what marks leave of a branch; none where they cut all of it
+abbrev pub IsLeft : {T : Type 0} → Shoot T → Shoot Mark → Option (Shoot T) → Type 0
+IsLeft low mark out = MatchOption out (IsLeftOut mark) (λ b. IsKept low mark b)
 
 -- the tree is high laid on low
 pub record Lays (low high out : TreeRows) : Type 0 where
   pub rising : PathsRise out.entries
-  pub entries : (path : Path) → entry_at out path ≡ laid_at upper (unless (cut_by (at_path high.marks) path) (entry_at low path)) (entry_at high path)
-  pub marks : (path : Path) → at_path out.marks path ≡ laid_at united (at_path low.marks path) (at_path high.marks path)
+  pub entries : (path : Path)
+      → entry_at out path
+      ≡ laid_at upper (unless (cut_by (at_path high.marks) path) (entry_at low path))
+      (entry_at high path)
+  pub marks : (path : Path)
+      → at_path out.marks path ≡ laid_at united (at_path low.marks path) (at_path high.marks path)
 
 -- no branch has a name that comes before this one
 abbrev pub NoneBefore : {T : Type 0} → List ℕ → List (Shoot T) → Type 0

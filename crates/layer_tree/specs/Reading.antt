@@ -3,6 +3,7 @@ use Rattle.std.specs.Prelude.{◌≡◌, ◌≢◌, ℕ, ◌+◌, ◌⊎◌, ◌
 use Rattle.std.specs.List.{AllByRecursion}
 use Rattle.std.specs.declared.cmp.Ordering.TheVariants.{Less}
 use Rattle.romfs_format.specs.declared.head.Kind.TheVariants.{Directory}
+use Rattle.romfs_format.specs.declared.limits.TheConstants.{MAX_NAMES}
 use Rattle.romfs_format.specs.Fields.{kind, name}
 use Rattle.romfs_format.specs.Chains.{IsMember, Leads, Has}
 use Rattle.romfs_format.specs.Links.{IsFinal}
@@ -32,11 +33,12 @@ pub record IsNamedMember (a : List ℕ) (d : ℕ) (m : Named) : Type 0 where
 pub record AreByName (a : List ℕ) (d : ℕ) (ms : List Named) : Type 0 where
   pub rising : NamedRise ms
   pub each : AllByRecursion (IsNamedMember a d) ms
-  pub whole : (h : ℕ) → IsMember a d h → (k : ℕ) × (m : Named) × (slice_get ms k ≡ Some m) × (m.head.offset ≡ h)
+  pub whole : (h : ℕ) → IsMember a d h
+      → (k : ℕ) × (m : Named) × (slice_get ms k ≡ Some m) × (m.head.offset ≡ h)
 
--- a path of as many names as are left to 512 leads to h
+-- a path leads to h that has as many names less than a path may have as are left
 abbrev pub IsAtDepth : List ℕ → ℕ → ℕ → Type 0
-IsAtDepth a h left = (path : Path) × Has a path h × (length path + left ≡ 512)
+IsAtDepth a h left = (path : Path) × Has a path h × (length path + left ≡ MAX_NAMES)
 
 -- what the name of an opaque marker says after .wh.
 abbrev pub rest_of_opaque : List ℕ
@@ -52,7 +54,8 @@ abbrev pub CutsFrom : List ℕ → ℕ → Path → Type 0
 CutsFrom a d [] = ⊥
 CutsFrom a d (n ∷ path) =
     HasNamed a d (marker ++ n) ⊎ HasNamed a d opaque
-    ⊎ ((c : ℕ) × IsMember a d c × (name a c ≡ Some n) × ((kind a c ≢ Directory) ⊎ CutsFrom a c path))
+    ⊎ ((c : ℕ) × IsMember a d c × (name a c ≡ Some n)
+    × ((kind a c ≢ Directory) ⊎ CutsFrom a c path))
 
 -- the same from a header of any kind
 abbrev pub CutsAt : List ℕ → ℕ → Path → Type 0
@@ -67,38 +70,50 @@ pub record IsEntryIn (a : List ℕ) (layer h : ℕ) (entry : Entry) : Type 0 whe
 -- the branch has the entries of all plain paths from the header h
 pub record IsBranchOf (a : List ℕ) (layer h : ℕ) (b : Shoot Entry) : Type 0 where
   pub rising : IsRising b
-  pub shown : (path : Path) (g : ℕ) → IsPlain path → Leads a h path g → IsSomeAnd (at_path (whole b) path) (λ entry. IsEntryIn a layer g entry)
-  pub only : (path : Path) (entry : Entry) → at_path (whole b) path ≡ Some entry → IsPlain path × ((g : ℕ) × Leads a h path g × IsEntryIn a layer g entry)
+  pub shown : (path : Path) (g : ℕ) → IsPlain path → Leads a h path g
+      → IsSomeAnd (at_path (whole b) path) (λ entry. IsEntryIn a layer g entry)
+  pub only : (path : Path) (entry : Entry) → at_path (whole b) path ≡ Some entry
+      → IsPlain path × ((g : ℕ) × Leads a h path g × IsEntryIn a layer g entry)
 
 -- the branch has the marks of all that is cut from the header h
 pub record IsMarkOf (a : List ℕ) (h : ℕ) (b : Shoot Mark) : Type 0 where
   pub rising : IsRising b
-  pub exact : (path : Path) → IsPlain path → IsTrue (cut_by (at_path (whole b)) path) ↔ CutsAt a h path
+  pub exact : (path : Path) → IsPlain path
+      → IsTrue (cut_by (at_path (whole b)) path) ↔ CutsAt a h path
 
 -- both, with the name n
-pub record AreBranchesOf (a : List ℕ) (layer h : ℕ) (n : List ℕ) (e : Shoot Entry) (k : Shoot Mark) : Type 0 where
+pub record AreBranchesOf (a : List ℕ) (layer h : ℕ) (n : List ℕ) (e : Shoot Entry)
+    (k : Shoot Mark) : Type 0 where
   pub entry_name : e.name ≡ n
   pub mark_name : k.name ≡ n
   pub entries : IsBranchOf a layer h e
   pub marks : IsMarkOf a h k
 
+-- the two that are made of the header h under the name n
+abbrev pub IsMadeOf : List ℕ → ℕ → ℕ → List ℕ → (Shoot Entry × Shoot Mark) → Type 0
+IsMadeOf a layer h n made = AreBranchesOf a layer h n made.0 made.1
+
 -- members that are no markers have become branches of entries and of marks
-pub data AreBuilt (a : List ℕ) (layer : ℕ) : List Named → List (Shoot Entry) → List (Shoot Mark) → Type 0 where
+pub data AreBuilt (a : List ℕ) (layer : ℕ) : List Named → List (Shoot Entry) → List (Shoot Mark)
+    → Type 0 where
   none_built : AreBuilt a layer [] [] []
   hidden : (m : Named) (ms : List Named) (es : List (Shoot Entry)) (ks : List (Shoot Mark))
       → IsMarker m.name.now → AreBuilt a layer ms es ks → AreBuilt a layer (m ∷ ms) es ks
-  built : (m : Named) (ms : List Named) (e : Shoot Entry) (es : List (Shoot Entry)) (k : Shoot Mark) (ks : List (Shoot Mark))
-      → ¬ IsMarker m.name.now → AreBranchesOf a layer m.head.offset m.name.now e k → AreBuilt a layer ms es ks
+  built : (m : Named) (ms : List Named) (e : Shoot Entry) (es : List (Shoot Entry))
+      (k : Shoot Mark) (ks : List (Shoot Mark))
+      → ¬ IsMarker m.name.now → AreBranchesOf a layer m.head.offset m.name.now e k
+      → AreBuilt a layer ms es ks
       → AreBuilt a layer (m ∷ ms) (e ∷ es) (k ∷ ks)
 
 -- markers have become cut marks of what their names say after .wh.
 pub data AreWhiteouts : List Named → List (Shoot Mark) → Type 0 where
   none_white : AreWhiteouts [] []
-  other : (m : Named) (ms : List Named) (ks : List (Shoot Mark)) → ¬ IsMarker m.name.now → AreWhiteouts ms ks → AreWhiteouts (m ∷ ms) ks
+  other : (m : Named) (ms : List Named) (ks : List (Shoot Mark)) → ¬ IsMarker m.name.now
+      → AreWhiteouts ms ks → AreWhiteouts (m ∷ ms) ks
   white : (m : Named) (ms : List Named) (k : Shoot Mark) (ks : List (Shoot Mark))
       → m.name.now ≡ marker ++ k.name → k.value.cut ≡ true → k.below ≡ [] → AreWhiteouts ms ks
       → AreWhiteouts (m ∷ ms) (k ∷ ks)
 
--- members of a directory, and how many names are left to 512 below a path to it
+-- members of a directory, and how many names are left below a path to it
 abbrev pub AreMembersAt : List ℕ → ℕ → List Named → Type 0
 AreMembersAt a left ms = (d : ℕ) × AllByRecursion (IsNamedMember a d) ms × IsAtDepth a d left

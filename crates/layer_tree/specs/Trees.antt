@@ -25,20 +25,24 @@ cuts_at t path = is_plain path && cut_by (at_path t.marks) path
 -- the children of a directory, in the order of their names, with all that is below them
 pub record AreChildren (t : TreeRows) (path : Path) (children : List (Shoot Entry)) : Type 0 where
   pub forest : IsForest children
-  pub at : (name : List ℕ) (q : Path) → entry_at t (path ++ name ∷ q) ≡ at_path (spread children) (name ∷ q)
+  pub at : (name : List ℕ) (q : Path)
+      → entry_at t (path ++ name ∷ q) ≡ at_path (spread children) (name ∷ q)
 
 -- the entry is that of the header h in layer i of a run whose lowest layer is the first: it has the place and the
 -- kind of the header where hard links from h end
 pub record IsEntryOf (first : ℕ) (layers : List (List ℕ)) (i h : ℕ) (entry : Entry) : Type 0 where
   pub layer : entry.place.layer ≡ first + i
-  pub end : (a : List ℕ) × (slice_get layers i ≡ Some a) × IsFinal a h entry.place.header × (entry.kind ≡ kind a entry.place.header)
+  pub end : (a : List ℕ) × (slice_get layers i ≡ Some a) × IsFinal a h entry.place.header
+      × (entry.kind ≡ kind a entry.place.header)
 
 -- the tree is that of the run of layers whose lowest has the number first: it has an entry exactly at each path
 -- that the run shows, and it cuts exactly what the run cuts
 pub record IsTreeOf (first : ℕ) (layers : List (List ℕ)) (t : TreeRows) : Type 0 where
   pub rising : PathsRise t.entries
-  pub shown : (path : Path) (i h : ℕ) → Shows layers path i h → IsSomeAnd (entry_at t path) (λ entry. IsEntryOf first layers i h entry)
-  pub only : (path : Path) (entry : Entry) → entry_at t path ≡ Some entry → (i h : ℕ) × Shows layers path i h × IsEntryOf first layers i h entry
+  pub shown : (path : Path) (i h : ℕ) → Shows layers path i h
+      → IsSomeAnd (entry_at t path) (λ entry. IsEntryOf first layers i h entry)
+  pub only : (path : Path) (entry : Entry) → entry_at t path ≡ Some entry
+      → (i h : ℕ) × Shows layers path i h × IsEntryOf first layers i h entry
   pub cuts : (path : Path) → IsTrue (cuts_at t path) ↔ IsCut layers path
 
 -- an entry as the listing of a stack has it

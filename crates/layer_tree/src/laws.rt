@@ -15,7 +15,8 @@ ghost use Rattle.layer_tree.specs.Trees.{TreeRows, entry_at, cuts_at, AreChildre
 /// The entries of a tree whose layers are numbered from 0, in the order of their paths, are the listing of these
 /// layers.
 pub fn entries_are_the_listing()
-    ensures { (layers : List (List ℕ)) (t : TreeRows) → IsTreeOf 0 layers t → IsListing layers (listing t) }
+    ensures { (layers : List (List ℕ)) (t : TreeRows) →
+        IsTreeOf 0 layers t → IsListing layers (listing t) }
 {}
 
 /// Layers that are the accessible bytes of sound images have a listing, whether or not memory is enough to make a tree
@@ -30,18 +31,22 @@ pub fn sound_layers_have_a_listing()
 /// entries below them. So every bracketing of a list of layers gives one answer.
 pub fn one_tree()
     ensures entries { (first : ℕ) (layers : List (List ℕ)) (s t : TreeRows) →
-        IsTreeOf first layers s → IsTreeOf first layers t → (path : Path) → entry_at s path ≡ entry_at t path }
+        IsTreeOf first layers s → IsTreeOf first layers t →
+        (path : Path) → entry_at s path ≡ entry_at t path }
     ensures cuts { (first : ℕ) (layers : List (List ℕ)) (s t : TreeRows) →
-        IsTreeOf first layers s → IsTreeOf first layers t → (path : Path) → cuts_at s path ≡ cuts_at t path }
+        IsTreeOf first layers s → IsTreeOf first layers t →
+        (path : Path) → cuts_at s path ≡ cuts_at t path }
     ensures children { (first : ℕ) (layers : List (List ℕ)) (s t : TreeRows) →
-        IsTreeOf first layers s → IsTreeOf first layers t → (path : Path) (cs ds : List (Shoot Entry)) →
-        AreChildren s path cs → AreChildren t path ds →
-        (name : List ℕ) (q : Path) → at_path (spread cs) (name ∷ q) ≡ at_path (spread ds) (name ∷ q) }
+        IsTreeOf first layers s → IsTreeOf first layers t →
+        (path : Path) (cs ds : List (Shoot Entry)) →
+        AreChildren s path cs → AreChildren t path ds → (name : List ℕ) (q : Path) →
+        at_path (spread cs) (name ∷ q) ≡ at_path (spread ds) (name ∷ q) }
 {}
 
 /// The children of a directory are, by their names, what is one name below it.
 pub fn children_are_one_name_below()
-    ensures { (t : TreeRows) (path : Path) (children : List (Shoot Entry)) → AreChildren t path children →
+    ensures { (t : TreeRows) (path : Path) (children : List (Shoot Entry)) →
+        AreChildren t path children →
         (name : List ℕ) → value_of (named name children) ≡ entry_at t (path ++ name ∷ []) }
 {}
 
@@ -52,13 +57,15 @@ pub fn directories_merge()
     ensures upper { (low high : List ℕ) (path : Path) (h : ℕ) →
         IsPlain path → Has high path h → Shows (low ∷ high ∷ []) path 1 h }
     ensures lower { (low high : List ℕ) (path : Path) (h : ℕ) →
-        IsPlain path → Has low path h → ¬ IsIn high path → IsUnremoved high path → Shows (low ∷ high ∷ []) path 0 h }
+        IsPlain path → Has low path h → ¬ IsIn high path → IsUnremoved high path →
+        Shows (low ∷ high ∷ []) path 0 h }
 {}
 
 /// What stands one name below a path stands in a directory: where a path is no directory, or is not shown, it has no
 /// children.
 pub fn children_stand_in_directories()
-    ensures { (first : ℕ) (layers : List (List ℕ)) → AllByRecursion IsImage layers → (t : TreeRows) →
-        IsTreeOf first layers t → (path : Path) (name : List ℕ) (e : Entry) →
-        entry_at t (path ++ name ∷ []) ≡ Some e → IsSomeAnd (entry_at t path) (λ d. d.kind ≡ Directory) }
+    ensures { (first : ℕ) (layers : List (List ℕ)) → AllByRecursion IsImage layers →
+        (t : TreeRows) → IsTreeOf first layers t → (path : Path) (name : List ℕ) (e : Entry) →
+        entry_at t (path ++ name ∷ []) ≡ Some e →
+        IsSomeAnd (entry_at t path) (λ d. d.kind ≡ Directory) }
 {}

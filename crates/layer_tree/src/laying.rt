@@ -4,10 +4,10 @@
 //! and the marks of both are united: an entry that is no directory has left a cut mark, so what lies below a file
 //! is gone before the file is laid on it.
 
-ghost use Rattle.std.specs.Prelude.{◌≡◌, ◌+◌, ◌++◌, ℕ, List, length, IfOk, MatchOption, Some, None, false};
-ghost use Rattle.path_tree.specs.Rows.{NamesRise, IsForest, named};
+ghost use Rattle.std.specs.Prelude.{◌≡◌, ◌+◌, ◌++◌, ℕ, List, length, IfOk, false};
+ghost use Rattle.path_tree.specs.Rows.{NamesRise, IsForest, IsFirstNamed};
 ghost use Rattle.layer_tree.specs.Trees.{IsTreeOf};
-ghost use Rattle.layer_tree.specs.Laying.{AreKept, IsKept, IsLeftOut, IsFrom, NoneBefore, Lays};
+ghost use Rattle.layer_tree.specs.Laying.{AreKept, IsKept, IsLeft, IsFrom, NoneBefore, Lays};
 
 use crate::place::{Entry, Mark};
 use crate::tree::Tree;
@@ -65,7 +65,7 @@ fn first_named<'a, T: Copy + Drop, A: Allocator>(
 ) -> Option<&'a Branch<T, A>>
     requires none { NoneBefore name.now branches.now }
     requires names { NamesRise branches.now }
-    ensures { MatchOption result (named name.now branches.now ≡ None) (λ b. named name.now branches.now ≡ Some b.now) }
+    ensures { IsFirstNamed name.now branches.now result }
 {
     let (first, _) = branches.split_first()?;
     if first.name() == name {
@@ -114,7 +114,7 @@ fn kept_of<T: Copy + Drop, A: Allocator + Copy>(
     low: Branch<T, A>,
     mark: &Branch<Mark, A>,
 ) -> Result<Option<Branch<T, A>>, AllocError>
-    ensures { IfOk result (λ kept. MatchOption kept (IsLeftOut mark.now) (λ b. IsKept low mark.now b)) }
+    ensures { IfOk result (IsLeft low mark.now) }
 {
     if mark.value().cut {
         drop(low);

@@ -12,20 +12,18 @@ ghost use Rattle.romfs_image.specs.Images.{IsImage};
 ghost use Rattle.romfs_image.specs.Readers.{IsGiven};
 ghost use Rattle.layer_tree.specs.Trees.{IsTreeOf};
 ghost use Rattle.path_tree.specs.Rows.{NamesRise, named};
-ghost use Rattle.layer_tree.specs.Reading.{IsAtDepth, IsEntryIn, AreByName, AreBranchesOf, AreBuilt, AreWhiteouts, AreMembersAt, rest_of_opaque};
+ghost use Rattle.layer_tree.specs.Reading.{IsAtDepth, IsEntryIn, AreByName, IsMadeOf, AreBuilt, AreWhiteouts, AreMembersAt, rest_of_opaque};
 
 use crate::members::{Named, is_marker, sorted_members, whiteout_of};
 use crate::place::{Entry, Mark, Place};
 use crate::tree::{Child, Tree};
 use path_tree::{Branch, Name, child, merge};
+use romfs_format::limits::MAX_NAMES;
 use romfs_image::{Ends, Head, Image, Kind};
 use std::alloc::{AllocError, Allocator};
 
 /// What the name of the marker of a whole directory says after `.wh.`.
 const WHOLE: &[u8; 8] = b".wh..opq";
-
-/// How many names a path has at most.
-const DEPTH: u16 = 512;
 
 /// The mark of a path that is cut.
 const CUT: Mark = Mark {
@@ -57,14 +55,14 @@ impl<A: Allocator + Copy> Tree<A> {
             layer,
             &[],
             image.root(),
-            DEPTH,
+            MAX_NAMES,
         )?;
         Ok(Tree { entries, marks })
     }
 }
 
 /// What stands at a header and below it, and what is cut there, under a name. A path to the header has `left` names
-/// less than 512.
+/// less than [`MAX_NAMES`].
 #[cycle(reading)]
 fn branches_of<A: Allocator + Copy>(
     alloc: A,
@@ -79,7 +77,7 @@ fn branches_of<A: Allocator + Copy>(
     requires ends { ends.old ≡ image.now }
     requires given { IsGiven image.now head }
     requires depth { IsAtDepth image.now head.offset left }
-    ensures made { IfOk result (λ made. AreBranchesOf image.now layer head.offset name.now made.0 made.1) }
+    ensures made { IfOk result (IsMadeOf image.now layer head.offset name.now) }
     ensures ends { ends.new ≡ image.now }
 {
     match head.kind {
@@ -105,7 +103,8 @@ fn branches_below<A: Allocator + Copy>(
     requires sound { IsImage image.now }
     requires ends { ends.old ≡ image.now }
     requires members { AreMembersAt image.now left members.now }
-    ensures built { IfOk result (λ made. AreBuilt image.now layer members.now made.entries.items made.marks.items) }
+    ensures built { IfOk result
+        (λ made. AreBuilt image.now layer members.now made.entries.items made.marks.items) }
     ensures ends { ends.new ≡ image.now }
 {
     let mut entries = Vec::with_capacity(alloc, members.len())?;
@@ -158,7 +157,7 @@ fn file<A: Allocator + Copy>(
     requires ends { ends.old ≡ image.now }
     requires given { IsGiven image.now head.now }
     requires other { head.now.kind ≢ Kind.Directory }
-    ensures made { IfOk result (λ made. AreBranchesOf image.now layer head.now.offset name.now made.0 made.1) }
+    ensures made { IfOk result (IsMadeOf image.now layer head.now.offset name.now) }
     ensures ends { ends.new ≡ image.now }
 {
     let end = ends.target(head)?;
@@ -183,7 +182,7 @@ fn folder<A: Allocator + Copy>(
     requires directory { head.now.kind ≡ Kind.Directory }
     requires members { AreByName image.now head.now.offset members.now }
     requires below { AreBuilt image.now layer members.now below.entries.items below.marks.items }
-    ensures { IfOk result (λ made. AreBranchesOf image.now layer head.now.offset name.now made.0 made.1) }
+    ensures { IfOk result (IsMadeOf image.now layer head.now.offset name.now) }
 {
     let entry = entry_at(layer, head);
     let entry_name = Name::of(alloc, name)?;

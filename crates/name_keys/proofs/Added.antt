@@ -28,14 +28,16 @@ begins shared names old = record {
     go (x ∷ names) = sym (append-nil old)
 
 -- a row's name has the bytes that all share
-pub long_here : {X : Type 0} (f : X → List ℕ) (shared : ℕ) (rows : List X) (i : ℕ) (row : X) → i < length rows → row ≡ slice_index_or rows i row → ShareFront shared (map f rows) → shared ≤ length (f row)
+pub long_here : {X : Type 0} (f : X → List ℕ) (shared : ℕ) (rows : List X) (i : ℕ) (row : X) → i < length rows
+    → row ≡ slice_index_or rows i row → ShareFront shared (map f rows) → shared ≤ length (f row)
 long_here f shared rows i row l at front =
     let n = length-map rows f in
     let here : slice_index_or (map f rows) i [] ≡ f row = get_or-map f rows i row [] l ∙ ap f (sym at) in
     subst (λ (x : List ℕ). shared ≤ length x) here (long_each shared (map f rows) front i [] (omega arith))
 
 -- one row more, as the code goes
-pub goes_on : {X : Type 0} (f : X → List ℕ) (shared : ℕ) (rows : List X) (old new new' : List ℕ) (i : ℕ) (row : X) (k : ℕ) → i < length rows → row ≡ slice_index_or rows i row → AreBytes (f row) →
+pub goes_on : {X : Type 0} (f : X → List ℕ) (shared : ℕ) (rows : List X) (old new new' : List ℕ) (i : ℕ) (row : X) (k : ℕ)
+    → i < length rows → row ≡ slice_index_or rows i row → AreBytes (f row) →
     k ≡ key 8 (drop shared (f row)) → new' ≡ new ++ k ∷ [] → Keying shared (map f rows) old new i → Keying shared (map f rows) old new' (i + 1)
 goes_on f shared rows old new new' i row k l at bytes made pushed g =
     let n = length-map rows f in
@@ -49,7 +51,8 @@ goes_on f shared rows old new new' i row k l at bytes made pushed g =
           (pushed ∙ ap (λ (x : List ℕ). x ++ k ∷ []) g.made ∙ append_assoc old (map (key_after shared) (take i (map f rows))) (k ∷ []));
     }
 
-pub ends : (shared : ℕ) (names : List (List ℕ)) (old new : List ℕ) (i : ℕ) → length names ≤ i → Rise names → ShareFront shared names → Keying shared names old new i → AddsKeys shared names old new
+pub ends : (shared : ℕ) (names : List (List ℕ)) (old new : List ℕ) (i : ℕ) → length names ≤ i → Rise names
+    → ShareFront shared names → Keying shared names old new i → AddsKeys shared names old new
 ends shared names old new i l rise front g = record {
   keys = map (key_after shared) names;
   is = g.made ∙ ap (λ (x : List (List ℕ)). old ++ map (key_after shared) x) (take_all i names l);

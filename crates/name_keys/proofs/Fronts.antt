@@ -33,7 +33,9 @@ alike (suc n) (a ∷ x) (b ∷ y) (c ∷ z) p q e =
     (λ o l. absurd (let w : Greater ≡ Less = rw o at p in cc))
 
 -- what the first and the last share, each shares
-all_alike : (n : ℕ) (names : List (List ℕ)) → Rise names → take n (first_of names) ≡ take n (slice_index_or names (length names - 1) []) → (k : ℕ) (d : List ℕ) → k < length names → take n (slice_index_or names k d) ≡ take n (first_of names)
+all_alike : (n : ℕ) (names : List (List ℕ)) → Rise names
+    → take n (first_of names) ≡ take n (slice_index_or names (length names - 1) []) → (k : ℕ) (d : List ℕ)
+    → k < length names → take n (slice_index_or names k d) ≡ take n (first_of names)
 all_alike n names rise e zero d l = ap (take n) (get_or_default names 0 d [] l)
 all_alike n names rise e (suc k) d l = elim (cases_lt (suc k) (length names - 1)) [
   | inl m ↦
@@ -45,7 +47,9 @@ all_alike n names rise e (suc k) d l = elim (cases_lt (suc k) (length names - 1)
 ]
 
 -- the same, as the code goes
-pub share : {X : Type 0} (f : X → List ℕ) (rows : List X) (n : ℕ) (first last : X) (a b : List ℕ) → Rise (map f rows) → 0 < length rows → first ≡ slice_index_or rows 0 first → last ≡ slice_index_or rows (length rows - 1) last →
+pub share : {X : Type 0} (f : X → List ℕ) (rows : List X) (n : ℕ) (first last : X) (a b : List ℕ)
+    → Rise (map f rows) → 0 < length rows → first ≡ slice_index_or rows 0 first
+    → last ≡ slice_index_or rows (length rows - 1) last →
     a ≡ f first → b ≡ f last → n ≤ length a → take n a ≡ take n b → ShareFront n (map f rows)
 share f rows n first last a b rise some is_first is_last at bt l e =
     let m = length-map rows f in

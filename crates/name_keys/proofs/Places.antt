@@ -46,7 +46,8 @@ module _ (names : List (List ℕ)) (name : List ℕ) where
       (λ k m. fails _ (λ q. below _ _ (rise k i [] m l) (q ∙ sym same))) (λ _. at) in
       rw (e, lt-ltb i (length names) (omega arith)) refl
 
-  pub higher : (low high middle : ℕ) → Rise names → Narrows names name low high → middle < high → slice_cmp nat_cmp (slice_index_or names middle []) name ≡ Less → Narrows names name (middle + 1) high
+  pub higher : (low high middle : ℕ) → Rise names → Narrows names name low high → middle < high
+      → slice_cmp nat_cmp (slice_index_or names middle []) name ≡ Less → Narrows names name (middle + 1) high
   higher low high middle rise n l c = record { within = n.within; before = go; after = n.after }
     where
       go : AllWithin IsOther names 0 (middle + 1)
@@ -59,7 +60,8 @@ module _ (names : List (List ℕ)) (name : List ℕ) where
             | inr (inr q) ↦ absurd (omega arith)
           ]
 
-  pub lower : (low high middle : ℕ) → Rise names → Narrows names name low high → middle < high → slice_cmp nat_cmp (slice_index_or names middle []) name ≡ Greater → Narrows names name low middle
+  pub lower : (low high middle : ℕ) → Rise names → Narrows names name low high → middle < high
+      → slice_cmp nat_cmp (slice_index_or names middle []) name ≡ Greater → Narrows names name low middle
   lower low high middle rise n l c = record { within = (let w = n.within in omega arith); before = n.before; after = go }
     where
       go : AllWithin IsOther names middle (length names)

@@ -18,7 +18,8 @@ pub fn add_keys<T: Named, A: Allocator>(
     keys: &mut Vec<u64, A>,
 ) -> Result<usize, AllocError>
     requires { Rise (map T.name rows.now) }
-    ensures { IfOk result (λ shared. AddsKeys shared (map T.name rows.now) keys.old.items keys.new.items) }
+    ensures { IfOk result
+        (λ shared. AddsKeys shared (map T.name rows.now) keys.old.items keys.new.items) }
 {
     let shared = shared_by_all(rows);
     for row in rows {

@@ -23,7 +23,9 @@ laid_none f None = refl
 laid_none f (Some e) = refl
 
 module _ {T : Type 0} (f : T → T → T) where
-  found : {ls hs out : List (Shoot T)} → Merges f ls hs out → NamesRise ls → NamesRise hs → (n : List ℕ) (p : List (List ℕ)) → through (named n out) p ≡ laid_at f (through (named n ls) p) (through (named n hs) p)
+  found : {ls hs out : List (Shoot T)} → Merges f ls hs out → NamesRise ls → NamesRise hs
+      → (n : List ℕ) (p : List (List ℕ))
+      → through (named n out) p ≡ laid_at f (through (named n ls) p) (through (named n hs) p)
   found None_left r s n p = refl
   found (Low_alone l ls out m) r s n p = elim (same_or_not l.name n) [ inl x ↦ rw x.1 | inr x ↦ rw x.1 (found m r.1 s n p) ]
   found (High_alone h hs out m) r s n p = elim (same_or_not h.name n) [ inl x ↦ rw x.1 (sym (laid_none f (at_path (whole h) p))) | inr x ↦ rw x.1 (found m r s.1 n p) ]
@@ -40,7 +42,9 @@ module _ {T : Type 0} (f : T → T → T) where
     | inr x ↦ rw (c.name, e, x.1) (found m r.1 s.1 n p)
   ]
 
-  above : {ls hs out : List (Shoot T)} → Merges f ls hs out → (n : List ℕ) → AllByRecursion (λ t. name_cmp n t.name ≡ Less) ls → AllByRecursion (λ t. name_cmp n t.name ≡ Less) hs → AllByRecursion (λ t. name_cmp n t.name ≡ Less) out
+  above : {ls hs out : List (Shoot T)} → Merges f ls hs out → (n : List ℕ)
+      → AllByRecursion (λ t. name_cmp n t.name ≡ Less) ls → AllByRecursion (λ t. name_cmp n t.name ≡ Less) hs
+      → AllByRecursion (λ t. name_cmp n t.name ≡ Less) out
   above None_left n a b = tt
   above (Low_alone l ls out m) n a b = (a.0, above m n a.1 b)
   above (High_alone h hs out m) n a b = (b.0, above m n a b.1)
@@ -101,43 +105,53 @@ module _ {T : Type 0} (f : T → T → T) (ls0 hs0 L H out : List (Shoot T)) (in
   pushed : (x : Shoot T) (more out' : List (Shoot T)) → out' ≡ out ++ x ∷ [] → Merges f ls0 hs0 (out ++ (x ∷ more)) → Merges f ls0 hs0 (out' ++ more)
   pushed x more out' e m = rw (e, append_assoc) m
 
-  pub low_alone : (L' H' out' : List (Shoot T)) (l : Shoot T) → L ≡ L' ++ l ∷ [] → H ≡ [] → H' ≡ [] → out' ≡ out ++ l ∷ [] → Merging f ls0 hs0 (reverse L') (reverse H') out'
+  pub low_alone : (L' H' out' : List (Shoot T)) (l : Shoot T) → L ≡ L' ++ l ∷ [] → H ≡ [] → H' ≡ []
+      → out' ≡ out ++ l ∷ [] → Merging f ls0 hs0 (reverse L') (reverse H') out'
   low_alone L' H' out' l e g g' o = record {
     merged = λ more m. pushed l more out' o (inv.merged (l ∷ more) (rw (snoc L L' l e, g) (Low_alone l (reverse L') more (rw g' at m))));
     smaller = let s = rw (snoc L L' l e, g) at inv.smaller in rw g' (omega (arith, grown l (reverse L'), s));
   }
 
-  pub high_alone : (L' H' out' : List (Shoot T)) (h : Shoot T) → H ≡ H' ++ h ∷ [] → L ≡ [] → L' ≡ [] → out' ≡ out ++ h ∷ [] → Merging f ls0 hs0 (reverse L') (reverse H') out'
+  pub high_alone : (L' H' out' : List (Shoot T)) (h : Shoot T) → H ≡ H' ++ h ∷ [] → L ≡ [] → L' ≡ []
+      → out' ≡ out ++ h ∷ [] → Merging f ls0 hs0 (reverse L') (reverse H') out'
   high_alone L' H' out' h e g g' o = record {
     merged = λ more m. pushed h more out' o (inv.merged (h ∷ more) (rw (snoc H H' h e, g) (High_alone h (reverse H') more (rw g' at m))));
     smaller = let s = rw (snoc H H' h e, g) at inv.smaller in rw g' (omega (arith, grown h (reverse H'), s));
   }
 
-  pub low_first : (L' H' H'' out' : List (Shoot T)) (l h : Shoot T) → L ≡ L' ++ l ∷ [] → H ≡ H' ++ h ∷ [] → H'' ≡ H' ++ h ∷ [] → name_cmp l.name h.name ≡ Less → out' ≡ out ++ l ∷ [] → Merging f ls0 hs0 (reverse L') (reverse H'') out'
+  pub low_first : (L' H' H'' out' : List (Shoot T)) (l h : Shoot T) → L ≡ L' ++ l ∷ [] → H ≡ H' ++ h ∷ []
+      → H'' ≡ H' ++ h ∷ [] → name_cmp l.name h.name ≡ Less → out' ≡ out ++ l ∷ []
+      → Merging f ls0 hs0 (reverse L') (reverse H'') out'
   low_first L' H' H'' out' l h e g g' lt o = record {
     merged = λ more m. pushed l more out' o (inv.merged (l ∷ more) (rw (snoc L L' l e, snoc H H' h g) (Low l h (reverse L') (reverse H') more lt (rw (snoc H'' H' h g') at m))));
     smaller = let s = rw (snoc L L' l e, snoc H H' h g) at inv.smaller in rw (snoc H'' H' h g') (omega (arith, grown l (reverse L'), s));
   }
 
-  pub high_first : (L' L'' H' out' : List (Shoot T)) (l h : Shoot T) → L ≡ L' ++ l ∷ [] → H ≡ H' ++ h ∷ [] → L'' ≡ L' ++ l ∷ [] → name_cmp h.name l.name ≡ Less → out' ≡ out ++ h ∷ [] → Merging f ls0 hs0 (reverse L'') (reverse H') out'
+  pub high_first : (L' L'' H' out' : List (Shoot T)) (l h : Shoot T) → L ≡ L' ++ l ∷ [] → H ≡ H' ++ h ∷ []
+      → L'' ≡ L' ++ l ∷ [] → name_cmp h.name l.name ≡ Less → out' ≡ out ++ h ∷ []
+      → Merging f ls0 hs0 (reverse L'') (reverse H') out'
   high_first L' L'' H' out' l h e g g' lt o = record {
     merged = λ more m. pushed h more out' o (inv.merged (h ∷ more) (rw (snoc L L' l e, snoc H H' h g) (High l h (reverse L') (reverse H') more lt (rw (snoc L'' L' l g') at m))));
     smaller = let s = rw (snoc L L' l e, snoc H H' h g) at inv.smaller in rw (snoc L'' L' l g') (omega (arith, grown h (reverse H'), s));
   }
 
-  pub both_first : (L' H' out' : List (Shoot T)) (l h b : Shoot T) → L ≡ L' ++ l ∷ [] → H ≡ H' ++ h ∷ [] → l.name ≡ h.name → IsLaid f l h b → out' ≡ out ++ b ∷ [] → Merging f ls0 hs0 (reverse L') (reverse H') out'
+  pub both_first : (L' H' out' : List (Shoot T)) (l h b : Shoot T) → L ≡ L' ++ l ∷ [] → H ≡ H' ++ h ∷ []
+      → l.name ≡ h.name → IsLaid f l h b → out' ≡ out ++ b ∷ []
+      → Merging f ls0 hs0 (reverse L') (reverse H') out'
   both_first L' H' out' l h b e g n c o = record {
     merged = λ more m. pushed b more out' o (inv.merged (b ∷ more) (rw (snoc L L' l e, snoc H H' h g) (Both l h b (reverse L') (reverse H') more n c m)));
     smaller = let s = rw (snoc L L' l e, snoc H H' h g) at inv.smaller in omega (arith, grown h (reverse H'), grown l (reverse L'), s);
   }
 
-  pub below_measure : (L' H' : List (Shoot T)) (l h : Shoot T) → L ≡ L' ++ l ∷ [] → H ≡ H' ++ h ∷ [] → 2 * (length l.below + length h.below) + 1 < 2 * (length (spread ls0) + length (spread hs0))
+  pub below_measure : (L' H' : List (Shoot T)) (l h : Shoot T) → L ≡ L' ++ l ∷ [] → H ≡ H' ++ h ∷ []
+      → 2 * (length l.below + length h.below) + 1 < 2 * (length (spread ls0) + length (spread hs0))
   below_measure L' H' l h e g = let s = rw (snoc L L' l e, snoc H H' h g) at inv.smaller in omega (arith, grown h (reverse H'), grown l (reverse L'), s)
 
   pub ended : L ≡ [] → H ≡ [] → Merges f ls0 hs0 out
   ended e g = subst (Merges f ls0 hs0) (append-nil out) (inv.merged [] (rw (e, g) None_left))
 
-pub begun : {T : Type 0} (f : T → T → T) (ls0 hs0 L H : List (Shoot T)) → L ≡ reverse ls0 → H ≡ reverse hs0 → reverse (reverse ls0) ≡ ls0 → reverse (reverse hs0) ≡ hs0 → Merging f ls0 hs0 (reverse L) (reverse H) []
+pub begun : {T : Type 0} (f : T → T → T) (ls0 hs0 L H : List (Shoot T)) → L ≡ reverse ls0 → H ≡ reverse hs0
+    → reverse (reverse ls0) ≡ ls0 → reverse (reverse hs0) ≡ hs0 → Merging f ls0 hs0 (reverse L) (reverse H) []
 begun f ls0 hs0 L H e g r s = rw (e, g, r, s) (record { merged = λ more m. m; smaller = omega arith })
 
 pub empty : {X : Type 0} (xs : List X) → length xs ≡ 0 → xs ≡ []

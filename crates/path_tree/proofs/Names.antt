@@ -39,7 +39,8 @@ itself a = by_case (name_cmp a a) refl (nat_list_cmp_total.antisymm a a)
     by_case Equal e s = refl
     by_case Greater e s = absurd (cc)
 
-pub all_above : {T : Type 0} (n m : List ℕ) (ss : List (Shoot T)) → name_cmp n m ≡ Less → AllByRecursion (λ t. name_cmp m t.name ≡ Less) ss → AllByRecursion (λ t. name_cmp n t.name ≡ Less) ss
+pub all_above : {T : Type 0} (n m : List ℕ) (ss : List (Shoot T)) → name_cmp n m ≡ Less
+    → AllByRecursion (λ t. name_cmp m t.name ≡ Less) ss → AllByRecursion (λ t. name_cmp n t.name ≡ Less) ss
 all_above n m [] l a = tt
 all_above n m (s ∷ ss) l a = (nat_list_cmp_total.trans n m s.name l a.0, all_above n m ss l a.1)
 
@@ -48,12 +49,14 @@ pub named_below : {T : Type 0} (n : List ℕ) (ss : List (Shoot T)) → AllByRec
 named_below n [] a = refl
 named_below n (s ∷ ss) a = elim (same_or_not s.name n) [ inl x ↦ absurd (below_differs n s.name a.0 (sym x.0)) | inr x ↦ rw x.1 (named_below n ss a.1) ]
 
-all_at : {T : Type 0} (n : List ℕ) (ss : List (Shoot T)) → AllByRecursion (λ t. name_cmp n t.name ≡ Less) ss → (i : ℕ) (d : Shoot T) → i < length ss → name_cmp n (get_or ss i d).name ≡ Less
+all_at : {T : Type 0} (n : List ℕ) (ss : List (Shoot T)) → AllByRecursion (λ t. name_cmp n t.name ≡ Less) ss
+    → (i : ℕ) (d : Shoot T) → i < length ss → name_cmp n (get_or ss i d).name ≡ Less
 all_at n [] a i d l = absurd (omega arith)
 all_at n (s ∷ ss) a zero d l = a.0
 all_at n (s ∷ ss) a (suc i) d l = all_at n ss a.1 i d (omega arith)
 
-pub named_at : {T : Type 0} (n : List ℕ) (ss : List (Shoot T)) → NamesRise ss → (i : ℕ) (d : Shoot T) → i < length ss → name_cmp (get_or ss i d).name n ≡ Equal → named n ss ≡ Some (get_or ss i d)
+pub named_at : {T : Type 0} (n : List ℕ) (ss : List (Shoot T)) → NamesRise ss → (i : ℕ) (d : Shoot T)
+    → i < length ss → name_cmp (get_or ss i d).name n ≡ Equal → named n ss ≡ Some (get_or ss i d)
 named_at n [] r i d l e = absurd (omega arith)
 named_at n (s ∷ ss) r zero d l e = elim (same_or_not s.name n) [ inl x ↦ rw x.1 | inr x ↦ absurd (x.0 (exact_bytes s.name n e)) ]
 named_at n (s ∷ ss) r (suc i) d l e =
@@ -63,7 +66,8 @@ named_at n (s ∷ ss) r (suc i) d l e =
       | inr x ↦ rw x.1 (named_at n ss r.1 i d lt e)
     ]
 
-named_nowhere : {T : Type 0} (n : List ℕ) (ss : List (Shoot T)) → ((i : ℕ) (d : Shoot T) → i < length ss → name_cmp (get_or ss i d).name n ≢ Equal) → named n ss ≡ None
+named_nowhere : {T : Type 0} (n : List ℕ) (ss : List (Shoot T))
+    → ((i : ℕ) (d : Shoot T) → i < length ss → name_cmp (get_or ss i d).name n ≢ Equal) → named n ss ≡ None
 named_nowhere n [] f = refl
 named_nowhere n (s ∷ ss) f = elim (same_or_not s.name n) [
   | inl x ↦ absurd (f 0 s (omega arith) (rw x.0 (itself n)))

@@ -26,7 +26,9 @@ module _ {T : Type 0} where
   above_spread n p [] a = tt
   above_spread n p (s ∷ ss) a = (rw a.0, above_append (n ∷ p) (prefixed s.name s.below) (spread ss) (above_other n s.name p s.below a.0) (above_spread n p ss a.1))
 
-  joined : (n : List ℕ) (xs : List (List (List ℕ) × T)) (ss : List (Shoot T)) → PathsRise xs → AllByRecursion (λ t. name_cmp n t.name ≡ Less) ss → PathsRise (spread ss) → PathsRise (prefixed n xs ++ spread ss)
+  joined : (n : List ℕ) (xs : List (List (List ℕ) × T)) (ss : List (Shoot T)) → PathsRise xs
+      → AllByRecursion (λ t. name_cmp n t.name ≡ Less) ss → PathsRise (spread ss)
+      → PathsRise (prefixed n xs ++ spread ss)
   joined n [] ss r a q = q
   joined n (x ∷ xs) ss r a q = (above_append (n ∷ x.0) (prefixed n xs) (spread ss) (above_prefixed n x.0 xs r.0) (above_spread n x.0 ss a), joined n xs ss r.1 a q)
 

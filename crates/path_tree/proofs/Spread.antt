@@ -49,7 +49,8 @@ module _ {T : Type 0} where
     | inr x ↦ rw (x.1, at_append (prefixed s.name s.below) (spread ss) (n ∷ p), at_prefixed_other s.name n x.0 s.below p) (at_none n ss p (rw x.1 at e))
   ]
 
-  here : (s : Shoot T) (ss : List (Shoot T)) (p : List (List ℕ)) → at_path (spread ss) (s.name ∷ p) ≡ None → at_path (spread (s ∷ ss)) (s.name ∷ p) ≡ at_path (whole s) p
+  here : (s : Shoot T) (ss : List (Shoot T)) (p : List (List ℕ)) → at_path (spread ss) (s.name ∷ p) ≡ None
+      → at_path (spread (s ∷ ss)) (s.name ∷ p) ≡ at_path (whole s) p
   here s ss [] g = rw (same_itself s.name)
   here s ss (m ∷ p) g = rw (same_itself s.name, at_append (prefixed s.name s.below) (spread ss) (s.name ∷ m ∷ p), at_prefixed_same s.name s.below (m ∷ p), g) (or_none (at_path s.below (m ∷ p)))
 

@@ -12,7 +12,8 @@ laid_at f (Some l) (Some h) = Some (f l h)
 pub record IsLaid {T : Type 0} (f : T → T → T) (low high b : Shoot T) : Type 0 where
   pub name : b.name ≡ high.name
   pub rising : IsRising b
-  pub at : (path : List (List ℕ)) → at_path (whole b) path ≡ laid_at f (at_path (whole low) path) (at_path (whole high) path)
+  pub at : (path : List (List ℕ))
+      → at_path (whole b) path ≡ laid_at f (at_path (whole low) path) (at_path (whole high) path)
 
 -- the branches of a directory, laid on those of another one
 pub record AreLaid {T : Type 0} (f : T → T → T) (lows highs out : List (Shoot T)) : Type 0 where

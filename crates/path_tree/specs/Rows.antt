@@ -1,5 +1,6 @@
 -- Trees seen as rows: a value at each path. Names are lists of bytes, and a path is the list of names from the root.
-use Rattle.std.specs.Prelude.{◌≡◌, ℕ, ◌+◌, ◌≤◌, List, [], ◌∷◌, ◌++◌, length, max, Bool, Option, Some, None, nat_eq, if◌then◌else◌}
+use Rattle.std.specs.Prelude.{◌≡◌, ℕ, ◌+◌, ◌≤◌, List, [], ◌∷◌, ◌++◌, length, max, Bool, Option, Some, None, MatchOption, nat_eq, if◌then◌else◌}
+use Rattle.std.specs.Borrow.{Bor}
 use Rattle.std.specs.Cmp.Lexicographic.{slice_cmp, pointwise}
 use Rattle.std.specs.Ordering.{nat_cmp}
 use Rattle.std.specs.List.{AllByRecursion}
@@ -63,6 +64,10 @@ abbrev pub named : {T : Type 0} → List ℕ → List (Shoot T) → Option (Shoo
 named n [] = None
 named n (s ∷ ss) = if pointwise nat_eq s.name n then Some s else named n ss
 
+-- it is found; none where no branch has the name
+abbrev pub IsFirstNamed : {T : Type 0} → List ℕ → List (Shoot T) → Option (Bor (Shoot T)) → Type 0
+IsFirstNamed n ss found = MatchOption found (named n ss ≡ None) (λ c. named n ss ≡ Some c.now)
+
 abbrev pub same_path : List (List ℕ) → List (List ℕ) → Bool
 same_path = pointwise (pointwise nat_eq)
 
@@ -72,17 +77,27 @@ at_path [] path = None
 at_path (x ∷ xs) path = if same_path x.0 path then Some x.1 else at_path xs path
 
 -- these rows are what the others have below the path and at it, by paths from it
-pub record IsUnder {T : Type 0} (rows : List (List (List ℕ) × T)) (path : List (List ℕ)) (under : List (List (List ℕ) × T)) : Type 0 where
+pub record IsUnder {T : Type 0} (rows : List (List (List ℕ) × T)) (path : List (List ℕ))
+    (under : List (List (List ℕ) × T)) : Type 0 where
   pub at : (q : List (List ℕ)) → at_path rows (path ++ q) ≡ at_path under q
 
-pub length_prefixed : {T : Type 0} (n : List ℕ) (xs : List (List (List ℕ) × T)) → length (prefixed n xs) ≡ length xs
+pub length_prefixed : {T : Type 0} (n : List ℕ) (xs : List (List (List ℕ) × T))
+    → length (prefixed n xs) ≡ length xs
 length_prefixed n [] = omega arith
 length_prefixed n (x ∷ xs) = omega (arith, length_prefixed n xs)
 
 -- a branch has more below it than each of its branches
-most_le_spread : {T : Type 0} (ss : List (Shoot T)) → most (λ s. length s.below + 1) ss ≤ length (spread ss)
+most_le_spread : {T : Type 0} (ss : List (Shoot T))
+    → most (λ s. length s.below + 1) ss ≤ length (spread ss)
 most_le_spread [] = omega arith
-most_le_spread (s ∷ ss) = omega (arith, most_le_spread ss, length-append (prefixed s.name s.below) (spread ss), length_prefixed s.name s.below)
+most_le_spread (s ∷ ss) =
+    omega (
+      arith,
+      most_le_spread ss,
+      length-append (prefixed s.name s.below) (spread ss),
+      length_prefixed s.name s.below,
+    )
 
-pub falls : {T : Type 0} (ss : List (Shoot T)) → max (most (λ s. length s.below + 1) ss) 0 ≤ length (spread ss)
+pub falls : {T : Type 0} (ss : List (Shoot T))
+    → max (most (λ s. length s.below + 1) ss) 0 ≤ length (spread ss)
 falls ss = omega (arith, most_le_spread ss)

@@ -1,7 +1,7 @@
 //! A branch of a tree, and what is found below it.
 
-ghost use Rattle.std.specs.Prelude.{◌≡◌, [], map, MatchOption, Some, None};
-ghost use Rattle.path_tree.specs.Rows.{spread, whole, name_cmp, named, NamesRise, IsForest, IsUnder};
+ghost use Rattle.std.specs.Prelude.{◌≡◌, [], map, MatchOption};
+ghost use Rattle.path_tree.specs.Rows.{spread, whole, name_cmp, NamesRise, IsForest, IsFirstNamed, IsUnder};
 
 use crate::name::Name;
 use std::alloc::Allocator;
@@ -22,7 +22,8 @@ impl<T: Copy + Drop, A: Allocator> Model for Branch<T, A> {
 
     ghost Value = { Shoot T };
 
-    ghost view = { λ b. record { name = b.name; value = b.value; below = spread b.children.items } };
+    ghost view = { λ b.
+        record { name = b.name; value = b.value; below = spread b.children.items } };
 
     ghost invariant = { λ b. IsForest b.children.items };
 
@@ -106,7 +107,7 @@ pub fn child<'a, T: Copy + Drop, A: Allocator>(
     name: &[u8],
 ) -> Option<&'a Branch<T, A>>
     requires { NamesRise children.now }
-    ensures { MatchOption result (named name.now children.now ≡ None) (λ c. named name.now children.now ≡ Some c.now) }
+    ensures { IsFirstNamed name.now children.now result }
 {
     match children.binary_search_by(|c| compare(c, name)) {
         Ok(i) => Some(&children[i]),

@@ -9,11 +9,13 @@ use Rattle.reply_model.specs.Sessions.{session_after}
 use Rattle.reply_model.specs.Moves.{balance}
 use Rattle.reply_model.specs.Streams.{session_at, replies_by, moves_by}
 
-pub replies-append : (answered : Session → Asked → List ℕ) (s : Session) (qs rs : List Asked) → replies_by answered s (qs ++ rs) ≡ replies_by answered s qs ++ replies_by answered (session_at s qs) rs
+pub replies-append : (answered : Session → Asked → List ℕ) (s : Session) (qs rs : List Asked)
+    → replies_by answered s (qs ++ rs) ≡ replies_by answered s qs ++ replies_by answered (session_at s qs) rs
 replies-append answered s [] rs = refl
 replies-append answered s (q ∷ qs) rs = ap (λ v. answered s q ++ v) (replies-append answered (session_after s q.op) qs rs) ∙ sym (append_assoc (answered s q) _ _)
 
-pub moves-append : (moved : Session → Asked → List Move) (s : Session) (qs rs : List Asked) → moves_by moved s (qs ++ rs) ≡ moves_by moved s qs ++ moves_by moved (session_at s qs) rs
+pub moves-append : (moved : Session → Asked → List Move) (s : Session) (qs rs : List Asked)
+    → moves_by moved s (qs ++ rs) ≡ moves_by moved s qs ++ moves_by moved (session_at s qs) rs
 moves-append moved s [] rs = refl
 moves-append moved s (q ∷ qs) rs = ap (λ v. moved s q ++ v) (moves-append moved (session_after s q.op) qs rs) ∙ sym (append_assoc (moved s q) _ _)
 

@@ -7,7 +7,9 @@ use Rattle.reply_model.specs.Rows.{Row, fitting}
 use Rattle.reply_model.specs.Laws.{IsFront}
 
 module _ (form : Row → List ℕ) where
-  one_more : (room : ℕ) (r : Row) (rows : List Row) → length (form r) ≤ room → IsFront form (room - length (form r)) rows (fitting form (room - length (form r)) rows) → IsFront form room (r ∷ rows) (r ∷ fitting form (room - length (form r)) rows)
+  one_more : (room : ℕ) (r : Row) (rows : List Row) → length (form r) ≤ room
+      → IsFront form (room - length (form r)) rows (fitting form (room - length (form r)) rows)
+      → IsFront form room (r ∷ rows) (r ∷ fitting form (room - length (form r)) rows)
   one_more room r rows l f =
       let e = length-append (form r) (flat_map form (fitting form (room - length (form r)) rows)) in
       record {
@@ -24,6 +26,8 @@ module _ (form : Row → List ℕ) where
   front room [] = record { count = 0; is = refl; fits = omega arith; full = λ next is. absurd (cc) }
   front room (r ∷ rows) = go (nat_le (length (form r)) room) refl (front (room - length (form r)) rows)
     where
-      go : (b : Bool) → nat_le (length (form r)) room ≡ b → IsFront form (room - length (form r)) rows (fitting form (room - length (form r)) rows) → IsFront form room (r ∷ rows) (cond b (r ∷ fitting form (room - length (form r)) rows) [])
+      go : (b : Bool) → nat_le (length (form r)) room ≡ b
+          → IsFront form (room - length (form r)) rows (fitting form (room - length (form r)) rows)
+          → IsFront form room (r ∷ rows) (cond b (r ∷ fitting form (room - length (form r)) rows) [])
       go true e f = one_more room r rows (leb-true (length (form r)) room e) f
       go false e f = none room r rows (leb-false (length (form r)) room e)

@@ -80,7 +80,9 @@ module _ (layers : List (List ℕ)) (entries : List Entry) where
   fresh_moves_nothing q = fresh_op q.unique q.node q.op
 
   -- so a request that moves nothing leaves all balances
-  pub balances_stay : (s : Session) (qs : List Asked) (q : Asked) (node : ℕ) → is_moving q.op ≡ false → balance node (moves_by (moves layers entries) s (qs ++ q ∷ [])) ≡ balance node (moves_by (moves layers entries) s qs)
+  pub balances_stay : (s : Session) (qs : List Asked) (q : Asked) (node : ℕ) → is_moving q.op ≡ false
+      → balance node (moves_by (moves layers entries) s (qs ++ q ∷ []))
+      ≡ balance node (moves_by (moves layers entries) s qs)
   balances_stay s qs q node e =
       let moved_by = moves_by (moves layers entries) s qs in
       ap (balance node) (moves-append (moves layers entries) s qs (q ∷ []) ∙ rw (others_move_nothing (session_at s qs) q e) (append-nil moved_by))

@@ -42,7 +42,8 @@ pub headed : (layers : List (List ℕ)) (entries : List Entry) (s : Session) (q 
     (reply layers entries s q ≡ []) ⊎ IsReplyTo q.unique (reply layers entries s q)
 headed layers entries s q = silent (is_silent q.op) refl
   where
-    refused : (o : Option Errno) → IsReplyTo q.unique (option_map_or (error_reply q.unique) o (reply_with q.unique (answer layers entries (is_exported s) q.node q.op)))
+    refused : (o : Option Errno)
+        → IsReplyTo q.unique (option_map_or (error_reply q.unique) o (reply_with q.unique (answer layers entries (is_exported s) q.node q.op)))
     refused None = with_data q.unique (answer layers entries (is_exported s) q.node q.op)
     refused (Some errno) = with_error q.unique errno
 

@@ -109,7 +109,9 @@ module _ (bs : List (List ℕ)) (entries : List Entry) (sound : All IsSound bs) 
   short_rows form rows n r = let a = not_large n (or_parts _ _ (if_none _ _ r)).0 in let f = (front form n rows).fits in omega arith
 
   -- the answer at a place that has a number
-  short_at : (x : Bool) (node : ℕ) (op : Op) (p : Place) → node_of entries node ≡ Some p → cond (asks_node op) (refused_at layers entries x op p) None ≡ None → length (answer_at layers entries x op p) ≤ 1048576
+  short_at : (x : Bool) (node : ℕ) (op : Op) (p : Place) → node_of entries node ≡ Some p
+      → cond (asks_node op) (refused_at layers entries x op p) None ≡ None
+      → length (answer_at layers entries x op p) ≤ 1048576
   short_at x node (lookup name) p e r = found (looked_up entries x p name)
     where
       found : (o : Option Place) → length (option_map_or (λ c. entry_out (attr_of layers entries c)) o []) ≤ 1048576
@@ -128,7 +130,9 @@ module _ (bs : List (List ℕ)) (entries : List Entry) (sound : All IsSound bs) 
   short_at x node _ p e r = lit≤ tt
 
   -- the answer to a request about a node
-  short_node : (x : Bool) (node : ℕ) (op : Op) (o : Option Place) → node_of entries node ≡ o → cond (asks_node op) (option_map_or (refused_at layers entries x op) o (Some ESTALE)) None ≡ None → length (option_map_or (answer_at layers entries x op) o []) ≤ 1048576
+  short_node : (x : Bool) (node : ℕ) (op : Op) (o : Option Place) → node_of entries node ≡ o
+      → cond (asks_node op) (option_map_or (refused_at layers entries x op) o (Some ESTALE)) None ≡ None
+      → length (option_map_or (answer_at layers entries x op) o []) ≤ 1048576
   short_node x node op None e r = lit≤ tt
   short_node x node op (Some p) e r = short_at x node op p e r
 
@@ -142,7 +146,9 @@ module _ (bs : List (List ℕ)) (entries : List Entry) (sound : All IsSound bs) 
   pub short : (s : Session) (q : Asked) → length (reply layers entries s q) ≤ 1048592
   short s q = silent (is_silent q.op)
     where
-      replied : (o : Option Errno) → refusal layers entries s q.node q.op ≡ o → length (option_map_or (error_reply q.unique) o (reply_with q.unique (answer layers entries (is_exported s) q.node q.op))) ≤ 1048592
+      replied : (o : Option Errno) → refusal layers entries s q.node q.op ≡ o
+          → length (option_map_or (error_reply q.unique) o (reply_with q.unique (answer layers entries (is_exported s) q.node q.op)))
+          ≤ 1048592
       replied (Some errno) e = let x = length-error_reply q.unique errno in omega arith
       replied None e =
           let there = refused_at_node layers entries (is_exported s) q.node q.op in
@@ -151,7 +157,9 @@ module _ (bs : List (List ℕ)) (entries : List Entry) (sound : All IsSound bs) 
           let x = length-reply_with q.unique (answer layers entries (is_exported s) q.node q.op) in
           omega arith
 
-      silent : (b : Bool) → length (cond b [] (option_map_or (error_reply q.unique) (refusal layers entries s q.node q.op) (reply_with q.unique (answer layers entries (is_exported s) q.node q.op)))) ≤ 1048592
+      silent : (b : Bool)
+          → length (cond b [] (option_map_or (error_reply q.unique) (refusal layers entries s q.node q.op) (reply_with q.unique (answer layers entries (is_exported s) q.node q.op))))
+          ≤ 1048592
       silent true = lit≤ tt
       silent false = replied (refusal layers entries s q.node q.op) refl
 

@@ -35,7 +35,9 @@ module _ (layers : List (List ℕ)) (entries : List Entry) where
       (both_none (refused_by_itself op) there (first_none (refused_by_session s op) (refused_by_itself op ∷ there ∷ []) e).1).1
 
   -- so one about a node has a node
-  has_node : (x : Bool) (op : Op) (o : Option Place) → option_map_or (refused_at layers entries x op) o (Some ESTALE) ≡ None → (p : Place) × (o ≡ Some p) × (refused_at layers entries x op p ≡ None)
+  has_node : (x : Bool) (op : Op) (o : Option Place)
+      → option_map_or (refused_at layers entries x op) o (Some ESTALE) ≡ None
+      → (p : Place) × (o ≡ Some p) × (refused_at layers entries x op p ≡ None)
   has_node x op None e = absurd (cc)
   has_node x op (Some p) e = (p, refl, e)
 
@@ -45,7 +47,10 @@ module _ (layers : List (List ℕ)) (entries : List Entry) where
   finds name false None e = absurd (cc)
   finds name false (Some c) e = (c, refl)
 
-  pub lookup_finds : (s : Session) (node : ℕ) (name : List ℕ) → refusal layers entries s node (lookup name) ≡ None → (p : Place) × (c : Place) × (node_of entries node ≡ Some p) × (looked_up entries (is_exported s) p name ≡ Some c)
+  pub lookup_finds : (s : Session) (node : ℕ) (name : List ℕ)
+      → refusal layers entries s node (lookup name) ≡ None
+      → (p : Place) × (c : Place) × (node_of entries node ≡ Some p)
+      × (looked_up entries (is_exported s) p name ≡ Some c)
   lookup_finds s node name e =
       let x = is_exported s in
       let n = has_node x (lookup name) (node_of entries node) (not_at_node s node (lookup name) e) in
@@ -53,7 +58,9 @@ module _ (layers : List (List ℕ)) (entries : List Entry) where
       let f = finds name (nat_lt 255 (length name)) (looked_up entries x n.0 name) a in
       (n.0, f.0, n.1, f.1)
 
-  pub rows_found : (s : Session) (node offset size : ℕ) → refusal layers entries s node (readdirplus offset size) ≡ None → (p : Place) × (node_of entries node ≡ Some p)
+  pub rows_found : (s : Session) (node offset size : ℕ)
+      → refusal layers entries s node (readdirplus offset size) ≡ None
+      → (p : Place) × (node_of entries node ≡ Some p)
   rows_found s node offset size e =
       let n = has_node (is_exported s) (readdirplus offset size) (node_of entries node) (not_at_node s node (readdirplus offset size) e) in
       (n.0, n.1)

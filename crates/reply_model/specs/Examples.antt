@@ -5,7 +5,7 @@ use Rattle.byteorder.specs.Endian.{big_bytes}
 use Rattle.romfs_format.specs.declared.head.Kind.TheVariants.{HardLink, Directory}
 use Rattle.romfs_format.specs.declared.rule.Rule.TheVariants.{Short, Magic, FullSize, NoRoot, Outside, NameBad, DataOutside, Twice, SameName, MajorLarge, Deep}
 use Rattle.romfs_format.specs.Rules.{IsNamedBefore, IsFault}
-use Rattle.romfs_format.specs.Fields.{pad, image, root, kind, exec, next, spec, size, name}
+use Rattle.romfs_format.specs.Fields.{padded, image, root, kind, exec, next, spec, size, name}
 use Rattle.fuse_wire.specs.Requests.{init, destroy, asked}
 use Rattle.fuse_wire.specs.Stream.{IsMessage, IsUnfinished, IsBad}
 use Rattle.fuse_wire.specs.Structures.{u32, u64, zeros}
@@ -67,7 +67,8 @@ sample_entries =
 
 -- a message: opcode, unique, node, body; the sender is 0
 abbrev pub request : ℕ → ℕ → ℕ → List ℕ → List ℕ
-request opcode unique node body = u32 (40 + length body) ++ u32 opcode ++ u64 unique ++ u64 node ++ zeros 16 ++ body
+request opcode unique node body =
+    u32 (40 + length body) ++ u32 opcode ++ u64 unique ++ u64 node ++ zeros 16 ++ body
 
 -- init_in
 abbrev pub init_in : ℕ → ℕ → ℕ → ℕ → List ℕ
@@ -111,8 +112,8 @@ pub record FaultExamples : Type 0 where
 
 -- the header fields of the empty image
 pub record EmptyImageFields : Type 0 where
-  pub padded_16 : pad 16 ≡ 16
-  pub padded_17 : pad 17 ≡ 32
+  pub padded_16 : padded 16 ≡ 16
+  pub padded_17 : padded 17 ≡ 32
   pub whole : image empty_image ≡ empty_image
   pub root_at : root empty_image ≡ 0x20
   pub root_kind : kind empty_image 0x20 ≡ Directory
@@ -153,7 +154,9 @@ newer_init_reply = dump (
 
 -- a client of major version 8 is told the version
 abbrev pub version_reply : List ℕ
-version_reply = dump (0x50000000 ∷ 0x00000000 ∷ 0x01000000 ∷ 0x00000000 ∷ 0x07000000 ∷ 0x1f000000 ∷ []) ++ replicate 56 0
+version_reply =
+    dump (0x50000000 ∷ 0x00000000 ∷ 0x01000000 ∷ 0x00000000 ∷ 0x07000000 ∷ 0x1f000000 ∷ [])
+    ++ replicate 56 0
 
 -- a client of minor version 22 is told the first 24 bytes alone, and still minor version 31
 abbrev pub older_init_reply : List ℕ
@@ -163,25 +166,33 @@ older_init_reply = dump (
 
 pub record InitExamples : Type 0 where
   pub accepted : over_empty Fresh init_request ≡ init_reply
-  pub newer : over_empty Fresh (request 26 1 0 (init_in 7 39 2097152 0x73fffffb ++ zeros 48)) ≡ newer_init_reply
+  pub newer : over_empty Fresh (request 26 1 0 (init_in 7 39 2097152 0x73fffffb ++ zeros 48))
+      ≡ newer_init_reply
   pub agreed :
       replies (empty_image ∷ []) empty_entries Fresh
       (request 26 1 0 (init_in 8 0 0 0) ∷ request 3 2 1 (zeros 16)
-      ∷ request 26 3 0 (init_in 7 31 131072 0x6001) ∷ request 26 4 0 (init_in 7 31 131072 0x6001) ∷ [])
-      ≡ version_reply ++ refused 2 0xfffffffb ++ headed 3 80 ++ drop 16 init_reply ++ refused 4 0xfffffffb
+      ∷ request 26 3 0 (init_in 7 31 131072 0x6001)
+      ∷ request 26 4 0 (init_in 7 31 131072 0x6001) ∷ [])
+      ≡ version_reply ++ refused 2 0xfffffffb ++ headed 3 80 ++ drop 16 init_reply
+      ++ refused 4 0xfffffffb
   pub minor_22 : over_empty Fresh (request 26 1 0 (init_in 7 22 131072 0x1)) ≡ older_init_reply
   pub after_minor_22 :
-      length (replies (empty_image ∷ []) empty_entries Fresh (request 26 1 0 (init_in 7 22 131072 0x1) ∷ request 3 2 1 (zeros 16) ∷ []))
+      length (replies (empty_image ∷ []) empty_entries Fresh
+      (request 26 1 0 (init_in 7 22 131072 0x1) ∷ request 3 2 1 (zeros 16) ∷ []))
       ≡ 160
   pub minor_12 : length (over_empty Fresh (request 26 1 0 (init_in 7 12 131072 0x1))) ≡ 40
   pub minor_23 : length (over_empty Fresh (request 26 1 0 (init_in 7 23 131072 0x1))) ≡ 80
-  pub exported : take 4 (drop 28 (over_empty Fresh (request 26 1 0 (init_in 7 31 131072 0x10)))) ≡ u32 0x10
-  pub older_minor : over_empty Fresh (request 26 1 0 (init_in 7 11 131072 0x1)) ≡ refused 1 0xffffffb9
-  pub older_major : over_empty Fresh (request 26 1 0 (init_in 6 31 131072 0x1)) ≡ refused 1 0xffffffb9
+  pub exported : take 4 (drop 28 (over_empty Fresh (request 26 1 0 (init_in 7 31 131072 0x10))))
+      ≡ u32 0x10
+  pub older_minor : over_empty Fresh (request 26 1 0 (init_in 7 11 131072 0x1))
+      ≡ refused 1 0xffffffb9
+  pub older_major : over_empty Fresh (request 26 1 0 (init_in 6 31 131072 0x1))
+      ≡ refused 1 0xffffffb9
   pub fresh_write : over_empty Fresh (request 16 1 1 (zeros 40)) ≡ refused 1 0xfffffffb
   pub fresh_release : over_empty Fresh (request 18 1 1 (zeros 24)) ≡ refused 1 0xfffffffb
   pub fresh_forget : over_empty Fresh (request 2 1 1 (zeros 8)) ≡ []
-  pub short : over_empty Fresh (request 26 1 0 (take 15 (init_in 7 31 131072 0x1))) ≡ refused 1 0xffffffea
+  pub short : over_empty Fresh (request 26 1 0 (take 15 (init_in 7 31 131072 0x1)))
+      ≡ refused 1 0xffffffea
 
 -- when sessions begin and end, and that the accepted INIT alone says whether . and .. are looked up
 pub record SessionExamples : Type 0 where
@@ -209,35 +220,45 @@ root_attr_reply = dump (
 
 pub record GetattrExamples : Type 0 where
   pub of_root : over_empty (Ready false) (request 3 2 1 (zeros 16)) ≡ root_attr_reply
-  pub of_two : over_empty (Ready false) (request 3 3 2 (zeros 16)) ≡ dump (0x10000000 ∷ 0x8cffffff ∷ 0x03000000 ∷ 0x00000000 ∷ [])
+  pub of_two : over_empty (Ready false) (request 3 3 2 (zeros 16))
+      ≡ dump (0x10000000 ∷ 0x8cffffff ∷ 0x03000000 ∷ 0x00000000 ∷ [])
   pub of_zero : over_empty (Ready false) (request 3 4 0 (zeros 16)) ≡ refused 4 0xffffff8c
   pub short : over_empty (Ready false) (request 3 5 2 (zeros 15)) ≡ refused 5 0xffffffea
 
 -- the rows . and .. of the root of the empty image
 abbrev pub own_row : List ℕ
-own_row = dump (0x01000000 ∷ 0x00000000 ∷ 0x01000000 ∷ 0x00000000 ∷ 0x01000000 ∷ 0x04000000 ∷ 0x2e000000 ∷ 0x00000000 ∷ [])
+own_row =
+    dump (0x01000000 ∷ 0x00000000 ∷ 0x01000000 ∷ 0x00000000
+    ∷ 0x01000000 ∷ 0x04000000 ∷ 0x2e000000 ∷ 0x00000000 ∷ [])
 
 abbrev pub upper_row : List ℕ
-upper_row = dump (0x01000000 ∷ 0x00000000 ∷ 0x02000000 ∷ 0x00000000 ∷ 0x02000000 ∷ 0x04000000 ∷ 0x2e2e0000 ∷ 0x00000000 ∷ [])
+upper_row =
+    dump (0x01000000 ∷ 0x00000000 ∷ 0x02000000 ∷ 0x00000000
+    ∷ 0x02000000 ∷ 0x04000000 ∷ 0x2e2e0000 ∷ 0x00000000 ∷ [])
 
 pub record ReaddirExamples : Type 0 where
-  pub both : over_empty (Ready false) (request 28 2 1 (read_in 0 4096)) ≡ headed 2 80 ++ own_row ++ upper_row
+  pub both : over_empty (Ready false) (request 28 2 1 (read_in 0 4096))
+      ≡ headed 2 80 ++ own_row ++ upper_row
   pub one : over_empty (Ready false) (request 28 2 1 (read_in 0 63)) ≡ headed 2 48 ++ own_row
   pub too_small : over_empty (Ready false) (request 28 2 1 (read_in 0 31)) ≡ refused 2 0xffffffea
   pub no_room : over_empty (Ready false) (request 28 2 1 (read_in 0 0)) ≡ refused 2 0xffffffea
-  pub too_large : over_empty (Ready false) (request 28 2 1 (read_in 0 1048577)) ≡ refused 2 0xffffffea
+  pub too_large : over_empty (Ready false) (request 28 2 1 (read_in 0 1048577))
+      ≡ refused 2 0xffffffea
   pub at_end : over_empty (Ready false) (request 28 2 1 (read_in 2 0)) ≡ headed 2 16
 
 pub record ReaddirplusExamples : Type 0 where
   pub three : length (over_sample (request 44 2 3 (read_in 0 4096))) ≡ 496
-  pub one : over_sample (request 44 2 3 (read_in 0 319)) ≡ headed 2 176 ++ replicate 128 0 ++ u64 3 ++ drop 8 own_row
+  pub one : over_sample (request 44 2 3 (read_in 0 319))
+      ≡ headed 2 176 ++ replicate 128 0 ++ u64 3 ++ drop 8 own_row
   pub upper : take 32 (drop 304 (over_sample (request 44 2 3 (read_in 0 4096)))) ≡ upper_row
-  pub mode : take 4 (drop 76 (drop 336 (over_sample (request 44 2 3 (read_in 0 4096))))) ≡ dump (0x00000000 ∷ [])
+  pub mode : take 4 (drop 76 (drop 336 (over_sample (request 44 2 3 (read_in 0 4096)))))
+      ≡ dump (0x00000000 ∷ [])
 
 -- 5,000 bytes are 4,096 and 904
 pub record ReadExamples : Type 0 where
   pub whole : over_sample (request 15 2 2 (read_in 0 1048576)) ≡ headed 2 5016 ++ counted 5000 0
-  pub rest : over_sample (request 15 2 2 (read_in 4096 4096)) ≡ headed 2 920 ++ drop 4096 (counted 5000 0)
+  pub rest : over_sample (request 15 2 2 (read_in 4096 4096))
+      ≡ headed 2 920 ++ drop 4096 (counted 5000 0)
   pub past_end : over_sample (request 15 2 2 (read_in 5000 4096)) ≡ headed 2 16
   pub far_past_end : over_sample (request 15 2 2 (read_in (2 ^ 64 - 1) 4096)) ≡ headed 2 16
   pub nothing : over_sample (request 15 2 2 (read_in 0 0)) ≡ headed 2 16
@@ -260,7 +281,8 @@ pub record LookupExamples : Type 0 where
   pub entry : over_sample (request 1 10 3 (codes "x" ++ zeros 1)) ≡ x_entry_reply
   pub unended : over_sample (request 1 2 1 (codes "x")) ≡ refused 2 0xffffffea
   pub no_body : over_sample (request 1 2 1 []) ≡ refused 2 0xffffffea
-  pub inner_zero : over_sample (request 1 2 1 (codes "d" ++ zeros 1 ++ codes "d" ++ zeros 1)) ≡ refused 2 0xffffffea
+  pub inner_zero : over_sample (request 1 2 1 (codes "d" ++ zeros 1 ++ codes "d" ++ zeros 1))
+      ≡ refused 2 0xffffffea
   pub empty_name : over_sample (request 1 2 1 (zeros 1)) ≡ refused 2 0xffffffea
   pub long_name : over_sample (request 1 2 1 (replicate 255 0x71 ++ zeros 1)) ≡ refused 2 0xfffffffe
   pub too_long : over_sample (request 1 2 1 (replicate 256 0x71 ++ zeros 1)) ≡ refused 2 0xffffffdc
@@ -279,11 +301,14 @@ abbrev pub upper : List ℕ
 upper = codes ".." ++ zeros 1
 
 pub record ExportExamples : Type 0 where
-  pub directory : over_exported (request 1 2 3 itself) ≡ over_sample (request 1 2 1 (codes "d" ++ zeros 1))
-  pub file : over_exported (request 1 2 2 itself) ≡ over_sample (request 1 2 1 (codes "big" ++ zeros 1))
+  pub directory : over_exported (request 1 2 3 itself)
+      ≡ over_sample (request 1 2 1 (codes "d" ++ zeros 1))
+  pub file : over_exported (request 1 2 2 itself)
+      ≡ over_sample (request 1 2 1 (codes "big" ++ zeros 1))
   pub above : over_exported (request 1 2 3 upper) ≡ over_exported (request 1 2 1 itself)
   pub above_root : over_exported (request 1 2 1 upper) ≡ over_exported (request 1 2 1 itself)
-  pub root : take 48 (over_exported (request 1 2 1 itself)) ≡ headed 2 144 ++ u64 1 ++ u64 0 ++ u64 3600 ++ u64 3600
+  pub root : take 48 (over_exported (request 1 2 1 itself))
+      ≡ headed 2 144 ++ u64 1 ++ u64 0 ++ u64 3600 ++ u64 3600
   pub above_file : over_exported (request 1 2 2 upper) ≡ refused 2 0xffffffec
   pub of_no_node : over_exported (request 1 2 7 itself) ≡ refused 2 0xffffff8c
   pub other_name : over_exported (request 1 10 3 (codes "x" ++ zeros 1)) ≡ x_entry_reply
@@ -307,22 +332,28 @@ pub record RefusalOrder : Type 0 where
   pub modify_before_body : over_sample (request 16 2 99 []) ≡ refused 2 0xffffffe2
   pub body_before_node : over_sample (request 14 2 99 (zeros 7)) ≡ refused 2 0xffffffea
   pub node_before_kind : over_sample (request 15 2 99 (read_in 0 1048577)) ≡ refused 2 0xffffff8c
-  pub kind_before_arguments : over_sample (request 15 2 3 (read_in 0 1048577)) ≡ refused 2 0xffffffeb
+  pub kind_before_arguments : over_sample (request 15 2 3 (read_in 0 1048577))
+      ≡ refused 2 0xffffffeb
   pub kind_before_access : over_sample (request 14 2 3 (u32 2 ++ zeros 4)) ≡ refused 2 0xffffffeb
   pub kind_before_rows : over_sample (request 28 2 2 (read_in 0 0)) ≡ refused 2 0xffffffec
 
 -- mode 0x2180 and rdev 0x103 of the device; the root has one directory; 11 blocks and 6 nodes
 pub record NodeExamples : Type 0 where
-  pub device_mode : take 4 (drop 92 (over_sample (request 3 2 6 (zeros 16)))) ≡ dump (0x80210000 ∷ [])
-  pub device_numbers : take 4 (drop 108 (over_sample (request 3 2 6 (zeros 16)))) ≡ dump (0x03010000 ∷ [])
-  pub root_links : take 4 (drop 96 (over_sample (request 3 2 1 (zeros 16)))) ≡ dump (0x03000000 ∷ [])
+  pub device_mode : take 4 (drop 92 (over_sample (request 3 2 6 (zeros 16))))
+      ≡ dump (0x80210000 ∷ [])
+  pub device_numbers : take 4 (drop 108 (over_sample (request 3 2 6 (zeros 16))))
+      ≡ dump (0x03010000 ∷ [])
+  pub root_links : take 4 (drop 96 (over_sample (request 3 2 1 (zeros 16))))
+      ≡ dump (0x03000000 ∷ [])
   pub statfs :
       over_sample (request 17 2 0 [])
-      ≡ headed 2 96 ++ u64 11 ++ zeros 16 ++ u64 6 ++ zeros 8 ++ u32 512 ++ u32 255 ++ u32 512 ++ zeros 28
+      ≡ headed 2 96 ++ u64 11 ++ zeros 16 ++ u64 6 ++ zeros 8 ++ u32 512 ++ u32 255 ++ u32 512
+      ++ zeros 28
   pub readdir_of_file : over_sample (request 28 2 2 (read_in 0 4096)) ≡ refused 2 0xffffffec
   pub readdirplus_of_link : over_sample (request 44 2 5 (read_in 0 4096)) ≡ refused 2 0xffffffec
   pub file_mode : take 4 (drop 92 (over_sample (request 3 2 2 (zeros 16)))) ≡ dump (0xa4810000 ∷ [])
-  pub directory_mode : take 4 (drop 92 (over_sample (request 3 2 3 (zeros 16)))) ≡ dump (0xed410000 ∷ [])
+  pub directory_mode : take 4 (drop 92 (over_sample (request 3 2 3 (zeros 16))))
+      ≡ dump (0xed410000 ∷ [])
   pub link_mode : take 4 (drop 92 (over_sample (request 3 2 5 (zeros 16)))) ≡ dump (0xffa10000 ∷ [])
   pub readlink : over_sample (request 5 2 5 []) ≡ headed 2 19 ++ codes "d/x"
   pub readlink_of_file : over_sample (request 5 2 2 []) ≡ refused 2 0xffffffea
@@ -333,11 +364,14 @@ pub record NodeExamples : Type 0 where
 
 -- OPEN answers open_flags FOPEN_KEEP_CACHE, which is 2, and refuses each access mode but O_RDONLY; OPENDIR answers none
 pub record OpenExamples : Type 0 where
-  pub open_file : over_sample (request 14 2 2 (zeros 8)) ≡ headed 2 32 ++ zeros 8 ++ u32 2 ++ zeros 4
+  pub open_file : over_sample (request 14 2 2 (zeros 8))
+      ≡ headed 2 32 ++ zeros 8 ++ u32 2 ++ zeros 4
   pub open_to_write : over_sample (request 14 2 2 (u32 1 ++ zeros 4)) ≡ refused 2 0xffffffe2
-  pub open_to_read_and_write : over_sample (request 14 2 2 (u32 2 ++ zeros 4)) ≡ refused 2 0xffffffe2
+  pub open_to_read_and_write : over_sample (request 14 2 2 (u32 2 ++ zeros 4))
+      ≡ refused 2 0xffffffe2
   pub open_to_execute : over_sample (request 14 2 2 (u32 3 ++ zeros 4)) ≡ refused 2 0xffffffe2
-  pub open_with_flags : over_sample (request 14 2 2 (u32 0x8800 ++ zeros 4)) ≡ headed 2 32 ++ zeros 8 ++ u32 2 ++ zeros 4
+  pub open_with_flags : over_sample (request 14 2 2 (u32 0x8800 ++ zeros 4))
+      ≡ headed 2 32 ++ zeros 8 ++ u32 2 ++ zeros 4
   pub open_link : over_sample (request 14 2 5 (zeros 8)) ≡ refused 2 0xffffffea
   pub open_directory : over_sample (request 14 2 3 (zeros 8)) ≡ refused 2 0xffffffeb
   pub opendir : over_sample (request 27 2 3 (zeros 8)) ≡ headed 2 32 ++ zeros 16
@@ -345,7 +379,8 @@ pub record OpenExamples : Type 0 where
 
 -- a row of a directory, whose name and padding fill 8 bytes
 abbrev pub dirent_row : ℕ → ℕ → ℕ → List ℕ → List ℕ
-dirent_row ino off file_type name = u64 ino ++ u64 off ++ u32 (length name) ++ u32 file_type ++ name ++ zeros (8 - length name)
+dirent_row ino off file_type name =
+    u64 ino ++ u64 off ++ u32 (length name) ++ u32 file_type ++ name ++ zeros (8 - length name)
 
 -- twelve requests, the session's first and last among them, and their 1,531 bytes of replies
 abbrev pub twelve_requests : List (List ℕ)
@@ -373,9 +408,11 @@ pub record TwelveRequests : Type 0 where
       ++ refused 6 0xffffffe2
       ++ refused 7 0xffffffda
       ++ headed 8 19 ++ codes "d/x"
-      ++ headed 9 208 ++ dirent_row 1 1 4 (codes ".") ++ dirent_row 1 2 4 (codes "..") ++ dirent_row 2 3 8 (codes "big") ++ dirent_row 3 4 4 (codes "d")
+      ++ headed 9 208 ++ dirent_row 1 1 4 (codes ".") ++ dirent_row 1 2 4 (codes "..")
+      ++ dirent_row 2 3 8 (codes "big") ++ dirent_row 3 4 4 (codes "d")
       ++ dirent_row 5 5 10 (codes "l") ++ dirent_row 6 6 2 (codes "null")
-      ++ headed 10 96 ++ u64 11 ++ zeros 16 ++ u64 6 ++ zeros 8 ++ u32 512 ++ u32 255 ++ u32 512 ++ zeros 28
+      ++ headed 10 96 ++ u64 11 ++ zeros 16 ++ u64 6 ++ zeros 8 ++ u32 512 ++ u32 255 ++ u32 512
+      ++ zeros 28
       ++ headed 11 16
       ++ refused 12 0xfffffffb
   pub sized : length (replies (sample_image ∷ []) sample_entries Fresh twelve_requests) ≡ 1531
@@ -417,7 +454,8 @@ pub record BalanceExamples : Type 0 where
       moved_by (Ready false) (request 44 7 1 (read_in 2 320))
       ≡ record { node = 2; amount = pos 1 } ∷ record { node = 3; amount = pos 1 } ∷ []
   pub listed : moved_by (Ready false) (request 28 7 1 (read_in 0 4096)) ≡ []
-  pub forgotten : moved_by (Ready false) (request 2 7 4 (u64 3)) ≡ record { node = 4; amount = negsuc 2 } ∷ []
+  pub forgotten : moved_by (Ready false) (request 2 7 4 (u64 3))
+      ≡ record { node = 4; amount = negsuc 2 } ∷ []
   pub counted_items :
       moved_by (Ready false) (request 42 8 0 (u32 1 ++ u32 0 ++ u64 2 ++ u64 2 ++ u64 3 ++ u64 1))
       ≡ record { node = 2; amount = negsuc 1 } ∷ []

@@ -24,27 +24,33 @@ pub record IsFront (form : Row → List ℕ) (room : ℕ) (all rows : List Row) 
   pub count : ℕ
   pub is : rows ≡ take count all
   pub fits : length (flat_map form rows) ≤ room
-  pub full : (next : Row) → slice_get all count ≡ Some next → room < length (flat_map form rows) + length (form next)
+  pub full : (next : Row) → slice_get all count ≡ Some next
+      → room < length (flat_map form rows) + length (form next)
 
 module _ (layers : List (List ℕ)) (entries : List Entry) where
   -- the request is answered an error, and gives nothing
   abbrev pub GivesNothing : Session → Asked → Type 0
   GivesNothing s q =
-      ((errno : Errno) × (reply layers entries s q ≡ error_reply q.unique errno)) × (moves layers entries s q ≡ [])
+      ((errno : Errno) × (reply layers entries s q ≡ error_reply q.unique errno))
+      × (moves layers entries s q ≡ [])
 
   -- a LOOKUP gives one lookup of the node whose entry it is answered, or nothing
   abbrev pub GivesEntry : Session → Asked → Type 0
   GivesEntry s q =
       GivesNothing s q
-      ⊎ ((p : Place) × (reply layers entries s q ≡ reply_with q.unique (entry_out (attr_of layers entries p)))
+      ⊎ ((p : Place)
+      × (reply layers entries s q ≡ reply_with q.unique (entry_out (attr_of layers entries p)))
       × (moves layers entries s q ≡ give layers entries p ∷ []))
 
   -- a READDIRPLUS gives one lookup of the node of each row that it is answered but . and .., or nothing
   abbrev pub GivesRows : Session → Asked → Type 0
   GivesRows s q =
       GivesNothing s q
-      ⊎ ((rows : List Row) × (reply layers entries s q ≡ reply_with q.unique (flat_map (direntplus_of layers entries) rows))
-      × (moves layers entries s q ≡ map (λ r. give layers entries r.1.place) (filter is_child rows)))
+      ⊎ ((rows : List Row)
+      × (reply layers entries s q
+      ≡ reply_with q.unique (flat_map (direntplus_of layers entries) rows))
+      × (moves layers entries s q
+      ≡ map (λ r. give layers entries r.1.place) (filter is_child rows)))
 
 -- the requests that give or take
 abbrev pub is_moving : Op → Bool

@@ -26,21 +26,27 @@ module _ (layers : List (List ℕ)) (entries : List Entry) where
 
   -- what is forgotten is taken back, where the number is in use
   abbrev pub take_back : Forget → Option Move
-  take_back f = option_map (λ p. record { node = f.node; amount = neg_ℤ (pos f.nlookup) }) (node_of entries f.node)
+  take_back f =
+      option_map (λ p. record { node = f.node; amount = neg_ℤ (pos f.nlookup) })
+      (node_of entries f.node)
 
   -- what a request about a node gives: LOOKUP the node that it finds, READDIRPLUS those of its rows but . and ..
   abbrev pub gives_at : Bool → Op → Place → List Move
   gives_at export (lookup name) p = map give (option_to_list (looked_up entries export p name))
   gives_at export (readdirplus offset size) p =
-      map (λ r. give r.1.place) (filter is_child (rows_answered entries (direntplus_of layers entries) p offset size))
+      map (λ r. give r.1.place)
+      (filter is_child (rows_answered entries (direntplus_of layers entries) p offset size))
   gives_at export _ p = []
 
   -- what a request gives and takes that is not refused, in order
   abbrev pub moved : Bool → ℕ → Op → List Move
-  moved export node (forget nlookup) = filter_map take_back (record { node = node; nlookup = nlookup } ∷ [])
+  moved export node (forget nlookup) =
+      filter_map take_back (record { node = node; nlookup = nlookup } ∷ [])
   moved export node (batch_forget items) = filter_map take_back items
   moved export node op = option_map_or (gives_at export op) (node_of entries node) []
 
   -- what a request gives and takes; one that is refused, as any but INIT in a fresh session, changes nothing
   abbrev pub moves : Session → Asked → List Move
-  moves s q = if is_some (refusal layers entries s q.node q.op) then [] else moved (is_exported s) q.node q.op
+  moves s q =
+      if is_some (refusal layers entries s q.node q.op) then []
+      else moved (is_exported s) q.node q.op

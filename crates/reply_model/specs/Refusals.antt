@@ -43,7 +43,8 @@ abbrev pub refused_by_itself : Op → Option Errno
 refused_by_itself modify = Some EROFS
 refused_by_itself other = Some ENOSYS
 refused_by_itself (malformed opcode) = Some EINVAL
-refused_by_itself (init major minor readahead flags) = refuse_if (not (nat_lt 7 major || is_spoken major minor)) EPROTO
+refused_by_itself (init major minor readahead flags) =
+    refuse_if (not (nat_lt 7 major || is_spoken major minor)) EPROTO
 refused_by_itself _ = None
 
 -- the requests that are about a node
@@ -105,13 +106,16 @@ module _ (layers : List (List ℕ)) (entries : List Entry) where
 
   abbrev pub refused_at : Bool → Op → Place → Option Errno
   refused_at export op p =
-      first_refusal (refused_by_kind export op (kind_at layers p) ∷ refused_by_arguments export op p ∷ [])
+      first_refusal (refused_by_kind export op (kind_at layers p)
+      ∷ refused_by_arguments export op p ∷ [])
 
   -- a number that is not in use, or a refusal at its node
   abbrev pub refused_at_node : Bool → ℕ → Op → Option Errno
   refused_at_node export node op =
-      if asks_node op then option_map_or (refused_at export op) (node_of entries node) (Some ESTALE) else None
+      if asks_node op then option_map_or (refused_at export op) (node_of entries node) (Some ESTALE)
+      else None
 
   abbrev pub refusal : Session → ℕ → Op → Option Errno
   refusal s node op =
-      first_refusal (refused_by_session s op ∷ refused_by_itself op ∷ refused_at_node (is_exported s) node op ∷ [])
+      first_refusal (refused_by_session s op ∷ refused_by_itself op
+      ∷ refused_at_node (is_exported s) node op ∷ [])

@@ -36,9 +36,11 @@ module _ (layers : List (List ℕ)) (entries : List Entry) where
   answer_at export opendir p = open_out 0
   answer_at export (read offset size) p = take size (drop offset (data_of layers p))
   answer_at export (readdir offset size) p =
-      flat_map (dirent_of layers entries) (rows_answered entries (dirent_of layers entries) p offset size)
+      flat_map (dirent_of layers entries)
+      (rows_answered entries (dirent_of layers entries) p offset size)
   answer_at export (readdirplus offset size) p =
-      flat_map (direntplus_of layers entries) (rows_answered entries (direntplus_of layers entries) p offset size)
+      flat_map (direntplus_of layers entries)
+      (rows_answered entries (direntplus_of layers entries) p offset size)
   answer_at export _ p = []
 
   -- what a request is answered that is not refused; RELEASE, FLUSH, FSYNC, their likes and DESTROY have no data

@@ -11,7 +11,8 @@ is_spoken major minor = major == 7 && nat_le 12 minor
 
 -- the session after a request
 abbrev pub session_after : Session → Op → Session
-session_after Fresh (init major minor readahead flags) = if is_spoken major minor then Ready (has_export flags) else Fresh
+session_after Fresh (init major minor readahead flags) =
+    if is_spoken major minor then Ready (has_export flags) else Fresh
 session_after (Ready export) destroy = Fresh
 session_after s _ = s
 

@@ -29,4 +29,5 @@ replies layers entries s messages = replies_by (reply layers entries) s (map ask
 
 -- the lookups of a node that the client holds after these messages, from a fresh session on; it may be below 0
 abbrev pub balance_after : List (List ℕ) → List Entry → List (List ℕ) → ℕ → ℤ
-balance_after layers entries messages node = balance node (moves_by (moves layers entries) Fresh (map asked messages))
+balance_after layers entries messages node =
+    balance node (moves_by (moves layers entries) Fresh (map asked messages))

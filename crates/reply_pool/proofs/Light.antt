@@ -92,7 +92,9 @@ module _ (body : List ℕ) (b : AreBytes body) where
   found_modest opcode [] all = tt
   found_modest opcode (row ∷ rows) all = go (opcode == row.0) (found_modest opcode rows all.1)
     where
-      go : (is : Bool) → Modest (option_map_or (λ (row : ℕ × (List ℕ → Op)). row.1 body) (find (λ row. opcode == row.0) rows) other) → Modest (option_map_or (λ (row : ℕ × (List ℕ → Op)). row.1 body) (cond is (Some row) (find (λ row. opcode == row.0) rows)) other)
+      go : (is : Bool)
+          → Modest (option_map_or (λ (row : ℕ × (List ℕ → Op)). row.1 body) (find (λ row. opcode == row.0) rows) other)
+          → Modest (option_map_or (λ (row : ℕ × (List ℕ → Op)). row.1 body) (cond is (Some row) (find (λ row. opcode == row.0) rows)) other)
       go true rest = all.0
       go false rest = rest
 
@@ -219,7 +221,9 @@ module _ (layers : List (List ℕ)) (entries : List Entry) where
         go None = omega arith
         go (Some c) = omega (arith, ints)
 
-    rows_given : (offset size : ℕ) → size < 2 ^ 64 → (o : Option Place) → weight (option_map_or (gives_at layers entries export (readdirplus offset size)) o []) ≤ 2 ^ 64 * bytes
+    rows_given : (offset size : ℕ) → size < 2 ^ 64 → (o : Option Place)
+        → weight (option_map_or (gives_at layers entries export (readdirplus offset size)) o [])
+        ≤ 2 ^ 64 * bytes
     rows_given offset size small None = omega arith
     rows_given offset size small (Some p) =
         let rows = fitting (direntplus_of layers entries) size (rows_after entries p offset) in

@@ -6,4 +6,5 @@ use Rattle.rounds.specs.Rounds.{Answering}
 
 -- requests are replied to, and move lookups, as FUSE has it over the stack's layers and shown paths
 abbrev pub answering : Stacked → Answering
-answering stack = record { reply = reply stack.layers stack.entries; moved = moves stack.layers stack.entries }
+answering stack =
+    record { reply = reply stack.layers stack.entries; moved = moves stack.layers stack.entries }

@@ -23,6 +23,7 @@ abbrev pub moved_by : Stacked → Job → List Move
 moved_by stack job = moves stack.layers stack.entries job.0 (asked_of job.1)
 
 -- the replies to jobs one after another, and the sums of what they move by node
-pub record IsRounded {A : Type 0} (stack : Stacked) (jobs : List Job) (rounded : Rounded A) : Type 0 where
+pub record IsRounded {A : Type 0} (stack : Stacked) (jobs : List Job)
+    (rounded : Rounded A) : Type 0 where
   pub replies : rounded.bytes.items ≡ flat_map (reply_to stack) jobs
   pub sums : AreSums (flat_map (moved_by stack) jobs) rounded.moves.items

@@ -18,4 +18,5 @@ pub record AreSums (moves sums : List Move) : Type 0 where
 -- a sum is appended, unless it is 0
 abbrev pub PutsSum : List Move → List Move → Move → Type 0
 PutsSum before after sum =
-    ((sum.amount ≡ pos 0) × (after ≡ before)) ⊎ ((sum.amount ≢ pos 0) × (after ≡ before ++ sum ∷ []))
+    ((sum.amount ≡ pos 0) × (after ≡ before))
+    ⊎ ((sum.amount ≢ pos 0) × (after ≡ before ++ sum ∷ []))

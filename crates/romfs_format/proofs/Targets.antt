@@ -3,6 +3,7 @@ use Rattle.std.proofs.Common.{◌≡◌, ◌≢◌, sym, subst, ℕ, zero, suc, 
 use Rattle.std.proofs.lemmas.Bool.{cases_lt}
 use Rattle.romfs_format.specs.declared.head.Kind.TheVariants.{Directory, SymLink}
 use Rattle.romfs_format.specs.declared.rule.Rule.TheVariants.{NoRoot, Outside, TargetLong}
+use Rattle.romfs_format.specs.declared.limits.TheConstants.{HEAD_SIZE, MAX_TARGET_SIZE}
 use Rattle.romfs_format.specs.Fields.{image, root, IsInside, kind, size}
 use Rattle.romfs_format.specs.Chains.{IsAt, IsOpened, IsMember, IsSomeMember, Leads, Has}
 use Rattle.romfs_format.specs.Links.{first_of, next_of, IsHardLink, IsDestination, here, there, IsFinal, stays, follows, IsTarget, IsReached}
@@ -39,7 +40,7 @@ module _ (b : List ℕ) (s : IsSound b) where
   reached_inside : (h : ℕ) → IsReached (image b) h → IsInside (image b) h
   reached_inside h r = elim (cases_lt h (root (image b))) [
     | inl l ↦ absurd (s.keeps Outside h (r, λ i. let j = i.0 in omega arith))
-    | inr l ↦ elim (cases_lt (length (image b)) (h + 16)) [
+    | inr l ↦ elim (cases_lt (length (image b)) (h + HEAD_SIZE)) [
       | inl m ↦ absurd (s.keeps Outside h (r, λ i. let j = i.1 in omega arith))
       | inr m ↦ (l, m)
     ]
@@ -50,7 +51,8 @@ module _ (b : List ℕ) (s : IsSound b) where
   root_directory n = s.keeps NoRoot (root (image b)) (inr n, refl)
 
   -- where a path leads after hard links, if to no directory, is a member or the target of one
-  led_to : (path : List (List ℕ)) (h e : ℕ) → Has (image b) path h → IsFinal (image b) h e → kind (image b) e ≢ Directory → IsSomeMember (image b) e ⊎ IsTarget (image b) e
+  led_to : (path : List (List ℕ)) (h e : ℕ) → Has (image b) path h → IsFinal (image b) h e
+      → kind (image b) e ≢ Directory → IsSomeMember (image b) e ⊎ IsTarget (image b) e
   led_to path h e x f n = elim (leads_member (image b) path (root (image b)) h x) [
     | inl q ↦ absurd (elim (final_target (image b) f) [
       | inl p ↦ (let k = subst (λ y. kind (image b) y ≢ Directory) p n in root_directory (subst (λ y. kind (image b) y ≢ Directory) (sym q) k))
@@ -68,7 +70,8 @@ module _ (b : List ℕ) (s : IsSound b) where
   used_inside e (inr t) = reached_inside e (inr (inr t))
 
   -- so the rule on targets holds there
-  pub short_target : (path : List (List ℕ)) (h e : ℕ) → Has (image b) path h → IsFinal (image b) h e → kind (image b) e ≡ SymLink → size (image b) e ≤ 4095
+  pub short_target : (path : List (List ℕ)) (h e : ℕ) → Has (image b) path h → IsFinal (image b) h e
+      → kind (image b) e ≡ SymLink → size (image b) e ≤ MAX_TARGET_SIZE
   short_target path h e x f k =
       let u = led_to path h e x f (λ i. cc) in
-      elim (cases_lt 4095 (size (image b) e)) [ inl l ↦ absurd (s.keeps TargetLong e ((used_inside e u, u), k, l)) | inr l ↦ l ]
+      elim (cases_lt MAX_TARGET_SIZE (size (image b) e)) [ inl l ↦ absurd (s.keeps TargetLong e ((used_inside e u, u), (k, l))) | inr l ↦ l ]

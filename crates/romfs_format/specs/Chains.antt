@@ -31,7 +31,8 @@ IsPassedOver a d h = ((d ≡ root a) × (h ≡ root a)) ⊎ IsDotted a h
 -- the directories that are opened: the root, and each member of kind directory of one that is opened
 pub data IsOpened (a : List ℕ) : ℕ → Type 0 where
   at_root : {d : ℕ} → d ≡ root a → IsOpened a d
-  below : {d h : ℕ} → IsOpened a d → IsInChain a d h → ¬ IsPassedOver a d h → IsInside a h → kind a h ≡ Directory → IsOpened a h
+  below : {d h : ℕ} → IsOpened a d → IsInChain a d h → ¬ IsPassedOver a d h
+      → IsInside a h → kind a h ≡ Directory → IsOpened a h
 
 -- h stands in the chain of the opened directory d
 pub record Stands (a : List ℕ) (d h : ℕ) : Type 0 where

@@ -1,7 +1,8 @@
 -- romfs.rst, the tables of the volume header and of a file header: the fields of an image.
-use Rattle.std.specs.Prelude.{ℕ, zero, suc, ◌+◌, ◌*◌, ◌/◌, ◌%◌, ◌^◌, ◌≤◌, ◌==◌, List, [], ◌∷◌, length, take, drop, Bool, Option, Some, None, nat_le, if◌then◌else◌}
+use Rattle.std.specs.Prelude.{ℕ, zero, suc, ◌+◌, ◌*◌, ◌/◌, ◌%◌, ◌^◌, ◌≤◌, ◌==◌, ◌||◌, List, [], ◌∷◌, length, take, drop, Bool, Option, Some, None, nat_le, codes, bytes_eq, if◌then◌else◌}
 use Rattle.std.specs.Option.{option_map, option_map_or}
 use Rattle.byteorder.specs.Endian.{big_number}
+use Rattle.romfs_format.specs.declared.limits.TheConstants.{HEAD_SIZE, NAME_FIELD_SIZE, SUMMED_SIZE}
 use Rattle.romfs_format.specs.declared.head.Kind.{Kind}
 use Rattle.romfs_format.specs.declared.head.Kind.TheVariants.{HardLink, Directory, Regular, SymLink, Block, Character, Socket, Fifo}
 
@@ -13,8 +14,8 @@ unfoldable pub word : List ℕ → ℕ → ℕ
 word b p = big_number 4 (drop p b)
 
 -- n rounded up to a multiple of 16
-abbrev pub pad : ℕ → ℕ
-pad n = (n + 15) / 16 * 16
+abbrev pub padded : ℕ → ℕ
+padded n = (n + 15) / 16 * 16
 
 -- n with its low 4 bits cleared
 abbrev pub cleared : ℕ → ℕ
@@ -26,7 +27,7 @@ image b = take (word b 8) b
 
 -- what the volume checksum goes over
 unfoldable pub summed : List ℕ → List ℕ
-summed a = take 512 a
+summed a = take SUMMED_SIZE a
 
 -- the sum of the whole words
 abbrev pub word_sum : List ℕ → ℕ
@@ -35,7 +36,7 @@ word_sum _ = 0
 
 -- the bytes among which a name that begins at p has to end
 unfoldable pub name_field : List ℕ → ℕ → List ℕ
-name_field a p = take 256 (drop p a)
+name_field a p = take NAME_FIELD_SIZE (drop p a)
 
 -- the bytes before the first zero byte, if there is one
 unfoldable pub ended : List ℕ → Option (List ℕ)
@@ -43,9 +44,13 @@ ended [] = None
 ended (zero ∷ bytes) = Some []
 ended (suc n ∷ bytes) = option_map (λ text. suc n ∷ text) (ended bytes)
 
+-- the name is . or ..
+abbrev pub is_dot_name : List ℕ → Bool
+is_dot_name n = bytes_eq n (codes ".") || bytes_eq n (codes "..")
+
 -- where the padding ends of a name that begins at p
 abbrev pub text_end : ℕ → List ℕ → ℕ
-text_end p text = p + pad (length text + 1)
+text_end p text = p + padded (length text + 1)
 
 -- the text, if its padding ends within the first n bytes
 abbrev pub if_within : ℕ → ℕ → Option (List ℕ) → Option (List ℕ)
@@ -58,11 +63,11 @@ text_at a p = if_within (length a) p (ended (name_field a p))
 
 -- the first header, which is the root's: it stands after the volume name
 unfoldable pub root : List ℕ → ℕ
-root a = option_map_or (text_end 16) (text_at a 16) 0
+root a = option_map_or (text_end HEAD_SIZE) (text_at a HEAD_SIZE) 0
 
 -- the header lies in the image; only such a header has fields
 abbrev pub IsInside : List ℕ → ℕ → Type 0
-IsInside a h = (root a ≤ h) × (h + 16 ≤ length a)
+IsInside a h = (root a ≤ h) × (h + HEAD_SIZE ≤ length a)
 
 -- the kind that the low three bits of a header's first word say
 abbrev pub kind_of : ℕ → Kind
@@ -95,12 +100,12 @@ size a h = word a (h + 8)
 
 -- the name of a header; none where it is not ended
 abbrev pub name : List ℕ → ℕ → Option (List ℕ)
-name a h = text_at a (h + 16)
+name a h = text_at a (h + HEAD_SIZE)
 
 -- where the data begins of a header with this name
 abbrev pub data_at : ℕ → List ℕ → ℕ
-data_at h text = text_end (h + 16) text
+data_at h text = text_end (h + HEAD_SIZE) text
 
 -- the header with this name, up to where the padding ends
 unfoldable pub header_bytes : List ℕ → ℕ → List ℕ → List ℕ
-header_bytes a h text = take (16 + pad (length text + 1)) (drop h a)
+header_bytes a h text = take (HEAD_SIZE + padded (length text + 1)) (drop h a)

@@ -1,6 +1,7 @@
 -- romfs.rst, the file header: all fields of one together.
 use Rattle.std.specs.Prelude.{◌≡◌, ℕ, ◌+◌, List, [], length, unwrap_or}
 use Rattle.romfs_format.specs.declared.head.Head.{Head}
+use Rattle.romfs_format.specs.declared.limits.TheConstants.{HEAD_SIZE}
 use Rattle.romfs_format.specs.Fields.{IsInside, kind, exec, next, spec, size, name}
 
 -- the name of a header; the empty one where it is not ended
@@ -16,7 +17,7 @@ head_of a h = record {
   exec = exec a h;
   spec = spec a h;
   size = size a h;
-  name_at = h + 16;
+  name_at = h + HEAD_SIZE;
   name_len = length (name_of a h);
 }
 

@@ -2,6 +2,7 @@
 use Rattle.std.specs.Prelude.{Option, MatchOption, ◌≡◌, ◌≢◌, ℕ, ◌+◌, ◌/◌, ◌%◌, ◌^◌, ◌<◌, ◌⊎◌, List, [], ◌++◌, length, nat_lt, if◌then◌else◌, IsSome, IsSomeAnd, IsNone, Contains, codes}
 use Rattle.romfs_format.specs.declared.head.Kind.TheVariants.{Directory, Regular, SymLink, Block, Character}
 use Rattle.romfs_format.specs.declared.head.End.TheVariants.{AtDirectory, Nowhere}
+use Rattle.romfs_format.specs.declared.limits.TheConstants.{HEAD_SIZE, MAX_TARGET_SIZE, MAX_MAJOR, MAX_NAMES}
 use Rattle.romfs_format.specs.declared.rule.Rule.{Rule}
 use Rattle.romfs_format.specs.declared.rule.ImageFault.{ImageFault}
 use Rattle.romfs_format.specs.declared.rule.Profile.{Profile}
@@ -32,6 +33,22 @@ HasData a h = (kind a h ≡ Regular) ⊎ (kind a h ≡ SymLink)
 abbrev pub IsDevice : List ℕ → ℕ → Type 0
 IsDevice a h = (kind a h ≡ Block) ⊎ (kind a h ≡ Character)
 
+-- the name of a member that is bad: empty, or one that holds /
+abbrev pub IsBadName : List ℕ → Type 0
+IsBadName n = (n ≡ []) ⊎ Contains n 47
+
+-- the data of the header with this name end beyond the image
+abbrev pub EndsOutside : List ℕ → ℕ → List ℕ → Type 0
+EndsOutside a h n = length a < data_at h n + size a h
+
+-- the symbolic link's target is too long
+abbrev pub HasLongTarget : List ℕ → ℕ → Type 0
+HasLongTarget a h = (kind a h ≡ SymLink) × (MAX_TARGET_SIZE < size a h)
+
+-- the device's major number is too large: the high 16 bits of spec.info
+abbrev pub HasLargeMajor : List ℕ → ℕ → Type 0
+HasLargeMajor a h = IsDevice a h × (MAX_MAJOR < spec a h / 2 ^ 16)
+
 -- two fields name h
 abbrev pub IsLinkedTwice : List ℕ → ℕ → Type 0
 IsLinkedTwice a h = (f g : Field) × (f ≢ g) × IsLink a f h × IsLink a g h
@@ -42,38 +59,49 @@ IsRootElsewhere a h = (h ≡ root a) × ((d : ℕ) × (d ≢ root a) × Stands a
 
 -- g is a member of the same directory as h, at a lower place, and has its name
 abbrev pub IsNamesake : List ℕ → ℕ → ℕ → Type 0
-IsNamesake a g h = (g < h) × ((d : ℕ) × IsMember a d g × IsMember a d h) × IsNamed a g × IsNamed a h × (name a g ≡ name a h)
+IsNamesake a g h =
+    (g < h) × ((d : ℕ) × IsMember a d g × IsMember a d h) × IsNamed a g × IsNamed a h
+    × (name a g ≡ name a h)
 
 -- the words of the header at h, of its name and of the padding do not sum to 0; a name that is not ended stands for
 -- no sum, and of such headers only the root's is asked for one
 abbrev pub HasBadSum : List ℕ → ℕ → Type 0
-HasBadSum a h = MatchOption (name a h) (h ≡ root a) (λ n. word_sum (header_bytes a h n) % 2 ^ 32 ≢ 0)
+HasBadSum a h =
+    MatchOption (name a h) (h ≡ root a) (λ n. word_sum (header_bytes a h n) % 2 ^ 32 ≢ 0)
 
 -- the image with the accessible bytes a breaks the rule of the profile at the header h
 abbrev pub BreaksHeaderAs : Profile → List ℕ → Rule → ℕ → Type 0
 BreaksHeaderAs profile a Outside h = IsReached a h × ¬ IsInside a h
-BreaksHeaderAs profile a NameOpen h = IsReached a h × IsInside a h × (h ≢ root a) × IsNone (name a h)
-BreaksHeaderAs profile a NameBad h = IsSomeMember a h × IsInside a h × IsSomeAnd (name a h) (λ n. (n ≡ []) ⊎ Contains n 47)
-BreaksHeaderAs profile a DataOutside h = IsUsed a h × HasData a h × IsSomeAnd (name a h) (λ n. length a < data_at h n + size a h)
-BreaksHeaderAs profile a TargetLong h = IsUsed a h × (kind a h ≡ SymLink) × (4095 < size a h)
+BreaksHeaderAs profile a NameOpen h =
+    IsReached a h × IsInside a h × (h ≢ root a) × IsNone (name a h)
+BreaksHeaderAs profile a NameBad h =
+    IsSomeMember a h × IsInside a h × IsSomeAnd (name a h) IsBadName
+BreaksHeaderAs profile a DataOutside h =
+    IsUsed a h × HasData a h × IsSomeAnd (name a h) (EndsOutside a h)
+BreaksHeaderAs profile a TargetLong h = IsUsed a h × HasLongTarget a h
 BreaksHeaderAs profile a Twice h = IsLinkedTwice a h ⊎ IsRootElsewhere a h
 BreaksHeaderAs profile a SameName h = (g : ℕ) × IsNamesake a g h
 BreaksHeaderAs profile a LinkLoop h = IsSomeMember a h × IsHardLink a h × EndsAs a h Nowhere
-BreaksHeaderAs profile a LinkDirectory h = IsSomeMember a h × IsHardLink a h × EndsAs a h AtDirectory
-BreaksHeaderAs profile a MajorLarge h = IsUsed a h × IsDevice a h × (4095 < spec a h / 2 ^ 16)
+BreaksHeaderAs profile a LinkDirectory h =
+    IsSomeMember a h × IsHardLink a h × EndsAs a h AtDirectory
+BreaksHeaderAs profile a MajorLarge h = IsUsed a h × HasLargeMajor a h
 BreaksHeaderAs Strict a HeaderSum h = IsReached a h × IsInside a h × HasBadSum a h
 BreaksHeaderAs Usual a HeaderSum h = ⊥
-BreaksHeaderAs profile a Deep h = (path : List (List ℕ)) × Has a path h × (512 < length path)
+BreaksHeaderAs profile a Deep h = (path : List (List ℕ)) × Has a path h × (MAX_NAMES < length path)
 BreaksHeaderAs profile a _ h = ⊥
+
+-- no header fits at the root's place, or it is no directory's
+abbrev pub HasNoRoot : List ℕ → Type 0
+HasNoRoot a = (length a < root a + HEAD_SIZE) ⊎ (kind a (root a) ≢ Directory)
 
 -- the bytes b break the rule of the profile at the place p
 abbrev pub BreaksAs : Profile → List ℕ → Rule → ℕ → Type 0
-BreaksAs profile b Short p = (length b < 16) × (p ≡ 0)
+BreaksAs profile b Short p = (length b < HEAD_SIZE) × (p ≡ 0)
 BreaksAs profile b Magic p = (¬ StartsWith b magic) × (p ≡ 0)
-BreaksAs profile b FullSize p = ((length b < word b 8) ⊎ (word b 8 < 16)) × (p ≡ 8)
+BreaksAs profile b FullSize p = ((length b < word b 8) ⊎ (word b 8 < HEAD_SIZE)) × (p ≡ 8)
 BreaksAs profile b Sum p = (word_sum (summed (image b)) % 2 ^ 32 ≢ 0) × (p ≡ 12)
-BreaksAs profile b VolumeName p = IsNone (text_at (image b) 16) × (p ≡ 16)
-BreaksAs profile b NoRoot p = let a = image b in ((length a < root a + 16) ⊎ (kind a (root a) ≢ Directory)) × (p ≡ root a)
+BreaksAs profile b VolumeName p = IsNone (text_at (image b) HEAD_SIZE) × (p ≡ HEAD_SIZE)
+BreaksAs profile b NoRoot p = HasNoRoot (image b) × (p ≡ root (image b))
 BreaksAs profile b r p = BreaksHeaderAs profile (image b) r p
 
 -- the same under the usual profile
@@ -128,7 +156,8 @@ pub record IsSoundAs (profile : Profile) (b : List ℕ) : Type 0 where
 
 -- the fault of b under the profile; none where it is sound
 abbrev pub IsFaultOfAs : Profile → List ℕ → Option ImageFault → Type 0
-IsFaultOfAs profile b fault = MatchOption fault (IsSoundAs profile b) (λ f. IsFaultAs profile b f.rule f.place)
+IsFaultOfAs profile b fault =
+    MatchOption fault (IsSoundAs profile b) (λ f. IsFaultAs profile b f.rule f.place)
 
 -- the same under the usual profile
 abbrev pub IsFault : List ℕ → Rule → ℕ → Type 0
@@ -136,6 +165,3 @@ IsFault b r p = IsFaultAs Usual b r p
 
 abbrev pub IsSound : List ℕ → Type 0
 IsSound b = IsSoundAs Usual b
-
-abbrev pub IsFaultOf : List ℕ → Option ImageFault → Type 0
-IsFaultOf b fault = IsFaultOfAs Usual b fault

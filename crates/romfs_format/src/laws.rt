@@ -2,6 +2,7 @@
 
 ghost use Rattle.std.specs.Prelude.{◌≡◌, ◌≤◌, ℕ, List};
 ghost use Rattle.romfs_format.specs.declared.head.Kind.TheVariants.{SymLink};
+ghost use Rattle.romfs_format.specs.declared.limits.TheConstants.{MAX_TARGET_SIZE};
 ghost use Rattle.romfs_format.specs.declared.rule.Rule.{Rule};
 ghost use Rattle.romfs_format.specs.declared.rule.Profile.{Profile};
 ghost use Rattle.romfs_format.specs.declared.rule.Profile.TheVariants.{Strict};
@@ -25,9 +26,11 @@ pub fn strict_is_sound()
     ensures { (b : List ℕ) → IsSoundAs Strict b → IsSound b }
 {}
 
-/// A symbolic link of a sound image that a path leads to, after hard links, has a target of at most 4,095 bytes.
+/// A symbolic link of a sound image that a path leads to, after hard links, has a target of at most
+/// [`MAX_TARGET_SIZE`](crate::limits::MAX_TARGET_SIZE) bytes.
 #[tactic(auto, using(crate::proofs::Targets::short_target))]
 pub fn targets_are_short()
     ensures { (b : List ℕ) → IsSound b → (path : List (List ℕ)) (h e : ℕ) →
-        Has (image b) path h → IsFinal (image b) h e → kind (image b) e ≡ SymLink → size (image b) e ≤ 4095 }
+        Has (image b) path h → IsFinal (image b) h e → kind (image b) e ≡ SymLink →
+        size (image b) e ≤ MAX_TARGET_SIZE }
 {}

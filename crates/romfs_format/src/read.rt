@@ -2,10 +2,13 @@
 
 ghost use Rattle.std.specs.Prelude.{◌≡◌, ◌+◌, ◌<◌, ◌≤◌, ◌%◌, ◌^◌, IfSome, length};
 ghost use Rattle.std.specs.Option.{option_map};
-ghost use Rattle.romfs_format.specs.Fields.{root, word, text_end, kind_of, text_at, name_field, ended, word_sum, data_at, header_bytes};
+ghost use Rattle.romfs_format.specs.declared.limits.TheConstants.{HEAD_SIZE};
+ghost use Rattle.romfs_format.specs.Fields.{root, word, padded, cleared, text_end, kind_of, text_at};
+ghost use Rattle.romfs_format.specs.Fields.{name_field, ended, is_dot_name, word_sum, data_at, header_bytes};
 ghost use Rattle.romfs_format.specs.Heads.{head_of};
 
 use crate::head::{Head, Kind};
+use crate::limits::{HEAD_SIZE, NAME_FIELD_SIZE};
 use byteorder::{BigEndian, ByteOrder};
 use memchr::memchr;
 
@@ -16,6 +19,22 @@ pub fn word(bytes: &[u8], at: usize) -> u32
     ensures { result ≡ word bytes.now at }
 {
     BigEndian::read_u32(&bytes[at..])
+}
+
+/// A length rounded up to a multiple of 16, as names and data are padded.
+pub fn padded(len: usize) -> usize
+    requires { len ≤ 2 ^ 63 }
+    ensures value { result ≡ padded len }
+    ensures near { (len ≤ result) × (result ≤ len + 15) }
+{
+    (len + 15) / 16 * 16
+}
+
+/// A word with its low 4 bits cleared, as it names a header.
+pub fn cleared(word: u32) -> u32
+    ensures { result ≡ cleared word }
+{
+    word / 16 * 16
 }
 
 /// The kind that the first word of a header says.
@@ -52,7 +71,11 @@ fn name_field(image: &[u8], at: usize) -> &[u8]
     ensures { result.now ≡ name_field image.now at }
 {
     let rest = &image[at..];
-    if rest.len() < 256 { rest } else { &rest[..256] }
+    if rest.len() < NAME_FIELD_SIZE {
+        rest
+    } else {
+        &rest[..NAME_FIELD_SIZE]
+    }
 }
 
 /// The name whose field begins at a place of the accessible bytes.
@@ -65,10 +88,17 @@ pub fn text_at(image: &[u8], at: usize) -> Option<&[u8]>
     match ended(name_field(image, at)) {
         None => None,
         Some(text) => {
-            let end = at + (text.len() + 1 + 15) / 16 * 16;
+            let end = at + padded(text.len() + 1);
             if end <= image.len() { Some(text) } else { None }
         }
     }
+}
+
+/// Whether a name is `.` or `..`.
+pub fn is_dot_name(name: &[u8]) -> bool
+    ensures { result ≡ is_dot_name name.now }
+{
+    name == b".".as_slice() || name == b"..".as_slice()
 }
 
 /// A header with its name, up to where the padding of the name ends.
@@ -79,7 +109,7 @@ pub fn header_bytes<'a>(image: &'a [u8], at: usize, name: &[u8]) -> &'a [u8]
     ensures { result.now ≡ header_bytes image.now at name.now }
 {
     let rest = &image[at..];
-    &rest[..16 + (name.len() + 1 + 15) / 16 * 16]
+    &rest[..HEAD_SIZE + padded(name.len() + 1)]
 }
 
 /// The sum of the whole words of some bytes.
@@ -97,7 +127,7 @@ pub fn word_sum(bytes: &[u8]) -> u32
 
 /// The header at a place.
 pub fn head_at(image: &[u8], at: u32) -> Head
-    requires inside { at + 16 ≤ length image.now }
+    requires inside { at + HEAD_SIZE ≤ length image.now }
     requires small { length image.now < 2 ^ 32 }
     ensures { result ≡ head_of image.now at }
 {
@@ -105,13 +135,13 @@ pub fn head_at(image: &[u8], at: u32) -> Head
     let first = word(image, place);
     Head {
         offset: at,
-        next: first / 16 * 16,
+        next: cleared(first),
         kind: kind_of(first),
         exec: first / 8 % 2 == 1,
         spec: word(image, place + 4),
         size: word(image, place + 8),
-        name_at: at + 16,
-        name_len: match text_at(image, place + 16) {
+        name_at: at + HEAD_SIZE as u32,
+        name_len: match text_at(image, place + HEAD_SIZE) {
             Some(name) => name.len() as u32,
             None => 0,
         },
@@ -121,12 +151,12 @@ pub fn head_at(image: &[u8], at: u32) -> Head
 /// Where the root stands.
 #[tactic(auto, unfolding(crate::specs::Fields::root))]
 pub fn root_of(image: &[u8]) -> u32
-    requires long { 16 ≤ length image.now }
+    requires long { HEAD_SIZE ≤ length image.now }
     requires small { length image.now < 2 ^ 32 }
     ensures { result ≡ root image.now }
 {
-    match text_at(image, 16) {
+    match text_at(image, HEAD_SIZE) {
         None => 0,
-        Some(name) => 16 + (name.len() as u32 + 1 + 15) / 16 * 16,
+        Some(name) => (HEAD_SIZE + padded(name.len() + 1)) as u32,
     }
 }

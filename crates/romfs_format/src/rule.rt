@@ -13,7 +13,7 @@ pub enum Rule {
     Magic,
     /// The full size is 16 or more, and no more than there are bytes.
     FullSize,
-    /// The words of the first 512 bytes sum to 0.
+    /// The words of the first [`SUMMED_SIZE`](crate::limits::SUMMED_SIZE) bytes sum to 0.
     Sum,
     /// The volume name ends, and its padding lies within the full size.
     VolumeName,
@@ -27,7 +27,7 @@ pub enum Rule {
     NameBad,
     /// The data of a regular file or link lies within the image.
     DataOutside,
-    /// A link's target has at most 4,095 bytes.
+    /// A link's target has at most [`MAX_TARGET_SIZE`](crate::limits::MAX_TARGET_SIZE) bytes.
     TargetLong,
     /// A header is named by one link alone, and the root's by no other directory's chain.
     Twice,
@@ -37,12 +37,12 @@ pub enum Rule {
     LinkLoop,
     /// A hard link leads to no directory.
     LinkDirectory,
-    /// A device's major number is at most 4,095.
+    /// A device's major number is at most [`MAX_MAJOR`](crate::limits::MAX_MAJOR).
     MajorLarge,
     /// The words of a header that is reached, with its name and padding, sum to 0. The strict
     /// profile alone asks it.
     HeaderSum,
-    /// A path has at most 512 names.
+    /// A path has at most [`MAX_NAMES`](crate::limits::MAX_NAMES) names.
     Deep,
 }
 

@@ -124,7 +124,8 @@ module _ (a : List ℕ) (i : IsImage a) where
   pub next_inside : (head end : Head) → IsGiven a head → IsOnWay a head end → end.kind ≡ HardLink → IsInside a (destination a end.offset)
   next_inside head end g w k = reached_inside a i _ (inr (inr (target_of head end g w k)))
 
-  pub moves_on : (head end after : Head) → IsGiven a head → IsOnWay a head end → end.kind ≡ HardLink → after ≡ head_of a (destination a end.offset) → IsOnWay a head after
+  pub moves_on : (head end after : Head) → IsGiven a head → IsOnWay a head end → end.kind ≡ HardLink
+      → after ≡ head_of a (destination a end.offset) → IsOnWay a head after
   moves_on head end after g w k e =
       let l = hard head end w k in
       let o : after.offset ≡ destination a end.offset = ap (λ x. x.offset) e in
@@ -139,7 +140,9 @@ module _ (a : List ℕ) (i : IsImage a) where
         ]);
       })
 
-  pub way_falls : (head end after : Head) → IsOnWay a head end → end.kind ≡ HardLink → after ≡ head_of a (destination a end.offset) → count a (places a) after.offset < count a (places a) end.offset
+  pub way_falls : (head end after : Head) → IsOnWay a head end → end.kind ≡ HardLink
+      → after ≡ head_of a (destination a end.offset)
+      → count a (places a) after.offset < count a (places a) end.offset
   way_falls head end after w k e = subst (λ x. count a (places a) x.offset < count a (places a) end.offset) (sym e) (hops a (places a) end.offset (hard head end w k) w.leaves).1
 
   pub arrives : (head end : Head) → IsOnWay a head end → end.kind ≢ HardLink → IsFinal a head.offset end.offset

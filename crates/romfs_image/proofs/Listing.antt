@@ -8,7 +8,7 @@ use Rattle.std.proofs.lemmas.Bool.Decides.{nat_tests}
 use Rattle.std.proofs.lemmas.List.Elements.{All-cons}
 use Rattle.std.proofs.lemmas.Slice.Eq.{bytes_eq-Decides}
 use Rattle.romfs_format.specs.declared.head.Head.{Head}
-use Rattle.romfs_format.specs.Fields.{root, IsInside, name}
+use Rattle.romfs_format.specs.Fields.{root, IsInside, name, is_dot_name}
 use Rattle.romfs_format.specs.Chains.{IsAt, IsPassedOver, IsOpened, IsMember}
 use Rattle.romfs_image.specs.Images.{IsImage}
 use Rattle.romfs_format.specs.Heads.{head_of}
@@ -26,14 +26,17 @@ both : (p q : Bool) → (p && q) ≡ true → (p ≡ true) × (q ≡ true)
 both true q e = (refl, e)
 both false q e = absurd (cc)
 
-is_dot : (o : Option (List ℕ)) → option_map_or (λ n. bytes_eq n (codes ".") || bytes_eq n (codes "..")) o false ≡ true → (o ≡ Some (codes ".")) ⊎ (o ≡ Some (codes ".."))
+is_dot : (o : Option (List ℕ))
+    → option_map_or is_dot_name o false ≡ true
+    → (o ≡ Some (codes ".")) ⊎ (o ≡ Some (codes ".."))
 is_dot None e = absurd (cc)
 is_dot (Some n) e = elim (either _ _ e) [
   | inl p ↦ inl (ap Some ((bytes_eq-Decides n (codes ".")).0 p))
   | inr p ↦ inr (ap Some ((bytes_eq-Decides n (codes "..")).0 p))
 ]
 
-at_dots : (o : Option (List ℕ)) → (o ≡ Some (codes ".")) ⊎ (o ≡ Some (codes "..")) → option_map_or (λ n. bytes_eq n (codes ".") || bytes_eq n (codes "..")) o false ≡ true
+at_dots : (o : Option (List ℕ)) → (o ≡ Some (codes ".")) ⊎ (o ≡ Some (codes ".."))
+    → option_map_or is_dot_name o false ≡ true
 at_dots o (inl e) = rw e refl
 at_dots o (inr e) = rw e refl
 

@@ -14,7 +14,9 @@ front [] t e = absurd (cc)
 front (zero ∷ xs) t e = let q : [] ≡ t = cc in (zero ∷ xs, rw (← q) refl)
 front (suc n ∷ xs) t e = pick (λ u q. front xs u q) (ended xs) refl e
   where
-    pick : ((u : List ℕ) → ended xs ≡ Some u → (rest : List ℕ) × (xs ≡ u ++ rest)) → (o : Option (List ℕ)) → o ≡ ended xs → option_map (λ text. suc n ∷ text) o ≡ Some t → (rest : List ℕ) × (suc n ∷ xs ≡ t ++ rest)
+    pick : ((u : List ℕ) → ended xs ≡ Some u → (rest : List ℕ) × (xs ≡ u ++ rest)) → (o : Option (List ℕ))
+        → o ≡ ended xs → option_map (λ text. suc n ∷ text) o ≡ Some t
+        → (rest : List ℕ) × (suc n ∷ xs ≡ t ++ rest)
     pick f None q e = absurd (cc)
     pick f (Some u) q e = let r = f u (sym q) in let k : suc n ∷ u ≡ t = cc in (r.0, rw (← k) (ap (λ l. suc n ∷ l) r.1))
 

@@ -1,11 +1,11 @@
 -- Where the names and data of given headers lie, and which places hold them.
-use Rattle.std.proofs.Common.{◌≡◌, ◌≢◌, ◌∙◌, sym, ap, subst, ℕ, zero, suc, ◌+◌, ◌*◌, ◌/◌, ◌<◌, ◌≤◌, ◌⊎◌, inl, inr, List, [], length, take, drop, Option, Some, None, arith, refl, IsSome, IsNone, IsSomeAnd, MatchOption, All}
+use Rattle.std.proofs.Common.{◌≡◌, ◌≢◌, ◌∙◌, sym, ap, subst, ℕ, zero, suc, ◌+◌, ◌<◌, ◌≤◌, ◌⊎◌, inl, inr, List, [], length, take, drop, Option, Some, None, arith, refl, IsSome, IsNone, IsSomeAnd, MatchOption, All}
 use Rattle.std.specs.Prelude.{unwrap_or}
 use Rattle.std.proofs.lemmas.Bool.{cases_order}
 use Rattle.romfs_format.specs.declared.head.Kind.{Kind}
 use Rattle.romfs_format.specs.declared.head.Kind.TheVariants.{HardLink, Directory, Regular, SymLink, Block, Character, Socket, Fifo}
 use Rattle.romfs_format.specs.declared.head.Head.{Head}
-use Rattle.romfs_format.specs.Fields.{root, kind, name, size, data_at, cleared, spec}
+use Rattle.romfs_format.specs.Fields.{root, kind, name, size, data_at, cleared, spec, padded}
 use Rattle.romfs_format.specs.Chains.{IsOpened}
 use Rattle.romfs_format.specs.Rules.{HasData}
 use Rattle.romfs_image.specs.Images.{IsImage}
@@ -30,7 +30,9 @@ root_or a i h f = test (name a h) refl
     ]
 
 -- `head` gives a header back that is given
-pub given_place : (a : List ℕ) (i : IsImage a) (r : Option Head) (h : ℕ) → MatchOption r (¬ IsPlace a h) (λ head. IsPlace a h × (head ≡ head_of a h)) → (g : Head) → IsGiven a g → g.offset ≡ h → (r ≡ Some g) ⊎ ((h ≡ root a) × IsNone (name a h))
+pub given_place : (a : List ℕ) (i : IsImage a) (r : Option Head) (h : ℕ)
+    → MatchOption r (¬ IsPlace a h) (λ head. IsPlace a h × (head ≡ head_of a h)) → (g : Head) → IsGiven a g
+    → g.offset ≡ h → (r ≡ Some g) ⊎ ((h ≡ root a) × IsNone (name a h))
 given_place a i r h m g y e =
     let f : From a h = subst (λ x. From a x) e y.from in
     let q : g ≡ head_of a h = subst (λ x. g ≡ head_of a x) e y.is in
@@ -48,14 +50,18 @@ name_bytes : (a : List ℕ) (h : ℕ) → h + 16 ≤ length a → (h + 16 + leng
 unfolding bytes_at
 name_bytes a h l = test (name a h) refl
   where
-    test : (o : Option (List ℕ)) → o ≡ name a h → (h + 16 + length (unwrap_or o []) ≤ length a) × (take (length (unwrap_or o [])) (drop (h + 16) a) ≡ unwrap_or o [])
+    test : (o : Option (List ℕ)) → o ≡ name a h
+        → (h + 16 + length (unwrap_or o []) ≤ length a)
+        × (take (length (unwrap_or o [])) (drop (h + 16) a) ≡ unwrap_or o [])
     test None e = (omega arith, refl)
     test (Some n) e = let t = text_bytes a n (h + 16) l (sym e) in (let t0 = t.0 in omega arith, t.1)
 
 pub given_head : (a : List ℕ) (i : IsImage a) (head : Head) → IsGiven a head → IsHeadIn a head
 given_head a i head g = record { is = g.is; inside = from_inside a i head.offset g.from }
 
-pub given_name : (a : List ℕ) (head : Head) → IsHeadIn a head → (head.name_at + head.name_len ≤ length a) × (bytes_at a head.name_at head.name_len ≡ name_of a head.offset)
+pub given_name : (a : List ℕ) (head : Head) → IsHeadIn a head
+    → (head.name_at + head.name_len ≤ length a)
+    × (bytes_at a head.name_at head.name_len ≡ name_of a head.offset)
 given_name a head g =
     let n = name_bytes a head.offset g.inside.1 in
     let e : head_of a head.offset ≡ head = sym g.is in
@@ -83,14 +89,17 @@ has_data : (k : Kind) → (k ≡ Regular) ⊎ (k ≡ SymLink) → (a : List ℕ)
 has_data k (inl e) a h = rw e refl
 has_data k (inr e) a h = rw e refl
 
-pub given_data : (a : List ℕ) (i : IsImage a) (head : Head) → IsGiven a head → (head.kind ≡ Regular) ⊎ (head.kind ≡ SymLink) → (head.name_at + (head.name_len + 1 + 15) / 16 * 16 + head.size ≤ length a) × (bytes_at a (head.name_at + (head.name_len + 1 + 15) / 16 * 16) head.size ≡ data_of a head.offset)
+pub given_data : (a : List ℕ) (i : IsImage a) (head : Head) → IsGiven a head
+    → (head.kind ≡ Regular) ⊎ (head.kind ≡ SymLink)
+    → (head.name_at + padded (head.name_len + 1) + head.size ≤ length a)
+    × (bytes_at a (head.name_at + padded (head.name_len + 1)) head.size ≡ data_of a head.offset)
 given_data a i head g k =
     let e : head_of a head.offset ≡ head = sym g.is in
     let d : HasData a head.offset = subst (λ x. (x.kind ≡ Regular) ⊎ (x.kind ≡ SymLink)) (sym e) k in
     let n = inside_data a i head.offset g.from d in
     let m = has_data (kind a head.offset) d a head.offset in (
-      subst (λ x. x.name_at + (x.name_len + 1 + 15) / 16 * 16 + x.size ≤ length a) e n,
-      subst (λ x. bytes_at a (x.name_at + (x.name_len + 1 + 15) / 16 * 16) x.size ≡ data_of a head.offset) e (sym m),
+      subst (λ x. x.name_at + padded (x.name_len + 1) + x.size ≤ length a) e n,
+      subst (λ x. bytes_at a (x.name_at + padded (x.name_len + 1)) x.size ≡ data_of a head.offset) e (sym m),
     )
 
 no_data_kind : (k : Kind) → k ≢ Regular → k ≢ SymLink → (a : List ℕ) (h : ℕ) → data_of_kind k a h ≡ []
@@ -122,7 +131,9 @@ module _ (a : List ℕ) (i : IsImage a) (head : Head) (g : IsGiven a head) (k : 
   spec_is : head.spec ≡ spec a head.offset
   spec_is = ap (λ x. x.spec) g.is
 
-  starts : (h : ℕ) → IsStart a head.offset h → AreMembers a head.offset (members_from a head.offset h) × EndsWithin a (places a) h × All (λ x. IsGiven a x) (members_from a head.offset h)
+  starts : (h : ℕ) → IsStart a head.offset h
+      → AreMembers a head.offset (members_from a head.offset h) × EndsWithin a (places a) h
+      × All (λ x. IsGiven a x) (members_from a head.offset h)
   starts h s =
       let l = listed a head.offset h (good a i head.offset opened) s in
       (are_members a head.offset (chain_from a (places a) h) i opened l, ends a head.offset h (good a i head.offset opened) s, are_given a head.offset (chain_from a (places a) h) i opened l)

@@ -1,10 +1,10 @@
 -- The data of a header are a part of its image, shorter than that by the headers before them.
-use Rattle.std.proofs.Common.{◌≡◌, ◌≢◌, ◌∙◌, sym, ap, subst, ℕ, ◌+◌, ◌*◌, ◌/◌, ◌<◌, ◌≤◌, ◌^◌, ◌⊎◌, inl, inr, List, [], ◌∷◌, length, drop, refl, arith, lit≤}
+use Rattle.std.proofs.Common.{◌≡◌, ◌≢◌, ◌∙◌, sym, ap, subst, ℕ, ◌+◌, ◌<◌, ◌≤◌, ◌^◌, ◌⊎◌, inl, inr, List, [], ◌∷◌, length, drop, refl, arith, lit≤}
 use Rattle.std.proofs.lemmas.List.{length-take, length-drop}
 use Rattle.romfs_format.specs.declared.head.Kind.{Kind}
 use Rattle.romfs_format.specs.declared.head.Kind.TheVariants.{HardLink, Directory, Regular, SymLink, Block, Character, Socket, Fifo}
 use Rattle.romfs_format.specs.declared.head.Head.{Head}
-use Rattle.romfs_format.specs.Fields.{data_at, kind, size}
+use Rattle.romfs_format.specs.Fields.{data_at, kind, size, padded}
 use Rattle.romfs_format.specs.Heads.{name_of}
 use Rattle.romfs_image.specs.Images.{IsImage}
 use Rattle.romfs_image.specs.declared.parts.Part.{Part}
@@ -57,9 +57,9 @@ module _ (a : List ℕ) (image : IsImage a) (head : Head) (given : IsGiven a hea
   size_same : (n : ℕ) → n ≡ data_size head.kind head.size → n ≡ data_size (kind a head.offset) (size a head.offset)
   size_same n e = subst (λ (x : Head). n ≡ data_size x.kind x.size) given.is e
 
-  pub part_of_data : (head.kind ≡ Regular) ⊎ (head.kind ≡ SymLink) → IsDataPart a head.offset (record { start = head.name_at + (head.name_len + 1 + 15) / 16 * 16; len = head.size })
+  pub part_of_data : (head.kind ≡ Regular) ⊎ (head.kind ≡ SymLink) → IsDataPart a head.offset (record { start = head.name_at + padded (head.name_len + 1); len = head.size })
   part_of_data k =
-      let at = head.name_at + (head.name_len + 1 + 15) / 16 * 16 in
+      let at = head.name_at + padded (head.name_len + 1) in
       let d = given_data a image head given k in
       let n = long a at head.size d.0 in
       let s = short_data a head.offset image in

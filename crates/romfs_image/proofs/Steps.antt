@@ -53,12 +53,14 @@ module _ (a : List ℕ) (r d h : ℕ) (w : IsWalk a r h) where
   pub shorter : h ≢ 0 → length (chain_from a (places a) (next a h)) < length (chain_from a (places a) h)
   shorter z = let s = step a (places a) h z w.ends in rw s.walk (omega arith)
 
-  pub takes : (head : Head) → head ≡ head_of a h → h ≢ 0 → passes_over a d head.offset ≡ false → (members_from a d h ≡ head ∷ members_from a d head.next) × IsWalk a r head.next
+  pub takes : (head : Head) → head ≡ head_of a h → h ≢ 0 → passes_over a d head.offset ≡ false
+      → (members_from a d h ≡ head ∷ members_from a d head.next) × IsWalk a r head.next
   takes head e z p =
       subst (λ x. (members_from a d h ≡ x ∷ members_from a d x.next) × IsWalk a r x.next) (sym e)
       (take z (subst (λ x. passes_over a d x.offset ≡ false) e p), (on z).1)
 
-  pub goes : (head : Head) → head ≡ head_of a h → h ≢ 0 → passes_over a d head.offset ≡ true → (members_from a d head.next ≡ members_from a d h) × IsWalk a r head.next
+  pub goes : (head : Head) → head ≡ head_of a h → h ≢ 0 → passes_over a d head.offset ≡ true
+      → (members_from a d head.next ≡ members_from a d h) × IsWalk a r head.next
   goes head e z p =
       subst (λ x. (members_from a d x.next ≡ members_from a d h) × IsWalk a r x.next) (sym e)
       (sym (over z (subst (λ x. passes_over a d x.offset ≡ true) e p)), (on z).1)

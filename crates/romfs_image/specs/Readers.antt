@@ -1,12 +1,11 @@
 -- What the readers of an image give: headers, the members of a directory, names and data.
-use Rattle.std.specs.Prelude.{◌≡◌, ℕ, ◌+◌, ◌^◌, ◌<◌, ◌≤◌, ◌%◌, ◌==◌, ◌||◌, ◌&&◌, ◌⊎◌, ◌↔◌, List, [], length, take, drop, map, slice_get, Bool, false, not, Some, codes, All, Contains}
+use Rattle.std.specs.Prelude.{◌≡◌, ℕ, ◌+◌, ◌^◌, ◌<◌, ◌≤◌, ◌%◌, ◌==◌, ◌||◌, ◌&&◌, ◌⊎◌, ◌↔◌, List, [], length, take, drop, map, slice_get, Bool, false, not, Option, MatchOption, Some, All, Contains}
 use Rattle.std.specs.Option.{option_map_or}
-use Rattle.std.specs.Str.{bytes_eq}
 use Rattle.std.specs.List.{filter}
 use Rattle.romfs_format.specs.declared.head.Kind.{Kind}
 use Rattle.romfs_format.specs.declared.head.Kind.TheVariants.{Regular, SymLink}
 use Rattle.romfs_format.specs.declared.head.Head.{Head}
-use Rattle.romfs_format.specs.Fields.{root, kind, size, name, data_at}
+use Rattle.romfs_format.specs.Fields.{root, kind, size, name, data_at, is_dot_name}
 use Rattle.romfs_format.specs.Chains.{IsAt, IsMember, IsSomeMember}
 use Rattle.romfs_format.specs.Links.{IsFinal}
 use Rattle.romfs_format.specs.Rules.{IsNamed}
@@ -16,6 +15,10 @@ use Rattle.romfs_image.specs.declared.parts.Part.{Part}
 -- a header with an ended name stands at h
 abbrev pub IsPlace : List ℕ → ℕ → Type 0
 IsPlace a h = (h % 16 ≡ 0) × IsNamed a h
+
+-- the header at h; none where no header with an ended name stands there
+abbrev pub IsHeadAt : List ℕ → ℕ → Option Head → Type 0
+IsHeadAt a h found = MatchOption found (¬ IsPlace a h) (λ head. IsPlace a h × (head ≡ head_of a h))
 
 -- where a chain of hard links from a member ends
 abbrev pub IsEnd : List ℕ → ℕ → Type 0
@@ -63,7 +66,7 @@ pub record IsListed (a : List ℕ) (d : ℕ) (hs : List ℕ) : Type 0 where
 -- whether a header is passed over in the chain of d
 abbrev pub passes_over : List ℕ → ℕ → ℕ → Bool
 passes_over a d h =
-    ((d == root a) && (h == root a)) || option_map_or (λ n. bytes_eq n (codes ".") || bytes_eq n (codes "..")) (name a h) false
+    ((d == root a) && (h == root a)) || option_map_or is_dot_name (name a h) false
 
 -- those of the headers hs that are not passed over in the chain of d
 abbrev pub kept : List ℕ → ℕ → List ℕ → List Head

@@ -1,5 +1,5 @@
 -- Walks along chains and hard links, counted by steps: no list of headers is longer than there are places for headers.
-use Rattle.std.specs.Prelude.{◌≡◌, ◌≢◌, ℕ, zero, suc, ◌/◌, ◌^◌, ◌<◌, ◌==◌, ◌⊎◌, List, [], ◌∷◌, length, if◌then◌else◌}
+use Rattle.std.specs.Prelude.{◌≡◌, ◌≢◌, ℕ, zero, suc, ◌/◌, ◌^◌, ◌<◌, ◌==◌, ◌⊎◌, List, [], ◌∷◌, length, Option, MatchOption, if◌then◌else◌}
 use Rattle.romfs_format.specs.declared.head.Head.{Head}
 use Rattle.romfs_format.specs.Fields.{root as root_of, IsInside, next}
 use Rattle.romfs_image.specs.Readers.{kept}
@@ -27,3 +27,8 @@ pub record IsWalk (a : List ℕ) (r h : ℕ) : Type 0 where
   pub small : length a < 2 ^ 32
   pub root : r ≡ root_of a
   pub ends : EndsWithin a (places a) h
+
+-- the first of the members that are left, with which the walk can go on; none where none is left
+abbrev pub IsNextMember : List ℕ → ℕ → ℕ → ℕ → Option Head → Type 0
+IsNextMember a r d h found = MatchOption found (members_from a d h ≡ [])
+    (λ head. (members_from a d h ≡ head ∷ members_from a d head.next) × IsWalk a r head.next)

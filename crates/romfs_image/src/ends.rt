@@ -17,7 +17,7 @@ ghost use Rattle.romfs_image.specs.Readers.{IsGiven};
 ghost use Rattle.romfs_image.specs.Ends.{AreEnds};
 
 use romfs_format::head::{Head, Kind};
-use romfs_format::read::head_at;
+use romfs_format::read::{cleared, head_at};
 use std::alloc::{AllocError, Allocator};
 use std::collections::BTreeMap;
 use std::marker::Model;
@@ -81,7 +81,7 @@ fn end_from<A: Allocator>(image: &[u8], known: &BTreeMap<u32, u32, A>, head: &He
         if let Some(end) = known.get(&at.offset) {
             return head_at(image, *end);
         }
-        at = head_at(image, at.spec / 16 * 16);
+        at = head_at(image, cleared(at.spec));
     }
     at
 }
@@ -102,7 +102,7 @@ fn note<A: Allocator + Copy>(
     let mut at = *head;
     while at.kind == Kind::HardLink && !known.contains_key(&at.offset) {
         known.insert(at.offset, end)?;
-        at = head_at(image, at.spec / 16 * 16);
+        at = head_at(image, cleared(at.spec));
     }
     Ok(())
 }

@@ -1,12 +1,13 @@
 //! Checked images, and what is read from them.
 
-ghost use Rattle.std.specs.Prelude.{◌≡◌, ◌≢◌, ◌⊎◌, [], ◌+◌, ◌<◌, ◌≤◌, ◌^◌, length, Some, MatchOption, IsNone, IfOk, IfErr, All};
+ghost use Rattle.std.specs.Prelude.{◌≡◌, ◌≢◌, ◌⊎◌, [], ◌+◌, ◌<◌, ◌≤◌, ◌^◌, length, Some, IsNone, IfOk, IfErr, All};
 ghost use Rattle.romfs_format.specs.Fields.{image, root as root_of, name, word};
 ghost use Rattle.romfs_format.specs.Links.{IsFinal};
-ghost use Rattle.romfs_format.specs.Rules.{IsSound, IsSoundAs};
-ghost use Rattle.romfs_image.specs.Images.{IsImage};
+ghost use Rattle.romfs_format.specs.Rules.{IsSound};
+ghost use Rattle.romfs_format.specs.declared.limits.TheConstants.{HEAD_SIZE};
+ghost use Rattle.romfs_image.specs.Images.{IsImage, IsChecked, IsCheckedAs};
 ghost use Rattle.romfs_format.specs.Heads.{name_of, head_of};
-ghost use Rattle.romfs_image.specs.Readers.{data_of, bytes_at, IsPlace, IsGiven, IsPart, IsDataPart, AreMembers};
+ghost use Rattle.romfs_image.specs.Readers.{data_of, bytes_at, IsHeadAt, IsGiven, IsPart, IsDataPart, AreMembers};
 ghost use Rattle.romfs_image.specs.Refusals.{IsRefusal, IsRefusalAs};
 
 use crate::ends::Ends;
@@ -45,7 +46,7 @@ impl<A: Allocator> Model for Image<A> {
 /// The accessible bytes alone.
 #[tactic(auto, unfolding(romfs_format::specs::Fields::image))]
 fn accessible<A: Allocator>(mut bytes: Vec<u8, A>) -> Vec<u8, A>
-    requires long { 16 ≤ length bytes.items }
+    requires long { HEAD_SIZE ≤ length bytes.items }
     requires within { word bytes.items 8 ≤ length bytes.items }
     ensures value { result.items ≡ image bytes.items }
     ensures length { length result.items ≡ word bytes.items 8 }
@@ -68,8 +69,8 @@ impl<A: Allocator + Copy> Image<A> {
     /// Beside the image it takes at most 8 bytes for each 16 of its bytes and 64 for each header in a
     /// chain, and keeps none of it.
     pub fn check(alloc: A, bytes: Vec<u8, A>) -> Result<Image<A>, CheckFault>
-        ensures ok { IfOk result (λ checked. (checked ≡ image bytes.items) × IsSound bytes.items) }
-        ensures err { IfErr result (λ fault. IsRefusal bytes.items fault) }
+        ensures ok { IfOk result (IsChecked bytes.items) }
+        ensures err { IfErr result (IsRefusal bytes.items) }
     {
         Image::check_as(alloc, bytes, Profile::Usual)
     }
@@ -79,8 +80,8 @@ impl<A: Allocator + Copy> Image<A> {
     /// It costs one more pass over headers and names.
     #[tactic(auto, using(romfs_format::proofs::Faults::profile_sound))]
     pub fn check_as(alloc: A, bytes: Vec<u8, A>, profile: Profile) -> Result<Image<A>, CheckFault>
-        ensures ok { IfOk result (λ checked. (checked ≡ image bytes.items) × IsSoundAs profile bytes.items) }
-        ensures err { IfErr result (λ fault. IsRefusalAs profile bytes.items fault) }
+        ensures ok { IfOk result (IsCheckedAs profile bytes.items) }
+        ensures err { IfErr result (IsRefusalAs profile bytes.items) }
     {
         match first_fault(alloc, &bytes, profile)? {
             Some(fault) => Err(CheckFault::Broken(fault)),
@@ -125,7 +126,7 @@ impl<A: Allocator> Image<A> {
     /// At the offset of a header that this image gave it is that header, and none only for a root whose
     /// name has no end.
     pub fn head(&self, offset: u32) -> Option<Head>
-        ensures value { MatchOption result (¬ IsPlace self.now offset) (λ head. IsPlace self.now offset × (head ≡ head_of self.now offset)) }
+        ensures value { IsHeadAt self.now offset result }
         ensures given { (g : Head) → IsGiven self.now g → g.offset ≡ offset →
             (result ≡ Some g) ⊎ ((offset ≡ root_of self.now) × IsNone (name self.now offset)) }
     {
@@ -139,7 +140,8 @@ impl<A: Allocator> Image<A> {
     /// Each header of the chain is read once as the iterator goes on.
     pub fn members(&self, directory: &Head) -> Members<'_>
         requires { IsGiven self.now directory.now }
-        ensures directory { directory.now.kind ≡ Kind.Directory → AreMembers self.now directory.now.offset result }
+        ensures directory { directory.now.kind ≡ Kind.Directory →
+            AreMembers self.now directory.now.offset result }
         ensures other { directory.now.kind ≢ Kind.Directory → result ≡ [] }
         ensures given { All (λ head. IsGiven self.now head) result }
     {

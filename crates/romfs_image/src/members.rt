@@ -1,14 +1,14 @@
 //! The members of a directory, along its chain.
 
-ghost use Rattle.std.specs.Prelude.{◌≡◌, ◌<◌, ◌∷◌, ◌^◌, [], length, MatchOption};
+ghost use Rattle.std.specs.Prelude.{◌≡◌, ◌<◌, ◌^◌, length};
 ghost use Rattle.std.specs.Iterator.{YieldsFirst, item_count};
 ghost use Rattle.romfs_format.specs.Fields.{root as root_of, IsInside};
 ghost use Rattle.romfs_format.specs.Heads.{head_of};
 ghost use Rattle.romfs_image.specs.Readers.{passes_over};
-ghost use Rattle.romfs_image.specs.Walks.{IsWalk, members_from};
+ghost use Rattle.romfs_image.specs.Walks.{IsWalk, IsNextMember, members_from};
 
 use romfs_format::head::Head;
-use romfs_format::read::{head_at, text_at};
+use romfs_format::read::{head_at, is_dot_name, text_at};
 use std::marker::Model;
 
 /// The members of a directory, in the order of its chain. A clause sees the list of those that are
@@ -85,15 +85,14 @@ fn is_passed_over(image: &[u8], root: u32, directory: u32, head: &Head) -> bool
     }
     match text_at(image, head.name_at as usize) {
         None => false,
-        Some(name) => name == b".".as_slice() || name == b"..".as_slice(),
+        Some(name) => is_dot_name(name),
     }
 }
 
 /// The first member from a place of a chain on.
 fn member_from(image: &[u8], root: u32, directory: u32, mut at: u32) -> Option<Head>
     requires { IsWalk image.now root at }
-    ensures { MatchOption result (members_from image.now directory at ≡ [])
-        (λ head. (members_from image.now directory at ≡ head ∷ members_from image.now directory head.next) × IsWalk image.now root head.next) }
+    ensures { IsNextMember image.now root directory at result }
 {
     while at != 0 {
         let head = head_at(image, at);

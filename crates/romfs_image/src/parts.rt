@@ -1,15 +1,16 @@
 //! What the readers of an image read, from its bytes.
 
-ghost use Rattle.std.specs.Prelude.{◌≡◌, ◌≢◌, [], ◌+◌, ◌*◌, ◌/◌, ◌^◌, ◌<◌, ◌≤◌, length, MatchOption, IsTrue, IsFalse, All};
-ghost use Rattle.romfs_format.specs.Fields.{root as root_of};
+ghost use Rattle.std.specs.Prelude.{◌≡◌, ◌≢◌, [], ◌+◌, ◌^◌, ◌<◌, ◌≤◌, length, IsTrue, IsFalse, All};
+ghost use Rattle.romfs_format.specs.Fields.{root as root_of, cleared};
 ghost use Rattle.romfs_format.specs.Links.{IsFinal};
 ghost use Rattle.romfs_image.specs.Images.{IsImage};
-ghost use Rattle.romfs_format.specs.Heads.{name_of, head_of, IsHeadIn};
-ghost use Rattle.romfs_image.specs.Readers.{data_of, IsPlace, IsGiven, IsPart, IsDataPart, AreMembers, bytes_at};
+ghost use Rattle.romfs_format.specs.Heads.{name_of, IsHeadIn};
+ghost use Rattle.romfs_image.specs.Readers.{data_of, IsHeadAt, IsGiven, IsPart, IsDataPart, AreMembers, bytes_at};
 
 use crate::members::Members;
 use romfs_format::head::{Head, Kind};
-use romfs_format::read::{head_at, text_at};
+use romfs_format::limits::HEAD_SIZE;
+use romfs_format::read::{cleared, head_at, padded, text_at};
 
 /// A part of an image's bytes: where it begins, from the image's first byte on, and how long it is.
 #[derive(Clone, Copy, Debug, PartialEq, Eq)]
@@ -22,13 +23,13 @@ pub struct Part {
 pub(crate) fn place_at(image: &[u8], root: u32, offset: u32) -> Option<Head>
     requires image { IsImage image.now }
     requires root { root ≡ root_of image.now }
-    ensures { MatchOption result (¬ IsPlace image.now offset) (λ head. IsPlace image.now offset × (head ≡ head_of image.now offset)) }
+    ensures { IsHeadAt image.now offset result }
 {
     let place = offset as usize;
-    if offset % 16 != 0 || offset < root || image.len() < place + 16 {
+    if offset % 16 != 0 || offset < root || image.len() < place + HEAD_SIZE {
         return None;
     }
-    match text_at(image, place + 16) {
+    match text_at(image, place + HEAD_SIZE) {
         None => None,
         Some(_) => Some(head_at(image, offset)),
     }
@@ -37,10 +38,12 @@ pub(crate) fn place_at(image: &[u8], root: u32, offset: u32) -> Option<Head>
 /// Whether a directory other than the root names its own header as the first, which says that it
 /// is empty.
 fn leads_to_itself(root: u32, directory: &Head) -> bool
-    ensures yes { IsTrue result → (directory.now.spec / 16 * 16 ≡ directory.now.offset) × (directory.now.spec / 16 * 16 ≢ root) }
-    ensures no { IsFalse result → directory.now.spec / 16 * 16 ≡ directory.now.offset → directory.now.spec / 16 * 16 ≡ root }
+    ensures yes { IsTrue result → (cleared directory.now.spec ≡ directory.now.offset)
+        × (cleared directory.now.spec ≢ root) }
+    ensures no { IsFalse result → cleared directory.now.spec ≡ directory.now.offset →
+        cleared directory.now.spec ≡ root }
 {
-    let first = directory.spec / 16 * 16;
+    let first = cleared(directory.spec);
     first == directory.offset && first != root
 }
 
@@ -49,7 +52,8 @@ pub(crate) fn members_of<'a>(image: &'a [u8], root: u32, directory: &Head) -> Me
     requires image { IsImage image.now }
     requires root { root ≡ root_of image.now }
     requires given { IsGiven image.now directory.now }
-    ensures directory { directory.now.kind ≡ Kind.Directory → AreMembers image.now directory.now.offset result }
+    ensures directory { directory.now.kind ≡ Kind.Directory →
+        AreMembers image.now directory.now.offset result }
     ensures other { directory.now.kind ≢ Kind.Directory → result ≡ [] }
     ensures given { All (λ head. IsGiven image.now head) result }
 {
@@ -59,7 +63,7 @@ pub(crate) fn members_of<'a>(image: &'a [u8], root: u32, directory: &Head) -> Me
     if leads_to_itself(root, directory) {
         return Members::new(image, root, directory.offset, 0);
     }
-    Members::new(image, root, directory.offset, directory.spec / 16 * 16)
+    Members::new(image, root, directory.offset, cleared(directory.spec))
 }
 
 /// Where the chain of hard links from a header that is given ends.
@@ -71,7 +75,7 @@ pub(crate) fn end_of(image: &[u8], head: &Head) -> Head
 {
     let mut end = *head;
     while end.kind == Kind::HardLink {
-        end = head_at(image, end.spec / 16 * 16);
+        end = head_at(image, cleared(end.spec));
     }
     end
 }
@@ -102,9 +106,9 @@ pub(crate) fn data_part(image: &[u8], head: &Head) -> Part
 {
     match head.kind {
         Kind::Regular | Kind::SymLink => {
-            let start = head.name_at + (head.name_len + 1 + 15) / 16 * 16;
+            let start = head.name_at as usize + padded(head.name_len as usize + 1);
             Part {
-                start,
+                start: start as u32,
                 len: head.size,
             }
         }

@@ -3,12 +3,14 @@
 //! Nothing is promised of what these functions write: tests show it.
 
 ghost use Rattle.std.specs.Prelude.{◌≡◌, ◌+◌, ◌≤◌, length, IfSome, IfOk};
+ghost use Rattle.romfs_format.specs.declared.limits.TheConstants.{HEAD_SIZE};
 ghost use Rattle.romfs_image.specs.declared.sample.BuildFault.TheVariants.{Memory};
 
 mod layout;
 
 use byteorder::{BigEndian, ByteOrder};
 use layout::{Layout, Spot, data_of, is_directory, is_listing};
+use romfs_format::limits::{HEAD_SIZE, SUMMED_SIZE};
 use romfs_format::read::{word, word_sum};
 use std::alloc::{AllocError, AllocFailed, Allocator};
 use std::error::Error;
@@ -118,7 +120,7 @@ pub fn build<A: Allocator + Copy>(
 /// stay as they are.
 pub fn seal(bytes: &mut [u8]) {
     if let Some(full) = full_size(bytes) {
-        let summed = &mut bytes[..full.min(512)];
+        let summed = &mut bytes[..full.min(SUMMED_SIZE)];
         BigEndian::write_u32(&mut summed[12..], 0);
         let sum = word_sum(summed);
         BigEndian::write_u32(&mut summed[12..], sum.wrapping_neg());
@@ -127,13 +129,13 @@ pub fn seal(bytes: &mut [u8]) {
 
 /// The full size of bytes that keep the first three rules.
 fn full_size(bytes: &[u8]) -> Option<usize>
-    ensures { IfSome result (λ full. (16 ≤ full) × (full ≤ length bytes.now)) }
+    ensures { IfSome result (λ full. (HEAD_SIZE ≤ full) × (full ≤ length bytes.now)) }
 {
-    if bytes.len() < 16 || !bytes.starts_with(b"-rom1fs-") {
+    if bytes.len() < HEAD_SIZE || !bytes.starts_with(b"-rom1fs-") {
         return None;
     }
     let full = word(bytes, 8) as usize;
-    (16 <= full && full <= bytes.len()).then_some(full)
+    (HEAD_SIZE <= full && full <= bytes.len()).then_some(full)
 }
 
 fn put_volume<A: Allocator>(

@@ -30,7 +30,8 @@ pub data Waits (sibling : List ℕ) : List Step → ℕ → Type 0 where
   then : {s : Step} {steps : List Step} {x : ℕ} → Waits sibling steps x → Waits sibling (s ∷ steps) x
 
 -- a climb under way to what leads to `bottom`; the list of those to be entered now begins at `from`
-pub record IsUnderWay (next class first sibling cycle rest : List ℕ) (bottom from : ℕ) (steps : List Step) (entered noted : List Bool) (low : List ℕ) : Type 0 where
+pub record IsUnderWay (next class first sibling cycle rest : List ℕ) (bottom from : ℕ) (steps : List Step)
+    (entered noted : List Bool) (low : List ℕ) : Type 0 where
   pub tower : Tower next class cycle bottom steps
   pub lowest : IsLow class low (path cycle steps)
   pub spare : IsSpare class (path cycle steps) noted
@@ -92,7 +93,9 @@ ahead_cases : {sibling : List ℕ} {from x : ℕ} → Ahead sibling from x → (
 ahead_cases (here l) = inl refl
 ahead_cases (later l a) = inr a
 
-pub skips_on : (sibling : List ℕ) (entered : List Bool) (from at : ℕ) → at < length sibling → get_or entered at false ≡ true → IsSkipped sibling entered from at → IsSkipped sibling entered from (get_or sibling at 0)
+pub skips_on : (sibling : List ℕ) (entered : List Bool) (from at : ℕ) → at < length sibling
+    → get_or entered at false ≡ true → IsSkipped sibling entered from at
+    → IsSkipped sibling entered from (get_or sibling at 0)
 skips_on sibling entered from at l m s = record {
   each = λ x a. s.each x (later l a);
   all = λ x a. elim (s.all x a) [
@@ -109,7 +112,8 @@ ahead_low : {sibling : List ℕ} {from x : ℕ} → Ahead sibling from x → fro
 ahead_low (here l) = l
 ahead_low (later l a) = l
 
-waits_cases : {sibling : List ℕ} {s : Step} {steps : List Step} {x : ℕ} → Waits sibling (s ∷ steps) x → Ahead sibling (get_or sibling s.at 0) x ⊎ Waits sibling steps x
+waits_cases : {sibling : List ℕ} {s : Step} {steps : List Step} {x : ℕ} → Waits sibling (s ∷ steps) x
+    → Ahead sibling (get_or sibling s.at 0) x ⊎ Waits sibling steps x
 waits_cases (now a) = inl a
 waits_cases (then w) = inr w
 
@@ -213,7 +217,8 @@ module _ (next class first sibling cycle : List ℕ) (graph : IsGraph next class
         → IsUnderWay next class first sibling cycle rest bottom (get_or sibling s.at 0) steps entered noted (set low (get_or class s.at 0) s.low)
     leaves at s steps entered noted low past w = go w.tower
       where
-        go : Tower next class cycle bottom (s ∷ steps) → IsUnderWay next class first sibling cycle rest bottom (get_or sibling s.at 0) steps entered noted (set low (get_or class s.at 0) s.low)
+        go : Tower next class cycle bottom (s ∷ steps)
+            → IsUnderWay next class first sibling cycle rest bottom (get_or sibling s.at 0) steps entered noted (set low (get_or class s.at 0) s.low)
         go (over t i e l) =
             let sized = graph.classes.sized in
             let siblings = graph.lists.siblings in

@@ -85,7 +85,9 @@ module _ (words : List ℕ) (slot word : ℕ) (e : word ≡ get_or words (slot /
 
   -- else the lowest bit is the next slot
   module _ (some : 0 < rest word slot) where
-    lowest : (trailing_zeros w64 (rest word slot) < 64) × (bit_at (rest word slot) (trailing_zeros w64 (rest word slot)) ≡ 1) × ((i : ℕ) → i < trailing_zeros w64 (rest word slot) → bit_at (rest word slot) i ≡ 0)
+    lowest : (trailing_zeros w64 (rest word slot) < 64)
+        × (bit_at (rest word slot) (trailing_zeros w64 (rest word slot)) ≡ 1)
+        × ((i : ℕ) → i < trailing_zeros w64 (rest word slot) → bit_at (rest word slot) i ≡ 0)
     lowest = bit_at-trailing_zeros w64 (rest word slot) some (rest_fits word slot)
 
     pub low_from : (low : ℕ) → low ≡ trailing_zeros w64 (rest word slot) → (low < 64) × (slot % 64 ≤ low)
@@ -111,14 +113,19 @@ module _ (words : List ℕ) (slot word : ℕ) (e : word ≡ get_or words (slot /
         in_word k l (omega arith) ∙ ap (λ x. x == 1) (lowest.2 (k % 64) (subst (λ x. k % 64 < x) f (omega arith)))
 
 -- slots from `from` on that are not in the set, up to `slot`, and up to the end of its word
-pub clear_more : (words : List ℕ) (from slot high : ℕ) → ((k : ℕ) → from ≤ k → k < slot → is_bit words k ≡ false) → ((k : ℕ) → slot ≤ k → k < high → is_bit words k ≡ false) → (k : ℕ) → from ≤ k → k < high → is_bit words k ≡ false
+pub clear_more : (words : List ℕ) (from slot high : ℕ)
+    → ((k : ℕ) → from ≤ k → k < slot → is_bit words k ≡ false)
+    → ((k : ℕ) → slot ≤ k → k < high → is_bit words k ≡ false) → (k : ℕ) → from ≤ k → k < high
+    → is_bit words k ≡ false
 clear_more words from slot high c d k l m = elim (cases_lt k slot) [ inl x ↦ c k l x | inr x ↦ d k x m ]
 
 -- the words of two sets together
 unfoldable pub joined : ℕ → List ℕ → List ℕ → List ℕ
 joined n one other = map (λ i. bit_or (get_or one i 0) (get_or other i 0)) (range_with_len 0 n)
 
-either_bit : (a b : ℕ) → a < 2 → b < 2 → ((max a b == 1) ≡ true → ((a == 1) ≡ true) ⊎ ((b == 1) ≡ true)) × ((max a b == 1) ≡ false → ((a == 1) ≡ false) × ((b == 1) ≡ false))
+either_bit : (a b : ℕ) → a < 2 → b < 2
+    → ((max a b == 1) ≡ true → ((a == 1) ≡ true) ⊎ ((b == 1) ≡ true))
+    × ((max a b == 1) ≡ false → ((a == 1) ≡ false) × ((b == 1) ≡ false))
 either_bit zero zero l m = (λ e. inl e, λ e. (e, e))
 either_bit zero (suc zero) l m = (λ e. inr e, λ e. cc)
 either_bit (suc zero) zero l m = (λ e. inl e, λ e. cc)
@@ -133,7 +140,8 @@ module _ (words : ℕ) (one other : List ℕ) where
   joined_at i l = get_or-map-range_with_len (λ j. bit_or (get_or one j 0) (get_or other j 0)) 0 words i i 0 l (omega arith)
 
   module _ (k : ℕ) (l : k / 64 < words) where
-    bit_is : bit_at (get_or (joined words one other) (k / 64) 0) (k % 64) ≡ max (bit_at (get_or one (k / 64) 0) (k % 64)) (bit_at (get_or other (k / 64) 0) (k % 64))
+    bit_is : bit_at (get_or (joined words one other) (k / 64) 0) (k % 64)
+        ≡ max (bit_at (get_or one (k / 64) 0) (k % 64)) (bit_at (get_or other (k / 64) 0) (k % 64))
     bit_is = ap (λ x. bit_at x (k % 64)) (joined_at (k / 64) l) ∙ bit_at_or (get_or one (k / 64) 0) (get_or other (k / 64) 0) (k % 64)
 
     cases : ((max (bit_at (get_or one (k / 64) 0) (k % 64)) (bit_at (get_or other (k / 64) 0) (k % 64)) == 1) ≡ true → (is_bit one k ≡ true) ⊎ (is_bit other k ≡ true))
@@ -148,13 +156,17 @@ module _ (words : ℕ) (one other : List ℕ) where
 
 -- two sets of n slots, and the words of both together
 module _ (n words : ℕ) (one other : List ℕ) (w : n ≤ words * 64) where
-  clear_below : (from k : ℕ) → k ≤ n → ((j : ℕ) → from ≤ j → j < k → is_bit (joined words one other) j ≡ false) → IsClear (bits n one) from k × IsClear (bits n other) from k
+  clear_below : (from k : ℕ) → k ≤ n
+      → ((j : ℕ) → from ≤ j → j < k → is_bit (joined words one other) j ≡ false)
+      → IsClear (bits n one) from k × IsClear (bits n other) from k
   clear_below from k l c = (
     record { each = λ j a b. bits_at n one j (omega arith) ∙ (in_neither words one other j (omega arith) (c j a b)).0 },
     record { each = λ j a b. bits_at n other j (omega arith) ∙ (in_neither words one other j (omega arith) (c j a b)).1 },
   )
 
-  pub next_in : (from k : ℕ) → from ≤ k → k < n → is_bit (joined words one other) k ≡ true → ((j : ℕ) → from ≤ j → j < k → is_bit (joined words one other) j ≡ false) → IsNextInEither (bits n one) (bits n other) from k
+  pub next_in : (from k : ℕ) → from ≤ k → k < n → is_bit (joined words one other) k ≡ true
+      → ((j : ℕ) → from ≤ j → j < k → is_bit (joined words one other) j ≡ false)
+      → IsNextInEither (bits n one) (bits n other) from k
   next_in from k l m t c = record {
     low = l;
     high = rw (bits_length n one) m;

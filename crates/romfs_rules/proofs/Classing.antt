@@ -22,7 +22,9 @@ none_some : {X : Type 0} (x : X) → ◌≡◌ {A = Option X} None (Some x) → 
 none_some x e = cc
 
 -- one more at the end
-at_cases : (class : List ℕ) (c k : ℕ) → k < length (class ++ c ∷ []) → ((k < length class) × (get_or (class ++ c ∷ []) k 0 ≡ get_or class k 0)) ⊎ ((k ≡ length class) × (get_or (class ++ c ∷ []) k 0 ≡ c))
+at_cases : (class : List ℕ) (c k : ℕ) → k < length (class ++ c ∷ [])
+    → ((k < length class) × (get_or (class ++ c ∷ []) k 0 ≡ get_or class k 0))
+    ⊎ ((k ≡ length class) × (get_or (class ++ c ∷ []) k 0 ≡ c))
 at_cases class c k l = let s = length-append class (c ∷ []) in elim (cases_order k (length class)) [
   | inl e ↦ inr (e, rw e (get_or_at class c [] 0 (length class) refl))
   | inr (inl m) ↦ inl (m, get_or_append_left class (c ∷ []) 0 k m)
@@ -98,7 +100,9 @@ module _ (key : ℕ → Option (List ℕ)) (class : List ℕ) (known : List ℕ 
         all = λ i j q l m e f. get_or_append_left class _ 0 i l ∙ same_some _ _ (sym (w.some i q l e) ∙ w.some j q m f) ∙ sym (get_or_append_left class _ 0 j m);
       }
     where
-      both : (i j : ℕ) → i < length class → j < length class → i ≢ j → get_or class i 0 ≡ get_or class j 0 → (o p : Option (List ℕ)) → key i ≡ o → key j ≡ p → (q : List ℕ) × (key i ≡ Some q) × (key j ≡ Some q)
+      both : (i j : ℕ) → i < length class → j < length class → i ≢ j → get_or class i 0 ≡ get_or class j 0
+          → (o p : Option (List ℕ)) → key i ≡ o → key j ≡ p
+          → (q : List ℕ) × (key i ≡ Some q) × (key j ≡ Some q)
       both i j l m d e None None f g = absurd (d (sym (w.none i l f) ∙ e ∙ w.none j m g))
       both i j l m d e None (Some q) f g =
           let r = w.knows q _ (w.some j q m g) in
@@ -111,10 +115,12 @@ module _ (key : ℕ → Option (List ℕ)) (class : List ℕ) (known : List ℕ 
           let y = w.knows r _ (w.some j r m g) in
           (q, f, g ∙ sym y.1 ∙ ap key (sym e) ∙ x.1)
 
-      one_name : (i j : ℕ) → i < length class → j < length class → i ≢ j → get_or class i 0 ≡ get_or class j 0 → (q : List ℕ) × (key i ≡ Some q) × (key j ≡ Some q)
+      one_name : (i j : ℕ) → i < length class → j < length class → i ≢ j → get_or class i 0 ≡ get_or class j 0
+          → (q : List ℕ) × (key i ≡ Some q) × (key j ≡ Some q)
       one_name i j l m d e = both i j l m d e (key i) (key j) refl refl
 
-pub class_more : (key : ℕ → Option (List ℕ)) (class : List ℕ) (c new : ℕ) (known known' : BTreeMap (Bor (List ℕ)) ℕ) → new ≡ length class → IsClass (key (length class)) new c known known'
+pub class_more : (key : ℕ → Option (List ℕ)) (class : List ℕ) (c new : ℕ) (known known' : BTreeMap (Bor (List ℕ)) ℕ)
+    → new ≡ length class → IsClass (key (length class)) new c known known'
     → IsClassing key class (class_in known) → IsClassing key (class ++ c ∷ []) (class_in known')
 class_more key class c new known known' e k w = go (key (length class)) refl
   where

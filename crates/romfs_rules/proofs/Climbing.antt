@@ -82,7 +82,8 @@ module _ (class low path : List ℕ) (u : ℕ) (fits : u < length class) (named 
     ];
   }
 
-  pub low_leaves : (old : ℕ) → IsLowest class path (length class) (get_or class u 0) old → IsLow class low (u ∷ path) → IsLow class (set low (get_or class u 0) old) path
+  pub low_leaves : (old : ℕ) → IsLowest class path (length class) (get_or class u 0) old
+      → IsLow class low (u ∷ path) → IsLow class (set low (get_or class u 0) old) path
   low_leaves old o w = record {
     sized = length-set low _ _ ∙ w.sized;
     each = λ c l. elim (cases_eq c (get_or class u 0)) [
@@ -114,7 +115,8 @@ module _ (next class path : List ℕ) (u v : ℕ) (noted more : List Bool) (fits
     ];
   }
     where
-      here : (x : ℕ) → x < length class → On path x → get_or class x 0 ≡ get_or class u 0 → u < x → v ≤ x → On path v → get_or class v 0 ≡ get_or class u 0 → get_or more x false ≡ true
+      here : (x : ℕ) → x < length class → On path x → get_or class x 0 ≡ get_or class u 0 → u < x → v ≤ x
+          → On path v → get_or class v 0 ≡ get_or class u 0 → get_or more x false ≡ true
       here x i q c l k o f = elim (cases_order v x) [
         | inl e ↦ (let m : max v u ≡ x = omega arith in subst (λ z. get_or more z false ≡ true) m (made.made (omega arith) (omega arith)))
         | inr (inl m) ↦ made.kept x (s.each x v q o (c ∙ sym f) m)
@@ -127,7 +129,9 @@ module _ (next class path : List ℕ) (u v : ℕ) (noted more : List Bool) (fits
           elim lowest.there [ inl e ↦ absurd (omega arith) | inr o ↦ here x i q c l k o.0 o.1 ]
 
   -- u is compared with what comes after it
-  pub compared_enters : Covers next path u → (entered : List Bool) → u < length entered → IsCompared next class entered noted → IsSpare class (u ∷ path) more → IsCompared next class (set entered u true) more
+  pub compared_enters : Covers next path u → (entered : List Bool) → u < length entered
+      → IsCompared next class entered noted → IsSpare class (u ∷ path) more
+      → IsCompared next class (set entered u true) more
   compared_enters c entered room w s = record {
     sized = length-set entered u true ∙ w.sized;
     low = λ x y m a e l. elim (cases_eq x u) [

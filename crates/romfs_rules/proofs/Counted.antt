@@ -72,7 +72,8 @@ module _ (a : List ℕ) where
       ]);
     }
 
-  same_tally : (S R : Field → ℕ → Type 0) (once twice : List Bool) → ((f : Field) (h : ℕ) → S f h → R f h) → ((f : Field) (h : ℕ) → R f h → S f h) → Tallied S once twice → Tallied R once twice
+  same_tally : (S R : Field → ℕ → Type 0) (once twice : List Bool) → ((f : Field) (h : ℕ) → S f h → R f h)
+      → ((f : Field) (h : ℕ) → R f h → S f h) → Tallied S once twice → Tallied R once twice
   same_tally S R once twice to from t = record {
     once_sized = t.once_sized;
     twice_sized = t.twice_sized;
@@ -100,7 +101,9 @@ module _ (a : List ℕ) where
   inside_place v (next_of g) h l = l.2.0
 
   -- no link belongs to a header before the root's
-  pub none_tallied : IsVolumeImage a → (slot : ℕ) → slot ≡ root a / 16 → (once twice : List Bool) → once ≡ replicate (length a / 16) false → twice ≡ replicate (length a / 16) false → Tallied (Below slot) once twice
+  pub none_tallied : IsVolumeImage a → (slot : ℕ) → slot ≡ root a / 16 → (once twice : List Bool)
+      → once ≡ replicate (length a / 16) false → twice ≡ replicate (length a / 16) false
+      → Tallied (Below slot) once twice
   none_tallied v slot e once twice o t = record {
     once_sized = ap length o ∙ length-replicate (length a / 16) false;
     twice_sized = ap length t ∙ length-replicate (length a / 16) false;
@@ -137,7 +140,8 @@ module _ (a : List ℕ) where
   first_next : (d h : ℕ) → first_of d ≡ next_of h → ⊥
   first_next d h e = cc
 
-  pub passes : (slot : ℕ) (once twice once_after twice_after : List Bool) → CountsBoth a (slot * 16) once twice once_after twice_after → Tallied (Below slot) once twice
+  pub passes : (slot : ℕ) (once twice once_after twice_after : List Bool)
+      → CountsBoth a (slot * 16) once twice once_after twice_after → Tallied (Below slot) once twice
       → Tallied (Below (slot + 1)) once_after twice_after
   passes slot once twice once_after twice_after c t =
       same_tally (Both slot) (Below (slot + 1)) once_after twice_after (up slot) (down slot)
@@ -156,7 +160,9 @@ module _ (a : List ℕ) where
   place_chained (next_of g) h l = inr (in_some_chain a l.0 g l.1.opened l.1.in_chain)
 
   -- over slots, behind the root's, whose headers are in no chain
-  pub skipped_to : IsVolumeImage a → (headers : List Bool) → AreMarks a (IsInSomeChain a) headers → (low high : ℕ) (once twice : List Bool) → root a < low * 16 → low ≤ high → IsClear headers low high → Tallied (Below low) once twice → Tallied (Below high) once twice
+  pub skipped_to : IsVolumeImage a → (headers : List Bool) → AreMarks a (IsInSomeChain a) headers
+      → (low high : ℕ) (once twice : List Bool) → root a < low * 16 → low ≤ high → IsClear headers low high
+      → Tallied (Below low) once twice → Tallied (Below high) once twice
   skipped_to v headers m low high once twice r l c t = over_to (λ k. Tallied (Below k) once twice) low high l t (λ k n o x. same_tally (Below k) (Below (k + 1)) once twice
       (λ f h y. (y.0, (let z = y.1 in omega arith)))
       (λ f h y. (

@@ -131,7 +131,9 @@ module _ (a : List ℕ) (keeps : KeepsAllHeaderRules Usual a) where
         let e = slot_of n h s in
         settled v i (d.closed (h / 16) n v m (subst (λ y. StandsBelow a n y) (sym e) s) (subst (λ y. LeadsDown a (at_names y n) v) (sym e) l))
 
-    along : (n c : ℕ) → IsBelow a n c → IsOpened a c → ((g : ℕ) → IsFirst a c g → IsInside a g → IsMarked marks g) → (i h : ℕ) → IsAt a c i h → IsInside a h → IsMarked marks h
+    along : (n c : ℕ) → IsBelow a n c → IsOpened a c
+        → ((g : ℕ) → IsFirst a c g → IsInside a g → IsMarked marks g) → (i h : ℕ) → IsAt a c i h
+        → IsInside a h → IsMarked marks h
     along n c b o f zero h x j = f h x j
     along n c b o f (suc i) h x j =
         let s : StandsBelow a n x.0 = record { dir = c; below = b; opened = o; in_chain = (i, x.1) } in

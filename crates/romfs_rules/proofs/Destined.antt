@@ -96,7 +96,8 @@ module _ (a : List ℕ) where
   lifted old new from h f (inr n) = inr n
 
   -- a slot with such a member, and one without
-  pub passes : (slot : ℕ) (old new : List Bool) → IsSomeMember a (slot * 16) → FollowsLink a (slot * 16) old new → IsClosed a new → Reaches slot old → Reaches (slot + 1) new
+  pub passes : (slot : ℕ) (old new : List Bool) → IsSomeMember a (slot * 16)
+      → FollowsLink a (slot * 16) old new → IsClosed a new → Reaches slot old → Reaches (slot + 1) new
   passes slot old new m f c r = record {
     sized = f.sized ∙ r.sized;
     each = λ k x. elim (f.only k x) [ inl o ↦ r.each k o | inr d ↦ ((m.0, slot * 16, m.1, d.0), d.1) ];
@@ -119,7 +120,9 @@ module _ (a : List ℕ) where
   }
 
   -- over slots whose headers are in no chain
-  pub skipped_to : (headers : List Bool) → AreMarks a (IsInSomeChain a) headers → (low high : ℕ) (marks : List Bool) → low ≤ high → IsClear headers low high → Reaches low marks → Reaches high marks
+  pub skipped_to : (headers : List Bool) → AreMarks a (IsInSomeChain a) headers
+      → (low high : ℕ) (marks : List Bool) → low ≤ high → IsClear headers low high → Reaches low marks
+      → Reaches high marks
   skipped_to headers m low high marks l c r = over_to (λ k. Reaches k marks) low high l r (λ k n o x. skips k marks (λ y. outside_set a (IsInSomeChain a) headers m low high c k n o y.0.0 (member_in_chain a (k * 16) y.1)) x)
 
   pub all_targets : (marks : List Bool) → Reaches (length a / 16) marks → AreMarks a (IsTarget a) marks

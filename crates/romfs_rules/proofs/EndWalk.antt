@@ -49,7 +49,8 @@ pub record Going (a : List ℕ) (ends : List End) (from at : ℕ) (marks : List 
   pub hard : (k : ℕ) → get_or marks k 0 ≡ length ends + 1 → IsHardLink a (k * 16)
   pub on : (k : ℕ) (r : End) → get_or marks k 0 ≡ length ends + 1 → EndsAs a at r → EndsAs a (k * 16) r
   pub start : (r : End) → EndsAs a at r → EndsAs a from r
-  pub closed : (k : ℕ) → get_or marks k 0 ≡ length ends + 1 → (cleared (spec a (k * 16)) ≡ at) ⊎ (get_or marks (cleared (spec a (k * 16)) / 16) 0 ≡ length ends + 1)
+  pub closed : (k : ℕ) → get_or marks k 0 ≡ length ends + 1
+      → (cleared (spec a (k * 16)) ≡ at) ⊎ (get_or marks (cleared (spec a (k * 16)) / 16) 0 ≡ length ends + 1)
 
 abbrev pub fresh : ℕ → ℕ
 fresh zero = 1
@@ -60,7 +61,8 @@ unfoldable pub unmarked : List ℕ → ℕ
 unmarked marks = sum_by fresh marks
 
 module _ (a : List ℕ) (ends : List End) where
-  pub goes : (from : ℕ) (marks : List ℕ) → length marks ≡ length a / 16 → from < 2 ^ 32 → cleared from ≡ from → HasEnds a marks ends → Going a ends from from marks
+  pub goes : (from : ℕ) (marks : List ℕ) → length marks ≡ length a / 16 → from < 2 ^ 32 → cleared from ≡ from
+      → HasEnds a marks ends → Going a ends from from marks
   goes from marks s l c h = record {
     sized = s;
     small = l;
@@ -115,7 +117,8 @@ module _ (a : List ℕ) (ends : List End) where
     now_marked = get_or-set_same marks (at / 16) (length ends + 1) 0 fits
 
     -- a mark is the new one, or was there
-    by_mark : {Q : Type 0} (k v : ℕ) → get_or (set marks (at / 16) (length ends + 1)) k 0 ≡ v → (k * 16 ≡ at → length ends + 1 ≡ v → Q) → (get_or marks k 0 ≡ v → Q) → Q
+    by_mark : {Q : Type 0} (k v : ℕ) → get_or (set marks (at / 16) (length ends + 1)) k 0 ≡ v
+        → (k * 16 ≡ at → length ends + 1 ≡ v → Q) → (get_or marks k 0 ≡ v → Q) → Q
     by_mark k v e new old = elim (cases_eq k (at / 16)) [
       | inl q ↦ new (ap (λ y. y * 16) q ∙ g.aligned) (sym now_marked ∙ ap (λ y. get_or (set marks (at / 16) (length ends + 1)) y 0) (sym q) ∙ e)
       | inr q ↦ old (sym (get_or-set_other marks (at / 16) k (length ends + 1) 0 q) ∙ e)
@@ -150,7 +153,8 @@ module _ (a : List ℕ) (ends : List End) where
         old (suc n) h = refl
 
   -- a mark of an earlier walk says where the chain ends
-  pub meets : (from at m n : ℕ) (marks : List ℕ) → Going a ends from at marks → get_or marks (at / 16) 0 ≡ m → m ≢ 0 → m ≢ length ends + 1 → n ≡ m - 1 → EndsAs a at (get_or ends n AtDirectory)
+  pub meets : (from at m n : ℕ) (marks : List ℕ) → Going a ends from at marks → get_or marks (at / 16) 0 ≡ m
+      → m ≢ 0 → m ≢ length ends + 1 → n ≡ m - 1 → EndsAs a at (get_or ends n AtDirectory)
   meets from at m n marks g e z o p = let h = g.high (at / 16) in let q : m ≡ suc n = omega arith in subst (λ y. EndsAs a y (get_or ends n AtDirectory)) g.aligned (g.past (at / 16) n (e ∙ q) (omega arith))
 
   pub read : (from at m : ℕ) (marks : List ℕ) → Going a ends from at marks → IsHardLink a at → m ≡ get_or marks (at / 16) m → get_or marks (at / 16) 0 ≡ m
@@ -171,7 +175,8 @@ set_mark marks i k n l h e = elim (cases_eq k i) [
   | inr q ↦ h (sym (get_or-set_other marks i k (n + 1) 0 q) ∙ e)
 ]
 
-pub passing_on : (from at to n : ℕ) (before marks : List ℕ) → Passing from at before marks → at / 16 < length marks → Passing from to before (set marks (at / 16) (n + 1))
+pub passing_on : (from at to n : ℕ) (before marks : List ℕ) → Passing from at before marks
+    → at / 16 < length marks → Passing from to before (set marks (at / 16) (n + 1))
 passing_on from at to n before marks p l = record {
   sized = length-set marks (at / 16) (n + 1) ∙ p.sized;
   kept = λ k h. set_mark marks (at / 16) k n l (p.kept k h);
@@ -244,7 +249,9 @@ module _ (a walks : List ℕ) (ends : List End) (slot : ℕ) (f : Found a walks 
   }
 
 -- over slots whose headers are on no destination chain
-pub found_to : (a walks : List ℕ) (ends : List End) (targets : List Bool) → AreMarks a (IsTarget a) targets → (low high : ℕ) → low ≤ high → IsClear targets low high → Found a walks ends low → Found a walks ends high
+pub found_to : (a walks : List ℕ) (ends : List End) (targets : List Bool) → AreMarks a (IsTarget a) targets
+    → (low high : ℕ) → low ≤ high → IsClear targets low high → Found a walks ends low
+    → Found a walks ends high
 found_to a walks ends targets m low high l c f = over_to (λ k. Found a walks ends k) low high l f (λ k n o x. found_same a walks ends k x (λ y. outside_set a (IsTarget a) targets m low high c k n o y.1.0.0 y.0))
 
 -- the number of a walk says where its chain ends

@@ -13,7 +13,9 @@ use Rattle.romfs_rules.specs.Names.{AreClasses}
 use Rattle.romfs_rules.specs.SameNames.{AreCollected, IsNextNumber, AreNextNumbers, AreChosen}
 
 -- a place of a list with one more at the end
-places : (xs : List ℕ) (x k : ℕ) → k < length (xs ++ x ∷ []) → ((k < length xs) × (get_or (xs ++ x ∷ []) k 0 ≡ get_or xs k 0)) ⊎ ((k ≡ length xs) × (get_or (xs ++ x ∷ []) k 0 ≡ x))
+places : (xs : List ℕ) (x k : ℕ) → k < length (xs ++ x ∷ [])
+    → ((k < length xs) × (get_or (xs ++ x ∷ []) k 0 ≡ get_or xs k 0))
+    ⊎ ((k ≡ length xs) × (get_or (xs ++ x ∷ []) k 0 ≡ x))
 places xs x k l = let s = length_push xs x in elim (cases_order k (length xs)) [
   | inl e ↦ inr (e, rw e (get_or_at xs x [] 0 (length xs) refl))
   | inr (inl m) ↦ inl (m, get_or_append_left xs (x ∷ []) 0 k m)
@@ -104,7 +106,8 @@ pub record AreNextSoFar (a heads next : List ℕ) (count : ℕ) : Type 0 where
   pub each : (i : ℕ) → i < count → IsNextNumber a heads (get_or heads i 0) (get_or next i 0)
 
 module _ (a heads next : List ℕ) where
-  pub follow_more : (count n : ℕ) → AreNextSoFar a heads next count → IsNextNumber a heads (get_or heads count 0) n → AreNextSoFar a heads (next ++ n ∷ []) (count + 1)
+  pub follow_more : (count n : ℕ) → AreNextSoFar a heads next count
+      → IsNextNumber a heads (get_or heads count 0) n → AreNextSoFar a heads (next ++ n ∷ []) (count + 1)
   follow_more count n w k = record {
     sized = length_push next n ∙ ap (λ x. x + 1) w.sized;
     each = λ i l. let s = w.sized in let g = length_push next n in elim (places next n i (omega arith)) [
@@ -167,7 +170,9 @@ module _ (heads : List ℕ) (noted : List Bool) (count : ℕ) (found : List ℕ)
       }
 
 -- headers, the numbers after them and their classes, with the lists of those before each
-pub grown : {a heads next class first sibling : List ℕ} {key : ℕ → Option (List ℕ)} → length heads + 1 < 2 ^ 32 → AreNextNumbers a heads next → AreClasses key (length heads) class → AreLists next first sibling → IsGraph next class first sibling
+pub grown : {a heads next class first sibling : List ℕ} {key : ℕ → Option (List ℕ)}
+    → length heads + 1 < 2 ^ 32 → AreNextNumbers a heads next → AreClasses key (length heads) class
+    → AreLists next first sibling → IsGraph next class first sibling
 grown {heads = heads} {next = next} {class = class} few n c l =
     let s = n.sized in
     let t = c.sized in

@@ -9,10 +9,10 @@ use Rattle.romfs_format.specs.declared.rule.Rule.{Rule}
 use Rattle.romfs_format.specs.declared.rule.Profile.{Profile}
 use Rattle.romfs_format.specs.declared.rule.Rule.TheVariants.{NameBad, DataOutside, Twice, SameName}
 use Rattle.romfs_rules.specs.declared.judge.TheConstants.{HEADER_RULES}
-use Rattle.romfs_format.specs.Fields.{root, IsInside, name, size, data_at}
+use Rattle.romfs_format.specs.Fields.{root, IsInside, name}
 use Rattle.romfs_format.specs.Chains.{IsSomeMember}
 use Rattle.romfs_format.specs.Links.{IsHardLink, IsDirectory, IsFinal, stays, follows, EndsAs}
-use Rattle.romfs_format.specs.Rules.{IsRootElsewhere, IsUsed, HasData, BreaksHeader, number}
+use Rattle.romfs_format.specs.Rules.{IsRootElsewhere, IsUsed, HasData, IsBadName, EndsOutside, BreaksHeader, number}
 use Rattle.romfs_rules.specs.Marks.{AreMarks, IsListOf, IsElsewhere}
 use Rattle.romfs_rules.specs.Judge.{HasSlot, IsHeaderRule, KeepsBefore}
 use Rattle.romfs_rules.specs.SameNames.{HaveSameNames}
@@ -23,7 +23,8 @@ pub fails : {P : Type 0} {b : Bool} → IsTrue b ↔ P → b ≡ false → ¬ P
 fails t e p = false≢true (sym e ∙ t.1 p)
 
 -- a test that reads a mark
-pub mark_says : (a : List ℕ) (P : ℕ → Type 0) (marks : List Bool) (h : ℕ) (b : Bool) → AreMarks a P marks → HasSlot a h → b ≡ get_or marks (h / 16) false → IsTrue b ↔ P h
+pub mark_says : (a : List ℕ) (P : ℕ → Type 0) (marks : List Bool) (h : ℕ) (b : Bool) → AreMarks a P marks
+    → HasSlot a h → b ≡ get_or marks (h / 16) false → IsTrue b ↔ P h
 mark_says a P marks h b m s e = (λ t. (marked a P marks h m s.aligned s.inside).0 (sym e ∙ t), λ p. e ∙ (marked a P marks h m s.aligned s.inside).1 p)
 
 -- the second of two tests, where the first fails or holds
@@ -60,20 +61,26 @@ one_end a h Nowhere AtDirectory x y = absurd (x y.0 y.1)
 one_end a h Nowhere AtOther x y = absurd (x y.0 y.1)
 one_end a h Nowhere Nowhere x y = refl
 
-pub link_says : (a : List ℕ) (h : ℕ) (end r : End) (b : Bool) → IsSomeMember a h × IsHardLink a h × EndsAs a h end → b ≡ true ↔ (end ≡ r) → IsTrue b ↔ (IsSomeMember a h × IsHardLink a h × EndsAs a h r)
+pub link_says : (a : List ℕ) (h : ℕ) (end r : End) (b : Bool)
+    → IsSomeMember a h × IsHardLink a h × EndsAs a h end → b ≡ true ↔ (end ≡ r)
+    → IsTrue b ↔ (IsSomeMember a h × IsHardLink a h × EndsAs a h r)
 link_says a h end r b x e = (λ t. (x.0, x.1, subst (λ y. EndsAs a h y) (e.0 t) x.2), λ y. e.1 (one_end a h end r x.2 y.2))
 
-pub data_says : (a : List ℕ) (h : ℕ) (n : List ℕ) (b : Bool) → Some n ≡ name a h → length a < data_at h n + size a h → IsTrue b ↔ (IsUsed a h × HasData a h) → IsTrue b ↔ BreaksHeader a DataOutside h
+pub data_says : (a : List ℕ) (h : ℕ) (n : List ℕ) (b : Bool) → Some n ≡ name a h
+    → EndsOutside a h n → IsTrue b ↔ (IsUsed a h × HasData a h)
+    → IsTrue b ↔ BreaksHeader a DataOutside h
 data_says a h n b e l t = (
-  λ y. let x = t.0 y in (x.0, x.1, subst (λ o. IsSomeAnd o (λ m. length a < data_at h m + size a h)) e l),
+  λ y. let x = t.0 y in (x.0, x.1, subst (λ o. IsSomeAnd o (EndsOutside a h)) e l),
   λ x. t.1 (x.0, x.1),
 )
 
-pub bad_says : (a : List ℕ) (h : ℕ) (n : List ℕ) (b : Bool) → IsInside a h → Some n ≡ name a h → (n ≡ []) ⊎ Contains n 47 → IsTrue b ↔ IsSomeMember a h → IsTrue b ↔ BreaksHeader a NameBad h
-bad_says a h n b i e l t = (λ y. (t.0 y, i, subst (λ o. IsSomeAnd o (λ m. (m ≡ []) ⊎ Contains m 47)) e l), λ x. t.1 x.0)
+pub bad_says : (a : List ℕ) (h : ℕ) (n : List ℕ) (b : Bool) → IsInside a h → Some n ≡ name a h
+    → IsBadName n → IsTrue b ↔ IsSomeMember a h → IsTrue b ↔ BreaksHeader a NameBad h
+bad_says a h n b i e l t = (λ y. (t.0 y, i, subst (λ o. IsSomeAnd o IsBadName) e l), λ x. t.1 x.0)
 
-pub bad_not : (a : List ℕ) (h : ℕ) (n : List ℕ) (b : Bool) → Some n ≡ name a h → b ≡ false → IsTrue b ↔ ((n ≡ []) ⊎ Contains n 47) → IsTrue b ↔ BreaksHeader a NameBad h
-bad_not a h n b e f t = (λ y. absurd (false≢true (sym f ∙ y)), λ x. t.1 (subst (λ o. IsSomeAnd o (λ m. (m ≡ []) ⊎ Contains m 47)) (sym e) x.2))
+pub bad_not : (a : List ℕ) (h : ℕ) (n : List ℕ) (b : Bool) → Some n ≡ name a h → b ≡ false
+    → IsTrue b ↔ IsBadName n → IsTrue b ↔ BreaksHeader a NameBad h
+bad_not a h n b e f t = (λ y. absurd (false≢true (sym f ∙ y)), λ x. t.1 (subst (λ o. IsSomeAnd o IsBadName) (sym e) x.2))
 
 -- equal names are known of a header that no two links name
 pub alone : (a : List ℕ) (h : ℕ) → (IsElsewhere a (root a) → h ≡ root a) → ¬ BreaksHeader a Twice h → ¬ IsElsewhere a (root a)
@@ -116,5 +123,7 @@ pub header_tried : (i : ℕ) (d : Rule) → i < 10 → IsHeaderRule (get_or HEAD
 header_tried i d l = let n = tried_number i d l in (omega arith, omega arith)
 
 -- equal names are tried only on headers that no two links name
-pub name_tried : (profile : Profile) (a : List ℕ) (h : ℕ) (r : Rule) (n : ℕ) → number r ≡ n → (IsElsewhere a (root a) → h ≡ root a) → KeepsBefore profile a h n → r ≡ SameName → ¬ IsElsewhere a (root a)
+pub name_tried : (profile : Profile) (a : List ℕ) (h : ℕ) (r : Rule) (n : ℕ) → number r ≡ n
+    → (IsElsewhere a (root a) → h ≡ root a) → KeepsBefore profile a h n → r ≡ SameName
+    → ¬ IsElsewhere a (root a)
 name_tried profile a h r n e only k s = alone a h only (k.keeps Twice (lit≤ tt, lit< tt) (let f : number r ≡ 12 = ap number s in omega arith))

@@ -47,7 +47,9 @@ was_set marks k j m = elim (cases_eq j k) [
 ]
 
 -- what holds of each marked header, and of this one
-pub one_more : (marks : List Bool) (at : ℕ) → cleared at ≡ at → (k : ℕ) (P : ℕ → Type 0) → (get_or marks k false ≡ true → P (k * 16)) → P at → get_or (set marks (at / 16) true) k false ≡ true → P (k * 16)
+pub one_more : (marks : List Bool) (at : ℕ) → cleared at ≡ at → (k : ℕ) (P : ℕ → Type 0)
+    → (get_or marks k false ≡ true → P (k * 16)) → P at → get_or (set marks (at / 16) true) k false ≡ true
+    → P (k * 16)
 one_more marks at clean k P old here m = elim (was_set marks (at / 16) k m) [
   | inl e ↦ rw e (rw clean here)
   | inr o ↦ old o

@@ -3,6 +3,7 @@ use Rattle.std.proofs.Common.{◌≡◌, ◌≢◌, sym, ap, subst, ℕ, zero, s
 use Rattle.std.proofs.lemmas.Bool.{cases_eq, cases_order}
 use Rattle.romfs_format.specs.declared.rule.Rule.TheVariants.{Outside, NameOpen, Twice, Deep}
 use Rattle.romfs_rules.specs.declared.depth.Waiting.{Waiting}
+use Rattle.romfs_format.specs.declared.limits.TheConstants.{HEAD_SIZE, MAX_NAMES}
 use Rattle.romfs_format.specs.Fields.{root, IsInside, name}
 use Rattle.romfs_format.specs.Chains.{IsNext, IsAt, IsInChain, IsOpened, IsMember, Leads, Has}
 use Rattle.romfs_format.specs.Links.{Field, first_of, next_of, IsLink, IsReached}
@@ -76,9 +77,9 @@ module _ (a : List ℕ) (keeps : KeepsAllHeaderRules Usual a) where
   ]
     where
       within : (h : ℕ) → root a ≤ h → IsInside a h ⊎ ¬ IsInside a h
-      within h l = elim (cases_order (h + 16) (length a)) [
+      within h l = elim (cases_order (h + HEAD_SIZE) (length a)) [
         | inr (inr m) ↦ inr (λ i. let j = i.1 in absurd (omega arith))
-        | inl e ↦ inl (l, (let q : h + 16 ≡ length a = e in omega arith))
+        | inl e ↦ inl (l, (let q : h + HEAD_SIZE ≡ length a = e in omega arith))
         | inr (inl m) ↦ inl (l, omega arith)
       ]
 
@@ -112,10 +113,10 @@ module _ (a : List ℕ) (keeps : KeepsAllHeaderRules Usual a) where
       let q : suc n + length path ≡ n + suc (length path) = omega arith in
       subst (λ k. IsBelow a k h) q (leads_below path (suc n) l.0 h (d, b, l.1) l.3)
 
-  pub deep_at : (h : ℕ) → BreaksHeader a Deep h → (n : ℕ) × (512 ≤ n) × (d : ℕ) × IsBelow a n d × IsMember a d h
+  pub deep_at : (h : ℕ) → BreaksHeader a Deep h → (n : ℕ) × (MAX_NAMES ≤ n) × (d : ℕ) × IsBelow a n d × IsMember a d h
   deep_at h x = go (0 + length x.0) (leads_below x.0 0 (root a) h refl x.1) (let l = x.2 in omega arith)
     where
-      go : (k : ℕ) → IsBelow a k h → 512 < k → (n : ℕ) × (512 ≤ n) × (d : ℕ) × IsBelow a n d × IsMember a d h
+      go : (k : ℕ) → IsBelow a k h → MAX_NAMES < k → (n : ℕ) × (MAX_NAMES ≤ n) × (d : ℕ) × IsBelow a n d × IsMember a d h
       go zero b l = absurd (omega arith)
       go (suc n) b l = (n, omega arith, b.0, b.1, b.2)
 
@@ -133,4 +134,4 @@ module _ (a : List ℕ) (keeps : KeepsAllHeaderRules Usual a) where
   too_deep w s x =
       let y = deep_at w.header x in
       let e = one_standing y.0 w.names w.header (stands_member y.0 y.2 w.header y.3 y.4) s in
-      (subst (λ n. 512 ≤ n) e y.1, no_root y.2 w.header y.4, λ q. y.4.kept (inr q))
+      (subst (λ n. MAX_NAMES ≤ n) e y.1, no_root y.2 w.header y.4, λ q. y.4.kept (inr q))

@@ -129,7 +129,8 @@ pub record AreCountsSoFar (set : List Bool) (before : List ℕ) : Type 0 where
 pub no_counts : (set : List Bool) → AreCountsSoFar set []
 no_counts set = record { each = λ w l. absurd (omega arith) }
 
-pub counts_more : (set : List Bool) (before : List ℕ) (count : ℕ) → count ≡ rank set (length before * 64) → AreCountsSoFar set before → AreCountsSoFar set (before ++ count ∷ [])
+pub counts_more : (set : List Bool) (before : List ℕ) (count : ℕ) → count ≡ rank set (length before * 64)
+    → AreCountsSoFar set before → AreCountsSoFar set (before ++ count ∷ [])
 counts_more set before count e c = record {
   each = λ w l. let s = length_push before count in elim (cases_eq w (length before)) [
     | inl q ↦ rw q (get_or_at before count [] 0 (length before) refl ∙ e)
@@ -138,5 +139,7 @@ counts_more set before count e c = record {
 }
 
 -- with the words before it and the slots before it in its word, a slot of the set is numbered
-pub number_is : (set : List Bool) (before : List ℕ) (slot count : ℕ) → AreCounts set before → slot ≤ length set → rank set slot ≡ rank set (slot / 64 * 64) + count → get_or before (slot / 64) 0 + count ≡ rank set slot
+pub number_is : (set : List Bool) (before : List ℕ) (slot count : ℕ) → AreCounts set before
+    → slot ≤ length set → rank set slot ≡ rank set (slot / 64 * 64) + count
+    → get_or before (slot / 64) 0 + count ≡ rank set slot
 number_is set before slot count c l e = let s = c.sized in let g = c.each (slot / 64) (omega arith) in omega arith

@@ -1,6 +1,7 @@
 -- The least headers outside the image that are reached.
 use Rattle.std.proofs.Common.{◌≡◌, ◌≢◌, sym, ap, subst, ℕ, ◌+◌, ◌*◌, ◌/◌, ◌<◌, ◌≤◌, ◌↔◌, ◌⊎◌, inl, inr, List, length, Bool, false, Option, Some, None, refl, arith, leb}
 use Rattle.std.proofs.lemmas.Bool.{cases_eq, cases_lt, le-leb}
+use Rattle.romfs_format.specs.declared.limits.TheConstants.{HEAD_SIZE}
 use Rattle.romfs_format.specs.Fields.{root, IsInside, cleared}
 use Rattle.romfs_format.specs.Chains.{IsSomeMember}
 use Rattle.romfs_format.specs.Links.{Field, first_of, next_of, IsLink, IsHardLink, destination, IsDestination, here, there, IsTarget, IsReached}
@@ -60,7 +61,8 @@ module _ (a : List ℕ) where
     reached_named g (inr (inr t)) n = target_named g t
 
 module _ (a : List ℕ) (at : ℕ) where
-  pub destination_named : (word : Option ℕ) → IsSomeMember a at ⊎ IsTarget a at → IsTheOne (λ g. IsHardLink a at × (g ≡ destination a at)) word → IsTheOne (NamesDestination a at) word
+  pub destination_named : (word : Option ℕ) → IsSomeMember a at ⊎ IsTarget a at
+      → IsTheOne (λ g. IsHardLink a at × (g ≡ destination a at)) word → IsTheOne (NamesDestination a at) word
   destination_named word u o = record { each = λ g. (λ e. (let x = (o.each g).0 e in (u, x.0, x.1)), λ x. (o.each g).1 (x.1, x.2)) }
 
   pub destination_unnamed : ¬ IsSomeMember a at → ¬ IsTarget a at → IsTheOne (NamesDestination a at) None
@@ -170,7 +172,8 @@ module _ (a : List ℕ) (Q : ℕ → Type 0) where
   ]
 
   -- one slot more
-  pub scans : (n : ℕ) (before after : Option ℕ) → IsInside a (n * 16) → IsFoundBefore n before → Notes (Names a (n * 16)) Q before after → IsFoundBefore (n + 1) after
+  pub scans : (n : ℕ) (before after : Option ℕ) → IsInside a (n * 16) → IsFoundBefore n before
+      → Notes (Names a (n * 16)) Q before after → IsFoundBefore (n + 1) after
   scans n before after i l x = least_same _ _ after (to_next n i) (from_next n) (least_more (IsLedToBefore a n) (Names a (n * 16)) Q before after l x)
 
   -- a header that is not reached leads nowhere
@@ -187,14 +190,18 @@ module _ (a : List ℕ) (Q : ℕ → Type 0) where
       l
 
   -- over slots, behind the root's, whose headers are not reached
-  pub scanned_to : (headers targets : List Bool) → AreMarks a (IsInSomeChain a) headers → AreMarks a (IsTarget a) targets → (low high : ℕ) (found : Option ℕ) → root a < low * 16 → low ≤ high → IsClear headers low high → IsClear targets low high → IsFoundBefore low found → IsFoundBefore high found
+  pub scanned_to : (headers targets : List Bool) → AreMarks a (IsInSomeChain a) headers
+      → AreMarks a (IsTarget a) targets → (low high : ℕ) (found : Option ℕ) → root a < low * 16 → low ≤ high
+      → IsClear headers low high → IsClear targets low high → IsFoundBefore low found
+      → IsFoundBefore high found
   scanned_to headers targets m t low high found r l c d f = over_to (λ k. IsFoundBefore k found) low high l f (λ k n o x. scan_over k found (λ g i y. elim (names_from (k * 16) g y) [
     | inl e ↦ omega arith
     | inr (inl z) ↦ outside_set a (IsInSomeChain a) headers m low high c k n o i z
     | inr (inr z) ↦ outside_set a (IsTarget a) targets t low high d k n o i z
   ]) x)
 
-  pub all_scanned : IsVolumeImage a → (n : ℕ) (found : Option ℕ) → length a / 16 ≤ n → ((g : ℕ) → Q g → g ≢ root a) → IsFoundBefore n found → IsLeast (λ g. IsReached a g × Q g) found
+  pub all_scanned : IsVolumeImage a → (n : ℕ) (found : Option ℕ) → length a / 16 ≤ n
+      → ((g : ℕ) → Q g → g ≢ root a) → IsFoundBefore n found → IsLeast (λ g. IsReached a g × Q g) found
   all_scanned v n found l u f = least_same _ _ found (λ g x. (names_reached a (x.0.slot * 16) g x.0.names, x.1)) from f
     where
       from : (g : ℕ) → IsReached a g × Q g → IsLedToBefore a n g × Q g
@@ -210,7 +217,7 @@ reached_outside a h = (to, from)
     to : IsReached a h × ¬ IsInside a h → (IsReached a h × IsBelow a h) ⊎ (IsReached a h × IsAbove a h)
     to (r, n) = elim (cases_lt h (root a)) [
       | inl l ↦ inl (r, l)
-      | inr l ↦ elim (cases_lt (length a) (h + 16)) [ inl m ↦ inr (r, (l, m)) | inr m ↦ absurd (n (l, m)) ]
+      | inr l ↦ elim (cases_lt (length a) (h + HEAD_SIZE)) [ inl m ↦ inr (r, (l, m)) | inr m ↦ absurd (n (l, m)) ]
     ]
 
     from : (IsReached a h × IsBelow a h) ⊎ (IsReached a h × IsAbove a h) → IsReached a h × ¬ IsInside a h

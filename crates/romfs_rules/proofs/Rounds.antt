@@ -47,7 +47,9 @@ goes_round {path = path} r (more e a) p = goes_round r a (subst (λ z. On path z
 
 module _ (next : List ℕ) where
   -- a walk leaves a header for the next
-  pub walks : (entered visited : List Bool) (from at : ℕ) → at < length next → at < length visited → IsClosed next entered → IsWalk next entered visited from at → IsWalk next entered (set visited at true) from (get_or next at 0)
+  pub walks : (entered visited : List Bool) (from at : ℕ) → at < length next → at < length visited
+      → IsClosed next entered → IsWalk next entered visited from at
+      → IsWalk next entered (set visited at true) from (get_or next at 0)
   walks entered visited from at l k c w = record {
     fresh = marked (get_or entered (get_or next at 0) false) (λ m. clash _ (c.each at l m) w.fresh);
     leads = inr (elim w.leads [ inl e ↦ subst (λ z. After next z (get_or next at 0)) e (one refl) | inr a ↦ then_next a ]);
@@ -64,7 +66,8 @@ module _ (next : List ℕ) where
   meets entered visited from at m w = elim (w.left at m) [ inl e ↦ absurd (clash _ e w.fresh) | inr a ↦ a ]
 
   -- what leads to a header that is entered is entered
-  pub leads_in : (entered : List Bool) → AreBelow next (length next) → IsClosed next entered → {x y : ℕ} → x < length next → After next x y → get_or entered y false ≡ true → get_or entered x false ≡ true
+  pub leads_in : (entered : List Bool) → AreBelow next (length next) → IsClosed next entered → {x y : ℕ}
+      → x < length next → After next x y → get_or entered y false ≡ true → get_or entered x false ≡ true
   leads_in entered b c {x = x} l (one e) m = c.each x l (rw e m)
   leads_in entered b c {x = x} l (more e a) m = c.each x l (rw e (leads_in entered b c (rw (← e) (b.each x l)) a m))
 
@@ -88,7 +91,9 @@ pub record IsRounding (next class : List ℕ) (first entered : List Bool) (from 
   pub start : ((at ≡ from) × (path ≡ [])) ⊎ On path from
 
 module _ (next class : List ℕ) (few : length class ≡ length next) (leads : AreBelow next (length next)) (classes : AreBelow class (length next)) (from : ℕ) (cycle : After next from from) where
-  pub begins : (entered noted : List Bool) (low : List ℕ) → get_or entered from false ≡ false → IsFound next class [] [] entered noted low → IsRounding next class entered entered from from [] noted low
+  pub begins : (entered noted : List Bool) (low : List ℕ) → get_or entered from false ≡ false
+      → IsFound next class [] [] entered noted low
+      → IsRounding next class entered entered from from [] noted low
   begins entered noted low e f = record {
     lowest = f.lowest;
     spare = f.spare;
@@ -111,7 +116,8 @@ module _ (next class : List ℕ) (few : length class ≡ length next) (leads : A
       let back : After next x from = elim a [ inl e ↦ subst (λ z. After next z from) (sym e) cycle | inr c ↦ comes_back c cycle ] in
       elim b [ inl e ↦ subst (λ z. After next x z) (sym e) back | inr c ↦ then_after back c ]
 
-  pub enters : (first entered noted noted' : List Bool) (at old : ℕ) (path low low' : List ℕ) → at < length next → at < length entered → old ≡ get_or low (get_or class at 0) 0
+  pub enters : (first entered noted noted' : List Bool) (at old : ℕ) (path low low' : List ℕ)
+      → at < length next → at < length entered → old ≡ get_or low (get_or class at 0) 0
       → low' ≡ set low (get_or class at 0) (min old at) → IsNoted noted noted' (length class) old at
       → IsRounding next class first entered from at path noted low → IsRounding next class first (set entered at true) from (get_or next at 0) (at ∷ path) noted' low'
   enters first entered noted noted' at old path low low' fits room o lows made w =
@@ -145,7 +151,9 @@ module _ (next class : List ℕ) (few : length class ≡ length next) (leads : A
         start = inr (elim w.start [ inl s ↦ subst (λ z. On (at ∷ path) z) s.0 top | inr p ↦ under p ]);
       }
 
-  pub gathered : (first entered noted : List Bool) (at : ℕ) (xs low : List ℕ) → length entered ≡ length next → get_or entered at false ≡ true → IsRounding next class first entered from at (reverse xs) noted low → IsGathered next class from xs entered noted low
+  pub gathered : (first entered noted : List Bool) (at : ℕ) (xs low : List ℕ) → length entered ≡ length next
+      → get_or entered at false ≡ true → IsRounding next class first entered from at (reverse xs) noted low
+      → IsGathered next class from xs entered noted low
   gathered first entered noted at xs low sized m w =
       let here : On (reverse xs) at = elim (w.each at m) [ inl e ↦ absurd (clash _ e w.fresh) | inr p ↦ p ] in
       let round : (x : ℕ) → On (reverse xs) x → On (reverse xs) (get_or next x 0) = λ x p. elim (w.on x p) [ inl q ↦ q | inr e ↦ subst (λ z. On (reverse xs) z) (sym e) here ] in
@@ -187,7 +195,8 @@ clears_none class low cycle w = record {
   each = λ c l. elim ((w.each c l).there) [ inl e ↦ inl e | inr o ↦ inr (get_or low c 0, on_reversed cycle o.0, o.1) ];
 }
 
-pub clears_more : (class low cycle : List ℕ) (turn : ℕ) → turn < length cycle → get_or class (get_or cycle turn 0) 0 < length class → IsClearing class low (drop turn cycle)
+pub clears_more : (class low cycle : List ℕ) (turn : ℕ) → turn < length cycle
+    → get_or class (get_or cycle turn 0) 0 < length class → IsClearing class low (drop turn cycle)
     → IsClearing class (set low (get_or class (get_or cycle turn 0) 0) (length class)) (drop (turn + 1) cycle)
 clears_more class low cycle turn l k w = record {
   sized = length-set low _ _ ∙ w.sized;
@@ -213,7 +222,8 @@ clears_all class low w = record {
 }
 
 -- where nothing has been entered
-pub nothing : (next class low : List ℕ) (entered noted : List Bool) → length class ≡ length next → length entered ≡ length next → length noted ≡ length class → length low ≡ length class
+pub nothing : (next class low : List ℕ) (entered noted : List Bool) → length class ≡ length next
+    → length entered ≡ length next → length noted ≡ length class → length low ≡ length class
     → ((x : ℕ) → get_or entered x false ≡ false) → ((x : ℕ) → get_or noted x false ≡ false) → ((c : ℕ) → c < length class → get_or low c 0 ≡ length class) → IsFound next class [] [] entered noted low
 nothing next class low entered noted f e n k x y z = record {
   lowest = record { sized = k; each = λ c l. record { there = inl (z c l); least = λ y o e. absurd (elim o [ ]) } };
@@ -224,7 +234,9 @@ nothing next class low entered noted f e n k x y z = record {
 }
 
 -- where all have been entered
-pub all_noted : (next class low : List ℕ) (entered noted : List Bool) → length class ≡ length next → ((x : ℕ) → x < length next → get_or entered x false ≡ true) → IsFound next class [] [] entered noted low → AreNoted next class noted
+pub all_noted : (next class low : List ℕ) (entered noted : List Bool) → length class ≡ length next
+    → ((x : ℕ) → x < length next → get_or entered x false ≡ true) → IsFound next class [] [] entered noted low
+    → AreNoted next class noted
 all_noted next class low entered noted f all w = record {
   sized = w.spare.sized ∙ f;
   each = w.lower.each;
@@ -235,7 +247,9 @@ all_noted next class low entered noted f all w = record {
 }
 
 -- a cycle is left, where all that leads to it has been entered
-pub left : (next class low low' : List ℕ) (entered noted : List Bool) (cycle : List ℕ) → IsFound next class cycle [] entered noted low → IsLow class low' [] → IsFound next class [] [] entered noted low'
+pub left : (next class low low' : List ℕ) (entered noted : List Bool) (cycle : List ℕ)
+    → IsFound next class cycle [] entered noted low → IsLow class low' []
+    → IsFound next class [] [] entered noted low'
 left next class low low' entered noted cycle f w = record {
   lowest = w;
   spare = record { sized = f.spare.sized; inside = λ x o. absurd (elim o [ ]); each = λ x y o p e l. absurd (elim o [ ]) };

@@ -3,7 +3,7 @@ use Rattle.std.proofs.Common.{◌≡◌, ◌≢◌, ◌∙◌, sym, ap, subst, �
 use Rattle.std.proofs.lemmas.Bool.{cases_eq, cases_order, false≢true, eqb-true, eq-eqb}
 use Rattle.std.proofs.lemmas.Slice.Eq.{bytes_eq-Decides}
 use Rattle.std.specs.Prelude.{◌==◌, ◌||◌, Contains}
-use Rattle.romfs_format.specs.Fields.{root, IsInside, name, next}
+use Rattle.romfs_format.specs.Fields.{root, IsInside, name, next, is_dot_name}
 use Rattle.romfs_format.specs.Chains.{IsNext, IsAt, IsInChain, IsPassedOver, IsDotted, IsOpened, IsMember}
 use Rattle.romfs_rules.specs.Marks.{IsElsewhere, HasSameName, AreMarks}
 use Rattle.romfs_rules.specs.Climb.{After, one, more, AreNoted}
@@ -79,7 +79,8 @@ module _ (a : List ℕ) where
       linked : (k : ℕ) → get_or set k false ≡ true → IsLinked a (k * 16)
       linked k m = let p = r.each k m in let s = standing a (k * 16) p.0 in record { inside = p.1; dir = s.0; stands = s.1 }
 
-  pub next_number : (heads : List ℕ) (set : List Bool) (h after : ℕ) → AreNumbered a heads set → IsLinked a h → after ≡ next a h → after ≢ 0 → IsInside a after → IsNextNumber a heads h (rank set (after / 16))
+  pub next_number : (heads : List ℕ) (set : List Bool) (h after : ℕ) → AreNumbered a heads set → IsLinked a h
+      → after ≡ next a h → after ≢ 0 → IsInside a after → IsNextNumber a heads h (rank set (after / 16))
   next_number heads set h after n l e z i =
       let p = n.place after (next_linked h after l (l.inside, e, z) i) in
       let b = p.0 in
@@ -139,7 +140,7 @@ not_equal x y d = go (x == y) refl
 named : (o : Option (List ℕ)) (q : List ℕ) → unless_dotted o ≡ Some q → (o ≡ Some q) × (q ≢ codes ".") × (q ≢ codes "..")
 named None q e = absurd (none_some q e)
 named (Some n) q e =
-    let r = given (bytes_eq n (codes ".") || bytes_eq n (codes "..")) (Some n) q e in
+    let r = given (is_dot_name n) (Some n) q e in
     let k = neither (bytes_eq n (codes ".")) (bytes_eq n (codes "..")) r.0 in
     let f = same_name n q r.1 in
     (r.1, λ z. differs n (codes ".") k.0 (f ∙ z), λ z. differs n (codes "..") k.1 (f ∙ z))
@@ -148,7 +149,7 @@ names : (o : Option (List ℕ)) (q : List ℕ) → o ≡ Some q → q ≢ codes 
 names None q e d f = absurd (none_some q e)
 names (Some n) q e d f =
     let z = same_name n q e in
-    gives (bytes_eq n (codes ".") || bytes_eq n (codes "..")) (Some n) q
+    gives (is_dot_name n) (Some n) q
     (both_false (bytes_eq n (codes ".")) (bytes_eq n (codes "..")) (apart n (codes ".") (λ y. d (sym z ∙ y))) (apart n (codes "..") (λ y. f (sym z ∙ y)))) e
 
 pub kept : (a : List ℕ) (h : ℕ) (q : List ℕ) → kept_name a h ≡ Some q → (h ≢ root a) × (name a h ≡ Some q) × ¬ IsDotted a h
@@ -180,7 +181,8 @@ module _ (a heads : List ℕ) (set : List Bool) (next class : List ℕ) (noted :
     | inr (inr f) ↦ absurd (let g = (t.each x l).below in let h = e in omega arith)
   ]
 
-  back : {h g : ℕ} → Follows a h g → (x : ℕ) → x < length heads → get_or heads x 0 ≡ h → IsInside a g → (y : ℕ) × (y < length heads) × (get_or heads y 0 ≡ g) × After next x y
+  back : {h g : ℕ} → Follows a h g → (x : ℕ) → x < length heads → get_or heads x 0 ≡ h → IsInside a g
+      → (y : ℕ) × (y < length heads) × (get_or heads y 0 ≡ g) × After next x y
   back {h = h} {g = g} (next_one k) x l e i =
       let p = (t.each x l).all g (subst (λ z. IsNext a z g) (sym e) k) i in
       (get_or next x 0, p.0, p.1, one refl)
@@ -204,7 +206,8 @@ module _ (a heads : List ℕ) (set : List Bool) (next class : List ℕ) (noted :
   over d h q e (inr x) = (kept a h q e).2 x
 
   -- in the chain of one directory, with one name
-  share_name : (i y : ℕ) (q : List ℕ) → i < length heads → y < length heads → y < i → kept_name a (get_or heads i 0) ≡ Some q → kept_name a (get_or heads y 0) ≡ Some q
+  share_name : (i y : ℕ) (q : List ℕ) → i < length heads → y < length heads → y < i
+      → kept_name a (get_or heads i 0) ≡ Some q → kept_name a (get_or heads y 0) ≡ Some q
       → (d : ℕ) → IsOpened a d → IsInChain a d (get_or heads i 0) → IsInChain a d (get_or heads y 0) → HasSameName a (get_or heads i 0)
   share_name i y q l k b e f d o x z =
       let g = (kept a (get_or heads i 0) q e).1 in

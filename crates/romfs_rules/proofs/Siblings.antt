@@ -13,7 +13,8 @@ pub record AreListed (next first sibling : List ℕ) (from : ℕ) : Type 0 where
   pub same : (t x : ℕ) → t < length next → Ahead sibling (get_or first t 0) x → get_or next x 0 ≡ t
   pub whole : (x : ℕ) → from ≤ x → x < length next → Ahead sibling (get_or first (get_or next x 0) 0) x
 
-pub listed_none : (next first sibling : List ℕ) → first ≡ replicate (length next) (length next) → sibling ≡ replicate (length next) (length next) → AreListed next first sibling (length next)
+pub listed_none : (next first sibling : List ℕ) → first ≡ replicate (length next) (length next)
+    → sibling ≡ replicate (length next) (length next) → AreListed next first sibling (length next)
 listed_none next first sibling e f =
     let sized : length sibling ≡ length next = ap length f ∙ length-replicate _ _ in
     let at : (xs : List ℕ) → xs ≡ replicate (length next) (length next) → (t : ℕ) → t < length next → get_or xs t 0 ≡ length next = λ xs k t l. ap (λ ys. get_or ys t 0) k ∙ get_or-replicate (length next) t (length next) 0 l in

@@ -1,6 +1,7 @@
 -- Headers and their slots.
 use Rattle.std.proofs.Common.{◌≡◌, ◌∙◌, sym, ap, get_or, false, IsTrue, subst, ℕ, zero, suc, ◌*◌, ◌/◌, ◌<◌, ◌≤◌, ◌↔◌, inl, inr, List, Bool, length, Some, None, IsSome, refl, arith}
 use Rattle.std.specs.Option.{option_map_or}
+use Rattle.romfs_format.specs.declared.limits.TheConstants.{HEAD_SIZE}
 use Rattle.romfs_format.specs.Fields.{root, text_at, text_end, IsInside, spec, cleared}
 use Rattle.romfs_format.specs.Chains.{IsAt, IsInChain, IsOpened, at_root, below}
 use Rattle.romfs_format.specs.Links.{IsDestination, here, there}
@@ -9,15 +10,15 @@ use Rattle.romfs_rules.specs.Leads.{IsInSomeChain}
 
 pub cleared_root : (a : List ℕ) → cleared (root a) ≡ root a
 unfolding root
-cleared_root a = elim (text_at a 16) as (λ o. cleared (option_map_or (text_end 16) o 0) ≡ option_map_or (text_end 16) o 0) [
+cleared_root a = elim (text_at a HEAD_SIZE) as (λ o. cleared (option_map_or (text_end HEAD_SIZE) o 0) ≡ option_map_or (text_end HEAD_SIZE) o 0) [
   | None ↦ refl
   | Some text ↦ omega arith
 ]
 
 -- the root's header stands after the volume header
-pub root_high : (a : List ℕ) → IsSome (text_at a 16) → 32 ≤ root a
+pub root_high : (a : List ℕ) → IsSome (text_at a HEAD_SIZE) → 32 ≤ root a
 unfolding root
-root_high a s = elim (text_at a 16) as (λ o. IsSome o → 32 ≤ option_map_or (text_end 16) o 0) [
+root_high a s = elim (text_at a HEAD_SIZE) as (λ o. IsSome o → 32 ≤ option_map_or (text_end HEAD_SIZE) o 0) [
   | None ↦ λ x. cc
   | Some text ↦ λ x. omega arith
 ] s
@@ -60,7 +61,8 @@ pub marked : (a : List ℕ) (P : ℕ → Type 0) (marks : List Bool) (h : ℕ) �
 marked a P marks h m c i = (λ x. subst P c (m.each (h / 16) x).0, λ p. m.all h p i)
 
 -- what the mark of the root's header says
-pub root_marked : (a : List ℕ) → IsVolumeImage a → (P : ℕ → Type 0) (marks : List Bool) (flag : Bool) (h : ℕ) → AreMarks a P marks → h ≡ root a → flag ≡ get_or marks (h / 16) false → IsTrue flag ↔ P (root a)
+pub root_marked : (a : List ℕ) → IsVolumeImage a → (P : ℕ → Type 0) (marks : List Bool) (flag : Bool) (h : ℕ)
+    → AreMarks a P marks → h ≡ root a → flag ≡ get_or marks (h / 16) false → IsTrue flag ↔ P (root a)
 root_marked a v P marks flag h m e f =
     let t = marked a P marks (root a) m (cleared_root a) (inside_root a v) in
     let g : flag ≡ get_or marks (root a / 16) false = f ∙ ap (λ x. get_or marks (x / 16) false) e in

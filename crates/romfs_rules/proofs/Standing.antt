@@ -57,7 +57,8 @@ module _ (a : List ℕ) where
   some_member h = (λ m. (member_of m.0 h m.1, λ x. m.1.kept (inr x)), λ x. to_member h x.0 x.1)
 
   -- by a test for . and ..
-  pub member_unless : (h : ℕ) (dotted : Bool) → (IsTrue dotted ↔ IsDotted a h) → (IsInRootChain a h × (h ≢ root a)) ⊎ IsElsewhere a h → IsTrue (not dotted) ↔ IsSomeMember a h
+  pub member_unless : (h : ℕ) (dotted : Bool) → (IsTrue dotted ↔ IsDotted a h)
+      → (IsInRootChain a h × (h ≢ root a)) ⊎ IsElsewhere a h → IsTrue (not dotted) ↔ IsSomeMember a h
   member_unless h true t s = (λ e. cc, λ m. absurd (m.1.kept (inr (t.0 refl))))
   member_unless h false t s = (λ e. to_member h s (λ x. let y = t.1 x in cc), λ m. refl)
 

@@ -39,7 +39,9 @@ module _ (one other : List Bool) where
   pub united_none : IsUnionBelow 0 one other one
   united_none = record { sized = refl; each = λ k m. inl m; old = λ k m. m; new = λ k l m. absurd (omega arith) }
 
-  pub united_more : (from slot : ℕ) (both : List Bool) → length other ≡ length one → IsUnionBelow from one other both → IsNextIn other from slot → IsUnionBelow (slot + 1) one other (set both slot true)
+  pub united_more : (from slot : ℕ) (both : List Bool) → length other ≡ length one
+      → IsUnionBelow from one other both → IsNextIn other from slot
+      → IsUnionBelow (slot + 1) one other (set both slot true)
   united_more from slot both same u n = record {
     sized = length-set both slot true ∙ u.sized;
     each = λ k m. elim (was_set both slot k m) [ inl e ↦ inr (subst (λ x. get_or other x false ≡ true) (sym e) n.is) | inr o ↦ u.each k o ];
@@ -71,13 +73,15 @@ module _ (one other : List Bool) where
   }
 
 -- where no slot is in the set of P, no header is of P
-pub outside_set : (a : List ℕ) (P : ℕ → Type 0) (marks : List Bool) → AreMarks a P marks → (low high : ℕ) → IsClear marks low high → (k : ℕ) → low ≤ k → k < high → IsInside a (k * 16) → ¬ P (k * 16)
+pub outside_set : (a : List ℕ) (P : ℕ → Type 0) (marks : List Bool) → AreMarks a P marks → (low high : ℕ)
+    → IsClear marks low high → (k : ℕ) → low ≤ k → k < high → IsInside a (k * 16) → ¬ P (k * 16)
 outside_set a P marks m low high c k l h i p =
     let e : k * 16 / 16 ≡ k = omega arith in
     true≢false (sym (subst (λ x. get_or marks x false ≡ true) e (m.all (k * 16) p i)) ∙ c.each k l h)
 
 -- a set joined with another is the set of what is of either
-pub united_marks : (a : List ℕ) (P Q : ℕ → Type 0) (one other both : List Bool) → AreMarks a P one → AreMarks a Q other → IsUnion one other both → AreMarks a (λ h. Q h ⊎ P h) both
+pub united_marks : (a : List ℕ) (P Q : ℕ → Type 0) (one other both : List Bool) → AreMarks a P one
+    → AreMarks a Q other → IsUnion one other both → AreMarks a (λ h. Q h ⊎ P h) both
 united_marks a P Q one other both m n u = record {
   sized = u.sized ∙ m.sized;
   each = λ k x. elim (u.each k x) [ inl y ↦ (let z = m.each k y in (inr z.0, z.1)) | inr y ↦ (let z = n.each k y in (inl z.0, z.1)) ];

@@ -3,6 +3,7 @@ use Rattle.std.proofs.Common.{◌≡◌, ◌∙◌, sym, subst, ℕ, ◌+◌, �
 use Rattle.std.proofs.lemmas.Bool.{cases_order, cases_lt}
 use Rattle.romfs_format.specs.declared.rule.Rule.{Rule}
 use Rattle.romfs_format.specs.declared.rule.Rule.TheVariants.{Short, Magic, FullSize, Sum, VolumeName, NoRoot, Outside, NameOpen, NameBad, DataOutside, TargetLong, Twice, SameName, LinkLoop, LinkDirectory, MajorLarge, HeaderSum, Deep}
+use Rattle.romfs_format.specs.declared.limits.TheConstants.{HEAD_SIZE}
 use Rattle.romfs_format.specs.Fields.{root, image, IsInside, cleared}
 use Rattle.romfs_format.specs.Chains.{IsSomeMember}
 use Rattle.romfs_format.specs.Links.{IsTarget, IsReached}
@@ -43,7 +44,9 @@ by_part Q v h d HeaderSum = h HeaderSum (lit≤ tt, lit< tt)
 by_part Q v h d Deep = d
 
 -- a fact of every rule of file headers
-by_rule : (Q : Rule → Type 0) → Q Outside → Q NameOpen → Q NameBad → Q DataOutside → Q TargetLong → Q Twice → Q SameName → Q LinkLoop → Q LinkDirectory → Q MajorLarge → Q HeaderSum → (r : Rule) → IsHeaderRule r → Q r
+by_rule : (Q : Rule → Type 0) → Q Outside → Q NameOpen → Q NameBad → Q DataOutside → Q TargetLong → Q Twice
+    → Q SameName → Q LinkLoop → Q LinkDirectory → Q MajorLarge → Q HeaderSum → (r : Rule) → IsHeaderRule r
+    → Q r
 by_rule Q a b c d e f g h i j k Short x = absurd (omega arith)
 by_rule Q a b c d e f g h i j k Magic x = absurd (omega arith)
 by_rule Q a b c d e f g h i j k FullSize x = absurd (omega arith)
@@ -186,7 +189,10 @@ module _ (profile : Profile) (a : List ℕ) (v : IsVolumeImage a) where
   }
 
   -- over slots, behind the root's, whose headers are not reached
-  pub scanned_to : (headers targets : List Bool) → AreMarks a (IsInSomeChain a) headers → AreMarks a (IsTarget a) targets → (low high : ℕ) → root a < low * 16 → low ≤ high → high ≤ length a / 16 → IsClear headers low high → IsClear targets low high → KeepsBelow profile a (low * 16) → KeepsBelow profile a (high * 16)
+  pub scanned_to : (headers targets : List Bool) → AreMarks a (IsInSomeChain a) headers
+      → AreMarks a (IsTarget a) targets → (low high : ℕ) → root a < low * 16 → low ≤ high
+      → high ≤ length a / 16 → IsClear headers low high → IsClear targets low high
+      → KeepsBelow profile a (low * 16) → KeepsBelow profile a (high * 16)
   scanned_to headers targets m t low high r l h c d k = over_to (λ n. KeepsBelow profile a (n * 16)) low high l k (λ n o p x. scan_more n x (unreached profile a (n * 16) (λ y.
       let i = slot_inside a n (omega arith) (omega arith) in
       elim ((reached a (n * 16)).0 y) [
@@ -197,7 +203,10 @@ module _ (profile : Profile) (a : List ℕ) (v : IsVolumeImage a) where
       ])))
 
   -- a slot of either set
-  pub slot_reached : (headers targets : List Bool) → AreMarks a (IsInSomeChain a) headers → AreMarks a (IsTarget a) targets → (slot : ℕ) → (get_or headers slot false ≡ true) ⊎ (get_or targets slot false ≡ true) → HasSlot a (slot * 16) × IsReached a (slot * 16)
+  pub slot_reached : (headers targets : List Bool) → AreMarks a (IsInSomeChain a) headers
+      → AreMarks a (IsTarget a) targets → (slot : ℕ)
+      → (get_or headers slot false ≡ true) ⊎ (get_or targets slot false ≡ true)
+      → HasSlot a (slot * 16) × IsReached a (slot * 16)
   slot_reached headers targets m t slot (inl x) = let y = m.each slot x in (record { inside = y.1; aligned = omega arith }, elim y.0 [ inl z ↦ (reached a (slot * 16)).1 (inr (inl z)) | inr z ↦ (reached a (slot * 16)).1 (inr (inr (inl z))) ])
   slot_reached headers targets m t slot (inr x) = let y = t.each slot x in (record { inside = y.1; aligned = omega arith }, inr (inr y.0))
 
@@ -208,7 +217,8 @@ module _ (profile : Profile) (a : List ℕ) (v : IsVolumeImage a) where
   pub at_root : (f : ImageFault) (place : ℕ) → place ≡ root a → (f.place ≡ place) × IsFirstRule profile a place f.rule → IsFirstInside profile a f.rule f.place
   at_root f place t (e, r) = subst (IsFirstInside profile a f.rule) (sym (e ∙ t)) (record { slot = root_slot; rule = subst (λ h. IsFirstRule profile a h f.rule) t r; below = none_below })
 
-  pub at_slot : (f : ImageFault) (h : ℕ) → HasSlot a h → KeepsBelow profile a h → (f.place ≡ h) × IsFirstRule profile a h f.rule → IsFirstInside profile a f.rule f.place
+  pub at_slot : (f : ImageFault) (h : ℕ) → HasSlot a h → KeepsBelow profile a h
+      → (f.place ≡ h) × IsFirstRule profile a h f.rule → IsFirstInside profile a f.rule f.place
   at_slot f h s k (e, r) = subst (IsFirstInside profile a f.rule) (sym e) (record { slot = s; rule = r; below = k })
 
   pub root_kept : (slot place : ℕ) → place ≡ root a → slot ≡ place / 16 + 1 → KeepsHeaderRules profile a place → KeepsBelow profile a (slot * 16)
@@ -267,8 +277,8 @@ module _ (profile : Profile) (a : List ℕ) (below above : Option ℕ) (lb : IsL
     }
 
     module _ (inside : KeepsBelow profile a (length a)) where
-      far : (s : Rule) (q : ℕ) → IsHeaderRule s → BreaksHeaderAs profile a s q → length a < q + 16
-      far s q hs b = elim (cases_lt (length a) (q + 16)) [
+      far : (s : Rule) (q : ℕ) → IsHeaderRule s → BreaksHeaderAs profile a s q → length a < q + HEAD_SIZE
+      far s q hs b = elim (cases_lt (length a) (q + HEAD_SIZE)) [
         | inl l ↦ l
         | inr m ↦ (
             let o = breach_reached a profile q s hs b in

@@ -34,7 +34,8 @@ pub record AreBelow (xs : List ℕ) (n : ℕ) : Type 0 where
 -- x is on the list that begins at the number `from`, and goes on to siblings
 pub data Ahead (sibling : List ℕ) : ℕ → ℕ → Type 0 where
   here : {x : ℕ} → x < length sibling → Ahead sibling x x
-  later : {from x : ℕ} → from < length sibling → Ahead sibling (get_or sibling from 0) x → Ahead sibling from x
+  later : {from x : ℕ} → from < length sibling → Ahead sibling (get_or sibling from 0) x
+      → Ahead sibling from x
 
 -- the list from the first of each header has those that lead to it
 pub record AreLists (next first sibling : List ℕ) : Type 0 where
@@ -58,13 +59,16 @@ pub record IsLow (class low path : List ℕ) : Type 0 where
 pub record IsSpare (class path : List ℕ) (noted : List Bool) : Type 0 where
   pub sized : length noted ≡ length class
   pub inside : (x : ℕ) → On path x → x < length class
-  pub each : (x y : ℕ) → On path x → On path y → get_or class x 0 ≡ get_or class y 0 → y < x → get_or noted x false ≡ true
+  pub each : (x y : ℕ) → On path x → On path y → get_or class x 0 ≡ get_or class y 0 → y < x
+      → get_or noted x false ≡ true
 
 -- with what comes after a header that is entered, it has been compared
 pub record IsCompared (next class : List ℕ) (entered noted : List Bool) : Type 0 where
   pub sized : length entered ≡ length next
-  pub low : (x y : ℕ) → get_or entered x false ≡ true → After next x y → get_or class x 0 ≡ get_or class y 0 → y < x → get_or noted x false ≡ true
-  pub high : (x y : ℕ) → get_or entered x false ≡ true → After next x y → get_or class x 0 ≡ get_or class y 0 → x < y → get_or noted y false ≡ true
+  pub low : (x y : ℕ) → get_or entered x false ≡ true → After next x y
+      → get_or class x 0 ≡ get_or class y 0 → y < x → get_or noted x false ≡ true
+  pub high : (x y : ℕ) → get_or entered x false ≡ true → After next x y
+      → get_or class x 0 ≡ get_or class y 0 → x < y → get_or noted y false ≡ true
 
 -- what is noted is rightly so
 pub record AreLower (next class : List ℕ) (noted : List Bool) : Type 0 where
@@ -75,7 +79,8 @@ pub record IsNoted (before after : List Bool) (n old at : ℕ) : Type 0 where
   pub sized : length after ≡ length before
   pub kept : (x : ℕ) → get_or before x false ≡ true → get_or after x false ≡ true
   pub made : old < n → old ≢ at → get_or after (max old at) false ≡ true
-  pub only : (x : ℕ) → get_or after x false ≡ true → (get_or before x false ≡ true) ⊎ ((x ≡ max old at) × (old < n) × (old ≢ at))
+  pub only : (x : ℕ) → get_or after x false ≡ true
+      → (get_or before x false ≡ true) ⊎ ((x ≡ max old at) × (old < n) × (old ≢ at))
 
 -- headers that each lead on to one, their classes, and the lists of those that lead to each
 pub record IsGraph (next class first sibling : List ℕ) : Type 0 where
@@ -91,12 +96,14 @@ pub record IsCycle (next cycle : List ℕ) : Type 0 where
   pub tied : (x y : ℕ) → On cycle x → On cycle y → After next x y
 
 -- what has been found where the path holds a cycle, and what leads to the headers that wait is still to be entered
-pub record IsFound (next class cycle waits : List ℕ) (entered noted : List Bool) (low : List ℕ) : Type 0 where
+pub record IsFound (next class cycle waits : List ℕ) (entered noted : List Bool)
+    (low : List ℕ) : Type 0 where
   pub lowest : IsLow class low cycle
   pub spare : IsSpare class cycle noted
   pub compared : IsCompared next class entered noted
   pub lower : AreLower next class noted
-  pub closed : (x : ℕ) → x < length next → get_or entered (get_or next x 0) false ≡ true → (get_or entered x false ≡ true) ⊎ On waits (get_or next x 0)
+  pub closed : (x : ℕ) → x < length next → get_or entered (get_or next x 0) false ≡ true
+      → (get_or entered x false ≡ true) ⊎ On waits (get_or next x 0)
 
 -- each mark before is one after
 pub record AreKept (before after : List Bool) : Type 0 where
@@ -109,22 +116,27 @@ pub record IsSkipped (sibling : List ℕ) (entered : List Bool) (from at : ℕ) 
 
 -- each header that leads to one of these is one of these
 pub record IsClosed (next : List ℕ) (entered : List Bool) : Type 0 where
-  pub each : (x : ℕ) → x < length next → get_or entered (get_or next x 0) false ≡ true → get_or entered x false ≡ true
+  pub each : (x : ℕ) → x < length next → get_or entered (get_or next x 0) false ≡ true
+      → get_or entered x false ≡ true
 
 -- a walk from one header to another, over headers that were not entered before; `visited` marks those that it has left
 pub record IsWalk (next : List ℕ) (entered visited : List Bool) (from to : ℕ) : Type 0 where
   pub fresh : get_or entered to false ≡ false
   pub leads : (to ≡ from) ⊎ After next from to
-  pub left : (x : ℕ) → get_or visited x false ≡ true → (get_or entered x false ≡ true) ⊎ After next x to
+  pub left : (x : ℕ) → get_or visited x false ≡ true
+      → (get_or entered x false ≡ true) ⊎ After next x to
 
 -- a walk from one header to another that comes back to itself, whatever has been entered before
 pub record IsMet (next : List ℕ) (before after : List Bool) (from to : ℕ) : Type 0 where
   pub inside : to < length next
-  pub walk : (entered : List Bool) → IsClosed next entered → AreKept before entered → get_or entered from false ≡ false → IsWalk next entered after from to
-  pub cycle : (entered : List Bool) → IsClosed next entered → AreKept before entered → get_or entered from false ≡ false → After next to to
+  pub walk : (entered : List Bool) → IsClosed next entered → AreKept before entered
+      → get_or entered from false ≡ false → IsWalk next entered after from to
+  pub cycle : (entered : List Bool) → IsClosed next entered → AreKept before entered
+      → get_or entered from false ≡ false → After next to to
 
 -- the cycle of a header, entered, as the path of what has been found
-pub record IsGathered (next class : List ℕ) (from : ℕ) (cycle : List ℕ) (entered noted : List Bool) (low : List ℕ) : Type 0 where
+pub record IsGathered (next class : List ℕ) (from : ℕ) (cycle : List ℕ) (entered noted : List Bool)
+    (low : List ℕ) : Type 0 where
   pub start : On cycle from
   pub is : IsCycle next (reverse cycle)
   pub found : IsFound next class (reverse cycle) cycle entered noted low

@@ -8,7 +8,8 @@ use Rattle.romfs_rules.specs.SlotWords.{Words}
 
 -- by slot, walks has the number of the walk that passed there, or 0; by walk, from 1, ends has where its chain ends
 pub record HasEnds (a walks : List ℕ) (ends : List End) : Type 0 where
-  pub each : (k n : ℕ) → get_or walks k 0 ≡ suc n → (n < length ends) × EndsAs a (k * 16) (get_or ends n AtDirectory)
+  pub each : (k n : ℕ) → get_or walks k 0 ≡ suc n
+      → (n < length ends) × EndsAs a (k * 16) (get_or ends n AtDirectory)
 
 -- and each hard link on the destination chain of a member was passed
 pub record AreEnds (a : List ℕ) (walks : Words) (ends : List End) : Type 0 where

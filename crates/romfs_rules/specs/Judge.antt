@@ -5,21 +5,21 @@ use Rattle.romfs_format.specs.declared.rule.Rule.{Rule}
 use Rattle.romfs_format.specs.declared.rule.Rule.TheVariants.{Deep}
 use Rattle.romfs_format.specs.declared.rule.Profile.{Profile}
 use Rattle.romfs_format.specs.declared.rule.ImageFault.{ImageFault}
-use Rattle.romfs_format.specs.Fields.{root, IsInside, cleared}
+use Rattle.romfs_format.specs.Fields.{IsInside, cleared}
 use Rattle.romfs_format.specs.Links.{IsTarget}
 use Rattle.romfs_format.specs.Rules.{BreaksHeader, BreaksHeaderAs, number, IsNamedBefore, IsLinkedTwice}
-use Rattle.romfs_rules.specs.Marks.{AreMarks, IsListOf, IsElsewhere}
+use Rattle.romfs_rules.specs.Marks.{AreMarks, IsListOf}
 use Rattle.romfs_rules.specs.InChains.{AreChains}
 use Rattle.romfs_rules.specs.Ends.{AreEnds}
 use Rattle.romfs_rules.specs.Outside.{IsLeast}
-use Rattle.romfs_rules.specs.SameNames.{HaveSameNames}
+use Rattle.romfs_rules.specs.SameNames.{HaveSameNamesIfAlone}
 
 -- the sets are what their names say; equal names are known where the root stands in no chain but its own
 pub record AreSets {A : Type 0} (a : List ℕ) (sets : Sets A) : Type 0 where
   pub chains : AreChains a sets.chains.now
   pub targets : AreMarks a (IsTarget a) sets.targets.now
   pub twice : IsListOf a (IsLinkedTwice a) sets.twice.now
-  pub same_names : ¬ IsElsewhere a (root a) → HaveSameNames a sets.same_names.now
+  pub same_names : HaveSameNamesIfAlone a sets.same_names.now
   pub ends : AreEnds a sets.ends.now.walks sets.ends.now.ends.items
 
 -- a header may stand at h
@@ -63,7 +63,8 @@ pub record KeepsAllHeaderRules (profile : Profile) (a : List ℕ) : Type 0 where
 pub record IsFirstBreach (profile : Profile) (a : List ℕ) (r : Rule) (p : ℕ) : Type 0 where
   pub rule : IsHeaderRule r
   pub broken : BreaksHeaderAs profile a r p
-  pub first : (s : Rule) (q : ℕ) → IsHeaderRule s → BreaksHeaderAs profile a s q → ¬ IsNamedBefore s q r p
+  pub first : (s : Rule) (q : ℕ) → IsHeaderRule s → BreaksHeaderAs profile a s q
+      → ¬ IsNamedBefore s q r p
 
 -- the first breach of a rule of file headers; none where there is none
 abbrev pub IsHeaderFault : Profile → List ℕ → Option ImageFault → Type 0

@@ -16,6 +16,10 @@ StandsKept a h = (IsInRootChain a h × (h ≢ root a)) ⊎ IsElsewhere a h
 pub record IsTheOne (P : ℕ → Type 0) (word : Option ℕ) : Type 0 where
   pub each : (h : ℕ) → (word ≡ Some h) ↔ P h
 
+-- g is the first header of h, which is a directory other than the root
+abbrev pub IsFirstBelow : List ℕ → ℕ → ℕ → Type 0
+IsFirstBelow a h g = (h ≢ root a) × Opens a h × IsFirst a h g
+
 -- h leads on to g in chains other than the root's: by next, or as a directory by first
 pub data LeadsOn (a : List ℕ) : ℕ → ℕ → Type 0 where
   on : {h g : ℕ} → IsNext a h g → LeadsOn a h g

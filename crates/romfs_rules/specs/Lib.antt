@@ -12,3 +12,4 @@ pub mod Judge
 pub mod Climb
 pub mod Names
 pub mod SameNames
+pub mod Volumes

@@ -1,6 +1,7 @@
 -- Sets of headers of an image, as marks by slot: a slot is 16 bytes, and each header inside the image has one.
 use Rattle.std.specs.Prelude.{◌≡◌, ◌≢◌, ℕ, ◌+◌, ◌*◌, ◌/◌, ◌^◌, ◌<◌, ◌≤◌, List, length, Bool, true, false, get_or, IsSome, Contains}
 use Rattle.romfs_format.specs.declared.head.Kind.TheVariants.{Directory}
+use Rattle.romfs_format.specs.declared.limits.TheConstants.{HEAD_SIZE}
 use Rattle.romfs_format.specs.Fields.{root, IsInside, kind, text_at, cleared}
 use Rattle.romfs_format.specs.Chains.{IsInChain, IsDotted, IsOpened}
 use Rattle.romfs_format.specs.Rules.{IsNamesake}
@@ -8,12 +9,16 @@ use Rattle.romfs_format.specs.Rules.{IsNamesake}
 -- what the accessible bytes of an image that keeps the volume rules are known to be
 pub record IsVolumeImage (a : List ℕ) : Type 0 where
   pub small : length a < 2 ^ 32
-  pub volume_name : IsSome (text_at a 16)
-  pub inside : root a + 16 ≤ length a
+  pub volume_name : IsSome (text_at a HEAD_SIZE)
+  pub inside : root a + HEAD_SIZE ≤ length a
   pub directory : kind a (root a) ≡ Directory
 
 abbrev pub IsMarked : List Bool → ℕ → Type 0
 IsMarked marks h = get_or marks (h / 16) false ≡ true
+
+-- the header lies in the image, and has no mark
+abbrev pub IsFresh : List ℕ → List Bool → ℕ → Type 0
+IsFresh a marks h = IsInside a h × (h / 16 < length marks) × (get_or marks (h / 16) false ≡ false)
 
 -- the marks are those of the headers inside the image of which P holds
 pub record AreMarks (a : List ℕ) (P : ℕ → Type 0) (marks : List Bool) : Type 0 where

@@ -1,16 +1,16 @@
 -- Headers of one name, as classes of their numbers.
-use Rattle.std.specs.Prelude.{◌≡◌, ◌≢◌, ℕ, ◌+◌, ◌<◌, ◌==◌, ◌||◌, List, length, get_or, Option, Some, None, if◌then◌else◌, unwrap_or, codes, bytes_eq}
+use Rattle.std.specs.Prelude.{◌≡◌, ◌≢◌, ℕ, ◌+◌, ◌<◌, ◌==◌, List, length, get_or, Option, Some, None, if◌then◌else◌, unwrap_or, bytes_eq}
 use Rattle.std.specs.Borrow.{Bor}
 use Rattle.std.specs.BTreeMap.{BTreeMap, get_by}
 use Rattle.std.specs.Cmp.Lexicographic.{slice_cmp}
 use Rattle.std.specs.Map.{update}
 use Rattle.std.specs.Ordering.{nat_cmp}
-use Rattle.romfs_format.specs.Fields.{root, name}
+use Rattle.romfs_format.specs.Fields.{root, name, is_dot_name}
 
 -- the name, unless it is . or ..
 abbrev pub unless_dotted : Option (List ℕ) → Option (List ℕ)
 unless_dotted None = None
-unless_dotted (Some n) = if bytes_eq n (codes ".") || bytes_eq n (codes "..") then None else Some n
+unless_dotted (Some n) = if is_dot_name n then None else Some n
 
 -- the name that a header has wherever it is a member: none for the root's
 abbrev pub kept_name : List ℕ → ℕ → Option (List ℕ)
@@ -21,7 +21,8 @@ abbrev pub class_in : BTreeMap (Bor (List ℕ)) ℕ → List ℕ → Option ℕ
 class_in known q = get_by (λ k. slice_cmp nat_cmp q k.now) known
 
 -- a header with this name is of this class, where `new` is the class of a new name
-pub record IsClass (key : Option (List ℕ)) (new class : ℕ) (known known' : BTreeMap (Bor (List ℕ)) ℕ) : Type 0 where
+pub record IsClass (key : Option (List ℕ)) (new class : ℕ)
+    (known known' : BTreeMap (Bor (List ℕ)) ℕ) : Type 0 where
   pub none : key ≡ None → (class ≡ new) × (known' ≡ known)
   pub some : (n : List ℕ) → key ≡ Some n
       → (class ≡ unwrap_or (class_in known n) new)
@@ -33,4 +34,9 @@ pub record AreClasses (key : ℕ → Option (List ℕ)) (n : ℕ) (class : List 
   pub below : (i : ℕ) → i < n + 1 → get_or class i 0 < n + 1
   pub only : (i j : ℕ) → i < n + 1 → j < n + 1 → i ≢ j → get_or class i 0 ≡ get_or class j 0
       → (i < n) × (j < n) × ((q : List ℕ) × (key i ≡ Some q) × (key j ≡ Some q))
-  pub all : (i j : ℕ) (q : List ℕ) → i < n → j < n → key i ≡ Some q → key j ≡ Some q → get_or class i 0 ≡ get_or class j 0
+  pub all : (i j : ℕ) (q : List ℕ) → i < n → j < n → key i ≡ Some q → key j ≡ Some q
+      → get_or class i 0 ≡ get_or class j 0
+
+-- the classes of headers by their names
+abbrev pub AreClassesOf : List ℕ → List ℕ → List ℕ → Type 0
+AreClassesOf a heads class = AreClasses (λ i. kept_name a (get_or heads i 0)) (length heads) class

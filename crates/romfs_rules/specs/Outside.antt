@@ -1,5 +1,6 @@
 -- Which headers outside the image the headers inside lead to.
 use Rattle.std.specs.Prelude.{◌≡◌, ℕ, ◌+◌, ◌<◌, ◌≤◌, ◌⊎◌, List, length, Option, Some, None, nat_le, if◌then◌else◌}
+use Rattle.romfs_format.specs.declared.limits.TheConstants.{HEAD_SIZE}
 use Rattle.romfs_format.specs.Fields.{root}
 use Rattle.romfs_format.specs.Chains.{IsSomeMember}
 use Rattle.romfs_format.specs.Links.{first_of, next_of, IsLink, IsHardLink, destination, IsTarget}
@@ -23,7 +24,7 @@ IsBelow a h = h < root a
 
 -- from the root's header on, and not whole in the image
 abbrev pub IsAbove : List ℕ → ℕ → Type 0
-IsAbove a h = (root a ≤ h) × (length a < h + 16)
+IsAbove a h = (root a ≤ h) × (length a < h + HEAD_SIZE)
 
 -- the lesser of a word and what was found before
 abbrev pub lesser : Option ℕ → ℕ → ℕ

@@ -47,11 +47,13 @@ IsNext set from next = MatchOption next (IsClear set from (length set)) (IsNextI
 -- both holds the slots of one and of other
 pub record IsUnion (one other both : List Bool) : Type 0 where
   pub sized : length both ≡ length one
-  pub each : (k : ℕ) → get_or both k false ≡ true → (get_or one k false ≡ true) ⊎ (get_or other k false ≡ true)
+  pub each : (k : ℕ) → get_or both k false ≡ true
+      → (get_or one k false ≡ true) ⊎ (get_or other k false ≡ true)
   pub old : (k : ℕ) → get_or one k false ≡ true → get_or both k false ≡ true
   pub new : (k : ℕ) → get_or other k false ≡ true → get_or both k false ≡ true
 
 -- the first slot of either set from `from` on, if there is one
 abbrev pub IsNextOfEither : List Bool → List Bool → ℕ → Option ℕ → Type 0
 IsNextOfEither one other from next =
-    MatchOption next (IsClear one from (length one) × IsClear other from (length one)) (IsNextInEither one other from)
+    MatchOption next (IsClear one from (length one) × IsClear other from (length one))
+    (IsNextInEither one other from)

@@ -10,11 +10,13 @@ IsFollowed a marks h = IsMarked marks (destination a h) ⊎ ¬ IsInside a (desti
 
 -- each hard link that has a mark is followed
 pub record IsClosed (a : List ℕ) (marks : List Bool) : Type 0 where
-  pub each : (k : ℕ) → get_or marks k false ≡ true → IsHardLink a (k * 16) → IsFollowed a marks (k * 16)
+  pub each : (k : ℕ) → get_or marks k false ≡ true → IsHardLink a (k * 16)
+      → IsFollowed a marks (k * 16)
 
 -- the new marks are the old ones, and those of headers on the destination chain of h, where h leads among them
 pub record FollowsLink (a : List ℕ) (h : ℕ) (old new : List Bool) : Type 0 where
   pub sized : length new ≡ length old
   pub kept : (k : ℕ) → get_or old k false ≡ true → get_or new k false ≡ true
-  pub only : (k : ℕ) → get_or new k false ≡ true → (get_or old k false ≡ true) ⊎ (IsDestination a h (k * 16) × IsInside a (k * 16))
+  pub only : (k : ℕ) → get_or new k false ≡ true
+      → (get_or old k false ≡ true) ⊎ (IsDestination a h (k * 16) × IsInside a (k * 16))
   pub followed : IsHardLink a h → IsFollowed a new h

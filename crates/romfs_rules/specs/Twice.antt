@@ -9,14 +9,19 @@ abbrev pub IsSlotOf : List ℕ → Option ℕ → ℕ → Type 0
 IsSlotOf a to k = (h : ℕ) × (to ≡ Some h) × IsInside a h × (k ≡ h / 16)
 
 -- one more link, to the header to: once marks the slots that some link names, twice those that two name
-pub record Counts (a : List ℕ) (to : Option ℕ) (once twice once_after twice_after : List Bool) : Type 0 where
+pub record Counts (a : List ℕ) (to : Option ℕ)
+    (once twice once_after twice_after : List Bool) : Type 0 where
   pub once_sized : length once_after ≡ length once
   pub twice_sized : length twice_after ≡ length twice
-  pub once_each : (k : ℕ) → (get_or once_after k false ≡ true) ↔ ((get_or once k false ≡ true) ⊎ IsSlotOf a to k)
-  pub twice_each : (k : ℕ) → (get_or twice_after k false ≡ true) ↔ ((get_or twice k false ≡ true) ⊎ (IsSlotOf a to k × (get_or once k false ≡ true)))
+  pub once_each : (k : ℕ)
+      → (get_or once_after k false ≡ true) ↔ ((get_or once k false ≡ true) ⊎ IsSlotOf a to k)
+  pub twice_each : (k : ℕ)
+      → (get_or twice_after k false ≡ true)
+      ↔ ((get_or twice k false ≡ true) ⊎ (IsSlotOf a to k × (get_or once k false ≡ true)))
 
 -- the links of both fields of a header
-pub record CountsBoth (a : List ℕ) (at : ℕ) (once twice once_after twice_after : List Bool) : Type 0 where
+pub record CountsBoth (a : List ℕ) (at : ℕ)
+    (once twice once_after twice_after : List Bool) : Type 0 where
   pub next : Option ℕ
   pub first : Option ℕ
   pub is_next : IsTheOne (IsLink a (next_of at)) next

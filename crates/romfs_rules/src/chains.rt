@@ -10,7 +10,7 @@ ghost use Rattle.romfs_rules.specs.InChains.{AreChains};
 use crate::lead::{first_below, next_of};
 use crate::slot::is_fresh;
 use crate::slot_set::SlotSet;
-use romfs_format::read::word;
+use romfs_format::read::{cleared, word};
 use std::alloc::{AllocError, Allocator};
 
 /// The headers in chains. Which of them stand in the root's and which elsewhere matters for the root's own
@@ -34,10 +34,10 @@ fn mark_root_chain<A: Allocator + Copy>(
     ensures { IfOk result (λ marks. AreMarks image.now (IsInRootChain image.now) marks) }
 {
     let mut marks = SlotSet::new(alloc, image.len() / 16)?;
-    let mut at = (word(image, root + 4) / 16 * 16) as usize;
+    let mut at = cleared(word(image, root + 4)) as usize;
     while is_fresh(image, root, at, &marks) {
         marks.insert(at / 16);
-        at = (word(image, at) / 16 * 16) as usize;
+        at = cleared(word(image, at)) as usize;
     }
     Ok(marks)
 }

@@ -14,11 +14,9 @@ use crate::lead::{first_below, first_of, next_of};
 use crate::member::is_dotted;
 use crate::slot::is_fresh;
 use crate::slot_set::SlotSet;
+use romfs_format::limits::MAX_NAMES;
 use romfs_format::rule::Rule;
 use std::alloc::{AllocError, Allocator};
-
-// How many names a path has at most.
-const MAX_NAMES: u32 = 512;
 
 // A header that is still to come, and how many names lead to the directory of its chain.
 #[derive(Clone, Copy)]
@@ -69,7 +67,7 @@ fn is_too_deep(image: &[u8], root: usize, at: Waiting) -> bool
     ensures { IsTrue result ↔ IsTooDeep image.now at }
 {
     let place = at.header as usize;
-    at.names >= MAX_NAMES && place != root && !is_dotted(image, place)
+    at.names >= u32::from(MAX_NAMES) && place != root && !is_dotted(image, place)
 }
 
 // The least header that is too deep, with one header more than before.
@@ -88,7 +86,7 @@ fn note(image: &[u8], root: usize, deep: Option<u32>, at: Waiting) -> Option<u32
     }
 }
 
-/// The least header whose path has more than 512 names, in an image that breaks no other rule.
+/// The least header whose path has more than [`MAX_NAMES`] names, in an image that breaks no other rule.
 pub(crate) fn find_deep<A: Allocator + Copy>(
     alloc: A,
     image: &[u8],

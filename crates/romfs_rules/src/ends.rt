@@ -20,7 +20,7 @@ use crate::slot::{is_hard_link, is_inside};
 use crate::slot_set::SlotSet;
 use crate::slot_words::SlotWords;
 use romfs_format::head::{End, Kind};
-use romfs_format::read::{kind_of, word};
+use romfs_format::read::{cleared, kind_of, word};
 use std::alloc::{AllocError, Allocator};
 
 /// Where the chains end of the hard links that members' hard links lead over.
@@ -52,7 +52,7 @@ impl<'s, A: Allocator> Ends<'s, A> {
         requires hard { IsHardLink image.now at }
         ensures { EndsAs image.now at result }
     {
-        let to = word(image, at + 4) as usize / 16 * 16;
+        let to = cleared(word(image, at + 4)) as usize;
         if is_hard_link(image, root, to) {
             self.at(to)
         } else {
@@ -118,7 +118,7 @@ fn end_of<A: Allocator>(
             return ends[walk as usize - 1];
         }
         walks.put(at / 16, mine);
-        at = word(image, at + 4) as usize / 16 * 16;
+        at = cleared(word(image, at + 4)) as usize;
     }
     end_at(image, root, at)
 }

@@ -3,9 +3,9 @@
 ghost use Rattle.std.specs.Prelude.{◌≡◌, ℕ, List, IfOk};
 ghost use Rattle.romfs_format.specs.Fields.{root as root_of, image};
 ghost use Rattle.romfs_format.specs.Rules.{IsVolume};
-ghost use Rattle.romfs_rules.specs.Marks.{IsVolumeImage, IsElsewhere};
+ghost use Rattle.romfs_rules.specs.Marks.{IsVolumeImage};
 ghost use Rattle.romfs_rules.specs.InChains.{AreChains};
-ghost use Rattle.romfs_rules.specs.SameNames.{HaveSameNames};
+ghost use Rattle.romfs_rules.specs.SameNames.{HaveSameNamesIfAlone};
 ghost use Rattle.romfs_rules.specs.Judge.{IsHeaderFault};
 ghost use Rattle.romfs_format.specs.Rules.{IsFaultOfAs};
 
@@ -22,8 +22,8 @@ use romfs_format::read::{root_of, word};
 use romfs_format::{ImageFault, Profile};
 use std::alloc::{AllocError, Allocator};
 
-// The headers of which a member of the same directory has the name at a lower place; none where the root stands in another chain than its own, since then
-// no fault of a name is the first.
+// The headers of which a member of the same directory has the name at a lower place; none where the root stands in
+// another chain than its own, since then no fault of a name is the first.
 fn same_names_below<A: Allocator + Copy>(
     alloc: A,
     bytes: &[u8],
@@ -33,7 +33,7 @@ fn same_names_below<A: Allocator + Copy>(
     requires volume { IsVolumeImage bytes.now }
     requires root { root ≡ root_of bytes.now }
     requires chains { AreChains bytes.now chains.now }
-    ensures { IfOk result (λ found. ¬ IsElsewhere bytes.now (root_of bytes.now) → HaveSameNames bytes.now found.items) }
+    ensures { IfOk result (λ found. HaveSameNamesIfAlone bytes.now found.items) }
 {
     if chains.root_elsewhere {
         Ok(Vec::new(alloc))
@@ -79,7 +79,8 @@ fn fault_in<A: Allocator + Copy>(
 ) -> Result<Option<ImageFault>, AllocError>
     requires volume { IsVolumeImage bytes.now }
     requires root { root ≡ root_of bytes.now }
-    ensures { IfOk result (λ fault. (b : List ℕ) → image b ≡ bytes.now → IsVolume b → IsFaultOfAs profile b fault) }
+    ensures { IfOk result (λ fault. (b : List ℕ) → image b ≡ bytes.now → IsVolume b →
+        IsFaultOfAs profile b fault) }
 {
     let header = header_fault_in(alloc, bytes, root, profile)?;
     let deep = match header {
@@ -92,7 +93,7 @@ fn fault_in<A: Allocator + Copy>(
 /// The fault of some bytes as an image, under a profile; none where they break no rule of it.
 ///
 /// That is the first broken rule of the volume header; else, of all broken rules of file headers, the one at
-/// the least place, and there the first; else a path of more than 512 names, at the least such header. The
+/// the least place, and there the first; else a path of too many names, at the least such header. The
 /// error comes only where memory was refused.
 ///
 /// It takes n log n steps in headers and one pass over the bytes of the image, whatever they are. Beside them

@@ -1,11 +1,13 @@
 //! The first rule of file headers that an image breaks, from sets of its headers.
 
-ghost use Rattle.std.specs.Prelude.{◌≡◌, ℕ, List, [], ◌+◌, ◌*◌, ◌<◌, ◌≤◌, ◌⊎◌, ◌↔◌, ◌^◌, ◌/◌, length, IsTrue, Contains, IfSome, IfNone, MatchOption};
+ghost use Rattle.std.specs.Prelude.{◌≡◌, ℕ, List, ◌+◌, ◌*◌, ◌<◌, ◌≤◌, ◌↔◌, ◌^◌, ◌/◌, length, IsTrue, IfSome, IfNone, MatchOption};
 ghost use Rattle.std.specs.List.Sorted.{IsNonDecreasing};
-ghost use Rattle.romfs_format.specs.Fields.{root as root_of, image, kind, size, spec, data_at};
+ghost use Rattle.romfs_format.specs.declared.limits.TheConstants.{HEAD_SIZE};
+ghost use Rattle.romfs_format.specs.Fields.{root as root_of, image, data_at};
 ghost use Rattle.romfs_format.specs.Chains.{IsSomeMember};
 ghost use Rattle.romfs_format.specs.Links.{IsHardLink, IsReached, EndsAs};
-ghost use Rattle.romfs_format.specs.Rules.{IsVolume, IsUsed, HasData, IsDevice, HasBadSum, BreaksHeader, BreaksHeaderAs};
+ghost use Rattle.romfs_format.specs.Rules.{IsVolume, IsUsed, HasData, IsDevice, IsBadName, EndsOutside};
+ghost use Rattle.romfs_format.specs.Rules.{HasLongTarget, HasLargeMajor, HasBadSum, BreaksHeader, BreaksHeaderAs};
 ghost use Rattle.romfs_rules.specs.Marks.{IsVolumeImage, IsElsewhere};
 ghost use Rattle.romfs_rules.specs.Outside.{IsLeast, IsBelow, IsAbove};
 ghost use Rattle.romfs_rules.specs.Judge.{AreSets, HasSlot, IsHeaderRule, KeepsHeaderRules, IsFirstRule, KeepsBelow, IsFirstInside, IsHeaderFault, IsDeepFault};
@@ -19,7 +21,8 @@ use crate::outside::Outside;
 use crate::slot::is_hard_link;
 use crate::slot_set::SlotSet;
 use romfs_format::head::{End, Kind};
-use romfs_format::read::{header_bytes, kind_of, text_at, word, word_sum};
+use romfs_format::limits::{HEAD_SIZE, MAX_MAJOR, MAX_TARGET_SIZE};
+use romfs_format::read::{header_bytes, kind_of, padded, text_at, word, word_sum};
 use romfs_format::rule::{ImageFault, Profile, Rule};
 use std::alloc::Allocator;
 
@@ -52,14 +55,14 @@ fn is_used<A: Allocator>(image: &[u8], root: usize, sets: &Sets<A>, at: usize) -
 
 // Whether a name is empty or holds `/`.
 fn is_bad_name(name: &[u8]) -> bool
-    ensures { IsTrue result ↔ ((name.now ≡ []) ⊎ Contains name.now 47) }
+    ensures { IsTrue result ↔ IsBadName name.now }
 {
     name.is_empty() || name.contains(&b'/')
 }
 
 // Whether a header is that of a regular file or a symbolic link.
 fn has_data(image: &[u8], at: usize) -> bool
-    requires { at + 16 ≤ length image.now }
+    requires { at + HEAD_SIZE ≤ length image.now }
     ensures { IsTrue result ↔ HasData image.now at }
 {
     matches!(kind_of(word(image, at)), Kind::Regular | Kind::SymLink)
@@ -67,37 +70,37 @@ fn has_data(image: &[u8], at: usize) -> bool
 
 // Whether the data of a header with this name ends beyond the image.
 fn is_data_outside(image: &[u8], at: usize, name: &[u8]) -> bool
-    requires at { at + 16 ≤ length image.now }
+    requires at { at + HEAD_SIZE ≤ length image.now }
     requires small { length image.now < 2 ^ 32 }
     requires name { data_at at name.now ≤ length image.now }
-    ensures { IsTrue result ↔ (length image.now < data_at at name.now + size image.now at) }
+    ensures { IsTrue result ↔ EndsOutside image.now at name.now }
 {
     let size = word(image, at + 8) as usize;
-    image.len() < at + 16 + (name.len() + 1 + 15) / 16 * 16 + size
+    image.len() < at + HEAD_SIZE + padded(name.len() + 1) + size
 }
 
-// Whether a header is that of a symbolic link, of a size above 4,095.
+// Whether a header is that of a symbolic link with a target that is too long.
 fn is_target_long(image: &[u8], at: usize) -> bool
-    requires { at + 16 ≤ length image.now }
-    ensures { IsTrue result ↔ ((kind image.now at ≡ Kind.SymLink) × (4095 < size image.now at)) }
+    requires { at + HEAD_SIZE ≤ length image.now }
+    ensures { IsTrue result ↔ HasLongTarget image.now at }
 {
-    kind_of(word(image, at)) == Kind::SymLink && word(image, at + 8) > 4095
+    kind_of(word(image, at)) == Kind::SymLink && word(image, at + 8) > MAX_TARGET_SIZE
 }
 
 // Whether a header is that of a device.
 fn is_device(image: &[u8], at: usize) -> bool
-    requires { at + 16 ≤ length image.now }
+    requires { at + HEAD_SIZE ≤ length image.now }
     ensures { IsTrue result ↔ IsDevice image.now at }
 {
     matches!(kind_of(word(image, at)), Kind::Block | Kind::Character)
 }
 
-// Whether a header is that of a device, with a major number above 4,095.
+// Whether a header is that of a device with a major number that is too large.
 fn is_major_large(image: &[u8], at: usize) -> bool
-    requires { at + 16 ≤ length image.now }
-    ensures { IsTrue result ↔ (IsDevice image.now at × (4095 < spec image.now at / 2 ^ 16)) }
+    requires { at + HEAD_SIZE ≤ length image.now }
+    ensures { IsTrue result ↔ HasLargeMajor image.now at }
 {
-    is_device(image, at) && word(image, at + 4) / 65536 > 4095
+    is_device(image, at) && word(image, at + 4) / 65536 > MAX_MAJOR
 }
 
 // Whether a name is not ended.
@@ -108,7 +111,7 @@ fn breaks_name_open(image: &[u8], root: usize, at: usize) -> bool
     requires reached { IsReached image.now at }
     ensures { IsTrue result ↔ BreaksHeader image.now Rule.NameOpen at }
 {
-    at != root && text_at(image, at + 16).is_none()
+    at != root && text_at(image, at + HEAD_SIZE).is_none()
 }
 
 // Whether a member's name is empty or holds `/`.
@@ -119,7 +122,7 @@ fn breaks_name_bad<A: Allocator>(image: &[u8], root: usize, sets: &Sets<A>, at: 
     requires slot { HasSlot image.now at }
     ensures { IsTrue result ↔ BreaksHeader image.now Rule.NameBad at }
 {
-    match text_at(image, at + 16) {
+    match text_at(image, at + HEAD_SIZE) {
         None => false,
         Some(name) => { is_bad_name(name) && is_some_member(image, root, at, sets.chains) }
     }
@@ -144,7 +147,7 @@ fn breaks_data_outside<A: Allocator>(image: &[u8], root: usize, sets: &Sets<A>, 
     requires slot { HasSlot image.now at }
     ensures { IsTrue result ↔ BreaksHeader image.now Rule.DataOutside at }
 {
-    match text_at(image, at + 16) {
+    match text_at(image, at + HEAD_SIZE) {
         None => false,
         Some(name) => is_data_outside(image, at, name) && is_data_used(image, root, sets, at),
     }
@@ -230,11 +233,11 @@ fn breaks_major_large<A: Allocator>(image: &[u8], root: usize, sets: &Sets<A>, a
 // Whether the words of a header, its name and the padding do not sum to 0.
 fn is_sum_bad(image: &[u8], root: usize, at: usize) -> bool
     requires root { root ≡ root_of image.now }
-    requires inside { at + 16 ≤ length image.now }
+    requires inside { at + HEAD_SIZE ≤ length image.now }
     requires small { length image.now < 2 ^ 32 }
     ensures { IsTrue result ↔ HasBadSum image.now at }
 {
-    match text_at(image, at + 16) {
+    match text_at(image, at + HEAD_SIZE) {
         None => at == root,
         Some(name) => word_sum(header_bytes(image, at, name)) != 0,
     }
@@ -317,7 +320,8 @@ fn rule_at<A: Allocator>(
     requires slot { HasSlot image.now at }
     requires reached { IsReached image.now at }
     requires root_once { IsElsewhere image.now (root_of image.now) → at ≡ root_of image.now }
-    ensures { MatchOption result (KeepsHeaderRules profile image.now at) (IsFirstRule profile image.now at) }
+    ensures { MatchOption result (KeepsHeaderRules profile image.now at)
+        (IsFirstRule profile image.now at) }
 {
     for number in 0..HEADER_RULES.len() {
         let rule = HEADER_RULES[number];

@@ -1,15 +1,14 @@
 //! Where a header leads.
 
-ghost use Rattle.std.specs.Prelude.{◌≡◌, ◌≢◌, ◌+◌, ◌*◌, ◌/◌, ◌<◌, ◌≤◌, ◌^◌, length};
+ghost use Rattle.std.specs.Prelude.{◌≡◌, ◌<◌, ◌^◌, length};
 ghost use Rattle.romfs_format.specs.Fields.{root as root_of, IsInside};
 ghost use Rattle.romfs_format.specs.Chains.{IsFirst, IsNext};
 ghost use Rattle.romfs_format.specs.Links.{IsHardLink, destination};
-ghost use Rattle.romfs_rules.specs.Marks.{Opens};
-ghost use Rattle.romfs_rules.specs.Leads.{IsTheOne};
+ghost use Rattle.romfs_rules.specs.Leads.{IsTheOne, IsFirstBelow};
 
 use crate::member::opens;
 use romfs_format::head::Kind;
-use romfs_format::read::{kind_of, word};
+use romfs_format::read::{cleared, kind_of, word};
 
 /// The header after a header in its chain.
 #[tactic(auto, using(crate::proofs::Leads::next_none, crate::proofs::Leads::next_some))]
@@ -17,7 +16,7 @@ pub(crate) fn next_of(image: &[u8], at: usize) -> Option<u32>
     requires inside { IsInside image.now at }
     ensures { IsTheOne (IsNext image.now at) result }
 {
-    let next = word(image, at) / 16 * 16;
+    let next = cleared(word(image, at));
     if next == 0 { None } else { Some(next) }
 }
 
@@ -28,7 +27,7 @@ pub(crate) fn first_of(image: &[u8], root: usize, at: usize) -> Option<u32>
     requires inside { IsInside image.now at }
     ensures { IsTheOne (IsFirst image.now at) result }
 {
-    let first = word(image, at + 4) / 16 * 16;
+    let first = cleared(word(image, at + 4));
     if first == 0 {
         return None;
     }
@@ -45,7 +44,7 @@ pub(crate) fn first_below(image: &[u8], root: usize, at: usize) -> Option<u32>
     requires small { length image.now < 2 ^ 32 }
     requires root { root ≡ root_of image.now }
     requires inside { IsInside image.now at }
-    ensures { IsTheOne (λ g. (at ≢ root_of image.now) × Opens image.now at × IsFirst image.now at g) result }
+    ensures { IsTheOne (IsFirstBelow image.now at) result }
 {
     if at == root || !opens(image, at) {
         return None;
@@ -60,7 +59,7 @@ pub(crate) fn destination_of(image: &[u8], at: usize) -> Option<u32>
     ensures { IsTheOne (λ g. IsHardLink image.now at × (g ≡ destination image.now at)) result }
 {
     if kind_of(word(image, at)) == Kind::HardLink {
-        Some(word(image, at + 4) / 16 * 16)
+        Some(cleared(word(image, at + 4)))
     } else {
         None
     }

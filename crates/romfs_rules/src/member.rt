@@ -8,9 +8,9 @@ ghost use Rattle.romfs_rules.specs.Leads.{IsInSomeChain, StandsKept};
 ghost use Rattle.romfs_rules.specs.InChains.{AreChains};
 
 use crate::chains::Chains;
-use crate::names::is_dot_name;
 use romfs_format::head::Kind;
-use romfs_format::read::{kind_of, text_at, word};
+use romfs_format::limits::HEAD_SIZE;
+use romfs_format::read::{is_dot_name, kind_of, text_at, word};
 use std::alloc::Allocator;
 
 /// Whether a header is named `.` or `..`.
@@ -19,7 +19,7 @@ pub(crate) fn is_dotted(image: &[u8], at: usize) -> bool
     requires inside { IsInside image.now at }
     ensures { IsTrue result ↔ IsDotted image.now at }
 {
-    match text_at(image, at + 16) {
+    match text_at(image, at + HEAD_SIZE) {
         None => false,
         Some(name) => is_dot_name(name),
     }

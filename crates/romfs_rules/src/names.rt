@@ -1,33 +1,28 @@
 //! Names of headers, as classes of their numbers.
 
-ghost use Rattle.std.specs.Prelude.{◌≡◌, ◌+◌, ◌^◌, ◌<◌, ◌≤◌, ℕ, List, Some, IfOk, bytes_eq, codes, ◌||◌, unwrap_or, length, get_or};
+ghost use Rattle.std.specs.Prelude.{◌≡◌, ◌+◌, ◌^◌, ◌<◌, ◌≤◌, ℕ, List, Some, IfOk, bytes_eq, unwrap_or, length, get_or};
 ghost use Rattle.std.specs.Option.{option_map};
 ghost use Rattle.std.specs.Map.{update};
+ghost use Rattle.romfs_format.specs.declared.limits.TheConstants.{HEAD_SIZE};
 ghost use Rattle.romfs_format.specs.Fields.{root as root_of};
-ghost use Rattle.romfs_rules.specs.Names.{kept_name, class_in, IsClass, AreClasses};
+ghost use Rattle.romfs_rules.specs.Names.{kept_name, class_in, IsClass, AreClassesOf};
 
-use romfs_format::read::text_at;
+use romfs_format::limits::HEAD_SIZE;
+use romfs_format::read::{is_dot_name, text_at};
 use std::alloc::{AllocError, Allocator};
 use std::collections::BTreeMap;
-
-/// Whether a name is `.` or `..`.
-pub(crate) fn is_dot_name(name: &[u8]) -> bool
-    ensures { result ≡ (bytes_eq name.now (codes ".") || bytes_eq name.now (codes "..")) }
-{
-    name == b".".as_slice() || name == b"..".as_slice()
-}
 
 // The name that a header has wherever it is a member: not the root's, nor `.` or `..`.
 fn kept_name(image: &[u8], root: usize, at: usize) -> Option<&[u8]>
     requires small { length image.now < 2 ^ 32 }
     requires root { root ≡ root_of image.now }
-    requires inside { at + 16 ≤ length image.now }
+    requires inside { at + HEAD_SIZE ≤ length image.now }
     ensures { option_map (λ name. name.now) result ≡ kept_name image.now at }
 {
     if at == root {
         return None;
     }
-    let name = text_at(image, at + 16)?;
+    let name = text_at(image, at + HEAD_SIZE)?;
     if is_dot_name(name) { None } else { Some(name) }
 }
 
@@ -41,11 +36,8 @@ fn class_of<'a, A: Allocator + Clone>(
     ensures known { IfOk result (λ c. (q : List ℕ) →
         class_in known.new q ≡ update bytes_eq (class_in known.old) name.now (Some c) q) }
 {
-    if let Some(class) = known.get(&name) {
-        return Ok(*class);
-    }
-    known.insert(name, class)?;
-    Ok(class)
+    let kept = known.entry(name)?.or_insert(class);
+    Ok(*kept)
 }
 
 // The class of a header by its name, which is the given one where no header before has the name.
@@ -58,7 +50,7 @@ fn class_at<'a, A: Allocator + Clone>(
 ) -> Result<u32, AllocError>
     requires small { length image.now < 2 ^ 32 }
     requires root { root ≡ root_of image.now }
-    requires inside { at + 16 ≤ length image.now }
+    requires inside { at + HEAD_SIZE ≤ length image.now }
     ensures { IfOk result (λ c. IsClass (kept_name image.now at) class c known.old known.new) }
 {
     match kept_name(image, root, at) {
@@ -78,9 +70,8 @@ pub(crate) fn classes<A: Allocator + Copy>(
     requires root { root ≡ root_of image.now }
     requires few { length heads.now < 2 ^ 32 }
     requires inside { (i : ℕ) → i < length heads.now →
-        get_or heads.now i 0 + 16 ≤ length image.now }
-    ensures { IfOk result (λ classes.
-        AreClasses (λ i. kept_name image.now (get_or heads.now i 0)) (length heads.now) classes.items) }
+        get_or heads.now i 0 + HEAD_SIZE ≤ length image.now }
+    ensures { IfOk result (λ classes. AreClassesOf image.now heads.now classes.items) }
 {
     let mut known = BTreeMap::new(alloc);
     let mut classes = Vec::with_capacity(alloc, heads.len() + 1)?;

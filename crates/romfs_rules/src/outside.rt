@@ -13,6 +13,7 @@ use crate::lead::destination_of;
 use crate::link::{first_link, next_link};
 use crate::member::is_some_member;
 use crate::slot_set::SlotSet;
+use romfs_format::limits::HEAD_SIZE;
 use std::alloc::Allocator;
 
 /// The least places outside the image at which headers are reached.
@@ -73,7 +74,7 @@ fn note(found: Outside, image: &[u8], root: usize, word: Option<u32>) -> Outside
             below: Some(lesser(found.below, word)),
             above: found.above,
         }
-    } else if image.len() < at + 16 {
+    } else if image.len() < at + HEAD_SIZE {
         Outside {
             below: found.below,
             above: Some(lesser(found.above, word)),

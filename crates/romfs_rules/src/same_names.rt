@@ -13,7 +13,7 @@ use crate::listed::headers_of;
 use crate::names::classes;
 use crate::slot::is_inside;
 use crate::slot_numbers::SlotNumbers;
-use romfs_format::read::word;
+use romfs_format::read::{cleared, word};
 use std::alloc::{AllocError, Allocator};
 
 // The number of the header after one, or that of headers where there is none inside the image.
@@ -31,7 +31,7 @@ fn next_number<A: Allocator>(
     requires at { IsLinked image.now at }
     ensures { IsNextNumber image.now heads.now at result }
 {
-    let after = word(image, at) as usize / 16 * 16;
+    let after = cleared(word(image, at)) as usize;
     if after != 0 && is_inside(image, root, after) {
         numbers.number(after / 16)
     } else {

@@ -24,7 +24,8 @@ impl<'s, A: Allocator> Model for SlotWords<'s, A> {
 
     ghost Value = { Words };
 
-    ghost view = { λ held. record { slots = held.numbers; by_slot = spread held.numbers held.words.items } };
+    ghost view = { λ held.
+        record { slots = held.numbers; by_slot = spread held.numbers held.words.items } };
 
     ghost invariant = { λ held. (length held.words.items ≡ rank held.numbers (length held.numbers))
         × (length held.numbers < 2 ^ 32) };

@@ -11,7 +11,7 @@ use crate::chains::Chains;
 use crate::member::is_some_member;
 use crate::slot::{is_fresh, is_hard_link};
 use crate::slot_set::SlotSet;
-use romfs_format::read::word;
+use romfs_format::read::{cleared, word};
 use std::alloc::{AllocError, Allocator};
 
 // Marks the headers on the destination chain of a header, up to one that has a mark.
@@ -26,7 +26,7 @@ fn mark_destinations<A: Allocator>(image: &[u8], root: usize, from: usize, marks
 {
     let mut at = from;
     while is_hard_link(image, root, at) {
-        at = word(image, at + 4) as usize / 16 * 16;
+        at = cleared(word(image, at + 4)) as usize;
         if !is_fresh(image, root, at, marks) {
             return;
         }

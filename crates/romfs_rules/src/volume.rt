@@ -1,13 +1,14 @@
 //! The rules of the volume header.
 
-ghost use Rattle.std.specs.Prelude.{◌≡◌, ◌+◌, ◌<◌, ◌≤◌, ◌^◌, ◌↔◌, length, MatchOption, IfNone, IsTrue};
-ghost use Rattle.romfs_format.specs.declared.rule.Profile.{Profile};
-ghost use Rattle.romfs_format.specs.Fields.{image, root as root_of, summed, word};
-ghost use Rattle.romfs_format.specs.Rules.{IsFaultAs, StartsWith, magic, IsVolume};
+ghost use Rattle.std.specs.Prelude.{◌≡◌, ◌≤◌, ◌↔◌, length, IfNone, IsTrue};
+ghost use Rattle.romfs_format.specs.Fields.{image, summed, word};
+ghost use Rattle.romfs_format.specs.Rules.{StartsWith, magic};
 ghost use Rattle.romfs_rules.specs.Marks.{IsVolumeImage};
+ghost use Rattle.romfs_rules.specs.Volumes.{IsVolumeFault, HoldsRoot};
 
 use romfs_format::head::Kind;
-use romfs_format::read::{kind_of, text_at, word, word_sum};
+use romfs_format::limits::{HEAD_SIZE, SUMMED_SIZE};
+use romfs_format::read::{kind_of, padded, text_at, word, word_sum};
 use romfs_format::rule::{ImageFault, Rule};
 
 /// The accessible bytes.
@@ -25,10 +26,10 @@ pub(crate) fn image_of(bytes: &[u8], full: usize) -> &[u8]
 fn summed(image: &[u8]) -> &[u8]
     ensures { result.now ≡ summed image.now }
 {
-    if image.len() < 512 {
+    if image.len() < SUMMED_SIZE {
         image
     } else {
-        &image[..512]
+        &image[..SUMMED_SIZE]
     }
 }
 
@@ -41,11 +42,11 @@ fn is_magic(bytes: &[u8]) -> bool
 /// The first rule of the volume header that is broken.
 #[tactic(auto, unfolding(romfs_format::specs::Fields::root))]
 pub(crate) fn volume_fault(bytes: &[u8]) -> Option<ImageFault>
-    ensures fault { MatchOption result (IsVolume bytes.now) (λ fault. (profile : Profile) → IsFaultAs profile bytes.now fault.rule fault.place) }
+    ensures fault { IsVolumeFault bytes.now result }
     ensures image { IfNone result (IsVolumeImage (image bytes.now)) }
-    ensures sound { IfNone result ((16 ≤ word bytes.now 8) × (word bytes.now 8 ≤ length bytes.now) × (root_of (image bytes.now) + 16 ≤ word bytes.now 8)) }
+    ensures sound { IfNone result (HoldsRoot bytes.now) }
 {
-    if bytes.len() < 16 {
+    if bytes.len() < HEAD_SIZE {
         return Some(ImageFault {
             rule: Rule::Short,
             place: 0,
@@ -58,7 +59,7 @@ pub(crate) fn volume_fault(bytes: &[u8]) -> Option<ImageFault>
         });
     }
     let full = word(bytes, 8) as usize;
-    if bytes.len() < full || full < 16 {
+    if bytes.len() < full || full < HEAD_SIZE {
         return Some(ImageFault {
             rule: Rule::FullSize,
             place: 8,
@@ -71,14 +72,14 @@ pub(crate) fn volume_fault(bytes: &[u8]) -> Option<ImageFault>
             place: 12,
         });
     }
-    match text_at(image, 16) {
+    match text_at(image, HEAD_SIZE) {
         None => Some(ImageFault {
             rule: Rule::VolumeName,
-            place: 16,
+            place: HEAD_SIZE as u32,
         }),
         Some(name) => {
-            let root = 16 + (name.len() + 1 + 15) / 16 * 16;
-            if image.len() < root + 16 || kind_of(word(image, root)) != Kind::Directory {
+            let root = HEAD_SIZE + padded(name.len() + 1);
+            if image.len() < root + HEAD_SIZE || kind_of(word(image, root)) != Kind::Directory {
                 Some(ImageFault {
                     rule: Rule::NoRoot,
                     place: root as u32,

@@ -16,13 +16,15 @@ use Rattle.rounds.specs.Rounds.{Answering, Balances, joined, IsAnswered, AreFirs
 use Rattle.rounds.proofs.Sums.{none_moved, moved_on, within_moved, within_less, light_on}
 
 -- what one list of requests and then another is replied, moves and leaves
-pub replies_append : (reply : Session → Asked → List ℕ) (s : Session) (xs ys : List Asked) → replies_by reply s (xs ++ ys) ≡ replies_by reply s xs ++ replies_by reply (session_at s xs) ys
+pub replies_append : (reply : Session → Asked → List ℕ) (s : Session) (xs ys : List Asked)
+    → replies_by reply s (xs ++ ys) ≡ replies_by reply s xs ++ replies_by reply (session_at s xs) ys
 replies_append reply s [] ys = refl
 replies_append reply s (x ∷ xs) ys =
     ap (λ r. reply s x ++ r) (replies_append reply (session_after s x.op) xs ys)
     ∙ sym (append_assoc (reply s x) (replies_by reply (session_after s x.op) xs) (replies_by reply (session_at (session_after s x.op) xs) ys))
 
-pub moves_append : (moved : Session → Asked → List Move) (s : Session) (xs ys : List Asked) → moves_by moved s (xs ++ ys) ≡ moves_by moved s xs ++ moves_by moved (session_at s xs) ys
+pub moves_append : (moved : Session → Asked → List Move) (s : Session) (xs ys : List Asked)
+    → moves_by moved s (xs ++ ys) ≡ moves_by moved s xs ++ moves_by moved (session_at s xs) ys
 moves_append moved s [] ys = refl
 moves_append moved s (x ∷ xs) ys =
     ap (λ r. moved s x ++ r) (moves_append moved (session_after s x.op) xs ys)
@@ -142,7 +144,8 @@ module _ (by : Answering) (s : Session) (stream : List ℕ) where
         answered = answered_on by s f.messages (take len rest ∷ []) round.session after put more a b c f.answered (one_answered by round.session (take len rest) after more (record { old = b; new = c }) x);
       }
 
-  pub is_round : (round : Round) (put : List ℕ) (b : Balances) → IsSoFar by s stream round put b → (0 < round.messages) ⊎ IsRest (drop round.used stream) → IsRound by s stream round put b
+  pub is_round : (round : Round) (put : List ℕ) (b : Balances) → IsSoFar by s stream round put b
+      → (0 < round.messages) ⊎ IsRest (drop round.used stream) → IsRound by s stream round put b
   is_round round put b f o = record { messages = f.messages; first = f.first; count = f.count; answered = f.answered; some = elim o [ inl h ↦ inl (let k = f.count in omega arith) | inr r ↦ inr r ] }
 
   pub so_far_within : (round : Round) (put : List ℕ) (a b : List ℤ) → IsSoFar by s stream round put (record { old = a; new = b }) → AreWithin (2 ^ 122) a → length stream ≤ 2 ^ 57 → AreWithin (2 ^ 123) b

@@ -30,7 +30,8 @@ abbrev pub change : List ℤ → List ℤ → Balances
 change old new = record { old = old; new = new }
 
 -- one message is answered with these bytes, and leaves this session
-pub record IsAnswered (by : Answering) (s : Session) (m : List ℕ) (after : Session) (put : List ℕ) (b : Balances) : Type 0 where
+pub record IsAnswered (by : Answering) (s : Session) (m : List ℕ) (after : Session) (put : List ℕ)
+    (b : Balances) : Type 0 where
   pub session : after ≡ session_after s (asked m).op
   pub told : put ≡ by.reply s (asked m)
   pub moves : IsMoved (by.moved s (asked m)) b.old b.new
@@ -43,14 +44,16 @@ pub record AreFirst (stream : List ℕ) (messages : List (List ℕ)) (used : ℕ
   pub size : used ≡ length (joined messages)
 
 -- these messages are answered with these bytes, and leave this session
-pub record AreAnswered (by : Answering) (s : Session) (messages : List (List ℕ)) (after : Session) (put : List ℕ) (b : Balances) : Type 0 where
+pub record AreAnswered (by : Answering) (s : Session) (messages : List (List ℕ)) (after : Session)
+    (put : List ℕ) (b : Balances) : Type 0 where
   pub session : after ≡ session_at s (map asked messages)
   pub told : put ≡ replies_by by.reply s (map asked messages)
   pub moves : IsMoved (moves_by by.moved s (map asked messages)) b.old b.new
   pub light : IsLight (moves_by by.moved s (map asked messages)) (length (joined messages))
 
 -- a round answered the first messages of a stream with these bytes: at least one, if one is whole
-pub record IsRound (by : Answering) (s : Session) (stream : List ℕ) (round : Round) (put : List ℕ) (b : Balances) : Type 0 where
+pub record IsRound (by : Answering) (s : Session) (stream : List ℕ) (round : Round) (put : List ℕ)
+    (b : Balances) : Type 0 where
   pub messages : List (List ℕ)
   pub first : AreFirst stream messages round.used
   pub count : round.messages ≡ length messages
@@ -58,9 +61,12 @@ pub record IsRound (by : Answering) (s : Session) (stream : List ℕ) (round : R
   pub some : (0 < length messages) ⊎ IsRest (drop round.used stream)
 
 -- the reply to a message was appended to what there was before, and what it moves added to the balances
-abbrev pub AppendsAnswer : Answering → Session → List ℕ → Session → List ℕ → List ℕ → Balances → Type 0
-AppendsAnswer by s m after old new b = (put : List ℕ) × (new ≡ old ++ put) × IsAnswered by s m after put b
+abbrev pub AppendsAnswer : Answering → Session → List ℕ → Session → List ℕ → List ℕ → Balances
+    → Type 0
+AppendsAnswer by s m after old new b =
+    (put : List ℕ) × (new ≡ old ++ put) × IsAnswered by s m after put b
 
 -- the same for the messages of a round
 abbrev pub AppendsRound : Answering → Session → List ℕ → Round → List ℕ → List ℕ → Balances → Type 0
-AppendsRound by s stream round old new b = (put : List ℕ) × (new ≡ old ++ put) × IsRound by s stream round put b
+AppendsRound by s stream round old new b =
+    (put : List ℕ) × (new ≡ old ++ put) × IsRound by s stream round put b

@@ -70,7 +70,8 @@ fn stack_from<R: Threads + Sync, A: Allocator + Copy + Send + Sync, G: Gate + Sy
 
 /// Where the entry stands that a path shows; none where the path is not shown.
 pub fn shown<A: Allocator>(tree: &Tree<A>, path: &[&[u8]]) -> Option<Place>
-    ensures { result ≡ option_map (λ entry. entry.place) (entry_at tree.now (map (λ name. name.now) path.now)) }
+    ensures { result
+        ≡ option_map (λ entry. entry.place) (entry_at tree.now (map (λ name. name.now) path.now)) }
 {
     tree.entry(path).map(|entry| entry.place)
 }

@@ -24,7 +24,8 @@ top_high (a ∷ low) high path j h t zero e = absurd (omega arith)
 top_high (a ∷ low) high path j h t (suc i) e = top_high low high path j h t i (omega arith)
 
 -- and in no other way
-pub top_only : (low high : List (List ℕ)) (path : Path) (i h : ℕ) → IsTop (low ++ high) path i h → (IsTop low path i h × IsFree high path) ⊎ ((j : ℕ) × (i ≡ length low + j) × IsTop high path j h)
+pub top_only : (low high : List (List ℕ)) (path : Path) (i h : ℕ) → IsTop (low ++ high) path i h
+    → (IsTop low path i h × IsFree high path) ⊎ ((j : ℕ) × (i ≡ length low + j) × IsTop high path j h)
 top_only [] high path i h t = inr (i, omega arith, t)
 top_only (a ∷ low) high path zero h t = let f = (free_joined low high path).0 t.1 in inl ((t.0, f.0), f.1)
 top_only (a ∷ low) high path (suc i) h t = elim (top_only low high path i h t) [ inl x ↦ inl x | inr x ↦ inr (x.0, omega (arith, x.1), x.2) ]
@@ -60,10 +61,12 @@ free_is (a ∷ above) path =
       λ f. ((f.0.0, λ c. f.1 (inl c)), r.1 (f.0.1, λ c. f.1 (inr c))),
     )
 
-pub cut_by_marker : (a : List ℕ) (q rest : Path) (y : List ℕ) → IsPlain (q ++ y ∷ rest) → HasDirectory a q → IsIn a (q ++ (codes ".wh." ++ y) ∷ []) → Cuts a (q ++ y ∷ rest)
+pub cut_by_marker : (a : List ℕ) (q rest : Path) (y : List ℕ) → IsPlain (q ++ y ∷ rest) → HasDirectory a q
+    → IsIn a (q ++ (codes ".wh." ++ y) ∷ []) → Cuts a (q ++ y ∷ rest)
 cut_by_marker a q rest y p d m = (p, (q, y, rest, refl, (d, inl m)))
 
-pub cut_by_opaque : (a : List ℕ) (q rest : Path) (y : List ℕ) → IsPlain (q ++ y ∷ rest) → HasDirectory a q → IsIn a (q ++ codes ".wh..wh..opq" ∷ []) → Cuts a (q ++ y ∷ rest)
+pub cut_by_opaque : (a : List ℕ) (q rest : Path) (y : List ℕ) → IsPlain (q ++ y ∷ rest) → HasDirectory a q
+    → IsIn a (q ++ codes ".wh..wh..opq" ∷ []) → Cuts a (q ++ y ∷ rest)
 cut_by_opaque a q rest y p d m = (p, (q, y, rest, refl, (d, inr (inl m))))
 
 pub cut_by_other : (a : List ℕ) (q rest : Path) (y : List ℕ) → IsPlain (q ++ y ∷ rest) → HasDirectory a q → HasOther a (q ++ y ∷ []) → Cuts a (q ++ y ∷ rest)

@@ -23,7 +23,9 @@ found_at : (n m : ℕ) (p : Place) (ps : List Place) → position_from (same_pla
 found_at n m p [] e = absurd (cc)
 found_at n m p (q ∷ ps) e = go (same_place p q) refl (found_at (n + 1) m p ps)
   where
-    go : (b : Bool) → same_place p q ≡ b → (position_from (same_place p) (n + 1) ps ≡ Some m → (k : ℕ) × (m ≡ n + 1 + k) × (slice_get ps k ≡ Some p)) → (k : ℕ) × (m ≡ n + k) × (slice_get (q ∷ ps) k ≡ Some p)
+    go : (b : Bool) → same_place p q ≡ b
+        → (position_from (same_place p) (n + 1) ps ≡ Some m → (k : ℕ) × (m ≡ n + 1 + k) × (slice_get ps k ≡ Some p))
+        → (k : ℕ) × (m ≡ n + k) × (slice_get (q ∷ ps) k ≡ Some p)
     go true f later = (zero, (let g = rw f at e in let h : m ≡ n = cc in omega arith), ap Some (sym (same_is p q f)))
     go false f later = let r = later (rw f at e) in (suc r.0, omega (arith, r.1), r.2)
 
@@ -36,7 +38,8 @@ any_at p (q ∷ ps) (suc k) e = rw (any_at p ps k e) (either (same_place p q))
     either true = refl
     either false = refl
 
-other_place : (p q : Place) (ps : List Place) (k : ℕ) → list_any (same_place q) ps ≡ false → slice_get ps k ≡ Some p → (b : Bool) → same_place p q ≡ b → b ≡ false
+other_place : (p q : Place) (ps : List Place) (k : ℕ) → list_any (same_place q) ps ≡ false
+    → slice_get ps k ≡ Some p → (b : Bool) → same_place p q ≡ b → b ≡ false
 other_place p q ps k o e false f = refl
 other_place p q ps k o e true f = let i : p ≡ q = same_is p q f in let a = any_at q ps k (e ∙ ap Some i) in cc
 
@@ -116,7 +119,9 @@ noted_from ps p q = go (list_any (same_place q) ps)
     go false e = elim (or_cases _ _ (sym (list_any-append (same_place p) ps (q ∷ [])) ∙ e)) [ inl f ↦ inl f | inr f ↦ inr (last f) ]
 
 -- a place among all that are noted was there, or is an entry's
-from_entry : (es : List Entry) (ps : List Place) (p : Place) → list_any (same_place p) (fold noted ps (map place es)) ≡ true → (list_any (same_place p) ps ≡ true) ⊎ ((e : Entry) × IsAmong e es × (place e ≡ p))
+from_entry : (es : List Entry) (ps : List Place) (p : Place)
+    → list_any (same_place p) (fold noted ps (map place es)) ≡ true
+    → (list_any (same_place p) ps ≡ true) ⊎ ((e : Entry) × IsAmong e es × (place e ≡ p))
 from_entry [] ps p i = inl i
 from_entry (f ∷ fs) ps p i = elim (from_entry fs (noted ps (place f)) p i) [
   | inr (e, a, q) ↦ inr (e, inr a, q)
@@ -127,7 +132,9 @@ some_position : (n : ℕ) (p : Place) (ps : List Place) → list_any (same_place
 some_position n p [] e = absurd (cc)
 some_position n p (q ∷ ps) e = go (same_place p q) refl (some_position (n + 1) p ps)
   where
-    go : (b : Bool) → same_place p q ≡ b → (list_any (same_place p) ps ≡ true → (m : ℕ) × (position_from (same_place p) (n + 1) ps ≡ Some m)) → (m : ℕ) × (position_from (same_place p) n (q ∷ ps) ≡ Some m)
+    go : (b : Bool) → same_place p q ≡ b
+        → (list_any (same_place p) ps ≡ true → (m : ℕ) × (position_from (same_place p) (n + 1) ps ≡ Some m))
+        → (m : ℕ) × (position_from (same_place p) n (q ∷ ps) ≡ Some m)
     go true f later = (n, rw f refl)
     go false f later = let r = later (rw f at e) in (r.0, rw f r.1)
 
@@ -136,7 +143,8 @@ first_stays : (p : Place) (ps qs : List Place) → (rs : List Place) × (fold no
 first_stays p ps [] = (ps, refl)
 first_stays p ps (q ∷ qs) = go (list_any (same_place q) (p ∷ ps)) (λ rs. first_stays p rs qs)
   where
-    go : (b : Bool) → ((rs : List Place) → (ts : List Place) × (fold noted (p ∷ rs) qs ≡ p ∷ ts)) → (ts : List Place) × (fold noted (cond b (p ∷ ps) ((p ∷ ps) ++ q ∷ [])) qs ≡ p ∷ ts)
+    go : (b : Bool) → ((rs : List Place) → (ts : List Place) × (fold noted (p ∷ rs) qs ≡ p ∷ ts))
+        → (ts : List Place) × (fold noted (cond b (p ∷ ps) ((p ∷ ps) ++ q ∷ [])) qs ≡ p ∷ ts)
     go true later = later ps
     go false later = later (ps ++ q ∷ [])
 
@@ -182,7 +190,9 @@ numbered : (entries : List Entry) (e : Entry) → IsAmong e entries → (m : ℕ
 unfolding number_of nodes
 numbered entries e a = some_position 1 (place e) (nodes entries) (all_noted e entries [] a)
 
-pub entries_numbered : (entries : List Entry) (e f : Entry) → IsAmong e entries → IsAmong f entries → IsSome (number_of entries (place e)) × ((number_of entries (place e) ≡ number_of entries (place f)) ↔ (place e ≡ place f))
+pub entries_numbered : (entries : List Entry) (e f : Entry) → IsAmong e entries → IsAmong f entries
+    → IsSome (number_of entries (place e))
+    × ((number_of entries (place e) ≡ number_of entries (place f)) ↔ (place e ≡ place f))
 entries_numbered entries e f a b =
     let m = numbered entries e a in
     let n = numbered entries f b in
@@ -191,7 +201,8 @@ entries_numbered entries e f a b =
     one : (m : ℕ) → number_of entries (place e) ≡ Some m → number_of entries (place f) ≡ Some m → place e ≡ place f
     one m i j = let x = (number_used entries m (place e)).0 i in let y = (number_used entries m (place f)).0 j in let z : Some (place e) ≡ Some (place f) = sym x ∙ y in cc
 
-pub root_first : (layers : List (List ℕ)) (entries : List Entry) (e : Entry) → IsListing layers entries → IsAmong e entries → e.path ≡ [] → number_of entries (place e) ≡ Some 1
+pub root_first : (layers : List (List ℕ)) (entries : List Entry) (e : Entry) → IsListing layers entries
+    → IsAmong e entries → e.path ≡ [] → number_of entries (place e) ≡ Some 1
 unfolding number_of nodes
 root_first layers [] e l a p = elim a [ ]
 root_first layers (f ∷ fs) e l a p = let i : e ≡ f = elim a [ inl i ↦ i | inr b ↦ absurd (lower f.path (rw p at (after fs l.rising.0 b))) ] in rw i (begins f fs)

@@ -31,7 +31,8 @@ size_of _ n = 0
 
 -- Linux's new_encode_dev: 12 bits of major between the low 8 and the high 12 bits of minor
 abbrev pub device : ℕ → ℕ → ℕ
-device major minor = bit_or (bit_or (bit_and minor 0xff) (major * 2 ^ 8)) (bit_and minor 0xfff00 * 2 ^ 12)
+device major minor =
+    bit_or (bit_or (bit_and minor 0xff) (major * 2 ^ 8)) (bit_and minor 0xfff00 * 2 ^ 12)
 
 -- major and minor are the upper and the lower 16 bits of spec.info
 abbrev pub rdev_of : Kind → ℕ → ℕ

@@ -38,4 +38,5 @@ IsAmong e (f ∷ fs) = (e ≡ f) ⊎ IsAmong e fs
 -- the entries are those that the stack shows, in order
 pub record IsListing (layers : List (List ℕ)) (entries : List Entry) : Type 0 where
   pub rising : Rises entries
-  pub exact : (e : Entry) → (IsAmong e entries → IsShown layers e) × (IsShown layers e → IsAmong e entries)
+  pub exact : (e : Entry)
+      → (IsAmong e entries → IsShown layers e) × (IsShown layers e → IsAmong e entries)

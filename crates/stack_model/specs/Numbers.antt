@@ -74,4 +74,5 @@ children entries p = filter_map (child_in (path_of entries p)) entries
 
 -- the place of the child with this name
 abbrev pub child : List Entry → Place → List ℕ → Option Place
-child entries p name = option_map (λ c. c.place) (find (λ c. same_name name c.name) (children entries p))
+child entries p name =
+    option_map (λ c. c.place) (find (λ c. same_name name c.name) (children entries p))

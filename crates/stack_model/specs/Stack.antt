@@ -38,11 +38,14 @@ HasOther a path = (h : ℕ) × Has a path h × (kind a h ≢ Directory)
 -- for all of q, or y itself as no directory
 abbrev pub CutsIn : List ℕ → Path → List ℕ → Type 0
 CutsIn a q y =
-    HasDirectory a q × (IsIn a (q ++ (marker ++ y) ∷ []) ⊎ IsIn a (q ++ opaque ∷ []) ⊎ HasOther a (q ++ y ∷ []))
+    HasDirectory a q
+    × (IsIn a (q ++ (marker ++ y) ∷ []) ⊎ IsIn a (q ++ opaque ∷ []) ⊎ HasOther a (q ++ y ∷ []))
 
 -- the layer a cuts the path, at the path itself or at some prefix of it
 abbrev pub Cuts : List ℕ → Path → Type 0
-Cuts a path = IsPlain path × ((q : Path) × (y : List ℕ) × (rest : Path) × (path ≡ q ++ y ∷ rest) × CutsIn a q y)
+Cuts a path =
+    IsPlain path
+    × ((q : Path) × (y : List ℕ) × (rest : Path) × (path ≡ q ++ y ∷ rest) × CutsIn a q y)
 
 -- some layer of the run cuts the path
 abbrev pub IsCut : List (List ℕ) → Path → Type 0

@@ -10,13 +10,15 @@ ghost use Rattle.stack_model.specs.Numbers.{Place, place, nodes, number_of, node
 /// A list of layers has at most one listing.
 #[tactic(auto, using(crate::proofs::Listings::one_listing))]
 pub fn one_listing()
-    ensures { (layers : List (List ℕ)) (xs ys : List Entry) → IsListing layers xs → IsListing layers ys → xs ≡ ys }
+    ensures { (layers : List (List ℕ)) (xs ys : List Entry) →
+        IsListing layers xs → IsListing layers ys → xs ≡ ys }
 {}
 
 /// One layer shows exactly the paths that it has and that name no marker: its own markers cut nothing of its own.
 #[tactic(auto, using(crate::proofs::Joined::alone))]
 pub fn one_layer_shows_its_own()
-    ensures { (a : List ℕ) (path : Path) (i h : ℕ) → Shows (a ∷ []) path i h ↔ (IsPlain path × (i ≡ 0) × Has a path h) }
+    ensures { (a : List ℕ) (path : Path) (i h : ℕ) →
+        Shows (a ∷ []) path i h ↔ (IsPlain path × (i ≡ 0) × Has a path h) }
 {}
 
 /// A run of layers laid on another one: the joined run shows what the upper run shows, and what the lower
@@ -27,7 +29,8 @@ pub fn laid_is_joined()
         IsFree layers path ↔ (AllByRecursion (λ a. ¬ IsIn a path) layers × ¬ IsCut layers path) }
     ensures shows { (low high : List (List ℕ)) (path : Path) (i h : ℕ) →
         Shows (low ++ high) path i h
-        ↔ (((j : ℕ) × (i ≡ length low + j) × Shows high path j h) ⊎ (Shows low path i h × IsFree high path)) }
+        ↔ (((j : ℕ) × (i ≡ length low + j) × Shows high path j h)
+        ⊎ (Shows low path i h × IsFree high path)) }
     ensures cuts { (low high : List (List ℕ)) (path : Path) →
         IsCut (low ++ high) path ↔ (IsCut low path ⊎ IsCut high path) }
 {}
@@ -36,11 +39,14 @@ pub fn laid_is_joined()
 /// in the directory, and so does an entry that is no directory with what is at its place. The root is never cut.
 #[tactic(auto, using(crate::proofs::Joined::cuts_of_a_layer))]
 pub fn whiteouts_cut()
-    ensures marker { (a : List ℕ) (q rest : Path) (y : List ℕ) → IsPlain (q ++ y ∷ rest) → HasDirectory a q →
+    ensures marker { (a : List ℕ) (q rest : Path) (y : List ℕ) →
+        IsPlain (q ++ y ∷ rest) → HasDirectory a q →
         IsIn a (q ++ (codes ".wh." ++ y) ∷ []) → Cuts a (q ++ y ∷ rest) }
-    ensures opaque { (a : List ℕ) (q rest : Path) (y : List ℕ) → IsPlain (q ++ y ∷ rest) → HasDirectory a q →
+    ensures opaque { (a : List ℕ) (q rest : Path) (y : List ℕ) →
+        IsPlain (q ++ y ∷ rest) → HasDirectory a q →
         IsIn a (q ++ codes ".wh..wh..opq" ∷ []) → Cuts a (q ++ y ∷ rest) }
-    ensures replaced { (a : List ℕ) (q rest : Path) (y : List ℕ) → IsPlain (q ++ y ∷ rest) → HasDirectory a q →
+    ensures replaced { (a : List ℕ) (q rest : Path) (y : List ℕ) →
+        IsPlain (q ++ y ∷ rest) → HasDirectory a q →
         HasOther a (q ++ y ∷ []) → Cuts a (q ++ y ∷ rest) }
     ensures root { (a : List ℕ) → ¬ Cuts a [] }
 {}
@@ -51,7 +57,8 @@ pub fn whiteouts_cut()
 #[tactic(auto, using(crate::proofs::Numbering::numbering))]
 pub fn numbers_are_places()
     ensures root { (layers : List (List ℕ)) (entries : List Entry) (e : Entry) →
-        IsListing layers entries → IsAmong e entries → e.path ≡ [] → number_of entries (place e) ≡ Some 1 }
+        IsListing layers entries → IsAmong e entries → e.path ≡ [] →
+        number_of entries (place e) ≡ Some 1 }
     ensures used { (entries : List Entry) (n : ℕ) (p : Place) →
         (number_of entries p ≡ Some n) ↔ (node_of entries n ≡ Some p) }
     ensures listed { (entries : List Entry) (n : ℕ) (p : Place) →
@@ -59,5 +66,6 @@ pub fn numbers_are_places()
     ensures all { (entries : List Entry) (n : ℕ) →
         IsSome (node_of entries n) ↔ ((1 ≤ n) × (n ≤ length (nodes entries))) }
     ensures entries { (entries : List Entry) (e f : Entry) → IsAmong e entries → IsAmong f entries →
-        IsSome (number_of entries (place e)) × ((number_of entries (place e) ≡ number_of entries (place f)) ↔ (place e ≡ place f)) }
+        IsSome (number_of entries (place e))
+        × ((number_of entries (place e) ≡ number_of entries (place f)) ↔ (place e ≡ place f)) }
 {}

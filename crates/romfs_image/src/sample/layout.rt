@@ -1,9 +1,11 @@
 //! Where the headers of an image to be built stand, and which headers they name.
 
 ghost use Rattle.std.specs.Prelude.{◌≡◌, ◌+◌, ◌≤◌, ◌^◌, length, IfOk, IfErr};
-ghost use Rattle.romfs_format.specs.Fields.{pad};
+ghost use Rattle.romfs_format.specs.Fields.{data_at, padded};
 
 use super::{BuildFault, Item, What};
+use romfs_format::limits::HEAD_SIZE;
+use romfs_format::read::padded;
 use std::alloc::{AllocError, Allocator};
 
 /// Whether items stand in walk order, each below a directory, with names that end, and whether hard
@@ -161,25 +163,17 @@ impl<A: Allocator> Layout<A> {
 /// Where the next header stands after the one at `at` with this name and data. A volume header is as
 /// long as a header with its name.
 fn after(at: u32, name: &[u8], body: &[u8]) -> Result<u32, BuildFault>
-    ensures ok { IfOk result (λ next. next ≡ at + 16 + pad (length name.now + 1) + pad (length body.now)) }
-    ensures err { IfErr result (λ fault. (fault ≡ BuildFault.Size) × (2 ^ 32 ≤ at + 16 + pad (length name.now + 1) + pad (length body.now))) }
+    ensures ok { IfOk result (λ next. next ≡ data_at at name.now + padded (length body.now)) }
+    ensures err { IfErr result (λ fault. (fault ≡ BuildFault.Size)
+        × (2 ^ 32 ≤ data_at at name.now + padded (length body.now))) }
 {
     let most = u32::MAX as usize;
     if name.len() > most || body.len() > most {
         return Err(BuildFault::Size);
     }
-    let end = u64::from(at) + 16 + padded(name.len() as u64 + 1) + padded(body.len() as u64);
-    if end > u64::from(u32::MAX) {
+    let end = at as usize + HEAD_SIZE + padded(name.len() + 1) + padded(body.len());
+    if end > most {
         return Err(BuildFault::Size);
     }
     Ok(end as u32)
-}
-
-/// A length rounded up to a multiple of 16.
-fn padded(len: u64) -> u64
-    requires { len ≤ 2 ^ 32 }
-    ensures value { result ≡ pad len }
-    ensures near { (len ≤ result) × (result ≤ len + 15) }
-{
-    (len + 15) / 16 * 16
 }

@@ -1,4 +1,4 @@
-use Rattle.std.proofs.Common.{rules, ◌≡◌, ◌∙◌, ap, Some, arith}
+use Rattle.std.proofs.Common.{rules, ◌≡◌, ◌∙◌, ap, Some}
 use Rattle.std.specs.Ordering.{nat_cmp}
 use Rattle.std.specs.BTreeMap.{get}
 use Rattle.romfs_format.specs.Fields.{spec, cleared}
@@ -26,27 +26,20 @@ returns-in-Some-clause-given g c =
     let found : get nat_cmp c.args.known.now c.loop-at.at.offset ≡ Some c.in-Some.end.now = search rules in
     known_given c.args.image.now c.requires.image c.args.head.now c.loop-at.at c.requires.given c.loop-at.invariant (search rules) c.in-Some.end.now c.head_at.result (c.requires.known.each c.loop-at.at.offset c.in-Some.end.now found) c.head_at.ensures
 
-pub overflow_mul-at : goal.overflow_mul-at
-overflow_mul-at g c =
-    let s : c.loop-at.at.spec ≡ spec c.args.image.now c.loop-at.at.offset = ap (λ x. x.spec) c.loop-at.invariant.is in
-    let n = (next_inside c.args.image.now c.requires.image c.args.head.now c.loop-at.at c.requires.given c.loop-at.invariant (search rules)).1 in
-    let m = c.requires.image.small in
-    omega arith
-
 pub head_at-at-requires-clause-inside : goal.head_at-at-requires-clause-inside
 head_at-at-requires-clause-inside g c =
     let s : c.loop-at.at.spec ≡ spec c.args.image.now c.loop-at.at.offset = ap (λ x. x.spec) c.loop-at.invariant.is in
-    rw s (next_inside c.args.image.now c.requires.image c.args.head.now c.loop-at.at c.requires.given c.loop-at.invariant (search rules)).1
+    rw (c.cleared.ensures, s) (next_inside c.args.image.now c.requires.image c.args.head.now c.loop-at.at c.requires.given c.loop-at.invariant (search rules)).1
 
 pub loop-at-smaller : goal.loop-at-smaller
 loop-at-smaller g c =
     let s : c.loop-at.at.spec ≡ spec c.args.image.now c.loop-at.at.offset = ap (λ x. x.spec) c.loop-at.invariant.is in
-    way_falls c.args.image.now c.requires.image c.args.head.now c.loop-at.at c.head_at-at.result c.loop-at.invariant (search rules) (c.head_at-at.ensures ∙ ap (λ x. head_of c.args.image.now (cleared x)) s)
+    way_falls c.args.image.now c.requires.image c.args.head.now c.loop-at.at c.head_at-at.result c.loop-at.invariant (search rules) (c.head_at-at.ensures ∙ ap (λ x. head_of c.args.image.now x) (c.cleared.ensures ∙ ap cleared s))
 
 pub loop-at-preserved : goal.loop-at-preserved
 loop-at-preserved g c =
     let s : c.loop-at.at.spec ≡ spec c.args.image.now c.loop-at.at.offset = ap (λ x. x.spec) c.loop-at.invariant.is in
-    moves_on c.args.image.now c.requires.image c.args.head.now c.loop-at.at c.head_at-at.result c.requires.given c.loop-at.invariant (search rules) (c.head_at-at.ensures ∙ ap (λ x. head_of c.args.image.now (cleared x)) s)
+    moves_on c.args.image.now c.requires.image c.args.head.now c.loop-at.at c.head_at-at.result c.requires.given c.loop-at.invariant (search rules) (c.head_at-at.ensures ∙ ap (λ x. head_of c.args.image.now x) (c.cleared.ensures ∙ ap cleared s))
 
 pub returns-clause-end : goal.returns-clause-end
 returns-clause-end g c = arrives c.args.image.now c.requires.image c.args.head.now c.loop-at.at c.loop-at.invariant (search rules)

@@ -1,4 +1,4 @@
-use Rattle.std.proofs.Common.{rules, ◌≡◌, sym, ap, subst, arith}
+use Rattle.std.proofs.Common.{rules, ◌≡◌, sym, ap, subst}
 use Rattle.romfs_format.specs.Fields.{spec, cleared}
 use Rattle.romfs_format.specs.Heads.{head_of}
 use Rattle.romfs_format.specs.Links.{IsFinal}
@@ -13,32 +13,24 @@ loop-known-init g c = record {
   known = c.requires.known;
 }
 
-pub overflow_mul-at : goal.overflow_mul-at
-overflow_mul-at g c =
-    let way = c.loop-known.invariant.way in
-    let s : c.loop-known.at.spec ≡ spec c.args.image.now c.loop-known.at.offset = ap (λ x. x.spec) way.is in
-    let n = (next_inside c.args.image.now c.requires.image c.args.head.now c.loop-known.at c.requires.given way (search rules)).1 in
-    let m = c.requires.image.small in
-    omega arith
-
 pub head_at-at-requires-clause-inside : goal.head_at-at-requires-clause-inside
 head_at-at-requires-clause-inside g c =
     let way = c.loop-known.invariant.way in
     let s : c.loop-known.at.spec ≡ spec c.args.image.now c.loop-known.at.offset = ap (λ x. x.spec) way.is in
-    rw s (next_inside c.args.image.now c.requires.image c.args.head.now c.loop-known.at c.requires.given way (search rules)).1
+    rw (c.cleared.ensures, s) (next_inside c.args.image.now c.requires.image c.args.head.now c.loop-known.at c.requires.given way (search rules)).1
 
 pub loop-known-smaller : goal.loop-known-smaller
 loop-known-smaller g c =
     let way = c.loop-known.invariant.way in
     let s : c.loop-known.at.spec ≡ spec c.args.image.now c.loop-known.at.offset = ap (λ x. x.spec) way.is in
-    let on : c.head_at-at.result ≡ head_of c.args.image.now (cleared (spec c.args.image.now c.loop-known.at.offset)) = rw (← s) c.head_at-at.ensures in
+    let on : c.head_at-at.result ≡ head_of c.args.image.now (cleared (spec c.args.image.now c.loop-known.at.offset)) = rw (← s, ← c.cleared.ensures) c.head_at-at.ensures in
     way_falls c.args.image.now c.requires.image c.args.head.now c.loop-known.at c.head_at-at.result way (search rules) on
 
 pub loop-known-preserved : goal.loop-known-preserved
 loop-known-preserved g c =
     let i = c.loop-known.invariant in
     let s : c.loop-known.at.spec ≡ spec c.args.image.now c.loop-known.at.offset = ap (λ x. x.spec) i.way.is in
-    let on : c.head_at-at.result ≡ head_of c.args.image.now (cleared (spec c.args.image.now c.loop-known.at.offset)) = rw (← s) c.head_at-at.ensures in
+    let on : c.head_at-at.result ≡ head_of c.args.image.now (cleared (spec c.args.image.now c.loop-known.at.offset)) = rw (← s, ← c.cleared.ensures) c.head_at-at.ensures in
     record {
       way = moves_on c.args.image.now c.requires.image c.args.head.now c.loop-known.at c.head_at-at.result c.requires.given i.way (search rules) on;
       final = subst (λ x. IsFinal c.args.image.now x c.args.end) (sym (ap (λ x. x.offset) on)) (final_on c.args.image.now c.requires.image c.args.head.now c.loop-known.at c.requires.given i.way (search rules) c.args.end i.final);

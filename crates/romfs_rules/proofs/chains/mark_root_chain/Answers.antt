@@ -1,4 +1,4 @@
-use Rattle.std.proofs.Common.{ap, ◌/◌, ◌*◌, refl, arith}
+use Rattle.std.proofs.Common.{ap, ◌∙◌, ◌/◌, refl, arith}
 use Rattle.romfs_format.specs.Fields.{cleared}
 use Rattle.romfs_rules.proofs.MarkLists.{marks_fall}
 use Rattle.romfs_rules.proofs.RootWalk.{begun, steps, all_marked}
@@ -6,7 +6,7 @@ use Rattle.romfs_rules.proofs.chains.mark_root_chain.Goals as goal
 
 pub loop-marks-init : goal.loop-marks-init
 loop-marks-init g c = record {
-  walked = begun c.args.image.now c.requires.volume c.args.root c.word.result c.requires.root c.word.ensures c.in_ok-marks.marks c.in_ok-marks.ensures;
+  walked = rw c.cleared-at.ensures (begun c.args.image.now c.requires.volume c.args.root c.word.result c.requires.root c.word.ensures c.in_ok-marks.marks c.in_ok-marks.ensures);
   narrow = omega arith;
 }
 
@@ -20,7 +20,8 @@ pub loop-marks-preserved : goal.loop-marks-preserved
 loop-marks-preserved g c =
     let f = c.loop-marks-test.ensures.fresh refl in
     record {
-      walked = rw c.insert.ensures (steps c.args.image.now c.loop-marks.marks c.loop-marks.at c.loop-marks.invariant.walked c.requires.volume f.0 f.1 (c.word-in-loop-marks.result / 16 * 16) (ap cleared c.word-in-loop-marks.ensures));
+      walked = rw c.insert.ensures (steps c.args.image.now c.loop-marks.marks c.loop-marks.at c.loop-marks.invariant.walked c.requires.volume f.0 f.1
+          c.cleared-at-in-loop-marks.result (c.cleared-at-in-loop-marks.ensures ∙ ap cleared c.word-in-loop-marks.ensures));
       narrow = omega arith;
     }
 

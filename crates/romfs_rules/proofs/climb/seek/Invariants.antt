@@ -6,7 +6,8 @@ use Rattle.romfs_rules.proofs.climb.seek.Given as goal
 abbrev pub invariant-loop-visited : goal.invariant-loop-visited
 invariant-loop-visited l = record {
   inside : l.at < length l.next;
-  walk : (entered : List Bool) → IsClosed l.next entered → AreKept l.initial.visited entered → get_or entered l.from false ≡ false → IsWalk l.next entered l.visited l.from l.at;
+  walk : (entered : List Bool) → IsClosed l.next entered → AreKept l.initial.visited entered
+      → get_or entered l.from false ≡ false → IsWalk l.next entered l.visited l.from l.at;
 }
 
 abbrev pub decreases-loop-visited : goal.decreases-loop-visited

@@ -42,9 +42,9 @@ loop-walks-preserved g c =
     let inside = hard.0.1 in
     let l : c.loop-walks.at / 16 < length c.loop-walks.walks.by_slot = omega arith in
     record {
-      target = rw c.word.ensures (next_target c.args.image.now c.loop-walks.at c.loop-walks.invariant.target hard);
+      target = rw (c.cleared-at.ensures, c.word.ensures) (next_target c.args.image.now c.loop-walks.at c.loop-walks.invariant.target hard);
       same = c.put.ensures.same ∙ c.loop-walks.invariant.same;
-      going = rw (c.put.ensures.put, c.word.ensures) (passes c.args.image.now c.args.ends.now c.args.from c.loop-walks.at c.loop-walks.walks.by_slot c.loop-walks.invariant.going hard (sym c.at-walk.ensures ∙ c.if-walk-ne0.false) s);
+      going = rw (c.put.ensures.put, c.cleared-at.ensures, c.word.ensures) (passes c.args.image.now c.args.ends.now c.args.from c.loop-walks.at c.loop-walks.walks.by_slot c.loop-walks.invariant.going hard (sym c.at-walk.ensures ∙ c.if-walk-ne0.false) s);
       passing = rw c.put.ensures.put (passing_on c.args.from c.loop-walks.at _ (length c.args.ends.now) c.args.walks.now.by_slot c.loop-walks.walks.by_slot c.loop-walks.invariant.passing l);
     }
 

@@ -1,8 +1,9 @@
-use Rattle.std.proofs.Common.{ap, refl}
+use Rattle.std.proofs.Common.{ap, ◌∙◌, refl}
 use Rattle.romfs_format.specs.Fields.{cleared}
 use Rattle.romfs_rules.proofs.SameNaming.{next_number}
 use Rattle.romfs_rules.proofs.same_names.next_number.Goals as goal
 
 pub returns-then-is_inside : goal.returns-then-is_inside
 returns-then-is_inside g c =
-    rw c.number.ensures (next_number c.args.image.now c.args.heads.now c.args.numbers.now c.args.at (cleared c.word.result) c.requires.numbered c.requires.at (ap cleared c.word.ensures) c.if-after-ne0.true (c.if-is_inside.ensures.0 refl))
+    rw c.number.ensures (next_number c.args.image.now c.args.heads.now c.args.numbers.now c.args.at c.cleared-after.result c.requires.numbered c.requires.at
+    (c.cleared-after.ensures ∙ ap cleared c.word.ensures) c.if-after-ne0.true (c.if-is_inside.ensures.0 refl))

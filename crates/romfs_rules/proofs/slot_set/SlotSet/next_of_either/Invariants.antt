@@ -6,7 +6,9 @@ use Rattle.romfs_rules.proofs.slot_set.SlotSet.next_of_either.Given as goal
 abbrev pub invariant-loop-slot : goal.invariant-loop-slot
 invariant-loop-slot g l = record {
   low : l.initial.slot ≤ l.slot;
-  clear : (k : ℕ) → l.initial.slot ≤ k → k < l.slot → is_bit (joined (length l.self-inside.words.items) l.self-inside.words.items l.other-inside.words.items) k ≡ false;
+  clear : (k : ℕ) → l.initial.slot ≤ k → k < l.slot
+      → is_bit (joined (length l.self-inside.words.items) l.self-inside.words.items l.other-inside.words.items) k
+      ≡ false;
 }
 
 abbrev pub decreases-loop-slot : goal.decreases-loop-slot

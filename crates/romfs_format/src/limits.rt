@@ -1,0 +1,19 @@
+//! The limits and sizes of an image, each under the one name that code and definitions use.
+
+/// The size of a header without its name, of the volume as of a file, in bytes.
+pub const HEAD_SIZE: usize = 16;
+
+/// The bytes among which a name ends, with its zero byte.
+pub const NAME_FIELD_SIZE: usize = 256;
+
+/// The bytes that the checksum of the volume goes over: so many, or all where there are fewer.
+pub const SUMMED_SIZE: usize = 512;
+
+/// The most bytes of the target of a symbolic link (`PATH_MAX` of linux/limits.h, without a zero byte).
+pub const MAX_TARGET_SIZE: u32 = 4_095;
+
+/// The greatest major number of a device (Linux keeps 12 bits of it).
+pub const MAX_MAJOR: u32 = 4_095;
+
+/// The most names of a path.
+pub const MAX_NAMES: u16 = 512;
