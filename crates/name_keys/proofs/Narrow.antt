@@ -36,8 +36,11 @@ module _ (shared : ℕ) (keys : List ℕ) (names : List (List ℕ)) (is : AreKey
         let front = take shared (first_of names) in
         let x = slice_index_or names i [] in
         let y = slice_index_or names j [] in
-        let c : slice_cmp nat_cmp (front ++ drop shared x) (front ++ drop shared y) ≡ Less = rw (← split i [] (omega arith), ← split j [] (omega arith)) (is.rise i j [] q (omega arith)) in
-        rw (key_at i [] e (omega arith), key_at j [] e (omega arith)) (key_order 8 (drop shared x) (drop shared y) (rest_bytes i [] (omega arith)) (sym (cmp-front front (drop shared x) (drop shared y)) ∙ c))
+        let c : slice_cmp nat_cmp (front ++ drop shared x) (front ++ drop shared y) ≡ Less = rw
+        (← split i [] (omega arith), ← split j [] (omega arith)) (is.rise i j [] q (omega arith)) in
+        rw (key_at i [] e (omega arith), key_at j [] e (omega arith))
+        (key_order 8 (drop shared x) (drop shared y) (rest_bytes i [] (omega arith))
+        (sym (cmp-front front (drop shared x) (drop shared y)) ∙ c))
     | inr (inr q) ↦ absurd (omega arith)
   ]
 
@@ -69,4 +72,5 @@ module _ (shared : ℕ) (keys : List ℕ) (names : List (List ℕ)) (is : AreKey
   known_at name t high low made b one run =
       let n = length-keys in
       let within = run.within_high in
-      known shared (slice_index_or names low []) name (is.bytes low [] (omega arith)) b (sym (key_at low [] 0 (omega arith)) ∙ run.same low 0 (omega arith) (omega arith) ∙ made)
+      known shared (slice_index_or names low []) name (is.bytes low [] (omega arith)) b
+      (sym (key_at low [] 0 (omega arith)) ∙ run.same low 0 (omega arith) (omega arith) ∙ made)

@@ -16,7 +16,8 @@ run_of-low-requires g c = keys_rise c.args.shared c.args.keys.now (map g.T.Named
 
 pub find_by_name-requires-clause-narrows : goal.find_by_name-requires-clause-narrows
 find_by_name-requires-clause-narrows g c =
-    narrows c.args.shared c.args.keys.now (map g.T.Named.name c.args.rows.now) c.requires c.args.name.now _ _ _ (c.key_of-key.ensures ∙ ap (key 8) (take_rest c.args.name.now c.args.shared)) c.run_of-low.ensures
+    narrows c.args.shared c.args.keys.now (map g.T.Named.name c.args.rows.now) c.requires c.args.name.now _ _
+    _ (c.key_of-key.ensures ∙ ap (key 8) (take_rest c.args.name.now c.args.shared)) c.run_of-low.ensures
 
 pub is_name-requires-clause-alike : goal.is_name-requires-clause-alike
 is_name-requires-clause-alike g c =
@@ -26,8 +27,10 @@ is_name-requires-clause-alike g c =
     let m = length-map rows g.T.Named.name in
     let n = length-keys c.args.shared c.args.keys.now names c.requires in
     let w = c.run_of-low.ensures.within_high in
-    let its : slice_index_or names low [] ≡ c.name.result.now = get_or-map g.T.Named.name rows low _ [] (omega arith) ∙ ap g.T.Named.name (sym c.index-rows-low.is) ∙ sym c.name.ensures in
-    let first : slice_index_or names 0 [] ≡ c.name-2.result.now = get_or-map g.T.Named.name rows 0 _ [] (omega arith) ∙ ap g.T.Named.name (sym c.index-rows-0.is) ∙ sym c.name-2.ensures in
+    let its : slice_index_or names low [] ≡ c.name.result.now = get_or-map g.T.Named.name rows low _ []
+    (omega arith) ∙ ap g.T.Named.name (sym c.index-rows-low.is) ∙ sym c.name.ensures in
+    let first : slice_index_or names 0 [] ≡ c.name-2.result.now = get_or-map g.T.Named.name rows 0 _ []
+    (omega arith) ∙ ap g.T.Named.name (sym c.index-rows-0.is) ∙ sym c.name-2.ensures in
     ap (take c.args.shared) (sym its) ∙ first_alike c.args.shared c.args.keys.now names c.requires low [] (omega arith) ∙ ap (take c.args.shared) first
 
 pub is_name-requires-clause-known : goal.is_name-requires-clause-known
@@ -38,8 +41,11 @@ is_name-requires-clause-known g c =
     let m = length-map rows g.T.Named.name in
     let n = length-keys c.args.shared c.args.keys.now names c.requires in
     let w = c.run_of-low.ensures.within_high in
-    let its : slice_index_or names low [] ≡ c.name.result.now = get_or-map g.T.Named.name rows low _ [] (omega arith) ∙ ap g.T.Named.name (sym c.index-rows-low.is) ∙ sym c.name.ensures in
-    rw (← its) (known_at c.args.shared c.args.keys.now names c.requires c.args.name.now _ _ low (c.key_of-key.ensures ∙ ap (key 8) (take_rest c.args.name.now c.args.shared)) (λ k. let h = c.type_inv.name k in omega arith) (omega arith) c.run_of-low.ensures)
+    let its : slice_index_or names low [] ≡ c.name.result.now = get_or-map g.T.Named.name rows low _ []
+    (omega arith) ∙ ap g.T.Named.name (sym c.index-rows-low.is) ∙ sym c.name.ensures in
+    rw (← its) (known_at c.args.shared c.args.keys.now names c.requires c.args.name.now _ _ low
+    (c.key_of-key.ensures ∙ ap (key 8) (take_rest c.args.name.now c.args.shared))
+    (λ k. let h = c.type_inv.name k in omega arith) (omega arith) c.run_of-low.ensures)
 
 pub returns-then-is_name : goal.returns-then-is_name
 returns-then-is_name g c =
@@ -49,7 +55,8 @@ returns-then-is_name g c =
     let m = length-map rows g.T.Named.name in
     let n = length-keys c.args.shared c.args.keys.now names c.requires in
     let w = c.run_of-low.ensures.within_high in
-    let its : slice_index_or names low [] ≡ c.name.result.now = get_or-map g.T.Named.name rows low _ [] (omega arith) ∙ ap g.T.Named.name (sym c.index-rows-low.is) ∙ sym c.name.ensures in
+    let its : slice_index_or names low [] ≡ c.name.result.now = get_or-map g.T.Named.name rows low _ []
+    (omega arith) ∙ ap g.T.Named.name (sym c.index-rows-low.is) ∙ sym c.name.ensures in
     here names c.args.name.now low c.requires.rise (omega arith) (its ∙ c.is_name.ensures.0 c.if-is_name.true)
 
 pub returns-else-is_name : goal.returns-else-is_name
@@ -60,6 +67,10 @@ returns-else-is_name g c =
     let m = length-map rows g.T.Named.name in
     let n = length-keys c.args.shared c.args.keys.now names c.requires in
     let w = c.run_of-low.ensures.within_high in
-    let its : slice_index_or names low [] ≡ c.name.result.now = get_or-map g.T.Named.name rows low _ [] (omega arith) ∙ ap g.T.Named.name (sym c.index-rows-low.is) ∙ sym c.name.ensures in
-    let left = narrows c.args.shared c.args.keys.now names c.requires c.args.name.now _ _ _ (c.key_of-key.ensures ∙ ap (key 8) (take_rest c.args.name.now c.args.shared)) c.run_of-low.ensures in
-    nowhere names c.args.name.now (not_this names c.args.name.now low c.run_of-low.result.1 left c.if-low-high.false (λ e. let t = c.is_name.ensures.1 (sym its ∙ e) in let f = c.if-is_name.false in cc))
+    let its : slice_index_or names low [] ≡ c.name.result.now = get_or-map g.T.Named.name rows low _ []
+    (omega arith) ∙ ap g.T.Named.name (sym c.index-rows-low.is) ∙ sym c.name.ensures in
+    let left = narrows c.args.shared c.args.keys.now names c.requires c.args.name.now _ _ _
+    (c.key_of-key.ensures ∙ ap (key 8) (take_rest c.args.name.now c.args.shared)) c.run_of-low.ensures in
+    nowhere names c.args.name.now (not_this names c.args.name.now low c.run_of-low.result.1 left
+    c.if-low-high.false (λ e. let t = c.is_name.ensures.1 (sym its ∙ e) in let f = c.if-is_name.false in
+    cc))
