@@ -34,8 +34,12 @@ pub lines_agree : LinesAgree
 lines_agree = record {
   both_say = λ words a b is_a is_b.
       let verbs_are = one_word b.verb a.verb (one_name (command_in words) _ _ is_b.rows is_a.rows is_b.command is_a.command) in
-      let rows_are = same_rows (command_in words) _ _ is_b.rows is_a.rows is_b.command is_a.command in
-      (parts_of a.verb is_a.rows, is_a.holds.says, subst (λ v. Says b (parts_of v is_a.rows)) verbs_are (subst (λ rows. Says b (parts_of b.verb rows)) rows_are is_b.holds.says));
+      let rows_are = same_rows (command_in words) _ _ is_b.rows is_a.rows is_b.command is_a.command in (
+        parts_of a.verb is_a.rows,
+        is_a.holds.says,
+        subst (λ v. Says b (parts_of v is_a.rows)) verbs_are
+            (subst (λ rows. Says b (parts_of b.verb rows)) rows_are is_b.holds.says),
+      );
 }
 
 faultless : (words : List Text) (line : Line) (fault : LineFault) → IsLineOf words line → IsLineFault words fault → fault ≡ Memory

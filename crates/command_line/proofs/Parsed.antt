@@ -69,7 +69,8 @@ pub some_images : (f : Found) (o : Option (Bor (List (Bor Text)))) → option_ma
 some_images f o are filled = some_of_text (λ s. texts s.now) o _ (are ∙ (raw_values-rows f (codes "image") ∙ filled.images)) refl
 
 pub images_are : (f : Found) (o : Option (Bor (List (Bor Text)))) (s : Bor (List (Bor Text)))
-    → option_map (λ s. texts s.now) o ≡ option_map raw_values (matched_of f (codes "image")) → o ≡ Some s → Some (texts s.now) ≡ all_of (codes "image") (rows_of f)
+    → option_map (λ s. texts s.now) o ≡ option_map raw_values (matched_of f (codes "image")) → o ≡ Some s
+    → Some (texts s.now) ≡ all_of (codes "image") (rows_of f)
 images_are f o s are is = ap (option_map (λ s. texts s.now)) (sym is) ∙ (are ∙ raw_values-rows f (codes "image"))
 
 -- one or more
@@ -157,7 +158,9 @@ numbers_are f workers batch w b =
 pub workers_fault : (f : Found) (fault : LineFault) → (fault ≡ Memory) ⊎ (¬ IfSome (first_value f (codes "workers")) (IsNumberTo most_workers))
     → (fault ≡ Memory) ⊎ (¬ IsNumbered (rows_of f))
 workers_fault f fault (inl memory) = inl memory
-workers_fault f fault (inr bad) = inr (λ numbered. bad (subst (λ o. IfSome o (IsNumberTo most_workers)) (sym (first_value-rows f (codes "workers"))) numbered.workers))
+workers_fault f fault (inr bad) = inr (λ numbered. bad
+    (subst (λ o. IfSome o (IsNumberTo most_workers)) (sym (first_value-rows f (codes "workers")))
+    numbered.workers))
 
 pub batch_fault : (f : Found) (fault : LineFault) → (fault ≡ Memory) ⊎ (¬ IfSome (first_value f (codes "batch")) (IsNumberTo most_batch))
     → (fault ≡ Memory) ⊎ (¬ IsNumbered (rows_of f))

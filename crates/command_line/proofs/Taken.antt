@@ -32,7 +32,9 @@ image_given s rows wants e = go (is_given (codes "image") rows) refl
 
 -- the rows of a command whose words are not at fault
 leaf_filled : (s : Shape) (words : List Text)
-    → ((a : Rule) (vs : List Text) (rows : List Row) → fills a ≡ true → use_fault s.args_override_self a vs rows ≡ [] → all_filled rows ≡ true → all_filled (used a vs rows) ≡ true)
+    → ((a : Rule) (vs : List Text) (rows : List Row) → fills a ≡ true
+    → use_fault s.args_override_self a vs rows ≡ [] → all_filled rows ≡ true
+    → all_filled (used a vs rows) ≡ true)
     → list_all fills s.rules ≡ true → list_all fills_default s.rules ≡ true → WantsImage s → level_fault s [] nothing_held words false [] ≡ []
     → IsFilled (rows_after s.rules [] words)
 leaf_filled s words kept fit plain wants e =
@@ -84,7 +86,8 @@ met a b c d = cond a (Some served) (cond b (Some checked) (cond c (Some listed) 
 entered_names : (p : Text × List Text) → stop_helps (Some p) ≡ false → entered_fault made (Some p) ≡ [] → is_some (entered made (Some p)) ≡ true
     → NamesCommand (entered made (Some p))
 entered_names p helps e some =
-    go (answers_to p.0 (label_of served)) (answers_to p.0 (label_of checked)) (answers_to p.0 (label_of listed)) (answers_to p.0 (codes "help", [])) no_help e some
+    go (answers_to p.0 (label_of served)) (answers_to p.0 (label_of checked))
+    (answers_to p.0 (label_of listed)) (answers_to p.0 (codes "help", [])) no_help e some
   where
     go : (a b c d : Bool) → d ≡ false → option_map_or (λ s. level_fault s [] nothing_held p.1 false []) (met a b c d) [] ≡ []
         → is_some (option_map (λ s. rows_at s p.1) (met a b c d)) ≡ true → NamesCommand (option_map (λ s. rows_at s p.1) (met a b c d))

@@ -105,7 +105,9 @@ module _ (id : Text) (how : Reading) (s : ValueSource) (v : Text) (vs : List Tex
     where
       go : (b : Bool) → bytes_eq r.id id ≡ b → all_filled (with_values id how s (v ∷ vs) rs) ≡ true
           → all_filled (cond b (more_values s (v ∷ vs) r ++ rs) (r ∷ with_values id how s (v ∷ vs) rs)) ≡ true
-      go true same rest = and_true _ _ (value_filled (record r { values = r.values ++ v ∷ vs; source = Some (stronger r.source s) }) id other same (some_more r.values v vs)) (both _ _ filled).1
+      go true same rest = and_true _ _ (value_filled
+          (record r { values = r.values ++ v ∷ vs; source = Some (stronger r.source s) }) id other same
+          (some_more r.values v vs)) (both _ _ filled).1
       go false same rest = and_true _ _ (both _ _ filled).0 rest
 
 -- ---- rules that fill each row
@@ -170,7 +172,8 @@ used_filled a vs rows fit e filled =
 
     flag : (vs : List Text) → bytes_eq a.id (codes "strict") ≡ true → is_flag_rule a ≡ true → range_kinds (least a) (most_values a) (length vs) ≡ []
         → has_row a.id rows ≡ false → all_filled (with_values a.id (reading_by a) CommandLine (values_or_missing a vs) (without a.id rows)) ≡ true
-    flag [] is fit range none = set_filled a.id (reading_by a) CommandLine a.missing rows none (rw is (both (least a == 0 && most_values a == 0) _ fit).1) filled
+    flag [] is fit range none = set_filled a.id (reading_by a) CommandLine a.missing rows none
+        (rw is (both (least a == 0 && most_values a == 0) _ fit).1) filled
     flag (v ∷ vs) is fit range none =
         let none : length (v ∷ vs) ≡ 0 = no_range (v ∷ vs) (both (least a == 0 && most_values a == 0) _ fit).0 range in
         absurd (omega arith)
@@ -198,7 +201,8 @@ used_filled a vs rows fit e filled =
         → range_kinds (least a) (most_values a) (length vs) ≡ [] → action_fault x false a (values_or_missing a vs) rows ≡ []
         → all_filled (used_as x a.id (reading_by a) (values_or_missing a vs) rows) ≡ true
     go action.Help b is fit range e = filled
-    go action.SetTrue true is fit range e = flag vs is fit range (repeats (neither (repeat_fault false a.id rows) (values_fault a (values_or_missing a vs)) e).0)
+    go action.SetTrue true is fit range e = flag vs is fit range
+        (repeats (neither (repeat_fault false a.id rows) (values_fault a (values_or_missing a vs)) e).0)
     go action.Set false is fit range e = set vs is fit range (repeats (neither (repeat_fault false a.id rows) (values_fault a (values_or_missing a vs)) e).0)
     go action.Append false is fit range e = append vs is fit range
     go _ true is fit range e = absurd (true≢false (sym fit))
@@ -240,7 +244,8 @@ found_filled id (r ∷ rest) filled = go (bytes_eq r.id id) refl (found_filled i
 
 -- the values of another row than that of `--strict`
 given_value : (id : Text) → bytes_eq id (codes "strict") ≡ false → (o : Option Row) → option_map_or (λ r. bytes_eq r.id id && is_filled r) o true ≡ true
-    → option_map_or (λ r. explicit_source r.source) o false ≡ true → (first : Text) × (rest : List Text) × (option_map (λ (r : Row). r.values) o ≡ Some (first ∷ rest))
+    → option_map_or (λ r. explicit_source r.source) o false ≡ true
+    → (first : Text) × (rest : List Text) × (option_map (λ (r : Row). r.values) o ≡ Some (first ∷ rest))
 given_value id other None passes given = absurd (true≢false (sym given))
 given_value id other (Some r) passes given = go r.values value
   where

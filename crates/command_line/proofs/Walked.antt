@@ -40,7 +40,9 @@ after_rows c waiting word h refused = plain_rows c waiting word h
 -- ---- what holds of each row before a word that is not at fault holds after it
 
 module _ (test : Row → Bool) (fits : Rule → Bool) (s : Shape)
-    (kept : (a : Rule) (vs : List Text) (rows : List Row) → fits a ≡ true → use_fault s.args_override_self a vs rows ≡ [] → list_all test rows ≡ true → list_all test (used a vs rows) ≡ true)
+    (kept : (a : Rule) (vs : List Text) (rows : List Row) → fits a ≡ true
+    → use_fault s.args_override_self a vs rows ≡ [] → list_all test rows ≡ true
+    → list_all test (used a vs rows) ≡ true)
     (fit : list_all fits s.rules ≡ true) where
   abbrev fits_if_found : Option Rule → Bool
   fits_if_found o = option_map_or fits o true
@@ -93,7 +95,8 @@ module _ (test : Row → Bool) (fits : Rule → Bool) (s : Shape)
   long_kept (Some a) v h one e before = go (takes_values a) e
     where
       go : (b : Bool)
-          → cond b (option_fault s.rules s.args_override_self a v h) (cond (is_some v) (kind.TooManyValues ∷ []) (react_fault s.rules s.args_override_self a [] h))
+          → cond b (option_fault s.rules s.args_override_self a v h)
+          (cond (is_some v) (kind.TooManyValues ∷ []) (react_fault s.rules s.args_override_self a [] h))
           ≡ []
           → list_all test (cond b (option_met s.rules a v h) (flag_met s.rules a v h)).0.rows ≡ true
       go true e = option_kept a v h one e before
@@ -106,7 +109,8 @@ module _ (test : Row → Bool) (fits : Rule → Bool) (s : Shape)
   short_kept (Some a) rest h on fault one after e before = go (takes_values a) e
     where
       go : (b : Bool)
-          → cond b (option_fault s.rules s.args_override_self a (attached_value rest) h) (or_else (react_fault s.rules s.args_override_self a [] h) (fault (reacted s.rules a [] h)))
+          → cond b (option_fault s.rules s.args_override_self a (attached_value rest) h)
+          (or_else (react_fault s.rules s.args_override_self a [] h) (fault (reacted s.rules a [] h)))
           ≡ []
           → list_all test (cond b (option_met s.rules a (attached_value rest) h) (on (reacted s.rules a [] h))).0.rows ≡ true
       go true e = option_kept a (attached_value rest) h one e before
@@ -122,14 +126,19 @@ module _ (test : Row → Bool) (fits : Rule → Bool) (s : Shape)
   flags_kept (suc k) flags skip so_far h e before = go (slice_get (chars flags) 0) skip (λ f n o g. flags_kept k f n o g) e
     where
       go : (o : Option ℕ) (skip : ℕ)
-          → ((f : Text) (n : ℕ) (so_far : Outcome) (g : Held) → flags_fault s.rules s.args_override_self k f n g ≡ [] → list_all test g.rows ≡ true → list_all test (bundle_met s.rules k f n so_far g).0.rows ≡ true)
-          → bundle_step_fault s.rules s.args_override_self o flags skip h (flags_fault s.rules s.args_override_self k) ≡ [] → list_all test (bundle_step s.rules o flags skip so_far h (bundle_met s.rules k)).0.rows ≡ true
+          → ((f : Text) (n : ℕ) (so_far : Outcome) (g : Held)
+          → flags_fault s.rules s.args_override_self k f n g ≡ [] → list_all test g.rows ≡ true
+          → list_all test (bundle_met s.rules k f n so_far g).0.rows ≡ true)
+          → bundle_step_fault s.rules s.args_override_self o flags skip h
+          (flags_fault s.rules s.args_override_self k) ≡ []
+          → list_all test (bundle_step s.rules o flags skip so_far h (bundle_met s.rules k)).0.rows ≡ true
       go None skip later e = before
       go (Some x) zero later e = short_kept (arg_by_short s.rules x) _ h _ _ (found_fits _ s.rules fit) (λ g. later _ 0 done g) e before
       go (Some x) (suc skip) later e = later _ skip so_far h e before
 
   flag_word_kept : (waiting : Waiting) (word : Text) (o : Option (Text × Option Text)) (h : Held)
-      → flag_word_fault s.rules s.args_override_self o word h ≡ [] → list_all test h.rows ≡ true → list_all test (long_or_other s.rules waiting word o h).0.rows ≡ true
+      → flag_word_fault s.rules s.args_override_self o word h ≡ [] → list_all test h.rows ≡ true
+      → list_all test (long_or_other s.rules waiting word o h).0.rows ≡ true
   flag_word_kept waiting word (Some p) h e before =
       let met = long_met s.rules (arg_by_long s.rules p.0) p.1 h in
       ap (list_all test) (after_rows s.rules waiting word met.0 met.1)
@@ -184,7 +193,8 @@ module _ (test : Row → Bool) (fits : Rule → Bool) (s : Shape)
     where
       go : (o : Option (Text × List Text))
           → cond (is_some o) [] (or_else (word_fault s names w.is_trailing w.waiting word w.held)
-          (step_fault s w.position (word_met s.rules names w.is_trailing w.waiting w.position word w.held).0 (word_met s.rules names w.is_trailing w.waiting w.position word w.held).1)) ≡ []
+          (step_fault s w.position (word_met s.rules names w.is_trailing w.waiting w.position word w.held).0
+          (word_met s.rules names w.is_trailing w.waiting w.position word w.held).1)) ≡ []
           → list_all test (walked_from s.rules names o w word).held.rows ≡ true
       go (Some p) e = before
       go None e =
@@ -269,12 +279,15 @@ module _ (s : Shape) (helps : s.disable_help_subcommand ≡ false) where
     where
       go : (o : Option (Text × List Text))
           → cond (is_some o) [] (or_else (word_fault s names w.is_trailing w.waiting word w.held)
-          (step_fault s w.position (word_met s.rules names w.is_trailing w.waiting w.position word w.held).0 (word_met s.rules names w.is_trailing w.waiting w.position word w.held).1)) ≡ []
+          (step_fault s w.position (word_met s.rules names w.is_trailing w.waiting w.position word w.held).0
+          (word_met s.rules names w.is_trailing w.waiting w.position word w.held).1)) ≡ []
           → stop_helps o ≡ false → stop_helps (walked_from s.rules names o w word).stopped ≡ false
       go (Some p) e stop = stop
       go None e stop =
           let met = word_met s.rules names w.is_trailing w.waiting w.position word w.held in
-          after_step_no_help word w met.0 met.1 (word_no_help names w.is_trailing w.waiting w.position word w.held (neither (word_fault s names w.is_trailing w.waiting word w.held) (step_fault s w.position met.0 met.1) e).0) before
+          after_step_no_help word w met.0 met.1 (word_no_help names w.is_trailing w.waiting w.position word
+          w.held (neither (word_fault s names w.is_trailing w.waiting word w.held)
+          (step_fault s w.position met.0 met.1) e).0) before
 
   -- it does not stop at `help`
   pub walk_no_help : (names : Names) (w : Walk) (words : List Text) → walk_fault s names w words ≡ [] → stop_helps w.stopped ≡ false

@@ -106,7 +106,8 @@ taken_lines = record {
   attached = reads (codes "serve --workers=5 --requests=q f") verbs.Serve (rows_in (codes "serve --workers=5 --requests=q f")) _ refl refl refl refl;
   least_numbers = reads (codes "serve --workers 1 --batch 1 f") verbs.Serve (rows_in (codes "serve --workers 1 --batch 1 f")) _ refl refl refl refl;
   most_numbers = reads (codes "serve --workers 64 --batch 256 f") verbs.Serve (rows_in (codes "serve --workers 64 --batch 256 f")) _ refl refl refl refl;
-  leading_zeros = reads (codes "serve --workers 0008 --batch 00000000000000000000256 f") verbs.Serve (rows_in (codes "serve --workers 0008 --batch 00000000000000000000256 f")) _ refl refl refl refl;
+  leading_zeros = reads (codes "serve --workers 0008 --batch 00000000000000000000256 f") verbs.Serve
+      (rows_in (codes "serve --workers 0008 --batch 00000000000000000000256 f")) _ refl refl refl refl;
   options_last = reads (codes "serve f g --balances b") verbs.Serve (rows_in (codes "serve f g --balances b")) _ refl refl refl refl;
   option_between = reads (codes "serve f --batch 7 g") verbs.Serve (rows_in (codes "serve f --batch 7 g")) _ refl refl refl refl;
   after_dashes = reads (codes "check -- --help --strict") verbs.Check (rows_in (codes "check -- --help --strict")) _ refl refl refl refl;

@@ -20,7 +20,8 @@ taken : (n x y : ℕ) → (n ≡ 0 → ⊥) → (if n == 0 then x else y) ≡ y
 taken n x y h = search rules
 
 pub goes_on : (bytes rest done : List ℕ) (old mid new : Option (List ℕ)) (before between after : Pushes) (n : ℕ) →
-    IsUnderWay bytes rest done old mid before between → n ≤ length rest → (n ≡ 0 → ⊥) → Appends mid new (take n rest) → after ≡ pushed between (length rest) (Ok n) →
+    IsUnderWay bytes rest done old mid before between → n ≤ length rest → (n ≡ 0 → ⊥)
+    → Appends mid new (take n rest) → after ≡ pushed between (length rest) (Ok n) →
     IsUnderWay bytes (take (length rest - n) (drop n rest)) (done ++ take n rest) old new before after
 goes_on bytes rest done old mid new before between after n u b z a e = record {
   split =

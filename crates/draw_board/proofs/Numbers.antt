@@ -25,7 +25,8 @@ numbers-past total a (suc n) h = numbers-out total a (range_with_len (a + 1) n) 
 numbers-range : (total a k n : ℕ) → a + k ≡ total → k ≤ n → numbers total (range_with_len a n) ≡ range_with_len a k
 numbers-range total a zero n e h = numbers-past total a n (omega arith)
 numbers-range total a (suc k) zero e h = absurd (omega arith)
-numbers-range total a (suc k) (suc n) e h = numbers-in total a (range_with_len (a + 1) n) (omega arith) ∙ ap (λ (l : List ℕ). a ∷ l) (numbers-range total (a + 1) k n (omega arith) (omega arith))
+numbers-range total a (suc k) (suc n) e h = numbers-in total a (range_with_len (a + 1) n) (omega arith)
+    ∙ ap (λ (l : List ℕ). a ∷ l) (numbers-range total (a + 1) k n (omega arith) (omega arith))
 
 pub all_numbers : (total n : ℕ) → total ≤ n → numbers total (range_with_len 0 n) ≡ range_with_len 0 total
 all_numbers total n h = numbers-range total 0 total n (omega arith) h
@@ -45,4 +46,11 @@ times-numbers total x (y ∷ ys) = cases (ltb y total) ∙ (omega (arith, times-
 pub both_numbers : (total x : ℕ) (mine others all : List ℕ) → Unites mine others all
     → times x (numbers total all) ≡ times x (numbers total mine) + times x (numbers total others)
 both_numbers total x mine others all u = let f : ℕ → ℕ = among total x in
-    omega (arith, times-numbers total x all, times-numbers total x mine, times-numbers total x others, sum_by-IsPermutation f (mine ++ others) all u.both, sum_by-append f mine others)
+    omega (
+      arith,
+      times-numbers total x all,
+      times-numbers total x mine,
+      times-numbers total x others,
+      sum_by-IsPermutation f (mine ++ others) all u.both,
+      sum_by-append f mine others,
+    )

@@ -35,11 +35,14 @@ put F x y ys before after = go (dec_le y x)
 inserted-moves : (x : ℕ) (l : List ℕ) → IsPermutation (x ∷ l) (inserted x l)
 inserted-moves x [] = IsPermutation-refl (x ∷ [])
 inserted-moves x (y ∷ ys) = put (λ l. IsPermutation (x ∷ y ∷ ys) l) x y ys (λ _. IsPermutation-refl (x ∷ y ∷ ys))
-    (λ _. IsPermutation-trans (x ∷ y ∷ ys) (y ∷ x ∷ ys) (y ∷ inserted x ys) (IsPermutation-sym (y ∷ x ∷ ys) (x ∷ y ∷ ys) (IsPermutation-middle (y ∷ []) x ys)) (IsPermutation-cons y (x ∷ ys) (inserted x ys) (inserted-moves x ys)))
+    (λ _. IsPermutation-trans (x ∷ y ∷ ys) (y ∷ x ∷ ys) (y ∷ inserted x ys)
+    (IsPermutation-sym (y ∷ x ∷ ys) (x ∷ y ∷ ys) (IsPermutation-middle (y ∷ []) x ys))
+    (IsPermutation-cons y (x ∷ ys) (inserted x ys) (inserted-moves x ys)))
 
 pub merged-moves : (l m : List ℕ) → IsPermutation (l ++ m) (merged l m)
 merged-moves [] m = IsPermutation-refl m
-merged-moves (x ∷ xs) m = IsPermutation-trans (x ∷ (xs ++ m)) (x ∷ merged xs m) (inserted x (merged xs m)) (IsPermutation-cons x (xs ++ m) (merged xs m) (merged-moves xs m)) (inserted-moves x (merged xs m))
+merged-moves (x ∷ xs) m = IsPermutation-trans (x ∷ (xs ++ m)) (x ∷ merged xs m) (inserted x (merged xs m))
+    (IsPermutation-cons x (xs ++ m) (merged xs m) (merged-moves xs m)) (inserted-moves x (merged xs m))
 
 pub times-merged : (x : ℕ) (l m : List ℕ) → times x (merged l m) ≡ times x l + times x m
 times-merged x l m = sum_by-IsPermutation (λ z. one z x) (l ++ m) (merged l m) (merged-moves l m) ∙ sum_by-append (λ z. one z x) l m
@@ -69,24 +72,33 @@ none_below a (y ∷ ys) b x r h = let p = r.0 in omega (arith, times-cons x y ys
 
 pub none_above : (a : ℕ) (l : List ℕ) (b x : ℕ) → RisesWithin a l b → b ≤ x → times x l ≡ 0
 none_above a [] b x r h = refl
-none_above a (y ∷ ys) b x r h = let p = rises-span (suc y) ys b r.1 in omega (arith, times-cons x y ys, one-other y x (λ e. omega arith), none_above (suc y) ys b x r.1 h)
+none_above a (y ∷ ys) b x r h = let p = rises-span (suc y) ys b r.1 in
+    omega (arith, times-cons x y ys, one-other y x (λ e. omega arith), none_above (suc y) ys b x r.1 h)
 
 rises-once : (a : ℕ) (l : List ℕ) (b x : ℕ) → RisesWithin a l b → times x l ≤ 1
 rises-once a [] b x r = omega arith
-rises-once a (y ∷ ys) b x r = let c = times-cons x y ys in dite (ℕ_discrete y x) (λ e. omega (arith, one-same y x e, none_below (suc y) ys b x r.1 (omega arith))) (λ n. omega (arith, one-other y x n, rises-once (suc y) ys b x r.1))
+rises-once a (y ∷ ys) b x r = let c = times-cons x y ys in
+    dite (ℕ_discrete y x) (λ e. omega (arith, one-same y x e, none_below (suc y) ys b x r.1 (omega arith)))
+    (λ n. omega (arith, one-other y x n, rises-once (suc y) ys b x r.1))
 
 rises-inserted : (x a : ℕ) (l : List ℕ) (b : ℕ) → RisesWithin a l b → a ≤ x → x < b → times x l ≡ 0 → RisesWithin a (inserted x l) b
 rises-inserted x a [] b r h g z = (h, omega arith)
 rises-inserted x a (y ∷ ys) b r h g z = let c = times-cons x y ys in put (λ l. RisesWithin a l b) x y ys (λ lt. (h, (omega arith, r.1)))
-    (λ le. let apart : y ≢ x = λ e. let o = one-same y x e in omega arith in (r.0, rises-inserted x (suc y) ys b r.1 (omega (arith, strict y x apart le)) g (omega (arith, one-other y x apart))))
+    (λ le. let apart : y ≢ x = λ e. let o = one-same y x e in omega arith in (
+      r.0,
+      rises-inserted x (suc y) ys b r.1 (omega (arith, strict y x apart le)) g
+          (omega (arith, one-other y x apart)),
+    ))
   where
     strict : (y x : ℕ) → y ≢ x → y ≤ x → y < x
     strict y x n le = dite (dec_le x y) (λ d. absurd (n (omega arith))) (λ d. lt_of_not-le d)
 
 pub rises-merged : (a : ℕ) (l m : List ℕ) (b : ℕ) → RisesWithin a l b → RisesWithin a m b → ((x : ℕ) → times x l + times x m ≤ 1) → RisesWithin a (merged l m) b
 rises-merged a [] m b r s once = s
-rises-merged a (x ∷ xs) m b r s once = let lower = r.0 in let here = once x in let c = times-cons x x xs in let o = one-same x x refl in let t = times-merged x xs m in let p = rises-span (suc x) xs b r.1 in
-    rises-inserted x a (merged xs m) b (rises-merged a xs m b (rises-down a (suc x) xs b (omega arith) r.1) s (λ y. let q = once y in let d = times-cons y x xs in omega arith)) lower (omega arith) (omega arith)
+rises-merged a (x ∷ xs) m b r s once = let lower = r.0 in let here = once x in let c = times-cons x x xs in
+    let o = one-same x x refl in let t = times-merged x xs m in let p = rises-span (suc x) xs b r.1 in
+    rises-inserted x a (merged xs m) b (rises-merged a xs m b (rises-down a (suc x) xs b (omega arith) r.1) s
+    (λ y. let q = once y in let d = times-cons y x xs in omega arith)) lower (omega arith) (omega arith)
 
 -- a rising list that fills its range
 pub rises-whole : (a : ℕ) (l : List ℕ) (b : ℕ) → RisesWithin a l b → b ≤ a + length l → l ≡ range_with_len a (length l)

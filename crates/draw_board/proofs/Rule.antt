@@ -52,7 +52,9 @@ each_after : (key : Key) (vs : List View) (n n' id : ℕ) (w : View)
     → ((j : ℕ) (v : View) → get_elem? vs j ≡ some v → FitsBoard key n v) → n ≤ n' → FitsBoard key n' w
     → (j : ℕ) (v : View) → get_elem? (set vs id w) j ≡ some v → FitsBoard key n' v
 each_after key vs n n' id w each h fits j v e = ⊎_elim (λ (t : (j ≡ id) × (w ≡ v)). subst (FitsBoard key n') t.1 fits)
-    (λ (t : (j ≢ id) × (get_elem? vs j ≡ some v)). let o = each j v t.1 in let p = o.passed in record { sound = o.sound; passed = omega arith; spent = o.spent; told = o.told }) (at_set vs id j w v e)
+    (λ (t : (j ≢ id) × (get_elem? vs j ≡ some v)). let o = each j v t.1 in let p = o.passed in
+    record { sound = o.sound; passed = omega arith; spent = o.spent; told = o.told })
+    (at_set vs id j w v e)
 
 -- a step that leaves the word at n and the seat with the view w
 moved : (key : Key) (s : Table) (r : IsSoundBoard key s) (n id : ℕ) (me : Seated) (w : View) → get_or s.words 0 0 ≤ n → FitsBoard key n w
@@ -61,19 +63,28 @@ moved : (key : Key) (s : Table) (r : IsSoundBoard key s) (n id : ℕ) (me : Seat
     → sum_by shared (set s.views id w) ≡ key.1
     → n + sum_by misses (set s.views id w) ≤ key.0 + key.1
     → IsSoundBoard key (stepped s 0 n id me.1 w keeps)
-moved key s r n id me w h fits once all_drawn all_shares bounded = let wide = r.one_word in let now : get_or (set s.words 0 n) 0 0 ≡ n = get_or-set_same s.words 0 n 0 (omega arith) in record {
-  one_word = length-set s.words 0 n ∙ wide;
-  room = r.room;
-  each = subst (λ (z : ℕ). (j : ℕ) (v : View) → get_elem? (set s.views id w) j ≡ some v → FitsBoard key z v) (sym now) (each_after key s.views (get_or s.words 0 0) n id w r.each h fits);
-  once = once;
-  all_drawn = all_drawn ∙ sym now;
-  all_shares = all_shares;
-  bounded = subst (λ (z : ℕ). z + sum_by misses (set s.views id w) ≤ key.0 + key.1) (sym now) bounded;
-}
+moved key s r n id me w h fits once all_drawn all_shares bounded = let wide = r.one_word in
+    let now : get_or (set s.words 0 n) 0 0 ≡ n = get_or-set_same s.words 0 n 0 (omega arith) in record {
+      one_word = length-set s.words 0 n ∙ wide;
+      room = r.room;
+      each = subst (λ (z : ℕ). (j : ℕ) (v : View) → get_elem? (set s.views id w) j ≡ some v → FitsBoard key z v)
+          (sym now) (each_after key s.views (get_or s.words 0 0) n id w r.each h fits);
+      once = once;
+      all_drawn = all_drawn ∙ sym now;
+      all_shares = all_shares;
+      bounded = subst (λ (z : ℕ). z + sum_by misses (set s.views id w) ≤ key.0 + key.1) (sym now) bounded;
+    }
 
 pub draws : (key : Key) (slots id : ℕ) (me : Seated) → 1 ≤ me.0.left → 1 ≤ me.0.share
     → Allows (IsSoundBoard key) slots id me 0 (λ n. (n + 1) % 2 ^ 64) (drew (step slots 0 1 0 none) me)
-draws key slots id me some_left live s r _ at small = (w, keeps, tt, subst (λ (z : ℕ). IsSoundBoard key (stepped s 0 z id me.1 w keeps)) next kept, (refl, fits.passed, sound))
+draws key slots id me some_left live s r _ at small = (
+  w,
+  keeps,
+  tt,
+  subst
+      (λ (z : ℕ). IsSoundBoard key (stepped s 0 z id me.1 w keeps)) next kept,
+  (refl, fits.passed, sound),
+)
   where
     v : View
     v = me.0
@@ -117,7 +128,9 @@ draws key slots id me some_left live s r _ at small = (w, keeps, tt, subst (λ (
     next = let before = r.bounded in let room = r.room in let low = term_le misses s.views id v at in omega arith
 
     kept : IsSoundBoard key (stepped s 0 (n + 1) id me.1 w keeps)
-    kept = moved key s r (n + 1) id me w (omega arith) (record { sound = sound; passed = omega arith; spent = λ z. absurd (omega arith); told = fits.told }) once all_drawn all_shares bounded
+    kept = moved key s r (n + 1) id me w (omega arith)
+        (record { sound = sound; passed = omega arith; spent = λ z. absurd (omega arith); told = fits.told })
+        once all_drawn all_shares bounded
 
 -- a step after which the word is the same, and the view has the same positions, misses and share
 unmoved : (key : Key) (s : Table) (r : IsSoundBoard key s) (id : ℕ) (me : Seated) (w : View)
@@ -132,18 +145,33 @@ unmoved key s r id me w at fits same left share = let v : View = me.0 in moved k
 pub announces : (key : Key) (slots id : ℕ) (me : Seated) (k : ℕ)
     → Allows (IsSoundBoard key) slots id me 0 (λ n. either (eqb n k) k n) (announced (step slots 0 k k none) me)
 announces key slots id me k s r _ at small = let fits = r.each id me.0 at in let n : ℕ = get_or s.words 0 0 in let w : View = record me.0 { asked = k } in
-    let kept = unmoved key s r id me w at (record { sound = record { rises = fits.sound.rises; within_share = fits.sound.within_share; missed = fits.sound.missed }; passed = fits.passed; spent = fits.spent; told = fits.told }) refl refl refl in
-    (w, keeps, tt, exchanged n k k (λ z. IsSoundBoard key (stepped s 0 z id me.1 w keeps)) (λ e. subst (λ (z : ℕ). IsSoundBoard key (stepped s 0 z id me.1 w keeps)) e kept) (λ _. kept), refl)
+    let kept = unmoved key s r id me w at (record {
+      sound = record
+          { rises = fits.sound.rises; within_share = fits.sound.within_share; missed = fits.sound.missed };
+      passed = fits.passed;
+      spent = fits.spent;
+      told = fits.told;
+    }) refl refl refl in (
+      w,
+      keeps,
+      tt,
+      exchanged n k k (λ z. IsSoundBoard key (stepped s 0 z id me.1 w keeps))
+          (λ e. subst (λ (z : ℕ). IsSoundBoard key (stepped s 0 z id me.1 w keeps)) e kept) (λ _. kept),
+      refl,
+    )
 
 pub looks : (key : Key) (slots id : ℕ) (me : Seated) → 1 ≤ me.0.share → Allows (IsSoundBoard key) slots id me 0 (λ n. n) (looked (step slots 0 0 0 none) me)
-looks key slots id me live s r _ at small = let fits = r.each id me.0 at in let told = fits.told live in let le = term_le shared s.views id me.0 at in let shares = r.all_shares in let of = told.1 in
+looks key slots id me live s r _ at small = let fits = r.each id me.0 at in let told = fits.told live in
+    let le = term_le shared s.views id me.0 at in let shares = r.all_shares in let of = told.1 in
     (me.0, keeps, tt, unmoved key s r id me me.0 at fits refl refl refl, (refl, fits.sound, omega arith))
 
 pub splits : (key : Key) (id : ℕ) (v : View) → 1 ≤ v.asked → v.asked < v.left → Splits (IsSoundBoard key) id v (giver_view v) (given_view v)
 splits key id v some_asked fewer s r at = record {
   one_word = r.one_word;
   room = r.room;
-  each = λ j u e. ⊎_elim (λ (t : get_elem? (set s.views id a) j ≡ some u). each_after key s.views n n id a r.each (omega arith) giver_fits j u t) (λ (t : b ≡ u). subst (FitsBoard key n) t given_fits) (at_snoc (set s.views id a) b u j e);
+  each = λ j u e. ⊎_elim (λ (t : get_elem? (set s.views id a) j ≡ some u). each_after key s.views n n id a
+      r.each (omega arith) giver_fits j u t) (λ (t : b ≡ u). subst (FitsBoard key n) t given_fits)
+      (at_snoc (set s.views id a) b u j e);
   once = λ x. let sum = sums (held x) in let before = r.once x in omega arith;
   all_drawn = let sum = sums drawn in let before = r.all_drawn in omega arith;
   all_shares = let sum = sums shared in let fits = own.sound.within_share in let before = r.all_shares in omega arith;
@@ -213,15 +241,21 @@ joins key id v other w live live' s r at apart at' = record {
 
     -- the two have no position in common
     once : (x : ℕ) → times x v.positions + times x w.positions ≤ 1
-    once x = let a = sum_by-set (held x) s.views id v spent_view at in let b = term_le (held x) (set s.views id spent_view) other w (set_else s.views id other spent_view apart ∙ there) in let before = r.once x in omega arith
+    once x = let a = sum_by-set (held x) s.views id v spent_view at in
+        let b = term_le (held x) (set s.views id spent_view) other w
+        (set_else s.views id other spent_view apart ∙ there) in let before = r.once x in omega arith
 
     joined_fits : FitsBoard key n u
-    joined_fits = let p = own.passed in let p' = own'.passed in let f = own.sound.within_share in let f' = own'.sound.within_share in let miss = own.sound.missed in let miss' = own'.sound.missed in
+    joined_fits = let p = own.passed in let p' = own'.passed in let f = own.sound.within_share in
+        let f' = own'.sound.within_share in let miss = own.sound.missed in let miss' = own'.sound.missed in
         let total : v.total ≡ w.total = (own.told live).0 ∙ sym (own'.told live').0 in record {
           sound = record {
-            rises = rises-merged 0 v.positions w.positions (max v.seen w.seen) (rises-up 0 v.positions v.seen (max v.seen w.seen) own.sound.rises (omega arith)) (rises-up 0 w.positions w.seen (max v.seen w.seen) own'.sound.rises (omega arith)) once;
+            rises = rises-merged 0 v.positions w.positions (max v.seen w.seen)
+                (rises-up 0 v.positions v.seen (max v.seen w.seen) own.sound.rises (omega arith))
+                (rises-up 0 w.positions w.seen (max v.seen w.seen) own'.sound.rises (omega arith)) once;
             within_share = omega arith;
-            missed = λ h. dite (dec_le v.share v.left) (λ full. let m = miss' (omega arith) in omega arith) (λ not. let m = miss (lt_of_not-le not) in omega arith);
+            missed = λ h. dite (dec_le v.share v.left) (λ full. let m = miss' (omega arith) in omega arith)
+                (λ not. let m = miss (lt_of_not-le not) in omega arith);
           };
           passed = omega arith;
           spent = λ z. absurd (omega arith);
@@ -229,7 +263,17 @@ joins key id v other w live live' s r at apart at' = record {
         }
 
     spent_fits : FitsBoard key n spent_view
-    spent_fits = record { sound = record { rises = omega arith; within_share = omega arith; missed = λ h. absurd (omega arith) }; passed = omega arith; spent = λ _. refl; told = λ h. absurd (omega arith) }
+    spent_fits = record {
+      sound = record {
+        rises = omega arith;
+        within_share = omega arith;
+        missed = λ h.
+            absurd (omega arith);
+      };
+      passed = omega arith;
+      spent = λ _. refl;
+      told = λ h. absurd (omega arith);
+    }
 
 first_word : (l : List ℕ) (a : ℕ) → get_elem? l 0 ≡ some a → get_or l 0 0 ≡ a
 first_word [] a e = absurd (some-ne-none a (sym e))
@@ -239,7 +283,9 @@ first_word (x ∷ xs) a e = some-injective x a e
 pub closes : (key : Key) (id : ℕ) (v : View) (ws : List ℕ) (xs : List (Unit {0})) (n : ℕ) → v.share ≡ key.1
     → Final (Seen (IsSoundBoard key) id v) ws xs → get_elem? ws 0 ≡ some n
     → (v.positions ≡ range_with_len 0 n) × (v.seen ≤ n)
-closes key id v ws xs n all last found = let s = last.0 in let r = last.1.0 in let at = last.1.1 in let own = r.each id v at in let shares = r.all_shares in let counts = r.all_drawn in let passed = own.passed in
+closes key id v ws xs n all last found = let s = last.0 in let r = last.1.0 in let at = last.1.1 in
+    let own = r.each id v at in let shares = r.all_shares in let counts = r.all_drawn in
+    let passed = own.passed in
     let word : get_or s.words 0 0 ≡ n = ap (λ (l : List ℕ). get_or l 0 0) last.2 ∙ first_word ws n found in
     let only = all_here drawn shared s.views id v at (omega arith) (λ j u e z. ap length ((r.each j u e).spent z)) in
     let many : length v.positions ≡ n = omega arith in

@@ -28,7 +28,13 @@ module _ {A : Type 0} where
     -- where g adds up to 0, and f is 0 where g is
     none_left : (l : List A) → sum_by g l ≡ 0 → ((i : ℕ) (v : A) → get_elem? l i ≡ some v → g v ≡ 0 → f v ≡ 0) → sum_by f l ≡ 0
     none_left [] z h = refl
-    none_left (x ∷ xs) z h = let s = sum_by-cons g x xs in omega (arith, h 0 x refl (omega arith), none_left xs (omega arith) (λ i v e. h (suc i) v e), sum_by-cons f x xs)
+    none_left (x ∷ xs) z h = let s = sum_by-cons g x xs in
+        omega (
+          arith,
+          h 0 x refl (omega arith),
+          none_left xs (omega arith) (λ i v e. h (suc i) v e),
+          sum_by-cons f x xs,
+        )
 
     -- where all of g is at one place, and f is 0 where g is, all of f is there
     pub all_here : (l : List A) (i : ℕ) (v : A) → get_elem? l i ≡ some v → sum_by g l ≡ g v

@@ -46,7 +46,8 @@ at_index all i = get_or all i nothing
 next : (all : List Named) (i : ℕ) → i < length all → drop i all ≡ at_index all i ∷ drop (i + 1) all
 next all i l = rw add-one (drop-cons all i nothing l)
 
-module _ (a : List ℕ) (layer : ℕ) (all : List Named) (i : ℕ) (es : List (Shoot Entry)) (ks : List (Shoot Mark)) (l : i < length all) (w : Building a layer all (drop i all) es ks) where
+module _ (a : List ℕ) (layer : ℕ) (all : List Named) (i : ℕ) (es : List (Shoot Entry))
+    (ks : List (Shoot Mark)) (l : i < length all) (w : Building a layer all (drop i all) es ks) where
   pub build_hidden : IsMarker (at_index all i).name.now → Building a layer all (drop (i + 1) all) es ks
   build_hidden h = record { more = λ es' ks' b. w.more es' ks' (rw (next all i l) (hidden (at_index all i) (drop (i + 1) all) es' ks' h b)) }
 
@@ -54,7 +55,11 @@ module _ (a : List ℕ) (layer : ℕ) (all : List Named) (i : ℕ) (es : List (S
       → ¬ IsMarker (at_index all i).name.now
       → AreBranchesOf a layer (at_index all i).head.offset (at_index all i).name.now e k → es' ≡ es ++ e ∷ []
       → ks' ≡ ks ++ k ∷ [] → Building a layer all (drop (i + 1) all) es' ks'
-  build_one e k es' ks' n b p q = record { more = λ es'' ks'' c. rw (p, q) (simp append_assoc (w.more (e ∷ es'') (k ∷ ks'') (rw (next all i l) (built (at_index all i) (drop (i + 1) all) e es'' k ks'' n b c)))) }
+  build_one e k es' ks' n b p q = record {
+    more = λ es'' ks'' c. rw (p, q)
+        (simp append_assoc (w.more (e ∷ es'') (k ∷ ks'')
+        (rw (next all i l) (built (at_index all i) (drop (i + 1) all) e es'' k ks'' n b c))));
+  }
 
 pub building_ended : (a : List ℕ) (layer : ℕ) (all : List Named) (i : ℕ) (es : List (Shoot Entry)) (ks : List (Shoot Mark))
     → length all ≤ i → Building a layer all (drop i all) es ks → AreBuilt a layer all es ks
@@ -66,8 +71,17 @@ module _ (all : List Named) (i : ℕ) (ks : List (Shoot Mark)) (l : i < length a
   pub white_none : ¬ IsMarker (at_index all i).name.now → Whitening all (drop (i + 1) all) ks
   white_none h = record { more = λ ks' b. w.more ks' (rw (next all i l) (other (at_index all i) (drop (i + 1) all) ks' h b)) }
 
-  pub white_one : (n : List ℕ) (k : Shoot Mark) (ks' : List (Shoot Mark)) → (at_index all i).name.now ≡ marker ++ n → k ≡ record { name = n; value = record { cut = true; opaque = false }; below = [] } → ks' ≡ ks ++ k ∷ [] → Whitening all (drop (i + 1) all) ks'
-  white_one n k ks' e f q = record { more = λ ks'' c. rw q (simp append_assoc (w.more (k ∷ ks'') (rw (next all i l) (white (at_index all i) (drop (i + 1) all) k ks'' (e ∙ ap (λ (x : Shoot Mark). marker ++ x.name) (sym f)) (ap (λ (x : Shoot Mark). x.value.cut) f) (ap (λ (x : Shoot Mark). x.below) f) c)))) }
+  pub white_one : (n : List ℕ) (k : Shoot Mark) (ks' : List (Shoot Mark))
+      → (at_index all i).name.now ≡ marker ++ n → k ≡ record
+      { name = n; value = record { cut = true; opaque = false }; below = [] } → ks' ≡ ks ++ k ∷ []
+      → Whitening all (drop (i + 1) all) ks'
+  white_one n k ks' e f q = record {
+    more = λ ks'' c. rw q
+        (simp append_assoc (w.more (k ∷ ks'') (rw (next all i l)
+        (white (at_index all i) (drop (i + 1) all) k ks''
+        (e ∙ ap (λ (x : Shoot Mark). marker ++ x.name) (sym f)) (ap (λ (x : Shoot Mark). x.value.cut) f)
+        (ap (λ (x : Shoot Mark). x.below) f) c))));
+  }
 
 pub whitening_ended : (all : List Named) (i : ℕ) (ks : List (Shoot Mark)) → length all ≤ i → Whitening all (drop i all) ks → AreWhiteouts all ks
 whitening_ended all i ks l w = subst (AreWhiteouts all) (append-nil ks) (w.more [] (rw (drop_all i all l) none_white))
@@ -114,8 +128,11 @@ forests a layer none_built r = (record { names = tt; each = tt }, record { names
 forests a layer (hidden m ms es ks h b) r = forests a layer b r.1
 forests a layer (built m ms e es k ks n w b) r =
     let f = forests a layer b r.1 in
-    let t = before_built a layer b m r.0 in
-    (record { names = (rw w.entry_name t.0, f.0.names); each = (w.entries.rising, f.0.each) }, record { names = (rw w.mark_name t.1, f.1.names); each = (w.marks.rising, f.1.each) })
+    let t = before_built a layer b m r.0 in (
+      record { names = (rw w.entry_name t.0, f.0.names); each = (w.entries.rising, f.0.each) },
+      record
+          { names = (rw w.mark_name t.1, f.1.names); each = (w.marks.rising, f.1.each) },
+    )
 
 marked_before : (x y : List ℕ) → name_cmp (marker ++ x) (marker ++ y) ≡ name_cmp x y
 marked_before x y = refl
@@ -125,8 +142,12 @@ before_white : {ms : List Named} {ks : List (Shoot Mark)} → AreWhiteouts ms ks
     → AllByRecursion (λ t. name_cmp n t.name ≡ Less) ks
 before_white none_white m n e r = tt
 before_white (other x ms ks h b) m n e r = before_white b m n e r.1
-before_white (white x ms k ks f c d b) m n e r =
-    (let p : name_cmp (marker ++ n) (marker ++ k.name) ≡ Less = subst (λ y. name_cmp y (marker ++ k.name) ≡ Less) e (subst (λ y. name_cmp m.name.now y ≡ Less) f r.0) in p, before_white b m n e r.1)
+before_white (white x ms k ks f c d b) m n e r = (
+  let p : name_cmp (marker ++ n) (marker ++ k.name) ≡ Less = subst
+      (λ y. name_cmp y (marker ++ k.name) ≡ Less) e (subst (λ y. name_cmp m.name.now y ≡ Less) f r.0) in
+      p,
+  before_white b m n e r.1,
+)
 
 leaf_rises : {T : Type 0} (s : Shoot T) → s.below ≡ [] → IsRising s
 leaf_rises s e = record { rises = rw e (tt, tt) }
@@ -167,7 +188,8 @@ find_built a layer d n (built m ms e es k ks h w b) p = more (find_built a layer
           let f : named n (e ∷ es) ≡ Some e = rw (w.entry_name, x.1) refl in
           let g : named n (k ∷ ks) ≡ Some k = rw (w.mark_name, x.1) refl in
           somewhere m e k f g x.0 (subst (λ y. ¬ IsMarker y) x.0 h) p.0 (subst (λ y. AreBranchesOf a layer m.head.offset y e k) x.0 w))
-      | inr x ↦ later x.0 (let f : named n (e ∷ es) ≡ named n es = rw (w.entry_name, x.1) refl in f) (let g : named n (k ∷ ks) ≡ named n ks = rw (w.mark_name, x.1) refl in g) found
+      | inr x ↦ later x.0 (let f : named n (e ∷ es) ≡ named n es = rw (w.entry_name, x.1) refl in f)
+          (let g : named n (k ∷ ks) ≡ named n ks = rw (w.mark_name, x.1) refl in g) found
     ]
       where
         later : m.name.now ≢ n → named n (e ∷ es) ≡ named n es → named n (k ∷ ks) ≡ named n ks

@@ -61,7 +61,8 @@ module _ {X : Type 0} (v : X → List ℕ) where
 
 -- names that differ do so in any order
 moved : (xs ys : List (List ℕ)) → IsPermutation xs ys → AllPairs (λ x y. x ≢ y) xs → AllPairs (λ x y. x ≢ y) ys
-moved xs ys m p = AllPairs-from_IsDistinct bytes_eq-Decides ys (IsDistinct-IsPermutation bytes_eq flips xs ys m (IsDistinct-from_AllPairs bytes_eq-Decides xs p))
+moved xs ys m p = AllPairs-from_IsDistinct bytes_eq-Decides ys
+    (IsDistinct-IsPermutation bytes_eq flips xs ys m (IsDistinct-from_AllPairs bytes_eq-Decides xs p))
 
 less_from : (o q : Ordering) → o ≡ ordering_reverse q → is_lt q ≡ false → (is_eq o ≡ true → ⊥) → o ≡ Less
 less_from Less q e l n = refl
@@ -84,7 +85,8 @@ name_now m = m.name.now
 
 strictly : (ms : List Named) → IsByName ms → AllPairs (λ x y. name_now x ≢ name_now y) ms → AllPairs IsBefore ms
 strictly ms up apart j k d l m =
-    comes_first _ _ (sorted_far (λ x y. is_lt (name_cmp (name_now x) (name_now y))) (ranks_by nat_list_cmp_total name_now) ms up j k d (omega arith) m) (apart j k d l m)
+    comes_first _ _ (sorted_far (λ x y. is_lt (name_cmp (name_now x) (name_now y)))
+    (ranks_by nat_list_cmp_total name_now) ms up j k d (omega arith) m) (apart j k d l m)
 
 all_in : {X : Type 0} (P : X → Type 0) (xs : List X) → All P xs → AllByRecursion P xs
 all_in P [] p = tt
@@ -150,7 +152,8 @@ module _ (a : List ℕ) (i : IsImage a) (d : ℕ) (o : IsOpened a d) where
       → All (λ m. name_now m ≡ name_of a m.head.offset) ms → All (IsNamedMember a d) ms
   named_member hs ms given members e names k x l =
       let n : k < length (map (λ (m : Named). m.head) ms) = rw (length-map ms (λ (m : Named). m.head)) l in
-      let at : slice_index_or hs k x.head ≡ (slice_index_or ms k x).head = ap (λ ys. slice_index_or ys k x.head) (sym e) ∙ get_or-map (λ (m : Named). m.head) ms k x x.head l in
+      let at : slice_index_or hs k x.head ≡ (slice_index_or ms k x).head = ap
+      (λ ys. slice_index_or ys k x.head) (sym e) ∙ get_or-map (λ (m : Named). m.head) ms k x x.head l in
       let q : k < length hs = subst (λ ys. k < length ys) e n in
       let m : IsMember a d (slice_index_or ms k x).head.offset = subst (λ (y : Head). IsMember a d y.offset) at (members k x.head q) in
       record {
@@ -163,7 +166,8 @@ module _ (a : List ℕ) (i : IsImage a) (d : ℕ) (o : IsOpened a d) where
       → AreNamed a hs found → IsPermutation found ms → IsByName ms → AreByName a d ms
   are_by_name hs found ms given r n s up =
       let each : All (IsNamedMember a d) found = named_member hs found given r.members n.heads n.names in
-      let differ : AllPairs (λ x y. x ≢ y) (map name_now found) = rw (same_names found n.names, n.heads) (to_names (λ (x : Head). name_of a x.offset) hs (members_differ hs r)) in
+      let differ : AllPairs (λ x y. x ≢ y) (map name_now found) = rw (same_names found n.names, n.heads)
+      (to_names (λ (x : Head). name_of a x.offset) hs (members_differ hs r)) in
       let apart : AllPairs (λ x y. x ≢ y) (map name_now ms) = moved (map name_now found) (map name_now ms) (IsPermutation-map name_now found ms s) differ in
       record {
         rising = rising_in ms (strictly ms up (from_names name_now ms apart));

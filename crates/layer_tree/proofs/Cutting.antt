@@ -57,7 +57,8 @@ cut_step s ss o n path e r f =
 pub record IsCutFrom (marks : Shoot Mark) (path : List (Bor (List ℕ))) (i : ℕ) (here : Shoot Mark) : Type 0 where
   pub same : cut_by (at_path (whole marks)) (map (λ n. n.now) path) ≡ cut_by (at_path (whole here)) (map (λ n. n.now) (drop i path))
 
-module _ (marks : Shoot Mark) (path : List (Bor (List ℕ))) (i : ℕ) (s : Shoot Mark) (d : Bor (List ℕ)) (l : i < length path) (w : IsCutFrom marks path i s) where
+module _ (marks : Shoot Mark) (path : List (Bor (List ℕ))) (i : ℕ) (s : Shoot Mark) (d : Bor (List ℕ))
+    (l : i < length path) (w : IsCutFrom marks path i s) where
   at_name : cut_by (at_path (whole marks)) (map (λ n. n.now) path) ≡ cut_by (at_path (whole s)) ((get_or path i d).now ∷ map (λ n. n.now) (drop (i + 1) path))
   at_name = w.same ∙ rw (add-one, drop-cons path i d l) refl
 

@@ -129,7 +129,8 @@ module _ (a : List ℕ) (i : IsImage a) where
       either_decided (named_decided d o (marker ++ n)) (either_decided (named_decided d o opaque)
       (decided_as (λ s. (s.0, s.1, s.2.0, s.2.1), λ s. (s.0, s.1, (s.2, s.3)))
       (member_decided d o (λ c. (name a c ≡ Some n) × ((kind a c ≢ Directory) ⊎ CutsFrom a c path))
-      (λ c m. both_decided (same_name (name a c) n) (either_decided (not_decided (is_directory_or_not (kind a c))) (cuts_decided path c (opened_decided d c m)))))))
+      (λ c m. both_decided (same_name (name a c) n) (either_decided
+      (not_decided (is_directory_or_not (kind a c))) (cuts_decided path c (opened_decided d c m)))))))
 
   -- whether the layer has the path
   pub has_decided : (path : Path) → IsDecided (IsIn a path)

@@ -29,23 +29,35 @@ no_member : (a : List ℕ) (i : IsImage a) (h c : ℕ) → kind a h ≢ Director
 no_member a i h c n m = n (opened_directory a i m.opened)
 
 -- an entry that is no directory, and its cut mark
-pub single : (a : List ℕ) (i : IsImage a) (layer h : ℕ) (n : List ℕ) (entry : Entry) (mark : Mark) → mark.cut ≡ true → kind a h ≢ Directory → IsEntryIn a layer h entry → AreBranchesOf a layer h n (record { name = n; value = entry; below = [] }) (record { name = n; value = mark; below = [] })
+pub single : (a : List ℕ) (i : IsImage a) (layer h : ℕ) (n : List ℕ) (entry : Entry) (mark : Mark)
+    → mark.cut ≡ true → kind a h ≢ Directory → IsEntryIn a layer h entry
+    → AreBranchesOf a layer h n (record { name = n; value = entry; below = [] })
+    (record { name = n; value = mark; below = [] })
 single a i layer h n entry mark cut other w = record {
   entry_name = refl;
   mark_name = refl;
   entries = record { rising = record { rises = (tt, tt) }; shown = shown; only = only };
-  marks = record { rising = record { rises = (tt, tt) }; exact = λ path p. ((λ t. inl other), (λ c. (all_cut (record { name = n; value = mark; below = [] }) cut).cut path)) };
+  marks = record {
+    rising = record { rises = (tt, tt) };
+    exact = λ path p.
+        ((λ t. inl other), (λ c. (all_cut (record { name = n; value = mark; below = [] }) cut).cut path));
+  };
 }
   where
-    shown : (path : Path) (g : ℕ) → IsPlain path → Leads a h path g → IsSomeAnd (at_path (whole (record { name = n; value = entry; below = [] })) path) (λ e. IsEntryIn a layer g e)
+    shown : (path : Path) (g : ℕ) → IsPlain path → Leads a h path g
+        → IsSomeAnd (at_path (whole (record { name = n; value = entry; below = [] })) path)
+        (λ e. IsEntryIn a layer g e)
     shown [] g p l = subst (λ x. IsEntryIn a layer x entry) l w
     shown (m ∷ path) g p l = absurd (no_member a i h l.0 other l.1)
 
-    only : (path : Path) (e : Entry) → at_path (whole (record { name = n; value = entry; below = [] })) path ≡ Some e → IsPlain path × ((g : ℕ) × Leads a h path g × IsEntryIn a layer g e)
+    only : (path : Path) (e : Entry) → at_path (whole (record { name = n; value = entry; below = [] })) path
+        ≡ Some e → IsPlain path × ((g : ℕ) × Leads a h path g × IsEntryIn a layer g e)
     only [] e f = (let s : entry ≡ e = cc in (tt, (h, refl, subst (IsEntryIn a layer h) s w)))
     only (m ∷ path) e f = absurd (cc)
 
-module _ (a : List ℕ) (i : IsImage a) (layer h : ℕ) (ms : List Named) (es : List (Shoot Entry)) (mm ws out : List (Shoot Mark)) (members : AreByName a h ms) (b : AreBuilt a layer ms es mm) (wh : AreWhiteouts ms ws) (laid : AreLaid united mm ws out) where
+module _ (a : List ℕ) (i : IsImage a) (layer h : ℕ) (ms : List Named) (es : List (Shoot Entry))
+    (mm ws out : List (Shoot Mark)) (members : AreByName a h ms) (b : AreBuilt a layer ms es mm)
+    (wh : AreWhiteouts ms ws) (laid : AreLaid united mm ws out) where
   -- the member of a name is among the sorted ones
   member_at : (n : List ℕ) (c : ℕ) → IsMember a h c → name a c ≡ Some n
       → (j : ℕ) × (m : Named) × (slice_get ms j ≡ Some m) × (m.head.offset ≡ c) × (m.name.now ≡ n)
@@ -92,11 +104,15 @@ module _ (a : List ℕ) (i : IsImage a) (layer h : ℕ) (ms : List Named) (es : 
   pub entries_of : (n : List ℕ) (entry : Entry) → IsEntryIn a layer h entry → IsBranchOf a layer h (record { name = n; value = entry; below = spread es })
   entries_of n entry w = record { rising = branch_rises n entry es entries_forest; shown = shown; only = only }
     where
-      shown : (path : Path) (g : ℕ) → IsPlain path → Leads a h path g → IsSomeAnd (at_path (whole (record { name = n; value = entry; below = spread es })) path) (λ e. IsEntryIn a layer g e)
+      shown : (path : Path) (g : ℕ) → IsPlain path → Leads a h path g
+          → IsSomeAnd (at_path (whole (record { name = n; value = entry; below = spread es })) path)
+          (λ e. IsEntryIn a layer g e)
       shown [] g p l = subst (λ x. IsEntryIn a layer x entry) l w
       shown (m ∷ path) g p l = rw (at_spread es entries_forest.names m path) (shown_below m path g p l (find_built a layer h m b members.each))
 
-      only : (path : Path) (e : Entry) → at_path (whole (record { name = n; value = entry; below = spread es })) path ≡ Some e → IsPlain path × ((g : ℕ) × Leads a h path g × IsEntryIn a layer g e)
+      only : (path : Path) (e : Entry) → at_path (whole
+          (record { name = n; value = entry; below = spread es })) path ≡ Some e
+          → IsPlain path × ((g : ℕ) × Leads a h path g × IsEntryIn a layer g e)
       only [] e f = (let s : entry ≡ e = cc in (tt, (h, refl, subst (IsEntryIn a layer h) s w)))
       only (m ∷ path) e f = only_below m path e (sym (at_spread es entries_forest.names m path) ∙ f) (find_built a layer h m b members.each)
 
@@ -138,7 +154,9 @@ module _ (a : List ℕ) (i : IsImage a) (layer h : ℕ) (ms : List Named) (es : 
         → (whole_cut || (cut_through (named n mm) path || cut_through (named n ws) path)) ≡ true
     from_cuts n path p (inl x) = or_later whole_cut _ (or_later (cut_through (named n mm) path) _ ((white_is n path (find_white n wh)).1 x))
     from_cuts n path p (inr (inl x)) = or_left whole_cut _ (is_whole.1 x)
-    from_cuts n path p (inr (inr x)) = or_later whole_cut _ (or_left (cut_through (named n mm) path) _ ((below_is n path p (find_built a layer h n b members.each)).1 x))
+    from_cuts n path p (inr (inr x)) = or_later whole_cut _
+        (or_left (cut_through (named n mm) path) _ ((below_is n path p
+        (find_built a layer h n b members.each)).1 x))
 
     to_cuts : (n : List ℕ) (path : Path) → IsPlain (n ∷ path)
         → (whole_cut || (cut_through (named n mm) path || cut_through (named n ws) path)) ≡ true
@@ -158,7 +176,12 @@ module _ (a : List ℕ) (i : IsImage a) (layer h : ℕ) (ms : List Named) (es : 
     pub marks_of : (n : List ℕ) → IsMarkOf a h (record { name = n; value = record { cut = false; opaque = whole_cut }; below = spread out })
     marks_of n = record { rising = branch_rises n (record { cut = false; opaque = whole_cut }) out laid.forest; exact = exact }
       where
-        exact : (path : Path) → IsPlain path → IsTrue (cut_by (at_path (whole (record { name = n; value = record { cut = false; opaque = whole_cut }; below = spread out }))) path) ↔ CutsAt a h path
+        exact : (path : Path) → IsPlain path → IsTrue
+            (cut_by (at_path (whole (record {
+              name = n;
+              value = record { cut = false; opaque = whole_cut };
+              below = spread out;
+            }))) path) ↔ CutsAt a h path
         exact [] p = (λ t. absurd (cc), λ c. absurd (down [] c))
         exact (m ∷ path) p = (
           λ t. inr (to_cuts m path p (ap (λ x. whole_cut || x) (sym (cut_name m path)) ∙ t)),
@@ -166,7 +189,9 @@ module _ (a : List ℕ) (i : IsImage a) (layer h : ℕ) (ms : List Named) (es : 
         )
 
     -- the directory's own branches
-    pub folder : (n : List ℕ) (entry : Entry) → IsEntryIn a layer h entry → AreBranchesOf a layer h n (record { name = n; value = entry; below = spread es }) (record { name = n; value = record { cut = false; opaque = whole_cut }; below = spread out })
+    pub folder : (n : List ℕ) (entry : Entry) → IsEntryIn a layer h entry
+        → AreBranchesOf a layer h n (record { name = n; value = entry; below = spread es })
+        (record { name = n; value = record { cut = false; opaque = whole_cut }; below = spread out })
     folder n entry w = record { entry_name = refl; mark_name = refl; entries = entries_of n entry w; marks = marks_of n }
 
   -- whether a mark stands at the rest of the opaque marker's name

@@ -83,7 +83,8 @@ top_in [] path i h t f = t
 top_in (a ∷ above) path zero h t f = f.0.0 (h, t.0)
 top_in (a ∷ above) path (suc i) h t f = top_in above path i h t f.1
 
-module _ (first : ℕ) (ls hs : List (List ℕ)) (low high out : TreeRows) (l : IsTreeOf first ls low) (h : IsTreeOf (first + length ls) hs high) (lays : Lays low high out) where
+module _ (first : ℕ) (ls hs : List (List ℕ)) (low high out : TreeRows) (l : IsTreeOf first ls low)
+    (h : IsTreeOf (first + length ls) hs high) (lays : Lays low high out) where
   entry_low : (i k : ℕ) (e : Entry) → IsEntryOf first ls i k e → IsEntryOf first (ls ++ hs) i k e
   entry_low i k e w = record { layer = w.layer; end = (w.end.0, get_low ls hs i w.end.0 w.end.1, w.end.2, w.end.3) }
 
@@ -116,7 +117,9 @@ module _ (first : ℕ) (ls hs : List (List ℕ)) (low high out : TreeRows) (l : 
           → IsEntryOf (first + length ls) hs j k e
           → IsSomeAnd (entry_at out path) (λ e. IsEntryOf first (ls ++ hs) i k e)
       from_high path i j k e d f w =
-          let g : entry_at out path ≡ Some e = lays.entries path ∙ ap (laid_at upper (unless (cut_by (at_path high.marks) path) (entry_at low path))) f ∙ over (unless (cut_by (at_path high.marks) path) (entry_at low path)) e in
+          let g : entry_at out path ≡ Some e = lays.entries path
+          ∙ ap (laid_at upper (unless (cut_by (at_path high.marks) path) (entry_at low path))) f
+          ∙ over (unless (cut_by (at_path high.marks) path) (entry_at low path)) e in
           and_some (IsEntryOf first (ls ++ hs) i k) (entry_at out path) e g (entry_high i j k e d w)
 
       from_low : (path : Path) (i k : ℕ) (e : Entry) → IsPlain path → IsFree hs path
@@ -125,7 +128,9 @@ module _ (first : ℕ) (ls hs : List (List ℕ)) (low high out : TreeRows) (l : 
       from_low path i k e p free f w =
           let c = uncut path p ((free_is hs path).0 free).1 (cut_by (at_path high.marks) path) refl in
           let n = unshown path free (entry_at high path) refl in
-          let g : entry_at out path ≡ Some e = lays.entries path ∙ ap (laid_at upper (unless (cut_by (at_path high.marks) path) (entry_at low path))) n ∙ ap (λ b. unless b (entry_at low path)) c ∙ f in
+          let g : entry_at out path ≡ Some e = lays.entries path
+          ∙ ap (laid_at upper (unless (cut_by (at_path high.marks) path) (entry_at low path))) n
+          ∙ ap (λ b. unless b (entry_at low path)) c ∙ f in
           and_some (IsEntryOf first (ls ++ hs) i k) (entry_at out path) e g (entry_low i k e w)
 
   decided : (path : Path) (e : Entry) (o p : Option Entry) (b : Bool) → entry_at high path ≡ o
@@ -133,8 +138,14 @@ module _ (first : ℕ) (ls hs : List (List ℕ)) (low high out : TreeRows) (l : 
       → (i k : ℕ) × Shows (ls ++ hs) path i k × IsEntryOf first (ls ++ hs) i k e
   decided path e (Some x) p b f g c r =
       let same : x ≡ e = over (unless b p) r in
-      let w = h.only path x f in
-      (length ls + w.0, w.1, (shows_joined ls hs path (length ls + w.0) w.1).1 (inl (w.0, refl, w.2)), subst (λ y. IsEntryOf first (ls ++ hs) (length ls + w.0) w.1 y) same (entry_high (length ls + w.0) w.0 w.1 x refl w.3))
+      let w = h.only path x f in (
+        length ls + w.0,
+        w.1,
+        (shows_joined ls hs path (length ls + w.0) w.1).1 (inl (w.0, refl, w.2)),
+        subst
+            (λ y. IsEntryOf first (ls ++ hs) (length ls + w.0) w.1 y) same
+            (entry_high (length ls + w.0) w.0 w.1 x refl w.3),
+      )
     where
       over : (q : Option Entry) → laid_at upper q (Some x) ≡ Some e → x ≡ e
       over None r = cc
@@ -143,12 +154,18 @@ module _ (first : ℕ) (ls hs : List (List ℕ)) (low high out : TreeRows) (l : 
   decided path e None p false f g c r =
       let w = l.only path e (g ∙ r) in
       let plain : IsPlain path = w.2.0 in
-      let clear : ¬ IsCut hs path = λ x. (let t = (h.cuts path).1 x in let u : (is_plain path && cut_by (at_path high.marks) path) ≡ true = t in let v = rw (c, (plain_is path).1 plain) at u in absurd (cc)) in
-      let free : IsFree hs path = free_if hs path plain (λ i k s. (let y = some_and (IsEntryOf (first + length ls) hs i k) (entry_at high path) (h.shown path i k s) in let z = y.1 in absurd (cc))) clear in
+      let clear : ¬ IsCut hs path = λ x. (let t = (h.cuts path).1 x in
+      let u : (is_plain path && cut_by (at_path high.marks) path) ≡ true = t in
+      let v = rw (c, (plain_is path).1 plain) at u in absurd (cc)) in
+      let free : IsFree hs path = free_if hs path plain
+      (λ i k s. (let y = some_and (IsEntryOf (first + length ls) hs i k) (entry_at high path)
+      (h.shown path i k s) in let z = y.1 in absurd (cc))) clear in
       (w.0, w.1, (shows_joined ls hs path w.0 w.1).1 (inr (w.2, free)), entry_low w.0 w.1 e w.3)
 
   cuts_both : (path : Path) → cuts_at out path ≡ (cuts_at low path || cuts_at high path)
-  cuts_both path = ap (λ b. is_plain path && b) (cut_united (at_path out.marks) (at_path low.marks) (at_path high.marks) lays.marks path) ∙ and_or (is_plain path) (cut_by (at_path low.marks) path) (cut_by (at_path high.marks) path)
+  cuts_both path = ap (λ b. is_plain path && b) (cut_united (at_path out.marks) (at_path low.marks)
+      (at_path high.marks) lays.marks path) ∙ and_or (is_plain path) (cut_by (at_path low.marks) path)
+      (cut_by (at_path high.marks) path)
 
   cuts_exactly : (path : Path) → IsTrue (cuts_at out path) ↔ IsCut (ls ++ hs) path
   cuts_exactly path = (
@@ -171,7 +188,10 @@ module _ (first : ℕ) (ls hs : List (List ℕ)) (low high out : TreeRows) (l : 
   }
 
 -- kept entries covered by the upper ones, and united marks
-pub lays_of : (le he kept oe : Shoot Entry) (lm hm om : Shoot Mark) → IsKept le hm kept → IsLaid upper kept he oe → IsLaid united lm hm om → Lays (record { entries = whole le; marks = whole lm }) (record { entries = whole he; marks = whole hm }) (record { entries = whole oe; marks = whole om })
+pub lays_of : (le he kept oe : Shoot Entry) (lm hm om : Shoot Mark) → IsKept le hm kept
+    → IsLaid upper kept he oe → IsLaid united lm hm om
+    → Lays (record { entries = whole le; marks = whole lm }) (record { entries = whole he; marks = whole hm })
+    (record { entries = whole oe; marks = whole om })
 lays_of le he kept oe lm hm om k l m = record {
   rising = l.rising.rises;
   entries = λ path. l.at path ∙ ap (λ o. laid_at upper o (at_path (whole he) path)) (k.at path);

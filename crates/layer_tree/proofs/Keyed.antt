@@ -28,7 +28,8 @@ not_less : (x y : Named) → IsKeyed x → IsKeyed y
 not_less x y p q f = pick (name_cmp x.name.now y.name.now) refl
   where
     pick : (o : Ordering) → o ≡ name_cmp x.name.now y.name.now → is_lt o ≡ false
-    pick Less e = let t : name_cmp (x.key ∷ x.name.now) (y.key ∷ y.name.now) ≡ Less = less_by_both x y p q (sym e) in let u : is_lt Less ≡ false = rw t at f in u
+    pick Less e = let t : name_cmp (x.key ∷ x.name.now) (y.key ∷ y.name.now) ≡ Less = less_by_both x y p q
+        (sym e) in let u : is_lt Less ≡ false = rw t at f in u
     pick Equal e = refl
     pick Greater e = refl
 

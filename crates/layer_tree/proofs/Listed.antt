@@ -46,7 +46,13 @@ among_at (x ∷ rows) path e f = elim (same_path_or_not x.0 path) [
 at_among : (rows : List (Path × Entry)) → PathsRise rows → (l : Listed) → IsAmong l (map listed rows)
     → (e : Entry) × (at_path rows l.path ≡ Some e) × (l ≡ listed (l.path, e))
 at_among [] r l m = elim m [ ]
-at_among (x ∷ rows) r l (inl i) = (x.1, subst (λ p. at_path (x ∷ rows) p ≡ Some x.1) (sym (ap (λ (k : Listed). k.path) i)) (first x.0), i ∙ ap (λ p. listed (p, x.1)) (sym (ap (λ (k : Listed). k.path) i)))
+at_among (x ∷ rows) r l (inl i) = (
+  x.1,
+  subst (λ p. at_path (x ∷ rows) p ≡ Some x.1)
+      (sym (ap (λ (k : Listed). k.path) i)) (first x.0),
+  i
+      ∙ ap (λ p. listed (p, x.1)) (sym (ap (λ (k : Listed). k.path) i)),
+)
   where
     first : (p : Path) → at_path ((p, x.1) ∷ rows) p ≡ Some x.1
     first p = elim (same_path_or_not p p) [ inl s ↦ rw s.1 refl | inr s ↦ absurd (s.0 refl) ]
@@ -80,8 +86,12 @@ module _ (layers : List (List ℕ)) (t : TreeRows) (is : IsTreeOf 0 layers t) wh
       let o = is.only l.path a.0 a.1 in
       let w = o.3 in
       let i : l.layer ≡ o.0 = ap (λ (k : Listed). k.layer) a.2 ∙ omega (arith, w.layer) in
-      let h : l.header ≡ a.0.place.header = ap (λ (k : Listed). k.header) a.2 in
-      (o.1, subst (λ n. Shows layers l.path n o.1) (sym i) o.2, subst (λ n. IsFinalIn layers n o.1 l.header) (sym i) (subst (λ x. IsFinalIn layers o.0 o.1 x) (sym h) (w.end.0, w.end.1, w.end.2)))
+      let h : l.header ≡ a.0.place.header = ap (λ (k : Listed). k.header) a.2 in (
+        o.1,
+        subst (λ n. Shows layers l.path n o.1) (sym i) o.2,
+        subst (λ n. IsFinalIn layers n o.1 l.header)
+            (sym i) (subst (λ x. IsFinalIn layers o.0 o.1 x) (sym h) (w.end.0, w.end.1, w.end.2)),
+      )
 
   some_and : {P : Entry → Type 0} (o : Option Entry) → IsSomeAnd o P → (e : Entry) × (o ≡ Some e) × P e
   some_and None p = absurd p

@@ -94,17 +94,22 @@ is_directory_or_not Character = inr (λ e. cc)
 is_directory_or_not Socket = inr (λ e. cc)
 is_directory_or_not Fifo = inr (λ e. cc)
 
-module _ (first : ℕ) (layers : List (List ℕ)) (im : AreImages layers) (t : TreeRows) (is : IsTreeOf first layers t) (q : Path) (n : List ℕ) (e : Entry) (below : entry_at t (q ++ n ∷ []) ≡ Some e) where
+module _ (first : ℕ) (layers : List (List ℕ)) (im : AreImages layers) (t : TreeRows)
+    (is : IsTreeOf first layers t) (q : Path) (n : List ℕ) (e : Entry)
+    (below : entry_at t (q ++ n ∷ []) ≡ Some e) where
   by_above : (o : Option Entry) → entry_at t q ≡ o → IsSomeAnd o (λ d. d.kind ≡ Directory)
   by_above None f =
       let w = is.only (q ++ n ∷ []) e below in
-      absurd (gap layers im q n w.0 w.1 w.2.0 w.2.1 (λ j g u. subst (λ o. IsSomeAnd o (λ x. IsEntryOf first layers j g x)) f (is.shown q j g (plain_above q n w.2.0, u))))
+      absurd (gap layers im q n w.0 w.1 w.2.0 w.2.1 (λ j g u. subst
+      (λ o. IsSomeAnd o (λ x. IsEntryOf first layers j g x)) f
+      (is.shown q j g (plain_above q n w.2.0, u))))
   by_above (Some d) f =
       let w = is.only (q ++ n ∷ []) e below in
       let u = is.only q d f in
       elim (is_directory_or_not d.kind) [
         | inl k ↦ k
-        | inr k ↦ absurd (clash layers im q n w.0 w.1 u.0 u.1 u.3.end.0 w.2.0 w.2.1 u.2.1 u.3.end.1 (λ x. k (u.3.end.3 ∙ final_directory u.3.end.0 u.1 d.place.header u.3.end.2 x)))
+        | inr k ↦ absurd (clash layers im q n w.0 w.1 u.0 u.1 u.3.end.0 w.2.0 w.2.1 u.2.1 u.3.end.1
+            (λ x. k (u.3.end.3 ∙ final_directory u.3.end.0 u.1 d.place.header u.3.end.2 x)))
       ]
 
   pub in_directory : IsSomeAnd (entry_at t q) (λ d. d.kind ≡ Directory)

@@ -130,7 +130,9 @@ module _ {T : Type 0} (marks : List (Shoot Mark)) where
       let names = rise k f.names in
       record {
         forest = record { names = names; each = each k f.each };
-        at = λ n p. at_spread out names n p ∙ found k f.names n p ∙ sym (ap (λ b. unless b (at_path (spread ls) (n ∷ p))) (by_name marks r n p) ∙ ap (λ o. unless (cut_through (named n marks) p) o) (at_spread ls f.names n p));
+        at = λ n p. at_spread out names n p ∙ found k f.names n p
+            ∙ sym (ap (λ b. unless b (at_path (spread ls) (n ∷ p))) (by_name marks r n p)
+            ∙ ap (λ o. unless (cut_through (named n marks) p) o) (at_spread ls f.names n p));
       }
 
 -- with no marks all is kept
@@ -152,57 +154,67 @@ all_same (l ∷ ls) marks = (refl, all_same ls marks)
 pub keeping_begun : {T : Type 0} (lows L : List (Shoot T)) (marks : List (Shoot Mark)) → IsForest lows
     → NamesRise marks → L ≡ reverse lows → reverse (reverse lows) ≡ lows
     → Keeping lows (reverse L) [] marks marks
-keeping_begun lows L marks f r e g = rw (e, g) (record { kept = λ more k. k; names = f.names; rest_names = r; same = all_same lows marks; smaller = omega arith })
+keeping_begun lows L marks f r e g = rw (e, g) (record {
+  kept = λ more k. k;
+  names = f.names;
+  rest_names = r;
+  same = all_same lows marks;
+  smaller = omega arith;
+})
 
-module _ {T : Type 0} (lows L L' out : List (Shoot T)) (marks rest rest' : List (Shoot Mark)) (l : Shoot T) (inv : Keeping lows (reverse L) out marks rest) (e : L ≡ L' ++ l ∷ []) (from : IsFrom l.name rest rest') where
-  turned : reverse L ≡ l ∷ reverse L'
-  turned = snoc L L' l e
+module _ {T : Type 0} (lows L L' out : List (Shoot T)) (marks rest rest' : List (Shoot Mark)) (l : Shoot T)
+    (inv : Keeping lows (reverse L) out marks rest) (e : L ≡ L' ++ l ∷ []) (from : IsFrom l.name rest rest')
+  where
+    turned : reverse L ≡ l ∷ reverse L'
+    turned = snoc L L' l e
 
-  rises : NamesRise (l ∷ reverse L')
-  rises = subst NamesRise turned inv.names
+    rises : NamesRise (l ∷ reverse L')
+    rises = subst NamesRise turned inv.names
 
-  pub at_mark : named l.name rest' ≡ named l.name marks
-  at_mark =
-      let s : AllByRecursion (λ k. named k.name rest ≡ named k.name marks) (l ∷ reverse L') = subst (λ ls. AllByRecursion (λ k. named k.name rest ≡ named k.name marks) ls) turned inv.same in
-      from.same l.name (not_below_itself l.name) ∙ s.0
+    pub at_mark : named l.name rest' ≡ named l.name marks
+    at_mark =
+        let s : AllByRecursion (λ k. named k.name rest ≡ named k.name marks) (l ∷ reverse L') = subst
+        (λ ls. AllByRecursion (λ k. named k.name rest ≡ named k.name marks) ls) turned inv.same in
+        from.same l.name (not_below_itself l.name) ∙ s.0
 
-  not_less : (a b : List ℕ) → name_cmp a b ≡ Less → name_cmp b a ≢ Less
-  not_less a b f g = not_below_itself a (nat_list_cmp_total.trans a b a f g)
+    not_less : (a b : List ℕ) → name_cmp a b ≡ Less → name_cmp b a ≢ Less
+    not_less a b f g = not_below_itself a (nat_list_cmp_total.trans a b a f g)
 
-  later : (ls : List (Shoot T)) → AllByRecursion (λ t. name_cmp l.name t.name ≡ Less) ls
-      → AllByRecursion (λ k. named k.name rest ≡ named k.name marks) ls
-      → AllByRecursion (λ k. named k.name rest' ≡ named k.name marks) ls
-  later [] a s = tt
-  later (k ∷ ks) a s = (from.same k.name (not_less l.name k.name a.0) ∙ s.0, later ks a.1 s.1)
+    later : (ls : List (Shoot T)) → AllByRecursion (λ t. name_cmp l.name t.name ≡ Less) ls
+        → AllByRecursion (λ k. named k.name rest ≡ named k.name marks) ls
+        → AllByRecursion (λ k. named k.name rest' ≡ named k.name marks) ls
+    later [] a s = tt
+    later (k ∷ ks) a s = (from.same k.name (not_less l.name k.name a.0) ∙ s.0, later ks a.1 s.1)
 
-  all_later : AllByRecursion (λ k. named k.name rest' ≡ named k.name marks) (reverse L')
-  all_later =
-      let s : AllByRecursion (λ k. named k.name rest ≡ named k.name marks) (l ∷ reverse L') = subst (λ ls. AllByRecursion (λ k. named k.name rest ≡ named k.name marks) ls) turned inv.same in
-      later (reverse L') rises.0 s.1
+    all_later : AllByRecursion (λ k. named k.name rest' ≡ named k.name marks) (reverse L')
+    all_later =
+        let s : AllByRecursion (λ k. named k.name rest ≡ named k.name marks) (l ∷ reverse L') = subst
+        (λ ls. AllByRecursion (λ k. named k.name rest ≡ named k.name marks) ls) turned inv.same in
+        later (reverse L') rises.0 s.1
 
-  shorter : length (spread (reverse L')) ≤ length (spread lows)
-  shorter = let s = rw turned at inv.smaller in omega (arith, grown l (reverse L'), s)
+    shorter : length (spread (reverse L')) ≤ length (spread lows)
+    shorter = let s = rw turned at inv.smaller in omega (arith, grown l (reverse L'), s)
 
-  on : (out' : List (Shoot T))
-      → ((more : List (Shoot T)) → Keeps marks (reverse L') more → Keeps marks lows (out' ++ more))
-      → Keeping lows (reverse L') out' marks rest'
-  on out' k = record { kept = k; names = rises.1; rest_names = from.names; same = all_later; smaller = shorter }
+    on : (out' : List (Shoot T))
+        → ((more : List (Shoot T)) → Keeps marks (reverse L') more → Keeps marks lows (out' ++ more))
+        → Keeping lows (reverse L') out' marks rest'
+    on out' k = record { kept = k; names = rises.1; rest_names = from.names; same = all_later; smaller = shorter }
 
-  one_more : (x : Shoot T) (more out' : List (Shoot T)) → out' ≡ out ++ x ∷ [] → Keeps marks lows (out ++ (x ∷ more)) → Keeps marks lows (out' ++ more)
-  one_more x more out' o k = rw (o, append_assoc) k
+    one_more : (x : Shoot T) (more out' : List (Shoot T)) → out' ≡ out ++ x ∷ [] → Keeps marks lows (out ++ (x ∷ more)) → Keeps marks lows (out' ++ more)
+    one_more x more out' o k = rw (o, append_assoc) k
 
-  pub untouched : (out' : List (Shoot T)) → named l.name rest' ≡ None → out' ≡ out ++ l ∷ [] → Keeping lows (reverse L') out' marks rest'
-  untouched out' n o = on out' (λ more k. one_more l more out' o (inv.kept (l ∷ more) (rw turned (Untouched l (reverse L') more (sym at_mark ∙ n) k))))
+    pub untouched : (out' : List (Shoot T)) → named l.name rest' ≡ None → out' ≡ out ++ l ∷ [] → Keeping lows (reverse L') out' marks rest'
+    untouched out' n o = on out' (λ more k. one_more l more out' o (inv.kept (l ∷ more) (rw turned (Untouched l (reverse L') more (sym at_mark ∙ n) k))))
 
-  pub left_out : (m : Shoot Mark) → named l.name rest' ≡ Some m → IsLeftOut m → Keeping lows (reverse L') out marks rest'
-  left_out m n c = on out (λ more k. inv.kept more (rw turned (Left_out l (reverse L') more m (sym at_mark ∙ n) c k)))
+    pub left_out : (m : Shoot Mark) → named l.name rest' ≡ Some m → IsLeftOut m → Keeping lows (reverse L') out marks rest'
+    left_out m n c = on out (λ more k. inv.kept more (rw turned (Left_out l (reverse L') more m (sym at_mark ∙ n) c k)))
 
-  pub kept_one : (m : Shoot Mark) (b : Shoot T) (out' : List (Shoot T)) → named l.name rest' ≡ Some m
-      → IsKept l m b → out' ≡ out ++ b ∷ [] → Keeping lows (reverse L') out' marks rest'
-  kept_one m b out' n c o = on out' (λ more k. one_more b more out' o (inv.kept (b ∷ more) (rw turned (Kept l b (reverse L') more m (sym at_mark ∙ n) c k))))
+    pub kept_one : (m : Shoot Mark) (b : Shoot T) (out' : List (Shoot T)) → named l.name rest' ≡ Some m
+        → IsKept l m b → out' ≡ out ++ b ∷ [] → Keeping lows (reverse L') out' marks rest'
+    kept_one m b out' n c o = on out' (λ more k. one_more b more out' o (inv.kept (b ∷ more) (rw turned (Kept l b (reverse L') more m (sym at_mark ∙ n) c k))))
 
-  pub below_measure : 3 * length l.below + 2 < 3 * length (spread lows)
-  below_measure = let s = rw turned at inv.smaller in omega (arith, grown l (reverse L'), s)
+    pub below_measure : 3 * length l.below + 2 < 3 * length (spread lows)
+    below_measure = let s = rw turned at inv.smaller in omega (arith, grown l (reverse L'), s)
 
 pub keeping_ended : {T : Type 0} (lows L out : List (Shoot T)) (marks rest : List (Shoot Mark))
     → Keeping lows (reverse L) out marks rest → L ≡ [] → IsForest lows → NamesRise marks
@@ -218,17 +230,25 @@ all_cut mark e = record { cut = cut }
     cut (n ∷ path) = rw e refl
 
 -- an opaque mark leaves the branch alone
-pub alone : {T : Type 0} (low : Shoot T) (mark : Shoot Mark) → mark.value.cut ≡ false → mark.value.opaque ≡ true → IsKept low mark (record { name = low.name; value = low.value; below = [] })
+pub alone : {T : Type 0} (low : Shoot T) (mark : Shoot Mark) → mark.value.cut ≡ false
+    → mark.value.opaque ≡ true → IsKept low mark (record { name = low.name; value = low.value; below = [] })
 alone low mark e o = record { name = refl; rising = branch_rises low.name low.value [] (record { names = tt; each = tt }); at = at }
   where
-    at : (path : Path) → at_path (whole (record { name = low.name; value = low.value; below = [] })) path ≡ unless (cut_by (at_path (whole mark)) path) (at_path (whole low) path)
+    at : (path : Path) → at_path (whole (record { name = low.name; value = low.value; below = [] })) path
+        ≡ unless (cut_by (at_path (whole mark)) path) (at_path (whole low) path)
     at [] = rw e refl
     at (n ∷ path) = rw (e, o) refl
 
 -- else the marks below leave what they leave
-pub inside : {T : Type 0} (low : Shoot T) (mark : Shoot Mark) (lows out : List (Shoot T)) (marks : List (Shoot Mark)) → mark.value.cut ≡ false → mark.value.opaque ≡ false → low.below ≡ spread lows → mark.below ≡ spread marks → AreKept lows marks out → IsKept low mark (record { name = low.name; value = low.value; below = spread out })
+pub inside : {T : Type 0} (low : Shoot T) (mark : Shoot Mark) (lows out : List (Shoot T))
+    (marks : List (Shoot Mark)) → mark.value.cut ≡ false → mark.value.opaque ≡ false → low.below ≡ spread lows
+    → mark.below ≡ spread marks → AreKept lows marks out
+    → IsKept low mark (record { name = low.name; value = low.value; below = spread out })
 inside low mark lows out marks e o f g k = record { name = refl; rising = branch_rises low.name low.value out k.forest; at = at }
   where
-    at : (path : Path) → at_path (whole (record { name = low.name; value = low.value; below = spread out })) path ≡ unless (cut_by (at_path (whole mark)) path) (at_path (whole low) path)
+    at : (path : Path) → at_path (whole (record { name = low.name; value = low.value; below = spread out }))
+        path ≡ unless (cut_by (at_path (whole mark)) path) (at_path (whole low) path)
     at [] = rw e refl
-    at (n ∷ path) = rw (e, o, f) (k.at n path ∙ ap (λ b. unless b (at_path (spread lows) (n ∷ path))) (cut_same (λ q. at_path (spread marks) (n ∷ q)) (λ q. at_path mark.below (n ∷ q)) (λ q. ap (λ rows. at_path rows (n ∷ q)) (sym g)) path))
+    at (n ∷ path) = rw (e, o, f) (k.at n path ∙ ap (λ b. unless b (at_path (spread lows) (n ∷ path)))
+        (cut_same (λ q. at_path (spread marks) (n ∷ q)) (λ q. at_path mark.below (n ∷ q))
+        (λ q. ap (λ rows. at_path rows (n ∷ q)) (sym g)) path))

@@ -40,7 +40,8 @@ all_alike n names rise e zero d l = ap (take n) (get_or_default names 0 d [] l)
 all_alike n names rise e (suc k) d l = elim (cases_lt (suc k) (length names - 1)) [
   | inl m ↦
       rw (get_or_default names (suc k) d [] l)
-      (alike n (first_of names) (slice_index_or names (suc k) []) (slice_index_or names (length names - 1) []) (rise 0 (suc k) [] (omega arith) l) (rise (suc k) (length names - 1) [] m (omega arith)) e)
+      (alike n (first_of names) (slice_index_or names (suc k) []) (slice_index_or names (length names - 1) [])
+      (rise 0 (suc k) [] (omega arith) l) (rise (suc k) (length names - 1) [] m (omega arith)) e)
   | inr m ↦
       let at : suc k ≡ length names - 1 = omega arith in
       rw (get_or_default names (suc k) d [] l, at) (sym e)

@@ -28,13 +28,24 @@ module _ {T : Type 0} (f : T → T → T) where
       → through (named n out) p ≡ laid_at f (through (named n ls) p) (through (named n hs) p)
   found None_left r s n p = refl
   found (Low_alone l ls out m) r s n p = elim (same_or_not l.name n) [ inl x ↦ rw x.1 | inr x ↦ rw x.1 (found m r.1 s n p) ]
-  found (High_alone h hs out m) r s n p = elim (same_or_not h.name n) [ inl x ↦ rw x.1 (sym (laid_none f (at_path (whole h) p))) | inr x ↦ rw x.1 (found m r s.1 n p) ]
+  found (High_alone h hs out m) r s n p = elim (same_or_not h.name n) [
+    | inl x ↦ rw x.1 (sym (laid_none f (at_path (whole h) p)))
+    | inr x ↦ rw x.1 (found m r s.1 n p)
+  ]
   found (Low l h ls hs out lt m) r s n p = elim (same_or_not l.name n) [
-    | inl x ↦ rw (named_below n (h ∷ hs) (subst (λ a. AllByRecursion (λ t. name_cmp a t.name ≡ Less) (h ∷ hs)) x.0 (lt, all_above l.name h.name hs lt s.0)), x.1)
+    | inl x ↦ rw (
+      named_below n (h ∷ hs) (subst (λ a. AllByRecursion (λ t. name_cmp a t.name ≡ Less) (h ∷ hs))
+          x.0 (lt, all_above l.name h.name hs lt s.0)),
+      x.1,
+    )
     | inr x ↦ rw x.1 (found m r.1 s n p)
   ]
   found (High l h ls hs out lt m) r s n p = elim (same_or_not h.name n) [
-    | inl x ↦ rw (named_below n (l ∷ ls) (subst (λ a. AllByRecursion (λ t. name_cmp a t.name ≡ Less) (l ∷ ls)) x.0 (lt, all_above h.name l.name ls lt r.0)), x.1) (sym (laid_none f (at_path (whole h) p)))
+    | inl x ↦ rw (
+      named_below n (l ∷ ls) (subst (λ a. AllByRecursion (λ t. name_cmp a t.name ≡ Less) (l ∷ ls))
+          x.0 (lt, all_above h.name l.name ls lt r.0)),
+      x.1,
+    ) (sym (laid_none f (at_path (whole h) p)))
     | inr x ↦ rw x.1 (found m r s.1 n p)
   ]
   found (Both l h b ls hs out e c m) r s n p = elim (same_or_not h.name n) [
@@ -58,7 +69,12 @@ module _ {T : Type 0} (f : T → T → T) where
   rise (High_alone h hs out m) r s = (above m h.name tt s.0, rise m r s.1)
   rise (Low l h ls hs out lt m) r s = (above m l.name r.0 (lt, all_above l.name h.name hs lt s.0), rise m r.1 s)
   rise (High l h ls hs out lt m) r s = (above m h.name (lt, all_above h.name l.name ls lt r.0) s.0, rise m r s.1)
-  rise (Both l h b ls hs out e c m) r s = (rw c.name (above m h.name (subst (λ a. AllByRecursion (λ t. name_cmp a t.name ≡ Less) ls) e r.0) s.0), rise m r.1 s.1)
+  rise (Both l h b ls hs out e c m) r s = (
+    rw c.name
+        (above m h.name (subst (λ a. AllByRecursion (λ t. name_cmp a t.name ≡ Less) ls) e r.0) s.0),
+    rise m r.1
+        s.1,
+  )
 
   each : {ls hs out : List (Shoot T)} → Merges f ls hs out → AllByRecursion IsRising ls → AllByRecursion IsRising hs → AllByRecursion IsRising out
   each None_left r s = tt
@@ -83,10 +99,14 @@ module _ {T : Type 0} (f : T → T → T) where
   high_empty ls r = record { forest = r; at = λ n p. refl }
 
   -- a branch over the laid children
-  pub branch_laid : (low high : Shoot T) (ls hs out : List (Shoot T)) → low.below ≡ spread ls → high.below ≡ spread hs → AreLaid f ls hs out → IsLaid f low high (record { name = high.name; value = f low.value high.value; below = spread out })
+  pub branch_laid : (low high : Shoot T) (ls hs out : List (Shoot T)) → low.below ≡ spread ls
+      → high.below ≡ spread hs → AreLaid f ls hs out
+      → IsLaid f low high (record { name = high.name; value = f low.value high.value; below = spread out })
   branch_laid low high ls hs out e d a = record { name = refl; rising = branch_rises high.name (f low.value high.value) out a.forest; at = at }
     where
-      at : (path : List (List ℕ)) → at_path (whole (record { name = high.name; value = f low.value high.value; below = spread out })) path ≡ laid_at f (at_path (whole low) path) (at_path (whole high) path)
+      at : (path : List (List ℕ)) → at_path (whole (record
+          { name = high.name; value = f low.value high.value; below = spread out })) path ≡ laid_at f
+          (at_path (whole low) path) (at_path (whole high) path)
       at [] = refl
       at (n ∷ p) = rw (e, d) (a.at n p)
 
@@ -123,7 +143,9 @@ module _ {T : Type 0} (f : T → T → T) (ls0 hs0 L H out : List (Shoot T)) (in
       → H'' ≡ H' ++ h ∷ [] → name_cmp l.name h.name ≡ Less → out' ≡ out ++ l ∷ []
       → Merging f ls0 hs0 (reverse L') (reverse H'') out'
   low_first L' H' H'' out' l h e g g' lt o = record {
-    merged = λ more m. pushed l more out' o (inv.merged (l ∷ more) (rw (snoc L L' l e, snoc H H' h g) (Low l h (reverse L') (reverse H') more lt (rw (snoc H'' H' h g') at m))));
+    merged = λ more m. pushed l more out' o (inv.merged (l ∷ more)
+        (rw (snoc L L' l e, snoc H H' h g) (Low l h (reverse L') (reverse H') more lt
+        (rw (snoc H'' H' h g') at m))));
     smaller = let s = rw (snoc L L' l e, snoc H H' h g) at inv.smaller in rw (snoc H'' H' h g') (omega (arith, grown l (reverse L'), s));
   }
 
@@ -131,7 +153,9 @@ module _ {T : Type 0} (f : T → T → T) (ls0 hs0 L H out : List (Shoot T)) (in
       → L'' ≡ L' ++ l ∷ [] → name_cmp h.name l.name ≡ Less → out' ≡ out ++ h ∷ []
       → Merging f ls0 hs0 (reverse L'') (reverse H') out'
   high_first L' L'' H' out' l h e g g' lt o = record {
-    merged = λ more m. pushed h more out' o (inv.merged (h ∷ more) (rw (snoc L L' l e, snoc H H' h g) (High l h (reverse L') (reverse H') more lt (rw (snoc L'' L' l g') at m))));
+    merged = λ more m. pushed h more out' o (inv.merged (h ∷ more)
+        (rw (snoc L L' l e, snoc H H' h g) (High l h (reverse L') (reverse H') more lt
+        (rw (snoc L'' L' l g') at m))));
     smaller = let s = rw (snoc L L' l e, snoc H H' h g) at inv.smaller in rw (snoc L'' L' l g') (omega (arith, grown h (reverse H'), s));
   }
 

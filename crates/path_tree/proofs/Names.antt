@@ -88,11 +88,15 @@ named_between n ss i p = named_nowhere n ss (λ k d l e. elim (cases_lt k i) [
 
 keeps : (a b n : List ℕ) → name_cmp a b ≡ Less → (o p : Ordering) → o ≡ name_cmp a n → p ≡ name_cmp b n → ordering_index o ≤ ordering_index p
 keeps a b n l Less p d e = omega arith
-keeps a b n l Equal Less d e = absurd (not_below_itself b (nat_list_cmp_total.trans b a b (subst (λ x. name_cmp b x ≡ Less) (sym (exact_bytes a n (sym d))) (sym e)) l))
+keeps a b n l Equal Less d e = absurd (not_below_itself b
+    (nat_list_cmp_total.trans b a b (subst (λ x. name_cmp b x ≡ Less) (sym (exact_bytes a n (sym d))) (sym e))
+    l))
 keeps a b n l Equal Equal d e = omega arith
 keeps a b n l Equal Greater d e = omega arith
 keeps a b n l Greater Less d e = absurd (not_below_itself a (nat_list_cmp_total.trans a b a l (nat_list_cmp_total.trans b n a (sym e) (above_of a n (sym d)))))
-keeps a b n l Greater Equal d e = absurd (not_below_itself a (nat_list_cmp_total.trans a b a l (subst (λ x. name_cmp x a ≡ Less) (sym (exact_bytes b n (sym e))) (above_of a n (sym d)))))
+keeps a b n l Greater Equal d e = absurd (not_below_itself a
+    (nat_list_cmp_total.trans a b a l (subst (λ x. name_cmp x a ≡ Less) (sym (exact_bytes b n (sym e)))
+    (above_of a n (sym d)))))
 keeps a b n l Greater Greater d e = omega arith
 
 -- seen from any name, branches in order go from those before it to those after it

@@ -24,19 +24,31 @@ module _ {T : Type 0} where
 
   above_spread : (n : List ℕ) (p : List (List ℕ)) (ss : List (Shoot T)) → AllByRecursion (λ t. name_cmp n t.name ≡ Less) ss → Above (n ∷ p) (spread ss)
   above_spread n p [] a = tt
-  above_spread n p (s ∷ ss) a = (rw a.0, above_append (n ∷ p) (prefixed s.name s.below) (spread ss) (above_other n s.name p s.below a.0) (above_spread n p ss a.1))
+  above_spread n p (s ∷ ss) a = (
+    rw a.0,
+    above_append (n ∷ p) (prefixed s.name s.below) (spread ss)
+        (above_other n s.name p s.below a.0) (above_spread n p ss a.1),
+  )
 
   joined : (n : List ℕ) (xs : List (List (List ℕ) × T)) (ss : List (Shoot T)) → PathsRise xs
       → AllByRecursion (λ t. name_cmp n t.name ≡ Less) ss → PathsRise (spread ss)
       → PathsRise (prefixed n xs ++ spread ss)
   joined n [] ss r a q = q
-  joined n (x ∷ xs) ss r a q = (above_append (n ∷ x.0) (prefixed n xs) (spread ss) (above_prefixed n x.0 xs r.0) (above_spread n x.0 ss a), joined n xs ss r.1 a q)
+  joined n (x ∷ xs) ss r a q = (
+    above_append (n ∷ x.0) (prefixed n xs) (spread ss)
+        (above_prefixed n x.0 xs r.0) (above_spread n x.0 ss a),
+    joined n xs ss r.1 a q,
+  )
 
   pub spread_rises : (ss : List (Shoot T)) → NamesRise ss → AllByRecursion IsRising ss → PathsRise (spread ss)
   spread_rises [] r e = tt
   spread_rises (s ∷ ss) r e =
-      let all : PathsRise (whole s) = e.0.rises in
-      (above_append (s.name ∷ []) (prefixed s.name s.below) (spread ss) (above_prefixed s.name [] s.below all.0) (above_spread s.name [] ss r.0), joined s.name s.below ss all.1 r.0 (spread_rises ss r.1 e.1))
+      let all : PathsRise (whole s) = e.0.rises in (
+        above_append (s.name ∷ []) (prefixed s.name s.below) (spread ss)
+            (above_prefixed s.name [] s.below all.0) (above_spread s.name [] ss r.0),
+        joined s.name s.below ss
+            all.1 r.0 (spread_rises ss r.1 e.1),
+      )
 
   above_root : (ss : List (Shoot T)) → Above [] (spread ss)
   above_root [] = tt

@@ -52,13 +52,20 @@ module _ {T : Type 0} where
   here : (s : Shoot T) (ss : List (Shoot T)) (p : List (List ℕ)) → at_path (spread ss) (s.name ∷ p) ≡ None
       → at_path (spread (s ∷ ss)) (s.name ∷ p) ≡ at_path (whole s) p
   here s ss [] g = rw (same_itself s.name)
-  here s ss (m ∷ p) g = rw (same_itself s.name, at_append (prefixed s.name s.below) (spread ss) (s.name ∷ m ∷ p), at_prefixed_same s.name s.below (m ∷ p), g) (or_none (at_path s.below (m ∷ p)))
+  here s ss (m ∷ p) g = rw (
+    same_itself s.name,
+    at_append (prefixed s.name s.below) (spread ss)
+        (s.name ∷ m ∷ p),
+    at_prefixed_same s.name s.below (m ∷ p),
+    g,
+  ) (or_none (at_path s.below (m ∷ p)))
 
   pub at_spread : (ss : List (Shoot T)) → NamesRise ss → (n : List ℕ) (p : List (List ℕ)) → at_path (spread ss) (n ∷ p) ≡ through (named n ss) p
   at_spread [] r n p = refl
   at_spread (s ∷ ss) r n p = elim (same_or_not s.name n) [
     | inl x ↦
         let k : named n (s ∷ ss) ≡ Some s = rw x.1 in
-        subst (λ m. at_path (spread (s ∷ ss)) (m ∷ p) ≡ at_path (whole s) p) x.0 (here s ss p (at_none s.name ss p (named_below s.name ss r.0))) ∙ sym (ap (λ o. through o p) k)
+        subst (λ m. at_path (spread (s ∷ ss)) (m ∷ p) ≡ at_path (whole s) p) x.0
+        (here s ss p (at_none s.name ss p (named_below s.name ss r.0))) ∙ sym (ap (λ o. through o p) k)
     | inr x ↦ rw (x.1, at_append (prefixed s.name s.below) (spread ss) (n ∷ p), at_prefixed_other s.name n x.0 s.below p) (at_spread ss r.1 n p)
   ]

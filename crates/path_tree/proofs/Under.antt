@@ -14,7 +14,8 @@ module _ {T : Type 0} where
       → s.below ≡ spread ss → NamesRise ss → named n ss ≡ o → at_path (whole s) (n ∷ rest) ≡ through o rest
   step s ss o n rest e r f = rw (e, at_spread ss r n rest, f)
 
-  pub descend : (rows : List (List (List ℕ) × T)) (path : List (Bor (List ℕ))) (i : ℕ) (s : Shoot T) (ss : List (Shoot T)) (o : Option (Shoot T)) (d : Bor (List ℕ))
+  pub descend : (rows : List (List (List ℕ) × T)) (path : List (Bor (List ℕ))) (i : ℕ) (s : Shoot T)
+      (ss : List (Shoot T)) (o : Option (Shoot T)) (d : Bor (List ℕ))
       → i < length path → IsDown rows path i s → s.below ≡ spread ss → NamesRise ss
       → named (get_or path i d).now ss ≡ o → (q : List (List ℕ))
       → at_path rows (map (λ n. n.now) path ++ q) ≡ through o (map (λ n. n.now) (drop (i + 1) path) ++ q)

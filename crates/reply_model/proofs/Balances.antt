@@ -12,7 +12,8 @@ use Rattle.reply_model.specs.Streams.{session_at, replies_by, moves_by}
 pub replies-append : (answered : Session → Asked → List ℕ) (s : Session) (qs rs : List Asked)
     → replies_by answered s (qs ++ rs) ≡ replies_by answered s qs ++ replies_by answered (session_at s qs) rs
 replies-append answered s [] rs = refl
-replies-append answered s (q ∷ qs) rs = ap (λ v. answered s q ++ v) (replies-append answered (session_after s q.op) qs rs) ∙ sym (append_assoc (answered s q) _ _)
+replies-append answered s (q ∷ qs) rs = ap (λ v. answered s q ++ v)
+    (replies-append answered (session_after s q.op) qs rs) ∙ sym (append_assoc (answered s q) _ _)
 
 pub moves-append : (moved : Session → Asked → List Move) (s : Session) (qs rs : List Asked)
     → moves_by moved s (qs ++ rs) ≡ moves_by moved s qs ++ moves_by moved (session_at s qs) rs
@@ -21,6 +22,7 @@ moves-append moved s (q ∷ qs) rs = ap (λ v. moved s q ++ v) (moves-append mov
 
 pub balance-append : (node : ℕ) (ms ns : List Move) → balance node (ms ++ ns) ≡ balance node ms +ℤ balance node ns
 balance-append node [] ns = sym (+ℤ_idl (balance node ns))
-balance-append node (m ∷ ms) ns = ap (λ v. (if m.node == node then m.amount else pos 0) +ℤ v) (balance-append node ms ns) ∙ sym (+ℤ_assoc _ (balance node ms) (balance node ns))
+balance-append node (m ∷ ms) ns = ap (λ v. (if m.node == node then m.amount else pos 0) +ℤ v)
+    (balance-append node ms ns) ∙ sym (+ℤ_assoc _ (balance node ms) (balance node ns))
 
 pub ruleset parts = (replies-append, moves-append, balance-append)

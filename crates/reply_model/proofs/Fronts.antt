@@ -20,7 +20,13 @@ module _ (form : Row → List ℕ) where
       }
 
   none : (room : ℕ) (r : Row) (rows : List Row) → room < length (form r) → IsFront form room (r ∷ rows) []
-  none room r rows l = record { count = 0; is = refl; fits = omega arith; full = λ next is. (let e : r ≡ next = cc in let f = ap (λ v. length (form v)) e in omega arith) }
+  none room r rows l = record {
+    count = 0;
+    is = refl;
+    fits = omega arith;
+    full = λ next is.
+        (let e : r ≡ next = cc in let f = ap (λ v. length (form v)) e in omega arith);
+  }
 
   pub front : (room : ℕ) (rows : List Row) → IsFront form room rows (fitting form room rows)
   front room [] = record { count = 0; is = refl; fits = omega arith; full = λ next is. absurd (cc) }

@@ -66,7 +66,8 @@ module _ (layers : List (List ℕ)) (entries : List Entry) where
 
   -- the other requests move nothing, DESTROY among them
   pub others_move_nothing : (s : Session) (q : Asked) → is_moving q.op ≡ false → moves layers entries s q ≡ []
-  others_move_nothing s q e = unless (is_some (refusal layers entries s q.node q.op)) (moved layers entries (is_exported s) q.node q.op) (moved_nothing (is_exported s) q.node q.op e)
+  others_move_nothing s q e = unless (is_some (refusal layers entries s q.node q.op))
+      (moved layers entries (is_exported s) q.node q.op) (moved_nothing (is_exported s) q.node q.op e)
 
   -- nor does any request in a fresh session
   fresh_op : (unique node : ℕ) (op : Op) → moves layers entries Fresh (record { unique = unique; node = node; op = op }) ≡ []
@@ -87,7 +88,10 @@ module _ (layers : List (List ℕ)) (entries : List Entry) where
       let moved_by = moves_by (moves layers entries) s qs in
       ap (balance node) (moves-append (moves layers entries) s qs (q ∷ []) ∙ rw (others_move_nothing (session_at s qs) q e) (append-nil moved_by))
 
-  pub destroy_leaves : (s : Session) (qs : List Asked) (unique node n : ℕ) → balance n (moves_by (moves layers entries) s (qs ++ record { unique = unique; node = node; op = destroy } ∷ [])) ≡ balance n (moves_by (moves layers entries) s qs)
+  pub destroy_leaves : (s : Session) (qs : List Asked) (unique node n : ℕ)
+      → balance n (moves_by (moves layers entries) s
+      (qs ++ record { unique = unique; node = node; op = destroy } ∷ [])) ≡ balance n
+      (moves_by (moves layers entries) s qs)
   destroy_leaves s qs unique node n = balances_stay s qs (record { unique = unique; node = node; op = destroy }) n refl
 
 pub ruleset given = (lookup_gives, readdirplus_gives, others_move_nothing, fresh_moves_nothing)

@@ -29,7 +29,12 @@ length-header n e unique bytes =
 
 with_data : (unique : ℕ) (bytes : List ℕ) → IsReplyTo unique (reply_with unique bytes)
 unfolding reply_with reply_head
-with_data unique bytes = record { error = 0; rest = bytes; is = ap (λ n. u32 n ++ u32 0 ++ u64 unique ++ bytes) (sym (length-header (16 + length bytes) 0 unique bytes)) }
+with_data unique bytes = record {
+  error = 0;
+  rest = bytes;
+  is = ap
+      (λ n. u32 n ++ u32 0 ++ u64 unique ++ bytes) (sym (length-header (16 + length bytes) 0 unique bytes));
+}
 
 with_error : (unique : ℕ) (errno : Errno) → IsReplyTo unique (error_reply unique errno)
 unfolding error_reply

@@ -158,7 +158,8 @@ module _ (bs : List (List ℕ)) (entries : List Entry) (sound : All IsSound bs) 
           omega arith
 
       silent : (b : Bool)
-          → length (cond b [] (option_map_or (error_reply q.unique) (refusal layers entries s q.node q.op) (reply_with q.unique (answer layers entries (is_exported s) q.node q.op))))
+          → length (cond b [] (option_map_or (error_reply q.unique) (refusal layers entries s q.node q.op)
+          (reply_with q.unique (answer layers entries (is_exported s) q.node q.op))))
           ≤ 1048592
       silent true = lit≤ tt
       silent false = replied (refusal layers entries s q.node q.op) refl

@@ -14,64 +14,215 @@ use Rattle.reply_model.specs.Rows.{rows, rows_after, dirent_of, direntplus_of}
 use Rattle.reply_model.specs.Examples.{empty_image, sample_image, empty_entries, sample_entries, two_faults, StreamExamples, FaultOrder, FaultExamples, EmptyImageFields, InitExamples, GetattrExamples, ReaddirExamples, ReaddirplusExamples, ReadExamples, LookupExamples, NodeExamples, OpenExamples, SessionExamples, ExportExamples, SilentExamples, RefusalOrder, TwelveRequests, BalanceExamples}
 
 pub the_empty_image : EmptyImageFields
-unfolding word root image name_field ended op_of u16 u32 u64 zeros forgets_of init_out init_out_22 init_out_rest attr entry_out attr_out open_out statfs_out dirent_front dirent direntplus reply_head reply_with error_reply nodes number_of parent children data_of rows rows_after dirent_of direntplus_of empty_image sample_image empty_entries sample_entries
-the_empty_image = record { padded_16 = refl; padded_17 = refl; whole = refl; root_at = refl; root_kind = refl; root_exec = refl; root_next = refl; root_spec = refl; root_name = refl; up_kind = refl; up_next = refl; up_spec = refl; up_name = refl }
+unfolding word root image name_field ended op_of u16 u32 u64 zeros forgets_of init_out init_out_22
+    init_out_rest attr entry_out attr_out open_out statfs_out dirent_front dirent direntplus reply_head
+    reply_with error_reply nodes number_of parent children data_of rows rows_after dirent_of direntplus_of
+    empty_image sample_image empty_entries sample_entries
+the_empty_image = record {
+  padded_16 = refl;
+  padded_17 = refl;
+  whole = refl;
+  root_at = refl;
+  root_kind = refl;
+  root_exec = refl;
+  root_next = refl;
+  root_spec = refl;
+  root_name = refl;
+  up_kind = refl;
+  up_next = refl;
+  up_spec = refl;
+  up_name = refl;
+}
 
 pub init : InitExamples
-unfolding word root image name_field ended op_of u16 u32 u64 zeros forgets_of init_out init_out_22 init_out_rest attr entry_out attr_out open_out statfs_out dirent_front dirent direntplus reply_head reply_with error_reply nodes number_of parent children data_of rows rows_after dirent_of direntplus_of empty_image sample_image empty_entries sample_entries
-init = record { accepted = refl; newer = refl; agreed = refl; minor_22 = refl; after_minor_22 = refl; minor_12 = refl; minor_23 = refl; exported = refl; older_minor = refl; older_major = refl; fresh_write = refl; fresh_release = refl; fresh_forget = refl; short = refl }
+unfolding word root image name_field ended op_of u16 u32 u64 zeros forgets_of init_out init_out_22
+    init_out_rest attr entry_out attr_out open_out statfs_out dirent_front dirent direntplus reply_head
+    reply_with error_reply nodes number_of parent children data_of rows rows_after dirent_of direntplus_of
+    empty_image sample_image empty_entries sample_entries
+init = record {
+  accepted = refl;
+  newer = refl;
+  agreed = refl;
+  minor_22 = refl;
+  after_minor_22 = refl;
+  minor_12 = refl;
+  minor_23 = refl;
+  exported = refl;
+  older_minor = refl;
+  older_major = refl;
+  fresh_write = refl;
+  fresh_release = refl;
+  fresh_forget = refl;
+  short = refl;
+}
 
 pub getattr : GetattrExamples
-unfolding word root image name_field ended op_of u16 u32 u64 zeros forgets_of init_out init_out_22 init_out_rest attr entry_out attr_out open_out statfs_out dirent_front dirent direntplus reply_head reply_with error_reply nodes number_of parent children data_of rows rows_after dirent_of direntplus_of empty_image sample_image empty_entries sample_entries
+unfolding word root image name_field ended op_of u16 u32 u64 zeros forgets_of init_out init_out_22
+    init_out_rest attr entry_out attr_out open_out statfs_out dirent_front dirent direntplus reply_head
+    reply_with error_reply nodes number_of parent children data_of rows rows_after dirent_of direntplus_of
+    empty_image sample_image empty_entries sample_entries
 getattr = record { of_root = refl; of_two = refl; of_zero = refl; short = refl }
 
 pub readdir : ReaddirExamples
-unfolding word root image name_field ended op_of u16 u32 u64 zeros forgets_of init_out init_out_22 init_out_rest attr entry_out attr_out open_out statfs_out dirent_front dirent direntplus reply_head reply_with error_reply nodes number_of parent children data_of rows rows_after dirent_of direntplus_of empty_image sample_image empty_entries sample_entries
+unfolding word root image name_field ended op_of u16 u32 u64 zeros forgets_of init_out init_out_22
+    init_out_rest attr entry_out attr_out open_out statfs_out dirent_front dirent direntplus reply_head
+    reply_with error_reply nodes number_of parent children data_of rows rows_after dirent_of direntplus_of
+    empty_image sample_image empty_entries sample_entries
 readdir = record { both = refl; one = refl; too_small = refl; no_room = refl; too_large = refl; at_end = refl }
 
 pub readdirplus : ReaddirplusExamples
-unfolding word root image name_field ended op_of u16 u32 u64 zeros forgets_of init_out init_out_22 init_out_rest attr entry_out attr_out open_out statfs_out dirent_front dirent direntplus reply_head reply_with error_reply nodes number_of parent children data_of rows rows_after dirent_of direntplus_of empty_image sample_image empty_entries sample_entries
+unfolding word root image name_field ended op_of u16 u32 u64 zeros forgets_of init_out init_out_22
+    init_out_rest attr entry_out attr_out open_out statfs_out dirent_front dirent direntplus reply_head
+    reply_with error_reply nodes number_of parent children data_of rows rows_after dirent_of direntplus_of
+    empty_image sample_image empty_entries sample_entries
 readdirplus = record { three = refl; one = refl; upper = refl; mode = refl }
 
 pub read : ReadExamples
-unfolding word root image name_field ended op_of u16 u32 u64 zeros forgets_of init_out init_out_22 init_out_rest attr entry_out attr_out open_out statfs_out dirent_front dirent direntplus reply_head reply_with error_reply nodes number_of parent children data_of rows rows_after dirent_of direntplus_of empty_image sample_image empty_entries sample_entries
+unfolding word root image name_field ended op_of u16 u32 u64 zeros forgets_of init_out init_out_22
+    init_out_rest attr entry_out attr_out open_out statfs_out dirent_front dirent direntplus reply_head
+    reply_with error_reply nodes number_of parent children data_of rows rows_after dirent_of direntplus_of
+    empty_image sample_image empty_entries sample_entries
 read = record { whole = refl; rest = refl; past_end = refl; far_past_end = refl; nothing = refl; too_large = refl; directory = refl; link = refl; stale = refl }
 
 pub lookup : LookupExamples
-unfolding word root image name_field ended op_of u16 u32 u64 zeros forgets_of init_out init_out_22 init_out_rest attr entry_out attr_out open_out statfs_out dirent_front dirent direntplus reply_head reply_with error_reply nodes number_of parent children data_of rows rows_after dirent_of direntplus_of empty_image sample_image empty_entries sample_entries
-lookup = record { entry = refl; unended = refl; no_body = refl; inner_zero = refl; empty_name = refl; long_name = refl; too_long = refl; marker = refl; upper = refl; in_file = refl }
+unfolding word root image name_field ended op_of u16 u32 u64 zeros forgets_of init_out init_out_22
+    init_out_rest attr entry_out attr_out open_out statfs_out dirent_front dirent direntplus reply_head
+    reply_with error_reply nodes number_of parent children data_of rows rows_after dirent_of direntplus_of
+    empty_image sample_image empty_entries sample_entries
+lookup = record {
+  entry = refl;
+  unended = refl;
+  no_body = refl;
+  inner_zero = refl;
+  empty_name = refl;
+  long_name = refl;
+  too_long = refl;
+  marker = refl;
+  upper = refl;
+  in_file = refl;
+}
 
 pub node_requests : NodeExamples
-unfolding word root image name_field ended op_of u16 u32 u64 zeros forgets_of init_out init_out_22 init_out_rest attr entry_out attr_out open_out statfs_out dirent_front dirent direntplus reply_head reply_with error_reply nodes number_of parent children data_of rows rows_after dirent_of direntplus_of empty_image sample_image empty_entries sample_entries
-node_requests = record { device_mode = refl; device_numbers = refl; root_links = refl; statfs = refl; readdir_of_file = refl; readdirplus_of_link = refl; file_mode = refl; directory_mode = refl; link_mode = refl; readlink = refl; readlink_of_file = refl; release = refl; forget = refl; write = refl; unserved = refl }
+unfolding word root image name_field ended op_of u16 u32 u64 zeros forgets_of init_out init_out_22
+    init_out_rest attr entry_out attr_out open_out statfs_out dirent_front dirent direntplus reply_head
+    reply_with error_reply nodes number_of parent children data_of rows rows_after dirent_of direntplus_of
+    empty_image sample_image empty_entries sample_entries
+node_requests = record {
+  device_mode = refl;
+  device_numbers = refl;
+  root_links = refl;
+  statfs = refl;
+  readdir_of_file = refl;
+  readdirplus_of_link = refl;
+  file_mode = refl;
+  directory_mode = refl;
+  link_mode = refl;
+  readlink = refl;
+  readlink_of_file = refl;
+  release = refl;
+  forget = refl;
+  write = refl;
+  unserved = refl;
+}
 
 pub sessions : SessionExamples
-unfolding word root image name_field ended op_of u16 u32 u64 zeros forgets_of init_out init_out_22 init_out_rest attr entry_out attr_out open_out statfs_out dirent_front dirent direntplus reply_head reply_with error_reply nodes number_of parent children data_of rows rows_after dirent_of direntplus_of empty_image sample_image empty_entries sample_entries
-sessions = record { begins = refl; exports = refl; other_flags = refl; minor_11 = refl; major_8 = refl; destroyed_fresh = refl; init_again = refl; destroyed = refl; ended = refl }
+unfolding word root image name_field ended op_of u16 u32 u64 zeros forgets_of init_out init_out_22
+    init_out_rest attr entry_out attr_out open_out statfs_out dirent_front dirent direntplus reply_head
+    reply_with error_reply nodes number_of parent children data_of rows rows_after dirent_of direntplus_of
+    empty_image sample_image empty_entries sample_entries
+sessions = record {
+  begins = refl;
+  exports = refl;
+  other_flags = refl;
+  minor_11 = refl;
+  major_8 = refl;
+  destroyed_fresh = refl;
+  init_again = refl;
+  destroyed = refl;
+  ended = refl;
+}
 
 pub exported : ExportExamples
-unfolding word root image name_field ended op_of u16 u32 u64 zeros forgets_of init_out init_out_22 init_out_rest attr entry_out attr_out open_out statfs_out dirent_front dirent direntplus reply_head reply_with error_reply nodes number_of parent children data_of rows rows_after dirent_of direntplus_of empty_image sample_image empty_entries sample_entries
-exported = record { directory = refl; file = refl; above = refl; above_root = refl; root = refl; above_file = refl; of_no_node = refl; other_name = refl; three_dots = refl; not_exported = refl; file_not_exported = refl }
+unfolding word root image name_field ended op_of u16 u32 u64 zeros forgets_of init_out init_out_22
+    init_out_rest attr entry_out attr_out open_out statfs_out dirent_front dirent direntplus reply_head
+    reply_with error_reply nodes number_of parent children data_of rows rows_after dirent_of direntplus_of
+    empty_image sample_image empty_entries sample_entries
+exported = record {
+  directory = refl;
+  file = refl;
+  above = refl;
+  above_root = refl;
+  root = refl;
+  above_file = refl;
+  of_no_node = refl;
+  other_name = refl;
+  three_dots = refl;
+  not_exported = refl;
+  file_not_exported = refl;
+}
 
 pub silent : SilentExamples
-unfolding word root image name_field ended op_of u16 u32 u64 zeros forgets_of init_out init_out_22 init_out_rest attr entry_out attr_out open_out statfs_out dirent_front dirent direntplus reply_head reply_with error_reply nodes number_of parent children data_of rows rows_after dirent_of direntplus_of empty_image sample_image empty_entries sample_entries
+unfolding word root image name_field ended op_of u16 u32 u64 zeros forgets_of init_out init_out_22
+    init_out_rest attr entry_out attr_out open_out statfs_out dirent_front dirent direntplus reply_head
+    reply_with error_reply nodes number_of parent children data_of rows rows_after dirent_of direntplus_of
+    empty_image sample_image empty_entries sample_entries
 silent = record { interrupt = refl; interrupt_fresh = refl; batch_forget = refl; batch_forget_fresh = refl; short_forget = refl; short_batch_forget = refl }
 
 pub refusals : RefusalOrder
-unfolding word root image name_field ended op_of u16 u32 u64 zeros forgets_of init_out init_out_22 init_out_rest attr entry_out attr_out open_out statfs_out dirent_front dirent direntplus reply_head reply_with error_reply nodes number_of parent children data_of rows rows_after dirent_of direntplus_of empty_image sample_image empty_entries sample_entries
-refusals = record { session_first = refl; init_again_short = refl; modify_before_body = refl; body_before_node = refl; node_before_kind = refl; kind_before_arguments = refl; kind_before_access = refl; kind_before_rows = refl }
+unfolding word root image name_field ended op_of u16 u32 u64 zeros forgets_of init_out init_out_22
+    init_out_rest attr entry_out attr_out open_out statfs_out dirent_front dirent direntplus reply_head
+    reply_with error_reply nodes number_of parent children data_of rows rows_after dirent_of direntplus_of
+    empty_image sample_image empty_entries sample_entries
+refusals = record {
+  session_first = refl;
+  init_again_short = refl;
+  modify_before_body = refl;
+  body_before_node = refl;
+  node_before_kind = refl;
+  kind_before_arguments = refl;
+  kind_before_access = refl;
+  kind_before_rows = refl;
+}
 
 pub twelve : TwelveRequests
-unfolding word root image name_field ended op_of u16 u32 u64 zeros forgets_of init_out init_out_22 init_out_rest attr entry_out attr_out open_out statfs_out dirent_front dirent direntplus reply_head reply_with error_reply nodes number_of parent children data_of rows rows_after dirent_of direntplus_of empty_image sample_image empty_entries sample_entries
+unfolding word root image name_field ended op_of u16 u32 u64 zeros forgets_of init_out init_out_22
+    init_out_rest attr entry_out attr_out open_out statfs_out dirent_front dirent direntplus reply_head
+    reply_with error_reply nodes number_of parent children data_of rows rows_after dirent_of direntplus_of
+    empty_image sample_image empty_entries sample_entries
 twelve = record { replies_are = refl; sized = refl }
 
 pub balances : BalanceExamples
-unfolding word root image name_field ended op_of u16 u32 u64 zeros forgets_of init_out init_out_22 init_out_rest attr entry_out attr_out open_out statfs_out dirent_front dirent direntplus reply_head reply_with error_reply nodes number_of parent children data_of rows rows_after dirent_of direntplus_of empty_image sample_image empty_entries sample_entries
-balances = record { replies_sized = refl; balances = refl; rows_in_order = refl; later_rows = refl; listed = refl; forgotten = refl; counted_items = refl; fresh = refl }
+unfolding word root image name_field ended op_of u16 u32 u64 zeros forgets_of init_out init_out_22
+    init_out_rest attr entry_out attr_out open_out statfs_out dirent_front dirent direntplus reply_head
+    reply_with error_reply nodes number_of parent children data_of rows rows_after dirent_of direntplus_of
+    empty_image sample_image empty_entries sample_entries
+balances = record {
+  replies_sized = refl;
+  balances = refl;
+  rows_in_order = refl;
+  later_rows = refl;
+  listed = refl;
+  forgotten = refl;
+  counted_items = refl;
+  fresh = refl;
+}
 
 pub opens : OpenExamples
-unfolding word root image name_field ended op_of u16 u32 u64 zeros forgets_of init_out init_out_22 init_out_rest attr entry_out attr_out open_out statfs_out dirent_front dirent direntplus reply_head reply_with error_reply nodes number_of parent children data_of rows rows_after dirent_of direntplus_of empty_image sample_image empty_entries sample_entries
-opens = record { open_file = refl; open_to_write = refl; open_to_read_and_write = refl; open_to_execute = refl; open_with_flags = refl; open_link = refl; open_directory = refl; opendir = refl; opendir_of_file = refl }
+unfolding word root image name_field ended op_of u16 u32 u64 zeros forgets_of init_out init_out_22
+    init_out_rest attr entry_out attr_out open_out statfs_out dirent_front dirent direntplus reply_head
+    reply_with error_reply nodes number_of parent children data_of rows rows_after dirent_of direntplus_of
+    empty_image sample_image empty_entries sample_entries
+opens = record {
+  open_file = refl;
+  open_to_write = refl;
+  open_to_read_and_write = refl;
+  open_to_execute = refl;
+  open_with_flags = refl;
+  open_link = refl;
+  open_directory = refl;
+  opendir = refl;
+  opendir_of_file = refl;
+}
 
 pub lengths : StreamExamples
 unfolding u32 u64 zeros

@@ -196,7 +196,9 @@ module _ (layers : List (List ℕ)) (entries : List Entry) where
   weight_taken : (f : Forget) (rest : List Move) → f.nlookup < 2 ^ 64 → weight (cons_option (take_back layers entries f) rest) ≤ 2 ^ 64 + weight rest
   weight_taken f rest small = go (node_of entries f.node)
     where
-      go : (o : Option Place) → weight (cons_option (option_map (λ p. let m : Move = record { node = f.node; amount = neg_ℤ (pos f.nlookup) } in m) o) rest) ≤ 2 ^ 64 + weight rest
+      go : (o : Option Place) → weight (cons_option (option_map
+          (λ p. let m : Move = record { node = f.node; amount = neg_ℤ (pos f.nlookup) } in m) o) rest) ≤ 2 ^
+          64 + weight rest
       go None = omega arith
       go (Some p) = omega (arith, ints)
 

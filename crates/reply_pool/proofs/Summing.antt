@@ -86,7 +86,8 @@ one_added done sums sum m next so_far same kept is small = record {
       let h = balance_append node sums (next ∷ []) in
       let i = added (sum.node == node) sum.amount m.amount next.amount is in
       let j : cond (m.node == node) m.amount (pos 0) ≡ cond (sum.node == node) m.amount (pos 0) = ap (λ (n : ℕ). cond (n == node) m.amount (pos 0)) same in
-      let k : cond (next.node == node) next.amount (pos 0) ≡ cond (sum.node == node) next.amount (pos 0) = ap (λ (n : ℕ). cond (n == node) next.amount (pos 0)) kept in
+      let k : cond (next.node == node) next.amount (pos 0) ≡ cond (sum.node == node) next.amount (pos 0) = ap
+      (λ (n : ℕ). cond (n == node) next.amount (pos 0)) kept in
       omega (arith, ints));
   ascending = ascending_higher sums sum next (omega arith) so_far.ascending;
   none_zero = so_far.none_zero;
@@ -114,7 +115,8 @@ move_added xs sums i sum total there few small so_far same is =
     let len = length-take i xs in
     let s = so_far.small in
     let light : unsigned_abs sum.amount < 2 ^ 127 = omega arith in
-    let e : total ≡ sum.amount +ℤ m.amount = is ∙ ap (λ z. z +ℤ held m.amount) (as_held sum.amount light) ∙ ap (λ z. sum.amount +ℤ z) (as_held m.amount (omega arith)) in
+    let e : total ≡ sum.amount +ℤ m.amount = is ∙ ap (λ z. z +ℤ held m.amount) (as_held sum.amount light)
+    ∙ ap (λ z. sum.amount +ℤ z) (as_held m.amount (omega arith)) in
     let a : unsigned_abs (sum.amount +ℤ m.amount) ≤ unsigned_abs sum.amount + unsigned_abs m.amount = omega (arith, ints) in
     let b = ap unsigned_abs e in
     let h : held total ≡ total = as_held total (omega arith) in

@@ -8,7 +8,8 @@ use Rattle.romfs_format.specs.declared.rule.Profile.TheVariants.{Usual, Strict}
 use Rattle.romfs_format.specs.Rules.{number, stage, Breaks, BreaksAs, IsFaultAs, IsSoundAs}
 
 rules : List Rule
-rules = Short ∷ Magic ∷ FullSize ∷ Sum ∷ VolumeName ∷ NoRoot ∷ Outside ∷ NameOpen ∷ NameBad ∷ DataOutside ∷ TargetLong ∷ Twice ∷ SameName ∷ LinkLoop ∷ LinkDirectory ∷ MajorLarge ∷ HeaderSum ∷ Deep ∷ []
+rules = Short ∷ Magic ∷ FullSize ∷ Sum ∷ VolumeName ∷ NoRoot ∷ Outside ∷ NameOpen ∷ NameBad ∷ DataOutside
+    ∷ TargetLong ∷ Twice ∷ SameName ∷ LinkLoop ∷ LinkDirectory ∷ MajorLarge ∷ HeaderSum ∷ Deep ∷ []
 
 numbered : (r : Rule) → get_or rules (number r) Short ≡ r
 unfolding rules

@@ -143,7 +143,8 @@ module _ (a : List ℕ) (i : IsImage a) where
   pub way_falls : (head end after : Head) → IsOnWay a head end → end.kind ≡ HardLink
       → after ≡ head_of a (destination a end.offset)
       → count a (places a) after.offset < count a (places a) end.offset
-  way_falls head end after w k e = subst (λ x. count a (places a) x.offset < count a (places a) end.offset) (sym e) (hops a (places a) end.offset (hard head end w k) w.leaves).1
+  way_falls head end after w k e = subst (λ x. count a (places a) x.offset < count a (places a) end.offset)
+      (sym e) (hops a (places a) end.offset (hard head end w k) w.leaves).1
 
   pub arrives : (head end : Head) → IsOnWay a head end → end.kind ≢ HardLink → IsFinal a head.offset end.offset
   arrives head end w n = w.on end.offset (stays (λ l. n (ap (λ x. x.kind) w.is ∙ l.1)))

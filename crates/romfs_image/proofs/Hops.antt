@@ -52,7 +52,8 @@ one_out a (suc j) (suc k) h x y = ap suc (one_out a j k (destination a h) x.1 y.
 out_after : (a : List ℕ) (i k h : ℕ) → IsOut a (i + k) h → IsOut a k (hop a i h)
 unfolding IsOut hop
 out_after a zero k h x = let e : zero + k ≡ k = omega arith in subst (λ n. IsOut a n h) e x
-out_after a (suc i) k h x = let e : suc i + k ≡ suc (i + k) = omega arith in let y : IsOut a (suc (i + k)) h = subst (λ n. IsOut a n h) e x in out_after a i k (destination a h) y.1
+out_after a (suc i) k h x = let e : suc i + k ≡ suc (i + k) = omega arith in
+    let y : IsOut a (suc (i + k)) h = subst (λ n. IsOut a n h) e x in out_after a i k (destination a h) y.1
 
 hard_before : (a : List ℕ) (k h : ℕ) → IsOut a (suc k) h → IsHardLink a h
 unfolding IsOut

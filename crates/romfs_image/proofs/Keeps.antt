@@ -99,11 +99,31 @@ module _ (a : List ℕ) (i : IsImage a) where
 
   one_place : (d : ℕ) → IsOpened a d → (n m h : ℕ) → IsAt a d n h → IsAt a d m h → n ≡ m
   one_place d o zero zero h x y = refl
-  one_place d o zero (suc m) h x y = absurd (not_twice h (inl (first_of d, next_of y.0, (λ e. cc), (o, x), (d, record { opened = o; in_chain = (m, y.1) }, y.2))))
-  one_place d o (suc n) zero h x y = absurd (not_twice h (inl (first_of d, next_of x.0, (λ e. cc), (o, y), (d, record { opened = o; in_chain = (n, x.1) }, x.2))))
+  one_place d o zero (suc m) h x y = absurd (not_twice h
+      (inl (
+        first_of d,
+        next_of y.0,
+        (λ e. cc),
+        (o, x),
+        (d, record { opened = o; in_chain = (m, y.1) }, y.2),
+      )))
+  one_place d o (suc n) zero h x y = absurd (not_twice h
+      (inl (
+        first_of d,
+        next_of x.0,
+        (λ e. cc),
+        (o, y),
+        (d, record { opened = o; in_chain = (n, x.1) }, x.2),
+      )))
   one_place d o (suc n) (suc m) h x y = elim (cases_order x.0 y.0) [
     | inl e ↦ ap suc (one_place d o n m x.0 x.1 (subst (λ g. IsAt a d m g) (sym e) y.1))
-    | inr s ↦ absurd (not_twice h (inl (next_of x.0, next_of y.0, (λ e. let q : x.0 ≡ y.0 = cc in differ x.0 y.0 s q), (d, record { opened = o; in_chain = (n, x.1) }, x.2), (d, record { opened = o; in_chain = (m, y.1) }, y.2))))
+    | inr s ↦ absurd (not_twice h (inl (
+      next_of x.0,
+      next_of y.0,
+      (λ e. let q : x.0 ≡ y.0 = cc in differ x.0 y.0 s q),
+      (d, record { opened = o; in_chain = (n, x.1) }, x.2),
+      (d, record { opened = o; in_chain = (m, y.1) }, y.2),
+    )))
   ]
     where
       differ : (p q : ℕ) → (p < q) ⊎ (q < p) → p ≡ q → ⊥

@@ -34,5 +34,6 @@ unfolding name_field
 text_bytes a t p l e =
     let w = within (length a) p (ended (name_field a p)) t e in
     let f = front (take 256 (drop p a)) t w.0 in
-    let g : drop p a ≡ t ++ (f.0 ++ drop 256 (drop p a)) = sym (take-append-drop 256 (drop p a)) ∙ ap (λ x. x ++ drop 256 (drop p a)) f.1 ∙ append_assoc t f.0 (drop 256 (drop p a)) in
+    let g : drop p a ≡ t ++ (f.0 ++ drop 256 (drop p a)) = sym (take-append-drop 256 (drop p a))
+    ∙ ap (λ x. x ++ drop 256 (drop p a)) f.1 ∙ append_assoc t f.0 (drop 256 (drop p a)) in
     (w.1, rw g (take-append_seam t (f.0 ++ drop 256 (drop p a))))

@@ -34,7 +34,10 @@ tie j k = grind (arith, nat_tests)
 pub one_more : (a : List ℕ) (ends ends' : BTreeMap ℕ ℕ) (h e : ℕ) → AreEnds a ends → IsFinal a h e
     → ((q : ℕ) → get nat_cmp ends' q ≡ cond (is_eq (nat_cmp h q)) (Some e) (get nat_cmp ends q))
     → AreEnds a ends'
-one_more a ends ends' h e known f up = record { each = λ q g p. at q g (nat_eq h q) refl (ap (λ b. cond b (Some e) (get nat_cmp ends q)) (sym (tie h q)) ∙ sym (up q) ∙ p) }
+one_more a ends ends' h e known f up = record {
+  each = λ q g p. at q g (nat_eq h q) refl
+      (ap (λ b. cond b (Some e) (get nat_cmp ends q)) (sym (tie h q)) ∙ sym (up q) ∙ p);
+}
   where
     at : (q g : ℕ) (b : Bool) → nat_eq h q ≡ b → cond b (Some e) (get nat_cmp ends q) ≡ Some g → IsFinal a q g
     at q g true t p = (let s : e ≡ g = cc in subst (λ x. IsFinal a x g) (eqb-true h q t) (subst (IsFinal a h) s f))

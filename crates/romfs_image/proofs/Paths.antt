@@ -76,10 +76,15 @@ module _ (a : List ℕ) (i : IsImage a) where
   has_all (suc n) d [] h l x = (zero, omega arith, refl)
   has_all zero d (m ∷ path) h l x = absurd (omega arith)
   has_all (suc n) d (m ∷ path) h l (c, member, e, rest) =
-      let below : Contains (map (λ p. name_of a c ∷ p) (paths n c)) (name_of a c ∷ path) = in_below (name_of a c) (paths n c) path (has_all n c path h (omega arith) rest) in
+      let below : Contains (map (λ p. name_of a c ∷ p) (paths n c)) (name_of a c ∷ path) = in_below
+      (name_of a c) (paths n c) path (has_all n c path h (omega arith) rest) in
       let same : name_of a c ≡ m = ap (λ o. unwrap_or o []) e in
-      let here = in_flat (λ c. map (λ p. name_of a c ∷ p) (paths n c)) (chain_from a (places a) (cleared (spec a d))) member.in_chain.0 c (name_of a c ∷ path) (in_chain d c member) below in
-      Contains-append_right ([] ∷ []) _ (m ∷ path) (subst (λ y. Contains (flat_map (λ c. map (λ p. name_of a c ∷ p) (paths n c)) (chain_from a (places a) (cleared (spec a d)))) (y ∷ path)) same here)
+      let here = in_flat (λ c. map (λ p. name_of a c ∷ p) (paths n c))
+      (chain_from a (places a) (cleared (spec a d))) member.in_chain.0 c (name_of a c ∷ path)
+      (in_chain d c member) below in
+      Contains-append_right ([] ∷ []) _ (m ∷ path) (subst
+      (λ y. Contains (flat_map (λ c. map (λ p. name_of a c ∷ p) (paths n c))
+      (chain_from a (places a) (cleared (spec a d)))) (y ∷ path)) same here)
 
   pub all_paths : (all : List (List (List ℕ))) × ((path : List (List ℕ)) (h : ℕ) → Has a path h → Contains all path)
   all_paths = (paths 512 (root a), λ path h x. has_all 512 (root a) path h (short path h x) x)

@@ -135,8 +135,12 @@ module _ (a : List ℕ) (i : IsImage a) (head : Head) (g : IsGiven a head) (k : 
       → AreMembers a head.offset (members_from a head.offset h) × EndsWithin a (places a) h
       × All (λ x. IsGiven a x) (members_from a head.offset h)
   starts h s =
-      let l = listed a head.offset h (good a i head.offset opened) s in
-      (are_members a head.offset (chain_from a (places a) h) i opened l, ends a head.offset h (good a i head.offset opened) s, are_given a head.offset (chain_from a (places a) h) i opened l)
+      let l = listed a head.offset h (good a i head.offset opened) s in (
+        are_members a head.offset (chain_from a (places a) h) i opened l,
+        ends a head.offset h
+            (good a i head.offset opened) s,
+        are_given a head.offset (chain_from a (places a) h) i opened l,
+      )
 
   itself : (h : ℕ) → h ≡ cleared head.spec → h ≡ head.offset → h ≢ root a → IsStart a head.offset 0
   itself h c e n = record {

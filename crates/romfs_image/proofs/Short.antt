@@ -57,7 +57,11 @@ module _ (a : List ℕ) (image : IsImage a) (head : Head) (given : IsGiven a hea
   size_same : (n : ℕ) → n ≡ data_size head.kind head.size → n ≡ data_size (kind a head.offset) (size a head.offset)
   size_same n e = subst (λ (x : Head). n ≡ data_size x.kind x.size) given.is e
 
-  pub part_of_data : (head.kind ≡ Regular) ⊎ (head.kind ≡ SymLink) → IsDataPart a head.offset (record { start = head.name_at + padded (head.name_len + 1); len = head.size })
+  pub part_of_data : (head.kind ≡ Regular) ⊎ (head.kind ≡ SymLink)
+      → IsDataPart a head.offset (record {
+        start = head.name_at + padded (head.name_len + 1);
+        len = head.size;
+      })
   part_of_data k =
       let at = head.name_at + padded (head.name_len + 1) in
       let d = given_data a image head given k in

@@ -17,9 +17,9 @@
 //! ```
 //!
 //! What the calls promise is said by the definitions of `romfs_format`, and in `specs/`: what the readers give
-//! (`Readers`, step by step `Walks`, and `Ends`), what a checked image is known to be (`Images`), and why bytes are refused
-//! (`Refusals`, in words `Texts`). The readers are proved for every image that keeps all rules. [`laws`] says that each
-//! path of such an image has one header and at most 512 names, and that there are finitely many.
+//! (`Readers`, step by step `Walks`, and `Ends`), what a checked image is known to be (`Images`), and why bytes are
+//! refused (`Refusals`, in words `Texts`). The readers are proved for every image that keeps all rules. [`laws`] says
+//! that each path of such an image has one header and at most 512 names, and that there are finitely many.
 //!
 //! The crate stands on `romfs_format` for the format and `romfs_rules` for the check.
 #![tactic(auto)]

@@ -121,7 +121,8 @@ rest_cases : {b x : ℕ} {rest : List ℕ} → On (b ∷ rest) x → (x ≡ b) �
 rest_cases top = inl refl
 rest_cases (under o) = inr o
 
-module _ (next class first sibling cycle : List ℕ) (graph : IsGraph next class first sibling) (bottom : ℕ) (is : IsCycle next cycle) (on : On cycle bottom) where
+module _ (next class first sibling cycle : List ℕ) (graph : IsGraph next class first sibling) (bottom : ℕ)
+    (is : IsCycle next cycle) (on : On cycle bottom) where
   covers_ring : (u : ℕ) → get_or next u 0 ≡ bottom → Covers next cycle u
   covers_ring u e = record {
     on = λ y a. elim (after_next a) [
@@ -163,7 +164,8 @@ module _ (next class first sibling cycle : List ℕ) (graph : IsGraph next class
     }
 
     pub skips : (from at : ℕ) (steps : List Step) (entered noted : List Bool) (low : List ℕ) → IsSkipped sibling entered from at
-        → IsUnderWay next class first sibling cycle rest bottom from steps entered noted low → IsUnderWay next class first sibling cycle rest bottom at steps entered noted low
+        → IsUnderWay next class first sibling cycle rest bottom from steps entered noted low
+        → IsUnderWay next class first sibling cycle rest bottom at steps entered noted low
     skips from at steps entered noted low s w = record {
       tower = w.tower;
       lowest = w.lowest;
@@ -179,7 +181,8 @@ module _ (next class first sibling cycle : List ℕ) (graph : IsGraph next class
     }
 
     pub enters : (at old : ℕ) (steps : List Step) (entered noted noted' : List Bool) (low low' : List ℕ) (s : Step) → s.at ≡ at → s.low ≡ old
-        → at < length next → old ≡ get_or low (get_or class at 0) 0 → low' ≡ set low (get_or class at 0) (min old at) → IsNoted noted noted' (length class) old at
+        → at < length next → old ≡ get_or low (get_or class at 0) 0
+        → low' ≡ set low (get_or class at 0) (min old at) → IsNoted noted noted' (length class) old at
         → IsUnderWay next class first sibling cycle rest bottom at steps entered noted low
         → IsUnderWay next class first sibling cycle rest bottom (get_or first at 0) (s ∷ steps) (set entered at true) noted' low'
     enters at old steps entered noted noted' low low' s sa sl fits o lows made w =
@@ -189,8 +192,11 @@ module _ (next class first sibling cycle : List ℕ) (graph : IsGraph next class
         let here_next : get_or next at 0 ≡ top_of bottom steps = w.leads at (here (omega arith)) in
         let cover : Covers next (path cycle steps) at = covers w.tower at here_next in
         let known : get_or class at 0 < length class = (let e = graph.classes.each at fits in omega arith) in
-        let lowest : IsLowest class (path cycle steps) (length class) (get_or class at 0) old = subst (λ v. IsLowest class (path cycle steps) (length class) (get_or class at 0) v) (sym o) (w.lowest.each _ known) in
-        let spare : IsSpare class (at ∷ path cycle steps) noted' = spare_enters next class (path cycle steps) at old noted noted' (omega arith) lowest made w.spare in
+        let lowest : IsLowest class (path cycle steps) (length class) (get_or class at 0) old = subst
+        (λ v. IsLowest class (path cycle steps) (length class) (get_or class at 0) v) (sym o)
+        (w.lowest.each _ known) in
+        let spare : IsSpare class (at ∷ path cycle steps) noted' = spare_enters next class (path cycle steps)
+        at old noted noted' (omega arith) lowest made w.spare in
         record {
           tower = over w.tower (rw sa fits) (rw sa here_next) (rw (sa, sl) lowest);
           lowest = rw (sa, lows, o) (low_enters class low (path cycle steps) at (omega arith) known w.lowest);
@@ -226,7 +232,11 @@ module _ (next class first sibling cycle : List ℕ) (graph : IsGraph next class
             record {
               tower = t;
               lowest = low_leaves class low (path cycle steps) s.at (omega arith) (omega arith) s.low l w.lowest;
-              spare = record { sized = w.spare.sized; inside = λ x o. w.spare.inside x (under o); each = λ x y o p f k. w.spare.each x y (under o) (under p) f k };
+              spare = record {
+                sized = w.spare.sized;
+                inside = λ x o. w.spare.inside x (under o);
+                each = λ x y o p f k. w.spare.each x y (under o) (under p) f k;
+              };
               compared = w.compared;
               lower = w.lower;
               leads = λ x a. sibling_leads s.at x i a ∙ e;

@@ -38,24 +38,30 @@ module _ (n : ℕ) (words : List ℕ) (slot w : ℕ) (h : n ≤ length words * 6
 
   bit_same : is_bit with_bit slot ≡ true
   unfolding with_bit
-  bit_same = rw (get_or-set_same words (slot / 64) (bit_or w (1 * 2 ^ (slot % 64) % 2 ^ 64)) 0 (omega arith)) (rw (bit_at_set_same w64 w (slot % 64) (omega arith)) refl)
+  bit_same = rw (get_or-set_same words (slot / 64) (bit_or w (1 * 2 ^ (slot % 64) % 2 ^ 64)) 0 (omega arith))
+      (rw (bit_at_set_same w64 w (slot % 64) (omega arith)) refl)
 
   bit_other : (k : ℕ) → k ≢ slot → is_bit with_bit k ≡ is_bit words k
   unfolding with_bit
   bit_other k q = elim (cases_eq (k / 64) (slot / 64)) [
-    | inl f ↦ rw f (rw (get_or-set_same words (slot / 64) (bit_or w (1 * 2 ^ (slot % 64) % 2 ^ 64)) 0 (omega arith)) (rw (bit_at_set_other w64 w (slot % 64) (omega arith) (k % 64) (λ r. q (omega arith))) (rw e refl)))
+    | inl f ↦ rw f (rw (get_or-set_same words (slot / 64) (bit_or w (1 * 2 ^ (slot % 64) % 2 ^ 64)) 0
+        (omega arith)) (rw (bit_at_set_other w64 w (slot % 64) (omega arith) (k % 64) (λ r. q (omega arith)))
+        (rw e refl)))
     | inr f ↦ rw (get_or-set_other words (slot / 64) (k / 64) (bit_or w (1 * 2 ^ (slot % 64) % 2 ^ 64)) 0 f) refl
   ]
 
   with_bit_at : (k : ℕ) (d : Bool) → k < n → is_bit with_bit k ≡ get_or (set (bits n words) slot true) k d
   with_bit_at k d s = elim (cases_eq k slot) [
     | inl q ↦ rw q (bit_same ∙ sym (get_or-set_same (bits n words) slot true d (rw (bits_length n words) l)))
-    | inr q ↦ bit_other k q ∙ sym (bits_at n words k s) ∙ get_or_default (bits n words) k false d (rw (bits_length n words) s) ∙ sym (get_or-set_other (bits n words) slot k true d q)
+    | inr q ↦ bit_other k q ∙ sym (bits_at n words k s)
+        ∙ get_or_default (bits n words) k false d (rw (bits_length n words) s)
+        ∙ sym (get_or-set_other (bits n words) slot k true d q)
   ]
 
   pub bits_set : bits n (set words (slot / 64) (bit_or w (1 * 2 ^ (slot % 64) % 2 ^ 64))) ≡ set (bits n words) slot true
   unfolding with_bit
-  bits_set = same_lists (bits n with_bit) (set (bits n words) slot true) (bits_length n with_bit ∙ sym (length-set (bits n words) slot true ∙ bits_length n words)) (λ k d m.
+  bits_set = same_lists (bits n with_bit) (set (bits n words) slot true)
+      (bits_length n with_bit ∙ sym (length-set (bits n words) slot true ∙ bits_length n words)) (λ k d m.
       let s : k < n = subst (λ x. k < x) (bits_length n with_bit) m in
       get_or_default (bits n with_bit) k d false m ∙ bits_at n with_bit k s ∙ with_bit_at k d s)
 
@@ -67,17 +73,21 @@ rest_fits : (word slot : ℕ) → rest word slot < 2 ^ 64
 rest_fits word slot = let a = and_le_r word ((2 ^ 64 - 1) * 2 ^ (slot % 64) % 2 ^ 64) in omega arith
 
 rest_below : (word slot i : ℕ) → i < slot % 64 → bit_at (rest word slot) i ≡ 0
-rest_below word slot i l = rw (ones_shl 64 (slot % 64) (omega arith)) (bit_at_and word (2 ^ 64 - 2 ^ (slot % 64)) i ∙ rw (bit_at_mask_below (slot % 64) 64 i l) (omega arith))
+rest_below word slot i l = rw (ones_shl 64 (slot % 64) (omega arith))
+    (bit_at_and word (2 ^ 64 - 2 ^ (slot % 64)) i ∙ rw (bit_at_mask_below (slot % 64) 64 i l) (omega arith))
 
 rest_from : (word slot i : ℕ) → slot % 64 ≤ i → i < 64 → bit_at (rest word slot) i ≡ bit_at word i
-rest_from word slot i l m = rw (ones_shl 64 (slot % 64) (omega arith)) (bit_at_and word (2 ^ 64 - 2 ^ (slot % 64)) i ∙ rw (bit_at_mask_inside (slot % 64) 64 i l m) (let b = bit_at-lt word i in omega arith))
+rest_from word slot i l m = rw (ones_shl 64 (slot % 64) (omega arith))
+    (bit_at_and word (2 ^ 64 - 2 ^ (slot % 64)) i ∙ rw (bit_at_mask_inside (slot % 64) 64 i l m)
+    (let b = bit_at-lt word i in omega arith))
 
 module _ (words : List ℕ) (slot word : ℕ) (e : word ≡ get_or words (slot / 64) 0) where
   -- a slot of the same word, from this one on
   in_word : (k : ℕ) → slot ≤ k → k < (slot / 64 + 1) * 64 → is_bit words k ≡ (bit_at (rest word slot) (k % 64) == 1)
   in_word k l m =
       let q : k / 64 ≡ slot / 64 = omega arith in
-      ap (λ x. bit_at (get_or words x 0) (k % 64) == 1) q ∙ ap (λ x. bit_at x (k % 64) == 1) (sym e) ∙ ap (λ x. x == 1) (sym (rest_from word slot (k % 64) (omega arith) (omega arith)))
+      ap (λ x. bit_at (get_or words x 0) (k % 64) == 1) q ∙ ap (λ x. bit_at x (k % 64) == 1) (sym e)
+      ∙ ap (λ x. x == 1) (sym (rest_from word slot (k % 64) (omega arith) (omega arith)))
 
   -- where nothing is left the slots up to the next word are not in the set
   pub none_left : rest word slot ≡ 0 → (k : ℕ) → slot ≤ k → k < (slot / 64 + 1) * 64 → is_bit words k ≡ false
@@ -144,9 +154,12 @@ module _ (words : ℕ) (one other : List ℕ) where
         ≡ max (bit_at (get_or one (k / 64) 0) (k % 64)) (bit_at (get_or other (k / 64) 0) (k % 64))
     bit_is = ap (λ x. bit_at x (k % 64)) (joined_at (k / 64) l) ∙ bit_at_or (get_or one (k / 64) 0) (get_or other (k / 64) 0) (k % 64)
 
-    cases : ((max (bit_at (get_or one (k / 64) 0) (k % 64)) (bit_at (get_or other (k / 64) 0) (k % 64)) == 1) ≡ true → (is_bit one k ≡ true) ⊎ (is_bit other k ≡ true))
-        × ((max (bit_at (get_or one (k / 64) 0) (k % 64)) (bit_at (get_or other (k / 64) 0) (k % 64)) == 1) ≡ false → (is_bit one k ≡ false) × (is_bit other k ≡ false))
-    cases = either_bit (bit_at (get_or one (k / 64) 0) (k % 64)) (bit_at (get_or other (k / 64) 0) (k % 64)) (bit_at-lt (get_or one (k / 64) 0) (k % 64)) (bit_at-lt (get_or other (k / 64) 0) (k % 64))
+    cases : ((max (bit_at (get_or one (k / 64) 0) (k % 64)) (bit_at (get_or other (k / 64) 0) (k % 64)) == 1)
+        ≡ true → (is_bit one k ≡ true) ⊎ (is_bit other k ≡ true))
+        × ((max (bit_at (get_or one (k / 64) 0) (k % 64)) (bit_at (get_or other (k / 64) 0) (k % 64)) == 1)
+        ≡ false → (is_bit one k ≡ false) × (is_bit other k ≡ false))
+    cases = either_bit (bit_at (get_or one (k / 64) 0) (k % 64)) (bit_at (get_or other (k / 64) 0) (k % 64))
+        (bit_at-lt (get_or one (k / 64) 0) (k % 64)) (bit_at-lt (get_or other (k / 64) 0) (k % 64))
 
     pub in_either : is_bit (joined words one other) k ≡ true → (is_bit one k ≡ true) ⊎ (is_bit other k ≡ true)
     in_either e = cases.0 (ap (λ x. x == 1) (sym bit_is) ∙ e)

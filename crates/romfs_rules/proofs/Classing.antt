@@ -36,9 +36,15 @@ module _ (key : ℕ → Option (List ℕ)) (class : List ℕ) (known : List ℕ 
   class_none c n e =
       let s = length-append class (c ∷ []) in
       record {
-        below = λ k l. elim (at_cases class c k l) [ inl p ↦ (let b = w.below k p.0 in let f = p.1 in omega arith) | inr p ↦ (let f = p.0 in let h = p.1 in omega arith) ];
+        below = λ k l. elim (at_cases class c k l) [
+          | inl p ↦ (let b = w.below k p.0 in let f = p.1 in omega arith)
+          | inr p ↦ (let f = p.0 in let h = p.1 in omega arith)
+        ];
         none = λ k l f. elim (at_cases class c k l) [ inl p ↦ p.1 ∙ w.none k p.0 f | inr p ↦ p.1 ∙ e ∙ sym p.0 ];
-        some = λ k q l f. elim (at_cases class c k l) [ inl p ↦ w.some k q p.0 f ∙ ap (λ x. Some x) (sym p.1) | inr p ↦ absurd (none_some q (sym (ap key p.0 ∙ n) ∙ f)) ];
+        some = λ k q l f. elim (at_cases class c k l) [
+          | inl p ↦ w.some k q p.0 f ∙ ap (λ x. Some x) (sym p.1)
+          | inr p ↦ absurd (none_some q (sym (ap key p.0 ∙ n) ∙ f))
+        ];
         knows = λ q d f. (let r = w.knows q d f in let l = r.0 in (omega arith, r.1));
       }
 
@@ -57,7 +63,10 @@ module _ (key : ℕ → Option (List ℕ)) (class : List ℕ) (known : List ℕ 
       ends l k same =
           let s = length-append class (c ∷ []) in
           record {
-            below = λ i m. elim (at_cases class c i m) [ inl p ↦ (let b = w.below i p.0 in let h = p.1 in omega arith) | inr p ↦ (let h = p.1 in let j = p.0 in omega arith) ];
+            below = λ i m. elim (at_cases class c i m) [
+              | inl p ↦ (let b = w.below i p.0 in let h = p.1 in omega arith)
+              | inr p ↦ (let h = p.1 in let j = p.0 in omega arith)
+            ];
             none = λ i m h. elim (at_cases class c i m) [ inl p ↦ p.1 ∙ w.none i p.0 h | inr p ↦ absurd (none_some n (sym h ∙ ap key p.0 ∙ f)) ];
             some = λ i q m h. elim (at_cases class c i m) [
               | inl p ↦ elim (at_name q) [
@@ -78,15 +87,20 @@ module _ (key : ℕ → Option (List ℕ)) (class : List ℕ) (known : List ℕ 
           }
 
       go : (o : Option ℕ) → known n ≡ o → IsClassing key (class ++ c ∷ []) known'
-      go None h = let z : c ≡ length class = e ∙ ap (λ x. unwrap_or x (length class)) h in ends (omega arith) (ap key z ∙ f) (λ d k. absurd (none_some d (sym h ∙ k)))
-      go (Some d) h = let z : c ≡ d = e ∙ ap (λ x. unwrap_or x (length class)) h in let y = w.knows n d h in let b = y.0 in ends (omega arith) (ap key z ∙ y.1) (λ x k. z ∙ same_some d x (sym h ∙ k))
+      go None h = let z : c ≡ length class = e ∙ ap (λ x. unwrap_or x (length class)) h in
+          ends (omega arith) (ap key z ∙ f) (λ d k. absurd (none_some d (sym h ∙ k)))
+      go (Some d) h = let z : c ≡ d = e ∙ ap (λ x. unwrap_or x (length class)) h in let y = w.knows n d h in
+          let b = y.0 in ends (omega arith) (ap key z ∙ y.1) (λ x k. z ∙ same_some d x (sym h ∙ k))
 
   pub class_all : AreClasses key (length class) (class ++ length class ∷ [])
   class_all =
       let s = length-append class (length class ∷ []) in
       record {
         sized = s;
-        below = λ i l. elim (at_cases class (length class) i (omega arith)) [ inl p ↦ (let b = w.below i p.0 in let e = p.1 in let m = p.0 in omega arith) | inr p ↦ (let e = p.1 in omega arith) ];
+        below = λ i l. elim (at_cases class (length class) i (omega arith)) [
+          | inl p ↦ (let b = w.below i p.0 in let e = p.1 in let m = p.0 in omega arith)
+          | inr p ↦ (let e = p.1 in omega arith)
+        ];
         only = λ i j l m d e. elim (at_cases class (length class) i (omega arith)) [
           | inl p ↦ elim (at_cases class (length class) j (omega arith)) [
             | inl q ↦ (p.0, q.0, one_name i j p.0 q.0 d (sym p.1 ∙ e ∙ q.1))
@@ -97,7 +111,8 @@ module _ (key : ℕ → Option (List ℕ)) (class : List ℕ) (known : List ℕ 
             | inr q ↦ absurd (d (p.0 ∙ sym q.0))
           ]
         ];
-        all = λ i j q l m e f. get_or_append_left class _ 0 i l ∙ same_some _ _ (sym (w.some i q l e) ∙ w.some j q m f) ∙ sym (get_or_append_left class _ 0 j m);
+        all = λ i j q l m e f. get_or_append_left class _ 0 i l
+            ∙ same_some _ _ (sym (w.some i q l e) ∙ w.some j q m f) ∙ sym (get_or_append_left class _ 0 j m);
       }
     where
       both : (i j : ℕ) → i < length class → j < length class → i ≢ j → get_or class i 0 ≡ get_or class j 0

@@ -77,8 +77,10 @@ module _ (class low path : List ℕ) (u : ℕ) (fits : u < length class) (named 
   low_enters w = record {
     sized = length-set low _ _ ∙ w.sized;
     each = λ c l. elim (cases_eq c (get_or class u 0)) [
-      | inl e ↦ rw e (subst (λ v. IsLowest class (u ∷ path) (length class) (get_or class u 0) v) (sym (get_or-set_same low (get_or class u 0) _ 0 (low_fits w))) (lowest_enters _ (w.each _ named)))
-      | inr d ↦ subst (λ v. IsLowest class (u ∷ path) (length class) c v) (sym (get_or-set_other low (get_or class u 0) c _ 0 d)) (lowest_stays c _ d (w.each c l))
+      | inl e ↦ rw e (subst (λ v. IsLowest class (u ∷ path) (length class) (get_or class u 0) v)
+          (sym (get_or-set_same low (get_or class u 0) _ 0 (low_fits w))) (lowest_enters _ (w.each _ named)))
+      | inr d ↦ subst (λ v. IsLowest class (u ∷ path) (length class) c v)
+          (sym (get_or-set_other low (get_or class u 0) c _ 0 d)) (lowest_stays c _ d (w.each c l))
     ];
   }
 
@@ -87,7 +89,8 @@ module _ (class low path : List ℕ) (u : ℕ) (fits : u < length class) (named 
   low_leaves old o w = record {
     sized = length-set low _ _ ∙ w.sized;
     each = λ c l. elim (cases_eq c (get_or class u 0)) [
-      | inl e ↦ rw e (subst (λ v. IsLowest class path (length class) (get_or class u 0) v) (sym (get_or-set_same low (get_or class u 0) old 0 (let s = w.sized in omega arith))) o)
+      | inl e ↦ rw e (subst (λ v. IsLowest class path (length class) (get_or class u 0) v)
+          (sym (get_or-set_same low (get_or class u 0) old 0 (let s = w.sized in omega arith))) o)
       | inr d ↦ subst (λ v. IsLowest class path (length class) c v) (sym (get_or-set_other low (get_or class u 0) c old 0 d)) (lowest_leaves c _ d (w.each c l))
     ];
   }

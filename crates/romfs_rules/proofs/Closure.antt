@@ -58,7 +58,13 @@ module _ (a : List ℕ) where
     firsts : (d g : ℕ) → IsOpened a d → d ≢ root a → IsFirst a d g → IsInside a g → IsMarked marks g
     firsts d g (at_root e) z f i = absurd (z e)
     firsts d g (below {d = c} o k p s t) z f i = elim (cases_eq c (root a)) [
-      | inl e ↦ settled g i (w.seeds g (record { dir = d; in_chain = subst (λ y. IsInChain a y d) e k; other = z; opens = record { inside = s; kind = t; kept = λ q. p (inr q) }; first = f }))
+      | inl e ↦ settled g i (w.seeds g (record {
+        dir = d;
+        in_chain = subst (λ y. IsInChain a y d) e k;
+        other = z;
+        opens = record { inside = s; kind = t; kept = λ q. p (inr q) };
+        first = f;
+      }))
       | inr e ↦ at_marked c k.0 d k.1 (along c (λ h x. firsts c h o e x) k.0 d k.1 s) g (down z (record { inside = s; kind = t; kept = λ q. p (inr q) }) f) i
     ]
 
@@ -71,7 +77,10 @@ module _ (a : List ℕ) where
     still at g s (inr r) = inr r
     still at g s (inl c) = elim (Contains-append_cases todo (at ∷ []) g c) [
       | inl x ↦ inl x
-      | inr x ↦ elim s [ inl n ↦ inr (inl (subst (λ y. ¬ IsInside a y) (one_in at g x) n)) | inr m ↦ inr (inr (subst (λ y. IsMarked marks y) (one_in at g x) m)) ]
+      | inr x ↦ elim s [
+        | inl n ↦ inr (inl (subst (λ y. ¬ IsInside a y) (one_in at g x) n))
+        | inr m ↦ inr (inr (subst (λ y. IsMarked marks y) (one_in at g x) m))
+      ]
     ]
 
     let_go : (at : ℕ) → (¬ IsInside a at) ⊎ IsMarked marks at → Walked a (todo ++ at ∷ []) marks → Walked a todo marks
@@ -104,7 +113,10 @@ module _ (a : List ℕ) where
               | inl x ↦ w.waits h (Contains-append_left todo (at ∷ []) h x)
               | inr x ↦ leads_on at h here (only h x)
             ];
-            closed = λ k g m l. one_more marks at clean k (λ y. LeadsOn a y g → IsSettled a (todo ++ new) (set marks (at / 16) true) g) (λ o l. moves g (w.closed k g o l)) (λ l. inl (Contains-append_right todo new g (whole g l))) m l;
+            closed = λ k g m l. one_more marks at clean k
+                (λ y. LeadsOn a y g → IsSettled a (todo ++ new) (set marks (at / 16) true) g)
+                (λ o l. moves g (w.closed k g o l)) (λ l. inl (Contains-append_right todo new g (whole g l)))
+                m l;
             seeds = λ g d. moves g (w.seeds g d);
           }
 
@@ -201,7 +213,9 @@ module _ (a : List ℕ) (root_chain : List Bool) (r : AreMarks a (IsInRootChain 
         | inr x ↦ (let z = (one.each g).0 (some_has w g x) in record { dir = n * 16; in_chain = (r.each n m).0; other = z.0; opens = z.1; first = z.2 })
       ];
       all = λ k g l q z o f. elim (cases_eq k n) [
-        | inl e ↦ Contains-append_right todo (option_to_list w) g (has_some w g ((one.each g).1 (subst (λ y. (y * 16 ≢ root a) × Opens a (y * 16) × IsFirst a (y * 16) g) e (z, o, f))))
+        | inl e ↦ Contains-append_right todo (option_to_list w) g
+            (has_some w g ((one.each g).1 (subst (λ y. (y * 16 ≢ root a) × Opens a (y * 16) × IsFirst a
+            (y * 16) g) e (z, o, f))))
         | inr e ↦ Contains-append_left todo (option_to_list w) g (s.all k g (omega arith) q z o f)
       ];
     })

@@ -58,7 +58,8 @@ module _ (a : List ℕ) where
       once_all = λ f h s i. (c.once_each (h / 16)).1 (elim s [ inl o ↦ inl (t.once_all f h o i) | inr x ↦ inr (slot_of h x.1 i) ]);
       twice_each = λ k m. elim ((c.twice_each k).0 m) [
         | inl o ↦ (let x = t.twice_each k o in (x.0, x.1, x.2, inl x.3, inl x.4, x.5))
-        | inr s ↦ (let x = t.once_each k s.1 in let y = at_slot k s.0 in (x.0, g, λ e. fresh (k * 16) (subst (λ z. S z (k * 16)) e x.1), inl x.1, inr (refl, y.0), x.2))
+        | inr s ↦ (let x = t.once_each k s.1 in let y = at_slot k s.0 in
+            (x.0, g, λ e. fresh (k * 16) (subst (λ z. S z (k * 16)) e x.1), inl x.1, inr (refl, y.0), x.2))
       ];
       twice_all = λ f d h n s u i. (c.twice_each (h / 16)).1 (elim s [
         | inl o ↦ elim u [
@@ -145,8 +146,10 @@ module _ (a : List ℕ) where
       → Tallied (Below (slot + 1)) once_after twice_after
   passes slot once twice once_after twice_after c t =
       same_tally (Both slot) (Below (slot + 1)) once_after twice_after (up slot) (down slot)
-      (counts_more (With (Below slot) (next_of (slot * 16))) (first_of (slot * 16)) no_first_yet c.first c.once_between c.twice_between once_after twice_after c.is_first c.counts_first
-      (counts_more (Below slot) (next_of (slot * 16)) (λ h x. no_less (slot * 16) x.1) c.next once twice c.once_between c.twice_between c.is_next c.counts_next t))
+      (counts_more (With (Below slot) (next_of (slot * 16))) (first_of (slot * 16)) no_first_yet c.first
+      c.once_between c.twice_between once_after twice_after c.is_first c.counts_first
+      (counts_more (Below slot) (next_of (slot * 16)) (λ h x. no_less (slot * 16) x.1) c.next once twice
+      c.once_between c.twice_between c.is_next c.counts_next t))
     where
       no_less : (n : ℕ) → ¬ (n < n)
       no_less n l = omega arith
@@ -163,7 +166,8 @@ module _ (a : List ℕ) where
   pub skipped_to : IsVolumeImage a → (headers : List Bool) → AreMarks a (IsInSomeChain a) headers
       → (low high : ℕ) (once twice : List Bool) → root a < low * 16 → low ≤ high → IsClear headers low high
       → Tallied (Below low) once twice → Tallied (Below high) once twice
-  skipped_to v headers m low high once twice r l c t = over_to (λ k. Tallied (Below k) once twice) low high l t (λ k n o x. same_tally (Below k) (Below (k + 1)) once twice
+  skipped_to v headers m low high once twice r l c t = over_to (λ k. Tallied (Below k) once twice) low high l
+      t (λ k n o x. same_tally (Below k) (Below (k + 1)) once twice
       (λ f h y. (y.0, (let z = y.1 in omega arith)))
       (λ f h y. (
         y.0,
@@ -173,7 +177,9 @@ module _ (a : List ℕ) where
               let e : place_of f ≡ k * 16 = (let p = cleared_place f h y.0 in let q = y.1 in omega arith) in
               absurd (elim (place_chained f h y.0) [
                 | inl q ↦ (let d : k * 16 ≡ root a = sym e ∙ q in omega arith)
-                | inr q ↦ outside_set a (IsInSomeChain a) headers m low high c k n o (subst (λ i. IsInside a i) e (inside_place v f h y.0)) (subst (λ i. IsInSomeChain a i) e q)
+                | inr q ↦ outside_set a (IsInSomeChain a) headers m low high c k n o
+                    (subst (λ i. IsInside a i) e (inside_place v f h y.0))
+                    (subst (λ i. IsInSomeChain a i) e q)
               ]))
         ],
       )) x)

@@ -56,12 +56,15 @@ led a w next first before middle after x y m k = record {
         let p : h ≡ w.header = ap (λ z. z.header) e in
         let q : n ≡ w.names = ap (λ z. z.names) e in
         subst (λ k. Contains (waiting next w.names ++ waiting first (w.names + 1)) (at_names g k)) (sym q)
-        (Contains-append_left (waiting next w.names) (waiting first (w.names + 1)) (at_names g w.names) (is_waiting next w.names g ((x.each g).1 (subst (λ k. IsNext a k g) p i))))
+        (Contains-append_left (waiting next w.names) (waiting first (w.names + 1)) (at_names g w.names)
+        (is_waiting next w.names g ((x.each g).1 (subst (λ k. IsNext a k g) p i))))
     all u v e (down {h = h} {g = g} {n = n} z o f) =
         let p : h ≡ w.header = ap (λ z. z.header) e in
         let q : n ≡ w.names = ap (λ z. z.names) e in
         subst (λ k. Contains (waiting next w.names ++ waiting first (w.names + 1)) (at_names g (k + 1))) (sym q)
-        (Contains-append_right (waiting next w.names) (waiting first (w.names + 1)) (at_names g (w.names + 1)) (is_waiting first (w.names + 1) g ((y.each g).1 (subst (λ k. (k ≢ root a) × Opens a k × IsFirst a k g) p (z, o, f)))))
+        (Contains-append_right (waiting next w.names) (waiting first (w.names + 1)) (at_names g (w.names + 1))
+        (is_waiting first (w.names + 1) g ((y.each g).1
+        (subst (λ k. (k ≢ root a) × Opens a k × IsFirst a k g) p (z, o, f)))))
 
 -- v has been marked, lies outside, or is still to come
 abbrev pub IsSettled : List ℕ → List Waiting → List Bool → Waiting → Type 0
@@ -110,11 +113,18 @@ there_is P (Some g) x = (g, refl, x)
 module _ (a : List ℕ) (keeps : KeepsAllHeaderRules Usual a) where
   -- what stands where w leads
   below_too : (w v : Waiting) → StandsBelow a w.names w.header → LeadsDown a w v → StandsBelow a v.names v.header
-  below_too w v s (on {h = h} {g = g} {n = n} i) = record { dir = s.dir; below = s.below; opened = s.opened; in_chain = (suc s.in_chain.0, (h, s.in_chain.1, i)) }
+  below_too w v s (on {h = h} {g = g} {n = n} i) = record
+      { dir = s.dir; below = s.below; opened = s.opened; in_chain = (suc s.in_chain.0, (h, s.in_chain.1, i)) }
   below_too w v s (down {h = h} {g = g} {n = n} z o f) =
       let m : IsMember a s.dir h = record { opened = s.opened; in_chain = s.in_chain; kept = elim [ inl x ↦ z x.1 | inr x ↦ o.kept x ] } in
       let e : suc n ≡ n + 1 = omega arith in
-      subst (λ k. StandsBelow a k g) e (record { dir = h; below = (s.dir, s.below, m); opened = below s.opened s.in_chain m.kept o.inside o.kind; in_chain = (zero, f) })
+      subst (λ k. StandsBelow a k g) e (record {
+        dir = h;
+        below = (s.dir, s.below, m);
+        opened = below s.opened
+            s.in_chain m.kept o.inside o.kind;
+        in_chain = (zero, f);
+      })
 
   slot_of : (n h : ℕ) → StandsBelow a n h → h / 16 * 16 ≡ h
   slot_of n h s = cleared_in_chain a s.dir h s.in_chain
@@ -163,8 +173,16 @@ module _ (a : List ℕ) (keeps : KeepsAllHeaderRules Usual a) where
       → IsTheOne (IsFirst a (root a)) first → todo ≡ waiting first 0 → Descends a todo marks None
   begun todo marks first s e f t = record {
     sized = s;
-    waits = λ w c. (let r = waits_for first 0 w (subst (λ x. Contains x w) t c) in subst (λ v. StandsBelow a v.names v.header) (sym r.2) (record { dir = root a; below = refl; opened = at_root refl; in_chain = (zero, (f.each r.0).0 r.1) }));
-    low = λ w c. (let r = waits_for first 0 w (subst (λ x. Contains x w) t c) in let z : w.names ≡ 0 = ap (λ v. v.names) r.2 in let u = few_marks marks in omega arith);
+    waits = λ w c. (let r = waits_for first 0 w (subst (λ x. Contains x w) t c) in
+        subst (λ v. StandsBelow a v.names v.header) (sym r.2)
+        (record {
+          dir = root a;
+          below = refl;
+          opened = at_root refl;
+          in_chain = (zero, (f.each r.0).0 r.1);
+        }));
+    low = λ w c. (let r = waits_for first 0 w (subst (λ x. Contains x w) t c) in
+        let z : w.names ≡ 0 = ap (λ v. v.names) r.2 in let u = few_marks marks in omega arith);
     closed = λ k n v m x l. absurd (true≢false (sym m ∙ e k));
     start = λ h x. inl (subst (λ y. Contains y (at_names h 0)) (sym t) (is_waiting first 0 h ((f.each h).1 x)));
     holds = tt;
@@ -211,7 +229,8 @@ module _ (a : List ℕ) (keeps : KeepsAllHeaderRules Usual a) where
     pub names_fit : w.header / 16 < length marks → get_or marks (w.header / 16) false ≡ false → w.names + 1 ≤ length marks
     names_fit fits free = let m = marks_fall marks (w.header / 16) fits free in let l = d.low w itself in omega arith
 
-    module _ (fits : w.header / 16 < length marks) (free : get_or marks (w.header / 16) false ≡ false) (after : List Waiting) (f : Adds (LeadsDown a w) rest after) where
+    module _ (fits : w.header / 16 < length marks) (free : get_or marks (w.header / 16) false ≡ false)
+        (after : List Waiting) (f : Adds (LeadsDown a w) rest after) where
       abbrev marked_too : List Bool
       marked_too = set marks (w.header / 16) true
 
@@ -281,7 +300,9 @@ module _ (a : List ℕ) (keeps : KeepsAllHeaderRules Usual a) where
           start = λ h x. moves (at_names h 0) (d.start h x);
           holds = holds_too;
           least = λ k m x. elim (was_set marks (w.header / 16) k m) [
-            | inl e ↦ (let h : k * 16 ≡ w.header = ap (λ y. y * 16) e ∙ slot in subst (λ q. IsSomeAnd now (λ h. h ≤ q)) (sym h) (least_itself (subst (λ q. BreaksHeader a Deep q) h x)))
+            | inl e ↦ (let h : k * 16 ≡ w.header = ap (λ y. y * 16) e ∙ slot in
+                subst (λ q. IsSomeAnd now (λ h. h ≤ q)) (sym h)
+                (least_itself (subst (λ q. BreaksHeader a Deep q) h x)))
             | inr o ↦ least_before (k * 16) (d.least k o x)
           ];
         }

@@ -80,7 +80,8 @@ module _ (a : List ℕ) where
     where
       onward : IsHardLink a (destination a h) → IsFollowed a marks (destination a h)
       onward m = elim f [
-        | inl x ↦ subst (λ y. IsFollowed a marks y) (twice_cleared (spec a h)) (c.each (destination a h / 16) x (subst (λ y. IsHardLink a y) (sym (twice_cleared (spec a h))) m))
+        | inl x ↦ subst (λ y. IsFollowed a marks y) (twice_cleared (spec a h))
+            (c.each (destination a h / 16) x (subst (λ y. IsHardLink a y) (sym (twice_cleared (spec a h))) m))
         | inr n ↦ absurd (n m.0)
       ]
 
@@ -123,7 +124,9 @@ module _ (a : List ℕ) where
   pub skipped_to : (headers : List Bool) → AreMarks a (IsInSomeChain a) headers
       → (low high : ℕ) (marks : List Bool) → low ≤ high → IsClear headers low high → Reaches low marks
       → Reaches high marks
-  skipped_to headers m low high marks l c r = over_to (λ k. Reaches k marks) low high l r (λ k n o x. skips k marks (λ y. outside_set a (IsInSomeChain a) headers m low high c k n o y.0.0 (member_in_chain a (k * 16) y.1)) x)
+  skipped_to headers m low high marks l c r = over_to (λ k. Reaches k marks) low high l r
+      (λ k n o x. skips k marks (λ y. outside_set a (IsInSomeChain a) headers m low high c k n o y.0.0
+      (member_in_chain a (k * 16) y.1)) x)
 
   pub all_targets : (marks : List Bool) → Reaches (length a / 16) marks → AreMarks a (IsTarget a) marks
   all_targets marks r = record { sized = r.sized; each = r.each; all = all }
@@ -133,4 +136,6 @@ module _ (a : List ℕ) where
           let l = hard a x in
           let c : h / 16 * 16 ≡ h = cleared_in_chain a d h m.in_chain in
           let b : h / 16 < length a / 16 = (let j = l.0.1 in omega arith) in
-          whole marks r.closed x (subst (λ y. IsFollowed a marks y) c (r.below (h / 16) b (subst (λ y. IsHardLink a y) (sym c) l) (subst (λ y. IsSomeMember a y) (sym c) (d, m)))) i
+          whole marks r.closed x (subst (λ y. IsFollowed a marks y) c
+          (r.below (h / 16) b (subst (λ y. IsHardLink a y) (sym c) l)
+          (subst (λ y. IsSomeMember a y) (sym c) (d, m)))) i

@@ -88,7 +88,12 @@ module _ (a : List ℕ) (ends : List End) where
     where
       found : (k n : ℕ) → get_or marks k 0 ≡ suc n → (n < length (ends ++ r ∷ [])) × EndsAs a (k * 16) (get_or (ends ++ r ∷ []) n AtDirectory)
       found k n e = elim (cases_order n (length ends)) [
-        | inl q ↦ (let s = length-append ends (r ∷ []) in omega arith, rw (q, get_or_at ends r [] AtDirectory (length ends) refl) (g.on k r (e ∙ (let z : suc n ≡ length ends + 1 = omega arith in z)) x))
+        | inl q ↦ (
+          let s = length-append ends (r ∷ []) in
+              omega arith,
+          rw (q, get_or_at ends r [] AtDirectory (length ends) refl)
+              (g.on k r (e ∙ (let z : suc n ≡ length ends + 1 = omega arith in z)) x),
+        )
         | inr (inl l) ↦ (let s = length-append ends (r ∷ []) in omega arith, rw (get_or_append_left ends (r ∷ []) AtDirectory n l) (g.past k n e l))
         | inr (inr l) ↦ (let h = g.high k in absurd (omega arith))
       ]
@@ -105,7 +110,11 @@ module _ (a : List ℕ) (ends : List End) where
         subst (λ y. IsHardLink a y) s.0 (g.hard (h / 16) s.1),
         (
           twice_cleared (spec a h),
-          elim (subst (λ y. (cleared (spec a y) ≡ at) ⊎ (get_or marks (cleared (spec a y) / 16) 0 ≡ length ends + 1)) s.0 (g.closed (h / 16) s.1)) [ inl e ↦ rw e m | inr x ↦ x ],
+          elim (subst (λ y. (cleared (spec a y) ≡ at) ⊎ (get_or marks (cleared (spec a y) / 16) 0 ≡ length
+              ends + 1)) s.0 (g.closed (h / 16) s.1)) [
+                | inl e ↦ rw e m
+                | inr x ↦ x
+              ],
         ),
       )
 
@@ -132,7 +141,8 @@ module _ (a : List ℕ) (ends : List End) where
       sized = length-set marks (at / 16) (length ends + 1) ∙ g.sized;
       small = omega arith;
       aligned = twice_cleared (spec a at);
-      high = λ k. by_mark k _ refl (λ p q. let d : get_or (set marks (at / 16) (length ends + 1)) k 0 ≡ length ends + 1 = sym q in omega arith) (λ q. rw (← q) (g.high k));
+      high = λ k. by_mark k _ refl (λ p q. let d : get_or (set marks (at / 16) (length ends + 1)) k 0 ≡ length
+          ends + 1 = sym q in omega arith) (λ q. rw (← q) (g.high k));
       past = λ k n e m. by_mark k (suc n) e (λ p q. absurd (omega arith)) (λ q. g.past k n q m);
       hard = λ k e. by_mark k _ e (λ p q. rw p l) (λ q. g.hard k q);
       on = λ k r e x. by_mark k _ e (λ p q. rw p (back a at r l x)) (λ q. g.on k r q (back a at r l x));
@@ -155,7 +165,8 @@ module _ (a : List ℕ) (ends : List End) where
   -- a mark of an earlier walk says where the chain ends
   pub meets : (from at m n : ℕ) (marks : List ℕ) → Going a ends from at marks → get_or marks (at / 16) 0 ≡ m
       → m ≢ 0 → m ≢ length ends + 1 → n ≡ m - 1 → EndsAs a at (get_or ends n AtDirectory)
-  meets from at m n marks g e z o p = let h = g.high (at / 16) in let q : m ≡ suc n = omega arith in subst (λ y. EndsAs a y (get_or ends n AtDirectory)) g.aligned (g.past (at / 16) n (e ∙ q) (omega arith))
+  meets from at m n marks g e z o p = let h = g.high (at / 16) in let q : m ≡ suc n = omega arith in
+      subst (λ y. EndsAs a y (get_or ends n AtDirectory)) g.aligned (g.past (at / 16) n (e ∙ q) (omega arith))
 
   pub read : (from at m : ℕ) (marks : List ℕ) → Going a ends from at marks → IsHardLink a at → m ≡ get_or marks (at / 16) m → get_or marks (at / 16) 0 ≡ m
   read from at m marks g l e = get_or_default marks (at / 16) 0 m (let i = l.0.1 in let s = g.sized in omega arith) ∙ sym e
@@ -252,7 +263,9 @@ module _ (a walks : List ℕ) (ends : List End) (slot : ℕ) (f : Found a walks 
 pub found_to : (a walks : List ℕ) (ends : List End) (targets : List Bool) → AreMarks a (IsTarget a) targets
     → (low high : ℕ) → low ≤ high → IsClear targets low high → Found a walks ends low
     → Found a walks ends high
-found_to a walks ends targets m low high l c f = over_to (λ k. Found a walks ends k) low high l f (λ k n o x. found_same a walks ends k x (λ y. outside_set a (IsTarget a) targets m low high c k n o y.1.0.0 y.0))
+found_to a walks ends targets m low high l c f = over_to (λ k. Found a walks ends k) low high l f
+    (λ k n o x. found_same a walks ends k x (λ y. outside_set a (IsTarget a) targets m low high c k n o
+    y.1.0.0 y.0))
 
 -- the number of a walk says where its chain ends
 module _ (a : List ℕ) (walks : Words) (ends : List End) (at : ℕ) (k : KnowsEnd a walks ends at) where
@@ -270,4 +283,6 @@ module _ (a : List ℕ) (walks : Words) (ends : List End) (at : ℕ) (k : KnowsE
     ended_in = (k.known.known.each (at / 16) (walk - 1) reads).0
 
     pub ended_as : (end : End) → end ≡ get_or ends (walk - 1) end → EndsAs a at end
-    ended_as end e = subst (λ r. EndsAs a at r) (get_or_default ends (walk - 1) AtDirectory end ended_in ∙ sym e) (subst (λ y. EndsAs a y (get_or ends (walk - 1) AtDirectory)) (cleared_destination a k.target.3) (k.known.known.each (at / 16) (walk - 1) reads).1)
+    ended_as end e = subst (λ r. EndsAs a at r) (get_or_default ends (walk - 1) AtDirectory end ended_in
+        ∙ sym e) (subst (λ y. EndsAs a y (get_or ends (walk - 1) AtDirectory))
+        (cleared_destination a k.target.3) (k.known.known.each (at / 16) (walk - 1) reads).1)

@@ -54,7 +54,8 @@ module _ (set : List Bool) where
       count = length_push heads (slot * 16) ∙ ap (λ x. x + 1) w.count ∙ sym (rank_member set slot e);
       few = (let f = w.few in let s = length_push heads (slot * 16) in omega arith);
       rising = λ i j l k. elim (places heads (slot * 16) j k) [
-        | inl p ↦ (let r = w.rising i j l p.0 in let a = p.1 in let b = get_or_append_left heads (slot * 16 ∷ []) 0 i (let q = p.0 in omega arith) in omega arith)
+        | inl p ↦ (let r = w.rising i j l p.0 in let a = p.1 in
+            let b = get_or_append_left heads (slot * 16 ∷ []) 0 i (let q = p.0 in omega arith) in omega arith)
         | inr p ↦ (
             let q : i < length heads = (let a = p.0 in omega arith) in
             let r = w.each i q in
@@ -157,7 +158,9 @@ module _ (heads : List ℕ) (noted : List Bool) (count : ℕ) (found : List ℕ)
           | inr (inr d) ↦ absurd (omega arith)
         ];
         rising = λ i j l k. elim (places found (get_or heads count 0) j k) [
-          | inl p ↦ (let r = w.rising i j l p.0 in let a = p.1 in let b = get_or_append_left found (get_or heads count 0 ∷ []) 0 i (let q = p.0 in omega arith) in omega arith)
+          | inl p ↦ (let r = w.rising i j l p.0 in let a = p.1 in
+              let b = get_or_append_left found (get_or heads count 0 ∷ []) 0 i (let q = p.0 in omega arith) in
+              omega arith)
           | inr p ↦ (
               let q : i < length found = (let a = p.0 in omega arith) in
               let b = get_or_append_left found (get_or heads count 0 ∷ []) 0 i q in

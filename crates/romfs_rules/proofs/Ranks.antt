@@ -42,7 +42,8 @@ rank_rises set n (suc more) =
     omega arith
 
 pub rank_up : (set : List Bool) (m n : ℕ) → m ≤ n → rank set m ≤ rank set n
-rank_up set m n l = let e : rank set (m + (n - m)) ≡ rank set n = ap (rank set) (let z : m + (n - m) ≡ n = omega arith in z) in let r = rank_rises set m (n - m) in omega arith
+rank_up set m n l = let e : rank set (m + (n - m)) ≡ rank set n = ap (rank set)
+    (let z : m + (n - m) ≡ n = omega arith in z) in let r = rank_rises set m (n - m) in omega arith
 
 pub rank_few : (set : List Bool) (n : ℕ) → rank set n ≤ n
 rank_few set zero = let z = rank_zero set in omega arith

@@ -50,7 +50,12 @@ module _ (a : List ℕ) where
     target_named g (d, h, m, x) =
         let r = last h g x in
         elim r.3 [
-          | inl e ↦ record { from = r.0; inside = r.1.0; slot = rw e (cleared_in_chain a d h m.in_chain); names = inr (inr (inl (subst (IsSomeMember a) (sym e) (d, m)), r.1, r.2)) }
+          | inl e ↦ record {
+            from = r.0;
+            inside = r.1.0;
+            slot = rw e (cleared_in_chain a d h m.in_chain);
+            names = inr (inr (inl (subst (IsSomeMember a) (sym e) (d, m)), r.1, r.2));
+          }
           | inr y ↦ record { from = r.0; inside = r.1.0; slot = cleared_destination a y; names = inr (inr (inr (d, h, m, y), r.1, r.2)) }
         ]
 
@@ -194,11 +199,12 @@ module _ (a : List ℕ) (Q : ℕ → Type 0) where
       → AreMarks a (IsTarget a) targets → (low high : ℕ) (found : Option ℕ) → root a < low * 16 → low ≤ high
       → IsClear headers low high → IsClear targets low high → IsFoundBefore low found
       → IsFoundBefore high found
-  scanned_to headers targets m t low high found r l c d f = over_to (λ k. IsFoundBefore k found) low high l f (λ k n o x. scan_over k found (λ g i y. elim (names_from (k * 16) g y) [
-    | inl e ↦ omega arith
-    | inr (inl z) ↦ outside_set a (IsInSomeChain a) headers m low high c k n o i z
-    | inr (inr z) ↦ outside_set a (IsTarget a) targets t low high d k n o i z
-  ]) x)
+  scanned_to headers targets m t low high found r l c d f = over_to (λ k. IsFoundBefore k found) low high l f
+      (λ k n o x. scan_over k found (λ g i y. elim (names_from (k * 16) g y) [
+        | inl e ↦ omega arith
+        | inr (inl z) ↦ outside_set a (IsInSomeChain a) headers m low high c k n o i z
+        | inr (inr z) ↦ outside_set a (IsTarget a) targets t low high d k n o i z
+      ]) x)
 
   pub all_scanned : IsVolumeImage a → (n : ℕ) (found : Option ℕ) → length a / 16 ≤ n
       → ((g : ℕ) → Q g → g ≢ root a) → IsFoundBefore n found → IsLeast (λ g. IsReached a g × Q g) found

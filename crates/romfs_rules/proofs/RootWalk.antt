@@ -67,5 +67,7 @@ module _ (a : List ℕ) where
         each = λ k m. one_more marks at clean k (λ y. IsInRootChain a y × IsInside a y) (w.each k) (w.here i, i) m;
         here = λ j. (let c = w.here i in (suc c.0, (at, c.1, (i, is, not_zero v after j))));
         first = λ g x. moves g (w.first g x);
-        closed = λ k g m x. one_more marks at clean k (λ y. IsNext a y g → IsDone a (set marks (at / 16) true) after g) (λ o y. moves g (w.closed k g o y)) (λ y. inl (y.1 ∙ sym is)) m x;
+        closed = λ k g m x. one_more marks at clean k
+            (λ y. IsNext a y g → IsDone a (set marks (at / 16) true) after g)
+            (λ o y. moves g (w.closed k g o y)) (λ y. inl (y.1 ∙ sym is)) m x;
       }

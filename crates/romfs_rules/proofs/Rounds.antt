@@ -90,7 +90,8 @@ pub record IsRounding (next class : List ℕ) (first entered : List Bool) (from 
   pub on : (x : ℕ) → On path x → On path (get_or next x 0) ⊎ (get_or next x 0 ≡ at)
   pub start : ((at ≡ from) × (path ≡ [])) ⊎ On path from
 
-module _ (next class : List ℕ) (few : length class ≡ length next) (leads : AreBelow next (length next)) (classes : AreBelow class (length next)) (from : ℕ) (cycle : After next from from) where
+module _ (next class : List ℕ) (few : length class ≡ length next) (leads : AreBelow next (length next))
+    (classes : AreBelow class (length next)) (from : ℕ) (cycle : After next from from) where
   pub begins : (entered noted : List Bool) (low : List ℕ) → get_or entered from false ≡ false
       → IsFound next class [] [] entered noted low
       → IsRounding next class entered entered from from [] noted low
@@ -119,10 +120,12 @@ module _ (next class : List ℕ) (few : length class ≡ length next) (leads : A
   pub enters : (first entered noted noted' : List Bool) (at old : ℕ) (path low low' : List ℕ)
       → at < length next → at < length entered → old ≡ get_or low (get_or class at 0) 0
       → low' ≡ set low (get_or class at 0) (min old at) → IsNoted noted noted' (length class) old at
-      → IsRounding next class first entered from at path noted low → IsRounding next class first (set entered at true) from (get_or next at 0) (at ∷ path) noted' low'
+      → IsRounding next class first entered from at path noted low
+      → IsRounding next class first (set entered at true) from (get_or next at 0) (at ∷ path) noted' low'
   enters first entered noted noted' at old path low low' fits room o lows made w =
       let known : get_or class at 0 < length class = (let e = classes.each at fits in omega arith) in
-      let lowest : IsLowest class path (length class) (get_or class at 0) old = subst (λ v. IsLowest class path (length class) (get_or class at 0) v) (sym o) (w.lowest.each _ known) in
+      let lowest : IsLowest class path (length class) (get_or class at 0) old = subst
+      (λ v. IsLowest class path (length class) (get_or class at 0) v) (sym o) (w.lowest.each _ known) in
       record {
         lowest = rw (lows, o) (low_enters class low path at (omega arith) known w.lowest);
         spare = spare_enters next class path at old noted noted' (omega arith) lowest made w.spare;
@@ -224,7 +227,9 @@ clears_all class low w = record {
 -- where nothing has been entered
 pub nothing : (next class low : List ℕ) (entered noted : List Bool) → length class ≡ length next
     → length entered ≡ length next → length noted ≡ length class → length low ≡ length class
-    → ((x : ℕ) → get_or entered x false ≡ false) → ((x : ℕ) → get_or noted x false ≡ false) → ((c : ℕ) → c < length class → get_or low c 0 ≡ length class) → IsFound next class [] [] entered noted low
+    → ((x : ℕ) → get_or entered x false ≡ false) → ((x : ℕ) → get_or noted x false ≡ false)
+    → ((c : ℕ) → c < length class → get_or low c 0 ≡ length class)
+    → IsFound next class [] [] entered noted low
 nothing next class low entered noted f e n k x y z = record {
   lowest = record { sized = k; each = λ c l. record { there = inl (z c l); least = λ y o e. absurd (elim o [ ]) } };
   spare = record { sized = n; inside = λ x o. absurd (elim o [ ]); each = λ x y o p e l. absurd (elim o [ ]) };

@@ -58,7 +58,12 @@ module _ (a : List ℕ) where
   linked_clear h l = cleared_in_chain a l.dir h l.stands.in_chain
 
   next_linked : (h g : ℕ) → IsLinked a h → IsNext a h g → IsInside a g → IsLinked a g
-  next_linked h g l n i = record { inside = i; dir = l.dir; stands = record { opened = l.stands.opened; in_chain = (suc l.stands.in_chain.0, (h, l.stands.in_chain.1, n)) } }
+  next_linked h g l n i = record {
+    inside = i;
+    dir = l.dir;
+    stands = record
+        { opened = l.stands.opened; in_chain = (suc l.stands.in_chain.0, (h, l.stands.in_chain.1, n)) };
+  }
 
   -- what the set is of
   pub numbered : (set : List Bool) (heads : List ℕ) → AreMarks a (IsInSomeChain a) set → AreCollected set (length set) heads → AreNumbered a heads set
@@ -230,8 +235,10 @@ module _ (a heads : List ℕ) (set : List Bool) (next class : List ℕ) (noted :
       let b = w.below in
       let s = c.only y i (omega arith) (omega arith) (omega arith) w.same in
       elim w.along [
-        | inl r ↦ (let p = (n.each i l).stands in share_name i y s.2.0 l s.0 b s.2.2 s.2.1 (n.each i l).dir p.opened p.in_chain (in_chain_too a _ p.in_chain (forth l s.0 r)))
-        | inr r ↦ (let p = (n.each y s.0).stands in share_name i y s.2.0 l s.0 b s.2.2 s.2.1 (n.each y s.0).dir p.opened (in_chain_too a _ p.in_chain (forth s.0 l r)) p.in_chain)
+        | inl r ↦ (let p = (n.each i l).stands in share_name i y s.2.0 l s.0 b s.2.2 s.2.1 (n.each i l).dir
+            p.opened p.in_chain (in_chain_too a _ p.in_chain (forth l s.0 r)))
+        | inr r ↦ (let p = (n.each y s.0).stands in share_name i y s.2.0 l s.0 b s.2.2 s.2.1
+            (n.each y s.0).dir p.opened (in_chain_too a _ p.in_chain (forth s.0 l r)) p.in_chain)
       ]
 
   member_linked : (d h : ℕ) → IsMember a d h → IsInside a h → IsLinked a h

@@ -17,7 +17,9 @@ pub listed_none : (next first sibling : List ℕ) → first ≡ replicate (lengt
     → sibling ≡ replicate (length next) (length next) → AreListed next first sibling (length next)
 listed_none next first sibling e f =
     let sized : length sibling ≡ length next = ap length f ∙ length-replicate _ _ in
-    let at : (xs : List ℕ) → xs ≡ replicate (length next) (length next) → (t : ℕ) → t < length next → get_or xs t 0 ≡ length next = λ xs k t l. ap (λ ys. get_or ys t 0) k ∙ get_or-replicate (length next) t (length next) 0 l in
+    let at : (xs : List ℕ) → xs ≡ replicate (length next) (length next) → (t : ℕ) → t < length next
+    → get_or xs t 0 ≡ length next = λ xs k t l. ap (λ ys. get_or ys t 0) k
+    ∙ get_or-replicate (length next) t (length next) 0 l in
     record {
       firsts = ap length e ∙ length-replicate _ _;
       siblings = sized;
@@ -97,7 +99,9 @@ module _ (next first sibling : List ℕ) (at : ℕ) (fits : at < length next) (b
               let i = b.each x k in
               elim (cases_eq (get_or next x 0) (get_or next at 0)) [
                 | inl e ↦ subst (λ y. Ahead more_sibling y x) (sym (ap (λ y. get_or more_first y 0) e ∙ here_first))
-                    (later (let s = sized in let f = w.siblings in omega arith) (subst (λ y. Ahead more_sibling y x) (ap (λ y. get_or first y 0) e ∙ sym here_sibling) (forth (past _ i) a)))
+                    (later (let s = sized in let f = w.siblings in omega arith)
+                    (subst (λ y. Ahead more_sibling y x) (ap (λ y. get_or first y 0) e ∙ sym here_sibling)
+                    (forth (past _ i) a)))
                 | inr f ↦ subst (λ y. Ahead more_sibling y x) (sym (other_first _ f)) (forth (past _ i) a)
               ])
         ];

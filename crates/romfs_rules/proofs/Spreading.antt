@@ -33,17 +33,23 @@ module _ (marks : List Bool) (words : List ℕ) (k : ℕ) (m : get_or marks k fa
       spread_at marks (set words (rank marks k) v) j d s ∙ at j d s)
     where
       other : (j : ℕ) → j ≢ k → (b : Bool) → get_or marks j false ≡ b → word_at marks (set words (rank marks k) v) j ≡ word_at marks words j
-      other j n true e = ap (λ x. cond (get_or marks j false) x 0) (get_or-set_other words (rank marks k) (rank marks j) v 0 (λ q. n (rank_once marks j k e m q)))
-      other j n false e = ap (λ b. cond b (get_or (set words (rank marks k) v) (rank marks j) 0) 0) e ∙ sym (ap (λ b. cond b (get_or words (rank marks j) 0) 0) e)
+      other j n true e = ap (λ x. cond (get_or marks j false) x 0)
+          (get_or-set_other words (rank marks k) (rank marks j) v 0 (λ q. n (rank_once marks j k e m q)))
+      other j n false e = ap (λ b. cond b (get_or (set words (rank marks k) v) (rank marks j) 0) 0) e
+          ∙ sym (ap (λ b. cond b (get_or words (rank marks j) 0) 0) e)
 
       at : (j d : ℕ) → j < length marks → word_at marks (set words (rank marks k) v) j ≡ get_or (set (spread marks words) k v) j d
       at j d s = elim (cases_eq j k) [
-        | inl q ↦ rw q (ap (λ b. cond b (get_or (set words (rank marks k) v) (rank marks k) 0) 0) m ∙ get_or-set_same words (rank marks k) v 0 f ∙ sym (get_or-set_same (spread marks words) k v d (rw (spread_length marks words) (member_inside marks k m))))
+        | inl q ↦ rw q (ap (λ b. cond b (get_or (set words (rank marks k) v) (rank marks k) 0) 0) m
+            ∙ get_or-set_same words (rank marks k) v 0 f
+            ∙ sym (get_or-set_same (spread marks words) k v d
+            (rw (spread_length marks words) (member_inside marks k m))))
         | inr n ↦ other j n (get_or marks j false) refl ∙ sym (spread_at marks words j d s) ∙ sym (get_or-set_other (spread marks words) k j v d n)
       ]
 
 pub spread_none : (marks : List Bool) (words : List ℕ) (n : ℕ) → words ≡ replicate n 0 → spread marks words ≡ replicate (length marks) 0
-spread_none marks words n e = same_lists (spread marks words) (replicate (length marks) 0) (spread_length marks words ∙ sym (length-replicate (length marks) 0)) (λ k d l.
+spread_none marks words n e = same_lists (spread marks words) (replicate (length marks) 0)
+    (spread_length marks words ∙ sym (length-replicate (length marks) 0)) (λ k d l.
     let s : k < length marks = subst (λ x. k < x) (spread_length marks words) l in
     spread_at marks words k d s ∙ zeros k (get_or marks k false) ∙ sym (get_or-replicate (length marks) k 0 d s))
   where

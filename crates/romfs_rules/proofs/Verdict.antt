@@ -146,7 +146,11 @@ module _ (profile : Profile) (a : List ℕ) (h : ℕ) where
 
   -- a header inside the image keeps the first
   pub none_tried : IsInside a h → KeepsBefore profile a h 7
-  none_tried i = record { keeps = λ s x l b. let e : number s ≡ number Outside = (let m = x.0 in omega arith) in (subst (λ r. BreaksHeaderAs profile a r h) (one_rule s Outside e) b).1 i }
+  none_tried i = record {
+    keeps = λ s x l b. let e : number s ≡ number
+        Outside = (let m = x.0 in omega arith) in (subst (λ r. BreaksHeaderAs profile a r h)
+        (one_rule s Outside e) b).1 i;
+  }
 
   pub one_tried : (r : Rule) (n : ℕ) → number r ≡ n → KeepsBefore profile a h n → ¬ BreaksHeaderAs profile a r h → KeepsBefore profile a h (n + 1)
   one_tried r n e k m = record {
@@ -193,7 +197,8 @@ module _ (profile : Profile) (a : List ℕ) (v : IsVolumeImage a) where
       → AreMarks a (IsTarget a) targets → (low high : ℕ) → root a < low * 16 → low ≤ high
       → high ≤ length a / 16 → IsClear headers low high → IsClear targets low high
       → KeepsBelow profile a (low * 16) → KeepsBelow profile a (high * 16)
-  scanned_to headers targets m t low high r l h c d k = over_to (λ n. KeepsBelow profile a (n * 16)) low high l k (λ n o p x. scan_more n x (unreached profile a (n * 16) (λ y.
+  scanned_to headers targets m t low high r l h c d k = over_to (λ n. KeepsBelow profile a (n * 16)) low high
+      l k (λ n o p x. scan_more n x (unreached profile a (n * 16) (λ y.
       let i = slot_inside a n (omega arith) (omega arith) in
       elim ((reached a (n * 16)).0 y) [
         | inl e ↦ omega arith
@@ -215,7 +220,12 @@ module _ (profile : Profile) (a : List ℕ) (v : IsVolumeImage a) where
 
   -- the first fault is at the root, or further up
   pub at_root : (f : ImageFault) (place : ℕ) → place ≡ root a → (f.place ≡ place) × IsFirstRule profile a place f.rule → IsFirstInside profile a f.rule f.place
-  at_root f place t (e, r) = subst (IsFirstInside profile a f.rule) (sym (e ∙ t)) (record { slot = root_slot; rule = subst (λ h. IsFirstRule profile a h f.rule) t r; below = none_below })
+  at_root f place t (e, r) = subst (IsFirstInside profile a f.rule) (sym (e ∙ t))
+      (record {
+        slot = root_slot;
+        rule = subst (λ h. IsFirstRule profile a h f.rule) t r;
+        below = none_below;
+      })
 
   pub at_slot : (f : ImageFault) (h : ℕ) → HasSlot a h → KeepsBelow profile a h
       → (f.place ≡ h) × IsFirstRule profile a h f.rule → IsFirstInside profile a f.rule f.place
@@ -226,7 +236,9 @@ module _ (profile : Profile) (a : List ℕ) (v : IsVolumeImage a) where
       let c = cleared_root a in
       let q : root a / 16 * 16 ≡ root a = c in
       let r : (root a / 16 + 1) * 16 ≡ slot * 16 = omega arith in
-      subst (KeepsBelow profile a) r (scan_more (root a / 16) (subst (KeepsBelow profile a) (sym q) none_below) (subst (KeepsHeaderRules profile a) (t ∙ sym q) k))
+      subst (KeepsBelow profile a) r (scan_more (root a / 16)
+      (subst (KeepsBelow profile a) (sym q) none_below)
+      (subst (KeepsHeaderRules profile a) (t ∙ sym q) k))
 
   pub scan_all : (slot : ℕ) → length a / 16 ≤ slot → KeepsBelow profile a (slot * 16) → KeepsBelow profile a (length a)
   scan_all slot m k = record { keeps = λ h s l. k.keeps h s (let c = s.aligned in let i = s.inside.1 in omega arith) }
@@ -339,4 +351,8 @@ module _ (profile : Profile) (b : List ℕ) (v : IsVolume b) where
 
 -- what every profile asks is kept under the usual one
 pub usual_kept : (profile : Profile) (a : List ℕ) → KeepsAllHeaderRules profile a → KeepsAllHeaderRules Usual a
-usual_kept profile a k = record { keeps = λ s q x b. k.keeps s q x (by_rule (λ r. BreaksHeader a r q → BreaksHeaderAs profile a r q) (λ y. y) (λ y. y) (λ y. y) (λ y. y) (λ y. y) (λ y. y) (λ y. y) (λ y. y) (λ y. y) (λ y. y) (λ y. absurd y) s x b) }
+usual_kept profile a k = record {
+  keeps = λ s q x b. k.keeps s q x
+      (by_rule (λ r. BreaksHeader a r q → BreaksHeaderAs profile a r q) (λ y. y) (λ y. y) (λ y. y) (λ y. y)
+      (λ y. y) (λ y. y) (λ y. y) (λ y. y) (λ y. y) (λ y. y) (λ y. absurd y) s x b);
+}

@@ -70,10 +70,13 @@ module _ (b : List ℤ) (place : ℕ) (amount : ℤ) (l : place < length b) wher
   at_place i true e =
       let p : place ≡ i = (let q = eqb-true (place + 1) (i + 1) e in omega arith) in
       let g = get_or-set_same b place (get_or b place (pos 0) +ℤ amount) (pos 0) l in
-      subst (λ (j : ℕ). balance_at added j ≡ balance_at b j +ℤ (amount +ℤ pos 0)) p (g ∙ (let z : get_or b place (pos 0) +ℤ amount ≡ get_or b place (pos 0) +ℤ (amount +ℤ pos 0) = omega (arith, ints) in z))
+      subst (λ (j : ℕ). balance_at added j ≡ balance_at b j +ℤ (amount +ℤ pos 0)) p
+      (g ∙ (let z : get_or b place (pos 0) +ℤ amount ≡ get_or b place (pos 0) +ℤ (amount +ℤ pos 0) = omega
+      (arith, ints) in z))
   at_place i false e =
       let n : i ≢ place = λ q. (let r = eq-eqb (place + 1) (i + 1) (let s : place + 1 ≡ i + 1 = omega arith in s) in cc) in
-      get_or-set_other b place i (get_or b place (pos 0) +ℤ amount) (pos 0) n ∙ (let z : get_or b i (pos 0) ≡ get_or b i (pos 0) +ℤ (pos 0 +ℤ pos 0) = omega (arith, ints) in z)
+      get_or-set_other b place i (get_or b place (pos 0) +ℤ amount) (pos 0) n
+      ∙ (let z : get_or b i (pos 0) ≡ get_or b i (pos 0) +ℤ (pos 0 +ℤ pos 0) = omega (arith, ints) in z)
 
   pub one_moved : IsMoved (record { node = place + 1; amount = amount } ∷ []) b added
   one_moved = record { same = length-set b place _; each = λ i h. at_place i (place + 1 == i + 1) refl }

@@ -81,7 +81,9 @@ module _ (by : Answering) (s : Session) where
       AreAnswered by s ms t put (record { old = a; new = b }) → AreAnswered by t ns u more (record { old = b; new = c }) →
       AreAnswered by s (ms ++ ns) u (put ++ more) (record { old = a; new = c })
   answered_on ms ns t u put more a b c x y = record {
-    session = y.session ∙ ap (λ v. session_at v (map asked ns)) x.session ∙ sym (session_append s (map asked ms) (map asked ns)) ∙ ap (session_at s) (sym (map-append asked ms ns));
+    session = y.session ∙ ap (λ v. session_at v (map asked ns)) x.session
+        ∙ sym (session_append s (map asked ms) (map asked ns))
+        ∙ ap (session_at s) (sym (map-append asked ms ns));
     told =
         ap (λ v. v ++ more) x.told
         ∙ ap (λ v. replies_by by.reply s (map asked ms) ++ v) (y.told ∙ ap (λ v. replies_by by.reply v (map asked ns)) x.session)
@@ -110,7 +112,9 @@ module _ (by : Answering) (s : Session) where
   }
 
   -- balances stay far from 2^127 however much of a stream is answered
-  pub still_within : (limit used : ℕ) (ms : List (List ℕ)) (t : Session) (put : List ℕ) (a b : List ℤ) (stream : List ℕ) → AreWithin limit a → AreFirst stream ms used → AreAnswered by s ms t put (record { old = a; new = b }) → AreWithin (limit + 2 ^ 64 * used) b
+  pub still_within : (limit used : ℕ) (ms : List (List ℕ)) (t : Session) (put : List ℕ) (a b : List ℤ)
+      (stream : List ℕ) → AreWithin limit a → AreFirst stream ms used
+      → AreAnswered by s ms t put (record { old = a; new = b }) → AreWithin (limit + 2 ^ 64 * used) b
   still_within limit used ms t put a b stream w f x =
       let k = x.light in
       let e = f.size in
@@ -133,22 +137,29 @@ module _ (by : Answering) (s : Session) (stream : List ℕ) where
 
   -- one message more, as the code cuts it
   pub one_more : (round : Round) (put more : List ℕ) (a b c : List ℤ) (rest : List ℕ) (len : ℕ) (after : Session) →
-      IsSoFar by s stream round put (record { old = a; new = b }) → rest ≡ drop round.used stream → BeginsMessage rest len → IsAnswered by round.session (take len rest) after more (record { old = b; new = c }) →
+      IsSoFar by s stream round put (record { old = a; new = b }) → rest ≡ drop round.used stream
+      → BeginsMessage rest len → IsAnswered by round.session (take len rest) after more
+      (record { old = b; new = c }) →
       IsSoFar by s stream (record { used = round.used + len; messages = round.messages + 1; session = after }) (put ++ more) (record { old = a; new = c })
   one_more round put more a b c rest len after f e m x =
-      let there : AreFirst (drop round.used stream) (take len rest ∷ []) len = subst (λ (r : List ℕ). AreFirst r (take len rest ∷ []) len) e (one_first rest len m) in
+      let there : AreFirst (drop round.used stream) (take len rest ∷ []) len = subst
+      (λ (r : List ℕ). AreFirst r (take len rest ∷ []) len) e (one_first rest len m) in
       record {
         messages = f.messages ++ take len rest ∷ [];
         first = first_on stream f.messages (take len rest ∷ []) round.used len f.first there;
         count = (let k = f.count in let n = length-append f.messages (take len rest ∷ []) in omega arith);
-        answered = answered_on by s f.messages (take len rest ∷ []) round.session after put more a b c f.answered (one_answered by round.session (take len rest) after more (record { old = b; new = c }) x);
+        answered = answered_on by s f.messages (take len rest ∷ []) round.session after put more a b c
+            f.answered (one_answered by round.session (take len rest) after more (record { old = b; new = c })
+            x);
       }
 
   pub is_round : (round : Round) (put : List ℕ) (b : Balances) → IsSoFar by s stream round put b
       → (0 < round.messages) ⊎ IsRest (drop round.used stream) → IsRound by s stream round put b
   is_round round put b f o = record { messages = f.messages; first = f.first; count = f.count; answered = f.answered; some = elim o [ inl h ↦ inl (let k = f.count in omega arith) | inr r ↦ inr r ] }
 
-  pub so_far_within : (round : Round) (put : List ℕ) (a b : List ℤ) → IsSoFar by s stream round put (record { old = a; new = b }) → AreWithin (2 ^ 122) a → length stream ≤ 2 ^ 57 → AreWithin (2 ^ 123) b
+  pub so_far_within : (round : Round) (put : List ℕ) (a b : List ℤ)
+      → IsSoFar by s stream round put (record { old = a; new = b }) → AreWithin (2 ^ 122) a
+      → length stream ≤ 2 ^ 57 → AreWithin (2 ^ 123) b
   so_far_within round put a b f w n =
       let u = first_within stream f.messages round.used f.first in
       within_less _ _ b (omega arith) (still_within by s (2 ^ 122) round.used f.messages round.session put a b stream w f.first f.answered)

@@ -12,7 +12,8 @@ same_itself : (p : Place) → same_place p p ≡ true
 same_itself p = rw (eq-eqb p.0 p.0 refl, eq-eqb p.1 p.1 refl) refl
 
 same_is : (p q : Place) → same_place p q ≡ true → p ≡ q
-same_is p q e = let b = and_parts (nat_eq p.0 q.0) (nat_eq p.1 q.1) e in let f = eqb-true p.0 q.0 b.0 in let g = eqb-true p.1 q.1 b.1 in ap (λ x. (x, p.1)) f ∙ ap (λ y. (q.0, y)) g
+same_is p q e = let b = and_parts (nat_eq p.0 q.0) (nat_eq p.1 q.1) e in let f = eqb-true p.0 q.0 b.0 in
+    let g = eqb-true p.1 q.1 b.1 in ap (λ x. (x, p.1)) f ∙ ap (λ y. (q.0, y)) g
 
 -- no place comes twice
 abbrev Once : List Place → Type 0
@@ -199,7 +200,9 @@ entries_numbered entries e f a b =
     (rw (m.1) refl, (λ i. one m.0 m.1 (sym i ∙ m.1), λ i. ap (number_of entries) i))
   where
     one : (m : ℕ) → number_of entries (place e) ≡ Some m → number_of entries (place f) ≡ Some m → place e ≡ place f
-    one m i j = let x = (number_used entries m (place e)).0 i in let y = (number_used entries m (place f)).0 j in let z : Some (place e) ≡ Some (place f) = sym x ∙ y in cc
+    one m i j = let x = (number_used entries m (place e)).0 i in
+        let y = (number_used entries m (place f)).0 j in
+        let z : Some (place e) ≡ Some (place f) = sym x ∙ y in cc
 
 pub root_first : (layers : List (List ℕ)) (entries : List Entry) (e : Entry) → IsListing layers entries
     → IsAmong e entries → e.path ≡ [] → number_of entries (place e) ≡ Some 1

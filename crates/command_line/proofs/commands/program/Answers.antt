@@ -8,6 +8,11 @@ use Rattle.command_line.proofs.commands.program.Goals as goal
 pub returns : goal.returns
 returns c =
     let top : app_of c.subcommand_required.result ≡ top_command = search rules in
-    let first = added_command c.subcommand_required.result c.in_ok-serve.field-0 c.in_ok-subcommand.field-0 _ serve_command c.in_ok-subcommand.ensures top c.in_ok-serve.ensures refl in
-    let second = added_command c.in_ok-subcommand.field-0 c.in_ok-over_images.field-0 c.in_ok-subcommand-2.field-0 _ (images_command (codes "check")) c.in_ok-subcommand-2.ensures first c.in_ok-over_images.ensures refl in
-    IfOk-weaker c.subcommand-3.result _ _ (λ command added. added_command c.in_ok-subcommand-2.field-0 c.in_ok-over_images-2.field-0 command _ (images_command (codes "list")) added second c.in_ok-over_images-2.ensures refl) c.subcommand-3.ensures
+    let first = added_command c.subcommand_required.result c.in_ok-serve.field-0 c.in_ok-subcommand.field-0 _
+    serve_command c.in_ok-subcommand.ensures top c.in_ok-serve.ensures refl in
+    let second = added_command c.in_ok-subcommand.field-0 c.in_ok-over_images.field-0
+    c.in_ok-subcommand-2.field-0 _ (images_command (codes "check")) c.in_ok-subcommand-2.ensures first
+    c.in_ok-over_images.ensures refl in
+    IfOk-weaker c.subcommand-3.result _ _ (λ command added. added_command c.in_ok-subcommand-2.field-0
+    c.in_ok-over_images-2.field-0 command _ (images_command (codes "list")) added second
+    c.in_ok-over_images-2.ensures refl) c.subcommand-3.ensures

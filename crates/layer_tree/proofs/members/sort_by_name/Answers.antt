@@ -11,4 +11,7 @@ use Rattle.layer_tree.proofs.members.sort_by_name.Goals as goal
 pub returns-clause-sorted : goal.returns-clause-sorted
 returns-clause-sorted g c =
     let keyed = All-permutation IsKeyed _ _ c.sort_unstable_by.ensures.permutation c.requires in
-    by_name _ keyed (c.sort_unstable_by.ensures.sorted (λ x y. is_lt (name_cmp (x.key ∷ x.name.now) (y.key ∷ y.name.now))) (ranks_by nat_list_cmp_total (λ (x : Named). x.key ∷ x.name.now)) (answers_always _ _ _ (λ f a r g h. search rules)))
+    by_name _ keyed (c.sort_unstable_by.ensures.sorted
+    (λ x y. is_lt (name_cmp (x.key ∷ x.name.now) (y.key ∷ y.name.now)))
+    (ranks_by nat_list_cmp_total (λ (x : Named). x.key ∷ x.name.now))
+    (answers_always _ _ _ (λ f a r g h. search rules)))

@@ -28,18 +28,29 @@ branches_below-loop-member-smaller g t c =
 
 pub branches_below-loop-member-preserved-then-is_marker : goal.branches_below-loop-member-preserved-then-is_marker
 branches_below-loop-member-preserved-then-is_marker g t c =
-    let lt : c.loop-member.member-index < length c.args.members.now = omega arith in
-    (build_hidden c.args.image.now c.args.layer c.args.members.now c.loop-member.member-index c.loop-member.entries.items c.loop-member.marks.items lt c.loop-member.invariant.0 (sym c.if-is_marker.ensures), c.loop-member.invariant.1)
+    let lt : c.loop-member.member-index < length c.args.members.now = omega arith in (
+      build_hidden c.args.image.now c.args.layer c.args.members.now c.loop-member.member-index
+          c.loop-member.entries.items c.loop-member.marks.items lt c.loop-member.invariant.0
+          (sym c.if-is_marker.ensures),
+      c.loop-member.invariant.1,
+    )
 
 pub branches_below-loop-member-preserved : goal.branches_below-loop-member-preserved
 branches_below-loop-member-preserved g t c =
-    let lt : c.loop-member.member-index < length c.args.members.now = omega arith in
-    (build_one c.args.image.now c.args.layer c.args.members.now c.loop-member.member-index c.loop-member.entries.items c.loop-member.marks.items lt c.loop-member.invariant.0 c.in_ok-entry.entry c.in_ok-entry.mark c.push.new.self.items c.push-in-loop-member.new.self.items (λ h. let f = c.if-is_marker.ensures in cc) c.in_ok-entry.ensures.made c.in_ok-push.ensures.items c.in_ok-push-2.ensures.items, c.branches_of.ensures.ends)
+    let lt : c.loop-member.member-index < length c.args.members.now = omega arith in (
+      build_one c.args.image.now c.args.layer c.args.members.now c.loop-member.member-index
+          c.loop-member.entries.items c.loop-member.marks.items lt c.loop-member.invariant.0 c.in_ok-entry.entry
+          c.in_ok-entry.mark c.push.new.self.items c.push-in-loop-member.new.self.items
+          (λ h. let f = c.if-is_marker.ensures in cc) c.in_ok-entry.ensures.made c.in_ok-push.ensures.items
+          c.in_ok-push-2.ensures.items,
+      c.branches_of.ensures.ends,
+    )
 
 pub branches_below-returns : goal.branches_below-returns
 branches_below-returns g t c =
     let le : length c.args.members.now ≤ c.loop-member.member-index = omega arith in
     record {
-      built = building_ended c.args.image.now c.args.layer c.args.members.now c.loop-member.member-index c.loop-member.entries.items c.loop-member.marks.items le c.loop-member.invariant.0;
+      built = building_ended c.args.image.now c.args.layer c.args.members.now c.loop-member.member-index
+          c.loop-member.entries.items c.loop-member.marks.items le c.loop-member.invariant.0;
       ends = c.loop-member.invariant.1;
     }

@@ -30,8 +30,18 @@ returns g c =
     let e : c.in_ok-entry_name.entry_name ≡ c.args.name.now = c.in_ok-entry_name.ensures in
     let f : c.in_ok-mark_name.mark_name ≡ c.args.name.now = c.in_ok-mark_name.ensures in
     let directory : kind a h ≡ Directory = sym (ap (λ (x : Head). x.kind) c.requires.given.is) ∙ c.requires.directory in
-    let held = opaque_is_held a c.requires.sound c.args.layer h c.args.members.now c.args.below.entries.items c.args.below.marks.items c.in_ok-whiteouts.whiteouts.items c.in_ok-marks.marks.items c.requires.members c.requires.below c.in_ok-whiteouts.ensures c.in_ok-marks.ensures in
-    let is : c.has_opaque-opaque.result ≡ is_some (named rest_of_opaque c.in_ok-whiteouts.whiteouts.items) = c.has_opaque-opaque.ensures ∙ ap (λ ks. is_some (named rest_of_opaque ks)) c.deref.ensures.value in
+    let held = opaque_is_held a c.requires.sound c.args.layer h c.args.members.now c.args.below.entries.items
+    c.args.below.marks.items c.in_ok-whiteouts.whiteouts.items c.in_ok-marks.marks.items
+    c.requires.members c.requires.below c.in_ok-whiteouts.ensures c.in_ok-marks.ensures in
+    let is : c.has_opaque-opaque.result ≡ is_some (named rest_of_opaque
+    c.in_ok-whiteouts.whiteouts.items) = c.has_opaque-opaque.ensures
+    ∙ ap (λ ks. is_some (named rest_of_opaque ks)) c.deref.ensures.value in
     let whole : (c.has_opaque-opaque.result ≡ true) ↔ HasNamed a h opaque = subst (λ b. (b ≡ true) ↔ HasNamed a h opaque) (sym is) held in
-    let entry = entered a c.args.layer h c.args.head.now c.entry_at-entry.result c.requires.given (directory_stays a h directory) c.entry_at-entry.ensures.layer c.entry_at-entry.ensures.header c.entry_at-entry.ensures.kind in
-    rw (c.new-entries.ensures, c.new-marks.ensures, e, f) (folder a c.requires.sound c.args.layer h c.args.members.now c.args.below.entries.items c.args.below.marks.items c.in_ok-whiteouts.whiteouts.items c.in_ok-marks.marks.items c.requires.members c.requires.below c.in_ok-whiteouts.ensures c.in_ok-marks.ensures c.has_opaque-opaque.result whole directory c.args.name.now c.entry_at-entry.result entry)
+    let entry = entered a c.args.layer h c.args.head.now c.entry_at-entry.result c.requires.given
+    (directory_stays a h directory) c.entry_at-entry.ensures.layer c.entry_at-entry.ensures.header
+    c.entry_at-entry.ensures.kind in
+    rw (c.new-entries.ensures, c.new-marks.ensures, e, f)
+    (folder a c.requires.sound c.args.layer h c.args.members.now c.args.below.entries.items
+    c.args.below.marks.items c.in_ok-whiteouts.whiteouts.items c.in_ok-marks.marks.items
+    c.requires.members c.requires.below c.in_ok-whiteouts.ensures c.in_ok-marks.ensures
+    c.has_opaque-opaque.result whole directory c.args.name.now c.entry_at-entry.result entry)

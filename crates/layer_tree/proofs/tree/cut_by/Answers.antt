@@ -8,16 +8,23 @@ pub returns-then-mark : goal.returns-then-mark
 returns-then-mark g c =
     let lt : c.loop-name.name-index < length c.args.path.now = omega arith in
     let e : cuts_below (Some c.loop-name.here.now.value) ≡ true = search rules in
-    sym (cut_here c.args.marks.now c.args.path.now c.loop-name.name-index c.loop-name.here.now (record { ref_ptr = (0, 0); now = [] }) lt c.loop-name.invariant e)
+    sym (cut_here c.args.marks.now c.args.path.now c.loop-name.name-index c.loop-name.here.now
+    (record { ref_ptr = (0, 0); now = [] }) lt c.loop-name.invariant e)
 
 pub returns-in-None : goal.returns-in-None
 returns-in-None g c =
     let lt : c.loop-name.name-index < length c.args.path.now = omega arith in
     let e : cuts_below (Some c.loop-name.here.now.value) ≡ false = search rules in
-    sym (cut_deeper c.args.marks.now c.args.path.now c.loop-name.name-index c.loop-name.here.now _ lt c.loop-name.invariant c.children.result.now None c.children.ensures.below c.children.ensures.forest.names c.in-None.ensures e)
+    sym (cut_deeper c.args.marks.now c.args.path.now c.loop-name.name-index c.loop-name.here.now _ lt
+    c.loop-name.invariant c.children.result.now None c.children.ensures.below
+    c.children.ensures.forest.names c.in-None.ensures e)
 
 pub loop-name-preserved : goal.loop-name-preserved
 loop-name-preserved g c =
     let lt : c.loop-name.name-index < length c.args.path.now = omega arith in
     let e : cuts_below (Some c.loop-name.here.now.value) ≡ false = search rules in
-    record { same = cut_deeper c.args.marks.now c.args.path.now c.loop-name.name-index c.loop-name.here.now _ lt c.loop-name.invariant c.children.result.now (Some c.in-Some.next.now) c.children.ensures.below c.children.ensures.forest.names c.in-Some.ensures e }
+    record {
+      same = cut_deeper c.args.marks.now c.args.path.now c.loop-name.name-index c.loop-name.here.now _
+          lt c.loop-name.invariant c.children.result.now (Some c.in-Some.next.now) c.children.ensures.below
+          c.children.ensures.forest.names c.in-Some.ensures e;
+    }

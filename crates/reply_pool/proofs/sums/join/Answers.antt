@@ -20,7 +20,9 @@ loop-m-preserved g c =
           let below = was.above i (omega arith) there in
           let other = w.if-m-sum.true in
           let higher : c.loop-m.sum.node < c.if-m-sum.sum.node = omega arith in
-          let put : PutsSum c.loop-m.sums.items c.if-m-sum.sums.items c.loop-m.sum = subst (λ (xs : List Move). PutsSum c.loop-m.sums.items xs c.loop-m.sum) (sym (ap vec_items w.sums-is)) w.in_ok-put.ensures in
+          let put : PutsSum c.loop-m.sums.items c.if-m-sum.sums.items c.loop-m.sum = subst
+          (λ (xs : List Move). PutsSum c.loop-m.sums.items xs c.loop-m.sum) (sym (ap vec_items w.sums-is))
+          w.in_ok-put.ensures in
           let begun = next_begun (take i xs) c.loop-m.sums.items c.if-m-sum.sums.items c.loop-m.sum c.if-m-sum.sum was.joined put higher zero in
           record {
             joined = move_added xs c.if-m-sum.sums.items i c.if-m-sum.sum c.plus.result there c.requires.few small begun (sym own) c.plus.ensures;
@@ -29,7 +31,9 @@ loop-m-preserved g c =
       | else-m-sum w ↦
           (let own : c.if-m-sum.sum.node ≡ c.loop-m.sum.node = ap (λ (m : Move). m.node) w.sum-is in
           let same = w.if-m-sum.false in
-          let joined = subst (λ (s : Move). IsJoined (take i xs) c.if-m-sum.sums.items s) (sym w.sum-is) (subst (λ (ys : List Move). IsJoined (take i xs) ys c.loop-m.sum) (sym (ap vec_items w.sums-is)) was.joined) in
+          let joined = subst (λ (s : Move). IsJoined (take i xs) c.if-m-sum.sums.items s) (sym w.sum-is)
+          (subst (λ (ys : List Move). IsJoined (take i xs) ys c.loop-m.sum) (sym (ap vec_items w.sums-is))
+          was.joined) in
           record {
             joined = move_added xs c.if-m-sum.sums.items i c.if-m-sum.sum c.plus.result there c.requires.few small joined (same ∙ sym own) c.plus.ensures;
             above = λ k le lt. (let s = was.above k (omega arith) lt in omega arith);

@@ -8,4 +8,6 @@ pub returns-then-rest-lt-NAME_FIELD_SIZE : goal.returns-then-rest-lt-NAME_FIELD_
 unfolding name_field
 returns-then-rest-lt-NAME_FIELD_SIZE c =
     take_rest c.args.image.now c.args.at
-    ∙ sym (take_all NAME_FIELD_SIZE (drop c.args.at c.args.image.now) (let h : length (drop c.args.at c.args.image.now) ≤ NAME_FIELD_SIZE = rw length-drop (omega arith) in h))
+    ∙ sym (take_all NAME_FIELD_SIZE (drop c.args.at c.args.image.now)
+    (let h : length (drop c.args.at c.args.image.now) ≤ NAME_FIELD_SIZE = rw length-drop (omega arith) in
+    h))

@@ -13,7 +13,9 @@ loop-at-init g c = sets_out c.args.image.now c.requires.image c.args.head.now c.
 pub head_at-requires-clause-inside : goal.head_at-requires-clause-inside
 head_at-requires-clause-inside g c =
     let found : get nat_cmp c.args.known.now c.loop-at.at.offset ≡ Some c.in-Some.end.now = search rules in
-    (known_inside c.args.image.now c.requires.image c.args.head.now c.loop-at.at c.requires.given c.loop-at.invariant (search rules) c.in-Some.end.now (c.requires.known.each c.loop-at.at.offset c.in-Some.end.now found)).1
+    (known_inside c.args.image.now c.requires.image c.args.head.now c.loop-at.at c.requires.given
+    c.loop-at.invariant (search rules) c.in-Some.end.now
+    (c.requires.known.each c.loop-at.at.offset c.in-Some.end.now found)).1
 
 pub returns-in-Some-clause-end : goal.returns-in-Some-clause-end
 returns-in-Some-clause-end g c =
@@ -24,7 +26,9 @@ returns-in-Some-clause-end g c =
 pub returns-in-Some-clause-given : goal.returns-in-Some-clause-given
 returns-in-Some-clause-given g c =
     let found : get nat_cmp c.args.known.now c.loop-at.at.offset ≡ Some c.in-Some.end.now = search rules in
-    known_given c.args.image.now c.requires.image c.args.head.now c.loop-at.at c.requires.given c.loop-at.invariant (search rules) c.in-Some.end.now c.head_at.result (c.requires.known.each c.loop-at.at.offset c.in-Some.end.now found) c.head_at.ensures
+    known_given c.args.image.now c.requires.image c.args.head.now c.loop-at.at c.requires.given
+    c.loop-at.invariant (search rules) c.in-Some.end.now c.head_at.result
+    (c.requires.known.each c.loop-at.at.offset c.in-Some.end.now found) c.head_at.ensures
 
 pub head_at-at-requires-clause-inside : goal.head_at-at-requires-clause-inside
 head_at-at-requires-clause-inside g c =
@@ -34,12 +38,16 @@ head_at-at-requires-clause-inside g c =
 pub loop-at-smaller : goal.loop-at-smaller
 loop-at-smaller g c =
     let s : c.loop-at.at.spec ≡ spec c.args.image.now c.loop-at.at.offset = ap (λ x. x.spec) c.loop-at.invariant.is in
-    way_falls c.args.image.now c.requires.image c.args.head.now c.loop-at.at c.head_at-at.result c.loop-at.invariant (search rules) (c.head_at-at.ensures ∙ ap (λ x. head_of c.args.image.now x) (c.cleared.ensures ∙ ap cleared s))
+    way_falls c.args.image.now c.requires.image c.args.head.now c.loop-at.at c.head_at-at.result
+    c.loop-at.invariant (search rules) (c.head_at-at.ensures
+    ∙ ap (λ x. head_of c.args.image.now x) (c.cleared.ensures ∙ ap cleared s))
 
 pub loop-at-preserved : goal.loop-at-preserved
 loop-at-preserved g c =
     let s : c.loop-at.at.spec ≡ spec c.args.image.now c.loop-at.at.offset = ap (λ x. x.spec) c.loop-at.invariant.is in
-    moves_on c.args.image.now c.requires.image c.args.head.now c.loop-at.at c.head_at-at.result c.requires.given c.loop-at.invariant (search rules) (c.head_at-at.ensures ∙ ap (λ x. head_of c.args.image.now x) (c.cleared.ensures ∙ ap cleared s))
+    moves_on c.args.image.now c.requires.image c.args.head.now c.loop-at.at c.head_at-at.result
+    c.requires.given c.loop-at.invariant (search rules)
+    (c.head_at-at.ensures ∙ ap (λ x. head_of c.args.image.now x) (c.cleared.ensures ∙ ap cleared s))
 
 pub returns-clause-end : goal.returns-clause-end
 returns-clause-end g c = arrives c.args.image.now c.requires.image c.args.head.now c.loop-at.at c.loop-at.invariant (search rules)

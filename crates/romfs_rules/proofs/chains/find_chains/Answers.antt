@@ -7,6 +7,10 @@ pub returns : goal.returns
 returns g c =
     let a = c.args.image.now in
     record {
-      headers = united_marks a (IsElsewhere a) (IsInRootChain a) c.in_ok-headers.headers c.in_ok-root_chain.root_chain c.add_all.new.self c.in_ok-headers.ensures c.in_ok-root_chain.ensures c.add_all.ensures;
-      root = root_marked a c.requires.volume (IsElsewhere a) c.in_ok-headers.headers c.contains-root_elsewhere.result c.args.root c.in_ok-headers.ensures c.requires.root c.contains-root_elsewhere.ensures;
+      headers = united_marks a (IsElsewhere a) (IsInRootChain a) c.in_ok-headers.headers
+          c.in_ok-root_chain.root_chain c.add_all.new.self c.in_ok-headers.ensures c.in_ok-root_chain.ensures
+          c.add_all.ensures;
+      root = root_marked a c.requires.volume (IsElsewhere a) c.in_ok-headers.headers
+          c.contains-root_elsewhere.result c.args.root c.in_ok-headers.ensures c.requires.root
+          c.contains-root_elsewhere.ensures;
     }

@@ -6,7 +6,8 @@ use Rattle.romfs_rules.proofs.chains.mark_root_chain.Goals as goal
 
 pub loop-marks-init : goal.loop-marks-init
 loop-marks-init g c = record {
-  walked = rw c.cleared-at.ensures (begun c.args.image.now c.requires.volume c.args.root c.word.result c.requires.root c.word.ensures c.in_ok-marks.marks c.in_ok-marks.ensures);
+  walked = rw c.cleared-at.ensures (begun c.args.image.now c.requires.volume c.args.root c.word.result
+      c.requires.root c.word.ensures c.in_ok-marks.marks c.in_ok-marks.ensures);
   narrow = omega arith;
 }
 

@@ -14,7 +14,8 @@ loop-slot-preserved g c =
     let before = passed_to a set c.requires.root_chain c.loop-slot.from c.in-Some.slot c.loop-slot.todo.items n.low n.clear c.loop-slot.invariant.seeded in
     record {
       low = omega arith;
-      seeded = seeds_more a set c.requires.root_chain c.in-Some.slot c.loop-slot.todo.items before n.is c.first_below.result c.push_some.new.todo.items c.first_below.ensures c.in_ok-push_some.ensures;
+      seeded = seeds_more a set c.requires.root_chain c.in-Some.slot c.loop-slot.todo.items before n.is
+          c.first_below.result c.push_some.new.todo.items c.first_below.ensures c.in_ok-push_some.ensures;
     }
 
 pub returns : goal.returns
@@ -22,4 +23,5 @@ returns g c =
     let a = c.args.image.now in
     let set = c.args.root_chain.now in
     all_seeded a set c.requires.root_chain (length set) c.loop-slot.todo.items (omega arith)
-    (passed_to a set c.requires.root_chain c.loop-slot.from (length set) c.loop-slot.todo.items c.loop-slot.invariant.low c.in_default.ensures.next c.loop-slot.invariant.seeded)
+    (passed_to a set c.requires.root_chain c.loop-slot.from (length set) c.loop-slot.todo.items
+    c.loop-slot.invariant.low c.in_default.ensures.next c.loop-slot.invariant.seeded)

@@ -42,4 +42,6 @@ loop-at-preserved g c =
     }
 
 pub returns-clause-low : goal.returns-clause-low
-returns-clause-low g c = clears_all _ _ (subst (λ x. IsClearing c.args.graph.now.class.items c.loop-at.found.low.items x) (drop_past c.args.cycle.now c.loop-at.at-index (omega arith)) c.loop-at.invariant.clearing)
+returns-clause-low g c = clears_all _ _ (subst (λ x. IsClearing c.args.graph.now.class.items
+    c.loop-at.found.low.items x) (drop_past c.args.cycle.now c.loop-at.at-index (omega arith))
+    c.loop-at.invariant.clearing)

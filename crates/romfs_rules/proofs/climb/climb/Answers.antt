@@ -16,9 +16,11 @@ loop-found-init g c =
     let f = c.requires.graph in
     let o = on_turn c.args.cycle.now c.args.turn c.requires.turn in
     let i = c.requires.cycle.inside _ o in
-    let e = get_or_read c.args.graph.now.first.items (get_or c.args.cycle.now c.args.turn 0) c.index-from.result.now (let k = f.lists.firsts in omega arith) c.index-from.ensures 0 in
+    let e = get_or_read c.args.graph.now.first.items (get_or c.args.cycle.now c.args.turn 0)
+    c.index-from.result.now (let k = f.lists.firsts in omega arith) c.index-from.ensures 0 in
     record {
-      under_way = rw (c.new-steps.ensures.items, e) (begins _ _ _ _ _ f _ c.requires.cycle o _ _ _ _ (rw (← drop_turn c.args.cycle.now c.args.turn c.requires.turn) c.requires.found));
+      under_way = rw (c.new-steps.ensures.items, e) (begins _ _ _ _ _ f _ c.requires.cycle o _ _ _ _
+          (rw (← drop_turn c.args.cycle.now c.args.turn c.requires.turn) c.requires.found));
       kept = record { each = λ x m. m };
       entered = c.requires.found.compared.sized;
       noted = c.requires.found.spare.sized ∙ f.classes.sized;
@@ -41,11 +43,18 @@ loop-found-preserved-then-at-len g c =
     let l = c.loop-found.invariant in
     let at = c.skip_entered-at.result in
     let o = on_turn c.args.cycle.now c.args.turn c.requires.turn in
-    let s : IsSkipped c.args.graph.now.sibling.items c.loop-found.found.entered.items c.loop-found.from at = rw (c.deref.ensures.value, c.deref-in-loop-found.ensures.value) at c.skip_entered-at.ensures.skipped in
+    let s : IsSkipped c.args.graph.now.sibling.items c.loop-found.found.entered.items c.loop-found.from
+    at = rw (c.deref.ensures.value, c.deref-in-loop-found.ensures.value) at
+    c.skip_entered-at.ensures.skipped in
     let i : at < length c.args.graph.now.next.items = omega arith in
-    let e = get_or_read c.args.graph.now.first.items at c.index-from-then-at-len.result.now (let k = f.lists.firsts in omega arith) c.index-from-then-at-len.ensures 0 in
+    let e = get_or_read c.args.graph.now.first.items at c.index-from-then-at-len.result.now
+    (let k = f.lists.firsts in omega arith) c.index-from-then-at-len.ensures 0 in
     record {
-      under_way = rw (c.in_ok-push.ensures.items, reverse_push, c.enter-low.ensures.entered, e) (enters _ _ _ _ _ f _ c.requires.cycle o _ at _ _ _ _ _ _ _ (record { at = at; low = c.enter-low.result }) refl refl i c.enter-low.ensures.lowest c.enter-low.ensures.low (rw f.classes.sized c.enter-low.ensures.noted) (skips _ _ _ _ _ f _ c.requires.cycle o _ _ at _ _ _ _ s l.under_way));
+      under_way = rw (c.in_ok-push.ensures.items, reverse_push, c.enter-low.ensures.entered, e)
+          (enters _ _ _ _ _ f _ c.requires.cycle o _ at _ _ _ _ _ _ _
+          (record { at = at; low = c.enter-low.result }) refl refl i c.enter-low.ensures.lowest
+          c.enter-low.ensures.low (rw f.classes.sized c.enter-low.ensures.noted)
+          (skips _ _ _ _ _ f _ c.requires.cycle o _ _ at _ _ _ _ s l.under_way));
       kept = rw c.enter-low.ensures.entered (keeps _ _ at (let v = l.entered in omega arith) l.kept);
       entered = ap length c.enter-low.ensures.entered ∙ length-set _ at true ∙ l.entered;
       noted = c.enter-low.ensures.noted.sized ∙ l.noted;
@@ -61,10 +70,15 @@ loop-found-preserved g c =
     let l = c.loop-found.invariant in
     let at = c.skip_entered-at.result in
     let o = on_turn c.args.cycle.now c.args.turn c.requires.turn in
-    let s : IsSkipped c.args.graph.now.sibling.items c.loop-found.found.entered.items c.loop-found.from at = rw (c.deref.ensures.value, c.deref-in-loop-found.ensures.value) at c.skip_entered-at.ensures.skipped in
+    let s : IsSkipped c.args.graph.now.sibling.items c.loop-found.found.entered.items c.loop-found.from
+    at = rw (c.deref.ensures.value, c.deref-in-loop-found.ensures.value) at
+    c.skip_entered-at.ensures.skipped in
     let e = c.leave-from.ensures in
     record {
-      under_way = rw (e.next, e.low, e.entered, e.noted) (leaves _ _ _ _ _ f _ c.requires.cycle o _ at _ _ _ _ _ (omega arith) (rw (popped _ _ _ c.in-Some.ensures.items) at (skips _ _ _ _ _ f _ c.requires.cycle o _ _ at _ _ _ _ s l.under_way)));
+      under_way = rw (e.next, e.low, e.entered, e.noted)
+          (leaves _ _ _ _ _ f _ c.requires.cycle o _ at _ _ _ _ _ (omega arith)
+          (rw (popped _ _ _ c.in-Some.ensures.items) at
+          (skips _ _ _ _ _ f _ c.requires.cycle o _ _ at _ _ _ _ s l.under_way)));
       kept = rw e.entered l.kept;
       entered = ap length e.entered ∙ l.entered;
       noted = ap length e.noted ∙ l.noted;
@@ -77,6 +91,10 @@ returns-in-None-clause-found g c =
     let l = c.loop-found.invariant in
     let at = c.skip_entered-at.result in
     let o = on_turn c.args.cycle.now c.args.turn c.requires.turn in
-    let s : IsSkipped c.args.graph.now.sibling.items c.loop-found.found.entered.items c.loop-found.from at = rw (c.deref.ensures.value, c.deref-in-loop-found.ensures.value) at c.skip_entered-at.ensures.skipped in
+    let s : IsSkipped c.args.graph.now.sibling.items c.loop-found.found.entered.items c.loop-found.from
+    at = rw (c.deref.ensures.value, c.deref-in-loop-found.ensures.value) at
+    c.skip_entered-at.ensures.skipped in
     let n : length c.loop-found.steps.items ≡ 0 = (let z = c.in-None.ensures.cases.0 in omega (arith, c.loop-found.steps.ok.0)) in
-    ends _ _ _ _ _ f _ c.requires.cycle o _ at _ _ _ (omega arith) (rw (no_steps c.loop-found.steps.items n) at (skips _ _ _ _ _ f _ c.requires.cycle o _ _ at _ _ _ _ s l.under_way))
+    ends _ _ _ _ _ f _ c.requires.cycle o _ at _ _ _ (omega arith)
+    (rw (no_steps c.loop-found.steps.items n) at (skips _ _ _ _ _ f _ c.requires.cycle o _ _ at _ _ _ _ s
+    l.under_way))

@@ -6,7 +6,9 @@ use Rattle.romfs_rules.proofs.climb.climb.Given as goal
 
 abbrev pub invariant-loop-found : goal.invariant-loop-found
 invariant-loop-found g l = record {
-  under_way : IsUnderWay l.graph.next.items l.graph.class.items l.graph.first.items l.graph.sibling.items (reverse l.cycle) (drop (l.turn + 1) l.cycle) (get_or l.cycle l.turn 0) l.from (reverse l.steps.items) l.found.entered.items l.found.noted.items l.found.low.items;
+  under_way : IsUnderWay l.graph.next.items l.graph.class.items l.graph.first.items l.graph.sibling.items
+      (reverse l.cycle) (drop (l.turn + 1) l.cycle) (get_or l.cycle l.turn 0) l.from (reverse l.steps.items)
+      l.found.entered.items l.found.noted.items l.found.low.items;
   kept : AreKept l.fn.found.entered.items l.found.entered.items;
   entered : length l.found.entered.items ≡ length l.graph.next.items;
   noted : length l.found.noted.items ≡ length l.graph.next.items;

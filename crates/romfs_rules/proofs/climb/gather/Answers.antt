@@ -34,7 +34,9 @@ loop-found-preserved g c =
     let i : at < length c.loop-found.found.entered.items = (let a = l.inside in let b = l.entered in omega arith) in
     let e = get_or_read c.args.graph.now.next.items at _ l.inside c.index-at.ensures 0 in
     record {
-      rounding = rw (c.in_ok-push.ensures.items, reverse_push, c.enter.ensures.entered, e) (enters _ _ f.classes.sized f.leads f.classes _ c.requires.cycle _ _ _ _ at _ _ _ _ l.inside i c.enter.ensures.lowest c.enter.ensures.low (rw f.classes.sized c.enter.ensures.noted) l.rounding);
+      rounding = rw (c.in_ok-push.ensures.items, reverse_push, c.enter.ensures.entered, e)
+          (enters _ _ f.classes.sized f.leads f.classes _ c.requires.cycle _ _ _ _ at _ _ _ _ l.inside i
+          c.enter.ensures.lowest c.enter.ensures.low (rw f.classes.sized c.enter.ensures.noted) l.rounding);
       inside = rw e (f.leads.each at l.inside);
       entered = ap length c.enter.ensures.entered ∙ length-set _ at true ∙ l.entered;
       noted = c.enter.ensures.noted.sized ∙ l.noted;

@@ -43,6 +43,8 @@ returns g c =
     let a = c.args.image.now in
     let targets = c.args.targets.now in
     let s = c.requires.targets.sized in
-    let all = found_to a c.loop-slot.walks.by_slot c.loop-slot.ends.items targets c.requires.targets c.loop-slot.from (length targets) c.loop-slot.invariant.low c.in_default.ensures.next c.loop-slot.invariant.found in
+    let all = found_to a c.loop-slot.walks.by_slot c.loop-slot.ends.items targets c.requires.targets
+    c.loop-slot.from (length targets) c.loop-slot.invariant.low c.in_default.ensures.next
+    c.loop-slot.invariant.found in
     subst (λ slots. AreEnds a (record { slots = slots; by_slot = c.loop-slot.walks.by_slot }) c.loop-slot.ends.items) (sym c.loop-slot.invariant.same)
     (found_all a c.loop-slot.walks.by_slot c.loop-slot.ends.items (length targets) all targets c.requires.targets (omega arith))

@@ -8,12 +8,15 @@ pub is_listed-requires-clause-rising : goal.is_listed-requires-clause-rising
 is_listed-requires-clause-rising g c = not_falling _ c.requires.sets.twice.rising
 
 pub returns-then-is_listed : goal.returns-then-is_listed
-returns-then-is_listed g c = or_true (list_says c.args.image.now (IsLinkedTwice c.args.image.now) c.args.sets.now.twice.now c.args.at c.is_listed.result c.requires.sets.twice c.requires.slot c.is_listed.ensures) c.if-is_listed.true
+returns-then-is_listed g c = or_true (list_says c.args.image.now (IsLinkedTwice c.args.image.now)
+    c.args.sets.now.twice.now c.args.at c.is_listed.result c.requires.sets.twice c.requires.slot
+    c.is_listed.ensures) c.if-is_listed.true
 
 pub returns-then-at-root : goal.returns-then-at-root
 returns-then-at-root g c =
     let a = c.args.image.now in
-    let twice = list_says a (IsLinkedTwice a) c.args.sets.now.twice.now c.args.at c.is_listed.result c.requires.sets.twice c.requires.slot c.is_listed.ensures in
+    let twice = list_says a (IsLinkedTwice a) c.args.sets.now.twice.now c.args.at c.is_listed.result
+    c.requires.sets.twice c.requires.slot c.is_listed.ensures in
     let e = c.if-at-root.true ∙ c.requires.root in
     let law = root_elsewhere a c.args.at e in
     let flag = c.requires.sets.chains.root in

@@ -25,11 +25,15 @@ loop-slot-init g c =
 
 pub fault_at-requires-in-Some-next_of_either-clause-slot : goal.fault_at-requires-in-Some-next_of_either-clause-slot
 fault_at-requires-in-Some-next_of_either-clause-slot g c =
-    (slot_reached c.args.profile c.args.image.now c.requires.volume c.args.sets.now.chains.now.headers c.args.sets.now.targets.now c.requires.sets.chains.headers c.requires.sets.targets c.in-Some-next_of_either.slot c.in-Some-next_of_either.ensures.is).0
+    (slot_reached c.args.profile c.args.image.now c.requires.volume c.args.sets.now.chains.now.headers
+    c.args.sets.now.targets.now c.requires.sets.chains.headers c.requires.sets.targets
+    c.in-Some-next_of_either.slot c.in-Some-next_of_either.ensures.is).0
 
 pub fault_at-requires-in-Some-next_of_either-clause-reached : goal.fault_at-requires-in-Some-next_of_either-clause-reached
 fault_at-requires-in-Some-next_of_either-clause-reached g c =
-    (slot_reached c.args.profile c.args.image.now c.requires.volume c.args.sets.now.chains.now.headers c.args.sets.now.targets.now c.requires.sets.chains.headers c.requires.sets.targets c.in-Some-next_of_either.slot c.in-Some-next_of_either.ensures.is).1
+    (slot_reached c.args.profile c.args.image.now c.requires.volume c.args.sets.now.chains.now.headers
+    c.args.sets.now.targets.now c.requires.sets.chains.headers c.requires.sets.targets
+    c.in-Some-next_of_either.slot c.in-Some-next_of_either.ensures.is).1
 
 pub fault_at-requires-in-Some-next_of_either-clause-root_once : goal.fault_at-requires-in-Some-next_of_either-clause-root_once
 fault_at-requires-in-Some-next_of_either-clause-root_once g c =
@@ -39,7 +43,10 @@ fault_at-requires-in-Some-next_of_either-clause-root_once g c =
     let h = n.high in
     let s = c.requires.sets.chains.headers.sized in
     let b = c.loop-slot.invariant.behind in
-    let k = scanned_to c.args.profile a c.requires.volume c.args.sets.now.chains.now.headers c.args.sets.now.targets.now c.requires.sets.chains.headers c.requires.sets.targets c.loop-slot.from c.in-Some-next_of_either.slot b l (omega arith) n.one_clear n.other_clear c.loop-slot.invariant.keeps in
+    let k = scanned_to c.args.profile a c.requires.volume c.args.sets.now.chains.now.headers
+    c.args.sets.now.targets.now c.requires.sets.chains.headers c.requires.sets.targets c.loop-slot.from
+    c.in-Some-next_of_either.slot b l (omega arith) n.one_clear n.other_clear
+    c.loop-slot.invariant.keeps in
     root_first c.args.profile a c.requires.volume (c.in-Some-next_of_either.slot * 16) k (omega arith)
 
 pub returns-in-Some-fault_at : goal.returns-in-Some-fault_at
@@ -50,8 +57,13 @@ returns-in-Some-fault_at g c =
     let h = n.high in
     let s = c.requires.sets.chains.headers.sized in
     let b = c.loop-slot.invariant.behind in
-    let k = scanned_to c.args.profile a c.requires.volume c.args.sets.now.chains.now.headers c.args.sets.now.targets.now c.requires.sets.chains.headers c.requires.sets.targets c.loop-slot.from c.in-Some-next_of_either.slot b l (omega arith) n.one_clear n.other_clear c.loop-slot.invariant.keeps in
-    let r = (slot_reached c.args.profile a c.requires.volume c.args.sets.now.chains.now.headers c.args.sets.now.targets.now c.requires.sets.chains.headers c.requires.sets.targets c.in-Some-next_of_either.slot n.is).0 in
+    let k = scanned_to c.args.profile a c.requires.volume c.args.sets.now.chains.now.headers
+    c.args.sets.now.targets.now c.requires.sets.chains.headers c.requires.sets.targets c.loop-slot.from
+    c.in-Some-next_of_either.slot b l (omega arith) n.one_clear n.other_clear
+    c.loop-slot.invariant.keeps in
+    let r = (slot_reached c.args.profile a c.requires.volume c.args.sets.now.chains.now.headers
+    c.args.sets.now.targets.now c.requires.sets.chains.headers c.requires.sets.targets
+    c.in-Some-next_of_either.slot n.is).0 in
     at_slot c.args.profile a c.requires.volume c.in-Some-fault_at.fault (c.in-Some-next_of_either.slot * 16) r k c.in-Some-fault_at.ensures
 
 pub loop-slot-preserved : goal.loop-slot-preserved
@@ -62,7 +74,10 @@ loop-slot-preserved g c =
     let h = n.high in
     let s = c.requires.sets.chains.headers.sized in
     let b = c.loop-slot.invariant.behind in
-    let k = scanned_to c.args.profile a c.requires.volume c.args.sets.now.chains.now.headers c.args.sets.now.targets.now c.requires.sets.chains.headers c.requires.sets.targets c.loop-slot.from c.in-Some-next_of_either.slot b l (omega arith) n.one_clear n.other_clear c.loop-slot.invariant.keeps in
+    let k = scanned_to c.args.profile a c.requires.volume c.args.sets.now.chains.now.headers
+    c.args.sets.now.targets.now c.requires.sets.chains.headers c.requires.sets.targets c.loop-slot.from
+    c.in-Some-next_of_either.slot b l (omega arith) n.one_clear n.other_clear
+    c.loop-slot.invariant.keeps in
     record {
       behind = omega arith;
       low = omega arith;
@@ -76,4 +91,7 @@ returns g c =
     let d = c.in_default-next_of_either.ensures in
     let s = c.requires.sets.chains.headers.sized in
     scan_all c.args.profile a c.requires.volume (length headers) (omega arith)
-    (scanned_to c.args.profile a c.requires.volume headers c.args.sets.now.targets.now c.requires.sets.chains.headers c.requires.sets.targets c.loop-slot.from (length headers) c.loop-slot.invariant.behind c.loop-slot.invariant.low (omega arith) d.0 d.1 c.loop-slot.invariant.keeps)
+    (scanned_to c.args.profile a c.requires.volume headers c.args.sets.now.targets.now
+    c.requires.sets.chains.headers c.requires.sets.targets c.loop-slot.from (length headers)
+    c.loop-slot.invariant.behind c.loop-slot.invariant.low (omega arith) d.0 d.1
+    c.loop-slot.invariant.keeps)

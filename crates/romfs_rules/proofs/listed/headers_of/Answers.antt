@@ -13,7 +13,9 @@ loop-slot-preserved g c =
     let heads = c.loop-slot.heads.items in
     record {
       low = omega arith;
-      collected = rw c.in_ok-push.ensures.items (collects_marked set c.in-Some.slot heads (collects_to set c.loop-slot.from c.in-Some.slot heads n.low n.clear c.loop-slot.invariant.collected) n.is);
+      collected = rw c.in_ok-push.ensures.items (collects_marked set c.in-Some.slot heads
+          (collects_to set c.loop-slot.from c.in-Some.slot heads n.low n.clear
+          c.loop-slot.invariant.collected) n.is);
     }
 
 pub returns : goal.returns

@@ -21,8 +21,12 @@ loop-slot-init g c =
     record {
       behind = omega arith;
       low = omega arith;
-      below = scans a (IsBelow a) slot None after.result.below inside (nothing a (IsBelow a) slot (omega arith)) (subst (λ h. Notes (Names a h) (IsBelow a) None after.result.below) e after.ensures.below);
-      above = scans a (IsAbove a) slot None after.result.above inside (nothing a (IsAbove a) slot (omega arith)) (subst (λ h. Notes (Names a h) (IsAbove a) None after.result.above) e after.ensures.above);
+      below = scans a (IsBelow a) slot None after.result.below inside
+          (nothing a (IsBelow a) slot (omega arith)) (subst
+          (λ h. Notes (Names a h) (IsBelow a) None after.result.below) e after.ensures.below);
+      above = scans a (IsAbove a) slot None after.result.above inside
+          (nothing a (IsAbove a) slot (omega arith)) (subst
+          (λ h. Notes (Names a h) (IsAbove a) None after.result.above) e after.ensures.above);
     }
 
 pub loop-slot-preserved : goal.loop-slot-preserved
@@ -42,8 +46,14 @@ loop-slot-preserved g c =
     record {
       behind = omega arith;
       low = omega arith;
-      below = scans a (IsBelow a) slot before.below after.result.below inside (scanned_to a (IsBelow a) headers targets c.requires.chains.headers c.requires.targets c.loop-slot.from slot before.below b l n.one_clear n.other_clear c.loop-slot.invariant.below) after.ensures.below;
-      above = scans a (IsAbove a) slot before.above after.result.above inside (scanned_to a (IsAbove a) headers targets c.requires.chains.headers c.requires.targets c.loop-slot.from slot before.above b l n.one_clear n.other_clear c.loop-slot.invariant.above) after.ensures.above;
+      below = scans a (IsBelow a) slot before.below after.result.below inside
+          (scanned_to a (IsBelow a) headers targets c.requires.chains.headers c.requires.targets
+          c.loop-slot.from slot before.below b l n.one_clear n.other_clear c.loop-slot.invariant.below)
+          after.ensures.below;
+      above = scans a (IsAbove a) slot before.above after.result.above inside
+          (scanned_to a (IsAbove a) headers targets c.requires.chains.headers c.requires.targets
+          c.loop-slot.from slot before.above b l n.one_clear n.other_clear c.loop-slot.invariant.above)
+          after.ensures.above;
     }
 
 pub returns : goal.returns
@@ -54,8 +64,15 @@ returns g c =
     let s = c.requires.chains.headers.sized in
     let b = c.loop-slot.invariant.behind in
     let d = c.in_default.ensures in
-    let all : (Q : ℕ → Type 0) → (found : Option ℕ) → IsFoundBefore a Q c.loop-slot.from found → IsFoundBefore a Q (length headers) found = λ Q found f. scanned_to a Q headers targets c.requires.chains.headers c.requires.targets c.loop-slot.from (length headers) found b c.loop-slot.invariant.low d.0 d.1 f in
+    let all : (Q : ℕ → Type 0) → (found : Option ℕ) → IsFoundBefore a Q c.loop-slot.from found
+    → IsFoundBefore a Q (length headers) found = λ Q found f. scanned_to a Q headers targets
+    c.requires.chains.headers c.requires.targets c.loop-slot.from (length headers) found b
+    c.loop-slot.invariant.low d.0 d.1 f in
     record {
-      below = all_scanned a (IsBelow a) c.requires.volume (length headers) c.loop-slot.found.below (omega arith) (λ g q e. omega arith) (all (IsBelow a) c.loop-slot.found.below c.loop-slot.invariant.below);
-      above = all_scanned a (IsAbove a) c.requires.volume (length headers) c.loop-slot.found.above (omega arith) (λ g q e. (let i = inside_root a c.requires.volume in omega arith)) (all (IsAbove a) c.loop-slot.found.above c.loop-slot.invariant.above);
+      below = all_scanned a (IsBelow a) c.requires.volume (length headers) c.loop-slot.found.below
+          (omega arith) (λ g q e. omega arith) (all (IsBelow a) c.loop-slot.found.below
+          c.loop-slot.invariant.below);
+      above = all_scanned a (IsAbove a) c.requires.volume (length headers) c.loop-slot.found.above
+          (omega arith) (λ g q e. (let i = inside_root a c.requires.volume in omega arith))
+          (all (IsAbove a) c.loop-slot.found.above c.loop-slot.invariant.above);
     }

@@ -19,5 +19,8 @@ returns-else-is_some_member g c =
     let target = marked a (IsTarget a) c.args.targets.now h c.requires.targets c.requires.slot c.requires.inside in
     elim c.if-contains.branch [
       | then-contains w ↦ absurd (let x = w.value-is in let y = w.if-contains.true in let z = c.if-is_some_member.false in cc)
-      | else-contains w ↦ destination_unnamed a h (λ m. let x = w.is_some_member.ensures.1 m in let y = w.value-is in let z = c.if-is_some_member.false in cc) (λ t. let x = target.1 t in let y : ◌≡◌ {A = Bool} false (get_or c.args.targets.now (h / 16) false) = w.if-contains.ensures in cc)
+      | else-contains w ↦ destination_unnamed a h (λ m. let x = w.is_some_member.ensures.1 m in
+          let y = w.value-is in let z = c.if-is_some_member.false in cc)
+          (λ t. let x = target.1 t in let y : ◌≡◌ {A = Bool} false
+          (get_or c.args.targets.now (h / 16) false) = w.if-contains.ensures in cc)
     ]

@@ -12,6 +12,10 @@ returns g c =
     let two = c.note-with_first in
     let three = c.note in
     record {
-      below = noted_named a c.args.at (IsBelow a) next.result first.result hard.result c.args.found.below one.result.below two.result.below three.result.below next.ensures first.ensures hard.ensures one.ensures.below two.ensures.below three.ensures.below;
-      above = noted_named a c.args.at (IsAbove a) next.result first.result hard.result c.args.found.above one.result.above two.result.above three.result.above next.ensures first.ensures hard.ensures one.ensures.above two.ensures.above three.ensures.above;
+      below = noted_named a c.args.at (IsBelow a) next.result first.result hard.result c.args.found.below
+          one.result.below two.result.below three.result.below next.ensures first.ensures hard.ensures
+          one.ensures.below two.ensures.below three.ensures.below;
+      above = noted_named a c.args.at (IsAbove a) next.result first.result hard.result c.args.found.above
+          one.result.above two.result.above three.result.above next.ensures first.ensures hard.ensures
+          one.ensures.above two.ensures.above three.ensures.above;
     }

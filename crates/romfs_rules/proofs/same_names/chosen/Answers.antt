@@ -6,6 +6,8 @@ pub loop-number-preserved : goal.loop-number-preserved
 loop-number-preserved g c =
     let at = c.loop-number.number in
     elim c.if-noted-number.branch [
-      | then-noted-number+in_ok-push w ↦ rw (w.found-is, w.in_ok-push.ensures.items) (chooses_noted _ _ at _ c.loop-number-test.true c.requires.rising c.loop-number.invariant w.if-noted-number.true)
+      | then-noted-number+in_ok-push w ↦ rw (w.found-is, w.in_ok-push.ensures.items)
+          (chooses_noted _ _ at _ c.loop-number-test.true c.requires.rising c.loop-number.invariant
+          w.if-noted-number.true)
       | else-noted-number w ↦ rw w.found-is (chooses_plain _ _ at _ c.loop-number-test.true c.requires.rising c.loop-number.invariant w.if-noted-number.false)
     ]

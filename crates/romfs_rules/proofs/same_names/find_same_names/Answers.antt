@@ -27,7 +27,8 @@ returns g c =
     let class : AreClasses (λ i. kept_name a (get_or heads i 0)) (length heads) c.in_ok-class.class.items =
     subst (λ hs. AreClasses (λ i. kept_name a (get_or hs i 0)) (length hs) c.in_ok-class.class.items) c.deref-2.ensures.value c.in_ok-class.ensures in
     IfOk-weaker c.chosen.result (λ found. AreChosen heads c.in_ok-noted.noted.items (length heads) found.items) (λ found. HaveSameNames a found.items)
-    (λ found w. same_names a heads c.args.chains.now.headers c.in_ok-next.next.items c.in_ok-class.class.items c.in_ok-noted.noted.items n next class c.in_ok-noted.ensures c.requires.alone found.items w)
+    (λ found w. same_names a heads c.args.chains.now.headers c.in_ok-next.next.items c.in_ok-class.class.items
+    c.in_ok-noted.noted.items n next class c.in_ok-noted.ensures c.requires.alone found.items w)
     (rw (c.deref-4.ensures.value, c.deref-5.ensures.value) at c.chosen.ensures)
 
 pub note_higher-requires : goal.note_higher-requires
@@ -35,4 +36,6 @@ note_higher-requires g c =
     let few = c.in_ok-heads.ensures.few in
     let sized = c.requires.chains.headers.sized in
     let small = c.requires.volume.small in
-    grown (omega arith) (rw c.deref.ensures.value at c.in_ok-next.ensures) (rw c.deref-2.ensures.value at c.in_ok-class.ensures) (rw c.deref-3.ensures.value at c.in_ok-first.ensures)
+    grown (omega arith) (rw c.deref.ensures.value at c.in_ok-next.ensures)
+    (rw c.deref-2.ensures.value at c.in_ok-class.ensures)
+    (rw c.deref-3.ensures.value at c.in_ok-first.ensures)

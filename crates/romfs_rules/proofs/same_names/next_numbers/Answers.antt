@@ -8,4 +8,6 @@ loop-at-preserved g c = rw c.in_ok-push.ensures.items (follow_more _ _ _ _ _ c.l
 pub returns : goal.returns
 returns g c =
     let e : c.loop-at.at-index ≡ length c.args.heads.now = omega arith in
-    rw c.in_ok-push-2.ensures.items (follow_all _ _ _ _ refl (subst (λ n. AreNextSoFar c.args.image.now c.args.heads.now c.loop-at.next.items n) e c.loop-at.invariant))
+    rw c.in_ok-push-2.ensures.items (follow_all _ _ _ _ refl
+    (subst (λ n. AreNextSoFar c.args.image.now c.args.heads.now c.loop-at.next.items n) e
+    c.loop-at.invariant))

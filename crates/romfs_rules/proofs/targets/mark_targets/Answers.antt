@@ -15,7 +15,9 @@ loop-slot-preserved g c =
     record {
       low = omega arith;
       reaches = elim c.if-is_hard_link.branch [
-        | then-is_hard_link+then-is_some_member w ↦ rw (w.marks-is) (passes image slot marks w.mark_destinations.new.marks (w.if-is_some_member.ensures.0 refl) w.mark_destinations.ensures.follows w.mark_destinations.ensures.closed before)
+        | then-is_hard_link+then-is_some_member w ↦ rw (w.marks-is)
+            (passes image slot marks w.mark_destinations.new.marks (w.if-is_some_member.ensures.0 refl)
+            w.mark_destinations.ensures.follows w.mark_destinations.ensures.closed before)
         | else-is_hard_link w ↦ (rw (w.marks-is) (skips image slot marks (λ x. elim w.else-is_hard_link.branch [
           | else-is_hard_link-via-then-is_hard_link+else-is_some_member v ↦ false≢true (v.if-is_some_member.ensures.1 x.1)
           | else-is_hard_link-via-else-is_hard_link v ↦ false≢true (v.if-is_hard_link.ensures.1 x.0)
@@ -28,4 +30,5 @@ returns g c =
     let image = c.args.image.now in
     let headers = c.args.chains.now.headers in
     all_targets image c.loop-slot.marks (subst (λ n. Reaches image n c.loop-slot.marks) c.requires.chains.headers.sized
-    (skipped_to image headers c.requires.chains.headers c.loop-slot.from (length headers) c.loop-slot.marks c.loop-slot.invariant.low c.in_default.ensures.next c.loop-slot.invariant.reaches))
+    (skipped_to image headers c.requires.chains.headers c.loop-slot.from (length headers) c.loop-slot.marks
+    c.loop-slot.invariant.low c.in_default.ensures.next c.loop-slot.invariant.reaches))

@@ -10,4 +10,7 @@ pub returns : goal.returns
 returns g c =
     let a = c.args.image.now in
     let twice = c.in_ok-twice.twice in
-    IfOk-weaker c.headers_of.result (λ heads. AreCollected twice (length twice) heads.items) (λ found. IsListOf a (IsLinkedTwice a) found.items) (λ found w. lists_marks a (IsLinkedTwice a) twice found.items c.in_ok-twice.ensures w) c.headers_of.ensures
+    IfOk-weaker c.headers_of.result (λ heads. AreCollected twice (length twice) heads.items)
+    (λ found. IsListOf a (IsLinkedTwice a) found.items)
+    (λ found w. lists_marks a (IsLinkedTwice a) twice found.items c.in_ok-twice.ensures w)
+    c.headers_of.ensures

@@ -15,7 +15,9 @@ loop-slot-init g c =
     record {
       behind = omega arith;
       low = omega arith;
-      tallied = passes a slot c.in_ok-once.once c.in_ok-twice.twice c.count_links.new.once c.count_links.new.twice (subst (λ h. CountsBoth a h c.in_ok-once.once c.in_ok-twice.twice c.count_links.new.once c.count_links.new.twice) e c.count_links.ensures)
+      tallied = passes a slot c.in_ok-once.once c.in_ok-twice.twice c.count_links.new.once
+          c.count_links.new.twice (subst (λ h. CountsBoth a h c.in_ok-once.once c.in_ok-twice.twice
+          c.count_links.new.once c.count_links.new.twice) e c.count_links.ensures)
           (none_tallied a c.requires.volume slot (omega arith) c.in_ok-once.once c.in_ok-twice.twice c.in_ok-once.ensures c.in_ok-twice.ensures);
     }
 
@@ -32,13 +34,18 @@ loop-slot-preserved g c =
     record {
       behind = omega arith;
       low = omega arith;
-      tallied = passes a c.in-Some.slot c.loop-slot.once c.loop-slot.twice c.count_links-in-Some.new.once c.count_links-in-Some.new.twice c.count_links-in-Some.ensures
-          (skipped_to a c.requires.volume c.args.chains.now.headers c.requires.chains.headers c.loop-slot.from c.in-Some.slot c.loop-slot.once c.loop-slot.twice b l n.clear c.loop-slot.invariant.tallied);
+      tallied = passes a c.in-Some.slot c.loop-slot.once c.loop-slot.twice c.count_links-in-Some.new.once
+          c.count_links-in-Some.new.twice c.count_links-in-Some.ensures
+          (skipped_to a c.requires.volume c.args.chains.now.headers c.requires.chains.headers c.loop-slot.from
+          c.in-Some.slot c.loop-slot.once c.loop-slot.twice b l n.clear c.loop-slot.invariant.tallied);
     }
 
 pub returns : goal.returns
 returns g c =
     let a = c.args.image.now in
     let headers = c.args.chains.now.headers in
-    all_twice a c.requires.volume c.loop-slot.once c.loop-slot.twice (subst (λ n. Tallied a (Below a n) c.loop-slot.once c.loop-slot.twice) c.requires.chains.headers.sized
-    (skipped_to a c.requires.volume headers c.requires.chains.headers c.loop-slot.from (length headers) c.loop-slot.once c.loop-slot.twice c.loop-slot.invariant.behind c.loop-slot.invariant.low c.in_default.ensures.next c.loop-slot.invariant.tallied))
+    all_twice a c.requires.volume c.loop-slot.once c.loop-slot.twice
+    (subst (λ n. Tallied a (Below a n) c.loop-slot.once c.loop-slot.twice) c.requires.chains.headers.sized
+    (skipped_to a c.requires.volume headers c.requires.chains.headers c.loop-slot.from (length headers)
+    c.loop-slot.once c.loop-slot.twice c.loop-slot.invariant.behind c.loop-slot.invariant.low
+    c.in_default.ensures.next c.loop-slot.invariant.tallied))

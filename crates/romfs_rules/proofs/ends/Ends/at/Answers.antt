@@ -11,4 +11,5 @@ index-requires g c =
     omega (arith, c.args.self.now.ends.ok.0)
 
 pub returns : goal.returns
-returns g c = λ a k. ended_as a c.args.self.now.walks c.args.self.now.ends.items c.args.at k c.at-walk.result c.at-walk.ensures c.index.result.now c.index.ensures
+returns g c = λ a k. ended_as a c.args.self.now.walks c.args.self.now.ends.items c.args.at k c.at-walk.result
+    c.at-walk.ensures c.index.result.now c.index.ensures

@@ -30,5 +30,7 @@ returns-clause-count g c =
     let e : slot / 64 * 64 + slot % 64 ≡ slot = omega arith in
     let small : 2 ^ (slot % 64) < 2 ^ 64 = pow-lt {j = 64} (omega arith) in
     let one : 1 * 2 ^ (slot % 64) % 2 ^ 64 ≡ 2 ^ (slot % 64) = omega arith in
-    let mask : count_ones (bit_and word (1 * 2 ^ (slot % 64) % 2 ^ 64 - 1)) ≡ count_ones (word % 2 ^ (slot % 64)) = ap (λ x. count_ones (bit_and word (x - 1))) one ∙ ap count_ones (and_mask word (slot % 64)) in
+    let mask : count_ones (bit_and word (1 * 2 ^ (slot % 64) % 2 ^ 64 - 1)) ≡ count_ones
+    (word % 2 ^ (slot % 64)) = ap (λ x. count_ones (bit_and word (x - 1))) one
+    ∙ ap count_ones (and_mask word (slot % 64)) in
     rw (← c.self.view_is) (ap (rank (bits slots words)) (sym e) ∙ k ∙ ap (λ x. rank (bits slots words) (slot / 64 * 64) + x) (sym mask))

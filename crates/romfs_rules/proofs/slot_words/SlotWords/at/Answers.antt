@@ -22,4 +22,6 @@ returns g c =
     let m : get_or slots slot false ≡ true = ap (λ (w : Words). get_or w.slots slot false) c.self.view_is ∙ c.requires in
     let f = number_fits slots words slot m c.self.invariant.0 in
     let n : c.number.result ≡ rank slots slot = c.number.ensures in
-    c.index.ensures ∙ ap (λ x. get_or words x c.index.result.now) n ∙ get_or_default_zero words (rank slots slot) c.index.result.now f ∙ sym (word_is slots words slot m) ∙ ap (λ (w : Words). get_or w.by_slot slot 0) c.self.view_is
+    c.index.ensures ∙ ap (λ x. get_or words x c.index.result.now) n
+    ∙ get_or_default_zero words (rank slots slot) c.index.result.now f ∙ sym (word_is slots words slot m)
+    ∙ ap (λ (w : Words). get_or w.by_slot slot 0) c.self.view_is

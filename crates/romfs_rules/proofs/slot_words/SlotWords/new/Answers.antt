@@ -4,5 +4,8 @@ use Rattle.romfs_rules.proofs.slot_words.SlotWords.new.Goals as goal
 
 pub returns : goal.returns
 returns g c =
-    let n = c.in_ok-numbers.ensures in
-    (n, spread_none c.in_ok-numbers.numbers c.in_ok-words.words.items _ (c.in_ok-words.ensures.items_if_clones_equal (λ y e. e)) ∙ ap (λ s. replicate {A = ℕ} (length s) 0) n)
+    let n = c.in_ok-numbers.ensures in (
+      n,
+      spread_none c.in_ok-numbers.numbers c.in_ok-words.words.items _
+          (c.in_ok-words.ensures.items_if_clones_equal (λ y e. e)) ∙ ap (λ s. replicate {A = ℕ} (length s) 0) n,
+    )

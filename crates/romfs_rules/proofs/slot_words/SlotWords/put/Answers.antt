@@ -21,4 +21,5 @@ returns-clause-put g c =
     let m : get_or slots slot false ≡ true = ap (λ (w : Words). get_or w.slots slot false) c.self.view_is ∙ c.requires in
     let f = number_fits slots words slot m c.self.invariant.0 in
     let n : c.number-number.result ≡ rank slots slot = c.number-number.ensures in
-    ap (λ x. spread slots (set words x c.args.word)) n ∙ put_is slots words slot m c.args.word f ∙ ap (λ (w : Words). set w.by_slot slot c.args.word) c.self.view_is
+    ap (λ x. spread slots (set words x c.args.word)) n ∙ put_is slots words slot m c.args.word f
+    ∙ ap (λ (w : Words). set w.by_slot slot c.args.word) c.self.view_is

@@ -63,7 +63,8 @@ allocate_spec 𝓤 𝓛 𝓜 𝓡 wired A L g d e met _ =
     let y : (walk_of 𝓛 En hs c).Ghost = ((κs, qs, bounds, a, vals), τ) in
     let Post : Val → SProp 𝓤 = (walk_of 𝓛 En hs c).post y in
     -- from the answer, its block, the token of κ and the other tokens
-    let ends : (v : Val) (r : Answer.Denot) → Sq 𝓛 (‵ (Answer.own_val r (v ∷ [])) ∷ ‵ (block_if_ok (token Z h) τ r) ∷ ‵ (flft κ q) ∷ (‵ (flft ρ s) ⊛ ‵ ftrue) ∷ []) (prop (Post v)) = λ v r.
+    let ends : (v : Val) (r : Answer.Denot) → Sq 𝓛 (‵ (Answer.own_val r (v ∷ [])) ∷ ‵
+    (block_if_ok (token Z h) τ r) ∷ ‵ (flft κ q) ∷ (‵ (flft ρ s) ⊛ ‵ ftrue) ∷ []) (prop (Post v)) = λ v r.
     suffices ! _ (ends_at 𝓛 En hs c y v r (tt, (tt, (tt, tt))) (tt, (tt, (tt, tt)))) $
     nothing ! $ nothing ! $ fjoin ! $ nothing ! $ fjoin ! $ nothing ! $ fjoin ! $ join ! $ move ! (2 ∷ 3 ∷ []) $ join ! $ join ! $ done ! in
     let fails : Sq 𝓛 (‵ (flft κ q) ∷ (‵ (flft ρ s) ⊛ ‵ ftrue) ∷ []) (prop (Post (answer_val false 0 0))) =
@@ -80,12 +81,15 @@ allocate_spec 𝓤 𝓛 𝓜 𝓡 wired A L g d e met _ =
     use1 𝓛 (‵ (hidden_shr Tally κ t tat.0 tat.1)) (id⊢ 𝓤 _) $ feq_i ! _ (vptr tat.0 tat.1 ∷ []) _ refl $ fjoin ! $
     nothing ! $ move ! (1 ∷ 0 ∷ []) $ fjoin ! $ nothing ! $ move ! (2 ∷ 0 ∷ []) $ join ! $ join ! $ nothing ! $ move ! (1 ∷ 0 ∷ []) $
     use2 𝓛 (raw (Asks.pre x)) (id⊢ 𝓤 _) $
-    calls_at ! (framed 𝓤 𝓛.H 𝓜 𝓣) Asks (asked_met 𝓤 𝓛 𝓜 𝓡 (code.calls-test_kit::refusing::Tally::refuses_next 𝓡.env wired)) x (and_then ! (get ! refl) (no_more !)) (λ u.
+    calls_at ! (framed 𝓤 𝓛.H 𝓜 𝓣) Asks (asked_met 𝓤 𝓛 𝓜 𝓡
+    (code.calls-test_kit::refusing::Tally::refuses_next 𝓡.env wired)) x
+    (and_then ! (get ! refl) (no_more !)) (λ u.
     use1 𝓛 (later (some (λ (r : Bool). ((‵ (flft κ q) ⊛ ‵ ftrue) ⊛ ‵ (bool.own_val r (u ∷ []))) ⊛
     some (λ (ws : Unit {0} × Unit {0}). ‵ (lasts asked.ended x.0.0 x.0.3 ws) ⊛ raw (fact 𝓤 (t.refuse_at ≡ 0 → IsFalse r)))))) (id⊢ 𝓤 _) $
     await ! tt $ pick ! (λ refused. split ! $ move ! (1 ∷ []) $ drop ! $ split ! $ move ! (1 ∷ []) $ feq_l ! (λ is_refused. split ! $ move ! (1 ∷ []) $ drop ! $
     lands_as ! (ap only is_refused) refl (tt, tt) $ first ! $ branches ! (get ! refl)
-    (λ yes. sets ! (agg ! (no_more !)) refl (tt, tt) $ sets ! (agg ! (and_then ! (lit ! tt) (and_then ! (get ! refl) (no_more !)))) refl (Answer-typed false 0 0) $
+    (λ yes. sets ! (agg ! (no_more !)) refl (tt, tt) $ sets !
+    (agg ! (and_then ! (lit ! tt) (and_then ! (get ! refl) (no_more !)))) refl (Answer-typed false 0 0) $
     returns_within ! Post refl (look_at ! 0 refl) $ free_all ! refl $ keep ! (0 ∷ 2 ∷ []) $ fails)
     (λ no. skips ! $ exec ! 𝓣.C 𝓣.Λ (env fn.locals l) (after 3 fn.body) (at_ret _ Post) $
     sets ! (addr ! (through ! refl (fld ! refl (stop !)))) refl (tt, tt) $ move ! (1 ∷ 0 ∷ []) $

@@ -42,7 +42,10 @@ deallocate_spec 𝓤 𝓛 𝓜 𝓡 wired A L g d e met _ =
     let inst = bounded (a_type ∷ []) (A, tt) (dcons d (dcons e dnil)) in let fn = inst_fn inst code.function in
     let 𝓣 = tables 𝓤 𝓛.H 𝓜 𝓡 𝓡.env in let G = Gives Z 𝓛 𝓜.mem 𝓡.returns in
     let number = plain (λ _. usize) in let pointer = plain (λ _. RawPtr) in
-    let hs : Stays En.signature.params En.kept = (stay_dropped (self A) yes, (stay_dropped pointer yes, (stay_dropped number yes, (stay_dropped number yes, tt)))) in
+    let hs : Stays En.signature.params En.kept = (
+      stay_dropped (self A) yes,
+      (stay_dropped pointer yes, (stay_dropped number yes, (stay_dropped number yes, tt))),
+    ) in
     let number_goes = Goes-dropped 𝓛 2 number yes (λ κs x w. refl) in
     proved 𝓛 En hs c 𝓜 𝓡 (Goes-dropped 𝓛 2 (self A) yes (λ κs x w. refl), (Goes-dropped 𝓛 2 pointer yes (λ κs x w. refl), (number_goes, (number_goes, tt))))
     (key.name inst) fn (code.unfolded 𝓤 𝓛.H 𝓜 𝓡 wired (A, tt) d e)
@@ -66,7 +69,9 @@ deallocate_spec 𝓤 𝓛 𝓜 𝓡 wired A L g d e met _ =
     join ! $ move ! (2 ∷ []) $ fsplit ! $ move ! (1 ∷ 2 ∷ []) $ join ! $ move ! (1 ∷ 0 ∷ []) $ join ! $
     let z : G.Ghost = at_gives Z 𝓛 𝓜.mem 𝓡.returns κ q at h b o n m τ in
     use1 𝓛 (raw (G.pre z)) (Gives-goes Z 𝓛 𝓜.mem 𝓡.returns κ q at h (⊑_trans κ ρ A.lives bounds.0 le) b o n m τ said.0 said.1 fn64 fm64) $
-    calls_at ! (framed 𝓤 𝓛.H 𝓜 𝓣) G (met.deallocate e) z (and_then ! (get ! refl) (and_then ! (get ! refl) (and_then ! (get ! refl) (and_then ! (get ! refl) (no_more !))))) (λ v.
+    calls_at ! (framed 𝓤 𝓛.H 𝓜 𝓣) G (met.deallocate e) z
+    (and_then ! (get ! refl) (and_then ! (get ! refl)
+    (and_then ! (get ! refl) (and_then ! (get ! refl) (no_more !))))) (λ v.
     use1 𝓛 (later (given (v ≡ vunit) (‵ (flft κ q)))) (Gives-Gives Z 𝓛 𝓜.mem 𝓡.returns κ q at h b o n m τ v) $ await ! tt $ learn ! (λ is_unit.
     lands_as ! is_unit refl (tt, tt) $ sets ! (of_opd ! (unit_lit !)) refl (tt, tt) $ returns ! (look_at ! 0 refl) $ free_all ! refl $
     suffices ! _ (ends_at 𝓛 En hs c (y (block_ptr b o)) vunit tt (tt, (tt, (tt, (tt, tt)))) (tt, (tt, (tt, (tt, tt))))) $
