@@ -41,12 +41,12 @@ one_broken profile images m n f g x y =
     cc
 
 -- images that keep the rules have none that is broken
-none_broken : (profile : Profile) (xs us : List (List ℕ)) (a : List ℕ) (r : Rule) (p : ℕ) → All (IsSoundAs profile) (xs ++ a ∷ us) → ¬ IsFaultAs profile a r p
+pub none_broken : (profile : Profile) (xs us : List (List ℕ)) (a : List ℕ) (r : Rule) (p : ℕ) → All (IsSoundAs profile) (xs ++ a ∷ us) → ¬ IsFaultAs profile a r p
 none_broken profile [] us a r p f x = no_fault profile a r p (All-head (IsSoundAs profile) a us f) x
 none_broken profile (c ∷ xs) us a r p f x = none_broken profile xs us a r p (All-tail (IsSoundAs profile) c (xs ++ a ∷ us) f) x
 
 module _ (profile : Profile) (images : List (List ℕ)) where
-  not_few : (count : ℕ) → (count ≡ length images) × ((count ≡ 0) ⊎ (128 < count)) → ¬ IsFew (length images)
+  pub not_few : (count : ℕ) → (count ≡ length images) × ((count ≡ 0) ⊎ (128 < count)) → ¬ IsFew (length images)
   not_few count (e, inl h) few = (let a = few.0 in omega arith)
   not_few count (e, inr h) few = (let a = few.1 in omega arith)
 

@@ -20,6 +20,7 @@ pub record PullExamples : Type 0 where
 -- what was pushed since the last flush that succeeded is left out
 pub record PushExamples : Type 0 where
   pub no_flush : flushed (some_trace no_pulls (pushed no_pushes 3 (Ok 3))) ≡ []
+  pub two_pushes : flushed (some_trace no_pulls (pushed (pushed no_pushes 3 (Ok 2)) 1 (Ok 1))) ≡ []
   pub failed_flush : (e : Failed) → flushed (some_trace no_pulls (flush (pushed no_pushes 3 (Ok 3)) (Err e))) ≡ []
   pub one_more : flushed (some_trace no_pulls (pushed (flush (pushed no_pushes 2 (Ok 2)) (Ok tt)) 1 (Ok 1))) ≡ 7 ∷ 8 ∷ []
   pub all : flushed (some_trace no_pulls (flush (pushed (pushed no_pushes 3 (Ok 2)) 1 (Ok 1)) (Ok tt))) ≡ 7 ∷ 8 ∷ 9 ∷ []
