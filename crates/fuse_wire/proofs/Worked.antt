@@ -2,7 +2,7 @@
 use Rattle.std.proofs.Common.{refl}
 use Rattle.fuse_wire.specs.Requests.{op_of, forgets_of}
 use Rattle.fuse_wire.specs.Structures.{u32, u64, zeros, dirent_front, dirent}
-use Rattle.fuse_wire.specs.Examples.{OpcodeExamples, MessageExamples, ForgetExamples, DirentExamples}
+use Rattle.fuse_wire.specs.Examples.{OpcodeExamples, MessageExamples, ForgetExamples, DirentExamples, FlagExamples}
 
 pub opcodes : OpcodeExamples
 unfolding op_of forgets_of u32 u64 zeros dirent_front dirent
@@ -19,3 +19,6 @@ forgets = record { no_items = refl; count_zero = refl; half_an_item = refl; shor
 pub dirents : DirentExamples
 unfolding op_of forgets_of u32 u64 zeros dirent_front dirent
 dirents = record { one_byte = refl; seven_bytes = refl; eight_bytes = refl; nine_bytes = refl }
+
+pub flags : FlagExamples
+flags = record { async_read = refl; export_support = refl; do_readdirplus = refl; readdirplus_auto = refl; parallel_dirops = refl; max_pages = refl; keep_cache = refl }

@@ -1,5 +1,6 @@
 -- Worked examples: what each opcode asks, and rows of directories as bytes.
-use Rattle.std.specs.Prelude.{◌≡◌, ℕ, List, [], ◌∷◌, ◌++◌, map, replicate, codes}
+use Rattle.std.specs.Prelude.{◌≡◌, ℕ, ◌^◌, List, [], ◌∷◌, ◌++◌, map, replicate, codes}
+use Rattle.fuse_wire.specs.declared.flags.TheConstants.{ASYNC_READ, EXPORT_SUPPORT, DO_READDIRPLUS, READDIRPLUS_AUTO, PARALLEL_DIROPS, MAX_PAGES, FOPEN_KEEP_CACHE}
 use Rattle.fuse_wire.specs.Requests.{lookup, forget, getattr, readlink, open_file, read, statfs, release, fsync, flush, init, opendir, readdir, releasedir, fsyncdir, interrupt, destroy, batch_forget, readdirplus, modify, other, malformed, op_of, asked}
 use Rattle.fuse_wire.specs.Structures.{u32, u64, zeros, dirent}
 
@@ -60,3 +61,13 @@ pub record DirentExamples : Type 0 where
   pub seven_bytes : dirent 1 2 4 (codes "nnnnnnn") ≡ u64 1 ++ u64 2 ++ u32 7 ++ u32 4 ++ codes "nnnnnnn" ++ zeros 1
   pub eight_bytes : dirent 1 2 4 (codes "nnnnnnnn") ≡ u64 1 ++ u64 2 ++ u32 8 ++ u32 4 ++ codes "nnnnnnnn"
   pub nine_bytes : dirent 1 2 4 (codes "nnnnnnnnn") ≡ u64 1 ++ u64 2 ++ u32 9 ++ u32 4 ++ codes "nnnnnnnnn" ++ zeros 7
+
+-- the flags of INIT and of the reply to OPEN, by the places of their bits
+pub record FlagExamples : Type 0 where
+  pub async_read : ASYNC_READ ≡ 2 ^ 0
+  pub export_support : EXPORT_SUPPORT ≡ 2 ^ 4
+  pub do_readdirplus : DO_READDIRPLUS ≡ 2 ^ 13
+  pub readdirplus_auto : READDIRPLUS_AUTO ≡ 2 ^ 14
+  pub parallel_dirops : PARALLEL_DIROPS ≡ 2 ^ 18
+  pub max_pages : MAX_PAGES ≡ 2 ^ 22
+  pub keep_cache : FOPEN_KEEP_CACHE ≡ 2 ^ 1

@@ -1,6 +1,6 @@
 //! Worked examples: what messages ask, and rows as bytes, by computation.
 
-ghost use Rattle.fuse_wire.specs.Examples.{OpcodeExamples, MessageExamples, ForgetExamples, DirentExamples};
+ghost use Rattle.fuse_wire.specs.Examples.{OpcodeExamples, MessageExamples, ForgetExamples, DirentExamples, FlagExamples};
 
 /// What each opcode asks, by its number.
 #[tactic(auto, using(crate::proofs::Worked::opcodes))]
@@ -24,4 +24,10 @@ pub fn forgets_example()
 #[tactic(auto, using(crate::proofs::Worked::dirents))]
 pub fn dirents_example()
     ensures { DirentExamples }
+{}
+
+/// The bits of flags.
+#[tactic(auto, using(crate::proofs::Worked::flags))]
+pub fn flags_example()
+    ensures { FlagExamples }
 {}

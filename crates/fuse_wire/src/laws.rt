@@ -1,6 +1,6 @@
 //! What holds of every stream, by the definitions alone.
 
-ghost use Rattle.std.specs.Prelude.{◌≡◌, ◌+◌, ◌≤◌, length, ◌++◌, ◌∷◌, [], ℕ, List, take, drop};
+ghost use Rattle.std.specs.Prelude.{◌≡◌, ◌+◌, ◌*◌, ◌≤◌, length, ◌++◌, ◌∷◌, [], ℕ, List, take, drop};
 ghost use Rattle.fuse_wire.specs.declared.framing.Framed.{Framed};
 ghost use Rattle.fuse_wire.specs.Frames.{Frames};
 ghost use Rattle.fuse_wire.specs.Stream.{BeginsMessage, IsBad, IsRest, IsSplit};
@@ -43,11 +43,12 @@ pub fn bodies_hold_their_structures()
     ensures { BodySizes }
 {}
 
-/// A message forgets at most 65,789 nodes.
+/// A message forgets at most 65,789 nodes, and may be long enough for them.
 #[tactic(auto, using(crate::proofs::Bodies::few_forgets))]
 pub fn forgets_are_few()
-    ensures { (body : List ℕ) →
+    ensures most { (body : List ℕ) →
         HEADER_SIZE + length body ≤ MAX_MESSAGE_SIZE → length (forgets_of body) ≤ MAX_FORGETS }
+    ensures reached { HEADER_SIZE + 8 + 16 * MAX_FORGETS ≤ MAX_MESSAGE_SIZE }
 {}
 
 /// The structures of replies have their sizes, and rows whole 8 bytes.

@@ -2,7 +2,7 @@
 
 ghost use Rattle.std.specs.Prelude.{◌≡◌, ◌≤◌, ◌<◌, ◌+◌, ◌^◌, [], ◌++◌, length, OnOk, vec_len, vec_capacity};
 ghost use Rattle.std.specs.Io.KnownBytes.{Appends};
-ghost use Rattle.devices.specs.Counting.{CountsFailure};
+ghost use Rattle.devices.specs.Counting.{Settles};
 ghost use Rattle.path_list.specs.Walks.{Gains};
 
 use devices::{Failed, Sink, hand_on};
@@ -27,7 +27,7 @@ pub(crate) fn drain<K: Sink, A: Allocator>(
     ensures put { OnOk result (Appends (K.held sink.old) (K.held sink.new) room.old.items) }
     ensures items { OnOk result (room.new.items ≡ []) }
     ensures length { OnOk result (vec_len room.new ≡ 0) }
-    ensures counted { CountsFailure result (K.counts sink.old) (K.counts sink.new) }
+    ensures counted { Settles result (K.counts sink.old) (K.counts sink.new) }
 {
     hand_on(sink, room.as_slice())?;
     room.clear();
@@ -43,7 +43,7 @@ pub(crate) fn put<K: Sink, A: Allocator>(
     requires { (K.counts sink.old).failures < 2 ^ 63 }
     ensures gained { OnOk result (Gains (K.held sink.old) room.old.items
         (K.held sink.new) room.new.items bytes.now) }
-    ensures counted { CountsFailure result (K.counts sink.old) (K.counts sink.new) }
+    ensures counted { Settles result (K.counts sink.old) (K.counts sink.new) }
 {
     if bytes.len() <= room.capacity() - room.len() {
         append(room, bytes);

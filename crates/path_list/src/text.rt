@@ -2,7 +2,7 @@
 
 ghost use Rattle.std.specs.Prelude.{◌≡◌, ◌<◌, ◌^◌, ◌++◌, ◌∷◌, [], OnOk};
 ghost use Rattle.std.specs.Fmt.{decimal};
-ghost use Rattle.devices.specs.Counting.{CountsFailure};
+ghost use Rattle.devices.specs.Counting.{Settles};
 ghost use Rattle.path_list.specs.Lines.{hex_digit, escaped, name_text, names_text, path_text, octal_digit, mode_text, field};
 ghost use Rattle.path_list.specs.Walks.{Gains, way};
 
@@ -49,7 +49,7 @@ fn put_escaped<K: Sink, A: Allocator>(
     requires { (K.counts sink.old).failures < 2 ^ 63 }
     ensures gained { OnOk result (Gains (K.held sink.old) room.old.items
         (K.held sink.new) room.new.items (escaped byte)) }
-    ensures counted { CountsFailure result (K.counts sink.old) (K.counts sink.new) }
+    ensures counted { Settles result (K.counts sink.old) (K.counts sink.new) }
 {
     if 0x21 <= byte && byte <= 0x7e && byte != b'\\' {
         put(sink, room, &[byte])
@@ -71,7 +71,7 @@ fn put_name<K: Sink, A: Allocator>(
     requires { (K.counts sink.old).failures < 2 ^ 63 }
     ensures gained { OnOk result (Gains (K.held sink.old) room.old.items
         (K.held sink.new) room.new.items (name_text name.now)) }
-    ensures counted { CountsFailure result (K.counts sink.old) (K.counts sink.new) }
+    ensures counted { Settles result (K.counts sink.old) (K.counts sink.new) }
 {
     for byte in name {
         put_escaped(sink, room, *byte)?;
@@ -88,7 +88,7 @@ fn put_step<K: Sink, A: Allocator>(
     requires { (K.counts sink.old).failures < 2 ^ 63 }
     ensures gained { OnOk result (Gains (K.held sink.old) room.old.items
         (K.held sink.new) room.new.items (47 ∷ name_text name.now)) }
-    ensures counted { CountsFailure result (K.counts sink.old) (K.counts sink.new) }
+    ensures counted { Settles result (K.counts sink.old) (K.counts sink.new) }
 {
     put(sink, room, b"/")?;
     put_name(sink, room, name)
@@ -103,7 +103,7 @@ fn put_names<K: Sink, A: Allocator>(
     requires { (K.counts sink.old).failures < 2 ^ 63 }
     ensures gained { OnOk result (Gains (K.held sink.old) room.old.items
         (K.held sink.new) room.new.items (names_text (way trail.entry))) }
-    ensures counted { CountsFailure result (K.counts sink.old) (K.counts sink.new) }
+    ensures counted { Settles result (K.counts sink.old) (K.counts sink.new) }
 {
     match trail {
         None => Ok(()),
@@ -123,7 +123,7 @@ pub(crate) fn put_path<K: Sink, A: Allocator>(
     requires { (K.counts sink.old).failures < 2 ^ 63 }
     ensures gained { OnOk result (Gains (K.held sink.old) room.old.items
         (K.held sink.new) room.new.items (path_text (way trail.entry))) }
-    ensures counted { CountsFailure result (K.counts sink.old) (K.counts sink.new) }
+    ensures counted { Settles result (K.counts sink.old) (K.counts sink.new) }
 {
     match trail {
         None => put(sink, room, b"/"),
@@ -143,7 +143,7 @@ pub(crate) fn put_number<K: Sink, A: Allocator>(
     requires { (K.counts sink.old).failures < 2 ^ 63 }
     ensures gained { OnOk result (Gains (K.held sink.old) room.old.items
         (K.held sink.new) room.new.items (field (decimal number))) }
-    ensures counted { CountsFailure result (K.counts sink.old) (K.counts sink.new) }
+    ensures counted { Settles result (K.counts sink.old) (K.counts sink.new) }
 {
     let mut digits = Buffer::new();
     put(sink, room, digits.format(number).as_bytes())?;
@@ -159,7 +159,7 @@ pub(crate) fn put_mode<K: Sink, A: Allocator>(
     requires { (K.counts sink.old).failures < 2 ^ 63 }
     ensures gained { OnOk result (Gains (K.held sink.old) room.old.items
         (K.held sink.new) room.new.items (field (mode_text mode))) }
-    ensures counted { CountsFailure result (K.counts sink.old) (K.counts sink.new) }
+    ensures counted { Settles result (K.counts sink.old) (K.counts sink.new) }
 {
     put(sink, room, &mode_field(mode))
 }

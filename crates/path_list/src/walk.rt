@@ -1,7 +1,7 @@
 //! The walk over all paths of a table.
 
-ghost use Rattle.std.specs.Prelude.{◌≡◌, ◌<◌, ◌^◌, OnOk, IfErr};
-ghost use Rattle.devices.specs.Counting.{CountsFailure};
+ghost use Rattle.std.specs.Prelude.{◌≡◌, ◌<◌, ◌≤◌, ◌^◌, OnOk, IfErr};
+ghost use Rattle.devices.specs.Counting.{Settles};
 ghost use Rattle.devices.specs.States.{sink_state};
 ghost use Rattle.path_list.specs.Below.{AreImages};
 ghost use Rattle.path_list.specs.Lines.{lines};
@@ -59,7 +59,7 @@ fn put_line<K: Sink, A: Allocator, B: Allocator>(
     requires { (K.counts sink.old).failures < 2 ^ 63 }
     ensures gained { OnOk result (Gains (K.held sink.old) room.old.items
         (K.held sink.new) room.new.items (line_at table.now number (way trail.entry))) }
-    ensures counted { CountsFailure result (K.counts sink.old) (K.counts sink.new) }
+    ensures counted { Settles result (K.counts sink.old) (K.counts sink.new) }
 {
     let Some(node) = table.node(number) else {
         return Ok(());
@@ -88,7 +88,7 @@ fn put_below<K: Sink, A: Allocator, B: Allocator>(
     requires counts { (K.counts sink.old).failures < 2 ^ 63 }
     ensures gained { OnOk result (Gains (K.held sink.old) room.old.items
         (K.held sink.new) room.new.items (lines_below table.now (way trail.entry))) }
-    ensures counted { CountsFailure result (K.counts sink.old) (K.counts sink.new) }
+    ensures counted { Settles result (K.counts sink.old) (K.counts sink.new) }
 {
     for row in table.rows(number) {
         let below = Trail {
@@ -119,7 +119,7 @@ fn put_all<K: Sink, A: Allocator, B: Allocator>(
     requires { (K.counts sink.old).failures < 2 ^ 63 }
     ensures gained { OnOk result (Gains (K.held sink.old) room.old.items
         (K.held sink.new) room.new.items (lines table.now.layers table.now.entries)) }
-    ensures counted { CountsFailure result (K.counts sink.old) (K.counts sink.new) }
+    ensures counted { Settles result (K.counts sink.old) (K.counts sink.new) }
 {
     are_images(table.images());
     if table.len() == 0 {
@@ -146,6 +146,7 @@ pub fn write_list<A: Allocator, B: Allocator, K: Sink>(
 ) -> Result<(), ListFault>
     requires { (K.counts sink.old).failures < 2 ^ 63 }
     ensures ok { OnOk result (Lists table.now (K.held sink.old) (K.held sink.new)) }
+    ensures flushed { OnOk result ((K.counts sink.new).unflushed ≤ (K.counts sink.old).unflushed) }
     ensures err { IfErr result (IsBrokenOff (sink_state (K.held sink.old) (K.counts sink.old))
         (sink_state (K.held sink.new) (K.counts sink.new))) }
 {

@@ -5,3 +5,5 @@ pub mod Runs
 pub mod Ends
 pub mod Checked
 pub mod Headline
+pub mod Refusals
+pub mod Worked

@@ -4,3 +4,4 @@ pub mod Buffers
 pub mod Laws
 pub mod Preparing
 pub mod Headline
+pub mod Examples

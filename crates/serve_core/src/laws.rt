@@ -1,14 +1,16 @@
 //! What a served stream means, end by end: each law follows from what [`crate::serve_as`], or
 //! [`crate::run_by`] below it, promises.
 
-ghost use Rattle.std.specs.Prelude.{◌≡◌, ◌↔◌, ◌+◌, ℕ, List, Result, Ok, Err};
+ghost use Rattle.std.specs.Prelude.{◌≡◌, ◌↔◌, ◌+◌, ◌⊎◌, ℕ, ℤ, List, Result, Ok, Err};
 ghost use Rattle.romfs_format.specs.declared.rule.Profile.{Profile};
 ghost use Rattle.romfs_format.specs.declared.rule.ImageFault.{ImageFault};
+ghost use Rattle.reply_model.specs.declared.moves.Move.{Move};
 ghost use Rattle.rounds.specs.Rounds.{Answering};
 ghost use Rattle.serve_core.specs.declared.done.Done.{Done};
 ghost use Rattle.serve_core.specs.declared.stop.Stop.{Stop};
-ghost use Rattle.serve_core.specs.declared.stop.Stop.TheVariants.{Layer, Layers, BadLength, CutOff, Read, Write, Turns};
-ghost use Rattle.serve_core.specs.Serving.{Trace, IsRun, IsPrompt};
+ghost use Rattle.serve_core.specs.declared.stop.Stop.TheVariants.{Layer, Layers, BadLength, CutOff, Read, Write, Turns, Memory};
+ghost use Rattle.serve_core.specs.Serving.{Trace, AreBalances, IsRun, IsPrompt};
+ghost use Rattle.serve_core.specs.Preparing.{AreLayers, AreRefused};
 ghost use Rattle.serve_core.specs.Headline.{Serves, HasServedAll, IsRefusedFor};
 ghost use Rattle.serve_core.specs.Laws.{HasServed, HasBadLength, IsCutOff, HasFailed, HasUsedTurns, IsFront};
 
@@ -60,4 +62,20 @@ pub fn replies_come_in_order<A: Allocator>()
         IsRun by n turns t r → IsFront by t }
     ensures prompt { (by : Answering) (n turns : ℕ) (t : Trace) (r : Result (Done A) Stop) →
         IsRun by n turns t r → IsPrompt by t }
+{}
+
+/// Beside want of memory, images are refused for one reason, and good ones for none.
+#[tactic(auto, using(crate::proofs::Refusals::one_reason))]
+pub fn refusals_are_one()
+    ensures once { (profile : Profile) (images : List (List ℕ)) (r s : Stop) →
+        AreRefused profile images r → AreRefused profile images s →
+        (r ≡ s) ⊎ ((r ≡ Memory) ⊎ (s ≡ Memory)) }
+    ensures good { (profile : Profile) (images layers : List (List ℕ)) (r : Stop) →
+        AreLayers profile images layers → AreRefused profile images r → r ≡ Memory }
+{}
+
+/// Moves come to one list of balances.
+pub fn balances_are_one()
+    ensures { (moves : List Move) (nodes : ℕ) (xs ys : List ℤ) →
+        AreBalances moves nodes xs → AreBalances moves nodes ys → xs ≡ ys }
 {}

@@ -20,6 +20,7 @@
 mod buffer;
 mod checking;
 pub mod done;
+pub mod examples;
 pub mod laws;
 mod preparing;
 mod progress;

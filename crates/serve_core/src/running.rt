@@ -1,8 +1,9 @@
 //! A stream, served to its end.
 
-ghost use Rattle.std.specs.Prelude.{MatchOption, OnOk};
+ghost use Rattle.std.specs.Prelude.{◌≡◌, Err, MatchOption, OnOk};
 ghost use Rattle.std.specs.Io.KnownBytes.{IsAtEnd};
 ghost use Rattle.fuse_wire.specs.Stream.{IsRest, IsBad, IsOpen};
+ghost use Rattle.serve_core.specs.declared.stop.Stop.TheVariants.{Turns};
 ghost use Rattle.serve_core.specs.Serving.{devices, AreReady, Does, IsRun};
 
 use crate::done::Done;
@@ -36,6 +37,7 @@ pub fn run_by<T: Rounds, S: Source, K: Sink, A: Allocator + Copy>(
         (devices (S.left source.old) (S.counts source.old) (K.held sink.old) (K.counts sink.old))
         (devices (S.left source.new) (S.counts source.new) (K.held sink.new) (K.counts sink.new)) }
     ensures end { OnOk result (IsAtEnd (S.left source.new)) }
+    ensures at_once { turns ≡ 0 → result ≡ Err Turns }
 {
     if turns == 0 {
         return Err(Stop::Turns);

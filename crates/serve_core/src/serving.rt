@@ -1,8 +1,9 @@
 //! Streams over images.
 
-ghost use Rattle.std.specs.Prelude.{OnOk};
+ghost use Rattle.std.specs.Prelude.{◌≡◌, Err, OnOk};
 ghost use Rattle.std.specs.Io.KnownBytes.{IsAtEnd};
 ghost use Rattle.serve_core.specs.Preparing.{contents_of};
+ghost use Rattle.serve_core.specs.declared.stop.Stop.TheVariants.{Turns};
 ghost use Rattle.serve_core.specs.Serving.{devices, AreReady, Does};
 ghost use Rattle.serve_core.specs.Headline.{IsRunOver, Serves};
 
@@ -43,6 +44,7 @@ pub fn run<A: Allocator + Copy, S: Source, K: Sink, G: Gate>(
         (devices (S.left source.old) (S.counts source.old) (K.held sink.old) (K.counts sink.old))
         (devices (S.left source.new) (S.counts source.new) (K.held sink.new) (K.counts sink.new)) }
     ensures end { OnOk result (IsAtEnd (S.left source.new)) }
+    ensures at_once { turns ≡ 0 → result ≡ Err Turns }
 {
     run_by(alloc, &Pool::new(table, plan, gate), source, sink, turns)
 }

@@ -3,3 +3,4 @@ pub mod Printed
 pub mod Served
 pub mod Ended
 pub mod Listed
+pub mod Statuses

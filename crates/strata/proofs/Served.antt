@@ -8,7 +8,7 @@ use Rattle.serve_core.specs.Serving.{Devices, Trace}
 use Rattle.strata.specs.declared.faults.Fault.{Fault}
 use Rattle.strata.specs.declared.faults.Fault.TheVariants.{Stopped}
 use Rattle.strata.specs.Faults.{out_of_memory, write_failed}
-use Rattle.strata.specs.Ending.{Gave, Took, Asks, Gains, IsServing, IsServedWhole, IsServedInPart, AreBalancesLost, IsNotServed}
+use Rattle.strata.specs.Ending.{Gave, Took, Asks, Gains, IsServing, IsServedWhole, IsNotServed}
 
 none_where : {X : Type 0} (o : Option X) → is_some o ≡ false → o ≡ None
 none_where None e = refl

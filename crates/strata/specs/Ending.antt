@@ -1,9 +1,10 @@
 -- What a command leaves behind: its status, and what its output gained.
-use Rattle.std.specs.Prelude.{◌≡◌, ◌<◌, ◌+◌, ◌^◌, ◌⊎◌, ℕ, List, Bool, true, Option, None, is_some, length, vec_len, Result, Ok, Err, OnOk, if◌then◌else◌}
+use Rattle.std.specs.Prelude.{◌≡◌, ◌<◌, ◌≤◌, ◌+◌, ◌^◌, ◌⊎◌, ℕ, List, true, Option, None, is_some, length, vec_len, Result, Ok, Err, OnOk, if◌then◌else◌}
 use Rattle.std.specs.Io.KnownBytes.{Appends, Consumes, IsAtEnd}
 use Rattle.romfs_format.specs.declared.rule.Profile.{Profile}
 use Rattle.romfs_format.specs.declared.rule.Profile.TheVariants.{Usual, Strict}
 use Rattle.devices.specs.Counting.{no_pulls, no_pushes}
+use Rattle.devices.specs.Pushing.{HasFlushed}
 use Rattle.devices.specs.States.{SourceState, SinkState}
 use Rattle.node_table.specs.Stacked.{Stacked}
 use Rattle.serve_core.specs.declared.stop.Stop.{Stop}
@@ -41,11 +42,12 @@ AreNotPut old new fault = IsLost fault old new ⊎ ((fault ≡ out_of_memory) ×
 
 -- ---- check
 
--- these images are good, and the output gained a line with the size of each
+-- these images are good, and the output gained a line with the size of each, and was flushed
 pub record AreGood (profile : Profile) (images : List (List ℕ)) (old new : SinkState) : Type 0 where
   pub sizes : List ℕ
   pub sizes_are : AreSizes profile images sizes
   pub written : Appends old.held new.held (size_lines 0 sizes)
+  pub flushed : HasFlushed (size_lines 0 sizes) old.counts new.counts
 
 -- a check stopped: one of the images is to blame or memory ran out, and the output is as it was; or the output failed
 abbrev pub AreNotGood : Profile → List (List ℕ) → Fault → SinkState → SinkState → Type 0
@@ -53,11 +55,12 @@ AreNotGood profile images fault old new = (IsFirstFault profile images fault × 
 
 -- ---- list
 
--- the images are good, and the output gained a line for each path that their stack shows
+-- the images are good, and the output gained a line for each path that their stack shows; none waits for a flush
 pub record IsListed (profile : Profile) (images : List (List ℕ)) (old new : SinkState) : Type 0 where
   pub stack : Stacked
   pub stacked : AreStacked profile images stack
   pub written : Appends old.held new.held (lines stack.layers stack.entries)
+  pub flushed : new.counts.unflushed ≤ old.counts.unflushed
 
 -- the images were not stacked, or memory ran out, and the output is as it was
 pub record IsRefused (profile : Profile) (images : List (List ℕ)) (fault : Fault) (old new : SinkState) : Type 0 where

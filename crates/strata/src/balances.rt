@@ -2,6 +2,7 @@
 
 ghost use Rattle.std.specs.Prelude.{◌≡◌, ◌<◌, ◌^◌, ◌⊎◌, is_some, true, string_bytes, IfOk, IfErr, OnOk};
 ghost use Rattle.std.specs.Io.KnownBytes.{Appends};
+ghost use Rattle.devices.specs.Pushing.{HasFlushed};
 ghost use Rattle.devices.specs.States.{sink_state};
 ghost use Rattle.strata.specs.Faults.{out_of_memory, write_failed};
 ghost use Rattle.strata.specs.Ending.{AreNotPut};
@@ -35,6 +36,8 @@ fn put_balances<K: Sink, A: Allocator>(
 ) -> Result<(), Fault>
     requires { (K.counts sink.old).failures < 2 ^ 63 }
     ensures ok { OnOk result (Appends (K.held sink.old) (K.held sink.new) (balance_lines 1 balances.now)) }
+    ensures flushed { OnOk result (HasFlushed (balance_lines 1 balances.now)
+        (K.counts sink.old) (K.counts sink.new)) }
     ensures err { IfErr result (AreNotPut
         (sink_state (K.held sink.old) (K.counts sink.old))
         (sink_state (K.held sink.new) (K.counts sink.new))) }

@@ -14,6 +14,7 @@ mod checking;
 pub mod command;
 pub mod faults;
 mod files;
+pub mod laws;
 mod listing;
 mod serving;
 mod streams;

@@ -2,6 +2,7 @@
 
 ghost use Rattle.std.specs.Prelude.{◌≡◌, ◌<◌, ◌^◌, ◌++◌, IfSome, OnOk, IfOk, IfErr};
 ghost use Rattle.std.specs.Io.KnownBytes.{Appends, IsAtEnd};
+ghost use Rattle.devices.specs.Pushing.{HasFlushed};
 ghost use Rattle.devices.specs.States.{sink_state};
 ghost use Rattle.strata.specs.declared.streams.ReadFault.TheVariants.{Memory};
 ghost use Rattle.strata.specs.Ending.{IsLost};
@@ -53,6 +54,7 @@ pub fn read_file<F: Read + OpenFile, A: Allocator>(
 pub fn put_lines<K: Sink>(sink: &mut K, lines: &[u8]) -> Result<(), Fault>
     requires { (K.counts sink.old).failures < 2 ^ 63 }
     ensures ok { OnOk result (Appends (K.held sink.old) (K.held sink.new) lines.now) }
+    ensures flushed { OnOk result (HasFlushed lines.now (K.counts sink.old) (K.counts sink.new)) }
     ensures err { IfErr result (λ fault. IsLost fault
         (sink_state (K.held sink.old) (K.counts sink.old))
         (sink_state (K.held sink.new) (K.counts sink.new))) }

@@ -13,7 +13,7 @@ put_below-requires g t c κs within =
     let w = goes_on c.args.table.now c.args.number (way c.args.trail) c.requires.visited c.rows-row-items.result.now c.loop-row.row-index c.row-item.result c.row.inside.number c.name.result.now c.rows-row-items.ensures c.loop-row-test.true c.row-item.is same in
     let visit = w.0 in
     let less = w.1 in
-    let same_failures = c.in_ok-put_line.ensures.counted ∙ c.loop-row.invariant.1 in
+    let same_failures = c.in_ok-put_line.ensures.counted.0 ∙ c.loop-row.invariant.1 in
     let few = subst (λ n. n < 2 ^ 63) (sym same_failures) c.requires.counts in
     search (rules, visit, less, few)
 

@@ -1,4 +1,4 @@
-use Rattle.std.proofs.Common.{◌≡◌, length, take}
+use Rattle.std.proofs.Common.{◌≡◌, ◌≤◌, length, take}
 use Rattle.std.specs.Prelude.{flat_map}
 use Rattle.path_list.specs.Walks.{Gains, way, piece_at}
 use Rattle.path_list.specs.Below.{below}
@@ -7,9 +7,10 @@ use Rattle.path_list.proofs.walk.+put_below.Given as goal
 abbrev pub decreases-put_below : goal.decreases-put_below
 decreases-put_below g l = length (below l.table.now.entries (way l.trail))
 
--- the lines of the children so far, each with those below it, and no failure
+-- the lines of the children so far, each with those below it, no failure, and no byte more that waits for a flush
 abbrev pub invariant-loop-row : goal.invariant-loop-row
 invariant-loop-row g l =
     Gains (g.K.Sink.held l.fn.sink) l.fn.room.items (g.K.Sink.held l.sink) l.room.items
     (flat_map (piece_at l.table (way l.trail)) (take l.row-index l.row-items))
     × ((g.K.Sink.counts l.sink).failures ≡ (g.K.Sink.counts l.fn.sink).failures)
+    × ((g.K.Sink.counts l.sink).unflushed ≤ (g.K.Sink.counts l.fn.sink).unflushed)

@@ -1,0 +1,212 @@
+-- What the exit statuses of the program mean.
+use Rattle.std.proofs.Common.{◌≡◌, ◌≢◌, ◌∙◌, sym, ap, subst, ℕ, ◌≤◌, ◌⊎◌, inl, inr, List, All, Err, arith}
+use Rattle.romfs_format.specs.declared.rule.Profile.{Profile}
+use Rattle.romfs_format.specs.Rules.{IsSoundAs}
+use Rattle.serve_core.specs.declared.stop.Stop.{Stop}
+use Rattle.serve_core.specs.declared.stop.Stop.TheVariants as stops
+use Rattle.command_line.specs.declared.options.Line.{Line}
+use Rattle.command_line.specs.declared.options.LineFault.{LineFault}
+use Rattle.command_line.specs.declared.options.LineFault.TheVariants as lines
+use Rattle.command_line.specs.declared.options.Verb.{Verb}
+use Rattle.command_line.specs.declared.options.Verb.TheVariants as verbs
+use Rattle.command_line.specs.CommandLine.{IsTaken, IsMisnumbered, IsLineFault}
+use Rattle.serve_core.specs.Preparing.{AreRefused}
+use Rattle.serve_core.specs.Serving.{Devices, Trace}
+use Rattle.serve_core.specs.Headline.{Serves}
+use Rattle.serve_core.proofs.Headline.{many_refused, broken_refused}
+use Rattle.serve_core.proofs.Refusals.{not_few, none_broken}
+use Rattle.strata.specs.declared.faults.Fault.{Fault}
+use Rattle.strata.specs.declared.faults.Fault.TheVariants.{Usage, ImageFile, RequestsFile, RepliesFile, BalancesFile, Broken, Stopped}
+use Rattle.strata.specs.Faults.{status_of, stop_status, out_of_memory, line_told_of}
+use Rattle.strata.specs.Ending.{profile_of, IsStoppedOver, EndsWith}
+use Rattle.strata.specs.Laws.{AreBad, AreToBlame}
+
+IsStatus : ℕ → Type 0
+IsStatus n = (1 ≤ n) × (n ≤ 5)
+
+stop_range : (stop : Stop) → IsStatus (stop_status stop)
+unfolding IsStatus
+stop_range (stops.Layer layer fault) = (omega arith, omega arith)
+stop_range (stops.Layers count) = (omega arith, omega arith)
+stop_range (stops.BadLength at len) = (omega arith, omega arith)
+stop_range (stops.CutOff at) = (omega arith, omega arith)
+stop_range stops.Read = (omega arith, omega arith)
+stop_range stops.Write = (omega arith, omega arith)
+stop_range stops.Turns = (omega arith, omega arith)
+stop_range stops.Memory = (omega arith, omega arith)
+
+fault_range : (fault : Fault) → IsStatus (status_of fault)
+unfolding IsStatus
+fault_range (Usage text) = (omega arith, omega arith)
+fault_range (ImageFile image) = (omega arith, omega arith)
+fault_range RequestsFile = (omega arith, omega arith)
+fault_range RepliesFile = (omega arith, omega arith)
+fault_range BalancesFile = (omega arith, omega arith)
+fault_range (Broken image fault) = (omega arith, omega arith)
+fault_range (Stopped stop) = stop_range stop
+
+pub ends_in_range : (A : Type 0) (words : List (List ℕ)) (n : ℕ) (old new : Devices) → EndsWith A words n old new → (1 ≤ n) × (n ≤ 5)
+unfolding IsStatus
+ends_in_range A words n old new e = subst IsStatus (sym e.status_is) (fault_range e.fault)
+
+-- a fault that is not of words has another status than 2
+stop_other : (stop : Stop) → stop_status stop ≢ 2
+stop_other (stops.Layer layer fault) e = absurd (omega arith)
+stop_other (stops.Layers count) e = absurd (omega arith)
+stop_other (stops.BadLength at len) e = absurd (omega arith)
+stop_other (stops.CutOff at) e = absurd (omega arith)
+stop_other stops.Read e = absurd (omega arith)
+stop_other stops.Write e = absurd (omega arith)
+stop_other stops.Turns e = absurd (omega arith)
+stop_other stops.Memory e = absurd (omega arith)
+
+told_as : (fault other : Fault) → fault ≡ other → status_of other ≢ 2 → status_of fault ≢ 2
+told_as fault other f n e = n (sym (ap status_of f) ∙ e)
+
+one_is_other : ◌≢◌ {A = ℕ} 1 2
+one_is_other e = absurd (omega arith)
+
+three_is_other : ◌≢◌ {A = ℕ} 3 2
+three_is_other e = absurd (omega arith)
+
+five_is_other : ◌≢◌ {A = ℕ} 5 2
+five_is_other e = absurd (omega arith)
+
+-- the work of a command is never stopped for its words
+work_other : (A : Type 0) (verb : Verb) (line : Line) (images : List (List ℕ)) (fault : Fault) (old new : Devices) → IsStoppedOver A verb line images fault old new → status_of fault ≢ 2
+work_other A verbs.Serve line images fault old new s =
+    elim s [
+      | inl f ↦ elim f.which [
+        | inl w ↦ told_as fault RequestsFile w.0 one_is_other
+        | inr (inl w) ↦ told_as fault RepliesFile w.0 one_is_other
+        | inr (inr w) ↦ told_as fault BalancesFile w.0 one_is_other
+      ]
+      | inr (inl p) ↦ told_as fault (Stopped p.stop) p.told (stop_other p.stop)
+      | inr (inr b) ↦ elim b.told [
+        | inl w ↦ told_as fault (Stopped stops.Write) w one_is_other
+        | inr w ↦ told_as fault out_of_memory w five_is_other
+      ]
+    ]
+work_other A verbs.Check line images fault old new s =
+    elim s.1 [
+      | inl g ↦ elim g.0 [
+        | inl r ↦ elim r.refused [
+          | inl b ↦ told_as fault (Broken _ b.0) b.1 three_is_other
+          | inr m ↦ told_as fault out_of_memory m five_is_other
+        ]
+        | inr m ↦ told_as fault out_of_memory m five_is_other
+      ]
+      | inr l ↦ told_as fault (Stopped stops.Write) l.told one_is_other
+    ]
+work_other A verbs.List line images fault old new s =
+    elim s.1 [
+      | inl r ↦ told_as fault (Stopped r.stop) r.told (stop_other r.stop)
+      | inr l ↦ told_as fault (Stopped stops.Write) l.told one_is_other
+    ]
+
+-- of the two faults of words want of memory has another status
+misread : (words : List (List ℕ)) (line : LineFault) → IsLineFault words line → status_of (line_told_of line) ≡ 2 → (¬ IsTaken words) ⊎ IsMisnumbered words
+misread words (lines.Usage text) is e = is
+misread words lines.Memory is e = absurd (five_is_other e)
+
+pub ends_for_words : (A : Type 0) (words : List (List ℕ)) (old new : Devices) → EndsWith A words 2 old new → ((¬ IsTaken words) ⊎ IsMisnumbered words) × (new ≡ old)
+ends_for_words A words old new e =
+    let two : status_of e.fault ≡ 2 = sym e.status_is in
+    elim e.stopped [
+      | inl early ↦ elim early.which [
+        | inl taken ↦ (misread words taken.line taken.is (sym (ap status_of taken.told) ∙ two), early.kept)
+        | inr (inl unread) ↦ absurd (told_as e.fault (ImageFile unread.image) unread.told one_is_other two)
+        | inr (inr m) ↦ absurd (told_as e.fault out_of_memory m five_is_other two)
+      ]
+      | inr off ↦ absurd (work_other A off.line.verb off.line off.images e.fault old new off.stopped two)
+    ]
+
+-- ---- status 3
+
+one_is_less : ◌≢◌ {A = ℕ} 1 3
+one_is_less e = absurd (omega arith)
+
+two_is_less : ◌≢◌ {A = ℕ} 2 3
+two_is_less e = absurd (omega arith)
+
+five_is_more : ◌≢◌ {A = ℕ} 5 3
+five_is_more e = absurd (omega arith)
+
+four_is_more : ◌≢◌ {A = ℕ} 4 3
+four_is_more e = absurd (omega arith)
+
+three_of : (fault other : Fault) → fault ≡ other → status_of fault ≡ 3 → status_of other ≡ 3
+three_of fault other f e = sym (ap status_of f) ∙ e
+
+refused_bad : (profile : Profile) (images : List (List ℕ)) (stop : Stop) → AreRefused profile images stop → stop_status stop ≡ 3 → AreBad profile images
+refused_bad profile images (stops.Layers count) r e = inl (not_few profile images count r)
+refused_bad profile images (stops.Layer layer fault) r e = (let b = r.1 in inr (λ s. none_broken profile b.below b.above b.bytes fault.rule fault.place (subst (All (IsSoundAs profile)) b.images_are s) b.broken))
+refused_bad profile images stops.Memory r e = absurd (five_is_more e)
+refused_bad profile images (stops.BadLength at len) r e = absurd r
+refused_bad profile images (stops.CutOff at) r e = absurd r
+refused_bad profile images stops.Read r e = absurd r
+refused_bad profile images stops.Write r e = absurd r
+refused_bad profile images stops.Turns r e = absurd r
+
+served_bad : {A : Type 0} (profile : Profile) (images : List (List ℕ)) (turns : ℕ) (t : Trace) (stop : Stop) → Serves {A = A} profile images turns t (Err stop) → stop_status stop ≡ 3 → AreBad profile images
+served_bad profile images turns t (stops.Layers count) s e = refused_bad profile images (stops.Layers count) (many_refused profile images turns t count s).refused e
+served_bad profile images turns t (stops.Layer layer fault) s e = refused_bad profile images (stops.Layer layer fault) (broken_refused profile images turns t layer fault s).refused e
+served_bad profile images turns t stops.Memory s e = absurd (five_is_more e)
+served_bad profile images turns t (stops.BadLength at len) s e = absurd (four_is_more e)
+served_bad profile images turns t (stops.CutOff at) s e = absurd (four_is_more e)
+served_bad profile images turns t stops.Read s e = absurd (one_is_less e)
+served_bad profile images turns t stops.Write s e = absurd (one_is_less e)
+served_bad profile images turns t stops.Turns s e = absurd (four_is_more e)
+
+work_bad : (A : Type 0) (verb : Verb) (line : Line) (images : List (List ℕ)) (fault : Fault) (old new : Devices) → IsStoppedOver A verb line images fault old new → status_of fault ≡ 3 → AreBad (profile_of line) images
+work_bad A verbs.Serve line images fault old new s e =
+    elim s [
+      | inl f ↦ elim f.which [
+        | inl w ↦ absurd (one_is_less (three_of fault RequestsFile w.0 e))
+        | inr (inl w) ↦ absurd (one_is_less (three_of fault RepliesFile w.0 e))
+        | inr (inr w) ↦ absurd (one_is_less (three_of fault BalancesFile w.0 e))
+      ]
+      | inr (inl p) ↦ served_bad {A = A} (profile_of line) images _ p.trace p.stop p.serving.by.serves (three_of fault (Stopped p.stop) p.told e)
+      | inr (inr b) ↦ elim b.told [
+        | inl w ↦ absurd (one_is_less (three_of fault (Stopped stops.Write) w e))
+        | inr w ↦ absurd (five_is_more (three_of fault out_of_memory w e))
+      ]
+    ]
+work_bad A verbs.Check line images fault old new s e =
+    elim s.1 [
+      | inl g ↦ elim g.0 [
+        | inl r ↦ elim r.refused [
+          | inl b ↦ inr (λ sound. none_broken (profile_of line) r.before r.after r.bytes b.0.rule b.0.place (subst (All (IsSoundAs (profile_of line))) r.images_are sound) b.2)
+          | inr m ↦ absurd (five_is_more (three_of fault out_of_memory m e))
+        ]
+        | inr m ↦ absurd (five_is_more (three_of fault out_of_memory m e))
+      ]
+      | inr l ↦ absurd (one_is_less (three_of fault (Stopped stops.Write) l.told e))
+    ]
+work_bad A verbs.List line images fault old new s e =
+    elim s.1 [
+      | inl r ↦ refused_bad (profile_of line) images r.stop r.refused (three_of fault (Stopped r.stop) r.told e)
+      | inr l ↦ absurd (one_is_less (three_of fault (Stopped stops.Write) l.told e))
+    ]
+
+words_less : (line : LineFault) → status_of (line_told_of line) ≢ 3
+words_less (lines.Usage text) e = two_is_less e
+words_less lines.Memory e = five_is_more e
+
+pub ends_for_images : (A : Type 0) (words : List (List ℕ)) (old new : Devices) → EndsWith A words 3 old new → AreToBlame words
+ends_for_images A words old new e =
+    let three : status_of e.fault ≡ 3 = sym e.status_is in
+    elim e.stopped [
+      | inl early ↦ elim early.which [
+        | inl taken ↦ absurd (words_less taken.line (three_of e.fault (line_told_of taken.line) taken.told three))
+        | inr (inl unread) ↦ absurd (one_is_less (three_of e.fault (ImageFile unread.image) unread.told three))
+        | inr (inr m) ↦ absurd (five_is_more (three_of e.fault out_of_memory m three))
+      ]
+      | inr off ↦ record {
+        line = off.line;
+        images = off.images;
+        line_is = off.line_is;
+        named = off.named;
+        bad = work_bad A off.line.verb off.line off.images e.fault old new off.stopped three;
+      }
+    ]
