@@ -6,15 +6,16 @@ use Rattle.std.specs.Io.KnownBytes.{Appends}
 use Rattle.devices.specs.declared.counts.Pushes.{Pushes}
 use Rattle.devices.specs.Counting.{pushed}
 
--- some of the bytes are pushed without a failure, and the rest is to come
+-- some of the bytes are pushed without a failure or a flush, and the rest is to come
 pub record IsUnderWay (bytes rest done : List ℕ) (old new : Option (List ℕ)) (before after : Pushes) : Type 0 where
   pub split : bytes ≡ done ++ rest
   pub held : Appends old new done
   pub late : after.unflushed ≤ before.unflushed + length done
   pub well : after.failures ≡ before.failures
+  pub flushes : after.flushes ≡ before.flushes
 
 pub begins : (bytes : List ℕ) (old : Option (List ℕ)) (before : Pushes) → IsUnderWay bytes bytes [] old old before before
-begins bytes old before = record { split = refl; held = Appends-nil old; late = omega arith; well = refl }
+begins bytes old before = record { split = refl; held = Appends-nil old; late = omega arith; well = refl; flushes = refl }
 
 taken : (n x y : ℕ) → (n ≡ 0 → ⊥) → (if n == 0 then x else y) ≡ y
 taken n x y h = search rules
@@ -32,4 +33,5 @@ goes_on bytes rest done old mid new before between after n u b z a e = record {
   held = Appends-trans _ _ _ _ _ u.held a;
   late = (let l = length-append done (take n rest) in let t = length-take n rest in let k = u.late in let s = ap (λ p. p.unflushed) e in omega arith);
   well = ap (λ p. p.failures) e ∙ taken n _ _ z ∙ u.well;
+  flushes = ap (λ p. p.flushes) e ∙ u.flushes;
 }

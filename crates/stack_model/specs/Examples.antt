@@ -1,10 +1,10 @@
--- Worked examples: modes of each kind, the numbers of devices, sizes, and the paths of two layers.
-use Rattle.std.specs.Prelude.{◌≡◌, false, true, List, [], ◌∷◌, map, codes}
+-- Worked examples: modes of each kind, the numbers of devices, sizes, the paths of two layers, and nested directories.
+use Rattle.std.specs.Prelude.{◌≡◌, ℕ, false, true, List, [], ◌∷◌, map, Some, None, codes}
 use Rattle.std.specs.declared.cmp.Ordering.TheVariants.{Less}
 use Rattle.stack_model.specs.Listing.{Entry, path_cmp}
-use Rattle.stack_model.specs.Numbers.{place, path_of, number, parent, children}
+use Rattle.stack_model.specs.Numbers.{place, path_of, number, parent, children, child}
 use Rattle.romfs_format.specs.declared.head.Kind.TheVariants.{Directory, Regular, SymLink, Block, Character, Socket, Fifo}
-use Rattle.stack_model.specs.Attributes.{mode_of, size_of, device, rdev_of, blocks_of}
+use Rattle.stack_model.specs.Attributes.{mode_of, size_of, device, rdev_of, blocks_of, blocks_all, links, data_of}
 
 -- without and with the bit that says executable
 pub record ModeExamples : Type 0 where
@@ -32,17 +32,23 @@ pub record DeviceExamples : Type 0 where
   pub character : rdev_of Character 0x00010003 ≡ 0x103
   pub regular : rdev_of Regular 0x00010003 ≡ 0
   pub fifo : rdev_of Fifo 0x00010003 ≡ 0
+  pub socket : rdev_of Socket 0x00010003 ≡ 0
+  pub link : rdev_of SymLink 0x00010003 ≡ 0
+  pub directory : rdev_of Directory 0x00010003 ≡ 0
 
--- sizes are those of files and targets alone; blocks are rounded up
+-- sizes are those of files and targets alone; blocks are rounded up, those of each layer by themselves
 pub record SizeExamples : Type 0 where
   pub regular : size_of Regular 5 ≡ 5
   pub link : size_of SymLink 5 ≡ 5
   pub directory : size_of Directory 5 ≡ 0
   pub device : size_of Block 5 ≡ 0
+  pub character : size_of Character 5 ≡ 0
   pub socket : size_of Socket 5 ≡ 0
+  pub fifo : size_of Fifo 5 ≡ 0
   pub no_blocks : blocks_of 0 ≡ 0
   pub one_block : blocks_of 512 ≡ 1
   pub two_blocks : blocks_of 513 ≡ 2
+  pub two_layers : blocks_all ((0 ∷ []) ∷ (0 ∷ []) ∷ []) ≡ 2
 
 -- paths of two layers: d/x and z are one file of the lower layer, and its header has the number of that of d in the upper
 abbrev pub two_layers : List Entry
@@ -54,9 +60,39 @@ two_layers =
     ∷ record { path = codes "z" ∷ []; layer = 0; header = 0x60 }
     ∷ []
 
+-- in a list of no layers no place is a directory, so there the names of one are those of a file
 pub record LayerExamples : Type 0 where
   pub first_path : path_of two_layers (0, 0x60) ≡ codes "d" ∷ codes "x" ∷ []
   pub numbers : map (λ e. number two_layers (place e)) two_layers ≡ 1 ∷ 2 ∷ 3 ∷ 4 ∷ 3 ∷ []
   pub above : parent two_layers (0, 0x60) ≡ (1, 0x60)
   pub children_of : map (λ c. c.place) (children two_layers (1, 0x60)) ≡ (0, 0x60) ∷ (1, 0x80) ∷ []
+  pub named : child two_layers (1, 0x60) (codes "x") ≡ Some (0, 0x60)
+  pub longer_name : child two_layers (1, 0x60) (codes "xx") ≡ None
+  pub front_of_a_name : child two_layers (1, 0x60) [] ≡ None
+  pub names_of_a_file : links [] two_layers (0, 0x60) ≡ 2
   pub order : path_cmp (codes "a" ∷ codes "b" ∷ []) (codes "a!" ∷ []) ≡ Less
+
+-- a layer of five first words of headers: of four directories with the executable bit, and of a file
+abbrev pub five_headers : List ℕ
+five_headers = 0 ∷ 0 ∷ 0 ∷ 9 ∷ 0 ∷ 0 ∷ 0 ∷ 9 ∷ 0 ∷ 0 ∷ 0 ∷ 9 ∷ 0 ∷ 0 ∷ 0 ∷ 9 ∷ 0 ∷ 0 ∷ 0 ∷ 2 ∷ []
+
+-- a and a/b are directories, and so is c, which holds the file f
+abbrev pub nested : List Entry
+nested =
+    record { path = []; layer = 0; header = 0 }
+    ∷ record { path = codes "a" ∷ []; layer = 0; header = 4 }
+    ∷ record { path = codes "a" ∷ codes "b" ∷ []; layer = 0; header = 8 }
+    ∷ record { path = codes "c" ∷ []; layer = 0; header = 12 }
+    ∷ record { path = codes "c" ∷ codes "f" ∷ []; layer = 0; header = 16 }
+    ∷ []
+
+-- what lies in one directory lies in no other one, and not in those above it; directories have no data
+pub record NestedExamples : Type 0 where
+  pub of_root : map (λ c. c.place) (children nested (0, 0)) ≡ (0, 4) ∷ (0, 12) ∷ []
+  pub of_c : map (λ c. c.place) (children nested (0, 12)) ≡ (0, 16) ∷ []
+  pub above : parent nested (0, 16) ≡ (0, 12)
+  pub names_of_root : links (five_headers ∷ []) nested (0, 0) ≡ 4
+  pub names_of_a : links (five_headers ∷ []) nested (0, 4) ≡ 3
+  pub names_of_c : links (five_headers ∷ []) nested (0, 12) ≡ 2
+  pub names_of_f : links (five_headers ∷ []) nested (0, 16) ≡ 1
+  pub no_data : data_of (five_headers ∷ []) (0, 0) ≡ []

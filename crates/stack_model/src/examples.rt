@@ -1,6 +1,6 @@
 //! Worked examples of attributes and of listed paths, by computation.
 
-ghost use Rattle.stack_model.specs.Examples.{ModeExamples, DeviceExamples, SizeExamples, LayerExamples};
+ghost use Rattle.stack_model.specs.Examples.{ModeExamples, DeviceExamples, SizeExamples, LayerExamples, NestedExamples};
 
 /// The mode of each kind.
 #[tactic(auto, using(crate::proofs::Worked::modes))]
@@ -24,4 +24,10 @@ pub fn sizes_example()
 #[tactic(auto, using(crate::proofs::Worked::layers))]
 pub fn layers_example()
     ensures { LayerExamples }
+{}
+
+/// Nested directories: what lies in which, and how many names they have.
+#[tactic(auto, using(crate::proofs::Worked::nested))]
+pub fn nested_example()
+    ensures { NestedExamples }
 {}
