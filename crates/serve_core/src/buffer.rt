@@ -54,11 +54,13 @@ impl<A: Allocator> Buffer<A> {
         self.start += used;
     }
 
-    // Makes room for a pull. Where memory is refused it holds what it held.
+    // Makes room for a pull behind what it holds, which then stands at the front. Where memory is refused it holds what it
+    // held.
     pub(crate) fn make_room(&mut self) -> Result<(), AllocError>
         requires { IsInRange self.old }
         ensures range { IsInRange self.new }
         ensures rest { held_in self.new ≡ held_in self.old }
+        ensures front { self.new.start ≡ 0 }
         ensures room { OnOk result (HasRoom self.new) }
     {
         if self.start != 0 {
