@@ -10,8 +10,8 @@ ghost use Rattle.fuse_wire.specs.Appends.{Appends};
 use crate::structure::Structure;
 use crate::structures::{
     ATTR_OUT_SIZE, COMPAT_22_INIT_OUT_SIZE, ENTRY_OUT_SIZE, INIT_OUT_SIZE, OPEN_OUT_SIZE,
-    OUT_HEADER_SIZE, STATFS_OUT_SIZE, attr_out, dirent_front, entry_out, error_head, head,
-    init_out, open_out, statfs_out,
+    STATFS_OUT_SIZE, attr_out, dirent_front, entry_out, error_head, head, init_out, open_out,
+    statfs_out,
 };
 use crate::{Attr, Dirent, Errno, InitOut};
 use std::alloc::{AllocError, Allocator};
@@ -104,7 +104,7 @@ fn init_out_size(init: &InitOut) -> usize
 }
 
 /// Appends the reply that names a node, of 144 bytes (`struct fuse_entry_out`).
-#[tactic(auto, unfolding(crate::specs::Replies::reply_with), using(crate::proofs::Sizes::sizes, std::proofs::lemmas::Grind::common_steps))]
+#[tactic(auto, unfolding(crate::specs::Replies::reply_with), using(crate::proofs::Sizes::sizes))]
 pub fn put_entry<A: Allocator>(
     out: &mut Vec<u8, A>,
     unique: u64,
@@ -112,12 +112,10 @@ pub fn put_entry<A: Allocator>(
 ) -> Result<(), AllocError>
     ensures { Appends result out.old out.new (reply_with unique (entry_out node.now)) }
 {
-    out.reserve(OUT_HEADER_SIZE + ENTRY_OUT_SIZE)?;
-    put_data_head(out, unique, ENTRY_OUT_SIZE)?;
-    let mut entry = Structure::new();
-    entry_out(&mut entry, node);
-    out.extend_from_slice(entry.as_slice())?;
-    Ok(())
+    let mut reply = Structure::new();
+    head(&mut reply, unique, ENTRY_OUT_SIZE);
+    entry_out(&mut reply, node);
+    out.extend_from_slice(reply.as_slice())
 }
 
 /// Appends the reply with a node's attributes, of 120 bytes (`struct fuse_attr_out`).

@@ -6,8 +6,8 @@ ghost use Rattle.fuse_wire.specs.Structures.{u16, u32, u64, zeros};
 
 use std::marker::Model;
 
-/// The most bytes that stand together: a `struct fuse_entry_out`.
-pub const ROOM: usize = 128;
+/// The most bytes that stand together: a reply's header with a `struct fuse_entry_out`.
+pub const ROOM: usize = 144;
 
 /// The fields so far, side by side: to a contract their bytes.
 #[derive(Drop)]
@@ -26,7 +26,6 @@ impl Model for Structure {
 
 impl Structure {
     // No fields yet.
-    #[inline(always)]
     pub fn new() -> Self
         ensures { result ≡ [] }
     {
@@ -38,7 +37,6 @@ impl Structure {
 
     // A number of 16 bits.
     #[tactic(auto, unfolding(crate::specs::Structures::u16))]
-    #[inline(always)]
     pub fn u16(&mut self, number: u16)
         requires { length self.old + 2 ≤ ROOM }
         ensures fields { self.new ≡ self.old ++ u16 number }
@@ -49,7 +47,6 @@ impl Structure {
 
     // A number of 32 bits.
     #[tactic(auto, unfolding(crate::specs::Structures::u32))]
-    #[inline(always)]
     pub fn u32(&mut self, number: u32)
         requires { length self.old + 4 ≤ ROOM }
         ensures fields { self.new ≡ self.old ++ u32 number }
@@ -60,7 +57,6 @@ impl Structure {
 
     // A number of 64 bits.
     #[tactic(auto, unfolding(crate::specs::Structures::u64))]
-    #[inline(always)]
     pub fn u64(&mut self, number: u64)
         requires { length self.old + 8 ≤ ROOM }
         ensures fields { self.new ≡ self.old ++ u64 number }
@@ -71,7 +67,6 @@ impl Structure {
 
     // Fields that are not used.
     #[tactic(auto, unfolding(crate::specs::Structures::zeros))]
-    #[inline(always)]
     pub fn zeros<const N: usize>(&mut self)
         requires { length self.old + N ≤ ROOM }
         ensures fields { self.new ≡ self.old ++ zeros N }
@@ -81,7 +76,6 @@ impl Structure {
     }
 
     // Bytes of other fields.
-    #[inline(always)]
     pub fn bytes(&mut self, bytes: &[u8])
         requires { length self.old + length bytes.now ≤ ROOM }
         ensures fields { self.new ≡ self.old ++ bytes.now }
@@ -93,7 +87,6 @@ impl Structure {
     }
 
     // All bytes so far.
-    #[inline(always)]
     pub fn as_slice(&self) -> &[u8]
         ensures fields { result.now ≡ self.now }
         ensures most { length result.now ≤ ROOM }

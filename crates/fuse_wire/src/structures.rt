@@ -65,7 +65,6 @@ const STATFS_BLOCK_SIZE: u32 = 512;
 
 // `struct fuse_out_header` of a reply without an error and with `size` bytes of data.
 #[tactic(auto, unfolding(crate::specs::Replies::reply_head), using(std::proofs::lemmas::Grind::common_steps))]
-#[inline(always)]
 pub fn head(fields: &mut Structure, unique: u64, size: usize)
     requires room { length fields.old + 16 ≤ ROOM }
     requires size { 16 + size < 2 ^ 32 }
@@ -156,7 +155,6 @@ fn max_pages(flags: u32) -> u16
 
 // `struct fuse_attr`. Owners and times are all 0.
 #[tactic(auto, unfolding(crate::specs::Structures::attr), using(std::proofs::lemmas::Grind::common_steps))]
-#[inline(always)]
 fn attr(fields: &mut Structure, node: &Attr)
     requires { length fields.old + 88 ≤ ROOM }
     ensures fields { fields.new ≡ fields.old ++ attr node.now }
@@ -182,7 +180,6 @@ fn attr(fields: &mut Structure, node: &Attr)
 
 // `struct fuse_entry_out`.
 #[tactic(auto, unfolding(crate::specs::Structures::entry_out), using(std::proofs::lemmas::Grind::common_steps))]
-#[inline(always)]
 pub fn entry_out(fields: &mut Structure, node: &Attr)
     requires { length fields.old + 128 ≤ ROOM }
     ensures { fields.new ≡ fields.old ++ entry_out node.now }
@@ -198,7 +195,6 @@ pub fn entry_out(fields: &mut Structure, node: &Attr)
 
 // `struct fuse_attr_out`.
 #[tactic(auto, unfolding(crate::specs::Structures::attr_out), using(std::proofs::lemmas::Grind::common_steps))]
-#[inline(always)]
 pub fn attr_out(fields: &mut Structure, node: &Attr)
     requires { length fields.old + 104 ≤ ROOM }
     ensures { fields.new ≡ fields.old ++ attr_out node.now }
@@ -240,7 +236,6 @@ pub fn statfs_out(fields: &mut Structure, blocks: u64, files: u64)
 
 // `struct fuse_dirent` up to its name.
 #[tactic(auto, unfolding(crate::specs::Structures::dirent_front), using(std::proofs::lemmas::Grind::common_steps))]
-#[inline(always)]
 pub fn dirent_front(fields: &mut Structure, row: &Dirent<'_>)
     requires room { length fields.old + 24 ≤ ROOM }
     requires named { length row.now.name.now < 2 ^ 32 }

@@ -14,7 +14,8 @@ use std::alloc::Allocator;
 
 // The node of a number, counted from 1.
 pub(crate) fn node_at(nodes: &[Node], number: u64) -> Option<&Node>
-    ensures { MatchOption result (held_at nodes.now number ≡ None) (λ node. held_at nodes.now number ≡ Some node.now) }
+    ensures { MatchOption result (held_at nodes.now number ≡ None)
+        (λ node. held_at nodes.now number ≡ Some node.now) }
 {
     if number == 0 {
         return None;

@@ -21,12 +21,15 @@ use std::alloc::Allocator;
 /// the images, and no device was touched.
 #[tactic(auto, using(crate::proofs::Headline::over_images))]
 pub fn streams_are_served_over_images<A: Allocator>()
-    ensures served { (profile : Profile) (images : List (List ℕ)) (turns : ℕ) (t : Trace) (done : Done A) →
-        Serves profile images turns t (Ok done) → HasServedAll profile images t done }
+    ensures served { (profile : Profile) (images : List (List ℕ)) (turns : ℕ) (t : Trace)
+        (done : Done A) → Serves profile images turns t (Ok done) → HasServedAll profile images t done }
     ensures layers { (profile : Profile) (images : List (List ℕ)) (turns : ℕ) (t : Trace) (n : ℕ) →
-        Serves {A = A} profile images turns t (Err (Layers n)) → IsRefusedFor profile images t (Layers n) }
-    ensures layer { (profile : Profile) (images : List (List ℕ)) (turns : ℕ) (t : Trace) (n : ℕ) (f : ImageFault) →
-        Serves {A = A} profile images turns t (Err (Layer n f)) → IsRefusedFor profile images t (Layer n f) }
+        Serves {A = A} profile images turns t (Err (Layers n)) →
+        IsRefusedFor profile images t (Layers n) }
+    ensures layer { (profile : Profile) (images : List (List ℕ)) (turns : ℕ) (t : Trace)
+        (n : ℕ) (f : ImageFault) →
+        Serves {A = A} profile images turns t (Err (Layer n f)) →
+        IsRefusedFor profile images t (Layer n f) }
 {}
 
 /// `Ok`, `BadLength`, `CutOff`, `Read` and `Turns` tell how the stream ended, and all replies are written and flushed.
@@ -49,7 +52,8 @@ pub fn ends_are_told<A: Allocator>()
 #[tactic(auto, using(crate::proofs::Ends::faults))]
 pub fn faults_are_the_devices<A: Allocator>()
     ensures read { (by : Answering) (n turns : ℕ) (t : Trace) (r : Result (Done A) Stop) →
-        IsRun by n turns t r → ((r ≡ Err Read) ↔ (t.source.failures ≡ t.source_before.failures + 1)) }
+        IsRun by n turns t r →
+        ((r ≡ Err Read) ↔ (t.source.failures ≡ t.source_before.failures + 1)) }
     ensures write { (by : Answering) (n turns : ℕ) (t : Trace) (r : Result (Done A) Stop) →
         IsRun by n turns t r → ((r ≡ Err Write) ↔ (t.sink.failures ≡ t.sink_before.failures + 1)) }
 {}

@@ -31,7 +31,8 @@ fn answer_round<T: Rounds, K: Sink, A: Allocator>(
         × GoesOn on (view progress.old) (view progress.new)) }
     ensures err { IfErr result (λ stop. (ms : List (List ℕ)) × (put : List ℕ) × (rest : List ℕ)
         × Appends (K.held sink.old) (K.held sink.new) put
-        × Halts (T.answering answers.now) (view progress.old) (K.counts sink.old) (K.counts sink.new) stop ms put rest) }
+        × Halts (T.answering answers.now) (view progress.old)
+            (K.counts sink.old) (K.counts sink.new) stop ms put rest) }
 {
     progress.replies.clear();
     let round = answers.answer_round(
@@ -73,7 +74,8 @@ pub(crate) fn answer_all<T: Rounds, K: Sink, A: Allocator>(
         × IsRest (view progress.new).rest) }
     ensures err { IfErr result (λ stop. (ms : List (List ℕ)) × (put : List ℕ) × (rest : List ℕ)
         × Appends (K.held sink.old) (K.held sink.new) put
-        × Halts (T.answering answers.now) (view progress.old) (K.counts sink.old) (K.counts sink.new) stop ms put rest) }
+        × Halts (T.answering answers.now) (view progress.old)
+            (K.counts sink.old) (K.counts sink.new) stop ms put rest) }
 {
     loop {
         match answer_round(answers, progress, sink) {

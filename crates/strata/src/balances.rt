@@ -20,7 +20,8 @@ pub fn tell_balances<F: Write + Drop, A: Allocator>(
     file: Option<F>,
     balances: &[i128],
 ) -> Result<(), Fault>
-    ensures { IfErr result (λ fault. (is_some file ≡ true) × ((fault ≡ write_failed) ⊎ (fault ≡ out_of_memory))) }
+    ensures { IfErr result (λ fault. (is_some file ≡ true)
+        × ((fault ≡ write_failed) ⊎ (fault ≡ out_of_memory))) }
 {
     match file {
         Some(file) => put_balances(alloc, &mut Spout::new(file), balances),
@@ -35,7 +36,8 @@ fn put_balances<K: Sink, A: Allocator>(
     balances: &[i128],
 ) -> Result<(), Fault>
     requires { (K.counts sink.old).failures < 2 ^ 63 }
-    ensures ok { OnOk result (Appends (K.held sink.old) (K.held sink.new) (balance_lines 1 balances.now)) }
+    ensures ok { OnOk result (Appends (K.held sink.old) (K.held sink.new)
+        (balance_lines 1 balances.now)) }
     ensures flushed { OnOk result (HasFlushed (balance_lines 1 balances.now)
         (K.counts sink.old) (K.counts sink.new)) }
     ensures err { IfErr result (AreNotPut

@@ -73,7 +73,8 @@ fn checked_size<A: Allocator + Copy>(
     bytes: Vec<u8, A>,
     profile: Profile,
 ) -> Result<u32, Fault>
-    ensures ok { IfOk result (λ full. (full ≡ length (image bytes.items)) × IsSoundAs profile bytes.items) }
+    ensures ok { IfOk result (λ full. (full ≡ length (image bytes.items))
+        × IsSoundAs profile bytes.items) }
     ensures err { IfErr result (λ fault. IsImageFault profile number bytes.items fault) }
 {
     match Image::check_as(alloc, bytes, profile) {

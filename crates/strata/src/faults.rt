@@ -49,7 +49,8 @@ impl Fault {
 
     /// Writes its line.
     pub fn tell<W: Write>(&self, writer: &mut W) -> io::Result<()>
-        ensures { OnOk result (Appends (W.contents writer.old) (W.contents writer.new) (fault_text self.now ++ 10 ∷ [])) }
+        ensures { OnOk result (Appends (W.contents writer.old) (W.contents writer.new)
+            (fault_text self.now ++ 10 ∷ [])) }
     {
         writeln!(writer, "{self}")?;
         writer.flush()

@@ -46,7 +46,8 @@ fn read_image<R: Files, A: Allocator>(
 /// The file of requests, if one is named.
 pub fn open_requests<R: Files>(rt: &R, path: Option<&str>) -> Result<Option<R::File>, Fault>
     ensures ok { IfOk result (λ file. is_some file ≡ is_some path.entry) }
-    ensures err { IfErr result (λ fault. (fault ≡ Fault.RequestsFile) × (is_some path.entry ≡ true)) }
+    ensures err { IfErr result (λ fault.
+        (fault ≡ Fault.RequestsFile) × (is_some path.entry ≡ true)) }
 {
     let Some(path) = path else {
         return Ok(None);
@@ -58,7 +59,8 @@ pub fn open_requests<R: Files>(rt: &R, path: Option<&str>) -> Result<Option<R::F
 /// The file of replies, empty, if one is named.
 pub fn create_replies<R: Files>(rt: &R, path: Option<&str>) -> Result<Option<R::File>, Fault>
     ensures ok { IfOk result (λ file. is_some file ≡ is_some path.entry) }
-    ensures err { IfErr result (λ fault. (fault ≡ Fault.RepliesFile) × (is_some path.entry ≡ true)) }
+    ensures err { IfErr result (λ fault.
+        (fault ≡ Fault.RepliesFile) × (is_some path.entry ≡ true)) }
 {
     let Some(path) = path else {
         return Ok(None);
@@ -70,7 +72,8 @@ pub fn create_replies<R: Files>(rt: &R, path: Option<&str>) -> Result<Option<R::
 /// The file of balances, empty, if one is named.
 pub fn create_balances<R: Files>(rt: &R, path: Option<&str>) -> Result<Option<R::File>, Fault>
     ensures ok { IfOk result (λ file. is_some file ≡ is_some path.entry) }
-    ensures err { IfErr result (λ fault. (fault ≡ Fault.BalancesFile) × (is_some path.entry ≡ true)) }
+    ensures err { IfErr result (λ fault.
+        (fault ≡ Fault.BalancesFile) × (is_some path.entry ≡ true)) }
 {
     let Some(path) = path else {
         return Ok(None);

@@ -42,7 +42,8 @@ pub fn read_file<F: Read + OpenFile, A: Allocator>(
     alloc: A,
     file: &mut F,
 ) -> Result<Vec<u8, A>, ReadFault>
-    ensures bytes { IfOk result (λ bytes. IfSome (F.remaining file.old) (λ known. bytes.items ≡ known)) }
+    ensures bytes { IfOk result (λ bytes.
+        IfSome (F.remaining file.old) (λ known. bytes.items ≡ known)) }
     ensures end { OnOk result (IsAtEnd (F.remaining file.new)) }
 {
     let mut bytes = Vec::with_capacity(alloc, told_length(file))?;
@@ -67,7 +68,8 @@ fn read_to_end<R: Read, A: Allocator>(
     reader: &mut R,
     bytes: &mut Vec<u8, A>,
 ) -> Result<(), ReadFault>
-    ensures bytes { OnOk result (IfSome (R.remaining reader.old) (λ known. bytes.new.items ≡ bytes.old.items ++ known)) }
+    ensures bytes { OnOk result (IfSome (R.remaining reader.old)
+        (λ known. bytes.new.items ≡ bytes.old.items ++ known)) }
     ensures end { OnOk result (IsAtEnd (R.remaining reader.new)) }
 {
     let mut room = [0u8; ROOM];
