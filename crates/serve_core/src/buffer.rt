@@ -54,8 +54,8 @@ impl<A: Allocator> Buffer<A> {
         self.start += used;
     }
 
-    // Makes room for a pull behind what it holds, which then stands at the front. Where memory is refused it holds what it
-    // held.
+    // Makes room for a pull behind what it holds, which then stands at the front. Where memory is refused there is none,
+    // and it holds what it held.
     pub(crate) fn make_room(&mut self) -> Result<(), AllocError>
         requires { IsInRange self.old }
         ensures range { IsInRange self.new }
