@@ -1,5 +1,5 @@
 -- What is decided about a request: its answer's data and moves, or its refusal.
-use Rattle.std.specs.Prelude.{◌≡◌, ℕ, Bool, true, false, List, [], ◌∷◌, Option, Some, None, MatchOption, MatchResult, Result, Ok, Err, pos, ◌+◌, ◌^◌, ◌<◌, length, ⊤, ℤ}
+use Rattle.std.specs.Prelude.{◌≡◌, ℕ, Bool, true, false, List, [], ◌∷◌, Option, Some, None, MatchOption, MatchResult, Result, Ok, Err, pos, ◌+◌, ◌^◌, ◌<◌, length}
 use Rattle.std.specs.List.{filter_map}
 use Rattle.std.specs.Option.{option_map}
 use Rattle.fuse_wire.specs.declared.errno.Errno.{Errno}
@@ -12,7 +12,6 @@ use Rattle.romfs_format.specs.declared.head.Kind.{Kind}
 use Rattle.stack_model.specs.Attributes.{kind_at, is_directory_at}
 use Rattle.stack_model.specs.Numbers.{Place, number, node_of}
 use Rattle.node_table.specs.Stacked.{Stacked}
-use Rattle.rounds.specs.Moves.{IsBalanceOf}
 use Rattle.reply_model.specs.declared.moves.Move.{Move}
 use Rattle.reply_model.specs.declared.session.Session.{Session}
 use Rattle.reply_model.specs.Sessions.{is_exported}
@@ -49,11 +48,6 @@ moves_of stack (Forgotten node nlookup) =
     taken_back stack (record { node = node; nlookup = nlookup } ∷ [])
 moves_of stack (AllForgotten items) = taken_back stack (items_of items)
 moves_of stack _ = []
-
--- this is the balance of the node that an answer gives as an entry
-abbrev pub IsBefore : {A : Type 0} → Answer A → List ℤ → ℤ → Type 0
-IsBefore (Entry attr) balances before = IsBalanceOf balances attr.ino before
-IsBefore _ balances before = ⊤
 
 -- the kind of the node with this number, or that it is not in use
 abbrev pub TellsKind : Stacked → ℕ → Result Kind Errno → Type 0

@@ -1,48 +1,31 @@
 //! The lookups that an answer gives and takes, added to the balances of the nodes.
 
-ghost use Rattle.std.specs.Prelude.{◌≡◌, ◌≤◌, ◌<◌, ◌+◌, ◌^◌, ◌∷◌, [], length, IfOk};
+ghost use Rattle.std.specs.Prelude.{◌≡◌, ◌≤◌, ◌<◌, ◌+◌, ◌^◌, ◌∷◌, [], length};
 ghost use Rattle.fuse_wire.specs.Reads.{items_of};
 ghost use Rattle.rounds.specs.Moves.{AreWithin, IsMoved};
-ghost use Rattle.fuse_answer.specs.Answers.{IsSized, IsBefore, moves_of, taken_back};
+ghost use Rattle.fuse_answer.specs.Answers.{IsSized, moves_of, taken_back};
 ghost use Rattle.fuse_answer.specs.Listings.{lines_answered, lines_given, row_given};
 
 use crate::content::Answer;
 use crate::listing::Listing;
 use crate::rows::line_at;
-use fuse_wire::Errno;
 use fuse_wire::forget::{Forget, Forgets};
 use node_table::Table;
-use rounds::{add_move, add_one, balance_of};
+use rounds::add_move;
 use std::alloc::Allocator;
-
-/// The balance of the node that an answer gives as an entry. It is asked for before the reply is written, and is there
-/// when it is written: a node's balance is seldom near at hand.
-pub(crate) fn balance_before<A: Allocator>(
-    balances: &[i128],
-    decided: &Result<Answer<'_, A>, Errno>,
-) -> i128
-    ensures { IfOk decided.now (λ answer. IsBefore answer balances.now result) }
-{
-    match decided {
-        Ok(Answer::Entry(attr)) => balance_of(balances, attr.ino),
-        _ => 0,
-    }
-}
 
 /// Adds what an answer gives and takes to the balances, in which node n has the place n - 1.
 pub(crate) fn add_moves<A: Allocator>(
     table: &Table<A>,
     answer: &Answer<'_, A>,
-    before: i128,
     balances: &mut [i128],
 )
     requires sized { IsSized table.now answer.now }
-    requires before { IsBefore answer.now balances.old before }
     requires within { AreWithin (2 ^ 123) balances.old }
     ensures { IsMoved (moves_of table.now answer.now) balances.old balances.new }
 {
     match answer {
-        Answer::Entry(attr) => add_one(balances, attr.ino, before),
+        Answer::Entry(attr) => add_move(balances, attr.ino, 1),
         Answer::Rows(rows) if rows.with_entries => add_rows(rows, balances),
         Answer::Forgotten { node, nlookup } => {
             let forget = Forget {

@@ -7,7 +7,7 @@ ghost use Rattle.std.specs.Prelude.{◌≡◌, ◌^◌};
 ghost use Rattle.rounds.specs.Moves.{AreWithin};
 ghost use Rattle.fuse_answer.specs.Puts.{PutsReply, AddsMoves};
 
-use crate::balances::{add_moves, balance_before};
+use crate::balances::add_moves;
 use crate::content::Answer;
 use crate::decide::decide;
 use crate::write::write;
@@ -56,10 +56,9 @@ pub fn answer_and_move<A: Allocator, O: Allocator>(
         balances.old balances.new }
 {
     let decided = decide(table, session, request);
-    let before = balance_before(balances, &decided);
     tell(table, session, request, &decided, out)?;
     if let Ok(answer) = decided {
-        add_moves(table, &answer, before, balances);
+        add_moves(table, &answer, balances);
     }
     Ok(())
 }

@@ -16,7 +16,7 @@ use Rattle.node_table.specs.declared.node.Node.{Node}
 use Rattle.node_table.specs.declared.directory.Directory.{Directory as Folder}
 use Rattle.name_keys.specs.Keys.{key}
 use Rattle.name_keys.specs.Keyed.{AreKeyed}
-use Rattle.node_table.specs.Rows.{Line, names, numbers_in}
+use Rattle.node_table.specs.Rows.{Line, names}
 use Rattle.node_table.specs.Readers.{placed, rows_of}
 use Rattle.node_table.specs.Walks.{Spot}
 use Rattle.node_table.specs.Numbering.{place_of}
@@ -318,13 +318,12 @@ front_whole xs tail n e = ap (λ k. take k (xs ++ tail)) e ∙ go xs tail
     go [] tail = nothing tail
     go (x ∷ xs) tail = ap (λ r. x ∷ r) (go xs tail)
 
-pub table_made : (layers : List (List ℕ)) (held new tail : List Node) (folders : List Folder) (rows : List Line) (keys numbers : List ℕ) (n blocks : ℕ) → AreMade layers held folders rows keys → numbers ≡ numbers_in rows → new ≡ map completed held → n ≡ length new → blocks ≡ blocks_all layers → IsSomeTable layers (take n (new ++ tail)) folders rows keys numbers blocks
-table_made layers held new tail folders rows keys numbers n blocks (entries, listing, are) same e l b = (
+pub table_made : (layers : List (List ℕ)) (held new tail : List Node) (folders : List Folder) (rows : List Line) (keys : List ℕ) (n blocks : ℕ) → AreMade layers held folders rows keys → new ≡ map completed held → n ≡ length new → blocks ≡ blocks_all layers → IsSomeTable layers (take n (new ++ tail)) folders rows keys blocks
+table_made layers held new tail folders rows keys n blocks (entries, listing, are) e l b = (
   entries,
   record {
     listing = listing;
     are = subst (λ x. AreNodes layers entries x folders rows keys) (sym (front_whole new tail n l ∙ e)) are;
-    numbers_are = same;
     blocks_are = b;
   },
 )

@@ -2,7 +2,6 @@
 use Rattle.std.proofs.Common.{◌≡◌, ◌∙◌, sym, ap, ℕ, suc, ◌<◌, inl, inr, List, [], ◌∷◌, length, get_or, refl, arith, Bool, false, Some, None}
 use Rattle.std.specs.Prelude.{find, slice_get}
 use Rattle.std.specs.List.{position_or_len}
-use Rattle.std.specs.Option.{option_map}
 use Rattle.std.proofs.lemmas.Bool.{cases_lt, lt-ltb}
 use Rattle.std.proofs.lemmas.List.{get_or-map, length-map}
 use Rattle.std.proofs.lemmas.List.Folds.{find_at}
@@ -11,7 +10,7 @@ use Rattle.std.proofs.lemmas.List.Sums.{position_or_len_is, fails_before_first}
 use Rattle.std.proofs.lemmas.Option.{slice_get-get_or}
 use Rattle.stack_model.specs.Numbers.{same_name}
 use Rattle.name_keys.specs.Names.{place_of}
-use Rattle.node_table.specs.Rows.{Line, names, numbers_in, named, number_named}
+use Rattle.node_table.specs.Rows.{Line, names, named}
 
 module _ (n : List ℕ) (ls : List Line) where
   abbrev is : Line → Bool
@@ -32,14 +31,6 @@ module _ (n : List ℕ) (ls : List Line) where
       let p : position_or_len is ls ≡ i =
       position_or_len_is is ls i d (omega arith) (λ k m. sym (is_named k d (omega arith)) ∙ s.2 k m) (λ _. sym (is_named i d l) ∙ s.1) in
       find_at is ls ∙ ap (slice_get ls) p ∙ slice_get-get_or ls i d l
-
-  -- and its number stands there among the numbers
-  pub number_at : (numbers : List ℕ) (i : ℕ) → place_of n (names ls) ≡ Some i → numbers ≡ numbers_in ls → Some (get_or numbers i 0) ≡ number_named n ls
-  number_at numbers i e is_numbers =
-      let d : Line = record { number = 0; name = [] } in
-      let l = place_within i e in
-      ap Some (ap (λ (x : List ℕ). get_or x i 0) is_numbers ∙ get_or-map (λ (line : Line). line.number) ls i d 0 l)
-      ∙ sym (ap (option_map (λ (line : Line). line.number)) (named_at i d e))
 
 none_is : (p : Line → Bool) (ls : List Line) → ((k : ℕ) (d : Line) → k < length ls → p (get_or ls k d) ≡ false) → find p ls ≡ None
 none_is p [] f = refl

@@ -1,8 +1,7 @@
 -- What a table's parts say of the node with a number.
-use Rattle.std.proofs.Common.{◌≡◌, ◌∙◌, sym, ap, subst, ℕ, zero, suc, ◌<◌, ◌≤◌, ◌-◌, List, [], ◌∷◌, length, map, take, drop, Bool, true, false, Option, Some, None, Bor, MatchOption, cond, refl, arith}
+use Rattle.std.proofs.Common.{◌≡◌, ◌∙◌, sym, ap, subst, ℕ, zero, suc, ◌<◌, ◌≤◌, List, [], ◌∷◌, length, map, Bool, true, false, Option, Some, None, Bor, MatchOption, cond, refl, arith}
 use Rattle.std.specs.Prelude.{slice_get, slice_range, find, unwrap_or}
 use Rattle.std.specs.List.{slice_index_or}
-use Rattle.std.proofs.lemmas.List.{length-map, take-map}
 use Rattle.std.specs.Option.{option_map, option_map_or, option_and_then}
 use Rattle.romfs_image.specs.Readers.{bytes_at, IsPart}
 use Rattle.stack_model.specs.Listing.{Entry}
@@ -12,7 +11,7 @@ use Rattle.stack_model.proofs.Numbering.{number_used}
 use Rattle.node_table.specs.declared.node.Node.{Node}
 use Rattle.node_table.specs.declared.directory.Directory.{Directory}
 use Rattle.node_table.specs.Stacked.{Stacked}
-use Rattle.node_table.specs.Rows.{Line, number_named, numbers_in}
+use Rattle.node_table.specs.Rows.{Line, number_named}
 use Rattle.node_table.specs.Readers.{TellsNode, attr_of, attr_at, parent_of, parent_at, child_of, child_at, rows_of, rows_at, data_at}
 use Rattle.node_table.specs.Held.{held_at, kept_of, directory_held, attr_held, IsDirectory, IsNode, IsTable}
 
@@ -34,16 +33,6 @@ indexed [] k x d e = absurd (cc)
 indexed (y ∷ xs) zero x d e = cc
 indexed (y ∷ xs) (suc k) x d e = indexed xs k x d e
 
--- a part of what is made of each is made of the part
-range_map : {X Y : Type 0} (f : X → Y) (xs : List X) (a b : ℕ) → slice_range (map f xs) a b ≡ map f (slice_range xs a b)
-range_map f xs a b = ap (take (b - a)) (rest f xs a) ∙ take-map f (b - a) (drop a xs)
-  where
-    rest : {X Y : Type 0} (f : X → Y) (xs : List X) (a : ℕ) → drop a (map f xs) ≡ map f (drop a xs)
-    rest f [] zero = refl
-    rest f [] (suc a) = refl
-    rest f (x ∷ xs) zero = refl
-    rest f (x ∷ xs) (suc a) = rest f xs a
-
 -- the number of a place that has one
 number_is : (entries : List Entry) (n : ℕ) (p : Place) → node_of entries n ≡ Some p → number entries p ≡ n
 number_is entries n p e = let i : number_of entries p ≡ Some n = (number_used entries n p).1 e in ap (λ o. unwrap_or o 0) i
@@ -64,7 +53,7 @@ named_child : (f : Place → ℕ) (name : List ℕ) (cs : List Child) → IsName
 named_child f name [] = refl
 named_child f name (c ∷ cs) = step f name c cs (same_name name c.name) refl (named_child f name cs)
 
-module _ (layers : List (List ℕ)) (entries : List Entry) (held : List Node) (directories : List Directory) (rows : List Line) (keys numbers : List ℕ) (blocks : ℕ) (t : IsTable layers entries held directories rows keys numbers blocks) where
+module _ (layers : List (List ℕ)) (entries : List Entry) (held : List Node) (directories : List Directory) (rows : List Line) (keys : List ℕ) (blocks : ℕ) (t : IsTable layers entries held directories rows keys blocks) where
   abbrev stack : Stacked
   stack = record { layers = layers; entries = entries }
 
@@ -162,13 +151,6 @@ module _ (layers : List (List ℕ)) (entries : List Entry) (held : List Node) (d
   -- the keys of its rows are there
   pub keys_end : (n : ℕ) (d : Directory) → directory_held held directories n ≡ Some d → d.rows_end ≤ length keys
   keys_end n d e = let level = t.are.keys_level in let end = (found n d e).holds.end in omega arith
-
-  -- and so are their numbers
-  pub numbers_end : (n : ℕ) (d : Directory) → directory_held held directories n ≡ Some d → d.rows_end ≤ length numbers
-  numbers_end n d e = let level = ap length t.numbers_are in let same = length-map rows (λ line. line.number) in let end = (found n d e).holds.end in omega arith
-
-  pub numbers_are : (d : Directory) → slice_range numbers d.rows_start d.rows_end ≡ numbers_in (slice_range rows d.rows_start d.rows_end)
-  numbers_are d = ap (λ xs. slice_range xs d.rows_start d.rows_end) t.numbers_are ∙ range_map (λ line. line.number) rows d.rows_start d.rows_end
 
   named_of : (p : Place) (name : List ℕ) → number_named name (rows_of layers entries p) ≡ child_of layers entries p name
   named_of p name = go (is_directory_at layers p)

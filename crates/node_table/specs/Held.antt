@@ -9,7 +9,7 @@ use Rattle.node_table.specs.declared.node.Attr.{Attr}
 use Rattle.node_table.specs.declared.node.Node.{Node}
 use Rattle.node_table.specs.declared.directory.Directory.{Directory}
 use Rattle.name_keys.specs.Keyed.{AreKeyed}
-use Rattle.node_table.specs.Rows.{Line, names, numbers_in}
+use Rattle.node_table.specs.Rows.{Line, names}
 use Rattle.node_table.specs.Readers.{placed, rows_of}
 
 -- the node of a number, counted from 1
@@ -75,13 +75,11 @@ pub record AreNodes (layers : List (List ℕ)) (entries : List Entry) (held : Li
   pub each : (k : ℕ) (node : Node) (p : Place) → slice_get held k ≡ Some node → slice_get (nodes entries) k ≡ Some p → IsNode layers entries directories rows keys node p
 
 -- a table of these layers and their listing
-pub record IsTable (layers : List (List ℕ)) (entries : List Entry) (held : List Node) (directories : List Directory) (rows : List Line) (keys numbers : List ℕ) (blocks : ℕ) : Type 0 where
+pub record IsTable (layers : List (List ℕ)) (entries : List Entry) (held : List Node) (directories : List Directory) (rows : List Line) (keys : List ℕ) (blocks : ℕ) : Type 0 where
   pub listing : IsListing layers entries
   pub are : AreNodes layers entries held directories rows keys
-  pub numbers_are : numbers ≡ numbers_in rows
   pub blocks_are : blocks ≡ blocks_all layers
 
 -- some listing of the layers makes it a table
-abbrev pub IsSomeTable : List (List ℕ) → List Node → List Directory → List Line → List ℕ → List ℕ → ℕ → Type 0
-IsSomeTable layers held directories rows keys numbers blocks =
-    (entries : List Entry) × IsTable layers entries held directories rows keys numbers blocks
+abbrev pub IsSomeTable : List (List ℕ) → List Node → List Directory → List Line → List ℕ → ℕ → Type 0
+IsSomeTable layers held directories rows keys blocks = (entries : List Entry) × IsTable layers entries held directories rows keys blocks

@@ -12,10 +12,6 @@ pub record Line : Type 0 where
 abbrev pub names : List Line → List (List ℕ)
 names lines = map (λ line. line.name) lines
 
--- the numbers of rows
-abbrev pub numbers_in : List Line → List ℕ
-numbers_in lines = map (λ line. line.number) lines
-
 -- the row with this name
 abbrev pub named : List ℕ → List Line → Option Line
 named name lines = find (λ line. same_name name line.name) lines

@@ -4,7 +4,6 @@ ghost use Rattle.std.specs.Prelude.{◌≡◌, ◌+◌, ◌<◌, length, slice_i
 ghost use Rattle.romfs_format.specs.Heads.{head_of};
 ghost use Rattle.romfs_image.specs.Readers.{IsGiven};
 ghost use Rattle.node_table.specs.Numbering.{number_among};
-ghost use Rattle.node_table.specs.Rows.{numbers_in};
 ghost use Rattle.node_table.specs.Building.{IsAbove, AreFollowing, AreChildren, ArePosts};
 ghost use Rattle.node_table.specs.Building.{AddsRows, AddsDirectory, AddsNode, IsSeat};
 ghost use Rattle.node_table.specs.Seeds.{AreSomeSeeds, AreMade};
@@ -183,15 +182,4 @@ pub(crate) fn make<A: Allocator + Copy>(
         nodes.push(node)?;
     }
     Ok(Parts { nodes, directories })
-}
-
-// The numbers of rows.
-pub(crate) fn numbers_of<A: Allocator>(alloc: A, rows: &[Row<A>]) -> Result<Vec<u64, A>, AllocError>
-    ensures { IfOk result (λ found. found.items ≡ numbers_in rows.now) }
-{
-    let mut found = Vec::with_capacity(alloc, rows.len())?;
-    for row in rows {
-        found.push(row.number)?;
-    }
-    Ok(found)
 }

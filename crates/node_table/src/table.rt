@@ -11,10 +11,10 @@ ghost use Rattle.node_table.specs.Stacked.{Listed, listed_once, IsTableOf};
 ghost use Rattle.node_table.specs.Seeds.{AreMade};
 ghost use Rattle.node_table.specs.Readers.{TellsNode, attr_at, parent_at, child_at, rows_at, data_at};
 
-use crate::building::{Parts, make, numbers_of};
+use crate::building::{Parts, make};
 use crate::completing::{blocks_of, complete_all};
 use crate::directory::{Directories, Directory};
-use crate::lookup::{attr_of, directory_at, node_at, number_named, part_of};
+use crate::lookup::{attr_of, directory_at, keys_of, node_at, number_named, rows_of};
 use crate::node::{Attr, Node};
 use crate::numbering::number_places;
 use crate::row::Row;
@@ -27,7 +27,7 @@ use std::thread::Threads;
 
 /// The nodes of a stack of layers, by number: attributes, rows and data.
 ///
-/// A clause sees the layers and their listing. Each node and row takes at most 96 bytes beside a name of more than 23,
+/// A clause sees the layers and their listing. Each node and row takes at most 88 bytes beside a name of more than 23,
 /// and a directory 32 more. No reader
 /// takes memory, and each answers for every number: 1 is the root, and a number that is not in use has nothing.
 #[derive(Drop)]
@@ -35,14 +35,13 @@ pub struct Table<A: Allocator> {
     images: Vec<Image<A>, A>,
     nodes: Vec<Node, A>,
     directories: Directories<A>,
-    numbers: Vec<u64, A>,
     blocks: u64,
     ghost listing: { Listed images.items } by { listed_once images.items },
 }
 
 const _: () = prove!(size_of::<Node>() <= 40);
 
-const _: () = prove!(size_of::<Node>() + size_of::<Row<Global>>() + 2 * size_of::<u64>() <= 96);
+const _: () = prove!(size_of::<Node>() + size_of::<Row<Global>>() + size_of::<u64>() <= 88);
 
 const _: () = prove!(size_of::<Directory>() <= 32);
 
@@ -55,8 +54,7 @@ impl<A: Allocator> Model for Table<A> {
     ghost view = { λ held. record { layers = held.images.items; entries = held.listing.0 } };
 
     ghost invariant = { λ held. IsTable held.images.items held.listing.0 held.nodes.items
-        held.directories.all.items held.directories.rows.items held.directories.keys.items
-        held.numbers.items held.blocks };
+        held.directories.all.items held.directories.rows.items held.directories.keys.items held.blocks };
 }
 
 impl<A: Allocator + Copy> Table<A> {
@@ -80,12 +78,10 @@ impl<A: Allocator + Copy> Table<A> {
             directories,
         } = parts_of(alloc, &tree, &images)?;
         complete_all(rt, &mut nodes);
-        let numbers = numbers_of(alloc, &directories.rows)?;
         Ok(Table {
             images,
             nodes,
             directories,
-            numbers,
             blocks,
         })
     }
@@ -145,10 +141,9 @@ impl<A: Allocator> Table<A> {
         ensures { result ≡ child_at self.now number name.now }
     {
         let directory = directory_at(&self.nodes, &self.directories.all, number)?;
-        let rows = part_of(&self.directories.rows, directory);
-        let keys = part_of(&self.directories.keys, directory);
-        let numbers = part_of(&self.numbers, directory);
-        number_named(rows, keys, numbers, directory.shared, name)
+        let rows = rows_of(&self.directories.rows, directory);
+        let keys = keys_of(&self.directories.keys, directory);
+        number_named(rows, keys, directory.shared, name)
     }
 
     /// The children of a directory in the order of their names, without `.` and `..`; empty where the number is no
@@ -157,7 +152,7 @@ impl<A: Allocator> Table<A> {
         ensures { result.now ≡ rows_at self.now number }
     {
         match directory_at(&self.nodes, &self.directories.all, number) {
-            Some(directory) => part_of(&self.directories.rows, directory),
+            Some(directory) => rows_of(&self.directories.rows, directory),
             None => &[],
         }
     }

@@ -1,5 +1,5 @@
 -- linux/fuse.h, nlookup of FUSE_LOOKUP, FUSE_READDIRPLUS, FUSE_FORGET and FUSE_BATCH_FORGET: lookups given and taken.
-use Rattle.std.specs.Prelude.{◌≡◌, ℕ, ◌+◌, ◌-◌, ◌*◌, ◌<◌, ◌≤◌, ◌^◌, ℤ, pos, ◌+ℤ◌, unsigned_abs, List, [], ◌∷◌, length, get_or}
+use Rattle.std.specs.Prelude.{◌≡◌, ℕ, ◌+◌, ◌*◌, ◌<◌, ◌≤◌, ◌^◌, ℤ, pos, ◌+ℤ◌, unsigned_abs, List, [], ◌∷◌, length, get_or}
 use Rattle.reply_model.specs.declared.moves.Move.{Move}
 use Rattle.reply_model.specs.Moves.{balance}
 
@@ -15,10 +15,6 @@ IsLight moves bytes = weight moves ≤ 2 ^ 64 * bytes
 -- the balance at a place; node n has the place n - 1
 abbrev pub balance_at : List ℤ → ℕ → ℤ
 balance_at balances place = get_or balances place (pos 0)
-
--- the balance of a node, if it has one
-abbrev pub IsBalanceOf : List ℤ → ℕ → ℤ → Type 0
-IsBalanceOf balances node value = 1 ≤ node → node ≤ length balances → value ≡ balance_at balances (node - 1)
 
 -- each node's balance rose by what the moves give it, less what they take
 pub record IsMoved (moves : List Move) (old new : List ℤ) : Type 0 where

@@ -6,7 +6,7 @@
 //!
 //! - [`Rounds`] is what the serving loop asks for: whatever answers one round.
 //! - [`Answers`] is less: whatever answers one message. [`walk`] makes rounds of it, on one thread.
-//! - [`add_move`] adds one move to the balances; [`balance_of`] and [`add_one`] do so in two steps for a move of one.
+//! - [`add_move`] adds one move to the balances.
 //!
 //! What a round is says `specs/Rounds`, over any reply and any moves; those of FUSE are `reply_model`'s. A round takes
 //! memory for its replies alone.
@@ -18,6 +18,6 @@ mod one_thread;
 mod round;
 
 pub use answers::Answers;
-pub use moves::{add_move, add_one, balance_of};
+pub use moves::add_move;
 pub use one_thread::{ENOUGH_REPLIES, MOST_MESSAGES, walk};
 pub use round::{Round, Rounds};

@@ -78,7 +78,7 @@ impl<A: Allocator> Buffer<A> {
         ensures range { IsInRange self.new }
         ensures pull { (got : List ℕ) × Consumes (S.left source.old) (S.left source.new) got
             × IsPull (S.counts source.old) (S.counts source.new)
-                (held_in self.old) (held_in self.new) got result }
+            (held_in self.old) (held_in self.new) got result }
         ensures end { IfOk result (λ n. n ≡ 0 → IsAtEnd (S.left source.new)) }
     {
         match pull_at(source, self.bytes.as_mut_slice(), self.end) {
@@ -123,7 +123,7 @@ fn pull_at<S: Source>(source: &mut S, bytes: &mut [u8], at: usize) -> Result<usi
     ensures same { length bytes.new ≡ length bytes.old }
     ensures gives { MatchResult result
         (λ n. (n ≤ 65536)
-            × Consumes (S.left source.old) (S.left source.new) (take n (drop at bytes.new)))
+        × Consumes (S.left source.old) (S.left source.new) (take n (drop at bytes.new)))
         (λ _. Keeps (S.left source.old) (S.left source.new)) }
     ensures counts { S.counts source.new ≡ pulled (S.counts source.old) result }
     ensures end { IfOk result (λ n. n ≡ 0 → IsAtEnd (S.left source.new)) }

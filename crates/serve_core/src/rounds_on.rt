@@ -32,7 +32,7 @@ fn answer_round<T: Rounds, K: Sink, A: Allocator>(
     ensures err { IfErr result (λ stop. (ms : List (List ℕ)) × (put : List ℕ) × (rest : List ℕ)
         × Appends (K.held sink.old) (K.held sink.new) put
         × Halts (T.answering answers.now) (view progress.old)
-            (K.counts sink.old) (K.counts sink.new) stop ms put rest) }
+        (K.counts sink.old) (K.counts sink.new) stop ms put rest) }
 {
     progress.replies.clear();
     let round = answers.answer_round(
@@ -75,7 +75,7 @@ pub(crate) fn answer_all<T: Rounds, K: Sink, A: Allocator>(
     ensures err { IfErr result (λ stop. (ms : List (List ℕ)) × (put : List ℕ) × (rest : List ℕ)
         × Appends (K.held sink.old) (K.held sink.new) put
         × Halts (T.answering answers.now) (view progress.old)
-            (K.counts sink.old) (K.counts sink.new) stop ms put rest) }
+        (K.counts sink.old) (K.counts sink.new) stop ms put rest) }
 {
     loop {
         match answer_round(answers, progress, sink) {
