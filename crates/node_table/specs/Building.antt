@@ -69,7 +69,8 @@ pub record IsReadFrom (image : List ℕ) (header : ℕ) (node : Node) : Type 0 w
   pub spec_is : node.rdev ≡ spec image header
 
 -- the directory that a branch with these children is: its rows are added at the end, and their keys
-pub record IsMade (tell : Place → ℕ) (spot : Spot Entry) (cs : List (Shoot Entry)) (old new : List Line) (keys keys' : List ℕ) (directory : Directory) : Type 0 where
+pub record IsMade (tell : Place → ℕ) (spot : Spot Entry) (cs : List (Shoot Entry))
+    (old new : List Line) (keys keys' : List ℕ) (directory : Directory) : Type 0 where
   pub parent_is : directory.parent ≡ tell spot.1.place
   pub start_is : directory.rows_start ≡ length old
   pub end_is : directory.rows_end ≡ length new
@@ -87,7 +88,8 @@ pub record AddsDirectory (tell : Place → ℕ) (spot : Spot Entry) (held held' 
   pub count_is : n ≡ directories children
 
 -- a directory is added, which is linked by its name, its own dot and the directories in it
-pub record AddsLinked (tell : Place → ℕ) (spot : Spot Entry) (nlink : ℕ) (held held' : List Directory) (old new : List Line) (keys keys' : List ℕ) : Type 0 where
+pub record AddsLinked (tell : Place → ℕ) (spot : Spot Entry) (nlink : ℕ) (held held' : List Directory)
+    (old new : List Line) (keys keys' : List ℕ) : Type 0 where
   pub count : ℕ
   pub added : AddsDirectory tell spot held held' old new keys keys' count
   pub nlink_is : nlink ≡ min (2 + count) (2 ^ 32 - 1)
@@ -105,7 +107,8 @@ AddsByKind tell spot paths true nlink held held' old new keys keys' = AddsLinked
 AddsByKind tell spot paths false nlink held held' old new keys keys' = AddsNothing paths nlink held held' old new keys keys'
 
 -- the node of a branch, before it is completed
-pub record AddsNode (layers : List (List ℕ)) (tell : Place → ℕ) (spot : Spot Entry) (paths : ℕ) (held held' : List Directory) (old new : List Line) (keys keys' : List ℕ) (node : Node) : Type 0 where
+pub record AddsNode (layers : List (List ℕ)) (tell : Place → ℕ) (spot : Spot Entry) (paths : ℕ)
+    (held held' : List Directory) (old new : List Line) (keys keys' : List ℕ) (node : Node) : Type 0 where
   pub kind_is : node.kind ≡ spot.0.now.value.kind
   pub place_is : node.place ≡ spot.0.now.value.place
   pub read : (image : List ℕ) → slice_get layers node.place.layer ≡ Some image → IsReadFrom image node.place.header node

@@ -49,16 +49,19 @@ pub record IsDirectory (layers : List (List ℕ)) (entries : List Entry) (rows :
   pub start : directory.rows_start ≤ directory.rows_end
   pub end : directory.rows_end ≤ length rows
   pub rows_are : slice_range rows directory.rows_start directory.rows_end ≡ rows_of layers entries p
-  pub keyed : AreKeyed directory.shared (slice_range keys directory.rows_start directory.rows_end) (names (slice_range rows directory.rows_start directory.rows_end))
+  pub keyed : AreKeyed directory.shared (slice_range keys directory.rows_start directory.rows_end)
+      (names (slice_range rows directory.rows_start directory.rows_end))
 
 -- the directory of this node is held, and is the place's
-pub record HasDirectory (layers : List (List ℕ)) (entries : List Entry) (directories : List Directory) (rows : List Line) (keys : List ℕ) (node : Node) (p : Place) : Type 0 where
+pub record HasDirectory (layers : List (List ℕ)) (entries : List Entry) (directories : List Directory)
+    (rows : List Line) (keys : List ℕ) (node : Node) (p : Place) : Type 0 where
   pub directory : Directory
   pub is : slice_get directories node.directory ≡ Some directory
   pub holds : IsDirectory layers entries rows keys directory p
 
 -- the node holds what the definitions say of its place
-pub record IsNode (layers : List (List ℕ)) (entries : List Entry) (directories : List Directory) (rows : List Line) (keys : List ℕ) (node : Node) (p : Place) : Type 0 where
+pub record IsNode (layers : List (List ℕ)) (entries : List Entry) (directories : List Directory)
+    (rows : List Line) (keys : List ℕ) (node : Node) (p : Place) : Type 0 where
   pub place : placed node.place ≡ p
   pub holds : HasData layers node.place.layer node p
   pub kind : node.kind ≡ kind_at layers p
@@ -69,13 +72,16 @@ pub record IsNode (layers : List (List ℕ)) (entries : List Entry) (directories
   pub directory_is : is_directory node.kind ≡ true → HasDirectory layers entries directories rows keys node p
 
 -- the nodes in the order of their numbers, what is held of the directories, and a key beside each row
-pub record AreNodes (layers : List (List ℕ)) (entries : List Entry) (held : List Node) (directories : List Directory) (rows : List Line) (keys : List ℕ) : Type 0 where
+pub record AreNodes (layers : List (List ℕ)) (entries : List Entry) (held : List Node)
+    (directories : List Directory) (rows : List Line) (keys : List ℕ) : Type 0 where
   pub level : length held ≡ length (nodes entries)
   pub keys_level : length keys ≡ length rows
-  pub each : (k : ℕ) (node : Node) (p : Place) → slice_get held k ≡ Some node → slice_get (nodes entries) k ≡ Some p → IsNode layers entries directories rows keys node p
+  pub each : (k : ℕ) (node : Node) (p : Place) → slice_get held k ≡ Some node → slice_get (nodes entries) k ≡ Some p
+      → IsNode layers entries directories rows keys node p
 
 -- a table of these layers and their listing
-pub record IsTable (layers : List (List ℕ)) (entries : List Entry) (held : List Node) (directories : List Directory) (rows : List Line) (keys : List ℕ) (blocks : ℕ) : Type 0 where
+pub record IsTable (layers : List (List ℕ)) (entries : List Entry) (held : List Node)
+    (directories : List Directory) (rows : List Line) (keys : List ℕ) (blocks : ℕ) : Type 0 where
   pub listing : IsListing layers entries
   pub are : AreNodes layers entries held directories rows keys
   pub blocks_are : blocks ≡ blocks_all layers
