@@ -12,6 +12,10 @@ pub record Line : Type 0 where
 abbrev pub names : List Line → List (List ℕ)
 names lines = map (λ line. line.name) lines
 
+-- their numbers
+abbrev pub numbers : List Line → List ℕ
+numbers lines = map (λ line. line.number) lines
+
 -- the row with this name
 abbrev pub named : List ℕ → List Line → Option Line
 named name lines = find (λ line. same_name name line.name) lines
