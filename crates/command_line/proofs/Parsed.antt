@@ -26,7 +26,7 @@ use Rattle.command_line.specs.declared.options.LineFault.TheVariants.{Usage, Mem
 use Rattle.command_line.specs.declared.options.Verb.{Verb}
 use Rattle.command_line.specs.declared.options.Verb.TheVariants as verbs
 use Rattle.command_line.proofs.Taken.{taken_names}
-use Rattle.command_line.specs.CommandLine.{HoldsRows, IsFilled, IsLineOf, IsLineFault, IsNumberOf, IsNumberTo, IsNumbered, IsTaken, command_in, faults_in, most_batch, most_workers, number_or, program, verb_word}
+use Rattle.command_line.specs.CommandLine.{HoldsRows, IsFilled, IsLineOf, IsLineFault, IsNumberOf, IsNumberTo, HaveNumbersInRange, IsTaken, command_in, faults_in, most_batch, most_workers, number_or, program, verb_word}
 
 program_is_simple : is_simple program ≡ true
 program_is_simple = refl
@@ -142,7 +142,8 @@ some_command m words taken is =
 -- the numbers, as the rows give them
 pub numbers_are : (f : Found) (workers batch : ℕ) → IsNumberOf most_workers 4 (first_value f (codes "workers")) workers
     → IsNumberOf most_batch 16 (first_value f (codes "batch")) batch
-    → IsNumbered (rows_of f) × (workers ≡ number_or 4 (first_of (codes "workers") (rows_of f))) × (batch ≡ number_or 16 (first_of (codes "batch") (rows_of f)))
+    → HaveNumbersInRange (rows_of f) × (workers ≡ number_or 4 (first_of (codes "workers") (rows_of f)))
+    × (batch ≡ number_or 16 (first_of (codes "batch") (rows_of f)))
 numbers_are f workers batch w b =
     let w_is = first_value-rows f (codes "workers") in
     let b_is = first_value-rows f (codes "batch") in (
@@ -156,14 +157,14 @@ numbers_are f workers batch w b =
 
 -- and a fault of one of them
 pub workers_fault : (f : Found) (fault : LineFault) → (fault ≡ Memory) ⊎ (¬ IfSome (first_value f (codes "workers")) (IsNumberTo most_workers))
-    → (fault ≡ Memory) ⊎ (¬ IsNumbered (rows_of f))
+    → (fault ≡ Memory) ⊎ (¬ HaveNumbersInRange (rows_of f))
 workers_fault f fault (inl memory) = inl memory
 workers_fault f fault (inr bad) = inr (λ numbered. bad
     (subst (λ o. IfSome o (IsNumberTo most_workers)) (sym (first_value-rows f (codes "workers")))
     numbered.workers))
 
 pub batch_fault : (f : Found) (fault : LineFault) → (fault ≡ Memory) ⊎ (¬ IfSome (first_value f (codes "batch")) (IsNumberTo most_batch))
-    → (fault ≡ Memory) ⊎ (¬ IsNumbered (rows_of f))
+    → (fault ≡ Memory) ⊎ (¬ HaveNumbersInRange (rows_of f))
 batch_fault f fault (inl memory) = inl memory
 batch_fault f fault (inr bad) = inr (λ numbered. bad (subst (λ o. IfSome o (IsNumberTo most_batch)) (sym (first_value-rows f (codes "batch"))) numbered.batch))
 
@@ -181,7 +182,7 @@ line_is words name rows verb (Err fault) taken command named verb_is holds = tt
 
 -- and a fault of its numbers is a fault of the words
 pub fault_is : (words : List Text) (name : Text) (rows : List Row) (fault : LineFault) → IsTaken words → command_in words ≡ Some (name, rows)
-    → (fault ≡ Memory) ⊎ (¬ IsNumbered rows) → IsLineFault words fault
+    → (fault ≡ Memory) ⊎ (¬ HaveNumbersInRange rows) → IsLineFault words fault
 fault_is words name rows Memory taken command told = tt
 fault_is words name rows (Usage text) taken command told = elim told [
   | inl same ↦ cc

@@ -8,7 +8,7 @@ use Rattle.clap.proofs.OnLiterals.{clap_on_literals}
 use Rattle.clap.proofs.WalkLemmas.{both}
 use Rattle.command_line.specs.declared.options.Verb.{Verb}
 use Rattle.command_line.specs.declared.options.Verb.TheVariants as verbs
-use Rattle.command_line.specs.CommandLine.{IsMisnumbered, IsNumberTo, IsNumbered, IsTaken, Parts, Says, command_in, faults_in, most_batch, most_workers, parts_of, verb_word}
+use Rattle.command_line.specs.CommandLine.{IsMisnumbered, IsNumberTo, HaveNumbersInRange, IsTaken, Parts, Says, command_in, faults_in, most_batch, most_workers, parts_of, verb_word}
 use Rattle.command_line.specs.LineExamples.{MisnumberedLines, ReadsAs, RefusedLines, TakenLines, words_of}
 use Rattle.command_line.proofs.Agreed.{one_name, one_word, same_rows}
 
@@ -66,8 +66,8 @@ reads text verb rows parts taken command numbers are = record {
   taken = taken;
   numbered = λ bad.
       let tests = both (passes most_workers (first_of (codes "workers") rows)) _ numbers in
-      let numbered : IsNumbered rows = record { workers = given_passed most_workers _ tests.0; batch = given_passed most_batch _ tests.1 } in
-      bad.wrong (subst IsNumbered (same_rows (command_in (words_of text)) _ _ rows bad.rows command bad.command) numbered);
+      let numbered : HaveNumbersInRange rows = record { workers = given_passed most_workers _ tests.0; batch = given_passed most_batch _ tests.1 } in
+      bad.wrong (subst HaveNumbersInRange (same_rows (command_in (words_of text)) _ _ rows bad.rows command bad.command) numbered);
   says = λ line is.
       let verb_is = one_word line.verb verb (one_name (command_in (words_of text)) _ _ is.rows rows is.command command) in
       let rows_are = same_rows (command_in (words_of text)) _ _ is.rows rows is.command command in

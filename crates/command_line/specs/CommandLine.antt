@@ -100,7 +100,7 @@ pub record IsNumberOf (most default : ℕ) (given : Option Text) (number : ℕ) 
   pub value : number ≡ number_or default given
 
 -- the numbers that the rows of a command give are numbers in their ranges
-pub record IsNumbered (rows : List Row) : Type 0 where
+pub record HaveNumbersInRange (rows : List Row) : Type 0 where
   pub workers : IfSome (first_of (codes "workers") rows) (IsNumberTo most_workers)
   pub batch : IfSome (first_of (codes "batch") rows) (IsNumberTo most_batch)
 
@@ -150,7 +150,7 @@ pub record Says (line : Line) (parts : Parts) : Type 0 where
 
 -- the line says what the rows of a command give, whose numbers are in their ranges
 pub record HoldsRows (rows : List Row) (line : Line) : Type 0 where
-  pub numbered : IsNumbered rows
+  pub numbered : HaveNumbersInRange rows
   pub says : Says line (parts_of line.verb rows)
 
 -- the words are a command of the program, and the line says the same
@@ -171,7 +171,7 @@ pub record IsMisnumbered (words : List Text) : Type 0 where
   pub name : Text
   pub rows : List Row
   pub command : command_in words ≡ Some (name, rows)
-  pub wrong : ¬ IsNumbered rows
+  pub wrong : ¬ HaveNumbersInRange rows
 
 -- the words are no command of the program, or misnumbered, or memory ran out
 abbrev pub IsLineFault : List Text → LineFault → Type 0

@@ -77,28 +77,28 @@ pub record TakenLines : Type 0 where
   pub image_like_a_verb : ReadsAs (codes "list check") (plain verbs.List (codes "check"))
 
 -- the words are no command, for this alone
-abbrev pub IsRefusedFor : Text → ErrorKind → Type 0
-IsRefusedFor text why = faults_in (words_of text) ≡ why ∷ []
+abbrev pub HasOneFault : Text → ErrorKind → Type 0
+HasOneFault text why = faults_in (words_of text) ≡ why ∷ []
 
 -- words that are no command, and why
 pub record RefusedLines : Type 0 where
   pub no_words : faults_in [] ≡ kind.MissingSubcommand ∷ []
-  pub asks_help : IsRefusedFor (codes "--help") kind.DisplayHelp
-  pub asks_help_on_serve : IsRefusedFor (codes "serve -h") kind.DisplayHelp
+  pub asks_help : HasOneFault (codes "--help") kind.DisplayHelp
+  pub asks_help_on_serve : HasOneFault (codes "serve -h") kind.DisplayHelp
   pub another_command :
       faults_in (words_of (codes "fly")) ≡ kind.UnknownArgument ∷ kind.InvalidSubcommand ∷ []
-  pub no_image : IsRefusedFor (codes "serve") kind.MissingRequiredArgument
-  pub no_image_to_check : IsRefusedFor (codes "check --strict") kind.MissingRequiredArgument
-  pub no_image_to_list : IsRefusedFor (codes "list") kind.MissingRequiredArgument
-  pub another_option : IsRefusedFor (codes "serve --bogus a") kind.UnknownArgument
-  pub workers_of_check : IsRefusedFor (codes "check --workers 4 a") kind.UnknownArgument
-  pub balances_of_list : IsRefusedFor (codes "list --balances b a") kind.UnknownArgument
-  pub option_twice : IsRefusedFor (codes "serve --requests=a --requests=b c") kind.ArgumentConflict
-  pub number_twice : IsRefusedFor (codes "serve --workers 4 --workers 4 a") kind.ArgumentConflict
-  pub flag_twice : IsRefusedFor (codes "check --strict --strict a") kind.ArgumentConflict
-  pub flag_with_value : IsRefusedFor (codes "check --strict=true a") kind.TooManyValues
-  pub option_without_file : IsRefusedFor (codes "serve a --requests") kind.InvalidValue
-  pub minus_apart : IsRefusedFor (codes "serve --workers -4 a") kind.UnknownArgument
+  pub no_image : HasOneFault (codes "serve") kind.MissingRequiredArgument
+  pub no_image_to_check : HasOneFault (codes "check --strict") kind.MissingRequiredArgument
+  pub no_image_to_list : HasOneFault (codes "list") kind.MissingRequiredArgument
+  pub another_option : HasOneFault (codes "serve --bogus a") kind.UnknownArgument
+  pub workers_of_check : HasOneFault (codes "check --workers 4 a") kind.UnknownArgument
+  pub balances_of_list : HasOneFault (codes "list --balances b a") kind.UnknownArgument
+  pub option_twice : HasOneFault (codes "serve --requests=a --requests=b c") kind.ArgumentConflict
+  pub number_twice : HasOneFault (codes "serve --workers 4 --workers 4 a") kind.ArgumentConflict
+  pub flag_twice : HasOneFault (codes "check --strict --strict a") kind.ArgumentConflict
+  pub flag_with_value : HasOneFault (codes "check --strict=true a") kind.TooManyValues
+  pub option_without_file : HasOneFault (codes "serve a --requests") kind.InvalidValue
+  pub minus_apart : HasOneFault (codes "serve --workers -4 a") kind.UnknownArgument
 
 -- words that are a command but for a number
 pub record MisnumberedLines : Type 0 where

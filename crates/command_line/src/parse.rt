@@ -8,7 +8,7 @@ ghost use Rattle.std.specs.Int.{IsInRange};
 ghost use Rattle.clap.specs.Words.{first_value, found_of, kind_of, rows_of, subcommand_rows_of};
 ghost use Rattle.command_line.specs.CommandLine.{IsLineFault, IsLineOf, IsTaken, command_in};
 ghost use Rattle.command_line.specs.CommandLine.{HoldsRows, IsFilled, IsInLimits, verb_word};
-ghost use Rattle.command_line.specs.CommandLine.{IsNumberOf, IsNumberTo, IsNumbered};
+ghost use Rattle.command_line.specs.CommandLine.{IsNumberOf, IsNumberTo, HaveNumbersInRange};
 ghost use Rattle.command_line.specs.declared.options.LineFault.TheVariants.{Memory};
 
 use crate::commands::program;
@@ -92,7 +92,7 @@ fn line_of<'a>(alloc: Global, verb: Verb, found: &ArgMatches<'a>) -> Result<Line
     ensures limits { IfOk result (λ line. IsInLimits line) }
     ensures some_image { IfOk result (λ line. 1 ≤ vec_len line.images) }
     ensures err { IfErr result (λ fault. (fault ≡ Memory)
-        ⊎ ¬ IsNumbered (rows_of (found_of found.now))) }
+        ⊎ ¬ HaveNumbersInRange (rows_of (found_of found.now))) }
 {
     let workers = number_of(alloc, found, "workers", DEFAULT_WORKERS, MOST_WORKERS)?;
     let batch = number_of(alloc, found, "batch", DEFAULT_BATCH, MOST_BATCH)?;

@@ -8,12 +8,12 @@ pub record Drawn : Type 0 where
   pub answer : Option ℕ
 
 -- a draw answers its position where that is a number below the total, and from the total on nothing
-abbrev pub answer_at : ℕ → ℕ → Option ℕ
-answer_at total position = if nat_lt position total then Some position else None
+abbrev pub draw_answer : ℕ → ℕ → Option ℕ
+draw_answer total position = if nat_lt position total then Some position else None
 
 -- the draw at a position
 abbrev pub drawn_at : ℕ → ℕ → Drawn
-drawn_at total position = record { position = position; answer = answer_at total position }
+drawn_at total position = record { position = position; answer = draw_answer total position }
 
 -- the legal history of n draws: the positions 0 to n - 1 in order, each with its answer
 abbrev pub history : ℕ → ℕ → List Drawn

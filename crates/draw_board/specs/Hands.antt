@@ -3,8 +3,8 @@ use Rattle.std.specs.Prelude.{◌≡◌, ℕ, ◌+◌, ◌-◌, ◌<◌, ◌≤�
 use Rattle.atomic_table.specs.Seated.{TableId}
 use Rattle.draw_board.specs.declared.hand.Hand.{Hand}
 use Rattle.draw_board.specs.declared.board.Board.{Board}
-use Rattle.draw_board.specs.Counter.{Drawn, answer_at, drawn_at}
-use Rattle.draw_board.specs.Views.{Key, IsSoundView, key_of}
+use Rattle.draw_board.specs.Counter.{Drawn, draw_answer, drawn_at}
+use Rattle.draw_board.specs.Views.{Key, IsSoundView, known_key}
 
 -- the numbers to be drawn are those below the total
 abbrev pub total_of : {A : Type 0} → Board A → ℕ
@@ -31,8 +31,8 @@ abbrev pub share : Hand → ℕ
 share hand = hand.seat.me.0.share
 
 -- the hand has seen that each position below this one was drawn
-abbrev pub seen : Hand → ℕ
-seen hand = hand.seat.me.0.seen
+abbrev pub seen_below : Hand → ℕ
+seen_below hand = hand.seat.me.0.seen
 
 -- the hand is of the board with this word, total and misses
 pub record IsOf (word : TableId) (key : Key) (hand : Hand) : Type 0 where
@@ -57,7 +57,7 @@ pub record IsFirstHand {A : Type 0} (board : Board A) (hand : Hand) : Type 0 whe
   pub left : left hand ≡ misses_of board
   pub share : share hand ≡ misses_of board
   pub positions : positions hand ≡ []
-  pub seen : seen hand ≡ 0
+  pub seen : seen_below hand ≡ 0
 
 -- the hand stays one of the board, with the same share
 abbrev pub KeepsShare : {A : Type 0} → Board A → Hand → Hand → Type 0
@@ -66,15 +66,15 @@ KeepsShare board old new = IsHandOf board new × (share new ≡ share old)
 -- what a thread may promise of a hand that it is lent: one of the same board, with the same share
 abbrev pub GivesBack : Hand → Hand → Type 0
 GivesBack lent back =
-    IsOf lent.seat.table_id (key_of lent.seat.me.0) back × (share back ≡ share lent)
+    IsOf lent.seat.table_id (known_key lent.seat.me.0) back × (share back ≡ share lent)
 
 -- a draw of the counter, at a position that the hand had not seen, is added to the hand's
 pub record TakesDraw (total : ℕ) (old new : Hand) (answer : Option ℕ) : Type 0 where
   pub position : ℕ
-  pub answered : answer ≡ answer_at total position
-  pub unseen : seen old ≤ position
+  pub answered : answer ≡ draw_answer total position
+  pub unseen : seen_below old ≤ position
   pub added : positions new ≡ positions old ++ position ∷ []
-  pub noted : seen new ≡ position + 1
+  pub noted : seen_below new ≡ position + 1
 
 -- an answer of nothing spends one miss, and a number spends none
 abbrev pub SpendsMissAtNone : Hand → Hand → Option ℕ → Type 0
@@ -95,16 +95,16 @@ pub record MovesMisses {A : Type 0} (board : Board A) (old new other : Hand)
   pub giver_left : left new ≡ left old - misses
   pub giver_share : share new ≡ share old - misses
   pub giver_positions : positions new ≡ positions old
-  pub giver_seen : seen new ≡ seen old
+  pub giver_seen : seen_below new ≡ seen_below old
   pub other_of_board : IsHandOf board other
   pub other_left : left other ≡ misses
   pub other_share : share other ≡ misses
   pub other_positions : positions other ≡ []
-  pub other_seen : seen other ≡ seen old
+  pub other_seen : seen_below other ≡ seen_below old
 
 -- the hand has the misses of both, and has seen what both had
 pub record TakesIn {A : Type 0} (board : Board A) (old other new : Hand) : Type 0 where
   pub of_board : IsHandOf board new
   pub left : left new ≡ left old + left other
   pub share : share new ≡ share old + share other
-  pub seen : seen new ≡ max (seen old) (seen other)
+  pub seen : seen_below new ≡ max (seen_below old) (seen_below other)

@@ -43,8 +43,8 @@ pub record IsSoundBoard (key : Key) (s : Table) : Type 0 where
   pub bounded : slice_index s.words 0 + sum_by (λ v. v.left) s.views ≤ key.0 + key.1
 
 -- what a view knows of its board
-abbrev pub key_of : View → Key
-key_of v = (v.total, v.misses)
+abbrev pub known_key : View → Key
+known_key v = (v.total, v.misses)
 
 abbrev pub view : Key → List ℕ → ℕ → ℕ → ℕ → ℕ → View
 view key positions left share seen asked = record {
@@ -63,22 +63,22 @@ first_view key = view key [] key.1 key.1 0 0
 
 -- after a draw at position p: a miss, where p is no number, costs one
 abbrev pub after_draw : View → ℕ → View
-after_draw v p = view (key_of v) (v.positions ++ p ∷ []) left v.share (suc p) v.asked
+after_draw v p = view (known_key v) (v.positions ++ p ∷ []) left v.share (suc p) v.asked
   where
     left : ℕ
     left = if nat_lt p v.total then v.left else v.left - 1
 
 -- a split moves the announced number of misses from the giver's view to a new one
 abbrev pub giver_view : View → View
-giver_view v = view (key_of v) v.positions (v.left - v.asked) (v.share - v.asked) v.seen v.asked
+giver_view v = view (known_key v) v.positions (v.left - v.asked) (v.share - v.asked) v.seen v.asked
 
 abbrev pub given_view : View → View
-given_view v = view (key_of v) [] v.asked v.asked v.seen 0
+given_view v = view (known_key v) [] v.asked v.asked v.seen 0
 
 -- a rejoin makes one view of two, and leaves nothing in the other
 abbrev pub joined_view : View → View → View
 joined_view v w =
-    view (key_of v) (merged v.positions w.positions) (v.left + w.left)
+    view (known_key v) (merged v.positions w.positions) (v.left + w.left)
     (v.share + w.share) (max v.seen w.seen) 0
 
 abbrev pub spent_view : View

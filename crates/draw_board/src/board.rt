@@ -23,7 +23,7 @@ impl<A: Allocator> Board<A> {
     ghost use Rattle.std.specs.List.{range_with_len};
     ghost use Rattle.draw_board.specs.Counter.{history};
     ghost use Rattle.draw_board.specs.Positions.{Unites, numbers};
-    ghost use Rattle.draw_board.specs.Hands.{total_of, misses_of, draws, left, positions, seen, share, IsBoard, IsFirstHand, IsHandOf, KeepsShare, MovesMisses, SpendsMissAtNone, TakesDraw, TakesIn, TakesNumber};
+    ghost use Rattle.draw_board.specs.Hands.{total_of, misses_of, draws, left, positions, seen_below, share, IsBoard, IsFirstHand, IsHandOf, KeepsShare, MovesMisses, SpendsMissAtNone, TakesDraw, TakesIn, TakesNumber};
 
     /// Starts a board with the numbers below `total`, and its first hand with all of its `misses`. A board of no
     /// numbers is fine; a hand with no miss could never be told that all numbers are drawn.
@@ -51,7 +51,7 @@ impl<A: Allocator> Board<A> {
         ensures number { IfSome result (TakesNumber (total_of self.now) hand.old hand.new) }
 
         // Nothing is answered only where the hand has seen that all numbers were drawn.
-        ensures drawn { IfNone result (total_of self.now ≤ seen hand.new) }
+        ensures drawn { IfNone result (total_of self.now ≤ seen_below hand.new) }
         ensures misses { 0 < left hand.old → SpendsMissAtNone hand.old hand.new result }
         ensures no_miss { left hand.old ≡ 0 → (result ≡ None) × (hand.new ≡ hand.old) }
         ensures hand { KeepsShare self.now hand.old hand.new }
@@ -108,7 +108,7 @@ impl<A: Allocator> Board<A> {
         // The draws of all hands are one legal history.
         ensures history { draws (total_of self) hand ≡ history (total_of self) result }
         ensures positions { positions hand ≡ range_with_len 0 result }
-        ensures seen { seen hand ≤ result }
+        ensures seen { seen_below hand ≤ result }
 
         // After a miss each number was drawn, once.
         ensures numbers { left hand < share hand →

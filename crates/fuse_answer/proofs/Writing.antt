@@ -13,7 +13,7 @@ use Rattle.fuse_wire.proofs.Sizes.{length-dirent, length-direntplus, length-head
 use Rattle.node_table.specs.Rows.{Line}
 use Rattle.node_table.specs.Stacked.{Stacked}
 use Rattle.fuse_answer.specs.declared.listing.Listing.{Listing}
-use Rattle.fuse_answer.specs.Listings.{IsWhole, NumberedLine, line_bytes, lines_of, listed_data, row_bytes, row_size, type_at, wired_at}
+use Rattle.fuse_answer.specs.Listings.{IsWhole, NumberedLine, line_bytes, lines_of, listed_data, row_bytes_at, row_size, type_at, wired_at}
 
 nothing : NumberedLine
 nothing = (0, record { number = 0; name = [] })
@@ -56,7 +56,7 @@ module _ {A : Type 0} (stack : Stacked) (l : Listing A) (whole : IsWhole stack l
   none_written : written stack l l.from ≡ []
   none_written = let e : l.from - l.from ≡ 0 = omega arith in ap (λ n. flat_map bytes_of (take n (drop l.from (lines_of l)))) e
 
-  one_written : (index : ℕ) → l.from ≤ index → index < l.until → written stack l (index + 1) ≡ written stack l index ++ row_bytes stack l index
+  one_written : (index : ℕ) → l.from ≤ index → index < l.until → written stack l (index + 1) ≡ written stack l index ++ row_bytes_at stack l index
   one_written index from until =
       let within = whole.within in
       let len = length-lines in
@@ -67,7 +67,7 @@ module _ {A : Type 0} (stack : Stacked) (l : Listing A) (whole : IsWhole stack l
       let same : l.from + i ≡ index = omega arith in
       let r = get_or (lines_of l) index nothing in
       let read : get_or (drop l.from (lines_of l)) i nothing ≡ r = get_or-drop l.from (lines_of l) i nothing ∙ ap (λ k. get_or (lines_of l) k nothing) same in
-      let got : row_bytes stack l index ≡ bytes_of r = ap (λ o. option_map_or bytes_of o []) (slice_get-get_or (lines_of l) index nothing (omega arith)) in
+      let got : row_bytes_at stack l index ≡ bytes_of r = ap (λ o. option_map_or bytes_of o []) (slice_get-get_or (lines_of l) index nothing (omega arith)) in
       ap (λ n. flat_map bytes_of (take n (drop l.from (lines_of l)))) next
       ∙ ap (flat_map bytes_of) (take_more (drop l.from (lines_of l)) i nothing there)
       ∙ flat_map-append bytes_of (take i (drop l.from (lines_of l))) (get_or (drop l.from (lines_of l)) i nothing ∷ [])
@@ -112,11 +112,11 @@ module _ {A : Type 0} (stack : Stacked) (l : Listing A) (whole : IsWhole stack l
 
   -- where all have room, each row has
   pub row_has_room : (unique index : ℕ) (before now : List ℕ) → l.from ≤ index → index < l.until → now ≡ before ++ (reply_head unique l.size ++ written stack l index)
-      → length now + length (row_bytes stack l index) ≤ length before + (16 + l.size)
+      → length now + length (row_bytes_at stack l index) ≤ length before + (16 + l.size)
   row_has_room unique index before now from until so_far =
       let w = written stack l index in
       let next = ap length (one_written index from until) in
-      let next_len = length-append w (row_bytes stack l index) in
+      let next_len = length-append w (row_bytes_at stack l index) in
       let few = written_few (index + 1) (omega arith) in
       let head = length-head unique l.size in
       let a = ap length so_far in
@@ -133,11 +133,11 @@ module _ {A : Type 0} (stack : Stacked) (l : Listing A) (whole : IsWhole stack l
       is ∙ ap (λ b. before ++ b) (sym (append-nil (reply_head unique l.size)) ∙ ap (λ b. reply_head unique l.size ++ b) (sym none_written))
 
   pub row_next : (unique index : ℕ) (before now next : List ℕ) → l.from ≤ index → index < l.until
-      → IsSoFar unique before index now → next ≡ now ++ row_bytes stack l index → IsSoFar unique before (index + 1) next
+      → IsSoFar unique before index now → next ≡ now ++ row_bytes_at stack l index → IsSoFar unique before (index + 1) next
   row_next unique index before now next from until so_far is =
       let h = reply_head unique l.size in
       let w = written stack l index in
-      let r = row_bytes stack l index in
+      let r = row_bytes_at stack l index in
       is ∙ ap (λ b. b ++ r) so_far ∙ append_assoc before (h ++ w) r
       ∙ ap (λ b. before ++ b) (append_assoc h w r ∙ ap (λ b. h ++ b) (sym (one_written index from until)))
 

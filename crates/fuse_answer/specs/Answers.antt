@@ -24,30 +24,30 @@ use Rattle.fuse_answer.specs.declared.content.Answer.TheVariants.{Done, Terms, E
 use Rattle.fuse_answer.specs.Listings.{listed_data, listed_moves, wired_at, IsWhole}
 
 -- the data of an answer
-abbrev pub data_of : {A : Type 0} → Stacked → Answer A → List ℕ
-data_of stack Done = []
-data_of stack (Terms init) = init_out init
-data_of stack (Entry attr) = entry_out attr
-data_of stack (Attributes attr) = attr_out attr
-data_of stack (Opened flags) = open_out flags
-data_of stack (Data bytes) = bytes.now
-data_of stack (Figures blocks nodes) = statfs_out blocks nodes
-data_of stack (Rows listing) = listed_data stack listing
-data_of stack (Forgotten node nlookup) = []
-data_of stack (AllForgotten items) = []
+abbrev pub answer_data : {A : Type 0} → Stacked → Answer A → List ℕ
+answer_data stack Done = []
+answer_data stack (Terms init) = init_out init
+answer_data stack (Entry attr) = entry_out attr
+answer_data stack (Attributes attr) = attr_out attr
+answer_data stack (Opened flags) = open_out flags
+answer_data stack (Data bytes) = bytes.now
+answer_data stack (Figures blocks nodes) = statfs_out blocks nodes
+answer_data stack (Rows listing) = listed_data stack listing
+answer_data stack (Forgotten node nlookup) = []
+answer_data stack (AllForgotten items) = []
 
 -- what is taken back of the nodes that are in use
 abbrev pub taken_back : Stacked → List Forget → List Move
 taken_back stack forgets = filter_map (take_back stack.layers stack.entries) forgets
 
 -- what it gives and takes
-abbrev pub moves_of : {A : Type 0} → Stacked → Answer A → List Move
-moves_of stack (Entry attr) = record { node = attr.ino; amount = pos 1 } ∷ []
-moves_of stack (Rows listing) = listed_moves listing
-moves_of stack (Forgotten node nlookup) =
+abbrev pub answer_moves : {A : Type 0} → Stacked → Answer A → List Move
+answer_moves stack (Entry attr) = record { node = attr.ino; amount = pos 1 } ∷ []
+answer_moves stack (Rows listing) = listed_moves listing
+answer_moves stack (Forgotten node nlookup) =
     taken_back stack (record { node = node; nlookup = nlookup } ∷ [])
-moves_of stack (AllForgotten items) = taken_back stack (items_of items)
-moves_of stack _ = []
+answer_moves stack (AllForgotten items) = taken_back stack (items_of items)
+answer_moves stack _ = []
 
 -- the kind of the node with this number, or that it is not in use
 abbrev pub TellsKind : Stacked → ℕ → Result Kind Errno → Type 0
@@ -75,9 +75,9 @@ IsSized stack _ = Unit {0}
 -- the answer to a request about the node at a place
 pub record IsAnswerAt {A : Type 0} (stack : Stacked) (export : Bool) (op : Op) (p : Place) (a : Answer A) : Type 0 where
   pub taken : refused_at stack.layers stack.entries export op p ≡ None
-  pub data_is : data_of stack a ≡ answer_at stack.layers stack.entries export op p
+  pub data_is : answer_data stack a ≡ answer_at stack.layers stack.entries export op p
   pub sized : IsSized stack a
-  pub moves_are : moves_of stack a ≡ gives_at stack.layers stack.entries export op p
+  pub moves_are : answer_moves stack a ≡ gives_at stack.layers stack.entries export op p
 
 -- what is decided about a request at the node with this number: it is answered, or refused
 abbrev pub DecidesAt : {A : Type 0} → Stacked → Bool → ℕ → Op → Result (Answer A) Errno → Type 0
@@ -88,9 +88,9 @@ DecidesAt stack export node op result =
 -- the answer to a request that is not refused
 pub record IsAnswer {A : Type 0} (stack : Stacked) (s : Session) (q : Asked) (a : Answer A) : Type 0 where
   pub taken : refusal stack.layers stack.entries s q.node q.op ≡ None
-  pub data_is : data_of stack a ≡ answer stack.layers stack.entries (is_exported s) q.node q.op
+  pub data_is : answer_data stack a ≡ answer stack.layers stack.entries (is_exported s) q.node q.op
   pub sized : IsSized stack a
-  pub moves_are : moves_of stack a ≡ moved stack.layers stack.entries (is_exported s) q.node q.op
+  pub moves_are : answer_moves stack a ≡ moved stack.layers stack.entries (is_exported s) q.node q.op
 
 abbrev pub Decides : {A : Type 0} → Stacked → Session → Asked → Result (Answer A) Errno → Type 0
 Decides stack s q result =

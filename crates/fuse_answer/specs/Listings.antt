@@ -60,8 +60,8 @@ abbrev pub row_given : {A : Type 0} → Listing A → ℕ → List Move
 row_given l index = option_map_or (λ r. lines_given (r ∷ [])) (slice_get (lines_of l) index) []
 
 -- the bytes of the row with an index
-abbrev pub row_bytes : {A : Type 0} → Stacked → Listing A → ℕ → List ℕ
-row_bytes stack l index = option_map_or (line_bytes stack l.with_entries) (slice_get (lines_of l) index) []
+abbrev pub row_bytes_at : {A : Type 0} → Stacked → Listing A → ℕ → List ℕ
+row_bytes_at stack l index = option_map_or (line_bytes stack l.with_entries) (slice_get (lines_of l) index) []
 
 -- the bytes of the rows that a listing answers, and what they give
 abbrev pub listed_data : {A : Type 0} → Stacked → Listing A → List ℕ
@@ -120,8 +120,8 @@ pub record AreListed {A : Type 0} (stack : Stacked) (node offset size : ℕ) (wi
   pub fits : Fits with_entries l.children.now l.from size l.until l.size
 
 -- they are listed; none where the number is no directory
-abbrev pub Lists : {A : Type 0} → Stacked → ℕ → ℕ → ℕ → Bool → Option (Listing A) → Type 0
-Lists stack node offset size with_entries result =
+abbrev pub ListsRows : {A : Type 0} → Stacked → ℕ → ℕ → ℕ → Bool → Option (Listing A) → Type 0
+ListsRows stack node offset size with_entries result =
     MatchOption result (parent_at stack node ≡ None) (AreListed stack node offset size with_entries)
 
 -- the rows of a listing are in bounds, and its size is that of their bytes

@@ -3,7 +3,7 @@
 ghost use Rattle.std.specs.Prelude.{◌≡◌, ◌≤◌, ◌<◌, ◌+◌, ◌^◌, ◌∷◌, [], length};
 ghost use Rattle.fuse_wire.specs.Reads.{items_of};
 ghost use Rattle.rounds.specs.Moves.{AreWithin, IsMoved};
-ghost use Rattle.fuse_answer.specs.Answers.{IsSized, moves_of, taken_back};
+ghost use Rattle.fuse_answer.specs.Answers.{IsSized, answer_moves, taken_back};
 ghost use Rattle.fuse_answer.specs.Listings.{lines_answered, lines_given, row_given};
 
 use crate::content::Answer;
@@ -22,7 +22,7 @@ pub(crate) fn add_moves<A: Allocator>(
 )
     requires sized { IsSized table.now answer.now }
     requires within { AreWithin (2 ^ 123) balances.old }
-    ensures { IsMoved (moves_of table.now answer.now) balances.old balances.new }
+    ensures { IsMoved (answer_moves table.now answer.now) balances.old balances.new }
 {
     match answer {
         Answer::Entry(attr) => add_move(balances, attr.ino, 1),

@@ -2,7 +2,7 @@
 
 ghost use Rattle.std.specs.Prelude.{◌≤◌, ◌<◌, ◌+◌, ◌^◌, ◌∷◌, [], length, unsigned_abs};
 ghost use Rattle.fuse_wire.specs.Reads.{asked_of, items_of};
-ghost use Rattle.fuse_answer.specs.Answers.{IsSized, moves_of, taken_back};
+ghost use Rattle.fuse_answer.specs.Answers.{IsSized, answer_moves, taken_back};
 ghost use Rattle.fuse_answer.specs.Listings.{lines_answered, lines_given, row_given};
 ghost use Rattle.fuse_answer.specs.Puts.{AreSmall, Puts, PutsMoves, Grows};
 
@@ -44,7 +44,7 @@ fn put_moves<A: Allocator, M: Allocator>(
     into: &mut Vec<Move, M>,
 ) -> Result<(), AllocError>
     requires { IsSized table.now answer.now }
-    ensures moves { Puts result into.old into.new (moves_of table.now answer.now) }
+    ensures moves { Puts result into.old into.new (answer_moves table.now answer.now) }
     ensures small { AreSmall into.old.items → AreSmall into.new.items }
 {
     let len = into.len();
@@ -62,7 +62,7 @@ fn grow<A: Allocator, M: Allocator>(
     into: &mut Vec<Move, M>,
 ) -> Result<(), AllocError>
     requires { IsSized table.now answer.now }
-    ensures moves { Grows result into.old into.new (moves_of table.now answer.now) }
+    ensures moves { Grows result into.old into.new (answer_moves table.now answer.now) }
     ensures small { AreSmall into.old.items → AreSmall into.new.items }
 {
     match answer {

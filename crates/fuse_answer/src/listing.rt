@@ -5,7 +5,7 @@
 
 ghost use Rattle.std.specs.Prelude.{◌≡◌, ◌≤◌, ◌<◌, ◌+◌, ◌^◌, length, min, slice_index};
 ghost use Rattle.fuse_answer.specs.Answers.{DecidesAt};
-ghost use Rattle.fuse_answer.specs.Listings.{listing_op, is_cut_short, Lists, Fits, RowSize, name_lengths};
+ghost use Rattle.fuse_answer.specs.Listings.{listing_op, is_cut_short, ListsRows, Fits, RowSize, name_lengths};
 
 use crate::content::Answer;
 use crate::node::kind_of;
@@ -65,7 +65,7 @@ fn listed<'a, A: Allocator>(
     with_entries: bool,
 ) -> Option<Listing<'a, A>>
     requires { size ≤ 2 ^ 20 }
-    ensures { Lists table.now number offset size with_entries result }
+    ensures { ListsRows table.now number offset size with_entries result }
 {
     let parent = table.parent(number)?;
     let children = table.rows(number);

@@ -3,7 +3,7 @@
 ghost use Rattle.std.specs.Prelude.{◌≡◌, ◌≤◌, ◌<◌, ◌+◌, ◌/◌, ◌^◌, length, None, nat_lt, if◌then◌else◌};
 ghost use Rattle.std.specs.Option.{option_map, option_map_or};
 ghost use Rattle.fuse_wire.specs.Replies.{reply_with};
-ghost use Rattle.fuse_answer.specs.Listings.{IsWhole, IsLineAt, listed_data, row_bytes, wired};
+ghost use Rattle.fuse_answer.specs.Listings.{IsWhole, IsLineAt, listed_data, row_bytes_at, wired};
 ghost use Rattle.fuse_answer.specs.Puts.{Puts};
 
 use crate::listing::Listing;
@@ -43,7 +43,7 @@ fn put_row<A: Allocator, O: Allocator>(
     requires whole { IsWhole table.now rows.now }
     requires from { rows.now.from ≤ index }
     requires until { index < rows.now.until }
-    ensures { Puts result out.old out.new (row_bytes table.now rows.now index) }
+    ensures { Puts result out.old out.new (row_bytes_at table.now rows.now index) }
 {
     let (ino, name) = line_at(rows, index);
     let attr = table.attr(ino);

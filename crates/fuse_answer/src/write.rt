@@ -1,7 +1,7 @@
 //! Answers as replies.
 
 ghost use Rattle.fuse_wire.specs.Replies.{reply_with};
-ghost use Rattle.fuse_answer.specs.Answers.{IsSized, data_of};
+ghost use Rattle.fuse_answer.specs.Answers.{IsSized, answer_data};
 ghost use Rattle.fuse_answer.specs.Puts.{Puts};
 
 use crate::content::Answer;
@@ -18,7 +18,7 @@ pub(crate) fn write<A: Allocator, O: Allocator>(
     out: &mut Vec<u8, O>,
 ) -> Result<(), AllocError>
     requires { IsSized table.now answer.now }
-    ensures { Puts result out.old out.new (reply_with unique (data_of table.now answer.now)) }
+    ensures { Puts result out.old out.new (reply_with unique (answer_data table.now answer.now)) }
 {
     match answer {
         Answer::Done | Answer::Forgotten { .. } | Answer::AllForgotten(_) => put_head(out, unique),

@@ -1,9 +1,10 @@
 -- A tree laid on a tree: the upper one's marks leave out entries of the lower one, its entries cover what is left, and
 -- the marks are united.
 use Rattle.std.specs.Prelude.{◌≡◌, ◌≢◌, ℕ, List, [], ◌∷◌, Bool, true, ◌||◌, Option, None, MatchOption, if◌then◌else◌}
-use Rattle.path_tree.specs.Rows.{Path, Shoot, name_cmp, named, NamesRise, spread, whole, at_path, IsRising, IsForest, PathsRise}
+use Rattle.path_tree.specs.Rows.{Shoot, name_cmp, named, NamesRise, spread, whole, at_path, IsRising, IsForest, PathsRise}
 use Rattle.std.specs.declared.cmp.Ordering.TheVariants.{Less}
 use Rattle.path_tree.specs.Laying.{laid_at}
+use Rattle.stack_model.specs.Stack.{Path}
 use Rattle.layer_tree.specs.declared.place.Entry.{Entry}
 use Rattle.layer_tree.specs.declared.place.Mark.{Mark}
 use Rattle.layer_tree.specs.Marks.{cut_by}

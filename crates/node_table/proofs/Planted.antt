@@ -3,7 +3,7 @@ use Rattle.std.proofs.Common.{◌≡◌, ◌∙◌, sym, ap, subst, ℕ, zero, s
 use Rattle.std.specs.Prelude.{slice_get, slice_index, min, count_by, unwrap_or}
 use Rattle.std.specs.List.{AllByRecursion}
 use Rattle.romfs_image.specs.Images.{IsImage}
-use Rattle.romfs_image.specs.Readers.{data_of as data_in}
+use Rattle.romfs_image.specs.Readers.{data_of_header as data_in}
 use Rattle.stack_model.specs.Stack.{Path}
 use Rattle.stack_model.specs.Listing.{Entry as Listed}
 use Rattle.stack_model.specs.Numbers.{Place as ModelPlace, Child, place, same_place, number, children}

@@ -15,7 +15,7 @@ use Rattle.romfs_format.specs.Chains.{Has}
 use Rattle.romfs_format.specs.Links.{IsFinal, stays, follows}
 use Rattle.romfs_format.specs.Heads.{name_of, head_of}
 use Rattle.romfs_image.specs.Images.{IsImage}
-use Rattle.romfs_image.specs.Readers.{bytes_at, data_of as data_in, data_of_kind, IsGiven}
+use Rattle.romfs_image.specs.Readers.{bytes_at, data_of_header as data_in, data_of_kind, IsGiven}
 use Rattle.romfs_image.proofs.Keeps.{root_directory}
 use Rattle.romfs_image.proofs.Given.{From, from_inside, from_named}
 use Rattle.stack_model.specs.Stack.{Path}

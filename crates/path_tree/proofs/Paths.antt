@@ -1,10 +1,10 @@
 -- Equal paths.
 use Rattle.std.proofs.Common.{◌≡◌, ◌≢◌, ℕ, ◌⊎◌, inl, inr, List, [], ◌∷◌, refl, true, false, ap, ◌∙◌}
-use Rattle.path_tree.specs.Rows.{same_path}
+use Rattle.path_tree.specs.Rows.{equal_names}
 use Rattle.path_tree.proofs.Names.{same_or_not}
 
 abbrev pub IsSamePathOrNot : List (List ℕ) → List (List ℕ) → Type 0
-IsSamePathOrNot p q = ((p ≡ q) × (same_path p q ≡ true)) ⊎ ((p ≢ q) × (same_path p q ≡ false))
+IsSamePathOrNot p q = ((p ≡ q) × (equal_names p q ≡ true)) ⊎ ((p ≢ q) × (equal_names p q ≡ false))
 
 pub same_path_or_not : (p q : List (List ℕ)) → IsSamePathOrNot p q
 same_path_or_not [] [] = inl (refl, refl)

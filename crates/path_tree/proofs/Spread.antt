@@ -2,7 +2,7 @@
 use Rattle.std.proofs.Common.{◌≡◌, ◌≢◌, ◌∙◌, sym, ap, subst, ℕ, inl, inr, List, [], ◌∷◌, ◌++◌, refl, Option, Some, None, Bool, true, false}
 use Rattle.std.specs.Prelude.{nat_eq, cond}
 use Rattle.std.specs.Cmp.Lexicographic.{pointwise}
-use Rattle.path_tree.specs.Rows.{Shoot, prefixed, spread, whole, named, NamesRise, same_path, at_path}
+use Rattle.path_tree.specs.Rows.{Shoot, prefixed, spread, whole, named, NamesRise, equal_names, at_path}
 use Rattle.path_tree.proofs.Names.{same_or_not, named_below}
 
 -- what the found branch has
@@ -36,7 +36,7 @@ module _ {T : Type 0} where
 
   at_append : (xs ys : List (List (List ℕ) × T)) (p : List (List ℕ)) → at_path (xs ++ ys) p ≡ or_else (at_path xs p) (at_path ys p)
   at_append [] ys p = refl
-  at_append (x ∷ xs) ys p = rw (at_append xs ys p) (or_else_cond (same_path x.0 p) x.1 (at_path xs p) (at_path ys p))
+  at_append (x ∷ xs) ys p = rw (at_append xs ys p) (or_else_cond (equal_names x.0 p) x.1 (at_path xs p) (at_path ys p))
 
   or_none : (x : Option T) → or_else x None ≡ x
   or_none None = refl

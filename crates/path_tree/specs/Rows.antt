@@ -9,9 +9,6 @@ use Rattle.std.specs.declared.cmp.Ordering.TheVariants.{Less}
 use Rattle.std.proofs.Common.{arith, length-append}
 use denote.Param.Weighed.{most}
 
-abbrev pub Path : Type 0
-Path = List (List ℕ)
-
 -- paths, each with a value
 abbrev pub Rows : Type 0 → Type 0
 Rows T = List (List (List ℕ) × T)
@@ -68,13 +65,14 @@ named n (s ∷ ss) = if pointwise nat_eq s.name n then Some s else named n ss
 abbrev pub IsFirstNamed : {T : Type 0} → List ℕ → List (Shoot T) → Option (Bor (Shoot T)) → Type 0
 IsFirstNamed n ss found = MatchOption found (named n ss ≡ None) (λ c. named n ss ≡ Some c.now)
 
-abbrev pub same_path : List (List ℕ) → List (List ℕ) → Bool
-same_path = pointwise (pointwise nat_eq)
+-- two lists of names are the same
+abbrev pub equal_names : List (List ℕ) → List (List ℕ) → Bool
+equal_names = pointwise (pointwise nat_eq)
 
 -- the value of the first row at the path
 abbrev pub at_path : {T : Type 0} → List (List (List ℕ) × T) → List (List ℕ) → Option T
 at_path [] path = None
-at_path (x ∷ xs) path = if same_path x.0 path then Some x.1 else at_path xs path
+at_path (x ∷ xs) path = if equal_names x.0 path then Some x.1 else at_path xs path
 
 -- these rows are what the others have below the path and at it, by paths from it
 pub record IsUnder {T : Type 0} (rows : List (List (List ℕ) × T)) (path : List (List ℕ))

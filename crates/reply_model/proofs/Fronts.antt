@@ -4,12 +4,12 @@ use Rattle.std.specs.Prelude.{nat_le}
 use Rattle.std.specs.List.{flat_map}
 use Rattle.std.proofs.lemmas.Bool.{leb-true, leb-false}
 use Rattle.reply_model.specs.Rows.{Row, fitting}
-use Rattle.reply_model.specs.Laws.{IsFront}
+use Rattle.reply_model.specs.Laws.{AreFirstThatFit}
 
 module _ (form : Row → List ℕ) where
   one_more : (room : ℕ) (r : Row) (rows : List Row) → length (form r) ≤ room
-      → IsFront form (room - length (form r)) rows (fitting form (room - length (form r)) rows)
-      → IsFront form room (r ∷ rows) (r ∷ fitting form (room - length (form r)) rows)
+      → AreFirstThatFit form (room - length (form r)) rows (fitting form (room - length (form r)) rows)
+      → AreFirstThatFit form room (r ∷ rows) (r ∷ fitting form (room - length (form r)) rows)
   one_more room r rows l f =
       let e = length-append (form r) (flat_map form (fitting form (room - length (form r)) rows)) in
       record {
@@ -19,7 +19,7 @@ module _ (form : Row → List ℕ) where
         full = λ next is. (let g = f.full next is in omega arith);
       }
 
-  none : (room : ℕ) (r : Row) (rows : List Row) → room < length (form r) → IsFront form room (r ∷ rows) []
+  none : (room : ℕ) (r : Row) (rows : List Row) → room < length (form r) → AreFirstThatFit form room (r ∷ rows) []
   none room r rows l = record {
     count = 0;
     is = refl;
@@ -28,12 +28,12 @@ module _ (form : Row → List ℕ) where
         (let e : r ≡ next = cc in let f = ap (λ v. length (form v)) e in omega arith);
   }
 
-  pub front : (room : ℕ) (rows : List Row) → IsFront form room rows (fitting form room rows)
+  pub front : (room : ℕ) (rows : List Row) → AreFirstThatFit form room rows (fitting form room rows)
   front room [] = record { count = 0; is = refl; fits = omega arith; full = λ next is. absurd (cc) }
   front room (r ∷ rows) = go (nat_le (length (form r)) room) refl (front (room - length (form r)) rows)
     where
       go : (b : Bool) → nat_le (length (form r)) room ≡ b
-          → IsFront form (room - length (form r)) rows (fitting form (room - length (form r)) rows)
-          → IsFront form room (r ∷ rows) (cond b (r ∷ fitting form (room - length (form r)) rows) [])
+          → AreFirstThatFit form (room - length (form r)) rows (fitting form (room - length (form r)) rows)
+          → AreFirstThatFit form room (r ∷ rows) (cond b (r ∷ fitting form (room - length (form r)) rows) [])
       go true e f = one_more room r rows (leb-true (length (form r)) room e) f
       go false e f = none room r rows (leb-false (length (form r)) room e)

@@ -31,7 +31,7 @@ use Rattle.stack_model.proofs.Numbering.{number_listed}
 use Rattle.reply_model.specs.declared.session.Session.{Session}
 use Rattle.reply_model.specs.Sessions.{is_exported}
 use Rattle.reply_model.specs.Lookups.{looked_up}
-use Rattle.reply_model.specs.Rows.{Row, attr_of, dirent_of, direntplus_of, fitting}
+use Rattle.reply_model.specs.Rows.{Row, reply_attr, dirent_of, direntplus_of, fitting}
 use Rattle.reply_model.specs.Refusals.{refused_by_session, refused_by_itself, asks_node, unless_link, refused_by_kind, is_too_large, refused_rows, refused_by_arguments, refused_at, refused_at_node, refusal}
 use Rattle.reply_model.specs.Replies.{is_silent, answer_at, answer, reply}
 use Rattle.fuse_wire.proofs.Sizes.{length-error_reply, length-reply_with, length-version, length-terms, length-entry_out, length-attr_out, length-open_out, length-statfs_out}
@@ -114,10 +114,10 @@ module _ (bs : List (List ℕ)) (entries : List Entry) (sound : All IsSound bs) 
       → length (answer_at layers entries x op p) ≤ 1048576
   short_at x node (lookup name) p e r = found (looked_up entries x p name)
     where
-      found : (o : Option Place) → length (option_map_or (λ c. entry_out (attr_of layers entries c)) o []) ≤ 1048576
+      found : (o : Option Place) → length (option_map_or (λ c. entry_out (reply_attr layers entries c)) o []) ≤ 1048576
       found None = lit≤ tt
-      found (Some c) = let l = length-entry_out (attr_of layers entries c) in omega arith
-  short_at x node getattr p e r = let l = length-attr_out (attr_of layers entries p) in omega arith
+      found (Some c) = let l = length-entry_out (reply_attr layers entries c) in omega arith
+  short_at x node getattr p e r = let l = length-attr_out (reply_attr layers entries p) in omega arith
   short_at x node readlink p e r = let l = short_link node p e (is_link _ (by_kind x readlink p r)) in omega arith
   short_at x node (open_file flags) p e r = let l = length-open_out 2 in omega arith
   short_at x node opendir p e r = let l = length-open_out 0 in omega arith

@@ -297,19 +297,19 @@ over_exported m = reply (sample_image ∷ []) sample_entries (Ready true) (asked
 abbrev pub itself : List ℕ
 itself = codes "." ++ zeros 1
 
-abbrev pub upper : List ℕ
-upper = codes ".." ++ zeros 1
+abbrev pub two_dots : List ℕ
+two_dots = codes ".." ++ zeros 1
 
 pub record ExportExamples : Type 0 where
   pub directory : over_exported (request 1 2 3 itself)
       ≡ over_sample (request 1 2 1 (codes "d" ++ zeros 1))
   pub file : over_exported (request 1 2 2 itself)
       ≡ over_sample (request 1 2 1 (codes "big" ++ zeros 1))
-  pub above : over_exported (request 1 2 3 upper) ≡ over_exported (request 1 2 1 itself)
-  pub above_root : over_exported (request 1 2 1 upper) ≡ over_exported (request 1 2 1 itself)
+  pub above : over_exported (request 1 2 3 two_dots) ≡ over_exported (request 1 2 1 itself)
+  pub above_root : over_exported (request 1 2 1 two_dots) ≡ over_exported (request 1 2 1 itself)
   pub root : take 48 (over_exported (request 1 2 1 itself))
       ≡ headed 2 144 ++ u64 1 ++ u64 0 ++ u64 3600 ++ u64 3600
-  pub above_file : over_exported (request 1 2 2 upper) ≡ refused 2 0xffffffec
+  pub above_file : over_exported (request 1 2 2 two_dots) ≡ refused 2 0xffffffec
   pub of_no_node : over_exported (request 1 2 7 itself) ≡ refused 2 0xffffff8c
   pub other_name : over_exported (request 1 10 3 (codes "x" ++ zeros 1)) ≡ x_entry_reply
   pub three_dots : over_exported (request 1 2 1 (codes "..." ++ zeros 1)) ≡ refused 2 0xfffffffe
@@ -424,9 +424,9 @@ looking_up =
     request 26 1 0 (init_in 7 31 131072 0x10)
     ∷ request 1 2 1 (codes "big" ++ zeros 1)
     ∷ request 1 3 3 itself
-    ∷ request 1 4 3 upper
+    ∷ request 1 4 3 two_dots
     ∷ request 1 5 2 itself
-    ∷ request 1 6 2 upper
+    ∷ request 1 6 2 two_dots
     ∷ request 44 7 1 (read_in 0 4096)
     ∷ request 42 8 0 (u32 3 ++ u32 0 ++ u64 2 ++ u64 2 ++ u64 9 ++ u64 1)
     ∷ request 2 9 6 (u64 5)
@@ -438,8 +438,8 @@ abbrev pub held : ℕ → ℤ
 held node = balance_after (sample_image ∷ []) sample_entries looking_up node
 
 -- what one request of a session gives and takes
-abbrev pub moved_by : Session → List ℕ → List Move
-moved_by s m = moves (sample_image ∷ []) sample_entries s (asked m)
+abbrev pub moved_over_sample : Session → List ℕ → List Move
+moved_over_sample s m = moves (sample_image ∷ []) sample_entries s (asked m)
 
 pub record BalanceExamples : Type 0 where
   pub replies_sized : length (replies (sample_image ∷ []) sample_entries Fresh looking_up) ≡ 1648
@@ -447,16 +447,16 @@ pub record BalanceExamples : Type 0 where
       map held (1 ∷ 2 ∷ 3 ∷ 4 ∷ 5 ∷ 6 ∷ 7 ∷ 9 ∷ [])
       ≡ pos 1 ∷ pos 1 ∷ pos 2 ∷ pos 0 ∷ pos 1 ∷ negsuc 3 ∷ pos 0 ∷ pos 0 ∷ []
   pub rows_in_order :
-      moved_by (Ready false) (request 44 7 1 (read_in 0 4096))
+      moved_over_sample (Ready false) (request 44 7 1 (read_in 0 4096))
       ≡ record { node = 2; amount = pos 1 } ∷ record { node = 3; amount = pos 1 }
       ∷ record { node = 5; amount = pos 1 } ∷ record { node = 6; amount = pos 1 } ∷ []
   pub later_rows :
-      moved_by (Ready false) (request 44 7 1 (read_in 2 320))
+      moved_over_sample (Ready false) (request 44 7 1 (read_in 2 320))
       ≡ record { node = 2; amount = pos 1 } ∷ record { node = 3; amount = pos 1 } ∷ []
-  pub listed : moved_by (Ready false) (request 28 7 1 (read_in 0 4096)) ≡ []
-  pub forgotten : moved_by (Ready false) (request 2 7 4 (u64 3))
+  pub listed : moved_over_sample (Ready false) (request 28 7 1 (read_in 0 4096)) ≡ []
+  pub forgotten : moved_over_sample (Ready false) (request 2 7 4 (u64 3))
       ≡ record { node = 4; amount = negsuc 2 } ∷ []
   pub counted_items :
-      moved_by (Ready false) (request 42 8 0 (u32 1 ++ u32 0 ++ u64 2 ++ u64 2 ++ u64 3 ++ u64 1))
+      moved_over_sample (Ready false) (request 42 8 0 (u32 1 ++ u32 0 ++ u64 2 ++ u64 2 ++ u64 3 ++ u64 1))
       ≡ record { node = 2; amount = negsuc 1 } ∷ []
-  pub fresh : moved_by Fresh (request 2 7 4 (u64 3)) ≡ []
+  pub fresh : moved_over_sample Fresh (request 2 7 4 (u64 3)) ≡ []

@@ -9,7 +9,7 @@ use Rattle.fuse_wire.specs.Replies.{reply_with, error_reply}
 use Rattle.stack_model.specs.Listing.{Entry}
 use Rattle.stack_model.specs.Numbers.{Place}
 use Rattle.reply_model.specs.declared.session.Session.{Session}
-use Rattle.reply_model.specs.Rows.{Row, is_child, attr_of, direntplus_of}
+use Rattle.reply_model.specs.Rows.{Row, is_child, reply_attr, direntplus_of}
 use Rattle.reply_model.specs.Replies.{reply}
 use Rattle.reply_model.specs.Moves.{give, moves}
 
@@ -20,7 +20,7 @@ pub record IsReplyTo (unique : ℕ) (bytes : List ℕ) : Type 0 where
   pub is : bytes ≡ u32 (length bytes) ++ u32 error ++ u64 unique ++ rest
 
 -- the rows are the first ones of all, they fit in the room, and with the next one they would not
-pub record IsFront (form : Row → List ℕ) (room : ℕ) (all rows : List Row) : Type 0 where
+pub record AreFirstThatFit (form : Row → List ℕ) (room : ℕ) (all rows : List Row) : Type 0 where
   pub count : ℕ
   pub is : rows ≡ take count all
   pub fits : length (flat_map form rows) ≤ room
@@ -39,7 +39,7 @@ module _ (layers : List (List ℕ)) (entries : List Entry) where
   GivesEntry s q =
       GivesNothing s q
       ⊎ ((p : Place)
-      × (reply layers entries s q ≡ reply_with q.unique (entry_out (attr_of layers entries p)))
+      × (reply layers entries s q ≡ reply_with q.unique (entry_out (reply_attr layers entries p)))
       × (moves layers entries s q ≡ give layers entries p ∷ []))
 
   -- a READDIRPLUS gives one lookup of the node of each row that it is answered but . and .., or nothing
@@ -61,7 +61,7 @@ is_moving (readdirplus offset size) = true
 is_moving _ = false
 
 -- each layer is a list of bytes
-pub record AreBytes (layers : List (List ℕ)) : Type 0 where
+pub record AreLayersOfBytes (layers : List (List ℕ)) : Type 0 where
   pub each : (i k : ℕ) → slice_index (slice_index_or layers i []) k < 256
 
 -- the attributes fit the fields of an attr, where the number does

@@ -14,7 +14,7 @@ use Rattle.stack_model.specs.Attributes.{blocks_all, data_of}
 use Rattle.reply_model.specs.declared.session.Session.{Session}
 use Rattle.reply_model.specs.Sessions.{is_exported}
 use Rattle.reply_model.specs.Lookups.{looked_up}
-use Rattle.reply_model.specs.Rows.{attr_of, rows_answered, dirent_of, direntplus_of}
+use Rattle.reply_model.specs.Rows.{reply_attr, rows_answered, dirent_of, direntplus_of}
 use Rattle.reply_model.specs.Refusals.{refusal}
 
 -- the requests that have no reply, whatever their body
@@ -29,8 +29,8 @@ module _ (layers : List (List ℕ)) (entries : List Entry) where
   -- what a request about a node is answered
   abbrev pub answer_at : Bool → Op → Place → List ℕ
   answer_at export (lookup name) p =
-      option_map_or (λ c. entry_out (attr_of layers entries c)) (looked_up entries export p name) []
-  answer_at export getattr p = attr_out (attr_of layers entries p)
+      option_map_or (λ c. entry_out (reply_attr layers entries c)) (looked_up entries export p name) []
+  answer_at export getattr p = attr_out (reply_attr layers entries p)
   answer_at export readlink p = data_of layers p
   answer_at export (open_file flags) p = open_out FOPEN_KEEP_CACHE
   answer_at export opendir p = open_out 0

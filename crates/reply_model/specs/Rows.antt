@@ -43,8 +43,8 @@ rows_answered entries form p offset size = fitting form size (rows_after entries
 
 module _ (layers : List (List ℕ)) (entries : List Entry) where
   -- the attributes of a node
-  abbrev pub attr_of : Place → Attr
-  attr_of p = record {
+  abbrev pub reply_attr : Place → Attr
+  reply_attr p = record {
     ino = number entries p;
     size = size_at layers p;
     blocks = blocks_of (size_at layers p);
@@ -60,5 +60,5 @@ module _ (layers : List (List ℕ)) (entries : List Entry) where
   -- the same as READDIRPLUS gives it, with the node's entry; . and .. have none
   unfoldable pub direntplus_of : Row → List ℕ
   direntplus_of r =
-      direntplus (if is_child r then Some (attr_of r.1.place) else None)
+      direntplus (if is_child r then Some (reply_attr r.1.place) else None)
       (number entries r.1.place) r.0 (mode layers r.1.place / 2 ^ 12) r.1.name

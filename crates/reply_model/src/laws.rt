@@ -12,9 +12,9 @@ ghost use Rattle.reply_model.specs.declared.session.Session.TheVariants.{Fresh};
 ghost use Rattle.reply_model.specs.declared.moves.Move.{Move};
 ghost use Rattle.reply_model.specs.Moves.{moves, balance};
 ghost use Rattle.reply_model.specs.Streams.{session_at, replies_by, moves_by};
-ghost use Rattle.reply_model.specs.Laws.{IsReplyTo, IsFront, GivesEntry, GivesRows, is_moving, AreBytes, FitsFields};
+ghost use Rattle.reply_model.specs.Laws.{IsReplyTo, AreFirstThatFit, GivesEntry, GivesRows, is_moving, AreLayersOfBytes, FitsFields};
 ghost use Rattle.stack_model.specs.Numbers.{Place, nodes, number};
-ghost use Rattle.reply_model.specs.Rows.{Row, fitting, attr_of};
+ghost use Rattle.reply_model.specs.Rows.{Row, fitting, reply_attr};
 
 /// A reply is empty, or it begins with its own length, as a word of 32 bits, and carries its request's unique.
 #[tactic(auto, using(crate::proofs::Headers::headed))]
@@ -41,7 +41,7 @@ pub fn replies_are_short()
 #[tactic(auto, using(crate::proofs::Fronts::front))]
 pub fn fitting_rows_are_the_first()
     ensures { (form : Row → List ℕ) (room : ℕ) (rows : List Row) →
-        IsFront form room rows (fitting form room rows) }
+        AreFirstThatFit form room rows (fitting form room rows) }
 {}
 
 /// A lookup is given exactly where an entry is answered: LOOKUP gives one of the node whose entry its reply holds, and
@@ -88,7 +88,7 @@ pub fn destroy_leaves_balances()
 #[tactic(auto, using(crate::proofs::Widths::attributes_fit, crate::proofs::Widths::numbers_fit))]
 pub fn attributes_fit_their_fields()
     ensures fields { (layers : List (List ℕ)) (entries : List Entry) (p : Place) →
-        AreBytes layers → FitsFields (attr_of layers entries p) }
+        AreLayersOfBytes layers → FitsFields (reply_attr layers entries p) }
     ensures numbers { (entries : List Entry) (p : Place) →
         number entries p ≤ length (nodes entries) }
 {}

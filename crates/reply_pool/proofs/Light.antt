@@ -19,7 +19,7 @@ use Rattle.reply_model.specs.declared.session.Session.{Session}
 use Rattle.reply_model.specs.Sessions.{is_exported}
 use Rattle.reply_model.specs.Lookups.{looked_up}
 use Rattle.reply_model.specs.Refusals.{refusal}
-use Rattle.reply_model.specs.Rows.{Row, is_child, attr_of, fitting, direntplus_of, rows_after}
+use Rattle.reply_model.specs.Rows.{Row, is_child, reply_attr, fitting, direntplus_of, rows_after}
 use Rattle.reply_model.specs.Moves.{give, take_back, gives_at, moved, moves}
 use Rattle.rounds.specs.Moves.{IsLight, weight}
 
@@ -189,7 +189,7 @@ module _ (layers : List (List ℕ)) (entries : List Entry) where
   row_some : (r : Row) → 1 ≤ length (direntplus_of layers entries r)
   unfolding direntplus_of
   row_some r =
-      let entry = if is_child r then Some (attr_of layers entries r.1.place) else None in
+      let entry = if is_child r then Some (reply_attr layers entries r.1.place) else None in
       let l = length-direntplus entry (number entries r.1.place) r.0 (mode layers r.1.place / 2 ^ 12) r.1.name in
       omega arith
 

@@ -5,13 +5,13 @@ use Rattle.romfs_format.specs.declared.rule.Rule.{Rule}
 use Rattle.romfs_format.specs.declared.rule.Rule.TheVariants.{Short, Magic, FullSize, Sum, VolumeName, NoRoot, Outside, NameOpen, NameBad, DataOutside, TargetLong, Twice, SameName, LinkLoop, LinkDirectory, MajorLarge, HeaderSum, Deep}
 use Rattle.romfs_format.specs.declared.rule.Profile.{Profile}
 use Rattle.romfs_format.specs.declared.rule.Profile.TheVariants.{Usual, Strict}
-use Rattle.romfs_format.specs.Rules.{number, stage, Breaks, BreaksAs, IsFaultAs, IsSoundAs}
+use Rattle.romfs_format.specs.Rules.{rule_number, stage, Breaks, BreaksAs, IsFaultAs, IsSoundAs}
 
 rules : List Rule
 rules = Short ∷ Magic ∷ FullSize ∷ Sum ∷ VolumeName ∷ NoRoot ∷ Outside ∷ NameOpen ∷ NameBad ∷ DataOutside
     ∷ TargetLong ∷ Twice ∷ SameName ∷ LinkLoop ∷ LinkDirectory ∷ MajorLarge ∷ HeaderSum ∷ Deep ∷ []
 
-numbered : (r : Rule) → get_or rules (number r) Short ≡ r
+numbered : (r : Rule) → get_or rules (rule_number r) Short ≡ r
 unfolding rules
 numbered Short = refl
 numbered Magic = refl
@@ -33,7 +33,7 @@ numbered HeaderSum = refl
 numbered Deep = refl
 
 -- rules with one number are one rule
-pub one_rule : (r s : Rule) → number r ≡ number s → r ≡ s
+pub one_rule : (r s : Rule) → rule_number r ≡ rule_number s → r ≡ s
 one_rule r s e = sym (numbered r) ∙ ap (λ n. get_or rules n Short) e ∙ numbered s
 
 pub one_fault : (profile : Profile) (b : List ℕ) (r s : Rule) (p q : ℕ) → IsFaultAs profile b r p → IsFaultAs profile b s q → (r ≡ s) × (p ≡ q)
@@ -44,7 +44,7 @@ one_fault profile b r s p q x y =
       | inl e ↦ elim (cases_order p q) [
         | inr (inl h) ↦ absurd (y.first r p x.broken (inr (e, inl h)))
         | inr (inr h) ↦ absurd (x.first s q y.broken (inr (sym e, inl h)))
-        | inl f ↦ elim (cases_order (number r) (number s)) [
+        | inl f ↦ elim (cases_order (rule_number r) (rule_number s)) [
           | inr (inl h) ↦ absurd (y.first r p x.broken (inr (e, inr (f, h))))
           | inr (inr h) ↦ absurd (x.first s q y.broken (inr (sym e, inr (sym f, h))))
           | inl g ↦ (one_rule r s g, f)

@@ -112,34 +112,34 @@ abbrev pub Breaks : List ℕ → Rule → ℕ → Type 0
 Breaks b r p = BreaksAs Usual b r p
 
 -- the rules in order
-abbrev pub number : Rule → ℕ
-number Short = 0
-number Magic = 1
-number FullSize = 2
-number Sum = 3
-number VolumeName = 4
-number NoRoot = 5
-number Outside = 6
-number NameOpen = 7
-number NameBad = 8
-number DataOutside = 9
-number TargetLong = 10
-number Twice = 11
-number SameName = 12
-number LinkLoop = 13
-number LinkDirectory = 14
-number MajorLarge = 15
-number HeaderSum = 16
-number Deep = 17
+abbrev pub rule_number : Rule → ℕ
+rule_number Short = 0
+rule_number Magic = 1
+rule_number FullSize = 2
+rule_number Sum = 3
+rule_number VolumeName = 4
+rule_number NoRoot = 5
+rule_number Outside = 6
+rule_number NameOpen = 7
+rule_number NameBad = 8
+rule_number DataOutside = 9
+rule_number TargetLong = 10
+rule_number Twice = 11
+rule_number SameName = 12
+rule_number LinkLoop = 13
+rule_number LinkDirectory = 14
+rule_number MajorLarge = 15
+rule_number HeaderSum = 16
+rule_number Deep = 17
 
 -- the rules of the volume header one by one, then all rules of file headers together, then the depth
 abbrev pub stage : Rule → ℕ
-stage r = if nat_lt (number r) 6 then number r else (if nat_lt (number r) 17 then 6 else 7)
+stage r = if nat_lt (rule_number r) 6 then rule_number r else (if nat_lt (rule_number r) 17 then 6 else 7)
 
 -- breaking r at p is named before breaking s at q: by stage, then by place, then by number
 abbrev pub IsNamedBefore : Rule → ℕ → Rule → ℕ → Type 0
 IsNamedBefore r p s q =
-    (stage r < stage s) ⊎ ((stage r ≡ stage s) × ((p < q) ⊎ ((p ≡ q) × (number r < number s))))
+    (stage r < stage s) ⊎ ((stage r ≡ stage s) × ((p < q) ⊎ ((p ≡ q) × (rule_number r < rule_number s))))
 
 -- the image breaks r at p, and nothing that is named before it, under the profile
 pub record IsFaultAs (profile : Profile) (b : List ℕ) (r : Rule) (p : ℕ) : Type 0 where
@@ -148,7 +148,7 @@ pub record IsFaultAs (profile : Profile) (b : List ℕ) (r : Rule) (p : ℕ) : T
 
 -- no rule of the volume header is broken: they are the first six, and of every profile
 pub record IsVolume (b : List ℕ) : Type 0 where
-  pub keeps : (r : Rule) (p : ℕ) → number r < 6 → ¬ Breaks b r p
+  pub keeps : (r : Rule) (p : ℕ) → rule_number r < 6 → ¬ Breaks b r p
 
 -- no rule of the profile is broken
 pub record IsSoundAs (profile : Profile) (b : List ℕ) : Type 0 where

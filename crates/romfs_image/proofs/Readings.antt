@@ -10,7 +10,7 @@ use Rattle.romfs_format.specs.Chains.{IsOpened}
 use Rattle.romfs_format.specs.Rules.{HasData}
 use Rattle.romfs_image.specs.Images.{IsImage}
 use Rattle.romfs_format.specs.Heads.{name_of, head_of, IsHeadIn}
-use Rattle.romfs_image.specs.Readers.{bytes_at, data_of, data_of_kind, IsPlace, IsGiven, AreMembers}
+use Rattle.romfs_image.specs.Readers.{bytes_at, data_of_header, data_of_kind, IsPlace, IsGiven, AreMembers}
 use Rattle.romfs_image.specs.Walks.{places, chain_from, members_from, IsWalk, EndsWithin}
 use Rattle.romfs_image.proofs.Keeps.{root_directory, not_data_outside, good}
 use Rattle.romfs_image.proofs.Given.{From, from_inside, from_named, from_aligned, from_opened, used}
@@ -92,14 +92,14 @@ has_data k (inr e) a h = rw e refl
 pub given_data : (a : List ℕ) (i : IsImage a) (head : Head) → IsGiven a head
     → (head.kind ≡ Regular) ⊎ (head.kind ≡ SymLink)
     → (head.name_at + padded (head.name_len + 1) + head.size ≤ length a)
-    × (bytes_at a (head.name_at + padded (head.name_len + 1)) head.size ≡ data_of a head.offset)
+    × (bytes_at a (head.name_at + padded (head.name_len + 1)) head.size ≡ data_of_header a head.offset)
 given_data a i head g k =
     let e : head_of a head.offset ≡ head = sym g.is in
     let d : HasData a head.offset = subst (λ x. (x.kind ≡ Regular) ⊎ (x.kind ≡ SymLink)) (sym e) k in
     let n = inside_data a i head.offset g.from d in
     let m = has_data (kind a head.offset) d a head.offset in (
       subst (λ x. x.name_at + padded (x.name_len + 1) + x.size ≤ length a) e n,
-      subst (λ x. bytes_at a (x.name_at + padded (x.name_len + 1)) x.size ≡ data_of a head.offset) e (sym m),
+      subst (λ x. bytes_at a (x.name_at + padded (x.name_len + 1)) x.size ≡ data_of_header a head.offset) e (sym m),
     )
 
 no_data_kind : (k : Kind) → k ≢ Regular → k ≢ SymLink → (a : List ℕ) (h : ℕ) → data_of_kind k a h ≡ []
@@ -112,7 +112,7 @@ no_data_kind Character p q a h = refl
 no_data_kind Socket p q a h = refl
 no_data_kind Fifo p q a h = refl
 
-pub no_data : (a : List ℕ) (head : Head) → IsGiven a head → head.kind ≢ Regular → head.kind ≢ SymLink → data_of a head.offset ≡ []
+pub no_data : (a : List ℕ) (head : Head) → IsGiven a head → head.kind ≢ Regular → head.kind ≢ SymLink → data_of_header a head.offset ≡ []
 no_data a head g p q = let e = ap (λ x. x.kind) g.is in no_data_kind (kind a head.offset) (λ r. p (e ∙ r)) (λ r. q (e ∙ r)) a head.offset
 
 zero_ends : (a : List ℕ) (n : ℕ) → EndsWithin a n 0

@@ -8,7 +8,7 @@ use Rattle.romfs_format.specs.Fields.{data_at, kind, size, padded}
 use Rattle.romfs_format.specs.Heads.{name_of}
 use Rattle.romfs_image.specs.Images.{IsImage}
 use Rattle.romfs_image.specs.declared.parts.Part.{Part}
-use Rattle.romfs_image.specs.Readers.{bytes_at, data_of, data_of_kind, data_size, IsGiven, IsPart, IsDataPart}
+use Rattle.romfs_image.specs.Readers.{bytes_at, data_of_header, data_of_kind, data_size, IsGiven, IsPart, IsDataPart}
 use Rattle.romfs_image.proofs.Readings.{given_data, no_data}
 
 part : (a : List ℕ) (at n : ℕ) → 16 ≤ at → length a < 2 ^ 32 → 16 + length (bytes_at a at n) < 2 ^ 32
@@ -18,7 +18,7 @@ part a at n behind small =
     let f = length-drop at a in
     omega arith
 
-pub short_data : (a : List ℕ) (h : ℕ) → IsImage a → 16 + length (data_of a h) < 2 ^ 32
+pub short_data : (a : List ℕ) (h : ℕ) → IsImage a → 16 + length (data_of_header a h) < 2 ^ 32
 short_data a h image = go (kind a h)
   where
     go : (k : Kind) → 16 + length (data_of_kind k a h) < 2 ^ 32

@@ -8,7 +8,7 @@ use Rattle.romfs_format.specs.declared.rule.Rule.TheVariants.{Short, Magic, Full
 use Rattle.std.specs.Prelude.{IsNone}
 use Rattle.romfs_format.specs.declared.head.Kind.TheVariants.{Directory}
 use Rattle.romfs_format.specs.Fields.{word, image, root, word_sum, summed, text_at, kind}
-use Rattle.romfs_format.specs.Rules.{BreaksHeader, Breaks, StartsWith, magic, number, IsVolume, IsSound}
+use Rattle.romfs_format.specs.Rules.{BreaksHeader, Breaks, StartsWith, magic, rule_number, IsVolume, IsSound}
 use Rattle.romfs_image.specs.Images.{IsImage}
 
 byte_front : (b : List ℕ) (n k : ℕ) → 8 + k < n → get_or (drop 8 (take n b)) k 0 ≡ get_or (drop 8 b) k 0
@@ -38,7 +38,7 @@ module _ (b : List ℕ) (v : IsVolume b) (long : 16 ≤ word b 8) (within : word
       let e : word b 8 ≡ 8 + (word b 8 - 8) = omega arith in
       (take (word b 8 - 8) s.0, ap (λ x. take x b) e ∙ ap (λ x. take (8 + (word b 8 - 8)) x) s.1 ∙ take-append-add magic s.0 (word b 8 - 8))
 
-  kept : (r : Rule) (p : ℕ) → number r < 6 → ¬ Breaks (image b) r p
+  kept : (r : Rule) (p : ℕ) → rule_number r < 6 → ¬ Breaks (image b) r p
   kept Short p l x = let s = size_is in let y = x.0 in omega arith
   kept Magic p l x = v.keeps Magic p l ((λ s. x.0 (cut s)), x.1)
   kept FullSize p l x = let s = size_is in let w = same_word in elim x.0 [ inl y ↦ omega arith | inr y ↦ omega arith ]

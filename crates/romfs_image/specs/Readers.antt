@@ -39,8 +39,8 @@ data_of_kind Regular a h = bytes_at a (data_at h (name_of a h)) (size a h)
 data_of_kind SymLink a h = bytes_at a (data_at h (name_of a h)) (size a h)
 data_of_kind _ a h = []
 
-abbrev pub data_of : List ℕ → ℕ → List ℕ
-data_of a h = data_of_kind (kind a h) a h
+abbrev pub data_of_header : List ℕ → ℕ → List ℕ
+data_of_header a h = data_of_kind (kind a h) a h
 
 -- how many data a header with this size has
 abbrev pub data_size : Kind → ℕ → ℕ
@@ -56,7 +56,7 @@ pub record IsPart (a : List ℕ) (part : Part) : Type 0 where
 -- the part is the data of the header h
 pub record IsDataPart (a : List ℕ) (h : ℕ) (part : Part) : Type 0 where
   pub lies : IsPart a part
-  pub bytes : bytes_at a part.start part.len ≡ data_of a h
+  pub bytes : bytes_at a part.start part.len ≡ data_of_header a h
   pub size_is : part.len ≡ data_size (kind a h) (size a h)
 
 -- hs are the headers of the chain of the directory d, position by position

@@ -7,7 +7,7 @@ ghost use Rattle.romfs_format.specs.Rules.{IsSound};
 ghost use Rattle.romfs_format.specs.declared.limits.TheConstants.{HEAD_SIZE};
 ghost use Rattle.romfs_image.specs.Images.{IsImage, IsChecked, IsCheckedAs};
 ghost use Rattle.romfs_format.specs.Heads.{name_of, head_of};
-ghost use Rattle.romfs_image.specs.Readers.{data_of, bytes_at, IsHeadAt, IsGiven, IsPart, IsDataPart, AreMembers};
+ghost use Rattle.romfs_image.specs.Readers.{data_of_header, bytes_at, IsHeadAt, IsGiven, IsPart, IsDataPart, AreMembers};
 ghost use Rattle.romfs_image.specs.Refusals.{IsRefusal, IsRefusalAs};
 
 use crate::ends::Ends;
@@ -183,7 +183,7 @@ impl<A: Allocator> Image<A> {
     #[tactic(auto, using(crate::proofs::Short::short_data))]
     pub fn body(&self, head: &Head) -> &[u8]
         requires { IsGiven self.now head.now }
-        ensures value { result.now ≡ data_of self.now head.now.offset }
+        ensures value { result.now ≡ data_of_header self.now head.now.offset }
         ensures short { 16 + length result.now < 2 ^ 32 }
     {
         data_in(&self.bytes, head)

@@ -5,7 +5,7 @@ ghost use Rattle.romfs_format.specs.Fields.{root as root_of, cleared};
 ghost use Rattle.romfs_format.specs.Links.{IsFinal};
 ghost use Rattle.romfs_image.specs.Images.{IsImage};
 ghost use Rattle.romfs_format.specs.Heads.{name_of, IsHeadIn};
-ghost use Rattle.romfs_image.specs.Readers.{data_of, IsHeadAt, IsGiven, IsPart, IsDataPart, AreMembers, bytes_at};
+ghost use Rattle.romfs_image.specs.Readers.{data_of_header, IsHeadAt, IsGiven, IsPart, IsDataPart, AreMembers, bytes_at};
 
 use crate::members::Members;
 use romfs_format::head::{Head, Kind};
@@ -129,7 +129,7 @@ pub(crate) fn bytes_in(image: &[u8], part: Part) -> &[u8]
 pub(crate) fn data_in<'a>(image: &'a [u8], head: &Head) -> &'a [u8]
     requires image { IsImage image.now }
     requires given { IsGiven image.now head.now }
-    ensures { result.now ≡ data_of image.now head.now.offset }
+    ensures { result.now ≡ data_of_header image.now head.now.offset }
 {
     bytes_in(image, data_part(image, head))
 }

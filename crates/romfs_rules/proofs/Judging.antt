@@ -12,7 +12,7 @@ use Rattle.romfs_rules.specs.declared.judge.TheConstants.{HEADER_RULES}
 use Rattle.romfs_format.specs.Fields.{root, IsInside, name}
 use Rattle.romfs_format.specs.Chains.{IsSomeMember}
 use Rattle.romfs_format.specs.Links.{IsHardLink, IsDirectory, IsFinal, stays, follows, EndsAs}
-use Rattle.romfs_format.specs.Rules.{IsRootElsewhere, IsUsed, HasData, IsBadName, EndsOutside, BreaksHeader, number}
+use Rattle.romfs_format.specs.Rules.{IsRootElsewhere, IsUsed, HasData, IsBadName, EndsOutside, BreaksHeader, rule_number}
 use Rattle.romfs_rules.specs.Marks.{AreMarks, IsListOf, IsElsewhere}
 use Rattle.romfs_rules.specs.Judge.{HasSlot, IsHeaderRule, KeepsBefore}
 use Rattle.romfs_rules.specs.SameNames.{HaveSameNames}
@@ -108,22 +108,22 @@ not_falling hs n i j d l k = elim (cases_order i j) [
 -- the rules are numbered one after the other from n on
 abbrev AreNumberedFrom : ℕ → List Rule → Type 0
 AreNumberedFrom n [] = Unit {0}
-AreNumberedFrom n (r ∷ rules) = (number r ≡ n) × AreNumberedFrom (suc n) rules
+AreNumberedFrom n (r ∷ rules) = (rule_number r ≡ n) × AreNumberedFrom (suc n) rules
 
-numbered_at : (rules : List Rule) (n i : ℕ) (d : Rule) → AreNumberedFrom n rules → i < length rules → number (get_or rules i d) ≡ n + i
+numbered_at : (rules : List Rule) (n i : ℕ) (d : Rule) → AreNumberedFrom n rules → i < length rules → rule_number (get_or rules i d) ≡ n + i
 numbered_at [] n i d x l = absurd (omega arith)
 numbered_at (r ∷ rules) n zero d x l = x.0 ∙ omega arith
 numbered_at (r ∷ rules) n (suc i) d x l = numbered_at rules (suc n) i d x.1 (omega arith) ∙ omega arith
 
 -- the rules that are tried have the numbers from 7 on
-pub tried_number : (i : ℕ) (d : Rule) → i < 10 → number (get_or HEADER_RULES i d) ≡ i + 7
+pub tried_number : (i : ℕ) (d : Rule) → i < 10 → rule_number (get_or HEADER_RULES i d) ≡ i + 7
 tried_number i d l = numbered_at HEADER_RULES 7 i d (refl, (refl, (refl, (refl, (refl, (refl, (refl, (refl, (refl, (refl, tt)))))))))) l ∙ omega arith
 
 pub header_tried : (i : ℕ) (d : Rule) → i < 10 → IsHeaderRule (get_or HEADER_RULES i d)
 header_tried i d l = let n = tried_number i d l in (omega arith, omega arith)
 
 -- equal names are tried only on headers that no two links name
-pub name_tried : (profile : Profile) (a : List ℕ) (h : ℕ) (r : Rule) (n : ℕ) → number r ≡ n
+pub name_tried : (profile : Profile) (a : List ℕ) (h : ℕ) (r : Rule) (n : ℕ) → rule_number r ≡ n
     → (IsElsewhere a (root a) → h ≡ root a) → KeepsBefore profile a h n → r ≡ SameName
     → ¬ IsElsewhere a (root a)
-name_tried profile a h r n e only k s = alone a h only (k.keeps Twice (lit≤ tt, lit< tt) (let f : number r ≡ 12 = ap number s in omega arith))
+name_tried profile a h r n e only k s = alone a h only (k.keeps Twice (lit≤ tt, lit< tt) (let f : rule_number r ≡ 12 = ap rule_number s in omega arith))

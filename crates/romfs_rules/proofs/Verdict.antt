@@ -9,7 +9,7 @@ use Rattle.romfs_format.specs.Chains.{IsSomeMember}
 use Rattle.romfs_format.specs.Links.{IsTarget, IsReached}
 use Rattle.romfs_format.specs.declared.rule.Profile.{Profile}
 use Rattle.romfs_format.specs.declared.rule.Profile.TheVariants.{Usual, Strict}
-use Rattle.romfs_format.specs.Rules.{IsVolume, BreaksHeader, BreaksHeaderAs, BreaksAs, IsUsed, number, stage, IsNamedBefore, IsFaultAs, IsSoundAs}
+use Rattle.romfs_format.specs.Rules.{IsVolume, BreaksHeader, BreaksHeaderAs, BreaksAs, IsUsed, rule_number, stage, IsNamedBefore, IsFaultAs, IsSoundAs}
 use Rattle.romfs_format.proofs.Faults.{one_rule}
 use Rattle.romfs_rules.specs.Marks.{IsVolumeImage, AreMarks, IsElsewhere}
 use Rattle.romfs_rules.specs.Leads.{IsInSomeChain}
@@ -23,7 +23,7 @@ use Rattle.romfs_rules.proofs.Standing.{reached, member_in_chain}
 use Rattle.romfs_rules.proofs.Judging.{root_elsewhere}
 
 -- a fact of every rule, by its part in the order
-by_part : (Q : Rule → Type 0) → ((r : Rule) → number r < 6 → Q r) → ((r : Rule) → IsHeaderRule r → Q r) → Q Deep → (r : Rule) → Q r
+by_part : (Q : Rule → Type 0) → ((r : Rule) → rule_number r < 6 → Q r) → ((r : Rule) → IsHeaderRule r → Q r) → Q Deep → (r : Rule) → Q r
 by_part Q v h d Short = v Short (lit< tt)
 by_part Q v h d Magic = v Magic (lit< tt)
 by_part Q v h d FullSize = v FullSize (lit< tt)
@@ -76,7 +76,7 @@ to_breaks : (profile : Profile) (b : List ℕ) (p : ℕ) (r : Rule) → IsHeader
 to_breaks profile b p = by_rule (λ r. BreaksHeaderAs profile (image b) r p ↔ BreaksAs profile b r p) same same same same same same same same same same same
 
 -- the rules of the volume header and the depth are the same in every profile
-volume_kept : (profile : Profile) (b : List ℕ) → IsVolume b → (r : Rule) → number r < 6 → (q : ℕ) → ¬ BreaksAs profile b r q
+volume_kept : (profile : Profile) (b : List ℕ) → IsVolume b → (r : Rule) → rule_number r < 6 → (q : ℕ) → ¬ BreaksAs profile b r q
 volume_kept profile b v Short l q x = v.keeps Short q l x
 volume_kept profile b v Magic l q x = v.keeps Magic q l x
 volume_kept profile b v FullSize l q x = v.keeps FullSize q l x
@@ -97,7 +97,7 @@ volume_kept profile b v HeaderSum l q x = absurd (omega arith)
 volume_kept profile b v Deep l q x = absurd (omega arith)
 
 -- of two breaches of these rules the one at the lower place is named, or by the lower number
-before : (s r : Rule) (q p : ℕ) → IsHeaderRule s → IsHeaderRule r → IsNamedBefore s q r p → (q < p) ⊎ ((q ≡ p) × (number s < number r))
+before : (s r : Rule) (q p : ℕ) → IsHeaderRule s → IsHeaderRule r → IsNamedBefore s q r p → (q < p) ⊎ ((q ≡ p) × (rule_number s < rule_number r))
 before s r q p hs hr (inl l) = let e = header_stage s hs in let f = header_stage r hr in absurd (omega arith)
 before s r q p hs hr (inr x) = x.1
 
@@ -147,21 +147,22 @@ module _ (profile : Profile) (a : List ℕ) (h : ℕ) where
   -- a header inside the image keeps the first
   pub none_tried : IsInside a h → KeepsBefore profile a h 7
   none_tried i = record {
-    keeps = λ s x l b. let e : number s ≡ number
+    keeps = λ s x l b. let e : rule_number s ≡ rule_number
         Outside = (let m = x.0 in omega arith) in (subst (λ r. BreaksHeaderAs profile a r h)
         (one_rule s Outside e) b).1 i;
   }
 
-  pub one_tried : (r : Rule) (n : ℕ) → number r ≡ n → KeepsBefore profile a h n → ¬ BreaksHeaderAs profile a r h → KeepsBefore profile a h (n + 1)
+  pub one_tried : (r : Rule) (n : ℕ) → rule_number r ≡ n → KeepsBefore profile a h n → ¬ BreaksHeaderAs profile a r h → KeepsBefore profile a h (n + 1)
   one_tried r n e k m = record {
-    keeps = λ s x l b. elim (cases_order (number s) n) [
+    keeps = λ s x l b. elim (cases_order (rule_number s) n) [
       | inl f ↦ m (subst (λ t. BreaksHeaderAs profile a t h) (one_rule s r (f ∙ sym e)) b)
       | inr (inl o) ↦ k.keeps s x o b
       | inr (inr o) ↦ absurd (omega arith)
     ];
   }
 
-  pub first_broken : (r : Rule) (n : ℕ) → number r ≡ n → IsHeaderRule r → KeepsBefore profile a h n → BreaksHeaderAs profile a r h → IsFirstRule profile a h r
+  pub first_broken : (r : Rule) (n : ℕ) → rule_number r ≡ n → IsHeaderRule r → KeepsBefore profile a h n
+      → BreaksHeaderAs profile a r h → IsFirstRule profile a h r
   first_broken r n e x k b = record { rule = x; broken = b; before = subst (λ m. KeepsBefore profile a h m) (sym e) k }
 
   pub all_tried : KeepsBefore profile a h 17 → KeepsHeaderRules profile a h

@@ -7,7 +7,7 @@ use Rattle.romfs_format.specs.declared.rule.Profile.{Profile}
 use Rattle.romfs_format.specs.declared.rule.ImageFault.{ImageFault}
 use Rattle.romfs_format.specs.Fields.{IsInside, cleared}
 use Rattle.romfs_format.specs.Links.{IsTarget}
-use Rattle.romfs_format.specs.Rules.{BreaksHeader, BreaksHeaderAs, number, IsNamedBefore, IsLinkedTwice}
+use Rattle.romfs_format.specs.Rules.{BreaksHeader, BreaksHeaderAs, rule_number, IsNamedBefore, IsLinkedTwice}
 use Rattle.romfs_rules.specs.Marks.{AreMarks, IsListOf}
 use Rattle.romfs_rules.specs.InChains.{AreChains}
 use Rattle.romfs_rules.specs.Ends.{AreEnds}
@@ -29,11 +29,11 @@ pub record HasSlot (a : List ℕ) (h : ℕ) : Type 0 where
 
 -- the rules of file headers, of which the least place is named
 abbrev pub IsHeaderRule : Rule → Type 0
-IsHeaderRule r = (6 ≤ number r) × (number r < 17)
+IsHeaderRule r = (6 ≤ rule_number r) × (rule_number r < 17)
 
 -- h breaks none of them that has a number below n
 pub record KeepsBefore (profile : Profile) (a : List ℕ) (h n : ℕ) : Type 0 where
-  pub keeps : (s : Rule) → IsHeaderRule s → number s < n → ¬ BreaksHeaderAs profile a s h
+  pub keeps : (s : Rule) → IsHeaderRule s → rule_number s < n → ¬ BreaksHeaderAs profile a s h
 
 -- h breaks none of them
 pub record KeepsHeaderRules (profile : Profile) (a : List ℕ) (h : ℕ) : Type 0 where
@@ -43,7 +43,7 @@ pub record KeepsHeaderRules (profile : Profile) (a : List ℕ) (h : ℕ) : Type 
 pub record IsFirstRule (profile : Profile) (a : List ℕ) (h : ℕ) (r : Rule) : Type 0 where
   pub rule : IsHeaderRule r
   pub broken : BreaksHeaderAs profile a r h
-  pub before : KeepsBefore profile a h (number r)
+  pub before : KeepsBefore profile a h (rule_number r)
 
 -- no header below this place, inside the image, breaks any of them
 pub record KeepsBelow (profile : Profile) (a : List ℕ) (place : ℕ) : Type 0 where

@@ -15,7 +15,7 @@ use Rattle.rounds.proofs.Sums.{within_moved, within_less}
 use Rattle.rounds.proofs.Walking.{replies_append, joined_append, both, none_answered, answered_on, first_within}
 use Rattle.serve_core.specs.declared.stop.Stop.{Stop}
 use Rattle.serve_core.specs.declared.stop.Stop.TheVariants.{Write, Memory}
-use Rattle.serve_core.specs.Steps.{View, IsSmall, Goes, sink_failures, Halts}
+use Rattle.serve_core.specs.Steps.{ServingState, IsSmall, Goes, sink_failures, Halts}
 
 no_messages : (ms : List (List ℕ)) → length ms ≡ 0 → ms ≡ []
 no_messages [] e = refl
@@ -67,10 +67,10 @@ from_memory (Ok x) Q i q = absurd i
 from_memory (Err stop) Q i q = subst Q (sym i) q
 
 module _ (by : Answering) where
-  pub goes_nowhere : (v : View) → Goes by v v [] []
+  pub goes_nowhere : (v : ServingState) → Goes by v v [] []
   goes_nowhere v = record { taken = refl; each = tt; answered = none_answered by v.session v.balances; place = omega arith; count = omega arith; written = omega arith }
 
-  pub goes_further : (a b c : View) (ms ns : List (List ℕ)) (put more : List ℕ) → Goes by a b ms put → Goes by b c ns more → Goes by a c (ms ++ ns) (put ++ more)
+  pub goes_further : (a b c : ServingState) (ms ns : List (List ℕ)) (put more : List ℕ) → Goes by a b ms put → Goes by b c ns more → Goes by a c (ms ++ ns) (put ++ more)
   goes_further a b c ms ns put more g h =
       let j = ap length (joined_append ms ns) ∙ length-append (joined ms) (joined ns) in
       record {
@@ -87,7 +87,7 @@ module _ (by : Answering) where
       }
 
   -- a round that answered some messages
-  pub goes_round : (from : View) (round : Round) (put rest : List ℕ) (new : List ℤ) (at messages written : ℕ) →
+  pub goes_round : (from : ServingState) (round : Round) (put rest : List ℕ) (new : List ℤ) (at messages written : ℕ) →
       (r : IsRound by from.session from.rest round put (record { old = from.balances; new = new })) →
       rest ≡ drop round.used from.rest → at ≡ from.at + round.used → messages ≡ from.messages + round.messages → written ≡ from.written + length put →
       Goes by from (record { rest = rest; session = round.session; at = at; messages = messages; written = written; balances = new }) r.messages put
@@ -101,7 +101,7 @@ module _ (by : Answering) where
   }
 
   -- a round in which no message was whole
-  module _ (from : View) (round : Round) (put : List ℕ) (new : List ℤ) (r : IsRound by from.session from.rest round put (record { old = from.balances; new = new })) (z : round.messages ≡ 0) where
+  module _ (from : ServingState) (round : Round) (put : List ℕ) (new : List ℤ) (r : IsRound by from.session from.rest round put (record { old = from.balances; new = new })) (z : round.messages ≡ 0) where
     none : r.messages ≡ []
     none = no_messages r.messages (sym r.count ∙ z)
 
@@ -123,12 +123,12 @@ module _ (by : Answering) where
       | inr t ↦ (let u : round.used ≡ 0 = r.first.size ∙ ap (λ ms. length (joined ms)) none in subst (λ n. IsRest (drop n from.rest)) u t)
     ]
 
-  few : (from to : View) (ms : List (List ℕ)) (put : List ℕ) → Goes by from to ms put → length put < 2 ^ 64 → length put ≤ 2 ^ 64 * length (joined ms)
+  few : (from to : ServingState) (ms : List (List ℕ)) (put : List ℕ) → Goes by from to ms put → length put < 2 ^ 64 → length put ≤ 2 ^ 64 * length (joined ms)
   few from to [] put g l = let e = ap length g.answered.told in omega arith
   few from to (m ∷ ms) put g l = let k = g.each.0.good.0 in let j = length-append m (joined ms) in omega arith
 
   -- the counts stay small
-  pub small_on : (nodes : ℕ) (from to : View) (ms : List (List ℕ)) (put : List ℕ) → IsSmall nodes from → Goes by from to ms put → length put < 2 ^ 64 → IsSmall nodes to
+  pub small_on : (nodes : ℕ) (from to : ServingState) (ms : List (List ℕ)) (put : List ℕ) → IsSmall nodes from → Goes by from to ms put → length put < 2 ^ 64 → IsSmall nodes to
   small_on nodes from to ms put s g l =
       let p = g.place in let c = g.count in let b = g.written in
       record {
@@ -142,11 +142,11 @@ module _ (by : Answering) where
       }
 
   -- some messages take some bytes
-  pub shorter : (from to : View) (ms : List (List ℕ)) (put : List ℕ) → Goes by from to ms put → 0 < length ms → length to.rest < length from.rest
+  pub shorter : (from to : ServingState) (ms : List (List ℕ)) (put : List ℕ) → Goes by from to ms put → 0 < length ms → length to.rest < length from.rest
   shorter from to ms put g h = let j = joined_long ms g.each in let t = ap length g.taken ∙ length-append (joined ms) to.rest in omega arith
 
   -- memory was refused before any byte was put
-  pub halts_now : (v : View) (p : Pushes) → Halts by v p p Memory [] [] v.rest
+  pub halts_now : (v : ServingState) (p : Pushes) → Halts by v p p Memory [] [] v.rest
   halts_now v p = record {
     halt = tt;
     taken = refl;
@@ -157,7 +157,7 @@ module _ (by : Answering) where
   }
 
   -- the sink failed in a round
-  pub halts_late : (from : View) (round : Round) (all put rest : List ℕ) (new : List ℤ) (p q : Pushes) →
+  pub halts_late : (from : ServingState) (round : Round) (all put rest : List ℕ) (new : List ℤ) (p q : Pushes) →
       (r : IsRound by from.session from.rest round all (record { old = from.balances; new = new })) → all ≡ put ++ rest → q.failures ≡ p.failures + 1 → q.unflushed ≤ p.unflushed + length put →
       Halts by from p q Write r.messages put (drop round.used from.rest)
   halts_late from round all put rest new p q r e f l = record {
@@ -170,7 +170,7 @@ module _ (by : Answering) where
   }
 
   -- it goes on for a while, and then stops
-  pub halts_further : (a b : View) (p q r : Pushes) (stop : Stop) (ms ns : List (List ℕ)) (put more rest : List ℕ) →
+  pub halts_further : (a b : ServingState) (p q r : Pushes) (stop : Stop) (ms ns : List (List ℕ)) (put more rest : List ℕ) →
       Goes by a b ms put → HasFlushed put p q → Halts by b q r stop ns more rest → Halts by a p r stop (ms ++ ns) (put ++ more) rest
   halts_further a b p q r stop ms ns put more rest g h k = record {
     halt = k.halt;

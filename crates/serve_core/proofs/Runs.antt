@@ -17,28 +17,28 @@ use Rattle.rounds.proofs.Walking.{replies_append, joined_append, both}
 use Rattle.serve_core.specs.declared.stop.Stop.{Stop}
 use Rattle.serve_core.specs.declared.stop.Stop.TheVariants.{Layer, Layers, BadLength, CutOff, Read, Write, Turns, Memory}
 use Rattle.serve_core.specs.declared.done.Done.{Done}
-use Rattle.serve_core.specs.Serving.{Trace, all_but, last_size, before, flushed, replies_to, moves_of, IsAllTold, AreBalances, IsStopped, ends_met, read_failures, write_failures, IsCounted, IsPrompt, IsRun}
-use Rattle.serve_core.specs.Steps.{View, IsSmall, Goes, Halts, sink_failures}
+use Rattle.serve_core.specs.Serving.{Trace, all_but, last_size, before, flushed_bytes, replies_to, moves_of, IsAllTold, AreBalances, IsStopped, ends_met, read_failures, write_failures, IsCounted, IsPrompt, IsRun}
+use Rattle.serve_core.specs.Steps.{ServingState, IsSmall, Goes, Halts, sink_failures}
 use Rattle.serve_core.proofs.Rounding.{goes_further, goes_nowhere, not_late}
 use Rattle.serve_core.proofs.Traces.{start, untouched, pulled_on, pushed_on, IsLow, IsRunning, IsFed, some_counted, end_counted, failure_counted, take_none, take_whole, all_but_last, flushed_late, flushed_more, all_begun, no_bytes, unfinished, zero_more, from_nothing}
 
 module _ (by : Answering) (nodes : ℕ) where
-  replies_of : (t : Trace) (v : View) (ms : List (List ℕ)) → Goes by (start nodes t.got) v ms t.put → t.put ≡ replies_to by ms
+  replies_of : (t : Trace) (v : ServingState) (ms : List (List ℕ)) → Goes by (start nodes t.got) v ms t.put → t.put ≡ replies_to by ms
   replies_of t v ms g = g.answered.told
 
-  all_told : (t : Trace) (v : View) (ms : List (List ℕ)) → Goes by (start nodes t.got) v ms t.put → flushed t ≡ t.put → IsAllTold by t ms
+  all_told : (t : Trace) (v : ServingState) (ms : List (List ℕ)) → Goes by (start nodes t.got) v ms t.put → flushed_bytes t ≡ t.put → IsAllTold by t ms
   all_told t v ms g f = record { put = g.answered.told; flushed_all = f }
 
-  split_of : (t : Trace) (v : View) (ms : List (List ℕ)) → Goes by (start nodes t.got) v ms t.put → IsRest v.rest → IsSplit t.got ms v.rest
+  split_of : (t : Trace) (v : ServingState) (ms : List (List ℕ)) → Goes by (start nodes t.got) v ms t.put → IsRest v.rest → IsSplit t.got ms v.rest
   split_of t v ms g r = record { whole = g.taken; each = g.each; tail = r }
 
   prompt_first : (p : Pulls) (q : Pushes) → IsPrompt by (untouched p q)
   prompt_first p q = record { messages = []; rest = []; split = record { whole = take_none _ [] refl; each = tt; tail = inl (inl refl) }; good = inl refl; told = record { more = all_but q.unflushed []; is = refl } }
 
-  pub runs_first : (p : Pulls) (q : Pushes) (v : View) → v ≡ start nodes [] → IsRunning by nodes 0 (untouched p q) v []
+  pub runs_first : (p : Pulls) (q : Pushes) (v : ServingState) → v ≡ start nodes [] → IsRunning by nodes 0 (untouched p q) v []
   runs_first p q v e = record {
-    goes = subst (λ (w : View). Goes by (start nodes []) w [] []) (sym e) (goes_nowhere by (start nodes []));
-    good = subst (λ (w : View). IsOpen w.rest) (sym e) (inl refl);
+    goes = subst (λ (w : ServingState). Goes by (start nodes []) w [] []) (sym e) (goes_nowhere by (start nodes []));
+    good = subst (λ (w : ServingState). IsOpen w.rest) (sym e) (inl refl);
     size = omega arith;
     flushed_all = take_none _ [] refl;
     prompt = prompt_first p q;
@@ -72,7 +72,7 @@ module _ (by : Answering) (nodes : ℕ) where
   pub no_memory : {A : Type 0} (turns : ℕ) (p : Pulls) (q : Pushes) → IsRun {A = A} by nodes turns (untouched p q) (Err Memory)
   no_memory turns p q = stops_first turns p q Memory tt refl refl refl
 
-  module _ (turn : ℕ) (t : Trace) (v : View) (ms : List (List ℕ)) (r : IsRunning by nodes turn t v ms) where
+  module _ (turn : ℕ) (t : Trace) (v : ServingState) (ms : List (List ℕ)) (r : IsRunning by nodes turn t v ms) where
     -- where it stops between two turns
     pub stops_between : {A : Type 0} (turns : ℕ) (stop : Stop) → turn ≤ turns → IsStopped by turns t ms v.rest stop → ends_met {A = A} (Err stop) ≡ 0 → read_failures {A = A} (Err stop) ≡ 0 → write_failures {A = A} (Err stop) ≡ 0 → IsRun {A = A} by nodes turns t (Err stop)
     stops_between turns stop h s e f w = record {
@@ -215,18 +215,18 @@ module _ (by : Answering) (nodes : ℕ) where
           write = r.write;
         }
 
-  module _ (turn : ℕ) (t : Trace) (v : View) (ms : List (List ℕ)) (f : IsFed by nodes turn t v ms) where
+  module _ (turn : ℕ) (t : Trace) (v : ServingState) (ms : List (List ℕ)) (f : IsFed by nodes turn t v ms) where
     prompt_late : (new : Pushes) (more : List ℕ) → new.unflushed ≤ t.sink.unflushed + length more → IsPrompt by (pushed_on t new more)
     prompt_late new more l =
         let b = flushed_late t.put more t.sink.unflushed new.unflushed f.flushed_all l in
         record { messages = ms; rest = f.earlier; split = f.split; good = f.good; told = record { more = b.more; is = b.is ∙ ap (λ x. x ++ b.more) f.goes.answered.told } }
 
     -- all that is whole is answered
-    module _ (w : View) (ns : List (List ℕ)) (new : Pushes) (more : List ℕ) (g : Goes by v w ns more) (p : HasFlushed more t.sink new) where
+    module _ (w : ServingState) (ns : List (List ℕ)) (new : Pushes) (more : List ℕ) (g : Goes by v w ns more) (p : HasFlushed more t.sink new) where
       on : Goes by (start nodes t.got) w (ms ++ ns) (t.put ++ more)
       on = goes_further by (start nodes t.got) v w ms ns t.put more f.goes g
 
-      all_flushed : flushed (pushed_on t new more) ≡ t.put ++ more
+      all_flushed : flushed_bytes (pushed_on t new more) ≡ t.put ++ more
       all_flushed = flushed_more t.sink new t.put more f.flushed_all p
 
       pub went_round : IsOpen w.rest → IsRunning by nodes (turn + 1) (pushed_on t new more) w (ms ++ ns)
@@ -312,7 +312,7 @@ module _ (by : Answering) (nodes : ℕ) where
       ends_halt turns (Layers count) h lt = absurd h.halt
 
 -- the counts stay small as bytes come
-pub small_fed : (by : Answering) (nodes turn : ℕ) (t : Trace) (v : View) (rest : List ℕ) (ms : List (List ℕ)) → IsFed by nodes turn t (record v { rest = rest }) ms → IsSmall nodes v → turn < 2 ^ 40 → IsSmall nodes (record v { rest = rest })
+pub small_fed : (by : Answering) (nodes turn : ℕ) (t : Trace) (v : ServingState) (rest : List ℕ) (ms : List (List ℕ)) → IsFed by nodes turn t (record v { rest = rest }) ms → IsSmall nodes v → turn < 2 ^ 40 → IsSmall nodes (record v { rest = rest })
 small_fed by nodes turn t v rest ms f s h = record {
   place = (let l = ap length f.goes.taken ∙ length-append (joined ms) rest in let p = f.goes.place in let z = f.size in omega arith);
   count = s.count;

@@ -14,8 +14,8 @@ use Rattle.devices.specs.Pushing.{HasFlushed}
 use Rattle.rounds.specs.Moves.{balance_at, IsMoved}
 use Rattle.reply_model.specs.declared.moves.Move.{Move}
 use Rattle.rounds.specs.Rounds.{Answering}
-use Rattle.serve_core.specs.Serving.{Trace, all_but, before, flushed, Begins, AreBalances, IsPrompt}
-use Rattle.serve_core.specs.Steps.{View, IsSmall, Goes}
+use Rattle.serve_core.specs.Serving.{Trace, all_but, before, flushed_bytes, Begins, AreBalances, IsPrompt}
+use Rattle.serve_core.specs.Steps.{ServingState, IsSmall, Goes}
 
 begins_take : (xs ys : List ℕ) (n : ℕ) → length xs ≤ n → Begins xs (take n (xs ++ ys))
 begins_take [] ys n h = record { more = take n ys; is = refl }
@@ -64,7 +64,7 @@ pub zero_more : (n : ℕ) → n ≡ n + 0
 zero_more n = omega arith
 
 -- the beginning of a stream to so many nodes
-abbrev pub start : ℕ → List ℕ → View
+abbrev pub start : ℕ → List ℕ → ServingState
 start nodes got = record { rest = got; session = Fresh; at = 0; messages = 0; written = 0; balances = replicate nodes (pos 0) }
 
 abbrev pub untouched : Pulls → Pushes → Trace
@@ -99,11 +99,11 @@ pub record IsLow (t : Trace) : Type 0 where
   pub failures : t.source_before.failures < 2 ^ 63
 
 -- before a turn: all that is whole was answered, and what is left is good
-pub record IsRunning (by : Answering) (nodes turn : ℕ) (t : Trace) (v : View) (ms : List (List ℕ)) : Type 0 where
+pub record IsRunning (by : Answering) (nodes turn : ℕ) (t : Trace) (v : ServingState) (ms : List (List ℕ)) : Type 0 where
   pub goes : Goes by (start nodes t.got) v ms t.put
   pub good : IsOpen v.rest
   pub size : length t.got ≤ 65536 * turn
-  pub flushed_all : flushed t ≡ t.put
+  pub flushed_all : flushed_bytes t ≡ t.put
   pub prompt : IsPrompt by t
   pub pulls : t.source.pulls ≡ t.source_before.pulls + turn
   pub ends : t.source.ends ≡ t.source_before.ends
@@ -111,10 +111,10 @@ pub record IsRunning (by : Answering) (nodes turn : ℕ) (t : Trace) (v : View) 
   pub write : t.sink.failures ≡ t.sink_before.failures
 
 -- after a pull that gave bytes
-pub record IsFed (by : Answering) (nodes turn : ℕ) (t : Trace) (v : View) (ms : List (List ℕ)) : Type 0 where
+pub record IsFed (by : Answering) (nodes turn : ℕ) (t : Trace) (v : ServingState) (ms : List (List ℕ)) : Type 0 where
   pub goes : Goes by (start nodes t.got) v ms t.put
   pub size : length t.got ≤ 65536 * (turn + 1)
-  pub flushed_all : flushed t ≡ t.put
+  pub flushed_all : flushed_bytes t ≡ t.put
   pub earlier : List ℕ
   pub split : IsSplit (before t) ms earlier
   pub good : IsOpen earlier

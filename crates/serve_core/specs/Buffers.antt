@@ -14,7 +14,7 @@ abbrev pub held_in : {A : Type 0} → Buffer A → List ℕ
 held_in b = part b.bytes.items b.start b.end
 
 -- its start and end lie in its bytes
-pub record IsInRange {A : Type 0} (b : Buffer A) : Type 0 where
+pub record IsWithinBytes {A : Type 0} (b : Buffer A) : Type 0 where
   pub ordered : b.start ≤ b.end
   pub within : b.end ≤ length b.bytes.items
 

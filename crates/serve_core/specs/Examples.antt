@@ -3,8 +3,8 @@ use Rattle.std.specs.Prelude.{◌≡◌, ℕ, List, [], ◌∷◌, Ok, Err}
 use Rattle.devices.specs.declared.failed.Failed.{Failed}
 use Rattle.devices.specs.declared.counts.Pulls.{Pulls}
 use Rattle.devices.specs.declared.counts.Pushes.{Pushes}
-use Rattle.devices.specs.Counting.{no_pulls, no_pushes, pulled, pushed, flushed as flush}
-use Rattle.serve_core.specs.Serving.{Trace, trace, before, flushed}
+use Rattle.devices.specs.Counting.{no_pulls, no_pushes, pulled, pushed, flushed}
+use Rattle.serve_core.specs.Serving.{Trace, trace, before, flushed_bytes}
 
 -- five bytes were got and three put, by a source and a sink with these counts
 abbrev pub some_trace : Pulls → Pushes → Trace
@@ -19,8 +19,8 @@ pub record PullExamples : Type 0 where
 
 -- what was pushed since the last flush that succeeded is left out
 pub record PushExamples : Type 0 where
-  pub no_flush : flushed (some_trace no_pulls (pushed no_pushes 3 (Ok 3))) ≡ []
-  pub two_pushes : flushed (some_trace no_pulls (pushed (pushed no_pushes 3 (Ok 2)) 1 (Ok 1))) ≡ []
-  pub failed_flush : (e : Failed) → flushed (some_trace no_pulls (flush (pushed no_pushes 3 (Ok 3)) (Err e))) ≡ []
-  pub one_more : flushed (some_trace no_pulls (pushed (flush (pushed no_pushes 2 (Ok 2)) (Ok tt)) 1 (Ok 1))) ≡ 7 ∷ 8 ∷ []
-  pub all : flushed (some_trace no_pulls (flush (pushed (pushed no_pushes 3 (Ok 2)) 1 (Ok 1)) (Ok tt))) ≡ 7 ∷ 8 ∷ 9 ∷ []
+  pub no_flush : flushed_bytes (some_trace no_pulls (pushed no_pushes 3 (Ok 3))) ≡ []
+  pub two_pushes : flushed_bytes (some_trace no_pulls (pushed (pushed no_pushes 3 (Ok 2)) 1 (Ok 1))) ≡ []
+  pub failed_flush : (e : Failed) → flushed_bytes (some_trace no_pulls (flushed (pushed no_pushes 3 (Ok 3)) (Err e))) ≡ []
+  pub one_more : flushed_bytes (some_trace no_pulls (pushed (flushed (pushed no_pushes 2 (Ok 2)) (Ok tt)) 1 (Ok 1))) ≡ 7 ∷ 8 ∷ []
+  pub all : flushed_bytes (some_trace no_pulls (flushed (pushed (pushed no_pushes 3 (Ok 2)) 1 (Ok 1)) (Ok tt))) ≡ 7 ∷ 8 ∷ 9 ∷ []

@@ -78,8 +78,8 @@ abbrev pub before : Trace → List ℕ
 before t = all_but (last_size t.source.last) t.got
 
 -- what was put, and has been flushed since
-abbrev pub flushed : Trace → List ℕ
-flushed t = all_but t.sink.unflushed t.put
+abbrev pub flushed_bytes : Trace → List ℕ
+flushed_bytes t = all_but t.sink.unflushed t.put
 
 -- whole begins with part
 pub record Begins (part whole : List ℕ) : Type 0 where
@@ -97,7 +97,7 @@ moves_of by messages = moves_by by.moved Fresh (map asked messages)
 -- all replies were put, and flushed
 pub record IsAllTold (by : Answering) (t : Trace) (messages : List (List ℕ)) : Type 0 where
   pub put : t.put ≡ replies_to by messages
-  pub flushed_all : flushed t ≡ t.put
+  pub flushed_all : flushed_bytes t ≡ t.put
 
 -- each node has what the moves give it, less what they take; node n has the place n - 1
 pub record AreBalances (moves : List Move) (nodes : ℕ) (balances : List ℤ) : Type 0 where
@@ -126,9 +126,9 @@ IsStopped by turns t messages rest Memory = Unit {0}
 IsStopped by turns t messages rest (Layer layer fault) = ⊥
 IsStopped by turns t messages rest (Layers count) = ⊥
 
-abbrev pub IsEnd : {A : Type 0} → Answering → ℕ → ℕ → Trace → List (List ℕ) → List ℕ → Result (Done A) Stop → Type 0
-IsEnd by nodes turns t messages rest (Ok done) = IsServed by nodes t messages rest done
-IsEnd by nodes turns t messages rest (Err stop) = IsStopped by turns t messages rest stop
+abbrev pub IsOutcome : {A : Type 0} → Answering → ℕ → ℕ → Trace → List (List ℕ) → List ℕ → Result (Done A) Stop → Type 0
+IsOutcome by nodes turns t messages rest (Ok done) = IsServed by nodes t messages rest done
+IsOutcome by nodes turns t messages rest (Err stop) = IsStopped by turns t messages rest stop
 
 -- how often the source met its end
 abbrev pub ends_met : {A : Type 0} → Result (Done A) Stop → ℕ
@@ -160,7 +160,7 @@ pub record IsPrompt (by : Answering) (t : Trace) : Type 0 where
   pub rest : List ℕ
   pub split : IsSplit (before t) messages rest
   pub good : IsOpen rest
-  pub told : Begins (replies_to by messages) (flushed t)
+  pub told : Begins (replies_to by messages) (flushed_bytes t)
 
 -- a stream was served: what was put is the beginning of the replies, at every end, and all of them where nothing stood in
 -- the way
@@ -169,6 +169,6 @@ pub record IsRun {A : Type 0} (by : Answering) (nodes turns : ℕ) (t : Trace) (
   pub rest : List ℕ
   pub split : IsSplit t.got messages rest
   pub begun : Begins t.put (replies_to by messages)
-  pub end : IsEnd by nodes turns t messages rest result
+  pub end : IsOutcome by nodes turns t messages rest result
   pub prompt : IsPrompt by t
   pub counted : IsCounted turns t result

@@ -16,7 +16,7 @@ use Rattle.serve_core.specs.Buffers.{held_in}
 use Rattle.serve_core.specs.Serving.{Begins}
 
 -- how far a stream is answered: the bytes not answered yet, the session, the place, the counts, the balances
-pub record View : Type 0 where
+pub record ServingState : Type 0 where
   pub rest : List ℕ
   pub session : Session
   pub at : ℕ
@@ -24,8 +24,8 @@ pub record View : Type 0 where
   pub written : ℕ
   pub balances : List ℤ
 
-abbrev pub view : {A : Type 0} → Progress A → View
-view p = record {
+abbrev pub serving_state : {A : Type 0} → Progress A → ServingState
+serving_state p = record {
   rest = held_in p.buffer;
   session = p.session;
   at = p.at;
@@ -35,11 +35,11 @@ view p = record {
 }
 
 -- nothing is answered yet of a stream to so many nodes
-abbrev pub beginning : ℕ → View
+abbrev pub beginning : ℕ → ServingState
 beginning nodes = record { rest = []; session = Fresh; at = 0; messages = 0; written = 0; balances = replicate nodes (pos 0) }
 
 -- the counts stay far below their types' limits: a stream has less than 2^57 bytes
-pub record IsSmall (nodes : ℕ) (v : View) : Type 0 where
+pub record IsSmall (nodes : ℕ) (v : ServingState) : Type 0 where
   pub place : v.at + length v.rest ≤ 2 ^ 57
   pub count : v.messages ≤ v.at
   pub bytes : v.written ≤ 2 ^ 64 * v.at
@@ -47,7 +47,7 @@ pub record IsSmall (nodes : ℕ) (v : View) : Type 0 where
   pub balanced : AreWithin (2 ^ 64 * v.at) v.balances
 
 -- these messages were answered with these bytes
-pub record Goes (by : Answering) (from to : View) (messages : List (List ℕ)) (put : List ℕ) : Type 0 where
+pub record Goes (by : Answering) (from to : ServingState) (messages : List (List ℕ)) (put : List ℕ) : Type 0 where
   pub taken : from.rest ≡ joined messages ++ to.rest
   pub each : AllByRecursion IsMessage messages
   pub answered : AreAnswered by from.session messages to.session put (record { old = from.balances; new = to.balances })
@@ -56,7 +56,7 @@ pub record Goes (by : Answering) (from to : View) (messages : List (List ℕ)) (
   pub written : to.written ≡ from.written + length put
 
 -- a round takes bytes away, or no message is whole
-abbrev pub GoesOn : Bool → View → View → Type 0
+abbrev pub GoesOn : Bool → ServingState → ServingState → Type 0
 GoesOn true from to = length to.rest < length from.rest
 GoesOn false from to = IsRest to.rest
 
@@ -71,7 +71,7 @@ IsHalt Memory = Unit {0}
 IsHalt _ = ⊥
 
 -- answering stopped with a part of the replies put
-pub record Halts (by : Answering) (from : View) (before after : Pushes) (stop : Stop) (messages : List (List ℕ)) (put rest : List ℕ) : Type 0 where
+pub record Halts (by : Answering) (from : ServingState) (before after : Pushes) (stop : Stop) (messages : List (List ℕ)) (put rest : List ℕ) : Type 0 where
   pub halt : IsHalt stop
   pub taken : from.rest ≡ joined messages ++ rest
   pub each : AllByRecursion IsMessage messages

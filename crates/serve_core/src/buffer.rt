@@ -7,7 +7,7 @@
 ghost use Rattle.std.specs.Prelude.{◌≡◌, ◌+◌, ◌-◌, ◌<◌, ◌≤◌, ℕ, List, length, take, drop, [], OnOk, IfOk, MatchResult};
 ghost use Rattle.std.specs.Io.KnownBytes.{Consumes, IsAtEnd, Keeps};
 ghost use Rattle.devices.specs.Counting.{pulled};
-ghost use Rattle.serve_core.specs.Buffers.{part, held_in, IsInRange, HasRoom, IsPull};
+ghost use Rattle.serve_core.specs.Buffers.{part, held_in, IsWithinBytes, HasRoom, IsPull};
 
 use devices::{Failed, Source};
 use std::alloc::{AllocError, Allocator};
@@ -27,7 +27,7 @@ impl<A: Allocator> Buffer<A> {
     // An empty buffer. It takes no memory.
     pub(crate) fn new(alloc: A) -> Buffer<A>
         ensures empty { held_in result ≡ [] }
-        ensures range { IsInRange result }
+        ensures range { IsWithinBytes result }
     {
         Buffer {
             bytes: Vec::new(alloc),
@@ -38,7 +38,7 @@ impl<A: Allocator> Buffer<A> {
 
     // The bytes that it holds.
     pub(crate) fn rest(&self) -> &[u8]
-        requires { IsInRange self.now }
+        requires { IsWithinBytes self.now }
         ensures { result.now ≡ held_in self.now }
     {
         &self.bytes[self.start..self.end]
@@ -46,9 +46,9 @@ impl<A: Allocator> Buffer<A> {
 
     // Lets go of the first bytes.
     pub(crate) fn pass(&mut self, used: usize)
-        requires range { IsInRange self.old }
+        requires range { IsWithinBytes self.old }
         requires used { used ≤ length (held_in self.old) }
-        ensures range { IsInRange self.new }
+        ensures range { IsWithinBytes self.new }
         ensures rest { held_in self.new ≡ drop used (held_in self.old) }
     {
         self.start += used;
@@ -57,8 +57,8 @@ impl<A: Allocator> Buffer<A> {
     // Makes room for a pull behind what it holds, which then stands at the front. Where memory is refused there is none,
     // and it holds what it held.
     pub(crate) fn make_room(&mut self) -> Result<(), AllocError>
-        requires { IsInRange self.old }
-        ensures range { IsInRange self.new }
+        requires { IsWithinBytes self.old }
+        ensures range { IsWithinBytes self.new }
         ensures rest { held_in self.new ≡ held_in self.old }
         ensures front { self.new.start ≡ 0 }
         ensures room { OnOk result (HasRoom self.new) }
@@ -73,9 +73,9 @@ impl<A: Allocator> Buffer<A> {
 
     // Pulls once into the room behind what it holds.
     pub(crate) fn pull<S: Source>(&mut self, source: &mut S) -> Result<usize, Failed>
-        requires range { IsInRange self.old }
+        requires range { IsWithinBytes self.old }
         requires room { HasRoom self.old }
-        ensures range { IsInRange self.new }
+        ensures range { IsWithinBytes self.new }
         ensures pull { (got : List ℕ) × Consumes (S.left source.old) (S.left source.new) got
             × IsPull (S.counts source.old) (S.counts source.new)
             (held_in self.old) (held_in self.new) got result }

@@ -1,8 +1,8 @@
 //! How far a stream is answered.
 
 ghost use Rattle.std.specs.Prelude.{◌≡◌, IfOk};
-ghost use Rattle.serve_core.specs.Buffers.{IsInRange};
-ghost use Rattle.serve_core.specs.Steps.{view, beginning};
+ghost use Rattle.serve_core.specs.Buffers.{IsWithinBytes};
+ghost use Rattle.serve_core.specs.Steps.{serving_state, beginning};
 
 use crate::buffer::Buffer;
 use crate::done::Done;
@@ -35,7 +35,7 @@ pub(crate) struct Progress<A: Allocator> {
 impl<A: Allocator + Copy> Progress<A> {
     // Nothing is answered yet of a stream to so many nodes.
     pub(crate) fn new(alloc: A, nodes: u64) -> Result<Progress<A>, AllocError>
-        ensures { IfOk result (λ p. IsInRange p.buffer × (view p ≡ beginning nodes)) }
+        ensures { IfOk result (λ p. IsWithinBytes p.buffer × (serving_state p ≡ beginning nodes)) }
     {
         Ok(Progress {
             buffer: Buffer::new(alloc),

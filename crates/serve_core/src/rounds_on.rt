@@ -4,8 +4,8 @@ ghost use Rattle.std.specs.Prelude.{◌≡◌, ◌<◌, ◌^◌, ℕ, List, OnOk
 ghost use Rattle.std.specs.Io.KnownBytes.{Appends};
 ghost use Rattle.devices.specs.Pushing.{HasFlushed};
 ghost use Rattle.fuse_wire.specs.Stream.{IsRest};
-ghost use Rattle.serve_core.specs.Buffers.{IsInRange};
-ghost use Rattle.serve_core.specs.Steps.{view, IsSmall, Goes, GoesOn, Halts};
+ghost use Rattle.serve_core.specs.Buffers.{IsWithinBytes};
+ghost use Rattle.serve_core.specs.Steps.{serving_state, IsSmall, Goes, GoesOn, Halts};
 
 use crate::progress::Progress;
 use crate::stop::Stop;
@@ -19,19 +19,19 @@ fn answer_round<T: Rounds, K: Sink, A: Allocator>(
     progress: &mut Progress<A>,
     sink: &mut K,
 ) -> Result<bool, Stop>
-    requires range { IsInRange progress.old.buffer }
-    requires small { IsSmall (T.nodes answers.now) (view progress.old) }
+    requires range { IsWithinBytes progress.old.buffer }
+    requires small { IsSmall (T.nodes answers.now) (serving_state progress.old) }
     requires counts { (K.counts sink.old).failures < 2 ^ 63 }
-    ensures range { OnOk result (IsInRange progress.new.buffer) }
-    ensures small { OnOk result (IsSmall (T.nodes answers.now) (view progress.new)) }
+    ensures range { OnOk result (IsWithinBytes progress.new.buffer) }
+    ensures small { OnOk result (IsSmall (T.nodes answers.now) (serving_state progress.new)) }
     ensures ok { IfOk result (λ on. (ms : List (List ℕ)) × (put : List ℕ)
-        × Goes (T.answering answers.now) (view progress.old) (view progress.new) ms put
+        × Goes (T.answering answers.now) (serving_state progress.old) (serving_state progress.new) ms put
         × Appends (K.held sink.old) (K.held sink.new) put
         × HasFlushed put (K.counts sink.old) (K.counts sink.new)
-        × GoesOn on (view progress.old) (view progress.new)) }
+        × GoesOn on (serving_state progress.old) (serving_state progress.new)) }
     ensures err { IfErr result (λ stop. (ms : List (List ℕ)) × (put : List ℕ) × (rest : List ℕ)
         × Appends (K.held sink.old) (K.held sink.new) put
-        × Halts (T.answering answers.now) (view progress.old)
+        × Halts (T.answering answers.now) (serving_state progress.old)
         (K.counts sink.old) (K.counts sink.new) stop ms put rest) }
 {
     progress.replies.clear();
@@ -62,19 +62,19 @@ pub(crate) fn answer_all<T: Rounds, K: Sink, A: Allocator>(
     progress: &mut Progress<A>,
     sink: &mut K,
 ) -> Result<(), Stop>
-    requires range { IsInRange progress.old.buffer }
-    requires small { IsSmall (T.nodes answers.now) (view progress.old) }
+    requires range { IsWithinBytes progress.old.buffer }
+    requires small { IsSmall (T.nodes answers.now) (serving_state progress.old) }
     requires counts { (K.counts sink.old).failures < 2 ^ 63 }
-    ensures range { OnOk result (IsInRange progress.new.buffer) }
-    ensures small { OnOk result (IsSmall (T.nodes answers.now) (view progress.new)) }
+    ensures range { OnOk result (IsWithinBytes progress.new.buffer) }
+    ensures small { OnOk result (IsSmall (T.nodes answers.now) (serving_state progress.new)) }
     ensures ok { IfOk result (λ _. (ms : List (List ℕ)) × (put : List ℕ)
-        × Goes (T.answering answers.now) (view progress.old) (view progress.new) ms put
+        × Goes (T.answering answers.now) (serving_state progress.old) (serving_state progress.new) ms put
         × Appends (K.held sink.old) (K.held sink.new) put
         × HasFlushed put (K.counts sink.old) (K.counts sink.new)
-        × IsRest (view progress.new).rest) }
+        × IsRest (serving_state progress.new).rest) }
     ensures err { IfErr result (λ stop. (ms : List (List ℕ)) × (put : List ℕ) × (rest : List ℕ)
         × Appends (K.held sink.old) (K.held sink.new) put
-        × Halts (T.answering answers.now) (view progress.old)
+        × Halts (T.answering answers.now) (serving_state progress.old)
         (K.counts sink.old) (K.counts sink.new) stop ms put rest) }
 {
     loop {

@@ -10,14 +10,14 @@ use Rattle.serve_core.specs.Serving.{Devices}
 use Rattle.strata.specs.declared.faults.Fault.{Fault}
 use Rattle.strata.specs.declared.faults.Fault.TheVariants.{Usage, ImageFile, RequestsFile, RepliesFile, BalancesFile, Broken, Stopped}
 use Rattle.strata.specs.Faults.{status_of, stop_status, out_of_memory}
-use Rattle.strata.specs.Ending.{AreNamed, IsDoneOver, IsStoppedOver, IsDone, IsStopped}
+use Rattle.strata.specs.Ending.{NamesAsMany, IsDoneOver, IsStoppedOver, IsDone, EndsInFault}
 
 -- as many images as paths
-pub all_named : {X Y Z : Type 0} (line : Line) (bytes : X → List ℕ) (images : Vec X Z) (paths : List Y) → vec_len images ≡ length paths → length paths ≡ vec_len line.images → AreNamed line (map bytes images.items)
+pub all_named : {X Y Z : Type 0} (line : Line) (bytes : X → List ℕ) (images : Vec X Z) (paths : List Y) → vec_len images ≡ length paths → length paths ≡ vec_len line.images → NamesAsMany line (map bytes images.items)
 all_named line bytes images paths e p = length-map images.items bytes ∙ sym images.ok.0 ∙ e ∙ p
 
 -- what the words say, over the images that were read
-module _ (A : Type 0) (words : List (List ℕ)) (line : Line) (images : List (List ℕ)) (verb : Verb) (old new : Devices) (line_is : IsLineOf words line) (named : AreNamed line images) (verb_is : line.verb ≡ verb) where
+module _ (A : Type 0) (words : List (List ℕ)) (line : Line) (images : List (List ℕ)) (verb : Verb) (old new : Devices) (line_is : IsLineOf words line) (named : NamesAsMany line images) (verb_is : line.verb ≡ verb) where
   -- a command did it
   pub did : (r : Result (Unit {0}) Fault) → OnOk r (IsDoneOver A verb line images old new) → OnOk r (IsDone A words old new)
   did (Err fault) d = d
@@ -30,7 +30,7 @@ module _ (A : Type 0) (words : List (List ℕ)) (line : Line) (images : List (Li
   }
 
   -- a command began it and stopped
-  pub broke_off : (r : Result (Unit {0}) Fault) → IfErr r (λ fault. IsStoppedOver A verb line images fault old new) → IfErr r (λ fault. IsStopped A words fault old new)
+  pub broke_off : (r : Result (Unit {0}) Fault) → IfErr r (λ fault. IsStoppedOver A verb line images fault old new) → IfErr r (λ fault. EndsInFault A words fault old new)
   broke_off (Ok u) p = p
   broke_off (Err fault) p = inr (record {
     line = line;
@@ -50,7 +50,7 @@ beside_err x P (Ok u) p = p
 beside_err x P (Err fault) p = (refl, p)
 
 -- an image that was not read, or memory that ran out before all were
-pub unread : (A : Type 0) (words : List (List ℕ)) (line : Line) (count : ℕ) (old : Devices) (r : Result (Unit {0}) Fault) → IsLineOf words line → count ≡ vec_len line.images → (fault : Fault) → (fault ≡ out_of_memory) ⊎ ((image : ℕ) × (image < count) × (fault ≡ ImageFile image)) → IsErrAnd r (λ told. told ≡ fault) → IfErr r (λ told. IsStopped A words told old old)
+pub unread : (A : Type 0) (words : List (List ℕ)) (line : Line) (count : ℕ) (old : Devices) (r : Result (Unit {0}) Fault) → IsLineOf words line → count ≡ vec_len line.images → (fault : Fault) → (fault ≡ out_of_memory) ⊎ ((image : ℕ) × (image < count) × (fault ≡ ImageFile image)) → IsErrAnd r (λ told. told ≡ fault) → IfErr r (λ told. EndsInFault A words told old old)
 unread A words line count old (Ok u) l n fault f e = absurd e
 unread A words line count old (Err told) l n fault (inl f) e = inl (record { kept = refl; which = inr (inr (e ∙ f)) })
 unread A words line count old (Err told) l n fault (inr f) e = inl (record { kept = refl; which = inr (inl (record { line = line; image = f.0; line_is = l; named = subst (λ k. f.0 < k) n f.1; told = e ∙ f.2 })) })

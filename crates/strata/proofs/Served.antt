@@ -8,7 +8,7 @@ use Rattle.serve_core.specs.Serving.{Devices, Trace}
 use Rattle.strata.specs.declared.faults.Fault.{Fault}
 use Rattle.strata.specs.declared.faults.Fault.TheVariants.{Stopped}
 use Rattle.strata.specs.Faults.{out_of_memory, write_failed}
-use Rattle.strata.specs.Ending.{Gave, Took, Asks, Gains, IsServing, IsServedWhole, IsNotServed}
+use Rattle.strata.specs.Ending.{Gave, Took, Asks, GetsReplies, IsServing, IsServedWhole, IsNotServed}
 
 none_where : {X : Type 0} (o : Option X) → is_some o ≡ false → o ≡ None
 none_where None e = refl
@@ -22,14 +22,14 @@ pub no_file : {X Y : Type 0} (named : Option X) (file : Option Y) (x : Y) → is
 no_file named file x same some none = true≢false (ap is_some (sym some) ∙ same ∙ ap is_some none)
 
 -- replies that went to the output, and those that went to a file
-pub to_output : {F : Type 0} (file : Option F) (t : Trace) (old new : SinkState) → file ≡ None → Took t old new → Gains file t old new
+pub to_output : {F : Type 0} (file : Option F) (t : Trace) (old new : SinkState) → file ≡ None → Took t old new → GetsReplies file t old new
 to_output file t old new none took = record { took = λ _. took; kept = λ some. absurd (true≢false (sym some ∙ ap is_some none)) }
 
-pub to_file : {F : Type 0} (file : Option F) (x : F) (t : Trace) (old : SinkState) → file ≡ Some x → Gains file t old old
+pub to_file : {F : Type 0} (file : Option F) (x : F) (t : Trace) (old : SinkState) → file ≡ Some x → GetsReplies file t old old
 to_file file x t old some = record { took = λ none. absurd (true≢false (ap is_some (sym some) ∙ ap is_some none)); kept = λ _. refl }
 
 -- the same of the line that names the file
-pub gained : {F G : Type 0} (named : Option F) (file : Option G) (t : Trace) (old new : SinkState) → is_some file ≡ is_some named → Gains file t old new → Gains named t old new
+pub gained : {F G : Type 0} (named : Option F) (file : Option G) (t : Trace) (old new : SinkState) → is_some file ≡ is_some named → GetsReplies file t old new → GetsReplies named t old new
 gained named file t old new same g = record { took = λ none. g.took (same_none named file same none); kept = λ some. g.kept (same ∙ some) }
 
 -- requests that came from the input, and those that came from a file

@@ -28,8 +28,8 @@ abbrev pub profile_of : Line → Profile
 profile_of line = if line.strict then Strict else Usual
 
 -- as many images as the line names
-abbrev pub AreNamed : Line → List (List ℕ) → Type 0
-AreNamed line images = length images ≡ vec_len line.images
+abbrev pub NamesAsMany : Line → List (List ℕ) → Type 0
+NamesAsMany line images = length images ≡ vec_len line.images
 
 -- a fault of the output is told, and the output failed once more
 pub record IsLost (fault : Fault) (old new : SinkState) : Type 0 where
@@ -56,7 +56,7 @@ AreNotGood profile images fault old new = (IsFirstFault profile images fault × 
 -- ---- list
 
 -- the images are good, and the output gained a line for each path that their stack shows; none waits for a flush
-pub record IsListed (profile : Profile) (images : List (List ℕ)) (old new : SinkState) : Type 0 where
+pub record IsStackListed (profile : Profile) (images : List (List ℕ)) (old new : SinkState) : Type 0 where
   pub stack : Stacked
   pub stacked : AreStacked profile images stack
   pub written : Appends old.held new.held (lines stack.layers stack.entries)
@@ -92,7 +92,7 @@ pub record Asks {F X E : Type 0} (file : Option F) (t : Trace) (result : Result 
   pub kept : is_some file ≡ true → new ≡ old
 
 -- the replies went to the output; or there is a file for them, and the output was not touched
-pub record Gains {F : Type 0} (file : Option F) (t : Trace) (old new : SinkState) : Type 0 where
+pub record GetsReplies {F : Type 0} (file : Option F) (t : Trace) (old new : SinkState) : Type 0 where
   pub took : file ≡ None → Took t old new
   pub kept : is_some file ≡ true → new ≡ old
 
@@ -106,7 +106,7 @@ pub record IsServingBy {A : Type 0} (line : Line) (images : List (List ℕ)) (t 
 pub record IsServing {A : Type 0} (line : Line) (images : List (List ℕ)) (t : Trace) (result : Result (Done A) Stop) (old new : Devices) : Type 0 where
   pub by : IsServingBy line images t result
   pub asks : Asks line.requests t result old.source new.source
-  pub gains : Gains line.replies t old.sink new.sink
+  pub gains : GetsReplies line.replies t old.sink new.sink
 
 -- it was served to its end
 pub record IsServedWhole (A : Type 0) (line : Line) (images : List (List ℕ)) (old new : Devices) : Type 0 where
@@ -144,7 +144,7 @@ IsNotServed A line images fault old new =
 abbrev pub IsDoneOver : (A : Type 0) → Verb → Line → List (List ℕ) → Devices → Devices → Type 0
 IsDoneOver A verbs.Serve line images old new = IsServedWhole A line images old new
 IsDoneOver A verbs.Check line images old new = (new.source ≡ old.source) × AreGood (profile_of line) images old.sink new.sink
-IsDoneOver A verbs.List line images old new = (new.source ≡ old.source) × IsListed (profile_of line) images old.sink new.sink
+IsDoneOver A verbs.List line images old new = (new.source ≡ old.source) × IsStackListed (profile_of line) images old.sink new.sink
 
 abbrev pub IsStoppedOver : (A : Type 0) → Verb → Line → List (List ℕ) → Fault → Devices → Devices → Type 0
 IsStoppedOver A verbs.Serve line images fault old new = IsNotServed A line images fault old new
@@ -156,15 +156,15 @@ pub record IsDone (A : Type 0) (words : List (List ℕ)) (old new : Devices) : T
   pub line : Line
   pub images : List (List ℕ)
   pub line_is : IsLineOf words line
-  pub named : AreNamed line images
+  pub named : NamesAsMany line images
   pub done : IsDoneOver A line.verb line images old new
 
 -- the program began what its words say, and stopped with a fault
-pub record IsBrokenOff (A : Type 0) (words : List (List ℕ)) (fault : Fault) (old new : Devices) : Type 0 where
+pub record IsDoneInPart (A : Type 0) (words : List (List ℕ)) (fault : Fault) (old new : Devices) : Type 0 where
   pub line : Line
   pub images : List (List ℕ)
   pub line_is : IsLineOf words line
-  pub named : AreNamed line images
+  pub named : NamesAsMany line images
   pub stopped : IsStoppedOver A line.verb line images fault old new
 
 -- one of the images that the words name could not be read
@@ -187,11 +187,11 @@ pub record IsEarly (words : List (List ℕ)) (fault : Fault) (old new : Devices)
   pub which : AreNotTaken words fault ⊎ (IsUnread words fault ⊎ (fault ≡ out_of_memory))
 
 -- the program stopped with a fault, before its work or in it
-abbrev pub IsStopped : (A : Type 0) → List (List ℕ) → Fault → Devices → Devices → Type 0
-IsStopped A words fault old new = IsEarly words fault old new ⊎ IsBrokenOff A words fault old new
+abbrev pub EndsInFault : (A : Type 0) → List (List ℕ) → Fault → Devices → Devices → Type 0
+EndsInFault A words fault old new = IsEarly words fault old new ⊎ IsDoneInPart A words fault old new
 
 -- the program stopped with this status
 pub record EndsWith (A : Type 0) (words : List (List ℕ)) (status : ℕ) (old new : Devices) : Type 0 where
   pub fault : Fault
   pub status_is : status ≡ status_of fault
-  pub stopped : IsStopped A words fault old new
+  pub stopped : EndsInFault A words fault old new

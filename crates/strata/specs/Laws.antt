@@ -5,7 +5,7 @@ use Rattle.romfs_format.specs.Rules.{IsSoundAs}
 use Rattle.serve_core.specs.Preparing.{IsFew}
 use Rattle.command_line.specs.declared.options.Line.{Line}
 use Rattle.command_line.specs.CommandLine.{IsLineOf}
-use Rattle.strata.specs.Ending.{profile_of, AreNamed}
+use Rattle.strata.specs.Ending.{profile_of, NamesAsMany}
 
 -- there are none or too many, or one of them breaks a rule of the profile
 abbrev pub AreBad : Profile → List (List ℕ) → Type 0
@@ -16,5 +16,5 @@ pub record AreToBlame (words : List (List ℕ)) : Type 0 where
   pub line : Line
   pub images : List (List ℕ)
   pub line_is : IsLineOf words line
-  pub named : AreNamed line images
+  pub named : NamesAsMany line images
   pub bad : AreBad (profile_of line) images

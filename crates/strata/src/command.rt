@@ -6,7 +6,7 @@
 ghost use Rattle.std.specs.Prelude.{◌≡◌, ◌≢◌, map, OnOk, IfErr};
 ghost use Rattle.devices.specs.Counting.{no_pulls, no_pushes};
 ghost use Rattle.serve_core.specs.Serving.{devices};
-ghost use Rattle.strata.specs.Ending.{profile_of, IsDone, IsStopped, EndsWith};
+ghost use Rattle.strata.specs.Ending.{profile_of, IsDone, EndsInFault, EndsWith};
 
 use crate::checking::check;
 use crate::faults::Fault;
@@ -82,7 +82,7 @@ fn run<R: Files + Threads + Sync, A: Allocator + Copy + Send + Sync, S: AsStr, T
         (devices (T.left input.old) (T.counts input.old) (K.held output.old) (K.counts output.old))
         (devices (T.left input.new) (T.counts input.new)
         (K.held output.new) (K.counts output.new))) }
-    ensures stopped { IfErr result (λ fault. IsStopped A (map S.text words.now) fault
+    ensures stopped { IfErr result (λ fault. EndsInFault A (map S.text words.now) fault
         (devices (T.left input.old) (T.counts input.old) (K.held output.old) (K.counts output.old))
         (devices (T.left input.new) (T.counts input.new)
         (K.held output.new) (K.counts output.new))) }

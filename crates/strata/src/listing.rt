@@ -3,7 +3,7 @@
 ghost use Rattle.std.specs.Prelude.{◌<◌, ◌^◌, OnOk, IfErr};
 ghost use Rattle.devices.specs.States.{sink_state};
 ghost use Rattle.serve_core.specs.Preparing.{contents_of};
-ghost use Rattle.strata.specs.Ending.{IsListed, IsNotListed};
+ghost use Rattle.strata.specs.Ending.{IsStackListed, IsNotListed};
 
 use crate::faults::Fault;
 use devices::Sink;
@@ -24,7 +24,7 @@ pub fn list<R: Threads + Sync, A: Allocator + Copy + Send + Sync, K: Sink>(
     output: &mut K,
 ) -> Result<(), Fault>
     requires { (K.counts output.old).failures < 2 ^ 63 }
-    ensures done { OnOk result (IsListed profile (contents_of images)
+    ensures done { OnOk result (IsStackListed profile (contents_of images)
         (sink_state (K.held output.old) (K.counts output.old))
         (sink_state (K.held output.new) (K.counts output.new))) }
     ensures stopped { IfErr result (λ fault. IsNotListed profile (contents_of images) fault

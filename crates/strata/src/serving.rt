@@ -7,7 +7,7 @@ ghost use Rattle.devices.specs.States.{source_state, sink_state};
 ghost use Rattle.command_line.specs.CommandLine.{IsInLimits};
 ghost use Rattle.serve_core.specs.Preparing.{contents_of};
 ghost use Rattle.serve_core.specs.Serving.{Trace, devices, Does};
-ghost use Rattle.strata.specs.Ending.{Gave, Gains, IsServingBy, IsServing, IsServedWhole, IsNotServed};
+ghost use Rattle.strata.specs.Ending.{Gave, GetsReplies, IsServingBy, IsServing, IsServedWhole, IsNotServed};
 
 use crate::balances::tell_balances;
 use crate::command::profile_of;
@@ -118,7 +118,7 @@ fn serve_from<
     ensures { (t : Trace) × IsServingBy line.now (contents_of images) t result
         × Gave t result (source_state (S.left source.old) (S.counts source.old))
         (source_state (S.left source.new) (S.counts source.new))
-        × Gains replies t (sink_state (K.held output.old) (K.counts output.old))
+        × GetsReplies replies t (sink_state (K.held output.old) (K.counts output.old))
         (sink_state (K.held output.new) (K.counts output.new)) }
 {
     match replies {

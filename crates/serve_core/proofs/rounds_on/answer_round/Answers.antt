@@ -4,18 +4,18 @@ use Rattle.std.proofs.lemmas.List.{with_items_is}
 use Rattle.std.specs.Io.KnownBytes.{Appends}
 use Rattle.devices.specs.Pushing.{HasFlushed}
 use Rattle.serve_core.specs.Buffers.{held_in}
-use Rattle.serve_core.specs.Steps.{view}
+use Rattle.serve_core.specs.Steps.{serving_state}
 use Rattle.serve_core.proofs.Rounding.{all_of, from_memory, round_few, flushed_none, goes_idle, goes_round, halts_now, at_rest, round_of, shorter, small_on, some_messages}
 use Rattle.serve_core.proofs.rounds_on.answer_round.Goals as goal
 
 pub returns-in_err-round-clause-err : goal.returns-in_err-round-clause-err
 returns-in_err-round-clause-err g c =
-    from_memory c.from_residual.result _ c.from_residual.ensures.1 ([], [], _, Appends-nil _, halts_now (g.T.Rounds.answering c.args.answers.now) (view c.args.progress.now) _)
+    from_memory c.from_residual.result _ c.from_residual.ensures.1 ([], [], _, Appends-nil _, halts_now (g.T.Rounds.answering c.args.answers.now) (serving_state c.args.progress.now) _)
 
 pub returns-then-round-eq0-clause-ok : goal.returns-then-round-eq0-clause-ok
 returns-then-round-eq0-clause-ok g c =
     let by = g.T.Rounds.answering c.args.answers.now in
-    let from = view c.args.progress.now in
+    let from = serving_state c.args.progress.now in
     let round = c.in_ok-round.round in
     let (put, told, r) = c.in_ok-round.ensures in
     let kept = with_items_is c.args.progress.now.balances c.answer_round.new.balances (r.answered.moves.same ∙ c.as_mut_slice.ensures.len) in
@@ -35,7 +35,7 @@ overflow_add-progress-2 g c =
 pub returns-clause-small : goal.returns-clause-small
 returns-clause-small g c =
     let by = g.T.Rounds.answering c.args.answers.now in
-    let from = view c.args.progress.now in
+    let from = serving_state c.args.progress.now in
     let round = c.in_ok-round.round in
     let (put, told, r) = c.in_ok-round.ensures in
     let kept = with_items_is c.args.progress.now.balances c.answer_round.new.balances (r.answered.moves.same ∙ c.as_mut_slice.ensures.len) in
@@ -48,7 +48,7 @@ returns-clause-small g c =
 pub returns-clause-ok : goal.returns-clause-ok
 returns-clause-ok g c =
     let by = g.T.Rounds.answering c.args.answers.now in
-    let from = view c.args.progress.now in
+    let from = serving_state c.args.progress.now in
     let round = c.in_ok-round.round in
     let (put, told, r) = c.in_ok-round.ensures in
     let kept = with_items_is c.args.progress.now.balances c.answer_round.new.balances (r.answered.moves.same ∙ c.as_mut_slice.ensures.len) in

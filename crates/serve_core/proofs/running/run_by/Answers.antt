@@ -3,7 +3,7 @@ use Rattle.std.proofs.KnownBytes.{Appends-nil, Appends-trans, Consumes-nil, Cons
 use Rattle.fuse_wire.specs.Stream.{IsBad, IsOpen}
 use Rattle.serve_core.specs.Buffers.{held_in}
 use Rattle.serve_core.specs.Serving.{Trace}
-use Rattle.serve_core.specs.Steps.{view, IsSmall}
+use Rattle.serve_core.specs.Steps.{serving_state, IsSmall}
 use Rattle.serve_core.proofs.Traces.{none_left, small_first, some_left, start, IsRunning}
 use Rattle.serve_core.proofs.Runs.{ends_bad, ends_clean, ends_cut, ends_halt, ends_memory, ends_read, ends_turns, fed, no_memory, no_turns, run_memory, runs_first, small_fed, went_round}
 use Rattle.serve_core.proofs.running.run_by.Goals as goal
@@ -27,7 +27,7 @@ loop-turn-init g c =
       [],
       Consumes-nil _,
       Appends-nil _,
-      runs_first by nodes _ _ (view c.in_ok-progress.progress) is,
+      runs_first by nodes _ _ (serving_state c.in_ok-progress.progress) is,
       p.0,
       subst (λ w. IsSmall nodes w) (sym is) (small_first nodes),
     )
@@ -36,7 +36,7 @@ pub returns-in_err-make_room-clause-run : goal.returns-in_err-make_room-clause-r
 returns-in_err-make_room-clause-run g c =
     let by = g.T.Rounds.answering c.args.answers.now in
     let nodes = g.T.Rounds.nodes c.args.answers.now in
-    let v = view c.loop-turn.progress in
+    let v = serving_state c.loop-turn.progress in
     let (got, put, ms, took, held, run, range, small) = c.loop-turn.invariant in
     (got, put, took, held, run_memory by nodes _ _ c.from_residual-in_err-make_room.result c.from_residual-in_err-make_room.ensures.1 (ends_memory by nodes c.loop-turn._turn _ v ms run c.args.turns (omega (arith, c.loop-turn-test.true))))
 
@@ -44,7 +44,7 @@ pub returns-in-Err-clause-run : goal.returns-in-Err-clause-run
 returns-in-Err-clause-run g c =
     let by = g.T.Rounds.answering c.args.answers.now in
     let nodes = g.T.Rounds.nodes c.args.answers.now in
-    let v = view c.loop-turn.progress in
+    let v = serving_state c.loop-turn.progress in
     let (got, put, ms, took, held, run, range, small) = c.loop-turn.invariant in
     let (x, more, pull) = c.in-Err.ensures.pull in
     (got ++ x, put, Consumes-trans _ _ _ _ _ took more, held, ends_read by nodes c.loop-turn._turn _ v ms run _ x _ c.args.turns pull.counts pull.is (record { pulls = c.requires.pulls; ends = c.requires.ends; failures = c.requires.source_failures }) c.loop-turn-test.true c.requires.few)
@@ -53,7 +53,7 @@ pub returns-then-is_empty-clause-run : goal.returns-then-is_empty-clause-run
 returns-then-is_empty-clause-run g c =
     let by = g.T.Rounds.answering c.args.answers.now in
     let nodes = g.T.Rounds.nodes c.args.answers.now in
-    let v = view c.loop-turn.progress in
+    let v = serving_state c.loop-turn.progress in
     let (got, put, ms, took, held, run, range, small) = c.loop-turn.invariant in
     let (x, more, pull) = c.in-Ok.ensures.pull in
     let rest = pull.behind ∙ ap (λ b. b ++ x) c.in_ok-make_room.ensures.rest in
@@ -69,7 +69,7 @@ pub returns-then-got-eq0-clause-run : goal.returns-then-got-eq0-clause-run
 returns-then-got-eq0-clause-run g c =
     let by = g.T.Rounds.answering c.args.answers.now in
     let nodes = g.T.Rounds.nodes c.args.answers.now in
-    let v = view c.loop-turn.progress in
+    let v = serving_state c.loop-turn.progress in
     let (got, put, ms, took, held, run, range, small) = c.loop-turn.invariant in
     let (x, more, pull) = c.in-Ok.ensures.pull in
     let rest = pull.behind ∙ ap (λ b. b ++ x) c.in_ok-make_room.ensures.rest in
@@ -80,7 +80,7 @@ pub answer_all-requires-clause-small : goal.answer_all-requires-clause-small
 answer_all-requires-clause-small g c =
     let by = g.T.Rounds.answering c.args.answers.now in
     let nodes = g.T.Rounds.nodes c.args.answers.now in
-    let v = view c.loop-turn.progress in
+    let v = serving_state c.loop-turn.progress in
     let (got, put, ms, took, held, run, range, small) = c.loop-turn.invariant in
     let (x, more, pull) = c.in-Ok.ensures.pull in
     let rest = pull.behind ∙ ap (λ b. b ++ x) c.in_ok-make_room.ensures.rest in
@@ -91,7 +91,7 @@ pub returns-in-Err-answer_all-clause-run : goal.returns-in-Err-answer_all-clause
 returns-in-Err-answer_all-clause-run g c =
     let by = g.T.Rounds.answering c.args.answers.now in
     let nodes = g.T.Rounds.nodes c.args.answers.now in
-    let v = view c.loop-turn.progress in
+    let v = serving_state c.loop-turn.progress in
     let (got, put, ms, took, held, run, range, small) = c.loop-turn.invariant in
     let (x, more, pull) = c.in-Ok.ensures.pull in
     let rest = pull.behind ∙ ap (λ b. b ++ x) c.in_ok-make_room.ensures.rest in
@@ -103,20 +103,20 @@ pub returns-in-Some-clause-run : goal.returns-in-Some-clause-run
 returns-in-Some-clause-run g c =
     let by = g.T.Rounds.answering c.args.answers.now in
     let nodes = g.T.Rounds.nodes c.args.answers.now in
-    let v = view c.loop-turn.progress in
+    let v = serving_state c.loop-turn.progress in
     let (got, put, ms, took, held, run, range, small) = c.loop-turn.invariant in
     let (x, more, pull) = c.in-Ok.ensures.pull in
     let rest = pull.behind ∙ ap (λ b. b ++ x) c.in_ok-make_room.ensures.rest in
     let f = fed by nodes c.loop-turn._turn _ v ms run _ x (held_in c.pull.new.self) c.in-Ok.got pull.counts pull.is.0 pull.is.1 c.if-got-eq0.false rest (record { pulls = c.requires.pulls; ends = c.requires.ends; failures = c.requires.source_failures }) (omega (arith, c.loop-turn-test.true, c.requires.few)) in
     let (ns, out, goes, and, flushed, _) = c.in-Ok-answer_all.ensures.ok in
     let bad = subst (λ l. IsBad l c.in-Some.len) c.rest-in-loop-turn.ensures c.in-Some.ensures in
-    (got ++ x, put ++ out, Consumes-trans _ _ _ _ _ took more, Appends-trans _ _ _ _ _ held and, ends_bad by nodes c.loop-turn._turn _ _ ms f (view c.answer_all.new.progress) ns _ out goes flushed c.args.turns c.in-Some.len bad c.loop-turn-test.true)
+    (got ++ x, put ++ out, Consumes-trans _ _ _ _ _ took more, Appends-trans _ _ _ _ _ held and, ends_bad by nodes c.loop-turn._turn _ _ ms f (serving_state c.answer_all.new.progress) ns _ out goes flushed c.args.turns c.in-Some.len bad c.loop-turn-test.true)
 
 pub loop-turn-preserved : goal.loop-turn-preserved
 loop-turn-preserved g c =
     let by = g.T.Rounds.answering c.args.answers.now in
     let nodes = g.T.Rounds.nodes c.args.answers.now in
-    let v = view c.loop-turn.progress in
+    let v = serving_state c.loop-turn.progress in
     let (got, put, ms, took, held, run, range, small) = c.loop-turn.invariant in
     let (x, more, pull) = c.in-Ok.ensures.pull in
     let rest = pull.behind ∙ ap (λ b. b ++ x) c.in_ok-make_room.ensures.rest in
@@ -128,7 +128,7 @@ loop-turn-preserved g c =
       ms ++ ns,
       Consumes-trans _ _ _ _ _ took more,
       Appends-trans _ _ _ _ _ held and,
-      went_round by nodes c.loop-turn._turn _ _ ms f (view c.answer_all.new.progress) ns _ out goes flushed good,
+      went_round by nodes c.loop-turn._turn _ _ ms f (serving_state c.answer_all.new.progress) ns _ out goes flushed good,
       c.in-Ok-answer_all.ensures.range,
       c.in-Ok-answer_all.ensures.small,
     )
@@ -137,7 +137,7 @@ pub returns-clause-run : goal.returns-clause-run
 returns-clause-run g c =
     let by = g.T.Rounds.answering c.args.answers.now in
     let nodes = g.T.Rounds.nodes c.args.answers.now in
-    let v = view c.loop-turn.progress in
+    let v = serving_state c.loop-turn.progress in
     let (got, put, ms, took, held, run, range, small) = c.loop-turn.invariant in
     let last : c.loop-turn._turn ≡ c.args.turns = omega (arith, c.loop-turn-test.false, c.loop-turn.auto._turn-end) in
     let t : Trace = record { got = got; put = put; source_before = g.S.Source.counts c.args.source.now; source = g.S.Source.counts c.loop-turn.source; sink_before = g.K.Sink.counts c.args.sink.now; sink = g.K.Sink.counts c.loop-turn.sink } in

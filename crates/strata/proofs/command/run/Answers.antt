@@ -1,7 +1,7 @@
 use Rattle.std.proofs.Common.{subst, OnOk, IfErr}
 use Rattle.devices.specs.States.{sink_state}
 use Rattle.serve_core.specs.Preparing.{contents_of}
-use Rattle.strata.specs.Ending.{AreGood, AreNotGood, IsListed, IsNotListed}
+use Rattle.strata.specs.Ending.{AreGood, AreNotGood, IsStackListed, IsNotListed}
 use Rattle.strata.proofs.Ended.{all_named, did, broke_off, beside_ok, beside_err, unread}
 use Rattle.command_line.specs.declared.options.Verb.TheVariants.{Serve, Check, List}
 use Rattle.strata.proofs.command.run.Goals as goal
@@ -40,7 +40,7 @@ returns-clause-done g c =
     let line = c.in_ok-line.line in
     let named = all_named line _ c.in_ok-images.images _ c.in_ok-images.ensures.ok c.as_slice.ensures.len in
     did g.row.A.Denot _ line _ List _ _ c.in_ok-line.ensures.ok named c.in-List.is c.list.result
-    (beside_ok _ _ c.list.result (subst (λ p. OnOk c.list.result (IsListed p (contents_of c.in_ok-images.images) (sink_state (g.K.Sink.held c.args.output.now) (g.K.Sink.counts c.args.output.now)) (sink_state (g.K.Sink.held c.list.new.output) (g.K.Sink.counts c.list.new.output)))) c.profile_of-in-List.ensures c.list.ensures.done))
+    (beside_ok _ _ c.list.result (subst (λ p. OnOk c.list.result (IsStackListed p (contents_of c.in_ok-images.images) (sink_state (g.K.Sink.held c.args.output.now) (g.K.Sink.counts c.args.output.now)) (sink_state (g.K.Sink.held c.list.new.output) (g.K.Sink.counts c.list.new.output)))) c.profile_of-in-List.ensures c.list.ensures.done))
 
 pub returns-clause-stopped : goal.returns-clause-stopped
 returns-clause-stopped g c =
