@@ -4,7 +4,7 @@ use Rattle.std.specs.List.{AllWithin}
 use Rattle.std.specs.Int.Bits.{bit_and, and_mask}
 use Rattle.std.proofs.Math.Nat.{mod-eq_of_lt}
 use Rattle.std.proofs.lemmas.Bool.{cases_lt, leb-false, lt-ltb, le-ltb}
-use Rattle.name_keys.specs.Runs.{IsRun}
+use Rattle.name_keys.specs.Runs.{IsKeyRun}
 
 -- the borrow of a difference, as a mask
 pub borrowed : (x y n : ℕ) → x < 2 ^ 64 → y < 2 ^ 64 → n < 2 ^ 64 → bit_and n ((x + (2 ^ 128 - y)) % 2 ^ 128 / 2 ^ 64) ≡ cond (ltb x y) n 0
@@ -27,7 +27,7 @@ module _ (keys : List ℕ) (key : ℕ) where
 
   pub from_both : (low high : ℕ) → low ≤ length keys → high ≤ length keys
       → AllWithin (λ y. y < key) keys 0 low → AllWithin (λ y. key ≤ y) keys low (length keys) →
-      AllWithin (λ y. leb y key ≡ true) keys 0 high → AllWithin (λ y. leb y key ≡ false) keys high (length keys) → IsRun keys key low high
+      AllWithin (λ y. leb y key ≡ true) keys 0 high → AllWithin (λ y. leb y key ≡ false) keys high (length keys) → IsKeyRun keys key low high
   from_both low high l h p from to q = record {
     within_low = l;
     within_high = h;

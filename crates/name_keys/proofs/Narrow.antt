@@ -9,7 +9,7 @@ use Rattle.std.specs.declared.cmp.Ordering.TheVariants.{Less}
 use Rattle.std.proofs.lemmas.Bool.{cases_order}
 use Rattle.std.proofs.lemmas.List.{get_or-map, length-map, take-append-drop}
 use Rattle.name_keys.specs.Keys.{name_key, AreBytes}
-use Rattle.name_keys.specs.Runs.{IsRun}
+use Rattle.name_keys.specs.Runs.{IsKeyRun}
 use Rattle.name_keys.specs.Keyed.{AreKeyed, Narrows, first_of}
 use Rattle.name_keys.proofs.Fronts.{long_each}
 use Rattle.name_keys.proofs.Order.{Bytes, bytes-drop, each_byte, name_key_order, name_key_tells, cmp-front}
@@ -45,7 +45,7 @@ module _ (shared : ℕ) (keys : List ℕ) (names : List (List ℕ)) (is : AreKey
   other_key : (name : List ℕ) (k : ℕ) (d : List ℕ) → k < length names → slice_index_or keys k 0 ≢ name_key (drop shared name) → slice_index_or names k d ≢ name
   other_key name k d l n e = n (key_at k d 0 l ∙ ap (λ (x : List ℕ). name_key (drop shared x)) e)
 
-  pub narrows : (name : List ℕ) (t low high : ℕ) → t ≡ name_key (drop shared name) → IsRun keys t low high → Narrows names name low high
+  pub narrows : (name : List ℕ) (t low high : ℕ) → t ≡ name_key (drop shared name) → IsKeyRun keys t low high → Narrows names name low high
   narrows name t low high made run =
       let n = length-keys in
       let within = run.within_low in

@@ -3,12 +3,12 @@
 ghost use Rattle.std.specs.Prelude.{◌≡◌, ◌≤◌, ◌<◌, length, nat_lt, if◌then◌else◌};
 ghost use Rattle.std.specs.List.{AllWithin};
 ghost use Rattle.std.specs.List.Sorted.{IsNonDecreasing};
-ghost use Rattle.name_keys.specs.Runs.{IsRun};
+ghost use Rattle.name_keys.specs.Runs.{IsKeyRun};
 
 /// From where to where a key stands. Where it is in no place, these are the same.
 pub(crate) fn run_of(keys: &[u64], key: u64) -> (usize, usize)
     requires { IsNonDecreasing keys.now }
-    ensures { IsRun keys.now key result.0 result.1 }
+    ensures { IsKeyRun keys.now key result.0 result.1 }
 {
     let low = first_from(keys, key);
     if low == keys.len() || keys[low] != key {

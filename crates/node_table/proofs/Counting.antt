@@ -13,7 +13,7 @@ use Rattle.layer_tree.specs.declared.place.Entry.{Entry}
 use Rattle.node_table.specs.Readers.{placed}
 use Rattle.node_table.specs.Walks.{Spot}
 use Rattle.node_table.specs.Firsts.{IsFirstOf, AreFirsts}
-use Rattle.node_table.specs.Numbering.{key, key_of, one_more, place_of, bare, seen, paths_of, IsFirst, AreKeys, IsNumbered}
+use Rattle.node_table.specs.Numbering.{place_key, key_of, one_more, spot_place, bare, seen, paths_of, IsFirstSpot, AreKeys, IsNumbered}
 
 pub same_itself : (p : ModelPlace) → same_place p p ≡ true
 same_itself p = rw (eq-eqb p.0 p.0 refl, eq-eqb p.1 p.1 refl) refl
@@ -181,9 +181,9 @@ spot_there [] i spot l e = absurd (omega arith)
 spot_there (x ∷ spots) zero spot l e = ap Some (sym e)
 spot_there (x ∷ spots) (suc i) spot l e = spot_there spots i spot (omega arith) e
 
-get_map : (spots : List (Spot Entry)) (k : ℕ) (spot : Spot Entry) → slice_get spots k ≡ Some spot → slice_get (map place_of spots) k ≡ Some (place_of spot)
+get_map : (spots : List (Spot Entry)) (k : ℕ) (spot : Spot Entry) → slice_get spots k ≡ Some spot → slice_get (map spot_place spots) k ≡ Some (spot_place spot)
 get_map [] k spot e = absurd (cc)
-get_map (x ∷ spots) zero spot e = let f : x ≡ spot = cc in ap (λ (y : Spot Entry). Some (place_of y)) f
+get_map (x ∷ spots) zero spot e = let f : x ≡ spot = cc in ap (λ (y : Spot Entry). Some (spot_place y)) f
 get_map (x ∷ spots) (suc k) spot e = get_map spots k spot e
 
 get_below : {X : Type 0} (xs : List X) (k : ℕ) (x : X) → slice_get xs k ≡ Some x → k < length xs
@@ -207,16 +207,16 @@ index_end : (xs : List ℕ) (y : ℕ) → slice_index (xs ++ y ∷ []) (length x
 index_end [] y = refl
 index_end (x ∷ xs) y = index_end xs y
 
-length_map : (spots : List (Spot Entry)) → length (map place_of spots) ≡ length spots
+length_map : (spots : List (Spot Entry)) → length (map spot_place spots) ≡ length spots
 length_map [] = refl
 length_map (x ∷ spots) = ap suc (length_map spots)
 
-map_more : (spots : List (Spot Entry)) (spot : Spot Entry) → map place_of (spots ++ spot ∷ []) ≡ map place_of spots ++ place_of spot ∷ []
+map_more : (spots : List (Spot Entry)) (spot : Spot Entry) → map spot_place (spots ++ spot ∷ []) ≡ map spot_place spots ++ spot_place spot ∷ []
 map_more [] spot = refl
-map_more (x ∷ spots) spot = ap (λ r. place_of x ∷ r) (map_more spots spot)
+map_more (x ∷ spots) spot = ap (λ r. spot_place x ∷ r) (map_more spots spot)
 
 -- two places with one key are one
-key_tells : (q r : Place) → q.header < 2 ^ 32 → r.header < 2 ^ 32 → key q ≡ key r → placed q ≡ placed r
+key_tells : (q r : Place) → q.header < 2 ^ 32 → r.header < 2 ^ 32 → place_key q ≡ place_key r → placed q ≡ placed r
 key_tells q r l m e =
     let a : q.layer ≡ r.layer = omega arith in
     let b : q.header ≡ r.header = omega arith in
@@ -225,7 +225,7 @@ key_tells q r l m e =
 pub begins : (spots first : List (Spot Entry)) (starts paths numbers : List ℕ) → first ≡ [] → starts ≡ [] → paths ≡ [] → numbers ≡ [] → IsNumbered spots 0 first starts paths numbers
 unfolding number_of nodes
 begins spots first starts paths numbers e d f n = record {
-  places = ap (map place_of) e ∙ empty;
+  places = ap (map spot_place) e ∙ empty;
   each = λ k x g. absurd (let h = rw e at g in cc);
   starts_level = ap length d ∙ sym (ap length e);
   starts_are = λ k x g. absurd (let h = rw e at g in cc);
@@ -253,36 +253,36 @@ module _ (spots : List (Spot Entry)) (i : ℕ) (spot : Spot Entry) (first : List
   more = seen_last spots i spot lt here
 
   -- the number of the place of a first spot
-  number_of_first : (k : ℕ) (x : Spot Entry) → slice_get first k ≡ Some x → number_of (seen spots i) (place_of x) ≡ Some (suc k)
-  number_of_first k x e = (number_used (seen spots i) (suc k) (place_of x)).1 (subst (λ ps. slice_get ps k ≡ Some (place_of x)) inv.places (get_map first k x e))
+  number_of_first : (k : ℕ) (x : Spot Entry) → slice_get first k ≡ Some x → number_of (seen spots i) (spot_place x) ≡ Some (suc k)
+  number_of_first k x e = (number_used (seen spots i) (suc k) (spot_place x)).1 (subst (λ ps. slice_get ps k ≡ Some (spot_place x)) inv.places (get_map first k x e))
 
-  pub number_positive : (n : ℕ) → number_of (seen spots i) (place_of spot) ≡ Some n → (1 ≤ n) × (n - 1 < length paths)
-  number_positive zero f = absurd (let z = (number_used (seen spots i) 0 (place_of spot)).0 f in cc)
+  pub number_positive : (n : ℕ) → number_of (seen spots i) (spot_place spot) ≡ Some n → (1 ≤ n) × (n - 1 < length paths)
+  number_positive zero f = absurd (let z = (number_used (seen spots i) 0 (spot_place spot)).0 f in cc)
   number_positive (suc k) f =
-      let z = (number_used (seen spots i) (suc k) (place_of spot)).0 f in
-      let l = get_below (nodes (seen spots i)) k (place_of spot) z in
+      let z = (number_used (seen spots i) (suc k) (spot_place spot)).0 f in
+      let l = get_below (nodes (seen spots i)) k (spot_place spot) z in
       let m = ap length inv.places in
       let n = length_map first in
       let v = inv.level in
       (omega arith, omega arith)
 
   -- one entry more with the place p, or with another
-  paths_more : (q : ModelPlace) → paths_of (seen spots (i + 1)) q ≡ paths_of (seen spots i) q + cond (same_place q (place_of spot)) 1 0
+  paths_more : (q : ModelPlace) → paths_of (seen spots (i + 1)) q ≡ paths_of (seen spots i) q + cond (same_place q (spot_place spot)) 1 0
   paths_more q = ap (λ es. paths_of es q) more ∙ paths_last (seen spots i) (bare spot) q
 
   held : (a b c d : ℕ) → d ≡ one_more c → c ≡ min a (2 ^ 32 - 1) → b ≡ a + 1 → d ≡ min b (2 ^ 32 - 1)
   held a b c d e f g = omega arith
 
   -- the numbers of the spots before this one, and its own
-  knows : (n : ℕ) → ((k : ℕ) (x : Spot Entry) → k < i → slice_get spots k ≡ Some x → number_of (seen spots (i + 1)) (place_of x) ≡ Some (slice_index numbers k)) → number_of (seen spots (i + 1)) (place_of spot) ≡ Some n → (k : ℕ) (x : Spot Entry) → slice_get spots k ≡ Some x → (k < i) ⊎ (k ≡ i) → number_of (seen spots (i + 1)) (place_of x) ≡ Some (slice_index (numbers ++ n ∷ []) k)
+  knows : (n : ℕ) → ((k : ℕ) (x : Spot Entry) → k < i → slice_get spots k ≡ Some x → number_of (seen spots (i + 1)) (spot_place x) ≡ Some (slice_index numbers k)) → number_of (seen spots (i + 1)) (spot_place spot) ≡ Some n → (k : ℕ) (x : Spot Entry) → slice_get spots k ≡ Some x → (k < i) ⊎ (k ≡ i) → number_of (seen spots (i + 1)) (spot_place x) ≡ Some (slice_index (numbers ++ n ∷ []) k)
   knows n before own k x e (inl l) = before k x l e ∙ ap Some (sym (index_last numbers n k (let v = inv.numbers_level in omega arith)))
   knows n before own k x e (inr l) =
       let z : Some spot ≡ Some x = sym (spot_there spots i spot lt here) ∙ ap (slice_get spots) (sym l) ∙ e in
       let same : spot ≡ x = cc in
-      ap (λ (y : Spot Entry). number_of (seen spots (i + 1)) (place_of y)) (sym same) ∙ own
+      ap (λ (y : Spot Entry). number_of (seen spots (i + 1)) (spot_place y)) (sym same) ∙ own
       ∙ ap Some (sym (ap (slice_index (numbers ++ n ∷ [])) (l ∙ sym inv.numbers_level) ∙ index_end numbers n))
 
-  pub was_known : (n : ℕ) (paths' numbers' : List ℕ) → number_of (seen spots i) (place_of spot) ≡ Some n → paths' ≡ slice_set paths (n - 1) (one_more (slice_index paths (n - 1))) → numbers' ≡ numbers ++ n ∷ [] → IsNumbered spots (i + 1) first starts paths' numbers'
+  pub was_known : (n : ℕ) (paths' numbers' : List ℕ) → number_of (seen spots i) (spot_place spot) ≡ Some n → paths' ≡ slice_set paths (n - 1) (one_more (slice_index paths (n - 1))) → numbers' ≡ numbers ++ n ∷ [] → IsNumbered spots (i + 1) first starts paths' numbers'
   was_known n paths' numbers' k0 s m = record {
     places = inv.places ∙ sym same;
     each = inv.each;
@@ -291,15 +291,15 @@ module _ (spots : List (Spot Entry)) (i : ℕ) (spot : Spot Entry) (first : List
     level = ap length s ∙ simp length-set inv.level;
     counted = counts;
     numbers_level = ap length m ∙ length_more numbers n ∙ ap (λ k. k + 1) inv.numbers_level;
-    known = λ k x l e. subst (λ xs. number_of (seen spots (i + 1)) (place_of x) ≡ Some (slice_index xs k)) (sym m)
-        (knows n (λ k x l e. number_by (seen spots (i + 1)) (seen spots i) (place_of x) same ∙ inv.known k x l e) (number_by (seen spots (i + 1)) (seen spots i) (place_of spot) same ∙ k0) k x e (below_or_at k i l));
+    known = λ k x l e. subst (λ xs. number_of (seen spots (i + 1)) (spot_place x) ≡ Some (slice_index xs k)) (sym m)
+        (knows n (λ k x l e. number_by (seen spots (i + 1)) (seen spots i) (spot_place x) same ∙ inv.known k x l e) (number_by (seen spots (i + 1)) (seen spots i) (spot_place spot) same ∙ k0) k x e (below_or_at k i l));
   }
     where
       same : nodes (seen spots (i + 1)) ≡ nodes (seen spots i)
       same = ap nodes more ∙ nodes_known (seen spots i) (bare spot) n k0
 
-      counts : (k : ℕ) (x : Spot Entry) → slice_get first k ≡ Some x → slice_index paths' k ≡ min (paths_of (seen spots (i + 1)) (place_of x)) (2 ^ 32 - 1)
-      counts k x f = elim (same_or_other (place_of x) (place_of spot)) [
+      counts : (k : ℕ) (x : Spot Entry) → slice_get first k ≡ Some x → slice_index paths' k ≡ min (paths_of (seen spots (i + 1)) (spot_place x)) (2 ^ 32 - 1)
+      counts k x f = elim (same_or_other (spot_place x) (spot_place spot)) [
         | inl (q, t) ↦
             let z : Some (suc k) ≡ Some n = sym (number_of_first k x f) ∙ ap (number_of (seen spots i)) q ∙ k0 in
             let y : suc k ≡ n = cc in
@@ -309,52 +309,52 @@ module _ (spots : List (Spot Entry)) (i : ℕ) (spot : Spot Entry) (first : List
             let lt : k < length paths = omega arith in
             let set_is : paths' ≡ slice_set paths k (one_more (slice_index paths k)) = subst (λ m. paths' ≡ slice_set paths m (one_more (slice_index paths m))) j s in
             let at : slice_index paths' k ≡ one_more (slice_index paths k) = ap (λ xs. slice_index xs k) set_is ∙ rw get_or-set_same refl in
-            held (paths_of (seen spots i) (place_of x)) (paths_of (seen spots (i + 1)) (place_of x)) (slice_index paths k) (slice_index paths' k) at (inv.counted k x f) (paths_more (place_of x) ∙ ap (λ c. paths_of (seen spots i) (place_of x) + cond c 1 0) t)
+            held (paths_of (seen spots i) (spot_place x)) (paths_of (seen spots (i + 1)) (spot_place x)) (slice_index paths k) (slice_index paths' k) at (inv.counted k x f) (paths_more (spot_place x) ∙ ap (λ c. paths_of (seen spots i) (spot_place x) + cond c 1 0) t)
         | inr t ↦
             let ne : k ≢ n - 1 = apart k x f t in
             let at : slice_index paths' k ≡ slice_index paths k = ap (λ xs. slice_index xs k) s ∙ rw get_or-set_other refl in
-            at ∙ inv.counted k x f ∙ ap (λ c. min c (2 ^ 32 - 1)) (sym (paths_more (place_of x) ∙ ap (λ c. paths_of (seen spots i) (place_of x) + cond c 1 0) t ∙ omega arith))
+            at ∙ inv.counted k x f ∙ ap (λ c. min c (2 ^ 32 - 1)) (sym (paths_more (spot_place x) ∙ ap (λ c. paths_of (seen spots i) (spot_place x) + cond c 1 0) t ∙ omega arith))
       ]
         where
-          apart : (k : ℕ) (x : Spot Entry) → slice_get first k ≡ Some x → same_place (place_of x) (place_of spot) ≡ false → k ≢ n - 1
+          apart : (k : ℕ) (x : Spot Entry) → slice_get first k ≡ Some x → same_place (spot_place x) (spot_place spot) ≡ false → k ≢ n - 1
           apart k x f t q =
               let b = (number_positive n k0).0 in
               let y : suc k ≡ n = omega arith in
-              let u = (number_used (seen spots i) n (place_of spot)).0 k0 in
-              let v = (number_used (seen spots i) (suc k) (place_of x)).0 (number_of_first k x f) in
-              let w : Some (place_of x) ≡ Some (place_of spot) = sym v ∙ ap (node_of (seen spots i)) y ∙ u in
-              let z : place_of x ≡ place_of spot = cc in
-              let r : same_place (place_of x) (place_of spot) ≡ true = ap (λ q. same_place q (place_of spot)) z ∙ same_itself (place_of spot) in
+              let u = (number_used (seen spots i) n (spot_place spot)).0 k0 in
+              let v = (number_used (seen spots i) (suc k) (spot_place x)).0 (number_of_first k x f) in
+              let w : Some (spot_place x) ≡ Some (spot_place spot) = sym v ∙ ap (node_of (seen spots i)) y ∙ u in
+              let z : spot_place x ≡ spot_place spot = cc in
+              let r : same_place (spot_place x) (spot_place spot) ≡ true = ap (λ q. same_place q (spot_place spot)) z ∙ same_itself (spot_place spot) in
               cc
 
-  pub is_new : (n : ℕ) (first' : List (Spot Entry)) (starts' paths' numbers' : List ℕ) → number_of (seen spots i) (place_of spot) ≡ None → n ≡ length first + 1 → first' ≡ first ++ spot ∷ [] → starts' ≡ starts ++ i ∷ [] → paths' ≡ paths ++ 1 ∷ [] → numbers' ≡ numbers ++ n ∷ [] → IsNumbered spots (i + 1) first' starts' paths' numbers'
+  pub is_new : (n : ℕ) (first' : List (Spot Entry)) (starts' paths' numbers' : List ℕ) → number_of (seen spots i) (spot_place spot) ≡ None → n ≡ length first + 1 → first' ≡ first ++ spot ∷ [] → starts' ≡ starts ++ i ∷ [] → paths' ≡ paths ++ 1 ∷ [] → numbers' ≡ numbers ++ n ∷ [] → IsNumbered spots (i + 1) first' starts' paths' numbers'
   is_new n first' starts' paths' numbers' k0 l m d o u = record {
-    places = ap (map place_of) m ∙ map_more first spot ∙ ap (λ ps. ps ++ place_of spot ∷ []) inv.places ∙ sym grown;
+    places = ap (map spot_place) m ∙ map_more first spot ∙ ap (λ ps. ps ++ spot_place spot ∷ []) inv.places ∙ sym grown;
     each = λ k x f. elim (get_last first spot k x (subst (λ xs. slice_get xs k ≡ Some x) m f)) [
       | inl g ↦ inv.each k x g
-      | inr (a, b) ↦ subst (IsFirst spots) b (record { at = i; is = spot_there spots i spot lt here; new = k0 })
+      | inr (a, b) ↦ subst (IsFirstSpot spots) b (record { at = i; is = spot_there spots i spot lt here; new = k0 })
     ];
     starts_level = ap length d ∙ length_more starts i ∙ ap (λ k. k + 1) inv.starts_level ∙ sym (ap length m ∙ length_more first spot);
     starts_are = λ k x f. subst (λ xs. slice_get spots (slice_index xs k) ≡ Some x) (sym d) (starting k x (get_last first spot k x (subst (λ xs. slice_get xs k ≡ Some x) m f)));
     level = ap length o ∙ length_more paths 1 ∙ ap (λ k. k + 1) inv.level ∙ sym (ap length m ∙ length_more first spot);
     counted = λ k x f. counts k x (get_last first spot k x (subst (λ xs. slice_get xs k ≡ Some x) m f));
     numbers_level = ap length u ∙ length_more numbers n ∙ ap (λ k. k + 1) inv.numbers_level;
-    known = λ k x l e. subst (λ xs. number_of (seen spots (i + 1)) (place_of x) ≡ Some (slice_index xs k)) (sym u) (knows n before own k x e (below_or_at k i l));
+    known = λ k x l e. subst (λ xs. number_of (seen spots (i + 1)) (spot_place x) ≡ Some (slice_index xs k)) (sym u) (knows n before own k x e (below_or_at k i l));
   }
     where
-      grown : nodes (seen spots (i + 1)) ≡ nodes (seen spots i) ++ place_of spot ∷ []
+      grown : nodes (seen spots (i + 1)) ≡ nodes (seen spots i) ++ spot_place spot ∷ []
       grown = ap nodes more ∙ nodes_new (seen spots i) (bare spot) k0
 
       n_is : n ≡ length (nodes (seen spots i)) + 1
       n_is = l ∙ ap (λ k. k + 1) (sym (length_map first) ∙ ap length inv.places)
 
-      own : number_of (seen spots (i + 1)) (place_of spot) ≡ Some n
-      own = ap (λ es. number_of es (place_of spot)) more ∙ number_new (seen spots i) (bare spot) k0 ∙ ap Some (sym n_is)
+      own : number_of (seen spots (i + 1)) (spot_place spot) ≡ Some n
+      own = ap (λ es. number_of es (spot_place spot)) more ∙ number_new (seen spots i) (bare spot) k0 ∙ ap Some (sym n_is)
 
-      before : (k : ℕ) (x : Spot Entry) → k < i → slice_get spots k ≡ Some x → number_of (seen spots (i + 1)) (place_of x) ≡ Some (slice_index numbers k)
-      before k x l e = elim (same_or_other (place_of x) (place_of spot)) [
+      before : (k : ℕ) (x : Spot Entry) → k < i → slice_get spots k ≡ Some x → number_of (seen spots (i + 1)) (spot_place x) ≡ Some (slice_index numbers k)
+      before k x l e = elim (same_or_other (spot_place x) (spot_place spot)) [
         | inl q ↦ absurd (let z : Some (slice_index numbers k) ≡ None = sym (inv.known k x l e) ∙ ap (number_of (seen spots i)) q.0 ∙ k0 in cc)
-        | inr t ↦ ap (λ es. number_of es (place_of x)) more ∙ number_other (seen spots i) (bare spot) (place_of x) k0 t ∙ inv.known k x l e
+        | inr t ↦ ap (λ es. number_of es (spot_place x)) more ∙ number_other (seen spots i) (bare spot) (spot_place x) k0 t ∙ inv.known k x l e
       ]
 
       starting : (k : ℕ) (x : Spot Entry) → (slice_get first k ≡ Some x) ⊎ ((k ≡ length first) × (spot ≡ x)) → slice_get spots (slice_index (starts ++ i ∷ []) k) ≡ Some x
@@ -364,25 +364,25 @@ module _ (spots : List (Spot Entry)) (i : ℕ) (spot : Spot Entry) (first : List
           ap (slice_get spots) (index_last starts i k (omega arith)) ∙ inv.starts_are k x f
       starting k x (inr (a, b)) = ap (slice_get spots) (ap (slice_index (starts ++ i ∷ [])) (a ∙ sym inv.starts_level) ∙ index_end starts i) ∙ spot_there spots i spot lt here ∙ ap Some b
 
-      counts : (k : ℕ) (x : Spot Entry) → (slice_get first k ≡ Some x) ⊎ ((k ≡ length first) × (spot ≡ x)) → slice_index paths' k ≡ min (paths_of (seen spots (i + 1)) (place_of x)) (2 ^ 32 - 1)
+      counts : (k : ℕ) (x : Spot Entry) → (slice_get first k ≡ Some x) ⊎ ((k ≡ length first) × (spot ≡ x)) → slice_index paths' k ≡ min (paths_of (seen spots (i + 1)) (spot_place x)) (2 ^ 32 - 1)
       counts k x (inl f) =
           let b = get_below first k x f in
           let v = inv.level in
-          let t : same_place (place_of x) (place_of spot) ≡ false = other k x f in
+          let t : same_place (spot_place x) (spot_place spot) ≡ false = other k x f in
           ap (λ xs. slice_index xs k) o ∙ index_last paths 1 k (omega arith) ∙ inv.counted k x f
-          ∙ ap (λ c. min c (2 ^ 32 - 1)) (sym (paths_more (place_of x) ∙ ap (λ c. paths_of (seen spots i) (place_of x) + cond c 1 0) t ∙ omega arith))
+          ∙ ap (λ c. min c (2 ^ 32 - 1)) (sym (paths_more (spot_place x) ∙ ap (λ c. paths_of (seen spots i) (spot_place x) + cond c 1 0) t ∙ omega arith))
         where
-          other : (k : ℕ) (x : Spot Entry) → slice_get first k ≡ Some x → same_place (place_of x) (place_of spot) ≡ false
-          other k x f = elim (same_or_other (place_of x) (place_of spot)) [
+          other : (k : ℕ) (x : Spot Entry) → slice_get first k ≡ Some x → same_place (spot_place x) (spot_place spot) ≡ false
+          other k x f = elim (same_or_other (spot_place x) (spot_place spot)) [
             | inr t ↦ t
             | inl q ↦ absurd (let z : Some (suc k) ≡ None = sym (number_of_first k x f) ∙ ap (number_of (seen spots i)) q.0 ∙ k0 in cc)
           ]
       counts k x (inr (a, b)) =
-          let zero_paths : paths_of (seen spots i) (place_of spot) ≡ 0 = none_paths (seen spots i) (place_of spot) (not_among (seen spots i) (place_of spot) k0) in
-          let one : paths_of (seen spots (i + 1)) (place_of spot) ≡ 1 = paths_more (place_of spot) ∙ ap (λ c. paths_of (seen spots i) (place_of spot) + cond c 1 0) (same_itself (place_of spot)) ∙ ap (λ c. c + 1) zero_paths in
+          let zero_paths : paths_of (seen spots i) (spot_place spot) ≡ 0 = none_paths (seen spots i) (spot_place spot) (not_among (seen spots i) (spot_place spot) k0) in
+          let one : paths_of (seen spots (i + 1)) (spot_place spot) ≡ 1 = paths_more (spot_place spot) ∙ ap (λ c. paths_of (seen spots i) (spot_place spot) + cond c 1 0) (same_itself (spot_place spot)) ∙ ap (λ c. c + 1) zero_paths in
           let j : k ≡ length paths = a ∙ sym inv.level in
           ap (λ xs. slice_index xs k) o ∙ ap (slice_index (paths ++ 1 ∷ [])) j ∙ index_end paths 1
-          ∙ sym (ap (λ (y : Spot Entry). min (paths_of (seen spots (i + 1)) (place_of y)) (2 ^ 32 - 1)) (sym b) ∙ ap (λ c. min c (2 ^ 32 - 1)) one)
+          ∙ sym (ap (λ (y : Spot Entry). min (paths_of (seen spots (i + 1)) (spot_place y)) (2 ^ 32 - 1)) (sym b) ∙ ap (λ c. min c (2 ^ 32 - 1)) one)
 
 -- what is among the first spots
 among_seen : (spots : List (Spot Entry)) (i : ℕ) (e : Listed) → IsAmong e (map bare (take i spots)) → (j : ℕ) × (s : Spot Entry) × (j < i) × (slice_get spots j ≡ Some s) × (e ≡ bare s)
@@ -422,7 +422,7 @@ module _ (spots : List (Spot Entry)) (keys firsts : List ℕ) (are : AreKeys spo
   small k s e = subst (λ (x : Spot Entry). x.0.now.value.place.header < 2 ^ 32) (get_or_is spots k s s e) (are.small k s (get_below spots k s e))
 
   -- spots with one key have one place
-  one_place : (j k : ℕ) (s t : Spot Entry) → slice_get spots j ≡ Some s → slice_get spots k ≡ Some t → slice_index keys j ≡ slice_index keys k → place_of s ≡ place_of t
+  one_place : (j k : ℕ) (s t : Spot Entry) → slice_get spots j ≡ Some s → slice_get spots k ≡ Some t → slice_index keys j ≡ slice_index keys k → spot_place s ≡ spot_place t
   one_place j k s t d e q = key_tells s.0.now.value.place t.0.now.value.place (small j s d) (small k t e) (sym (key_is j s d) ∙ q ∙ key_is k t e)
 
   module _ (i : ℕ) (spot : Spot Entry) (lt : i < length spots) (here : spot ≡ get_or spots i spot) where
@@ -436,7 +436,7 @@ module _ (spots : List (Spot Entry)) (keys firsts : List ℕ) (are : AreKeys spo
     not_after l = told.before i l refl
 
     -- a place that stands before has a number
-    pub has_number : (first : List (Spot Entry)) (starts paths numbers : List ℕ) → IsNumbered spots i first starts paths numbers → slice_index firsts i ≢ i → (slice_index firsts i < i) × (number_of (seen spots i) (place_of spot) ≡ Some (slice_index numbers (slice_index firsts i)))
+    pub has_number : (first : List (Spot Entry)) (starts paths numbers : List ℕ) → IsNumbered spots i first starts paths numbers → slice_index firsts i ≢ i → (slice_index firsts i < i) × (number_of (seen spots i) (spot_place spot) ≡ Some (slice_index numbers (slice_index firsts i)))
     has_number first starts paths numbers inv ne =
         let x = spot_below spots (slice_index firsts i) first_within in
         let same = one_place (slice_index firsts i) i x.0 spot x.1 (spot_there spots i spot lt here) told.at in
@@ -450,22 +450,22 @@ module _ (spots : List (Spot Entry)) (keys firsts : List ℕ) (are : AreKeys spo
         ]
 
     -- one that does not has none
-    pub has_none : slice_index firsts i ≡ i → number_of (seen spots i) (place_of spot) ≡ None
-    has_none same = test (number_of (seen spots i) (place_of spot)) refl
+    pub has_none : slice_index firsts i ≡ i → number_of (seen spots i) (spot_place spot) ≡ None
+    has_none same = test (number_of (seen spots i) (spot_place spot)) refl
       where
-        test : (o : Option ℕ) → number_of (seen spots i) (place_of spot) ≡ o → o ≡ None
+        test : (o : Option ℕ) → number_of (seen spots i) (spot_place spot) ≡ o → o ≡ None
         test None e = refl
         test (Some n) e = absurd (
-            let a = number_listed (seen spots i) n (place_of spot) ((number_used (seen spots i) n (place_of spot)).0 e) in
+            let a = number_listed (seen spots i) n (spot_place spot) ((number_used (seen spots i) n (spot_place spot)).0 e) in
             let b = among_seen spots i a.0 a.1 in
-            let p : place_of b.1 ≡ place_of spot = ap place (sym b.4) ∙ a.2 in
+            let p : spot_place b.1 ≡ spot_place spot = ap place (sym b.4) ∙ a.2 in
             let layers = ap (λ (q : ModelPlace). q.0) p in
             let headers = ap (λ (q : ModelPlace). q.1) p in
             let k : key_of b.1 ≡ key_of spot = omega arith in
             told.before b.0 (let l = b.2 in omega arith) (key_is b.0 b.1 b.3 ∙ k ∙ sym (key_is i spot (spot_there spots i spot lt here))))
 
     -- as the code finds it
-    pub known_before : (first : List (Spot Entry)) (starts paths numbers : List ℕ) → IsNumbered spots i first starts paths numbers → (before n : ℕ) → before ≡ slice_index firsts i → n ≡ slice_index numbers before → before ≢ i → number_of (seen spots i) (place_of spot) ≡ Some n
+    pub known_before : (first : List (Spot Entry)) (starts paths numbers : List ℕ) → IsNumbered spots i first starts paths numbers → (before n : ℕ) → before ≡ slice_index firsts i → n ≡ slice_index numbers before → before ≢ i → number_of (seen spots i) (spot_place spot) ≡ Some n
     known_before first starts paths numbers inv before n b m ne = (has_number first starts paths numbers inv (λ e. ne (b ∙ e))).1 ∙ ap Some (sym (m ∙ ap (slice_index numbers) b))
 
     pub is_before : (first : List (Spot Entry)) (starts paths numbers : List ℕ) → IsNumbered spots i first starts paths numbers → (before : ℕ) → before ≡ slice_index firsts i → before ≢ i → before < i

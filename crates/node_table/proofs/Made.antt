@@ -19,10 +19,10 @@ use Rattle.name_keys.specs.Keyed.{AreKeyed}
 use Rattle.node_table.specs.Rows.{Line, names}
 use Rattle.node_table.specs.Readers.{placed, rows_of}
 use Rattle.node_table.specs.Walks.{Spot}
-use Rattle.node_table.specs.Numbering.{place_of}
+use Rattle.node_table.specs.Numbering.{spot_place}
 use Rattle.node_table.specs.Building.{line_in, directories, IsReadFrom, IsMade, AddsDirectory, AddsLinked, AddsNothing, AddsByKind, AddsNode, completed}
 use Rattle.node_table.specs.Seeds.{AreSeedlings, IsSeed, AreSeeds, AreMade}
-use Rattle.node_table.specs.Held.{IsDirectory, HasDirectory, IsNode, AreNodes, IsSomeTable}
+use Rattle.node_table.specs.Held.{IsHeldDirectory, HoldsDirectory, IsNode, AreNodes, IsSomeTable}
 
 -- how far the making of nodes has come
 pub record Making (layers : List (List ℕ)) (entries : List Listed) (held : List Node) (folders : List Folder) (rows : List Line) (keys : List ℕ) (i : ℕ) : Type 0 where
@@ -117,7 +117,7 @@ get_new : {X : Type 0} (xs : List X) (y : X) → slice_get (xs ++ y ∷ []) (len
 get_new [] y = refl
 get_new (x ∷ xs) y = get_new xs y
 
-grown_directory : (layers : List (List ℕ)) (entries : List Listed) (rows more : List Line) (keys more_keys : List ℕ) (d : Folder) (p : ModelPlace) → length keys ≡ length rows → IsDirectory layers entries rows keys d p → IsDirectory layers entries (rows ++ more) (keys ++ more_keys) d p
+grown_directory : (layers : List (List ℕ)) (entries : List Listed) (rows more : List Line) (keys more_keys : List ℕ) (d : Folder) (p : ModelPlace) → length keys ≡ length rows → IsHeldDirectory layers entries rows keys d p → IsHeldDirectory layers entries (rows ++ more) (keys ++ more_keys) d p
 grown_directory layers entries rows more keys more_keys d p level n =
     let r = range_stays rows more d.rows_start d.rows_end n.start n.end in
     let k = range_stays keys more_keys d.rows_start d.rows_end n.start (let e = n.end in omega arith) in
@@ -170,7 +170,7 @@ module _ (layers : List (List ℕ)) (entries : List Listed) (tell : Place → �
       ∙ ap (λ xs. slice_range xs (length keys) (length xs)) m.keys_are.is
       ∙ range_last keys m.keys_are.keys
 
-  pub is_made : (p : ModelPlace) → is_directory_at layers p ≡ true → tell spot.1.place ≡ number entries (parent entries p) → AreSeedlings layers entries tell p cs → IsDirectory layers entries new keys' d p
+  pub is_made : (p : ModelPlace) → is_directory_at layers p ≡ true → tell spot.1.place ≡ number entries (parent entries p) → AreSeedlings layers entries tell p cs → IsHeldDirectory layers entries new keys' d p
   is_made p e above below = record {
     parent_is = m.parent_is ∙ above;
     start = (let s = m.start_is in let e = m.end_is in let r = ap length m.rows_are in omega (arith, length-append old (map (line_in tell) cs)));
@@ -181,7 +181,7 @@ module _ (layers : List (List ℕ)) (entries : List Listed) (tell : Place → �
 
 module _ (layers : List (List ℕ)) (entries : List Listed) (tell : Place → ℕ) (paths : ℕ) (spot : Spot Entry) (seed : IsSeed layers entries tell paths spot) (folders folders' : List Folder) (old new : List Line) (keys keys' : List ℕ) (level : length keys ≡ length old) (node : Node) (a : AddsNode layers tell spot paths folders folders' old new keys keys' node) where
   p : ModelPlace
-  p = place_of spot
+  p = spot_place spot
 
   q : Place
   q = spot.0.now.value.place
@@ -198,46 +198,46 @@ module _ (layers : List (List ℕ)) (entries : List Listed) (tell : Place → �
   layer : slice_index_or layers spot.0.now.value.place.layer [] ≡ seed.seat.image
   layer = layer_is layers spot.0.now.value.place.layer seed.seat.image seed.seat.is
 
-  kind_is : node.kind ≡ kind_at layers (place_of spot)
+  kind_is : node.kind ≡ kind_at layers (spot_place spot)
   kind_is = a.kind_is ∙ seed.kind_is
 
-  directory_is : is_directory node.kind ≡ is_directory_at layers (place_of spot)
+  directory_is : is_directory node.kind ≡ is_directory_at layers (spot_place spot)
   directory_is = ap is_directory kind_is
 
-  size_is : node.part.len ≡ size_at layers (place_of spot)
+  size_is : node.part.len ≡ size_at layers (spot_place spot)
   size_is = read.data_is.size_is ∙ sizes_agree (kind seed.seat.image spot.0.now.value.place.header) _ ∙ ap (λ x. size_of (kind x spot.0.now.value.place.header) (size x spot.0.now.value.place.header)) (sym layer)
 
-  mode_is : mode_of node.kind node.exec ≡ mode layers (place_of spot)
-  mode_is = ap (λ k. mode_of k node.exec) kind_is ∙ ap (mode_of (kind_at layers (place_of spot))) read.exec_is ∙ ap (λ x. mode_of (kind_at layers (place_of spot)) (exec x spot.0.now.value.place.header)) (sym layer)
+  mode_is : mode_of node.kind node.exec ≡ mode layers (spot_place spot)
+  mode_is = ap (λ k. mode_of k node.exec) kind_is ∙ ap (mode_of (kind_at layers (spot_place spot))) read.exec_is ∙ ap (λ x. mode_of (kind_at layers (spot_place spot)) (exec x spot.0.now.value.place.header)) (sym layer)
 
-  rdev_is : rdev_of node.kind node.rdev ≡ rdev layers (place_of spot)
-  rdev_is = ap (λ k. rdev_of k node.rdev) kind_is ∙ ap (rdev_of (kind_at layers (place_of spot))) read.spec_is ∙ ap (λ x. rdev_of (kind_at layers (place_of spot)) (spec x spot.0.now.value.place.header)) (sym layer)
+  rdev_is : rdev_of node.kind node.rdev ≡ rdev layers (spot_place spot)
+  rdev_is = ap (λ k. rdev_of k node.rdev) kind_is ∙ ap (rdev_of (kind_at layers (spot_place spot))) read.spec_is ∙ ap (λ x. rdev_of (kind_at layers (spot_place spot)) (spec x spot.0.now.value.place.header)) (sym layer)
 
   -- what a directory adds
-  module _ (d : is_directory_at layers (place_of spot) ≡ true) (l : AddsLinked tell spot node.nlink folders folders' old new keys keys') where
-    below : AreSeedlings layers entries tell (place_of spot) l.added.children
+  module _ (d : is_directory_at layers (spot_place spot) ≡ true) (l : AddsLinked tell spot node.nlink folders folders' old new keys keys') where
+    below : AreSeedlings layers entries tell (spot_place spot) l.added.children
     below = seed.below l.added.children l.added.below l.added.forest
 
-    nlink_directory : node.nlink ≡ nlink layers entries (place_of spot)
+    nlink_directory : node.nlink ≡ nlink layers entries (spot_place spot)
     nlink_directory =
         l.nlink_is ∙ ap (λ n. min (2 + n) (2 ^ 32 - 1)) (l.added.count_is ∙ below.count_is)
-        ∙ sym (ap (λ b. min (cond b (2 + count_by (λ (c : Child). is_directory_at layers c.place) (children entries (place_of spot))) (count_by (λ (f : Listed). same_place (place_of spot) (place f)) entries)) (2 ^ 32 - 1)) d)
+        ∙ sym (ap (λ b. min (cond b (2 + count_by (λ (c : Child). is_directory_at layers c.place) (children entries (spot_place spot))) (count_by (λ (f : Listed). same_place (spot_place spot) (place f)) entries)) (2 ^ 32 - 1)) d)
 
-    has_directory : HasDirectory layers entries folders' new keys' (completed node) (place_of spot)
+    has_directory : HoldsDirectory layers entries folders' new keys' (completed node) (spot_place spot)
     has_directory = record {
       directory = l.added.directory;
       is = ap (λ (x : List Folder). slice_get x node.directory) l.added.is ∙ ap (slice_get (folders ++ l.added.directory ∷ [])) a.directory_is ∙ get_new folders l.added.directory;
-      holds = is_made layers entries tell spot old new keys keys' level l.added.children l.added.directory l.added.made (place_of spot) d seed.parent_is below;
+      holds = is_made layers entries tell spot old new keys keys' level l.added.children l.added.directory l.added.made (spot_place spot) d seed.parent_is below;
     }
 
   -- how often it is linked, and its directory
-  held_by : (b : Bool) → is_directory_at layers (place_of spot) ≡ b → AddsByKind tell spot paths b node.nlink folders folders' old new keys keys' →
-      (node.nlink ≡ nlink layers entries (place_of spot)) × (is_directory_at layers (place_of spot) ≡ true → HasDirectory layers entries folders' new keys' (completed node) (place_of spot))
+  held_by : (b : Bool) → is_directory_at layers (spot_place spot) ≡ b → AddsByKind tell spot paths b node.nlink folders folders' old new keys keys' →
+      (node.nlink ≡ nlink layers entries (spot_place spot)) × (is_directory_at layers (spot_place spot) ≡ true → HoldsDirectory layers entries folders' new keys' (completed node) (spot_place spot))
   held_by true e l = (nlink_directory e l, λ d. has_directory e l)
   held_by false e n = (n.nlink_is ∙ seed.paths_are e, λ d. absurd (let f : true ≡ false = sym d ∙ e in cc))
 
-  holds_both : (node.nlink ≡ nlink layers entries (place_of spot)) × (is_directory_at layers (place_of spot) ≡ true → HasDirectory layers entries folders' new keys' (completed node) (place_of spot))
-  holds_both = held_by (is_directory_at layers (place_of spot)) refl (subst (λ b. AddsByKind tell spot paths b node.nlink folders folders' old new keys keys') directory_is a.adds)
+  holds_both : (node.nlink ≡ nlink layers entries (spot_place spot)) × (is_directory_at layers (spot_place spot) ≡ true → HoldsDirectory layers entries folders' new keys' (completed node) (spot_place spot))
+  holds_both = held_by (is_directory_at layers (spot_place spot)) refl (subst (λ b. AddsByKind tell spot paths b node.nlink folders folders' old new keys keys') directory_is a.adds)
 
   level_by : (b : Bool) → AddsByKind tell spot paths b node.nlink folders folders' old new keys keys' → length keys' ≡ length new
   level_by true l = level_made layers entries tell spot old new keys keys' level l.added.children l.added.directory l.added.made
@@ -263,7 +263,7 @@ module _ (layers : List (List ℕ)) (entries : List Listed) (tell : Place → �
   pub stays : (n : Node) (q : ModelPlace) → IsNode layers entries folders old keys n q → IsNode layers entries folders' new keys' n q
   stays = grown_by (is_directory node.kind) a.adds
 
-  pub is_node : IsNode layers entries folders' new keys' (completed node) (place_of spot)
+  pub is_node : IsNode layers entries folders' new keys' (completed node) (spot_place spot)
   is_node = record {
     place = ap placed a.place_is;
     holds = record {
@@ -293,8 +293,8 @@ goes_on layers entries tell first paths s held held' folders folders' rows rows'
         | inl g ↦ stays layers entries tell (slice_index paths i) spot (s.each i spot h) folders folders' rows rows' keys keys' m.keys_level node a (completed n) p (m.each k n p g f)
         | inr (j, g) ↦
             let k_is : k ≡ i = j ∙ m.level in
-            let z : Some p ≡ Some (place_of spot) = sym f ∙ ap (slice_get (nodes entries)) k_is ∙ subst (λ ps. slice_get ps i ≡ Some (place_of spot)) s.places (get_map place_of first i spot h) in
-            let p_is : place_of spot ≡ p = cc in
+            let z : Some p ≡ Some (spot_place spot) = sym f ∙ ap (slice_get (nodes entries)) k_is ∙ subst (λ ps. slice_get ps i ≡ Some (spot_place spot)) s.places (get_map spot_place first i spot h) in
+            let p_is : spot_place spot ≡ p = cc in
             subst (λ (x : Node). IsNode layers entries folders' rows' keys' (completed x) p) g (subst (IsNode layers entries folders' rows' keys' (completed node)) p_is (is_node layers entries tell (slice_index paths i) spot (s.each i spot h) folders folders' rows rows' keys keys' m.keys_level node a))
       ];
     }
@@ -304,7 +304,7 @@ ends layers entries tell first paths s held folders rows keys i e m = (
   entries,
   s.listing,
   record {
-    level = length_map completed held ∙ m.level ∙ e ∙ sym (length_map place_of first) ∙ ap length s.places;
+    level = length_map completed held ∙ m.level ∙ e ∙ sym (length_map spot_place first) ∙ ap length s.places;
     keys_level = m.keys_level;
     each = λ k node p f g. let x = get_of_map completed held k node f in subst (λ (n : Node). IsNode layers entries folders rows keys n p) x.2 (m.each k x.0 p x.1 g);
   },

@@ -10,7 +10,7 @@ use Rattle.std.proofs.lemmas.List.Sums.{position_or_len_is, fails_before_first}
 use Rattle.std.proofs.lemmas.Option.{slice_get-get_or}
 use Rattle.stack_model.specs.Numbers.{same_name}
 use Rattle.name_keys.specs.Names.{place_of}
-use Rattle.node_table.specs.Rows.{Line, names, numbers, named}
+use Rattle.node_table.specs.Rows.{Line, names, row_numbers, line_named}
 
 module _ (n : List ℕ) (ls : List Line) where
   abbrev is : Line → Bool
@@ -24,7 +24,7 @@ module _ (n : List ℕ) (ls : List Line) where
   place_within i e = let s = position-Some (same_name n) (names ls) i [] e in let l = s.0 in let m = length-map ls (λ (line : Line). line.name) in omega arith
 
   -- the row at the name's place is the first with the name
-  pub named_at : (i : ℕ) (d : Line) → place_of n (names ls) ≡ Some i → named n ls ≡ Some (get_or ls i d)
+  pub named_at : (i : ℕ) (d : Line) → place_of n (names ls) ≡ Some i → line_named n ls ≡ Some (get_or ls i d)
   named_at i d e =
       let s = position-Some (same_name n) (names ls) i [] e in
       let l = place_within i e in
@@ -37,7 +37,7 @@ none_is p [] f = refl
 none_is p (l ∷ ls) f = rw (f 0 l (omega arith)) (none_is p ls (λ k d m. f (suc k) d (omega arith)))
 
 -- where the name has no place, no row has the name
-pub named_nowhere : (n : List ℕ) (ls : List Line) → place_of n (names ls) ≡ None → named n ls ≡ None
+pub named_nowhere : (n : List ℕ) (ls : List Line) → place_of n (names ls) ≡ None → line_named n ls ≡ None
 named_nowhere n ls e = elim (cases_lt (position_or_len (same_name n) (names ls)) (length (names ls))) [
   | inl l ↦ absurd (let f = rw (lt-ltb _ _ l) at e in cc)
   | inr l ↦
@@ -46,11 +46,11 @@ named_nowhere n ls e = elim (cases_lt (position_or_len (same_name n) (names ls))
 ]
 
 -- the numbers of some rows that stand side by side
-pub range_numbers : (ls : List Line) (a b : ℕ) → slice_range (numbers ls) a b ≡ numbers (slice_range ls a b)
+pub range_numbers : (ls : List Line) (a b : ℕ) → slice_range (row_numbers ls) a b ≡ row_numbers (slice_range ls a b)
 range_numbers ls a b =
     let f = λ (l : Line). l.number in
     ap (take (b - a)) (drop-map f a ls) ∙ take-map f (b - a) (drop a ls)
 
 -- the number that stands beside the row at a place
-pub number_at : (ls : List Line) (ns : List ℕ) (i : ℕ) (d : Line) → ns ≡ numbers ls → i < length ls → (get_or ls i d).number ≡ slice_index ns i
+pub number_at : (ls : List Line) (ns : List ℕ) (i : ℕ) (d : Line) → ns ≡ row_numbers ls → i < length ls → (get_or ls i d).number ≡ slice_index ns i
 number_at ls ns i d e l = sym (get_or-map (λ (line : Line). line.number) ls i d 0 l) ∙ ap (λ (x : List ℕ). get_or x i 0) (sym e)

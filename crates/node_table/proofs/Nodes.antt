@@ -12,8 +12,8 @@ use Rattle.node_table.specs.declared.node.Node.{Node}
 use Rattle.node_table.specs.declared.directory.Directory.{Directory}
 use Rattle.node_table.specs.Stacked.{Stacked}
 use Rattle.node_table.specs.Rows.{Line, number_named}
-use Rattle.node_table.specs.Readers.{TellsNode, attr_of, attr_at, parent_of, parent_at, child_of, child_at, rows_of, rows_at, data_at}
-use Rattle.node_table.specs.Held.{held_at, kept_of, directory_held, attr_held, IsDirectory, IsNode, IsTable}
+use Rattle.node_table.specs.Readers.{TellsNode, attr_of, attr_at, parent_of, parent_at, child_of, child_at, rows_of, rows_at, data_of_number}
+use Rattle.node_table.specs.Held.{held_at, kept_of, directory_held, attr_held, IsHeldDirectory, IsNode, IsTable}
 
 -- an element that is there stands below the length
 below : {X : Type 0} (xs : List X) (k : ℕ) (x : X) → slice_get xs k ≡ Some x → k < length xs
@@ -111,7 +111,7 @@ module _ (layers : List (List ℕ)) (entries : List Entry) (held : List Node) (d
     pub at : Place
     pub is : node_of entries n ≡ Some at
     pub kind : is_directory_at layers at ≡ true
-    pub holds : IsDirectory layers entries rows keys directory at
+    pub holds : IsHeldDirectory layers entries rows keys directory at
 
   found_at : (n : ℕ) (node : Node) (directory : Directory) (h : IsHere n node) (b : Bool) → is_directory node.kind ≡ b → cond b (slice_get directories node.directory) None ≡ Some directory → IsFound n directory
   found_at n node directory h false e k = absurd (cc)
@@ -123,7 +123,7 @@ module _ (layers : List (List ℕ)) (entries : List Entry) (held : List Node) (d
         at = h.at;
         is = h.is;
         kind = ap is_directory (sym h.holds.kind) ∙ e;
-        holds = subst (λ (x : Directory). IsDirectory layers entries rows keys x h.at) is d.holds;
+        holds = subst (λ (x : Directory). IsHeldDirectory layers entries rows keys x h.at) is d.holds;
       }
 
   pub found : (n : ℕ) (directory : Directory) → directory_held held directories n ≡ Some directory → IsFound n directory
@@ -187,14 +187,14 @@ module _ (layers : List (List ℕ)) (entries : List Entry) (held : List Node) (d
       go None f = refl
       go (Some p) f = rw f refl
 
-  pub data_is : (n : ℕ) (node : Node) (image : List ℕ) → held_at held n ≡ Some node → image ≡ slice_index_or layers node.place.layer image → bytes_at image node.part.start node.part.len ≡ data_at stack n
+  pub data_is : (n : ℕ) (node : Node) (image : List ℕ) → held_at held n ≡ Some node → image ≡ slice_index_or layers node.place.layer image → bytes_at image node.part.start node.part.len ≡ data_of_number stack n
   data_is n node image e i =
       let h = here n node e in
       let a = h.holds.holds in
       let same : image ≡ a.image = i ∙ indexed layers node.place.layer a.image image a.is in
       rw (h.is, same) a.data_is
 
-  pub data_none : (n : ℕ) → held_at held n ≡ None → [] ≡ data_at stack n
+  pub data_none : (n : ℕ) → held_at held n ≡ None → [] ≡ data_of_number stack n
   data_none n e = rw (nowhere n e) refl
 
   pub image_there : (n : ℕ) (node : Node) → held_at held n ≡ Some node → node.place.layer < length layers

@@ -13,10 +13,10 @@ use Rattle.layer_tree.specs.declared.place.Entry.{Entry}
 use Rattle.layer_tree.specs.Trees.{TreeRows, IsTreeOf, listed}
 use Rattle.layer_tree.proofs.Listed.{is_listing}
 use Rattle.node_table.specs.Readers.{placed}
-use Rattle.node_table.specs.Walks.{Spot, under, IsLocated, AreWalked, size_of, AreAbove, AddsWalk}
-use Rattle.node_table.specs.Numbering.{place_of, bare, seen, paths_of, number_among, IsFirst, IsNumbered}
+use Rattle.node_table.specs.Walks.{Spot, under, IsLocated, AreWalked, spot_size, AreAbove, AddsWalk}
+use Rattle.node_table.specs.Numbering.{spot_place, bare, seen, paths_of, number_among, IsFirstSpot, IsNumbered}
 use Rattle.node_table.specs.Building.{line_in, IsPosted, AreFollowing, ArePosts}
-use Rattle.node_table.specs.Seeds.{line_of, AreSeedlings, IsSeed, AreSomeSeeds}
+use Rattle.node_table.specs.Seeds.{shown_line, AreSeedlings, IsSeed, AreSomeSeeds}
 use Rattle.node_table.proofs.Paths.{spread_append, child_located}
 use Rattle.node_table.proofs.Sizes.{same_value, same_size, ends_within}
 use Rattle.node_table.proofs.Counting.{count, counted}
@@ -113,16 +113,16 @@ module _ (layers : List (List ℕ)) (t : TreeRows) (is : IsTreeOf 0 layers t) (s
       go top [] a = tt
       go top (c ∷ cs) a = (a.0, go top cs (all_back (λ (r : Path × Entry). IsPlaced layers r.1) (under top (prefixed c.name c.below)) (under top (spread cs)) (subst (AllByRecursion (λ (r : Path × Entry). IsPlaced layers r.1)) (seeded.under_append top (prefixed c.name c.below) (spread cs)) a.1)))
 
-  seedlings : (k : ℕ) (spot : Spot Entry) (f : IsFirst spots spot) (cs : List (Shoot Entry)) → spot.0.now.below ≡ spread cs → IsForest cs → AreSeedlings layers (map listed t.entries) (number_among spots) (place_of spot) cs
+  seedlings : (k : ℕ) (spot : Spot Entry) (f : IsFirstSpot spots spot) (cs : List (Shoot Entry)) → spot.0.now.below ≡ spread cs → IsForest cs → AreSeedlings layers (map listed t.entries) (number_among spots) (spot_place spot) cs
   seedlings k spot f cs below forest =
       let c = seeded.children_are t.entries spots level at spot f cs below forest in
       let p = children_placed f.at spot f.is cs below in
       record {
-        rows_are = lines cs p ∙ ap (map (line_of (map listed t.entries))) (sym c);
+        rows_are = lines cs p ∙ ap (map (shown_line (map listed t.entries))) (sym c);
         count_is = sym (counted (λ (c : Shoot Entry). is_directory c.value.kind) cs) ∙ kinds cs p ∙ counted (λ (c : Child). is_directory_at layers c.place) (map child_of cs) ∙ ap (count_by (λ (c : Child). is_directory_at layers c.place)) (sym c);
       }
     where
-      lines : (cs : List (Shoot Entry)) → AllByRecursion (λ (c : Shoot Entry). IsPlaced layers c.value) cs → map (line_in (number_among spots)) cs ≡ map (line_of (map listed t.entries)) (map child_of cs)
+      lines : (cs : List (Shoot Entry)) → AllByRecursion (λ (c : Shoot Entry). IsPlaced layers c.value) cs → map (line_in (number_among spots)) cs ≡ map (shown_line (map listed t.entries)) (map child_of cs)
       lines [] a = refl
       lines (c ∷ cs) a = ap (λ (n : ℕ). record { number = n; name = c.name } ∷ map (line_in (number_among spots)) cs) (numbered c.value) ∙ ap (λ r. record { number = number (map listed t.entries) (placed c.value.place); name = c.name } ∷ r) (lines cs a.1)
 
@@ -137,11 +137,11 @@ module _ (layers : List (List ℕ)) (t : TreeRows) (is : IsTreeOf 0 layers t) (s
       let p = spot_placed f.at spot f.is in
       record {
         seat = record { image = p.image; is = p.is; given = p.given };
-        data_is = λ image s. let z : Some p.image ≡ Some image = sym p.is ∙ s in let q : p.image ≡ image = cc in subst (λ x. data_in x v.place.header ≡ data_of layers (place_of spot)) q (data_placed layers v p);
+        data_is = λ image s. let z : Some p.image ≡ Some image = sym p.is ∙ s in let q : p.image ≡ image = cc in subst (λ x. data_in x v.place.header ≡ data_of layers (spot_place spot)) q (data_placed layers v p);
         kind_is = kind_placed layers v p;
         parent_is = numbered spot.1 ∙ ap (number (map listed t.entries)) (sym (seeded.parent_is t.entries spots level at spot f));
         below = seedlings k spot f;
-        paths_are = λ other. num.counted k spot e ∙ ap (λ c. min c (2 ^ 32 - 1)) (paths_by (seen spots (length spots)) (map listed t.entries) (place_of spot) (sym places_are)) ∙ ap (λ b. min (cond b (2 + count_by (λ (c : Child). is_directory_at layers c.place) (children (map listed t.entries) (place_of spot))) (paths_of (map listed t.entries) (place_of spot))) (2 ^ 32 - 1)) (sym other);
+        paths_are = λ other. num.counted k spot e ∙ ap (λ c. min c (2 ^ 32 - 1)) (paths_by (seen spots (length spots)) (map listed t.entries) (spot_place spot) (sym places_are)) ∙ ap (λ b. min (cond b (2 + count_by (λ (c : Child). is_directory_at layers c.place) (children (map listed t.entries) (spot_place spot))) (paths_of (map listed t.entries) (spot_place spot))) (2 ^ 32 - 1)) (sym other);
       }
 
   pub seeds : AreSomeSeeds layers (number_among spots) first paths
@@ -156,7 +156,7 @@ module _ (layers : List (List ℕ)) (t : TreeRows) (is : IsTreeOf 0 layers t) (s
   )
 
   -- where the numbers and sizes of spots stand
-  module _ (places sizes : List ℕ) (stand : AreAbove spots spots places) (sized : sizes ≡ map size_of spots) where
+  module _ (places sizes : List ℕ) (stand : AreAbove spots spots places) (sized : sizes ≡ map spot_size spots) where
     numbers_level : length numbers ≡ length spots
     numbers_level = num.numbers_level
 
@@ -164,12 +164,12 @@ module _ (layers : List (List ℕ)) (t : TreeRows) (is : IsTreeOf 0 layers t) (s
     unfolding number_among
     tells k spot e = ap (λ o. unwrap_or o 0) (sym (num.known k spot (below spots k spot e) e))
 
-    size_at : (k : ℕ) (spot : Spot Entry) → slice_get spots k ≡ Some spot → (k < length sizes) × (slice_index sizes k ≡ size_of spot)
+    size_at : (k : ℕ) (spot : Spot Entry) → slice_get spots k ≡ Some spot → (k < length sizes) × (slice_index sizes k ≡ spot_size spot)
     size_at k spot e = (rw sized (go spots k spot e).0, rw sized (go spots k spot e).1)
       where
-        go : (xs : List (Spot Entry)) (k : ℕ) (spot : Spot Entry) → slice_get xs k ≡ Some spot → (k < length (map size_of xs)) × (slice_index (map size_of xs) k ≡ size_of spot)
+        go : (xs : List (Spot Entry)) (k : ℕ) (spot : Spot Entry) → slice_get xs k ≡ Some spot → (k < length (map spot_size xs)) × (slice_index (map spot_size xs) k ≡ spot_size spot)
         go [] k spot e = absurd (cc)
-        go (x ∷ xs) zero spot e = let f : x ≡ spot = cc in (omega arith, ap (λ (y : Spot Entry). size_of y) f)
+        go (x ∷ xs) zero spot e = let f : x ≡ spot = cc in (omega arith, ap (λ (y : Spot Entry). spot_size y) f)
         go (x ∷ xs) (suc k) spot e = let r = go xs k spot e in (let l = r.0 in omega arith, r.1)
 
     -- a branch that is located has its number and size there
@@ -231,10 +231,10 @@ module _ (layers : List (List ℕ)) (t : TreeRows) (is : IsTreeOf 0 layers t) (s
     }
 
 -- a walk that began with nothing
-pub walked_all : (root : Shoot Entry) (above : Entry) (old out : List (Spot Entry)) (places places' sizes sizes' : List ℕ) → old ≡ [] → places ≡ [] → sizes ≡ [] → above ≡ root.value → AddsWalk root above old out places places' sizes sizes' → AreWalked root root.value out × AreAbove out out places' × (sizes' ≡ map size_of out)
+pub walked_all : (root : Shoot Entry) (above : Entry) (old out : List (Spot Entry)) (places places' sizes sizes' : List ℕ) → old ≡ [] → places ≡ [] → sizes ≡ [] → above ≡ root.value → AddsWalk root above old out places places' sizes sizes' → AreWalked root root.value out × AreAbove out out places' × (sizes' ≡ map spot_size out)
 walked_all root above old out places places' sizes sizes' none no_places no_sizes same a =
     let is : out ≡ a.spots = a.is ∙ ap (λ x. x ++ a.spots) none in (
       subst (λ v. AreWalked root v out) same (subst (AreWalked root above) (sym is) a.walked),
       subst (λ (x : List (Spot Entry)). AreAbove out x places') (sym is) (subst (AreAbove out a.spots) (sym (a.places_are ∙ ap (λ x. x ++ a.more) no_places)) a.stand),
-      a.sizes_are ∙ ap (λ x. x ++ map size_of a.spots) no_sizes ∙ ap (map size_of) (sym is),
+      a.sizes_are ∙ ap (λ x. x ++ map spot_size a.spots) no_sizes ∙ ap (map spot_size) (sym is),
     )

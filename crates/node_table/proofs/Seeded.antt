@@ -14,7 +14,7 @@ use Rattle.layer_tree.specs.declared.place.Entry.{Entry}
 use Rattle.layer_tree.specs.Trees.{listed}
 use Rattle.node_table.specs.Readers.{placed}
 use Rattle.node_table.specs.Walks.{Spot, under, extends, AreApart, IsLocated}
-use Rattle.node_table.specs.Numbering.{place_of, bare, seen, IsFirst}
+use Rattle.node_table.specs.Numbering.{spot_place, bare, seen, IsFirstSpot}
 use Rattle.node_table.proofs.Paths.{same_itself as name_itself}
 use Rattle.node_table.proofs.Counting.{not_among, same_itself as place_itself}
 
@@ -77,18 +77,18 @@ row_at rows j s above l = subst (λ n. slice_get rows n ≡ Some (l.top ++ [], s
     there (x ∷ before) = there before
 
 -- the rows of a walk have the places of its spots
-pub places_same : (rows : Rows Entry) (spots : List (Spot Entry)) → length spots ≡ length rows → ((k : ℕ) (spot : Spot Entry) → slice_get spots k ≡ Some spot → IsLocated rows k spot.0.now spot.1) → map place (map listed rows) ≡ map place_of spots
-places_same rows spots level at = ext (map place (map listed rows)) (map place_of spots) (length_map place (map listed rows) ∙ length_map listed rows ∙ sym level ∙ sym (length_map place_of spots)) one
+pub places_same : (rows : Rows Entry) (spots : List (Spot Entry)) → length spots ≡ length rows → ((k : ℕ) (spot : Spot Entry) → slice_get spots k ≡ Some spot → IsLocated rows k spot.0.now spot.1) → map place (map listed rows) ≡ map spot_place spots
+places_same rows spots level at = ext (map place (map listed rows)) (map spot_place spots) (length_map place (map listed rows) ∙ length_map listed rows ∙ sym level ∙ sym (length_map spot_place spots)) one
   where
-    one : (k : ℕ) (y : ModelPlace) → slice_get (map place_of spots) k ≡ Some y → slice_get (map place (map listed rows)) k ≡ Some y
+    one : (k : ℕ) (y : ModelPlace) → slice_get (map spot_place spots) k ≡ Some y → slice_get (map place (map listed rows)) k ≡ Some y
     one k y e =
-        let x = get_of_map place_of spots k y e in
+        let x = get_of_map spot_place spots k y e in
         let l = at k x.0 x.1 in
         get_map place (map listed rows) k (listed (l.top ++ [], x.0.0.now.value)) (get_map listed rows k (l.top ++ [], x.0.0.now.value) (row_at rows k x.0.0.now x.0.1 l)) ∙ ap Some x.2
 
-pub bare_places : (spots : List (Spot Entry)) → map place (map bare spots) ≡ map place_of spots
+pub bare_places : (spots : List (Spot Entry)) → map place (map bare spots) ≡ map spot_place spots
 bare_places [] = refl
-bare_places (s ∷ spots) = ap (λ r. place_of s ∷ r) (bare_places spots)
+bare_places (s ∷ spots) = ap (λ r. spot_place s ∷ r) (bare_places spots)
 
 pub nodes_by : (es fs : List Listed) → map place es ≡ map place fs → nodes es ≡ nodes fs
 unfolding nodes
@@ -188,16 +188,16 @@ module _ (rows : Rows Entry) (spots : List (Spot Entry)) (level : length spots �
       sym (ap (λ x. map place (map listed x)) front)
       ∙ sym (ap (map place) (take_map listed j rows)) ∙ sym (take_map place j (map listed rows))
       ∙ ap (take j) (places_same rows spots level at)
-      ∙ take_map place_of j spots ∙ sym (bare_places (take j spots))
+      ∙ take_map spot_place j spots ∙ sym (bare_places (take j spots))
     where
       front : take j rows ≡ l.before
       front = ap (take j) (split j s above l) ∙ subst (λ n. take n (l.before ++ (l.top ++ [], s.value) ∷ (under l.top s.below ++ l.after)) ≡ l.before) l.at (take_front l.before ((l.top ++ [], s.value) ∷ (under l.top s.below ++ l.after)))
 
-  pub path_is : (spot : Spot Entry) (f : IsFirst spots spot) → path_of (map listed rows) (place_of spot) ≡ (at f.at spot f.is).top
+  pub path_is : (spot : Spot Entry) (f : IsFirstSpot spots spot) → path_of (map listed rows) (spot_place spot) ≡ (at f.at spot f.is).top
   path_is spot f =
       let l = at f.at spot f.is in
       let s = spot.0.now in
-      let p = place_of spot in
+      let p = spot_place spot in
       let e : Listed = listed (l.top ++ [], s.value) in
       let none : number_of (map listed l.before) p ≡ None = number_of_by (map listed l.before) (seen spots f.at) p (places_before f.at s spot.1 l) ∙ f.new in
       let found : find (λ (e : Listed). same_place p (place e)) (map listed rows) ≡ Some e =
@@ -205,19 +205,19 @@ module _ (rows : Rows Entry) (spots : List (Spot Entry)) (level : length spots �
       ∙ find_past p (map listed l.before) (map listed (under l.top s.below ++ l.after)) e (λ g a. not_among (map listed l.before) p none g a) (place_itself p) in
       ap (λ o. option_map_or (λ (e : Listed). e.path) o []) found ∙ nil_right l.top
 
-  pub parent_is : (spot : Spot Entry) (f : IsFirst spots spot) → parent (map listed rows) (place_of spot) ≡ placed spot.1.place
+  pub parent_is : (spot : Spot Entry) (f : IsFirstSpot spots spot) → parent (map listed rows) (spot_place spot) ≡ placed spot.1.place
   unfolding parent
   parent_is spot f =
       let l = at f.at spot f.is in
-      ap (λ (q : Path). option_map_or place (find (λ (e : Listed). same_path (take (length q - 1) q) e.path) (map listed rows)) (place_of spot)) (path_is spot f)
-      ∙ ap (λ o. option_map_or place o (place_of spot)) (find_map (same_path (take (length l.top - 1) l.top)) rows)
+      ap (λ (q : Path). option_map_or place (find (λ (e : Listed). same_path (take (length q - 1) q) e.path) (map listed rows)) (spot_place spot)) (path_is spot f)
+      ∙ ap (λ o. option_map_or place o (spot_place spot)) (find_map (same_path (take (length l.top - 1) l.top)) rows)
       ∙ above (find (λ (r : Path × Entry). same_path (take (length l.top - 1) l.top) r.0) rows) l.above_is
     where
-      above : (o : Option (Path × Entry)) → option_map (λ r. r.1) o ≡ Some spot.1 → option_map_or place (option_map listed o) (place_of spot) ≡ placed spot.1.place
+      above : (o : Option (Path × Entry)) → option_map (λ r. r.1) o ≡ Some spot.1 → option_map_or place (option_map listed o) (spot_place spot) ≡ placed spot.1.place
       above None e = absurd (cc)
       above (Some r) e = let g : r.1 ≡ spot.1 = cc in ap (λ (v : Entry). placed v.place) g
 
-  pub children_are : (spot : Spot Entry) (f : IsFirst spots spot) (cs : List (Shoot Entry)) → spot.0.now.below ≡ spread cs → IsForest cs → children (map listed rows) (place_of spot) ≡ map child_of cs
+  pub children_are : (spot : Spot Entry) (f : IsFirstSpot spots spot) (cs : List (Shoot Entry)) → spot.0.now.below ≡ spread cs → IsForest cs → children (map listed rows) (spot_place spot) ≡ map child_of cs
   unfolding children
   children_are spot f cs below forest =
       let l = at f.at spot f.is in

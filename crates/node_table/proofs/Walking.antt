@@ -3,7 +3,7 @@ use Rattle.std.proofs.Common.{◌≡◌, ◌∙◌, sym, ap, subst, ℕ, zero, s
 use Rattle.std.specs.Prelude.{slice_get, slice_index, slice_set, map}
 use Rattle.std.specs.Borrow.{Bor}
 use Rattle.path_tree.specs.Rows.{Shoot, Rows, prefixed, spread, NamesRise, IsForest, length_prefixed}
-use Rattle.node_table.specs.Walks.{Spot, IsLocated, size_of, StandsAt, AreAbove, AddsWalk}
+use Rattle.node_table.specs.Walks.{Spot, IsLocated, spot_size, StandsAt, AreAbove, AddsWalk}
 use Rattle.node_table.proofs.Paths.{spread_append, child_located}
 
 -- what stands at a place still stands there as more are added
@@ -86,11 +86,11 @@ module _ {T : Type 0} where
     ];
   }
 
-  map_append : (xs ys : List (Spot T)) → map size_of (xs ++ ys) ≡ map size_of xs ++ map size_of ys
+  map_append : (xs ys : List (Spot T)) → map spot_size (xs ++ ys) ≡ map spot_size xs ++ map spot_size ys
   map_append [] ys = refl
-  map_append (x ∷ xs) ys = ap (λ r. size_of x ∷ r) (map_append xs ys)
+  map_append (x ∷ xs) ys = ap (λ r. spot_size x ∷ r) (map_append xs ys)
 
-  map_length : (xs : List (Spot T)) → length (map size_of xs) ≡ length xs
+  map_length : (xs : List (Spot T)) → length (map spot_size xs) ≡ length xs
   map_length [] = refl
   map_length (x ∷ xs) = ap suc (map_length xs)
 
@@ -106,7 +106,7 @@ module _ {T : Type 0} where
     pub more : List ℕ
     pub places_are : places' ≡ places ++ more
     pub stand : AreAbove out ((first, above) ∷ rest) more
-    pub sizes_are : sizes' ≡ sizes ++ 0 ∷ map size_of rest
+    pub sizes_are : sizes' ≡ sizes ++ 0 ∷ map spot_size rest
     pub sizes_level : length sizes ≡ length old
 
   pub begins : (branch : Bor (Shoot T)) (above : T) (place : ℕ) (cs : List (Shoot T)) (old out : List (Spot T)) (places places' sizes sizes' : List ℕ) → StandsAt old place above ⊎ ((place ≡ length old) × (branch.now.value ≡ above)) → length sizes ≡ length old → out ≡ old ++ (branch, above) ∷ [] → places' ≡ places ++ place ∷ [] → sizes' ≡ sizes ++ 0 ∷ [] → Walking branch.now above cs old out places places' sizes sizes' 0
@@ -153,7 +153,7 @@ module _ {T : Type 0} where
       let a = ap length w.sizes_are in
       let b = ap length w.is in
       let level = w.sizes_level in
-      omega (arith, length-append sizes (0 ∷ map size_of w.rest), length-append old ((w.first, above) ∷ w.rest), map_length w.rest)
+      omega (arith, length-append sizes (0 ∷ map spot_size w.rest), length-append old ((w.first, above) ∷ w.rest), map_length w.rest)
 
   pub goes_on : (branch : Shoot T) (above : T) (cs : List (Shoot T)) (old out out' : List (Spot T)) (places p p' sizes s s' : List ℕ) (i : ℕ) (c : Shoot T) → branch.below ≡ spread cs → IsForest cs → i < length cs → c ≡ get_or cs i c → Walking branch above cs old out places p sizes s i → AddsWalk c branch.value out out' p p' s s' → Walking branch above cs old out' places p' sizes s' (i + 1)
   goes_on branch above cs old out out' places p p' sizes s s' i c below forest lt at w a = record {
@@ -169,7 +169,7 @@ module _ {T : Type 0} where
     more = w.more ++ a.more;
     places_are = a.places_are ∙ ap (λ x. x ++ a.more) w.places_are ∙ append_assoc places w.more a.more;
     stand = above_joined out' ((w.first, above) ∷ w.rest) a.spots w.more a.more (subst (λ (x : List (Spot T)). AreAbove x ((w.first, above) ∷ w.rest) w.more) (sym a.is) (above_more out a.spots ((w.first, above) ∷ w.rest) w.more w.stand)) a.stand;
-    sizes_are = a.sizes_are ∙ ap (λ x. x ++ map size_of a.spots) w.sizes_are ∙ append_assoc sizes (0 ∷ map size_of w.rest) (map size_of a.spots) ∙ ap (λ x. sizes ++ 0 ∷ x) (sym (map_append w.rest a.spots));
+    sizes_are = a.sizes_are ∙ ap (λ x. x ++ map spot_size a.spots) w.sizes_are ∙ append_assoc sizes (0 ∷ map spot_size w.rest) (map spot_size a.spots) ∙ ap (λ x. sizes ++ 0 ∷ x) (sym (map_append w.rest a.spots));
     sizes_level = w.sizes_level;
   }
     where
@@ -200,8 +200,8 @@ module _ {T : Type 0} where
     places_are = w.places_are;
     stand = w.stand;
     sizes_are =
-        set ∙ ap (λ x. slice_set x at size) w.sizes_are ∙ ap (λ n. slice_set (sizes ++ 0 ∷ map size_of w.rest) n size) (at_is ∙ sym w.sizes_level)
-        ∙ written sizes (map size_of w.rest) 0 size ∙ ap (λ n. sizes ++ n ∷ map size_of w.rest) mine;
+        set ∙ ap (λ x. slice_set x at size) w.sizes_are ∙ ap (λ n. slice_set (sizes ++ 0 ∷ map spot_size w.rest) n size) (at_is ∙ sym w.sizes_level)
+        ∙ written sizes (map spot_size w.rest) 0 size ∙ ap (λ n. sizes ++ n ∷ map spot_size w.rest) mine;
   }
     where
       all : (cs : List (Shoot T)) (i : ℕ) → length cs ≤ i → take i cs ≡ cs

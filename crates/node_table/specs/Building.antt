@@ -40,7 +40,7 @@ AreFollowing tell numbers sizes at [] = ⊤
 AreFollowing tell numbers sizes at (c ∷ cs) = IsPosted tell numbers sizes at c × AreFollowing tell numbers sizes (at + length (whole c)) cs
 
 -- the children of a spot stand after it
-pub record AreChildren (tell : Place → ℕ) (numbers sizes : List ℕ) (at : ℕ) (spot : Spot Entry) : Type 0 where
+pub record AreChildPosts (tell : Place → ℕ) (numbers sizes : List ℕ) (at : ℕ) (spot : Spot Entry) : Type 0 where
   pub within : at < length numbers
   pub each : (cs : List (Shoot Entry)) → spot.0.now.below ≡ spread cs → IsForest cs → AreFollowing tell numbers sizes (at + 1) cs
 
@@ -54,7 +54,7 @@ pub record IsAbove (tell : Place → ℕ) (numbers places : List ℕ) (at : ℕ)
 pub record ArePosts (tell : Place → ℕ) (numbers places sizes : List ℕ) (first : List (Spot Entry)) (starts : List ℕ) : Type 0 where
   pub level : length starts ≡ length first
   pub above : (k : ℕ) (spot : Spot Entry) → slice_get first k ≡ Some spot → IsAbove tell numbers places (slice_index starts k) spot
-  pub children : (k : ℕ) (spot : Spot Entry) → slice_get first k ≡ Some spot → AreChildren tell numbers sizes (slice_index starts k) spot
+  pub children : (k : ℕ) (spot : Spot Entry) → slice_get first k ≡ Some spot → AreChildPosts tell numbers sizes (slice_index starts k) spot
 
 -- the header at a branch's place is one that the place's image gives
 pub record IsSeat (layers : List (List ℕ)) (branch : Shoot Entry) : Type 0 where

@@ -37,14 +37,14 @@ attr_held n node = record {
 }
 
 -- the data that the node holds lie in the place's layer, and are the place's
-pub record HasData (layers : List (List ℕ)) (layer : ℕ) (node : Node) (p : Place) : Type 0 where
+pub record HoldsData (layers : List (List ℕ)) (layer : ℕ) (node : Node) (p : Place) : Type 0 where
   pub image : List ℕ
   pub is : slice_get layers layer ≡ Some image
   pub lies : IsPart image node.part
   pub data_is : bytes_at image node.part.start node.part.len ≡ data_of layers p
 
 -- a directory holds the number of the one above, and its rows with their keys
-pub record IsDirectory (layers : List (List ℕ)) (entries : List Entry) (rows : List Line) (keys : List ℕ) (directory : Directory) (p : Place) : Type 0 where
+pub record IsHeldDirectory (layers : List (List ℕ)) (entries : List Entry) (rows : List Line) (keys : List ℕ) (directory : Directory) (p : Place) : Type 0 where
   pub parent_is : directory.parent ≡ number entries (parent entries p)
   pub start : directory.rows_start ≤ directory.rows_end
   pub end : directory.rows_end ≤ length rows
@@ -53,23 +53,23 @@ pub record IsDirectory (layers : List (List ℕ)) (entries : List Entry) (rows :
       (names (slice_range rows directory.rows_start directory.rows_end))
 
 -- the directory of this node is held, and is the place's
-pub record HasDirectory (layers : List (List ℕ)) (entries : List Entry) (directories : List Directory)
+pub record HoldsDirectory (layers : List (List ℕ)) (entries : List Entry) (directories : List Directory)
     (rows : List Line) (keys : List ℕ) (node : Node) (p : Place) : Type 0 where
   pub directory : Directory
   pub is : slice_get directories node.directory ≡ Some directory
-  pub holds : IsDirectory layers entries rows keys directory p
+  pub holds : IsHeldDirectory layers entries rows keys directory p
 
 -- the node holds what the definitions say of its place
 pub record IsNode (layers : List (List ℕ)) (entries : List Entry) (directories : List Directory)
     (rows : List Line) (keys : List ℕ) (node : Node) (p : Place) : Type 0 where
   pub place : placed node.place ≡ p
-  pub holds : HasData layers node.place.layer node p
+  pub holds : HoldsData layers node.place.layer node p
   pub kind : node.kind ≡ kind_at layers p
   pub size : node.part.len ≡ size_at layers p
   pub mode_is : node.mode ≡ mode layers p
   pub nlink_is : node.nlink ≡ nlink layers entries p
   pub rdev_is : node.rdev ≡ rdev layers p
-  pub directory_is : is_directory node.kind ≡ true → HasDirectory layers entries directories rows keys node p
+  pub directory_is : is_directory node.kind ≡ true → HoldsDirectory layers entries directories rows keys node p
 
 -- the nodes in the order of their numbers, what is held of the directories, and a key beside each row
 pub record AreNodes (layers : List (List ℕ)) (entries : List Entry) (held : List Node)

@@ -8,20 +8,20 @@ use Rattle.node_table.specs.Readers.{placed}
 use Rattle.node_table.specs.Walks.{Spot}
 
 -- a place as one number
-abbrev pub key : Place → ℕ
-key q = q.layer * 0x100000000 + q.header
+abbrev pub place_key : Place → ℕ
+place_key q = q.layer * 0x100000000 + q.header
 
 -- that of a spot
 abbrev pub key_of : Spot Entry → ℕ
-key_of spot = key spot.0.now.value.place
+key_of spot = place_key spot.0.now.value.place
 
 -- a number of paths and one more, held at the greatest 32-bit number
 abbrev pub one_more : ℕ → ℕ
 one_more n = min (n + 1) (2 ^ 32 - 1)
 
 -- the place of a branch's value
-abbrev pub place_of : Spot Entry → ModelPlace
-place_of spot = placed spot.0.now.value.place
+abbrev pub spot_place : Spot Entry → ModelPlace
+spot_place spot = placed spot.0.now.value.place
 
 -- an entry with the branch's place
 abbrev pub bare : Spot Entry → Listed
@@ -36,10 +36,10 @@ abbrev pub paths_of : List Listed → ModelPlace → ℕ
 paths_of entries p = count_by (λ e. same_place p (place e)) entries
 
 -- the spot is the first with its place
-pub record IsFirst (spots : List (Spot Entry)) (spot : Spot Entry) : Type 0 where
+pub record IsFirstSpot (spots : List (Spot Entry)) (spot : Spot Entry) : Type 0 where
   pub at : ℕ
   pub is : slice_get spots at ≡ Some spot
-  pub new : number_of (seen spots at) (place_of spot) ≡ None
+  pub new : number_of (seen spots at) (spot_place spot) ≡ None
 
 -- the places of spots, each as one number
 pub record AreKeys (spots : List (Spot Entry)) (keys : List ℕ) : Type 0 where
@@ -48,14 +48,14 @@ pub record AreKeys (spots : List (Spot Entry)) (keys : List ℕ) : Type 0 where
 
 -- the first i places are numbered
 pub record IsNumbered (spots : List (Spot Entry)) (i : ℕ) (first : List (Spot Entry)) (starts paths numbers : List ℕ) : Type 0 where
-  pub places : map place_of first ≡ nodes (seen spots i)
-  pub each : (k : ℕ) (spot : Spot Entry) → slice_get first k ≡ Some spot → IsFirst spots spot
+  pub places : map spot_place first ≡ nodes (seen spots i)
+  pub each : (k : ℕ) (spot : Spot Entry) → slice_get first k ≡ Some spot → IsFirstSpot spots spot
   pub starts_level : length starts ≡ length first
   pub starts_are : (k : ℕ) (spot : Spot Entry) → slice_get first k ≡ Some spot → slice_get spots (slice_index starts k) ≡ Some spot
   pub level : length paths ≡ length first
-  pub counted : (k : ℕ) (spot : Spot Entry) → slice_get first k ≡ Some spot → slice_index paths k ≡ min (paths_of (seen spots i) (place_of spot)) (2 ^ 32 - 1)
+  pub counted : (k : ℕ) (spot : Spot Entry) → slice_get first k ≡ Some spot → slice_index paths k ≡ min (paths_of (seen spots i) (spot_place spot)) (2 ^ 32 - 1)
   pub numbers_level : length numbers ≡ i
-  pub known : (k : ℕ) (spot : Spot Entry) → k < i → slice_get spots k ≡ Some spot → number_of (seen spots i) (place_of spot) ≡ Some (slice_index numbers k)
+  pub known : (k : ℕ) (spot : Spot Entry) → k < i → slice_get spots k ≡ Some spot → number_of (seen spots i) (spot_place spot) ≡ Some (slice_index numbers k)
 
 -- the number of a place that spots have; 0 for another one
 unfoldable pub number_among : List (Spot Entry) → Place → ℕ

@@ -68,5 +68,5 @@ abbrev pub rows_at : Stacked → ℕ → List Line
 rows_at stack n = option_map_or (rows_of stack.layers stack.entries) (node_of stack.entries n) []
 
 -- the data of a regular file, or the target of a symbolic link; empty for other kinds
-abbrev pub data_at : Stacked → ℕ → List ℕ
-data_at stack n = option_map_or (data_of stack.layers) (node_of stack.entries n) []
+abbrev pub data_of_number : Stacked → ℕ → List ℕ
+data_of_number stack n = option_map_or (data_of stack.layers) (node_of stack.entries n) []

@@ -13,13 +13,13 @@ abbrev pub names : List Line → List (List ℕ)
 names lines = map (λ line. line.name) lines
 
 -- their numbers
-abbrev pub numbers : List Line → List ℕ
-numbers lines = map (λ line. line.number) lines
+abbrev pub row_numbers : List Line → List ℕ
+row_numbers lines = map (λ line. line.number) lines
 
 -- the row with this name
-abbrev pub named : List ℕ → List Line → Option Line
-named name lines = find (λ line. same_name name line.name) lines
+abbrev pub line_named : List ℕ → List Line → Option Line
+line_named name lines = find (λ line. same_name name line.name) lines
 
 -- its number
 abbrev pub number_named : List ℕ → List Line → Option ℕ
-number_named name lines = option_map (λ line. line.number) (named name lines)
+number_named name lines = option_map (λ line. line.number) (line_named name lines)

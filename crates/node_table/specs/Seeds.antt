@@ -11,33 +11,33 @@ use Rattle.node_table.specs.declared.node.Node.{Node}
 use Rattle.node_table.specs.declared.directory.Directory.{Directory}
 use Rattle.node_table.specs.Rows.{Line}
 use Rattle.node_table.specs.Walks.{Spot}
-use Rattle.node_table.specs.Numbering.{place_of}
+use Rattle.node_table.specs.Numbering.{spot_place}
 use Rattle.node_table.specs.Building.{line_in, directories, IsSeat, completed}
 use Rattle.node_table.specs.Held.{AreNodes}
 
 -- the row of a shown child
-abbrev pub line_of : List Listed → Child → Line
-line_of entries c = record { number = number entries c.place; name = c.name }
+abbrev pub shown_line : List Listed → Child → Line
+shown_line entries c = record { number = number entries c.place; name = c.name }
 
 -- a branch of these children agrees with the listing at its place
 pub record AreSeedlings (layers : List (List ℕ)) (entries : List Listed) (tell : Seat → ℕ) (p : Place) (cs : List (Shoot Entry)) : Type 0 where
-  pub rows_are : map (line_in tell) cs ≡ map (line_of entries) (children entries p)
+  pub rows_are : map (line_in tell) cs ≡ map (shown_line entries) (children entries p)
   pub count_is : directories cs ≡ count_by (λ c. is_directory_at layers c.place) (children entries p)
 
 -- the branch agrees with the listing at its place
 pub record IsSeed (layers : List (List ℕ)) (entries : List Listed) (tell : Seat → ℕ) (paths : ℕ) (spot : Spot Entry) : Type 0 where
   pub seat : IsSeat layers spot.0.now
-  pub data_is : (image : List ℕ) → slice_get layers spot.0.now.value.place.layer ≡ Some image → data_in image spot.0.now.value.place.header ≡ data_of layers (place_of spot)
-  pub kind_is : spot.0.now.value.kind ≡ kind_at layers (place_of spot)
-  pub parent_is : tell spot.1.place ≡ number entries (parent entries (place_of spot))
-  pub below : (cs : List (Shoot Entry)) → spot.0.now.below ≡ spread cs → IsForest cs → AreSeedlings layers entries tell (place_of spot) cs
-  pub paths_are : is_directory_at layers (place_of spot) ≡ false → paths ≡ nlink layers entries (place_of spot)
+  pub data_is : (image : List ℕ) → slice_get layers spot.0.now.value.place.layer ≡ Some image → data_in image spot.0.now.value.place.header ≡ data_of layers (spot_place spot)
+  pub kind_is : spot.0.now.value.kind ≡ kind_at layers (spot_place spot)
+  pub parent_is : tell spot.1.place ≡ number entries (parent entries (spot_place spot))
+  pub below : (cs : List (Shoot Entry)) → spot.0.now.below ≡ spread cs → IsForest cs → AreSeedlings layers entries tell (spot_place spot) cs
+  pub paths_are : is_directory_at layers (spot_place spot) ≡ false → paths ≡ nlink layers entries (spot_place spot)
 
 -- the first branches of all places, in the order of numbers
 pub record AreSeeds (layers : List (List ℕ)) (entries : List Listed) (tell : Seat → ℕ) (first : List (Spot Entry)) (paths : List ℕ) : Type 0 where
   pub listing : IsListing layers entries
   pub level : length paths ≡ length first
-  pub places : map place_of first ≡ nodes entries
+  pub places : map spot_place first ≡ nodes entries
   pub each : (k : ℕ) (spot : Spot Entry) → slice_get first k ≡ Some spot → IsSeed layers entries tell (slice_index paths k) spot
 
 -- by some listing of the layers

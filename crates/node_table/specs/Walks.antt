@@ -43,8 +43,8 @@ pub record AreWalked {T : Type 0} (branch : Shoot T) (above : T) (spots : List (
       → slice_get spots k ≡ Some spot → IsLocated rows (j + k) spot.0.now spot.1
 
 -- how many rows the branch has with all below it
-abbrev pub size_of : {T : Type 0} → Spot T → ℕ
-size_of spot = length (whole spot.0.now)
+abbrev pub spot_size : {T : Type 0} → Spot T → ℕ
+spot_size spot = length (whole spot.0.now)
 
 -- a branch with this value stands at this place
 pub record StandsAt {T : Type 0} (spots : List (Spot T)) (place : ℕ) (value : T) : Type 0 where
@@ -65,4 +65,4 @@ pub record AddsWalk {T : Type 0} (branch : Shoot T) (above : T) (old new : List 
   pub more : List ℕ
   pub places_are : places' ≡ places ++ more
   pub stand : AreAbove new spots more
-  pub sizes_are : sizes' ≡ sizes ++ map size_of spots
+  pub sizes_are : sizes' ≡ sizes ++ map spot_size spots

@@ -4,7 +4,7 @@ ghost use Rattle.std.specs.Prelude.{◌≡◌, ◌+◌, ◌<◌, length, slice_i
 ghost use Rattle.romfs_format.specs.Heads.{head_of};
 ghost use Rattle.romfs_image.specs.Readers.{IsGiven};
 ghost use Rattle.node_table.specs.Numbering.{number_among};
-ghost use Rattle.node_table.specs.Building.{IsAbove, AreFollowing, AreChildren, ArePosts};
+ghost use Rattle.node_table.specs.Building.{IsAbove, AreFollowing, AreChildPosts, ArePosts};
 ghost use Rattle.node_table.specs.Building.{AddsRows, AddsDirectory, AddsNode, IsSeat};
 ghost use Rattle.node_table.specs.Seeds.{AreSomeSeeds, AreMade};
 
@@ -80,7 +80,7 @@ fn add_directory<A: Allocator + Copy>(
 ) -> Result<u64, AllocError>
     requires above { IsAbove (number_among walk.now.spots.items)
         numbers.now walk.now.above.items start spot.now }
-    requires children { AreChildren (number_among walk.now.spots.items)
+    requires children { AreChildPosts (number_among walk.now.spots.items)
         numbers.now walk.now.sizes.items start spot.now }
     ensures { IfOk result (λ n. AddsDirectory (number_among walk.now.spots.items) spot.now
         into.old.all.items into.new.all.items into.old.rows.items into.new.rows.items
@@ -115,7 +115,7 @@ pub(crate) fn add_node<A: Allocator + Copy>(
     requires seat { IsSeat images.now spot.now.0.now }
     requires above { IsAbove (number_among walk.now.spots.items)
         numbers.now walk.now.above.items start spot.now }
-    requires children { AreChildren (number_among walk.now.spots.items)
+    requires children { AreChildPosts (number_among walk.now.spots.items)
         numbers.now walk.now.sizes.items start spot.now }
     ensures { IfOk result (λ node. AddsNode images.now (number_among walk.now.spots.items)
         spot.now paths into.old.all.items into.new.all.items into.old.rows.items into.new.rows.items

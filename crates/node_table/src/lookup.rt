@@ -3,7 +3,7 @@
 ghost use Rattle.std.specs.Prelude.{◌≡◌, ◌≤◌, None, Some, MatchOption, length, slice_range};
 ghost use Rattle.name_keys.specs.Keyed.{AreKeyed};
 ghost use Rattle.node_table.specs.Held.{attr_held, held_at, directory_held};
-ghost use Rattle.node_table.specs.Rows.{names, numbers as numbers_of, number_named};
+ghost use Rattle.node_table.specs.Rows.{names, row_numbers, number_named};
 
 use crate::directory::Directory;
 use crate::node::{Attr, Node};
@@ -81,7 +81,7 @@ pub(crate) fn number_named<A: Allocator>(
     name: &[u8],
 ) -> Option<u64>
     requires keyed { AreKeyed shared keys.now (names rows.now) }
-    requires numbered { numbers.now ≡ numbers_of rows.now }
+    requires numbered { numbers.now ≡ row_numbers rows.now }
     ensures { result ≡ number_named name.now rows.now }
 {
     let at = find(rows, keys, shared, name)?;

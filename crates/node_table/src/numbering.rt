@@ -1,7 +1,7 @@
 //! Numbers of places, in the order of their first path.
 
 ghost use Rattle.std.specs.Prelude.{◌≡◌, ◌<◌, ◌^◌, length, slice_index, slice_set, IfOk};
-ghost use Rattle.node_table.specs.Numbering.{key, one_more, AreKeys, IsNumbered};
+ghost use Rattle.node_table.specs.Numbering.{place_key, one_more, AreKeys, IsNumbered};
 
 use crate::firsts::firsts_of;
 use crate::walk::Spot;
@@ -22,8 +22,8 @@ pub(crate) struct Numbered<'t, A: Allocator> {
 }
 
 // A place as one number.
-fn key(place: Place) -> u64
-    ensures value { result ≡ key place }
+fn place_key(place: Place) -> u64
+    ensures value { result ≡ place_key place }
     ensures small { place.header < 2 ^ 32 }
 {
     u64::from(place.layer) * 0x1_0000_0000 + u64::from(place.header)
@@ -38,7 +38,7 @@ fn keys_of<'t, A: Allocator + Copy>(
 {
     let mut keys = Vec::with_capacity(alloc, spots.len())?;
     for spot in spots {
-        keys.push(key(spot.0.value().place))?;
+        keys.push(place_key(spot.0.value().place))?;
     }
     Ok(keys)
 }

@@ -1,7 +1,7 @@
 //! A child of a directory.
 
 ghost use Rattle.std.specs.Prelude.{◌≡◌, IfOk};
-ghost use Rattle.node_table.specs.Rows.{numbers};
+ghost use Rattle.node_table.specs.Rows.{row_numbers};
 
 use name_keys::Named;
 use path_tree::Name;
@@ -37,7 +37,7 @@ pub(crate) fn numbers_of<A: Allocator + Copy>(
     alloc: A,
     rows: &[Row<A>],
 ) -> Result<Vec<u64, A>, AllocError>
-    ensures { IfOk result (λ all. all.items ≡ numbers rows.now) }
+    ensures { IfOk result (λ all. all.items ≡ row_numbers rows.now) }
 {
     let mut all = Vec::with_capacity(alloc, rows.len())?;
     for row in rows {

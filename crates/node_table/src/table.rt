@@ -7,10 +7,10 @@ ghost use Rattle.layer_tree.specs.Trees.{IsTreeOf};
 ghost use Rattle.stack_model.specs.Listing.{IsListing};
 ghost use Rattle.stack_model.specs.Numbers.{nodes};
 ghost use Rattle.stack_model.specs.Attributes.{blocks_all};
-ghost use Rattle.node_table.specs.Rows.{numbers as numbers_of};
+ghost use Rattle.node_table.specs.Rows.{row_numbers};
 ghost use Rattle.node_table.specs.Stacked.{Listed, listed_once, IsTableOf};
 ghost use Rattle.node_table.specs.Seeds.{AreMade};
-ghost use Rattle.node_table.specs.Readers.{TellsNode, attr_at, parent_at, child_at, rows_at, data_at};
+ghost use Rattle.node_table.specs.Readers.{TellsNode, attr_at, parent_at, child_at, rows_at, data_of_number};
 
 use crate::building::{Parts, make};
 use crate::completing::{blocks_of, complete_all};
@@ -38,7 +38,7 @@ pub struct Table<A: Allocator> {
     directories: Directories<A>,
     numbers: Vec<u64, A>,
     blocks: u64,
-    ghost numbered: { numbers.items ≡ numbers_of directories.rows.items },
+    ghost numbered: { numbers.items ≡ row_numbers directories.rows.items },
     ghost listing: { Listed images.items } by { listed_once images.items },
 }
 
@@ -183,7 +183,7 @@ impl<A: Allocator> Table<A> {
     /// The data of a regular file, or the target of a symbolic link; empty where the number is neither. A reply's
     /// header can say how many they are.
     pub fn bytes(&self, number: u64) -> &[u8]
-        ensures value { result.now ≡ data_at self.now number }
+        ensures value { result.now ≡ data_of_number self.now number }
         ensures short { 16 + length result.now < 2 ^ 32 }
     {
         match node_at(&self.nodes, number) {
