@@ -1,5 +1,5 @@
 -- Texts that are put one after another.
-use Rattle.std.proofs.Common.{◌≡◌, ◌∙◌, sym, ap, ℕ, zero, suc, ◌+◌, ◌<◌, List, [], ◌∷◌, ◌++◌, length, take, get_or, Option, arith, refl, add-one, append-nil, append_assoc}
+use Rattle.std.proofs.Common.{◌≡◌, ◌∙◌, sym, ap, ℕ, zero, suc, ◌+◌, ◌<◌, List, [], ◌∷◌, ◌++◌, length, take, get_or, Option, arith, add-one, append-nil, append_assoc}
 use Rattle.std.specs.Prelude.{flat_map, Result, Ok, Err, OnOk}
 use Rattle.std.specs.Io.KnownBytes.{append_known}
 use Rattle.std.proofs.KnownBytes.{Appends-nil, Appends-trans}
@@ -21,10 +21,6 @@ pub one_more : {X : Type 0} (f : X → List ℕ) (xs : List X) (i : ℕ) (d : X)
 one_more f [] i d l = absurd (omega arith)
 one_more f (x ∷ xs) zero d l = append-nil (f x)
 one_more f (x ∷ xs) (suc i) d l = rw add-one (ap (λ r. f x ++ r) (sym (ap (λ k. flat_map f (take k xs)) (add-one i)) ∙ one_more f xs i d (omega arith)) ∙ sym (append_assoc (f x) (flat_map f (take i xs)) (f (get_or xs i d))))
-
-pub no_name : [] ≡ name_text []
-unfolding name_text
-no_name = refl
 
 pub name_more : (name : List ℕ) (i : ℕ) → i < length name → name_text (take i name) ++ escaped (get_or name i 0) ≡ name_text (take (i + 1) name)
 unfolding name_text

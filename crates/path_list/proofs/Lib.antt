@@ -1,4 +1,5 @@
 pub mod Paths
+pub mod Runs
 pub mod Branching
 pub mod OnePath
 pub mod Trees

@@ -11,12 +11,12 @@ abbrev pub hex_digit : ℕ → ℕ
 hex_digit n = if nat_lt n 10 then 48 + n else 87 + n
 
 -- a visible character of ASCII that is not `\`
-abbrev pub is_plain : ℕ → Bool
-is_plain byte = nat_le 0x21 byte && nat_le byte 0x7e && not (byte == 92)
+abbrev pub is_unescaped : ℕ → Bool
+is_unescaped byte = nat_le 0x21 byte && nat_le byte 0x7e && not (byte == 92)
 
 -- a byte of a name as it is printed: itself, or else `\` and two hexadecimal digits
 abbrev pub escaped : ℕ → List ℕ
-escaped byte = if is_plain byte then byte ∷ [] else 92 ∷ hex_digit (byte / 16) ∷ hex_digit (byte % 16) ∷ []
+escaped byte = if is_unescaped byte then byte ∷ [] else 92 ∷ hex_digit (byte / 16) ∷ hex_digit (byte % 16) ∷ []
 
 -- a name as it is printed
 unfoldable pub name_text : List ℕ → List ℕ
@@ -41,15 +41,15 @@ mode_text n =
     octal_digit (n / 8 ^ 5) ∷ octal_digit (n / 8 ^ 4) ∷ octal_digit (n / 8 ^ 3) ∷ octal_digit (n / 8 ^ 2) ∷ octal_digit (n / 8) ∷ octal_digit n ∷ []
 
 -- a text with a space behind it
-abbrev pub field : List ℕ → List ℕ
-field text = text ++ 32 ∷ []
+abbrev pub spaced : List ℕ → List ℕ
+spaced text = text ++ 32 ∷ []
 
 module _ (layers : List (List ℕ)) (entries : List Entry) where
   -- number, mode, nlink, size and layer of the place, and the path
   unfoldable pub line_of : Place → Path → List ℕ
   line_of p path =
-      field (decimal (number entries p)) ++ field (mode_text (mode layers p)) ++ field (decimal (nlink layers entries p))
-      ++ field (decimal (size_at layers p)) ++ field (decimal p.0) ++ path_text path ++ 10 ∷ []
+      spaced (decimal (number entries p)) ++ spaced (mode_text (mode layers p)) ++ spaced (decimal (nlink layers entries p))
+      ++ spaced (decimal (size_at layers p)) ++ spaced (decimal p.0) ++ path_text path ++ 10 ∷ []
 
   -- the line of a shown path
   abbrev pub line : Entry → List ℕ

@@ -8,12 +8,18 @@ use Rattle.stack_model.specs.Listing.{Entry, IsAmong}
 use Rattle.stack_model.specs.Numbers.{place, number, node_of}
 use Rattle.node_table.specs.Stacked.{Stacked}
 use Rattle.node_table.specs.Rows.{Line}
-use Rattle.path_list.specs.Lines.{line_of, line}
+use Rattle.path_list.specs.Lines.{name_text, line_of, line}
 use Rattle.path_list.specs.Below.{below, AreTree}
 
 -- what a sink holds together with the bytes on their way to it grew by these bytes
 pub record Gains (old_held : Option (List ℕ)) (old_room : List ℕ) (new_held : Option (List ℕ)) (new_room : List ℕ) (bytes : List ℕ) : Type 0 where
   pub gained : Appends (append_known old_held old_room) (append_known new_held new_room) bytes
+
+-- what they gained is the text of a name but for that of this rest of it
+pub record GainsAllBut (old_held : Option (List ℕ)) (old_room : List ℕ) (new_held : Option (List ℕ)) (new_room : List ℕ) (name rest : List ℕ) : Type 0 where
+  pub text : List ℕ
+  pub gains : Gains old_held old_room new_held new_room text
+  pub whole : text ++ name_text rest ≡ name_text name
 
 -- the names from the root
 abbrev pub way : Option (Bor (List (List ℕ))) → Path

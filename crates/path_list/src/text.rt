@@ -1,10 +1,10 @@
 //! The text of a line.
 
-ghost use Rattle.std.specs.Prelude.{◌≡◌, ◌<◌, ◌^◌, ◌++◌, ◌∷◌, [], OnOk};
+ghost use Rattle.std.specs.Prelude.{◌≡◌, ◌<◌, ◌≤◌, ◌^◌, ◌++◌, ◌∷◌, [], length, take, OnOk, IfOk};
 ghost use Rattle.std.specs.Fmt.{decimal};
 ghost use Rattle.devices.specs.Counting.{Settles};
-ghost use Rattle.path_list.specs.Lines.{hex_digit, escaped, name_text, names_text, path_text, octal_digit, mode_text, field};
-ghost use Rattle.path_list.specs.Walks.{Gains, way};
+ghost use Rattle.path_list.specs.Lines.{hex_digit, escaped, name_text, names_text, path_text, octal_digit, mode_text, is_unescaped, spaced};
+ghost use Rattle.path_list.specs.Walks.{Gains, GainsAllBut, way};
 
 use crate::room::put;
 use crate::trail::Trail;
@@ -26,8 +26,8 @@ fn octal_digit(n: u32) -> u8
 }
 
 // A mode in six octal digits, and a space.
-fn mode_field(mode: u32) -> [u8; 7]
-    ensures { result ≡ field (mode_text mode) }
+fn spaced_mode(mode: u32) -> [u8; 7]
+    ensures { result ≡ spaced (mode_text mode) }
 {
     [
         octal_digit(mode / 32_768),
@@ -38,6 +38,13 @@ fn mode_field(mode: u32) -> [u8; 7]
         octal_digit(mode),
         b' ',
     ]
+}
+
+// Whether a byte of a name is printed as itself.
+fn is_unescaped(byte: u8) -> bool
+    ensures { result ≡ is_unescaped byte }
+{
+    0x21 <= byte && byte <= 0x7e && byte != b'\\'
 }
 
 // Puts a byte of a name.
@@ -51,7 +58,7 @@ fn put_escaped<K: Sink, A: Allocator>(
         (K.held sink.new) room.new.items (escaped byte)) }
     ensures counted { Settles result (K.counts sink.old) (K.counts sink.new) }
 {
-    if 0x21 <= byte && byte <= 0x7e && byte != b'\\' {
+    if is_unescaped(byte) {
         put(sink, room, &[byte])
     } else {
         put(
@@ -59,6 +66,43 @@ fn put_escaped<K: Sink, A: Allocator>(
             room,
             &[b'\\', hex_digit(byte / 16), hex_digit(byte % 16)],
         )
+    }
+}
+
+// How many bytes at the front of a name are printed as themselves.
+fn count_unescaped(name: &[u8]) -> usize
+    ensures bound { result ≤ length name.now }
+    ensures same { name_text (take result name.now) ≡ take result name.now }
+{
+    for (at, byte) in name.iter().enumerate() {
+        if !is_unescaped(*byte) {
+            return at;
+        }
+    }
+    name.len()
+}
+
+// Puts a name up to its first byte that is escaped, with this one, and returns the rest.
+fn put_run<'a, K: Sink, A: Allocator>(
+    sink: &mut K,
+    room: &mut Vec<u8, A>,
+    name: &'a [u8],
+) -> Result<&'a [u8], Failed>
+    requires some { 0 < length name.now }
+    requires counts { (K.counts sink.old).failures < 2 ^ 63 }
+    ensures gained { IfOk result (λ rest. GainsAllBut (K.held sink.old) room.old.items
+        (K.held sink.new) room.new.items name.now rest.now) }
+    ensures shorter { IfOk result (λ rest. length rest.now < length name.now) }
+    ensures counted { Settles result (K.counts sink.old) (K.counts sink.new) }
+{
+    let (run, others) = name.split_at(count_unescaped(name));
+    put(sink, room, run)?;
+    match others.split_first() {
+        None => Ok(others),
+        Some((byte, rest)) => {
+            put_escaped(sink, room, *byte)?;
+            Ok(rest)
+        }
     }
 }
 
@@ -73,8 +117,9 @@ fn put_name<K: Sink, A: Allocator>(
         (K.held sink.new) room.new.items (name_text name.now)) }
     ensures counted { Settles result (K.counts sink.old) (K.counts sink.new) }
 {
-    for byte in name {
-        put_escaped(sink, room, *byte)?;
+    let mut rest = name;
+    while !rest.is_empty() {
+        rest = put_run(sink, room, rest)?;
     }
     Ok(())
 }
@@ -142,7 +187,7 @@ pub(crate) fn put_number<K: Sink, A: Allocator>(
 ) -> Result<(), Failed>
     requires { (K.counts sink.old).failures < 2 ^ 63 }
     ensures gained { OnOk result (Gains (K.held sink.old) room.old.items
-        (K.held sink.new) room.new.items (field (decimal number))) }
+        (K.held sink.new) room.new.items (spaced (decimal number))) }
     ensures counted { Settles result (K.counts sink.old) (K.counts sink.new) }
 {
     let mut digits = Buffer::new();
@@ -158,8 +203,8 @@ pub(crate) fn put_mode<K: Sink, A: Allocator>(
 ) -> Result<(), Failed>
     requires { (K.counts sink.old).failures < 2 ^ 63 }
     ensures gained { OnOk result (Gains (K.held sink.old) room.old.items
-        (K.held sink.new) room.new.items (field (mode_text mode))) }
+        (K.held sink.new) room.new.items (spaced (mode_text mode))) }
     ensures counted { Settles result (K.counts sink.old) (K.counts sink.new) }
 {
-    put(sink, room, &mode_field(mode))
+    put(sink, room, &spaced_mode(mode))
 }

@@ -134,7 +134,7 @@ module _ (key : ℕ → Option (List ℕ)) (class : List ℕ) (known : List ℕ 
           → (q : List ℕ) × (key i ≡ Some q) × (key j ≡ Some q)
       one_name i j l m d e = both i j l m d e (key i) (key j) refl refl
 
-pub class_more : (key : ℕ → Option (List ℕ)) (class : List ℕ) (c new : ℕ) (known known' : BTreeMap (Bor (List ℕ)) ℕ)
+pub class_more : (key : ℕ → Option (List ℕ)) (class : List ℕ) (c new : ℕ) (known known' : BTreeMap (ℕ × Bor (List ℕ)) ℕ)
     → new ≡ length class → IsClass (key (length class)) new c known known'
     → IsClassing key class (class_in known) → IsClassing key (class ++ c ∷ []) (class_in known')
 class_more key class c new known known' e k w = go (key (length class)) refl

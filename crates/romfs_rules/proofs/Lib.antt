@@ -19,6 +19,7 @@ pub mod EndWalk
 pub mod Judging
 pub mod Verdict
 pub mod Climbing
+pub mod Keyed
 pub mod Classing
 pub mod Ascent
 pub mod Rounds

@@ -4,7 +4,9 @@ use Rattle.std.specs.Borrow.{Bor}
 use Rattle.std.specs.BTreeMap.{BTreeMap, get_by}
 use Rattle.std.specs.Cmp.Lexicographic.{slice_cmp}
 use Rattle.std.specs.Map.{update}
-use Rattle.std.specs.Ordering.{nat_cmp}
+use Rattle.std.specs.Ordering.{nat_cmp, ordering_then}
+use Rattle.std.specs.declared.cmp.Ordering.{Ordering}
+use Rattle.name_keys.specs.Keys.{key as name_key}
 use Rattle.romfs_format.specs.Fields.{root, name, is_dot_name}
 
 -- the name, unless it is . or ..
@@ -16,13 +18,17 @@ unless_dotted (Some n) = if is_dot_name n then None else Some n
 abbrev pub kept_name : List ℕ → ℕ → Option (List ℕ)
 kept_name a h = if h == root a then None else unless_dotted (name a h)
 
+-- how names stand, each after its first eight bytes as a number
+abbrev pub keyed_cmp : ℕ × Bor (List ℕ) → ℕ × Bor (List ℕ) → Ordering
+keyed_cmp x y = ordering_then (nat_cmp x.0 y.0) (slice_cmp nat_cmp x.1.now y.1.now)
+
 -- the class of a name that is known
-abbrev pub class_in : BTreeMap (Bor (List ℕ)) ℕ → List ℕ → Option ℕ
-class_in known q = get_by (λ k. slice_cmp nat_cmp q k.now) known
+abbrev pub class_in : BTreeMap (ℕ × Bor (List ℕ)) ℕ → List ℕ → Option ℕ
+class_in known q = get_by (λ k. ordering_then (nat_cmp (name_key 8 q) k.0) (slice_cmp nat_cmp q k.1.now)) known
 
 -- a header with this name is of this class, where `new` is the class of a new name
 pub record IsClass (key : Option (List ℕ)) (new class : ℕ)
-    (known known' : BTreeMap (Bor (List ℕ)) ℕ) : Type 0 where
+    (known known' : BTreeMap (ℕ × Bor (List ℕ)) ℕ) : Type 0 where
   pub none : key ≡ None → (class ≡ new) × (known' ≡ known)
   pub some : (n : List ℕ) → key ≡ Some n
       → (class ≡ unwrap_or (class_in known n) new)

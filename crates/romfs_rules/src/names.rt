@@ -7,10 +7,14 @@ ghost use Rattle.romfs_format.specs.declared.limits.TheConstants.{HEAD_SIZE};
 ghost use Rattle.romfs_format.specs.Fields.{root as root_of};
 ghost use Rattle.romfs_rules.specs.Names.{kept_name, class_in, IsClass, AreClassesOf};
 
+use name_keys::key_of;
 use romfs_format::limits::HEAD_SIZE;
 use romfs_format::read::{is_dot_name, text_at};
 use std::alloc::{AllocError, Allocator};
 use std::collections::BTreeMap;
+
+// A name after its first eight bytes as a number, by which two names are mostly told apart without a look at them.
+type Keyed<'a> = (u64, &'a [u8]);
 
 // The name that a header has wherever it is a member: not the root's, nor `.` or `..`.
 fn kept_name(image: &[u8], root: usize, at: usize) -> Option<&[u8]>
@@ -28,7 +32,7 @@ fn kept_name(image: &[u8], root: usize, at: usize) -> Option<&[u8]>
 
 // The class of a name, which is the given one where the name is new.
 fn class_of<'a, A: Allocator + Clone>(
-    known: &mut BTreeMap<&'a [u8], u32, A>,
+    known: &mut BTreeMap<Keyed<'a>, u32, A>,
     name: &'a [u8],
     class: u32,
 ) -> Result<u32, AllocError>
@@ -36,7 +40,7 @@ fn class_of<'a, A: Allocator + Clone>(
     ensures known { IfOk result (λ c. (q : List ℕ) →
         class_in known.new q ≡ update bytes_eq (class_in known.old) name.now (Some c) q) }
 {
-    let kept = known.entry(name)?.or_insert(class);
+    let kept = known.entry((key_of(name), name))?.or_insert(class);
     Ok(*kept)
 }
 
@@ -44,7 +48,7 @@ fn class_of<'a, A: Allocator + Clone>(
 fn class_at<'a, A: Allocator + Clone>(
     image: &'a [u8],
     root: usize,
-    known: &mut BTreeMap<&'a [u8], u32, A>,
+    known: &mut BTreeMap<Keyed<'a>, u32, A>,
     at: usize,
     class: u32,
 ) -> Result<u32, AllocError>

@@ -1,11 +1,13 @@
-use Rattle.std.proofs.Common.{◌≡◌, ◌≤◌, take}
-use Rattle.path_list.specs.Lines.{name_text}
-use Rattle.path_list.specs.Walks.{Gains}
+use Rattle.std.proofs.Common.{◌≡◌, ◌≤◌, length}
+use Rattle.path_list.specs.Walks.{GainsAllBut}
 use Rattle.path_list.proofs.text.put_name.Given as goal
 
--- the bytes so far, no failure, and no byte more that waits for a flush
-abbrev pub invariant-loop-byte : goal.invariant-loop-byte
-invariant-loop-byte g l =
-    Gains (g.K.Sink.held l.fn.sink) l.fn.room.items (g.K.Sink.held l.sink) l.room.items (name_text (take l.byte-index l.name))
+-- the text but for that of the rest, no failure, and no byte more that waits for a flush
+abbrev pub invariant-loop-rest : goal.invariant-loop-rest
+invariant-loop-rest g l =
+    GainsAllBut (g.K.Sink.held l.fn.sink) l.fn.room.items (g.K.Sink.held l.sink) l.room.items l.name l.rest
     × ((g.K.Sink.counts l.sink).failures ≡ (g.K.Sink.counts l.fn.sink).failures)
     × ((g.K.Sink.counts l.sink).unflushed ≤ (g.K.Sink.counts l.fn.sink).unflushed)
+
+abbrev pub decreases-loop-rest : goal.decreases-loop-rest
+decreases-loop-rest g l = length l.rest

@@ -1,0 +1,69 @@
+-- The text of a name by runs of bytes that are printed as themselves.
+use Rattle.std.proofs.Common.{◌≡◌, ◌∙◌, sym, ap, ℕ, ◌+◌, ◌<◌, ◌≤◌, List, [], ◌∷◌, ◌++◌, length, take, drop, get_or, Option, true, arith, refl, append-nil, append_assoc, take_all, take-append-drop}
+use Rattle.std.proofs.lemmas.List.{take_more}
+use Rattle.std.specs.List.{IsFirstAndRest}
+use Rattle.std.proofs.lemmas.List.Concat.{flat_map-append}
+use Rattle.path_list.specs.Lines.{is_unescaped, escaped, name_text}
+use Rattle.path_list.specs.Walks.{Gains, GainsAllBut}
+use Rattle.path_list.proofs.Gaining.{gains_none, gains_more, gains_same, name_more}
+
+-- the bytes so far are printed as themselves
+abbrev pub IsRun : List ℕ → ℕ → Type 0
+IsRun name i = name_text (take i name) ≡ take i name
+
+pub run_none : (name : List ℕ) → IsRun name 0
+unfolding name_text
+run_none name = refl
+
+as_itself : (byte : ℕ) → is_unescaped byte ≡ true → escaped byte ≡ byte ∷ []
+as_itself byte e = rw e refl
+
+pub run_more : (name : List ℕ) (i : ℕ) → i < length name → is_unescaped (get_or name i 0) ≡ true → IsRun name i → IsRun name (i + 1)
+run_more name i l e run =
+    sym (name_more name i l) ∙ ap (λ t. t ++ escaped (get_or name i 0)) run
+    ∙ ap (λ t. take i name ++ t) (as_itself (get_or name i 0) e) ∙ sym (take_more name i 0 l)
+
+pub run_all : (name : List ℕ) (i n : ℕ) → length name ≤ i → n ≡ length name → IsRun name i → IsRun name n
+run_all name i n l e run =
+    ap (λ xs. name_text xs) (all_of n (omega (arith, e))) ∙ sym (ap name_text (all_of i l)) ∙ run ∙ all_of i l ∙ sym (all_of n (omega (arith, e)))
+  where
+    all_of : (k : ℕ) → length name ≤ k → take k name ≡ name
+    all_of k l = take_all k name l
+
+text_joined : (xs ys : List ℕ) → name_text xs ++ name_text ys ≡ name_text (xs ++ ys)
+unfolding name_text
+text_joined xs ys = sym (flat_map-append escaped xs ys)
+
+text_first : (byte : ℕ) (rest : List ℕ) → name_text (byte ∷ rest) ≡ escaped byte ++ name_text rest
+unfolding name_text
+text_first byte rest = refl
+
+-- what follows a run is the text of the other bytes
+pub run_then : (name run others : List ℕ) (i : ℕ) → IsRun name i → run ≡ take i name → others ≡ drop i name → run ++ name_text others ≡ name_text name
+run_then name run others i r p q =
+    ap (λ t. t ++ name_text others) (p ∙ sym r) ∙ ap (λ t. name_text (take i name) ++ name_text t) q
+    ∙ text_joined (take i name) (drop i name) ∙ ap name_text (take-append-drop i name)
+
+pub byte_then : (name run others rest : List ℕ) (byte i : ℕ) → IsRun name i → run ≡ take i name → others ≡ drop i name → IsFirstAndRest others byte rest →
+    (run ++ escaped byte) ++ name_text rest ≡ name_text name
+byte_then name run others rest byte i r p q f =
+    append_assoc run (escaped byte) (name_text rest) ∙ ap (λ t. run ++ t) (sym (text_first byte rest) ∙ ap name_text (sym f.0))
+    ∙ run_then name run others i r p q
+
+pub all_left : (w : Option (List ℕ)) (r name : List ℕ) → GainsAllBut w r w r name name
+all_left w r name = record { text = []; gains = gains_none w r; whole = refl }
+
+pub less_left : {u v w : Option (List ℕ)} {r s t name rest others : List ℕ} → GainsAllBut u r v s name rest → GainsAllBut v s w t rest others → GainsAllBut u r w t name others
+less_left {others = others} g h = record {
+  text = g.text ++ h.text;
+  gains = gains_more g.gains h.gains;
+  whole = append_assoc g.text h.text (name_text others) ∙ ap (λ t. g.text ++ t) h.whole ∙ g.whole;
+}
+
+none_text : (rest : List ℕ) → length rest ≡ 0 → name_text rest ≡ []
+unfolding name_text
+none_text [] z = refl
+none_text (byte ∷ rest) z = absurd (omega (arith, z))
+
+pub none_left : {u w : Option (List ℕ)} {r t name rest : List ℕ} → length rest ≡ 0 → GainsAllBut u r w t name rest → Gains u r w t (name_text name)
+none_left {rest = rest} z g = gains_same (sym (append-nil g.text) ∙ ap (λ t. g.text ++ t) (sym (none_text rest z)) ∙ g.whole) g.gains

@@ -1,0 +1,5 @@
+use Rattle.path_list.proofs.Runs.{IsRun}
+use Rattle.path_list.proofs.text.count_unescaped.Given as goal
+
+abbrev pub invariant-loop-at : goal.invariant-loop-at
+invariant-loop-at l = IsRun l.name l.at
