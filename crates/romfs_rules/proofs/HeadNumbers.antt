@@ -124,13 +124,6 @@ module _ (a heads next : List ℕ) where
     each = λ i l. let s = w.sized in rw (get_or_append_left next (n ∷ []) 0 i (omega arith)) (w.each i l);
   }
 
-pub chooses_none : (heads : List ℕ) (noted : List Bool) → AreChosen heads noted 0 []
-chooses_none heads noted = record {
-  each = λ h c. absurd (let l = c.1 in omega arith);
-  all = λ i l m. absurd (omega arith);
-  rising = λ i j l k. absurd (omega arith);
-}
-
 module _ (heads : List ℕ) (noted : List Bool) (count : ℕ) (found : List ℕ) (fits : count < length heads)
     (up : (i j : ℕ) → i < j → j < length heads → get_or heads i 0 < get_or heads j 0) (w : AreChosen heads noted count found) where
   pub chooses_plain : get_or noted count false ≡ false → AreChosen heads noted (count + 1) found

@@ -36,10 +36,6 @@ cleared_at a d (suc n) h x = rw (x.2.1) (omega arith)
 pub cleared_in_chain : (a : List ℕ) (d h : ℕ) → IsInChain a d h → cleared h ≡ h
 cleared_in_chain a d h c = cleared_at a d c.0 h c.1
 
-pub cleared_in_some_chain : (a : List ℕ) (h : ℕ) → IsInSomeChain a h → cleared h ≡ h
-cleared_in_some_chain a h (inl c) = cleared_in_chain a (root a) h c
-cleared_in_some_chain a h (inr e) = cleared_in_chain a e.dir h e.in_chain
-
 pub inside_opened : (a : List ℕ) → IsVolumeImage a → (d : ℕ) → IsOpened a d → IsInside a d
 inside_opened a v d (at_root e) = rw e (inside_root a v)
 inside_opened a v d (below o c k i t) = i

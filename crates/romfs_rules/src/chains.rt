@@ -4,7 +4,7 @@ ghost use Rattle.std.specs.Prelude.{◌≡◌, ◌+◌, ◌/◌, ◌<◌, ◌⊎
 ghost use Rattle.std.specs.Option.{option_to_list};
 ghost use Rattle.romfs_format.specs.Fields.{root as root_of, IsInside};
 ghost use Rattle.romfs_rules.specs.Marks.{IsVolumeImage, IsInRootChain, IsElsewhere, AreMarks};
-ghost use Rattle.romfs_rules.specs.Leads.{AreSeeds, LeadsOn, Adds};
+ghost use Rattle.romfs_rules.specs.Leads.{AreStarts, LeadsOn, Adds};
 ghost use Rattle.romfs_rules.specs.InChains.{AreChains};
 
 use crate::lead::{first_below, next_of};
@@ -62,7 +62,7 @@ fn seeds<A: Allocator + Copy>(
     requires small { length image.now < 2 ^ 32 }
     requires root { root ≡ root_of image.now }
     requires root_chain { AreMarks image.now (IsInRootChain image.now) root_chain.now }
-    ensures { IfOk result (λ todo. AreSeeds image.now todo.items) }
+    ensures { IfOk result (λ todo. AreStarts image.now todo.items) }
 {
     let mut todo = Vec::new(alloc);
     let mut from = 0;

@@ -14,7 +14,7 @@ ghost use Rattle.romfs_format.specs.Fields.{root as root_of, cleared};
 ghost use Rattle.romfs_format.specs.Chains.{IsSomeMember};
 ghost use Rattle.romfs_format.specs.Links.{IsHardLink, IsDirectory, IsTarget, EndsAs};
 ghost use Rattle.romfs_rules.specs.Marks.{IsVolumeImage, AreMarks};
-ghost use Rattle.romfs_rules.specs.Ends.{HasEnds, AreEnds, KnowsEnd, Passes, IsUnpassed};
+ghost use Rattle.romfs_rules.specs.Ends.{HasEnds, AreWalkedEnds, KnowsEnd, Passes, IsUnpassed};
 
 use crate::slot::{is_hard_link, is_inside};
 use crate::slot_set::SlotSet;
@@ -47,7 +47,7 @@ impl<'s, A: Allocator> Ends<'s, A> {
     pub(crate) fn of_member(&self, image: &[u8], root: usize, at: usize) -> End
         requires small { length image.now < 2 ^ 32 }
         requires root { root ≡ root_of image.now }
-        requires ends { AreEnds image.now self.now.walks self.now.ends.items }
+        requires ends { AreWalkedEnds image.now self.now.walks self.now.ends.items }
         requires member { IsSomeMember image.now at }
         requires hard { IsHardLink image.now at }
         ensures { EndsAs image.now at result }
@@ -144,7 +144,7 @@ pub(crate) fn find_ends<'s, A: Allocator + Copy>(
     requires volume { IsVolumeImage image.now }
     requires root { root ≡ root_of image.now }
     requires targets { AreMarks image.now (IsTarget image.now) targets.now }
-    ensures { IfOk result (λ found. AreEnds image.now found.walks found.ends.items) }
+    ensures { IfOk result (λ found. AreWalkedEnds image.now found.walks found.ends.items) }
 {
     let mut walks = SlotWords::new(alloc, targets)?;
     let mut ends = Vec::new(alloc);

@@ -9,7 +9,7 @@ ghost use Rattle.romfs_format.specs.Links.{IsHardLink, IsReached, EndsAs};
 ghost use Rattle.romfs_format.specs.Rules.{IsVolume, IsUsed, HasData, IsDevice, IsBadName, EndsOutside};
 ghost use Rattle.romfs_format.specs.Rules.{HasLongTarget, HasLargeMajor, HasBadSum, BreaksHeader, BreaksHeaderAs};
 ghost use Rattle.romfs_rules.specs.Marks.{IsVolumeImage, IsElsewhere};
-ghost use Rattle.romfs_rules.specs.Outside.{IsLeast, IsBelow, IsAbove};
+ghost use Rattle.romfs_rules.specs.Outside.{IsLeast, IsBelow, IsPastEnd};
 ghost use Rattle.romfs_rules.specs.Judge.{AreSets, HasSlot, IsHeaderRule, KeepsHeaderRules, IsFirstRule, KeepsBelow, IsFirstInside, IsHeaderFault, IsDeepFault};
 ghost use Rattle.romfs_format.specs.Rules.{IsFaultOfAs};
 
@@ -397,7 +397,7 @@ pub(crate) fn header_fault<A: Allocator>(
     requires root { root ≡ root_of image.now }
     requires sets { AreSets image.now sets.now }
     requires below { IsLeast (λ h. IsReached image.now h × IsBelow image.now h) outside.below }
-    requires above { IsLeast (λ h. IsReached image.now h × IsAbove image.now h) outside.above }
+    requires above { IsLeast (λ h. IsReached image.now h × IsPastEnd image.now h) outside.above }
     ensures { IsHeaderFault profile image.now result }
 {
     if let Some(place) = outside.below {

@@ -6,7 +6,7 @@ ghost use Rattle.romfs_format.specs.Links.{IsTarget, IsReached};
 ghost use Rattle.romfs_rules.specs.Marks.{IsVolumeImage, AreMarks};
 ghost use Rattle.romfs_rules.specs.InChains.{AreChains};
 ghost use Rattle.romfs_rules.specs.Leads.{IsTheOne};
-ghost use Rattle.romfs_rules.specs.Outside.{Names, NamesDestination, IsLeast, IsBelow, IsAbove, lesser, Notes};
+ghost use Rattle.romfs_rules.specs.Outside.{Names, NamesDestination, IsLeast, IsBelow, IsPastEnd, lesser, Notes};
 
 use crate::chains::Chains;
 use crate::lead::destination_of;
@@ -63,7 +63,7 @@ fn lesser(found: Option<u32>, word: u32) -> u32
 fn note(found: Outside, image: &[u8], root: usize, word: Option<u32>) -> Outside
     requires root { root ≡ root_of image.now }
     ensures below { Notes (λ h. word ≡ Some h) (IsBelow image.now) found.below result.below }
-    ensures above { Notes (λ h. word ≡ Some h) (IsAbove image.now) found.above result.above }
+    ensures above { Notes (λ h. word ≡ Some h) (IsPastEnd image.now) found.above result.above }
 {
     let Some(word) = word else {
         return found;
@@ -100,7 +100,7 @@ fn note_named<A: Allocator>(
     requires chains { AreChains image.now chains.now }
     requires targets { AreMarks image.now (IsTarget image.now) targets.now }
     ensures below { Notes (Names image.now at) (IsBelow image.now) found.below result.below }
-    ensures above { Notes (Names image.now at) (IsAbove image.now) found.above result.above }
+    ensures above { Notes (Names image.now at) (IsPastEnd image.now) found.above result.above }
 {
     let next = next_link(image, at, chains);
     let first = first_link(image, root, at, chains);
@@ -122,7 +122,7 @@ pub(crate) fn find_outside<A: Allocator>(
     requires chains { AreChains image.now chains.now }
     requires targets { AreMarks image.now (IsTarget image.now) targets.now }
     ensures below { IsLeast (λ h. IsReached image.now h × IsBelow image.now h) result.below }
-    ensures above { IsLeast (λ h. IsReached image.now h × IsAbove image.now h) result.above }
+    ensures above { IsLeast (λ h. IsReached image.now h × IsPastEnd image.now h) result.above }
 {
     let none = Outside {
         below: None,

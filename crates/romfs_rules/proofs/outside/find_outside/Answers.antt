@@ -1,5 +1,5 @@
 use Rattle.std.proofs.Common.{◌≡◌, ◌*◌, ◌/◌, ℕ, Option, None, subst, arith, length}
-use Rattle.romfs_rules.specs.Outside.{IsBelow, IsAbove, Names, Notes}
+use Rattle.romfs_rules.specs.Outside.{IsBelow, IsPastEnd, Names, Notes}
 use Rattle.romfs_rules.proofs.Slots.{slot_inside, cleared_root, inside_root}
 use Rattle.romfs_rules.proofs.Reach.{IsFoundBefore, nothing, scans, scanned_to, all_scanned}
 use Rattle.romfs_rules.proofs.outside.find_outside.Goals as goal
@@ -24,9 +24,9 @@ loop-slot-init g c =
       below = scans a (IsBelow a) slot None after.result.below inside
           (nothing a (IsBelow a) slot (omega arith)) (subst
           (λ h. Notes (Names a h) (IsBelow a) None after.result.below) e after.ensures.below);
-      above = scans a (IsAbove a) slot None after.result.above inside
-          (nothing a (IsAbove a) slot (omega arith)) (subst
-          (λ h. Notes (Names a h) (IsAbove a) None after.result.above) e after.ensures.above);
+      above = scans a (IsPastEnd a) slot None after.result.above inside
+          (nothing a (IsPastEnd a) slot (omega arith)) (subst
+          (λ h. Notes (Names a h) (IsPastEnd a) None after.result.above) e after.ensures.above);
     }
 
 pub loop-slot-preserved : goal.loop-slot-preserved
@@ -50,8 +50,8 @@ loop-slot-preserved g c =
           (scanned_to a (IsBelow a) headers targets c.requires.chains.headers c.requires.targets
           c.loop-slot.from slot before.below b l n.one_clear n.other_clear c.loop-slot.invariant.below)
           after.ensures.below;
-      above = scans a (IsAbove a) slot before.above after.result.above inside
-          (scanned_to a (IsAbove a) headers targets c.requires.chains.headers c.requires.targets
+      above = scans a (IsPastEnd a) slot before.above after.result.above inside
+          (scanned_to a (IsPastEnd a) headers targets c.requires.chains.headers c.requires.targets
           c.loop-slot.from slot before.above b l n.one_clear n.other_clear c.loop-slot.invariant.above)
           after.ensures.above;
     }
@@ -72,7 +72,7 @@ returns g c =
       below = all_scanned a (IsBelow a) c.requires.volume (length headers) c.loop-slot.found.below
           (omega arith) (λ g q e. omega arith) (all (IsBelow a) c.loop-slot.found.below
           c.loop-slot.invariant.below);
-      above = all_scanned a (IsAbove a) c.requires.volume (length headers) c.loop-slot.found.above
+      above = all_scanned a (IsPastEnd a) c.requires.volume (length headers) c.loop-slot.found.above
           (omega arith) (λ g q e. (let i = inside_root a c.requires.volume in omega arith))
-          (all (IsAbove a) c.loop-slot.found.above c.loop-slot.invariant.above);
+          (all (IsPastEnd a) c.loop-slot.found.above c.loop-slot.invariant.above);
     }
