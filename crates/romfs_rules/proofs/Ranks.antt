@@ -9,7 +9,7 @@ use Rattle.std.proofs.Math.Nat.{pow-suc, mod-one}
 use Rattle.std.proofs.lemmas.Nat.{ones_le_self}
 use Rattle.std.proofs.lemmas.Bool.{cases_lt, cases_eq}
 use Rattle.std.proofs.lemmas.List.{get_or_at, get_or_append_left, length_push}
-use Rattle.romfs_rules.specs.SlotSets.{is_bit, bits, rank, AreCounts}
+use Rattle.romfs_rules.specs.SlotSets.{is_bit, bits, rank}
 use Rattle.romfs_rules.proofs.Bits.{bits_at}
 
 pub rank_zero : (set : List Bool) → rank set 0 ≡ 0

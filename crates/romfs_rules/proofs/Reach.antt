@@ -1,13 +1,12 @@
 -- The least headers outside the image that are reached.
-use Rattle.std.proofs.Common.{◌≡◌, ◌≢◌, sym, ap, subst, ℕ, ◌+◌, ◌*◌, ◌/◌, ◌<◌, ◌≤◌, ◌↔◌, ◌⊎◌, inl, inr, List, length, Bool, false, Option, Some, None, refl, arith, leb}
+use Rattle.std.proofs.Common.{◌≡◌, ◌≢◌, sym, ap, subst, ℕ, ◌+◌, ◌*◌, ◌/◌, ◌<◌, ◌≤◌, ◌⊎◌, inl, inr, List, length, Bool, false, Option, Some, None, refl, arith, leb}
 use Rattle.std.proofs.lemmas.Bool.{cases_eq, cases_lt, le-leb}
-use Rattle.romfs_format.specs.declared.limits.TheConstants.{HEAD_SIZE}
 use Rattle.romfs_format.specs.Fields.{root, IsInside, cleared}
 use Rattle.romfs_format.specs.Chains.{IsSomeMember}
 use Rattle.romfs_format.specs.Links.{Field, first_of, next_of, IsLink, IsHardLink, destination, IsDestination, here, there, IsTarget, IsReached}
 use Rattle.romfs_rules.specs.Marks.{IsVolumeImage, AreMarks}
 use Rattle.romfs_rules.specs.Leads.{IsTheOne}
-use Rattle.romfs_rules.specs.Outside.{NamesDestination, Names, IsLeast, IsBelow, IsPastEnd, lesser, Notes}
+use Rattle.romfs_rules.specs.Outside.{NamesDestination, Names, IsLeast, lesser, Notes}
 use Rattle.romfs_rules.proofs.Slots.{cleared_root, cleared_in_chain, inside_opened, cleared_opened, cleared_destination}
 use Rattle.romfs_rules.specs.SlotSets.{IsClear}
 use Rattle.romfs_rules.specs.Leads.{IsInSomeChain}

@@ -2,7 +2,7 @@
 use Rattle.std.proofs.Common.{◌≡◌, ◌∙◌, sym, ap, subst, ℕ, zero, suc, ◌+◌, ◌<◌, ◌≤◌, ◌⊎◌, inl, inr, List, [], ◌∷◌, length, get_or, set, min, drop, reverse, Bool, true, false, refl, arith}
 use Rattle.std.proofs.lemmas.List.{get_or-set_same, get_or-set_other, length-set, get_or_read}
 use Rattle.std.proofs.lemmas.Bool.{cases_eq}
-use Rattle.romfs_rules.specs.Climb.{After, one, more, On, top, under, IsLowest, IsLow, IsSpare, IsCompared, AreLower, AreNoted, IsNoted, AreBelow, IsFound, AreMarksKept, IsClosed, IsFreshWalk, IsGathered}
+use Rattle.romfs_rules.specs.Climb.{After, one, more, On, top, under, IsLowest, IsLow, IsSpare, IsCompared, AreLower, IsNoted, AreBelow, IsFound, AreMarksKept, IsClosed, IsFreshWalk, IsGathered}
 use Rattle.romfs_rules.proofs.MarkLists.{newly_set, still_set, was_set}
 use Rattle.romfs_rules.proofs.Climbing.{then_next, after_next, on_cases, low_enters, spare_enters, lower_enters}
 use Rattle.romfs_rules.proofs.Ascent.{on_reverse, on_reversed, drop_turn}

@@ -1,8 +1,8 @@
 -- The lists of the headers that lead to each header, from the last header down.
-use Rattle.std.proofs.Common.{◌≡◌, ◌≢◌, ◌∙◌, sym, ap, subst, ℕ, ◌+◌, ◌<◌, ◌≤◌, ◌⊎◌, inl, inr, List, length, get_or, set, replicate, refl, arith}
-use Rattle.std.proofs.lemmas.List.{get_or-set_same, get_or-set_other, length-set, get_or-replicate, length-replicate}
+use Rattle.std.proofs.Common.{◌≡◌, ◌≢◌, ◌∙◌, sym, ap, subst, ℕ, ◌+◌, ◌<◌, ◌≤◌, ◌⊎◌, inl, inr, List, length, get_or, set, refl, arith}
+use Rattle.std.proofs.lemmas.List.{get_or-set_same, get_or-set_other, length-set}
 use Rattle.std.proofs.lemmas.Bool.{cases_eq}
-use Rattle.romfs_rules.specs.Climb.{AreBelow, Ahead, here, later, AreLists}
+use Rattle.romfs_rules.specs.Climb.{AreBelow, Ahead, here, later}
 
 -- the lists of the headers from `from` on
 pub record AreListed (next first sibling : List ℕ) (from : ℕ) : Type 0 where

@@ -19,7 +19,7 @@
 //! puts back what was lowest before it. Each header is entered once: beside the names' classes, which take n log n
 //! steps, the climb takes n.
 
-ghost use Rattle.std.specs.Prelude.{◌≡◌, ◌≢◌, ◌+◌, ◌<◌, ◌≤◌, ◌^◌, ◌⊎◌, ℕ, List, Bool, true, false, IfOk, length, get_or, set, min, drop, reverse, []};
+ghost use Rattle.std.specs.Prelude.{◌≡◌, ◌+◌, ◌<◌, ◌^◌, ℕ, true, false, IfOk, length, get_or, set, min, drop, reverse, []};
 ghost use Rattle.romfs_rules.specs.Climb.{After, AreBelow, IsGraph, IsFound, IsLow, IsCycle, IsMet, IsGathered, IsNoted, IsSkipped, AreMarksKept, AreNoted};
 
 use crate::graph::Graph;

@@ -4,7 +4,7 @@ use Rattle.romfs_rules.proofs.outside.note_named.Goals as goal
 
 pub returns : goal.returns
 returns g c =
-    let a = c.args.image.now in
+    let a = c.args.image.now.bytes.now in
     let next = c.next_link-next in
     let first = c.first_link-first in
     let hard = c.named_destination-destination in
