@@ -5,7 +5,7 @@ use Rattle.std.proofs.Math.Seq.{drop-cons}
 use Rattle.std.proofs.Math.Numerals.{add-one}
 use Rattle.std.proofs.lemmas.Bool.{cases_eq}
 use Rattle.romfs_rules.specs.declared.climb.Step.{Step}
-use Rattle.romfs_rules.specs.Climb.{After, one, more, On, top, under, IsLowest, IsLow, IsSpare, IsCompared, AreLower, IsNoted, Ahead, here, later, IsGraph, IsCycle, IsFound, IsSkipped, AreKept}
+use Rattle.romfs_rules.specs.Climb.{After, one, more, On, top, under, IsLowest, IsLow, IsSpare, IsCompared, AreLower, IsNoted, Ahead, here, later, IsGraph, IsCycle, IsFound, IsSkipped, AreMarksKept}
 use Rattle.romfs_rules.proofs.MarkLists.{newly_set, still_set}
 use Rattle.romfs_rules.proofs.Climbing.{Covers, covers_next, after_next, low_enters, low_leaves, spare_enters, compared_enters, lower_enters}
 
@@ -77,7 +77,7 @@ pub no_steps : {X : Type 0} (xs : List X) → length xs ≡ 0 → reverse xs ≡
 no_steps [] e = refl
 no_steps (x ∷ xs) e = absurd (omega arith)
 
-pub keeps : (before entered : List Bool) (at : ℕ) → at < length entered → AreKept before entered → AreKept before (set entered at true)
+pub keeps : (before entered : List Bool) (at : ℕ) → at < length entered → AreMarksKept before entered → AreMarksKept before (set entered at true)
 keeps before entered at l k = record {
   each = λ x m. still_set entered at x l (k.each x m);
 }

@@ -10,7 +10,7 @@ use Rattle.romfs_format.specs.Chains.{IsFirst, IsNext, IsAt, IsInChain, IsOpened
 use Rattle.romfs_rules.specs.SlotSets.{IsClear}
 use Rattle.romfs_rules.proofs.Unions.{over_to}
 use Rattle.romfs_rules.specs.Marks.{IsMarked, AreMarks, IsInRootChain, IsElsewhere, Opens}
-use Rattle.romfs_rules.specs.Leads.{IsTheOne, LeadsOn, on, down, IsSeed, AreSeeds, Adds}
+use Rattle.romfs_rules.specs.Leads.{IsTheOne, LeadsOn, on, down, IsStart, AreStarts, Adds}
 use Rattle.romfs_rules.proofs.Lists.{none_in, one_in, has_one}
 use Rattle.romfs_rules.proofs.Slots.{cleared_at, cleared_in_chain}
 use Rattle.romfs_rules.proofs.Standing.{opened_in}
@@ -25,7 +25,7 @@ pub record Walked (a todo : List ℕ) (marks : List Bool) : Type 0 where
   pub each : (k : ℕ) → get_or marks k false ≡ true → IsElsewhere a (k * 16) × IsInside a (k * 16)
   pub waits : (h : ℕ) → Contains todo h → IsElsewhere a h
   pub closed : (k g : ℕ) → get_or marks k false ≡ true → LeadsOn a (k * 16) g → IsSettled a todo marks g
-  pub seeds : (g : ℕ) → IsSeed a g → IsSettled a todo marks g
+  pub seeds : (g : ℕ) → IsStart a g → IsSettled a todo marks g
 
 -- what a walk has left
 unfoldable pub left : List ℕ → List Bool → ℕ
@@ -37,7 +37,7 @@ module _ (a : List ℕ) where
   leads_on h g e (on n) = record { dir = e.dir; other = e.other; opened = e.opened; in_chain = (suc e.in_chain.0, (h, e.in_chain.1, n)) }
   leads_on h g e (down z o f) = record { dir = h; other = z; opened = opened_in a h (inr e) z o; in_chain = (zero, f) }
 
-  seeded : (g : ℕ) → IsSeed a g → IsElsewhere a g
+  seeded : (g : ℕ) → IsStart a g → IsElsewhere a g
   seeded g s = record { dir = s.dir; other = s.other; opened = opened_in a s.dir (inl s.in_chain) s.other s.opens; in_chain = (zero, s.first) }
 
   -- where nothing is left to come, all is marked
@@ -120,7 +120,7 @@ module _ (a : List ℕ) where
             seeds = λ g d. moves g (w.seeds g d);
           }
 
-  pub begun : (todo : List ℕ) (marks : List Bool) → AreSeeds a todo → marks ≡ replicate (length a / 16) false → Walked a todo marks
+  pub begun : (todo : List ℕ) (marks : List Bool) → AreStarts a todo → marks ≡ replicate (length a / 16) false → Walked a todo marks
   begun todo marks s e = record {
     sized = ap length e ∙ length-replicate (length a / 16) false;
     each = λ k m. absurd (let x = no_marks marks (length a / 16) e k in cc);
@@ -188,7 +188,7 @@ led a at n f before middle after next first m k = record {
 
 -- the seeds of the slots before n
 pub record Seeded (a : List ℕ) (root_chain : List Bool) (n : ℕ) (todo : List ℕ) : Type 0 where
-  pub each : (g : ℕ) → Contains todo g → IsSeed a g
+  pub each : (g : ℕ) → Contains todo g → IsStart a g
   pub all : (k g : ℕ) → k < n → get_or root_chain k false ≡ true → k * 16 ≢ root a → Opens a (k * 16) → IsFirst a (k * 16) g → Contains todo g
 
 module _ (a : List ℕ) (root_chain : List Bool) (r : AreMarks a (IsInRootChain a) root_chain) where
@@ -224,10 +224,10 @@ module _ (a : List ℕ) (root_chain : List Bool) (r : AreMarks a (IsInRootChain 
   pub passed_to : (low high : ℕ) (todo : List ℕ) → low ≤ high → IsClear root_chain low high → Seeded a root_chain low todo → Seeded a root_chain high todo
   passed_to low high todo l c s = over_to (λ k. Seeded a root_chain k todo) low high l s (λ k m n x. passed k todo x (c.each k m n))
 
-  pub all_seeded : (n : ℕ) (todo : List ℕ) → length root_chain ≤ n → Seeded a root_chain n todo → AreSeeds a todo
+  pub all_seeded : (n : ℕ) (todo : List ℕ) → length root_chain ≤ n → Seeded a root_chain n todo → AreStarts a todo
   all_seeded n todo l s = record { each = s.each; all = λ g d. seed g d }
     where
-      seed : (g : ℕ) → IsSeed a g → Contains todo g
+      seed : (g : ℕ) → IsStart a g → Contains todo g
       seed g d =
           let clean = cleared_in_chain a (root a) d.dir d.in_chain in
           let i = d.opens.inside in

@@ -14,7 +14,7 @@ use Rattle.romfs_rules.proofs.Destined.{goes_on}
 use Rattle.romfs_rules.specs.SlotWords.{Words}
 use Rattle.romfs_rules.specs.SlotSets.{IsClear}
 use Rattle.romfs_rules.proofs.Unions.{over_to, outside_set}
-use Rattle.romfs_rules.specs.Ends.{HasEnds, AreEnds, KnowsEnd, Passes, IsLeft}
+use Rattle.romfs_rules.specs.Ends.{HasEnds, AreWalkedEnds, KnowsEnd, Passes, IsUnpassedTarget}
 use Rattle.romfs_rules.proofs.Slots.{twice_cleared, cleared_destination}
 
 -- from within a closed set of hard links no chain leaves
@@ -208,7 +208,7 @@ pub record Found (a walks : List ℕ) (ends : List End) (slot : ℕ) : Type 0 wh
   pub sized : length walks ≡ length a / 16
   pub few : length ends ≤ slot
   pub known : HasEnds a walks ends
-  pub passed : (k : ℕ) → k < slot → ¬ IsLeft a walks k
+  pub passed : (k : ℕ) → k < slot → ¬ IsUnpassedTarget a walks k
 
 -- where no walk has been
 pub found_none : (a : List ℕ) (n : ℕ) → n ≡ length a / 16 → Found a (replicate n 0) [] 0
@@ -240,18 +240,18 @@ module _ (a walks : List ℕ) (ends : List End) (slot : ℕ) (f : Found a walks 
     ];
   }
 
-  pub found_same : ¬ IsLeft a walks slot → Found a walks ends (slot + 1)
+  pub found_same : ¬ IsUnpassedTarget a walks slot → Found a walks ends (slot + 1)
   found_same same = record {
     sized = f.sized;
     few = (let w = f.few in omega arith);
     known = f.known;
-    passed = λ k l. elim (cases_eq k slot) as (λ _. ¬ IsLeft a walks k) [
+    passed = λ k l. elim (cases_eq k slot) as (λ _. ¬ IsUnpassedTarget a walks k) [
       | inl q ↦ rw q same
       | inr q ↦ f.passed k (omega arith)
     ];
   }
 
-  pub found_all : (slots : List Bool) → AreMarks a (IsTarget a) slots → length a / 16 ≤ slot → AreEnds a (record { slots = slots; by_slot = walks }) ends
+  pub found_all : (slots : List Bool) → AreMarks a (IsTarget a) slots → length a / 16 ≤ slot → AreWalkedEnds a (record { slots = slots; by_slot = walks }) ends
   found_all slots m all = record {
     targets = m;
     sized = f.sized;

@@ -8,7 +8,7 @@ use Rattle.romfs_rules.proofs.Ranks.{rank_zero, rank_member, rank_other, rank_be
 use Rattle.romfs_rules.proofs.Unions.{over_to}
 use Rattle.romfs_rules.specs.SlotSets.{rank, IsClear}
 use Rattle.romfs_rules.specs.Marks.{AreMarks, IsListOf}
-use Rattle.romfs_rules.specs.Climb.{AreLists, IsGraph}
+use Rattle.romfs_rules.specs.Climb.{AreBelow, AreLists, IsGraph}
 use Rattle.romfs_rules.specs.Names.{AreClasses}
 use Rattle.romfs_rules.specs.SameNames.{AreCollected, IsNextNumber, AreNextNumbers, AreChosen}
 
@@ -124,13 +124,6 @@ module _ (a heads next : List ℕ) where
     each = λ i l. let s = w.sized in rw (get_or_append_left next (n ∷ []) 0 i (omega arith)) (w.each i l);
   }
 
-pub chooses_none : (heads : List ℕ) (noted : List Bool) → AreChosen heads noted 0 []
-chooses_none heads noted = record {
-  each = λ h c. absurd (let l = c.1 in omega arith);
-  all = λ i l m. absurd (omega arith);
-  rising = λ i j l k. absurd (omega arith);
-}
-
 module _ (heads : List ℕ) (noted : List Bool) (count : ℕ) (found : List ℕ) (fits : count < length heads)
     (up : (i j : ℕ) → i < j → j < length heads → get_or heads i 0 < get_or heads j 0) (w : AreChosen heads noted count found) where
   pub chooses_plain : get_or noted count false ≡ false → AreChosen heads noted (count + 1) found
@@ -172,6 +165,16 @@ module _ (heads : List ℕ) (noted : List Bool) (count : ℕ) (found : List ℕ)
         ];
       }
 
+-- the number after each is one of theirs
+pub next_below : {a heads next : List ℕ} → AreNextNumbers a heads next → AreBelow next (length next)
+next_below {heads = heads} {next = next} n = let s = n.sized in record {
+  sized = refl;
+  each = λ k m. elim (cases_lt k (length heads)) [
+    | inl i ↦ (let b = (n.each k i).below in omega arith)
+    | inr i ↦ (let e : k ≡ length heads = omega arith in let b = ap (λ z. get_or next z 0) e ∙ n.last in omega arith)
+  ];
+}
+
 -- headers, the numbers after them and their classes, with the lists of those before each
 pub grown : {a heads next class first sibling : List ℕ} {key : ℕ → Option (List ℕ)}
     → length heads + 1 < 2 ^ 32 → AreNextNumbers a heads next → AreClasses key (length heads) class
@@ -181,13 +184,7 @@ grown {heads = heads} {next = next} {class = class} few n c l =
     let t = c.sized in
     record {
       few = omega arith;
-      leads = record {
-        sized = refl;
-        each = λ k m. elim (cases_lt k (length heads)) [
-          | inl i ↦ (let b = (n.each k i).below in omega arith)
-          | inr i ↦ (let e : k ≡ length heads = omega arith in let b = ap (λ z. get_or next z 0) e ∙ n.last in omega arith)
-        ];
-      };
+      leads = next_below n;
       classes = record { sized = omega arith; each = λ k m. let b = c.below k (omega arith) in omega arith };
       lists = l;
     }

@@ -34,9 +34,6 @@ or_else s e t = (λ y. inr (t.0 y), elim [ inl p ↦ absurd (fails s e p) | inr 
 pub or_true : {P Q : Type 0} {b : Bool} → IsTrue b ↔ P → b ≡ true → IsTrue b ↔ (P ⊎ Q)
 or_true s e = (λ y. inl (s.0 y), λ x. e)
 
-pub and_then : {P Q : Type 0} {b c : Bool} → IsTrue b ↔ P → b ≡ true → IsTrue c ↔ Q → IsTrue c ↔ (P × Q)
-and_then s e t = (λ y. (s.0 e, t.0 y), λ x. t.1 x.1)
-
 pub root_elsewhere : (a : List ℕ) (h : ℕ) → h ≡ root a → IsElsewhere a h ↔ IsRootElsewhere a h
 root_elsewhere a h e = (
   λ x. (e, (x.dir, x.other, record { opened = x.opened; in_chain = x.in_chain })),

@@ -9,7 +9,7 @@ use Rattle.std.proofs.Math.Nat.{pow-suc, mod-one}
 use Rattle.std.proofs.lemmas.Nat.{ones_le_self}
 use Rattle.std.proofs.lemmas.Bool.{cases_lt, cases_eq}
 use Rattle.std.proofs.lemmas.List.{get_or_at, get_or_append_left, length_push}
-use Rattle.romfs_rules.specs.SlotSets.{is_bit, bits, rank, AreCounts}
+use Rattle.romfs_rules.specs.SlotSets.{is_bit, bits, rank}
 use Rattle.romfs_rules.proofs.Bits.{bits_at}
 
 pub rank_zero : (set : List Bool) → rank set 0 ≡ 0
@@ -138,9 +138,3 @@ counts_more set before count e c = record {
     | inr q ↦ (let m : w < length before = omega arith in get_or_append_left before (count ∷ []) 0 w m ∙ c.each w m)
   ];
 }
-
--- with the words before it and the slots before it in its word, a slot of the set is numbered
-pub number_is : (set : List Bool) (before : List ℕ) (slot count : ℕ) → AreCounts set before
-    → slot ≤ length set → rank set slot ≡ rank set (slot / 64 * 64) + count
-    → get_or before (slot / 64) 0 + count ≡ rank set slot
-number_is set before slot count c l e = let s = c.sized in let g = c.each (slot / 64) (omega arith) in omega arith

@@ -1,13 +1,12 @@
 -- The least headers outside the image that are reached.
-use Rattle.std.proofs.Common.{◌≡◌, ◌≢◌, sym, ap, subst, ℕ, ◌+◌, ◌*◌, ◌/◌, ◌<◌, ◌≤◌, ◌↔◌, ◌⊎◌, inl, inr, List, length, Bool, false, Option, Some, None, refl, arith, leb}
+use Rattle.std.proofs.Common.{◌≡◌, ◌≢◌, sym, ap, subst, ℕ, ◌+◌, ◌*◌, ◌/◌, ◌<◌, ◌≤◌, ◌⊎◌, inl, inr, List, length, Bool, false, Option, Some, None, refl, arith, leb}
 use Rattle.std.proofs.lemmas.Bool.{cases_eq, cases_lt, le-leb}
-use Rattle.romfs_format.specs.declared.limits.TheConstants.{HEAD_SIZE}
 use Rattle.romfs_format.specs.Fields.{root, IsInside, cleared}
 use Rattle.romfs_format.specs.Chains.{IsSomeMember}
 use Rattle.romfs_format.specs.Links.{Field, first_of, next_of, IsLink, IsHardLink, destination, IsDestination, here, there, IsTarget, IsReached}
 use Rattle.romfs_rules.specs.Marks.{IsVolumeImage, AreMarks}
 use Rattle.romfs_rules.specs.Leads.{IsTheOne}
-use Rattle.romfs_rules.specs.Outside.{NamesDestination, Names, IsLeast, IsBelow, IsAbove, lesser, Notes}
+use Rattle.romfs_rules.specs.Outside.{NamesDestination, Names, IsLeast, lesser, Notes}
 use Rattle.romfs_rules.proofs.Slots.{cleared_root, cleared_in_chain, inside_opened, cleared_opened, cleared_destination}
 use Rattle.romfs_rules.specs.SlotSets.{IsClear}
 use Rattle.romfs_rules.specs.Leads.{IsInSomeChain}
@@ -215,17 +214,3 @@ module _ (a : List ℕ) (Q : ℕ → Type 0) where
           let x = reached_named a v g r (u g q) in
           let i = x.inside in
           (record { slot = x.from / 16; early = omega arith; inside = rw (x.slot) i; names = subst (λ y. Names a y g) (sym x.slot) x.names }, q)
-
--- a reached header that is not inside lies before the root's header or beyond the end
-pub reached_outside : (a : List ℕ) (h : ℕ) → (IsReached a h × ¬ IsInside a h) ↔ ((IsReached a h × IsBelow a h) ⊎ (IsReached a h × IsAbove a h))
-reached_outside a h = (to, from)
-  where
-    to : IsReached a h × ¬ IsInside a h → (IsReached a h × IsBelow a h) ⊎ (IsReached a h × IsAbove a h)
-    to (r, n) = elim (cases_lt h (root a)) [
-      | inl l ↦ inl (r, l)
-      | inr l ↦ elim (cases_lt (length a) (h + HEAD_SIZE)) [ inl m ↦ inr (r, (l, m)) | inr m ↦ absurd (n (l, m)) ]
-    ]
-
-    from : (IsReached a h × IsBelow a h) ⊎ (IsReached a h × IsAbove a h) → IsReached a h × ¬ IsInside a h
-    from (inl x) = (x.0, λ i. omega arith)
-    from (inr x) = (x.0, λ i. omega arith)

@@ -4,7 +4,7 @@ use Rattle.std.proofs.lemmas.List.{length-set, length-replicate}
 use Rattle.romfs_format.specs.Fields.{root, IsInside, next, spec, cleared}
 use Rattle.romfs_format.specs.Chains.{IsFirst, IsNext, IsAt}
 use Rattle.romfs_rules.specs.Marks.{IsVolumeImage, IsMarked, AreMarks, IsInRootChain}
-use Rattle.romfs_rules.proofs.Slots.{root_high, cleared_at}
+use Rattle.romfs_rules.proofs.Slots.{cleared_at}
 use Rattle.romfs_rules.proofs.MarkLists.{no_marks, newly_set, still_set, one_more}
 
 -- g comes next, lies outside or is marked
@@ -21,7 +21,7 @@ pub record Walked (a : List ℕ) (marks : List Bool) (at : ℕ) : Type 0 where
 
 module _ (a : List ℕ) where
   not_zero : IsVolumeImage a → (at : ℕ) → IsInside a at → at ≢ 0
-  not_zero v at i z = let h = root_high a v.volume_name in omega arith
+  not_zero v at i z = let h = v.behind in omega arith
 
   module _ (v : IsVolumeImage a) (place w : ℕ) (t : place ≡ root a) (f : w ≡ spec a place) where
     starts : cleared w ≡ cleared (spec a (root a))

@@ -2,7 +2,7 @@
 use Rattle.std.proofs.Common.{◌≡◌, ◌∙◌, sym, ap, subst, ℕ, zero, suc, ◌+◌, ◌<◌, ◌≤◌, ◌⊎◌, inl, inr, List, [], ◌∷◌, length, get_or, set, min, drop, reverse, Bool, true, false, refl, arith}
 use Rattle.std.proofs.lemmas.List.{get_or-set_same, get_or-set_other, length-set, get_or_read}
 use Rattle.std.proofs.lemmas.Bool.{cases_eq}
-use Rattle.romfs_rules.specs.Climb.{After, one, more, On, top, under, IsLowest, IsLow, IsSpare, IsCompared, AreLower, AreNoted, IsNoted, AreBelow, IsFound, AreKept, IsClosed, IsWalk, IsGathered}
+use Rattle.romfs_rules.specs.Climb.{After, one, more, On, top, under, IsLowest, IsLow, IsSpare, IsCompared, AreLower, IsNoted, AreBelow, IsFound, AreMarksKept, IsClosed, IsFreshWalk, IsGathered}
 use Rattle.romfs_rules.proofs.MarkLists.{newly_set, still_set, was_set}
 use Rattle.romfs_rules.proofs.Climbing.{then_next, after_next, on_cases, low_enters, spare_enters, lower_enters}
 use Rattle.romfs_rules.proofs.Ascent.{on_reverse, on_reversed, drop_turn}
@@ -48,8 +48,8 @@ goes_round {path = path} r (more e a) p = goes_round r a (subst (λ z. On path z
 module _ (next : List ℕ) where
   -- a walk leaves a header for the next
   pub walks : (entered visited : List Bool) (from at : ℕ) → at < length next → at < length visited
-      → IsClosed next entered → IsWalk next entered visited from at
-      → IsWalk next entered (set visited at true) from (get_or next at 0)
+      → IsClosed next entered → IsFreshWalk next entered visited from at
+      → IsFreshWalk next entered (set visited at true) from (get_or next at 0)
   walks entered visited from at l k c w = record {
     fresh = marked (get_or entered (get_or next at 0) false) (λ m. clash _ (c.each at l m) w.fresh);
     leads = inr (elim w.leads [ inl e ↦ subst (λ z. After next z (get_or next at 0)) e (one refl) | inr a ↦ then_next a ]);
@@ -59,10 +59,10 @@ module _ (next : List ℕ) where
     ];
   }
 
-  pub sets_out : (entered visited : List Bool) (from : ℕ) → AreKept visited entered → get_or entered from false ≡ false → IsWalk next entered visited from from
+  pub sets_out : (entered visited : List Bool) (from : ℕ) → AreMarksKept visited entered → get_or entered from false ≡ false → IsFreshWalk next entered visited from from
   sets_out entered visited from k f = record { fresh = f; leads = inl refl; left = λ x m. inl (k.each x m) }
 
-  pub meets : (entered visited : List Bool) (from at : ℕ) → get_or visited at false ≡ true → IsWalk next entered visited from at → After next at at
+  pub meets : (entered visited : List Bool) (from at : ℕ) → get_or visited at false ≡ true → IsFreshWalk next entered visited from at → After next at at
   meets entered visited from at m w = elim (w.left at m) [ inl e ↦ absurd (clash _ e w.fresh) | inr a ↦ a ]
 
   -- what leads to a header that is entered is entered
@@ -83,7 +83,7 @@ pub record IsRounding (next class : List ℕ) (first entered : List Bool) (from 
   pub closed : IsClosed next first
   pub each : (x : ℕ) → get_or entered x false ≡ true → (get_or first x false ≡ true) ⊎ On path x
   pub all : (x : ℕ) → On path x → get_or entered x false ≡ true
-  pub kept : AreKept first entered
+  pub kept : AreMarksKept first entered
   pub fresh : get_or first at false ≡ false
   pub leads : (at ≡ from) ⊎ After next from at
   pub led : (x : ℕ) → On path x → (x ≡ from) ⊎ After next from x
@@ -236,19 +236,6 @@ nothing next class low entered noted f e n k x y z = record {
   compared = record { sized = e; low = λ u v m a e l. absurd (clash _ m (x u)); high = λ u v m a e l. absurd (clash _ m (x u)) };
   lower = record { each = λ u m. absurd (clash _ m (y u)) };
   closed = λ u l m. absurd (clash _ m (x (get_or next u 0)));
-}
-
--- where all have been entered
-pub all_noted : (next class low : List ℕ) (entered noted : List Bool) → length class ≡ length next
-    → ((x : ℕ) → x < length next → get_or entered x false ≡ true) → IsFound next class [] [] entered noted low
-    → AreNoted next class noted
-all_noted next class low entered noted f all w = record {
-  sized = w.spare.sized ∙ f;
-  each = w.lower.each;
-  all = λ x l h. elim (h.1.along) [
-    | inl a ↦ w.compared.low x h.0 (all x l) a (sym h.1.same) h.1.below
-    | inr a ↦ w.compared.high h.0 x (all h.0 (let b = h.1.below in omega arith)) a h.1.same h.1.below
-  ];
 }
 
 -- a cycle is left, where all that leads to it has been entered

@@ -1,8 +1,8 @@
 -- The lists of the headers that lead to each header, from the last header down.
-use Rattle.std.proofs.Common.{◌≡◌, ◌≢◌, ◌∙◌, sym, ap, subst, ℕ, ◌+◌, ◌<◌, ◌≤◌, ◌⊎◌, inl, inr, List, length, get_or, set, replicate, refl, arith}
-use Rattle.std.proofs.lemmas.List.{get_or-set_same, get_or-set_other, length-set, get_or-replicate, length-replicate}
+use Rattle.std.proofs.Common.{◌≡◌, ◌≢◌, ◌∙◌, sym, ap, subst, ℕ, ◌+◌, ◌<◌, ◌≤◌, ◌⊎◌, inl, inr, List, length, get_or, set, refl, arith}
+use Rattle.std.proofs.lemmas.List.{get_or-set_same, get_or-set_other, length-set}
 use Rattle.std.proofs.lemmas.Bool.{cases_eq}
-use Rattle.romfs_rules.specs.Climb.{AreBelow, Ahead, here, later, AreLists}
+use Rattle.romfs_rules.specs.Climb.{AreBelow, Ahead, here, later}
 
 -- the lists of the headers from `from` on
 pub record AreListed (next first sibling : List ℕ) (from : ℕ) : Type 0 where
@@ -12,26 +12,6 @@ pub record AreListed (next first sibling : List ℕ) (from : ℕ) : Type 0 where
   pub rising : (x : ℕ) → x < length next → x < get_or sibling x 0
   pub same : (t x : ℕ) → t < length next → Ahead sibling (get_or first t 0) x → get_or next x 0 ≡ t
   pub whole : (x : ℕ) → from ≤ x → x < length next → Ahead sibling (get_or first (get_or next x 0) 0) x
-
-pub listed_none : (next first sibling : List ℕ) → first ≡ replicate (length next) (length next)
-    → sibling ≡ replicate (length next) (length next) → AreListed next first sibling (length next)
-listed_none next first sibling e f =
-    let sized : length sibling ≡ length next = ap length f ∙ length-replicate _ _ in
-    let at : (xs : List ℕ) → xs ≡ replicate (length next) (length next) → (t : ℕ) → t < length next
-    → get_or xs t 0 ≡ length next = λ xs k t l. ap (λ ys. get_or ys t 0) k
-    ∙ get_or-replicate (length next) t (length next) 0 l in
-    record {
-      firsts = ap length e ∙ length-replicate _ _;
-      siblings = sized;
-      past = λ t l. (let k = at first e t l in omega arith);
-      rising = λ x l. (let k = at sibling f x l in omega arith);
-      same = λ t x l a. absurd (let k = at first e t l in let b = inside a in omega arith);
-      whole = λ x l k. absurd (omega arith);
-    }
-  where
-    inside : {from x : ℕ} → Ahead sibling from x → from < length sibling
-    inside (here l) = l
-    inside (later l a) = l
 
 module _ (next first sibling : List ℕ) (at : ℕ) (fits : at < length next) (b : AreBelow next (length next)) (w : AreListed next first sibling (at + 1)) where
   more_sibling : List ℕ
@@ -114,12 +94,3 @@ module _ (next first sibling : List ℕ) (at : ℕ) (fits : at < length next) (b
   pub listed_more : AreListed next (set first (get_or next at 0) at) (set sibling at (get_or first (get_or next at 0) 0)) at
   unfolding more_first more_sibling
   listed_more = listed_here
-
-pub listed_all : (next first sibling : List ℕ) → AreListed next first sibling 0 → AreLists next first sibling
-listed_all next first sibling w = record {
-  firsts = w.firsts;
-  siblings = w.siblings;
-  rising = w.rising;
-  same = w.same;
-  whole = λ x l. w.whole x (omega arith) l;
-}

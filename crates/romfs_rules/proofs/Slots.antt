@@ -1,12 +1,11 @@
 -- Headers and their slots.
-use Rattle.std.proofs.Common.{◌≡◌, ◌∙◌, sym, ap, get_or, false, IsTrue, subst, ℕ, zero, suc, ◌*◌, ◌/◌, ◌<◌, ◌≤◌, ◌↔◌, inl, inr, List, Bool, length, Some, None, IsSome, refl, arith}
+use Rattle.std.proofs.Common.{◌≡◌, ◌∙◌, sym, ap, get_or, false, IsTrue, subst, ℕ, zero, suc, ◌*◌, ◌/◌, ◌<◌, ◌≤◌, ◌↔◌, List, Bool, length, Some, None, refl, arith}
 use Rattle.std.specs.Option.{option_map_or}
 use Rattle.romfs_format.specs.declared.limits.TheConstants.{HEAD_SIZE}
 use Rattle.romfs_format.specs.Fields.{root, text_at, text_end, IsInside, spec, cleared}
 use Rattle.romfs_format.specs.Chains.{IsAt, IsInChain, IsOpened, at_root, below}
 use Rattle.romfs_format.specs.Links.{IsDestination, here, there}
 use Rattle.romfs_rules.specs.Marks.{IsVolumeImage, IsMarked, AreMarks}
-use Rattle.romfs_rules.specs.Leads.{IsInSomeChain}
 
 pub cleared_root : (a : List ℕ) → cleared (root a) ≡ root a
 unfolding root
@@ -14,14 +13,6 @@ cleared_root a = elim (text_at a HEAD_SIZE) as (λ o. cleared (option_map_or (te
   | None ↦ refl
   | Some text ↦ omega arith
 ]
-
--- the root's header stands after the volume header
-pub root_high : (a : List ℕ) → IsSome (text_at a HEAD_SIZE) → 32 ≤ root a
-unfolding root
-root_high a s = elim (text_at a HEAD_SIZE) as (λ o. IsSome o → 32 ≤ option_map_or (text_end HEAD_SIZE) o 0) [
-  | None ↦ λ x. cc
-  | Some text ↦ λ x. omega arith
-] s
 
 pub twice_cleared : (n : ℕ) → cleared (cleared n) ≡ cleared n
 twice_cleared n = omega arith
@@ -35,10 +26,6 @@ cleared_at a d (suc n) h x = rw (x.2.1) (omega arith)
 
 pub cleared_in_chain : (a : List ℕ) (d h : ℕ) → IsInChain a d h → cleared h ≡ h
 cleared_in_chain a d h c = cleared_at a d c.0 h c.1
-
-pub cleared_in_some_chain : (a : List ℕ) (h : ℕ) → IsInSomeChain a h → cleared h ≡ h
-cleared_in_some_chain a h (inl c) = cleared_in_chain a (root a) h c
-cleared_in_some_chain a h (inr e) = cleared_in_chain a e.dir h e.in_chain
 
 pub inside_opened : (a : List ℕ) → IsVolumeImage a → (d : ℕ) → IsOpened a d → IsInside a d
 inside_opened a v d (at_root e) = rw e (inside_root a v)

@@ -2,7 +2,7 @@
 use Rattle.std.proofs.Common.{◌≡◌, ◌∙◌, sym, subst, ℕ, zero, suc, ◌+◌, ◌-◌, ◌*◌, ◌/◌, ◌<◌, ◌≤◌, ◌⊎◌, inl, inr, List, length, Bool, true, false, get_or, set, Option, Some, None, refl, arith}
 use Rattle.std.proofs.lemmas.Bool.{cases_eq, cases_lt, true≢false}
 use Rattle.std.proofs.lemmas.List.{length-set, get_or_past}
-use Rattle.romfs_rules.specs.SlotSets.{IsClear, IsNextIn, IsNext, IsNextOfEither, IsUnion}
+use Rattle.romfs_rules.specs.SlotSets.{IsClear, IsNextIn, IsNextSlot, IsNextOfEither, IsUnion}
 use Rattle.romfs_format.specs.Fields.{IsInside}
 use Rattle.romfs_rules.specs.Marks.{AreMarks}
 use Rattle.romfs_rules.proofs.MarkLists.{was_set, still_set, newly_set}
@@ -20,13 +20,6 @@ pub over_to : (P : ℕ → Type 0) (low high : ℕ) → low ≤ high → P low �
 over_to P low high l p step =
     let e : low + (high - low) ≡ high = omega arith in
     subst P e (over P low (high - low) p (λ k m n x. step k m (omega arith) x))
-
-unset : (set : List Bool) (k : ℕ) → ¬ (get_or set k false ≡ true) → get_or set k false ≡ false
-unset set k n = go (get_or set k false) refl
-  where
-    go : (b : Bool) → get_or set k false ≡ b → get_or set k false ≡ false
-    go true e = absurd (n e)
-    go false e = e
 
 -- both holds the slots of one, and those of other below n
 pub record IsUnionBelow (n : ℕ) (one other both : List Bool) : Type 0 where
@@ -89,6 +82,6 @@ united_marks a P Q one other both m n u = record {
 }
 
 -- the next slot of either of a set and the same is the next of the set
-pub next_of_one : (one : List Bool) (from : ℕ) (next : Option ℕ) → IsNextOfEither one one from next → IsNext one from next
+pub next_of_one : (one : List Bool) (from : ℕ) (next : Option ℕ) → IsNextOfEither one one from next → IsNextSlot one from next
 next_of_one one from None c = c.0
 next_of_one one from (Some k) n = record { low = n.low; high = n.high; is = elim n.is [ inl x ↦ x | inr x ↦ x ]; clear = n.one_clear }

@@ -16,7 +16,7 @@ use Rattle.romfs_rules.specs.Leads.{IsInSomeChain}
 use Rattle.romfs_rules.specs.SlotSets.{IsClear}
 use Rattle.romfs_rules.proofs.Unions.{over_to, outside_set}
 use Rattle.romfs_format.specs.declared.rule.ImageFault.{ImageFault}
-use Rattle.romfs_rules.specs.Outside.{IsLeast, IsBelow, IsAbove}
+use Rattle.romfs_rules.specs.Outside.{IsLeast, IsBelow, IsPastEnd}
 use Rattle.romfs_rules.specs.Judge.{HasSlot, IsHeaderRule, KeepsBefore, KeepsHeaderRules, IsFirstRule, KeepsBelow, IsFirstInside, KeepsAllHeaderRules, IsFirstBreach}
 use Rattle.romfs_rules.proofs.Slots.{cleared_root, cleared_in_chain, inside_root, cleared_destination, slot_inside}
 use Rattle.romfs_rules.proofs.Standing.{reached, member_in_chain}
@@ -249,7 +249,7 @@ abbrev pub IsReachedBelow : List ℕ → ℕ → Type 0
 IsReachedBelow a h = IsReached a h × IsBelow a h
 
 abbrev pub IsReachedAbove : List ℕ → ℕ → Type 0
-IsReachedAbove a h = IsReached a h × IsAbove a h
+IsReachedAbove a h = IsReached a h × IsPastEnd a h
 
 least_is : (P : ℕ → Type 0) (least : Option ℕ) (p q : ℕ) → IsLeast P least → least ≡ Some p → P q → p ≤ q
 least_is P least p q l e x = let w = l.whole q x in let f : w.0 ≡ p = cc in omega arith
@@ -349,11 +349,3 @@ module _ (profile : Profile) (b : List ℕ) (v : IsVolume b) where
           (λ s h q x. k.keeps s q h ((to_breaks profile b q s h).1 x))
           (λ q x. no_least (BreaksHeader (image b) Deep) deep q d e x);
     }
-
--- what every profile asks is kept under the usual one
-pub usual_kept : (profile : Profile) (a : List ℕ) → KeepsAllHeaderRules profile a → KeepsAllHeaderRules Usual a
-usual_kept profile a k = record {
-  keeps = λ s q x b. k.keeps s q x
-      (by_rule (λ r. BreaksHeader a r q → BreaksHeaderAs profile a r q) (λ y. y) (λ y. y) (λ y. y) (λ y. y)
-      (λ y. y) (λ y. y) (λ y. y) (λ y. y) (λ y. y) (λ y. y) (λ y. absurd y) s x b);
-}

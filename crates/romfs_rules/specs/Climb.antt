@@ -106,7 +106,7 @@ pub record IsFound (next class cycle waits : List ℕ) (entered noted : List Boo
       → (get_or entered x false ≡ true) ⊎ On waits (get_or next x 0)
 
 -- each mark before is one after
-pub record AreKept (before after : List Bool) : Type 0 where
+pub record AreMarksKept (before after : List Bool) : Type 0 where
   pub each : (x : ℕ) → get_or before x false ≡ true → get_or after x false ≡ true
 
 -- the list from `at` is that from `from` without those entered before it
@@ -120,7 +120,7 @@ pub record IsClosed (next : List ℕ) (entered : List Bool) : Type 0 where
       → get_or entered x false ≡ true
 
 -- a walk from one header to another, over headers that were not entered before; `visited` marks those that it has left
-pub record IsWalk (next : List ℕ) (entered visited : List Bool) (from to : ℕ) : Type 0 where
+pub record IsFreshWalk (next : List ℕ) (entered visited : List Bool) (from to : ℕ) : Type 0 where
   pub fresh : get_or entered to false ≡ false
   pub leads : (to ≡ from) ⊎ After next from to
   pub left : (x : ℕ) → get_or visited x false ≡ true
@@ -129,9 +129,9 @@ pub record IsWalk (next : List ℕ) (entered visited : List Bool) (from to : ℕ
 -- a walk from one header to another that comes back to itself, whatever has been entered before
 pub record IsMet (next : List ℕ) (before after : List Bool) (from to : ℕ) : Type 0 where
   pub inside : to < length next
-  pub walk : (entered : List Bool) → IsClosed next entered → AreKept before entered
-      → get_or entered from false ≡ false → IsWalk next entered after from to
-  pub cycle : (entered : List Bool) → IsClosed next entered → AreKept before entered
+  pub walk : (entered : List Bool) → IsClosed next entered → AreMarksKept before entered
+      → get_or entered from false ≡ false → IsFreshWalk next entered after from to
+  pub cycle : (entered : List Bool) → IsClosed next entered → AreMarksKept before entered
       → get_or entered from false ≡ false → After next to to
 
 -- the cycle of a header, entered, as the path of what has been found

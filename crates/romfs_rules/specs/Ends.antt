@@ -12,7 +12,7 @@ pub record HasEnds (a walks : List ℕ) (ends : List End) : Type 0 where
       → (n < length ends) × EndsAs a (k * 16) (get_or ends n AtDirectory)
 
 -- and each hard link on the destination chain of a member was passed
-pub record AreEnds (a : List ℕ) (walks : Words) (ends : List End) : Type 0 where
+pub record AreWalkedEnds (a : List ℕ) (walks : Words) (ends : List End) : Type 0 where
   pub targets : AreMarks a (IsTarget a) walks.slots
   pub sized : length walks.by_slot ≡ length a / 16
   pub known : HasEnds a walks.by_slot ends
@@ -20,7 +20,7 @@ pub record AreEnds (a : List ℕ) (walks : Words) (ends : List End) : Type 0 whe
 
 -- h is such a hard link of the image, whose ends these are
 pub record KnowsEnd (a : List ℕ) (walks : Words) (ends : List End) (h : ℕ) : Type 0 where
-  pub known : AreEnds a walks ends
+  pub known : AreWalkedEnds a walks ends
   pub target : IsTarget a h
   pub hard : IsHardLink a h
 
@@ -29,8 +29,8 @@ abbrev pub IsUnpassed : List ℕ → List ℕ → ℕ → Type 0
 IsUnpassed a walks slot = IsHardLink a (slot * 16) × (get_or walks slot 0 ≡ 0)
 
 -- and stands on the destination chain of a member
-abbrev pub IsLeft : List ℕ → List ℕ → ℕ → Type 0
-IsLeft a walks slot = IsTarget a (slot * 16) × IsUnpassed a walks slot
+abbrev pub IsUnpassedTarget : List ℕ → List ℕ → ℕ → Type 0
+IsUnpassedTarget a walks slot = IsTarget a (slot * 16) × IsUnpassed a walks slot
 
 -- what the marks are after a walk, from what they were before: none is lost, and the header it began at has one
 pub record Passes (from : ℕ) (before after : List ℕ) : Type 0 where

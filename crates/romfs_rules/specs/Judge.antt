@@ -10,7 +10,7 @@ use Rattle.romfs_format.specs.Links.{IsTarget}
 use Rattle.romfs_format.specs.Rules.{BreaksHeader, BreaksHeaderAs, rule_number, IsNamedBefore, IsLinkedTwice}
 use Rattle.romfs_rules.specs.Marks.{AreMarks, IsListOf}
 use Rattle.romfs_rules.specs.InChains.{AreChains}
-use Rattle.romfs_rules.specs.Ends.{AreEnds}
+use Rattle.romfs_rules.specs.Ends.{AreWalkedEnds}
 use Rattle.romfs_rules.specs.Outside.{IsLeast}
 use Rattle.romfs_rules.specs.SameNames.{HaveSameNamesIfAlone}
 
@@ -20,7 +20,7 @@ pub record AreSets {A : Type 0} (a : List ℕ) (sets : Sets A) : Type 0 where
   pub targets : AreMarks a (IsTarget a) sets.targets.now
   pub twice : IsListOf a (IsLinkedTwice a) sets.twice.now
   pub same_names : HaveSameNamesIfAlone a sets.same_names.now
-  pub ends : AreEnds a sets.ends.now.walks sets.ends.now.ends.items
+  pub ends : AreWalkedEnds a sets.ends.now.walks sets.ends.now.ends.items
 
 -- a header may stand at h
 pub record HasSlot (a : List ℕ) (h : ℕ) : Type 0 where

@@ -26,7 +26,7 @@ pub data LeadsOn (a : List ℕ) : ℕ → ℕ → Type 0 where
   down : {h g : ℕ} → h ≢ root a → Opens a h → IsFirst a h g → LeadsOn a h g
 
 -- first of a directory other than the root that the root holds
-pub record IsSeed (a : List ℕ) (g : ℕ) : Type 0 where
+pub record IsStart (a : List ℕ) (g : ℕ) : Type 0 where
   pub dir : ℕ
   pub in_chain : IsInRootChain a dir
   pub other : dir ≢ root a
@@ -34,9 +34,9 @@ pub record IsSeed (a : List ℕ) (g : ℕ) : Type 0 where
   pub first : IsFirst a dir g
 
 -- the words are those with which the walk over the other chains begins
-pub record AreSeeds (a words : List ℕ) : Type 0 where
-  pub each : (g : ℕ) → Contains words g → IsSeed a g
-  pub all : (g : ℕ) → IsSeed a g → Contains words g
+pub record AreStarts (a words : List ℕ) : Type 0 where
+  pub each : (g : ℕ) → Contains words g → IsStart a g
+  pub all : (g : ℕ) → IsStart a g → Contains words g
 
 -- the list after is the one before, and then all of P, which are two at most
 pub record Adds {X : Type 0} (P : X → Type 0) (before after : List X) : Type 0 where

@@ -1,17 +1,16 @@
 -- Sets of headers of an image, as marks by slot: a slot is 16 bytes, and each header inside the image has one.
-use Rattle.std.specs.Prelude.{◌≡◌, ◌≢◌, ℕ, ◌+◌, ◌*◌, ◌/◌, ◌^◌, ◌<◌, ◌≤◌, List, length, Bool, true, false, get_or, IsSome, Contains}
+use Rattle.std.specs.Prelude.{◌≡◌, ◌≢◌, ℕ, ◌+◌, ◌*◌, ◌/◌, ◌^◌, ◌<◌, ◌≤◌, List, length, Bool, true, false, get_or, Contains}
 use Rattle.romfs_format.specs.declared.head.Kind.TheVariants.{Directory}
 use Rattle.romfs_format.specs.declared.limits.TheConstants.{HEAD_SIZE}
-use Rattle.romfs_format.specs.Fields.{root, IsInside, kind, text_at, cleared}
+use Rattle.romfs_format.specs.Fields.{root, IsInside, kind, cleared}
 use Rattle.romfs_format.specs.Chains.{IsInChain, IsDotted, IsOpened}
 use Rattle.romfs_format.specs.Rules.{IsNamesake}
 
--- what the accessible bytes of an image that keeps the volume rules are known to be
+-- the accessible bytes of an image that keeps the volume rules: the root's header lies in them, behind the volume header
 pub record IsVolumeImage (a : List ℕ) : Type 0 where
   pub small : length a < 2 ^ 32
-  pub volume_name : IsSome (text_at a HEAD_SIZE)
+  pub behind : 2 * HEAD_SIZE ≤ root a
   pub inside : root a + HEAD_SIZE ≤ length a
-  pub directory : kind a (root a) ≡ Directory
 
 abbrev pub IsMarked : List Bool → ℕ → Type 0
 IsMarked marks h = get_or marks (h / 16) false ≡ true

@@ -23,8 +23,8 @@ abbrev pub IsBelow : List ℕ → ℕ → Type 0
 IsBelow a h = h < root a
 
 -- from the root's header on, and not whole in the image
-abbrev pub IsAbove : List ℕ → ℕ → Type 0
-IsAbove a h = (root a ≤ h) × (length a < h + HEAD_SIZE)
+abbrev pub IsPastEnd : List ℕ → ℕ → Type 0
+IsPastEnd a h = (root a ≤ h) × (length a < h + HEAD_SIZE)
 
 -- the lesser of a word and what was found before
 abbrev pub lesser : Option ℕ → ℕ → ℕ

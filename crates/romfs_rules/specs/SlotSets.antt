@@ -41,8 +41,8 @@ pub record IsNextInEither (one other : List Bool) (from k : ℕ) : Type 0 where
   pub other_clear : IsClear other from k
 
 -- the first slot of the set from `from` on, if there is one
-abbrev pub IsNext : List Bool → ℕ → Option ℕ → Type 0
-IsNext set from next = MatchOption next (IsClear set from (length set)) (IsNextIn set from)
+abbrev pub IsNextSlot : List Bool → ℕ → Option ℕ → Type 0
+IsNextSlot set from next = MatchOption next (IsClear set from (length set)) (IsNextIn set from)
 
 -- both holds the slots of one and of other
 pub record IsUnion (one other both : List Bool) : Type 0 where

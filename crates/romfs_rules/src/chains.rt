@@ -1,15 +1,16 @@
 //! Which headers stand in the root's chain, and which in chains of other directories.
 
-ghost use Rattle.std.specs.Prelude.{◌≡◌, ◌+◌, ◌/◌, ◌<◌, ◌⊎◌, ◌++◌, ◌^◌, length, false, IfOk};
+ghost use Rattle.std.specs.Prelude.{◌≡◌, ◌+◌, ◌/◌, ◌<◌, ◌++◌, IfOk};
 ghost use Rattle.std.specs.Option.{option_to_list};
-ghost use Rattle.romfs_format.specs.Fields.{root as root_of, IsInside};
-ghost use Rattle.romfs_rules.specs.Marks.{IsVolumeImage, IsInRootChain, IsElsewhere, AreMarks};
-ghost use Rattle.romfs_rules.specs.Leads.{AreSeeds, LeadsOn, Adds};
+ghost use Rattle.romfs_format.specs.Fields.{IsInside};
+ghost use Rattle.romfs_rules.specs.Marks.{IsInRootChain, IsElsewhere, AreMarks};
+ghost use Rattle.romfs_rules.specs.Leads.{AreStarts, LeadsOn, Adds};
 ghost use Rattle.romfs_rules.specs.InChains.{AreChains};
 
 use crate::lead::{first_below, next_of};
 use crate::slot::is_fresh;
 use crate::slot_set::SlotSet;
+use crate::volume::Volume;
 use romfs_format::read::{cleared, word};
 use std::alloc::{AllocError, Allocator};
 
@@ -24,20 +25,14 @@ pub(crate) struct Chains<A: Allocator> {
 }
 
 // Marks the headers of the root's chain, up to one that lies outside or comes again.
-fn mark_root_chain<A: Allocator + Copy>(
-    alloc: A,
-    image: &[u8],
-    root: usize,
-) -> Result<SlotSet<A>, AllocError>
-    requires volume { IsVolumeImage image.now }
-    requires root { root ≡ root_of image.now }
-    ensures { IfOk result (λ marks. AreMarks image.now (IsInRootChain image.now) marks) }
+fn mark_root_chain<A: Allocator + Copy>(alloc: A, image: &Volume) -> Result<SlotSet<A>, AllocError>
+    ensures { IfOk result (λ marks. AreMarks image.now.bytes.now (IsInRootChain image.now.bytes.now) marks) }
 {
-    let mut marks = SlotSet::new(alloc, image.len() / 16)?;
-    let mut at = cleared(word(image, root + 4)) as usize;
-    while is_fresh(image, root, at, &marks) {
+    let mut marks = SlotSet::new(alloc, image.bytes.len() / 16)?;
+    let mut at = cleared(word(image.bytes, image.root + 4)) as usize;
+    while is_fresh(image, at, &marks) {
         marks.insert(at / 16);
-        at = cleared(word(image, at)) as usize;
+        at = cleared(word(image.bytes, at)) as usize;
     }
     Ok(marks)
 }
@@ -55,62 +50,49 @@ fn push_some<A: Allocator>(todo: &mut Vec<u32, A>, word: Option<u32>) -> Result<
 // The first headers of the root's own directories.
 fn seeds<A: Allocator + Copy>(
     alloc: A,
-    image: &[u8],
-    root: usize,
+    image: &Volume,
     root_chain: &SlotSet<A>,
 ) -> Result<Vec<u32, A>, AllocError>
-    requires small { length image.now < 2 ^ 32 }
-    requires root { root ≡ root_of image.now }
-    requires root_chain { AreMarks image.now (IsInRootChain image.now) root_chain.now }
-    ensures { IfOk result (λ todo. AreSeeds image.now todo.items) }
+    requires root_chain { AreMarks image.now.bytes.now (IsInRootChain image.now.bytes.now) root_chain.now }
+    ensures { IfOk result (λ todo. AreStarts image.now.bytes.now todo.items) }
 {
     let mut todo = Vec::new(alloc);
     let mut from = 0;
     while let Some(slot) = root_chain.next_from(from) {
-        push_some(&mut todo, first_below(image, root, slot * 16))?;
+        push_some(&mut todo, first_below(image, slot * 16))?;
         from = slot + 1;
     }
     Ok(todo)
 }
 
 // Adds what a header leads on to.
-fn follow<A: Allocator>(
-    image: &[u8],
-    root: usize,
-    at: usize,
-    todo: &mut Vec<u32, A>,
-) -> Result<(), AllocError>
-    requires small { length image.now < 2 ^ 32 }
-    requires root { root ≡ root_of image.now }
-    requires inside { IsInside image.now at }
-    ensures { IfOk result (λ _. Adds (LeadsOn image.now at) todo.old.items todo.new.items) }
+fn follow<A: Allocator>(image: &Volume, at: usize, todo: &mut Vec<u32, A>) -> Result<(), AllocError>
+    requires inside { IsInside image.now.bytes.now at }
+    ensures { IfOk result (λ _. Adds (LeadsOn image.now.bytes.now at) todo.old.items todo.new.items) }
 {
     push_some(todo, next_of(image, at))?;
-    push_some(todo, first_below(image, root, at))?;
+    push_some(todo, first_below(image, at))?;
     Ok(())
 }
 
 // Marks the headers of the chains of all opened directories but the root.
 fn mark_elsewhere<A: Allocator + Copy>(
     alloc: A,
-    image: &[u8],
-    root: usize,
+    image: &Volume,
     root_chain: &SlotSet<A>,
 ) -> Result<SlotSet<A>, AllocError>
-    requires volume { IsVolumeImage image.now }
-    requires root { root ≡ root_of image.now }
-    requires root_chain { AreMarks image.now (IsInRootChain image.now) root_chain.now }
-    ensures { IfOk result (λ marks. AreMarks image.now (IsElsewhere image.now) marks) }
+    requires root_chain { AreMarks image.now.bytes.now (IsInRootChain image.now.bytes.now) root_chain.now }
+    ensures { IfOk result (λ marks. AreMarks image.now.bytes.now (IsElsewhere image.now.bytes.now) marks) }
 {
-    let mut marks = SlotSet::new(alloc, image.len() / 16)?;
-    let mut todo = seeds(alloc, image, root, root_chain)?;
+    let mut marks = SlotSet::new(alloc, image.bytes.len() / 16)?;
+    let mut todo = seeds(alloc, image, root_chain)?;
     while let Some(word) = todo.pop() {
         let at = word as usize;
-        if !is_fresh(image, root, at, &marks) {
+        if !is_fresh(image, at, &marks) {
             continue;
         }
         marks.insert(at / 16);
-        follow(image, root, at, &mut todo)?;
+        follow(image, at, &mut todo)?;
     }
     Ok(marks)
 }
@@ -118,16 +100,13 @@ fn mark_elsewhere<A: Allocator + Copy>(
 /// Finds the headers in the chains of all opened directories.
 pub(crate) fn find_chains<A: Allocator + Copy>(
     alloc: A,
-    image: &[u8],
-    root: usize,
+    image: &Volume,
 ) -> Result<Chains<A>, AllocError>
-    requires volume { IsVolumeImage image.now }
-    requires root { root ≡ root_of image.now }
-    ensures { IfOk result (AreChains image.now) }
+    ensures { IfOk result (AreChains image.now.bytes.now) }
 {
-    let root_chain = mark_root_chain(alloc, image, root)?;
-    let mut headers = mark_elsewhere(alloc, image, root, &root_chain)?;
-    let root_elsewhere = headers.contains(root / 16);
+    let root_chain = mark_root_chain(alloc, image)?;
+    let mut headers = mark_elsewhere(alloc, image, &root_chain)?;
+    let root_elsewhere = headers.contains(image.root / 16);
     headers.add_all(&root_chain);
     Ok(Chains {
         headers,

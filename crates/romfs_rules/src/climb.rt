@@ -19,8 +19,8 @@
 //! puts back what was lowest before it. Each header is entered once: beside the names' classes, which take n log n
 //! steps, the climb takes n.
 
-ghost use Rattle.std.specs.Prelude.{◌≡◌, ◌≢◌, ◌+◌, ◌<◌, ◌≤◌, ◌^◌, ◌⊎◌, ℕ, List, Bool, true, false, IfOk, length, get_or, set, min, drop, reverse, []};
-ghost use Rattle.romfs_rules.specs.Climb.{After, AreBelow, IsGraph, IsFound, IsLow, IsCycle, IsMet, IsGathered, IsNoted, IsSkipped, AreKept, AreNoted};
+ghost use Rattle.std.specs.Prelude.{◌≡◌, ◌+◌, ◌<◌, ◌^◌, ℕ, true, false, IfOk, length, get_or, set, min, drop, reverse, []};
+ghost use Rattle.romfs_rules.specs.Climb.{After, AreBelow, IsGraph, IsFound, IsLow, IsCycle, IsMet, IsGathered, IsNoted, IsSkipped, AreMarksKept, AreNoted};
 
 use crate::graph::Graph;
 use std::alloc::{AllocError, Allocator};
@@ -115,7 +115,7 @@ fn climb<A: Allocator + Copy>(
     ensures found { IfOk result (λ _. IsFound graph.now.next.items graph.now.class.items
         (reverse cycle.now) (drop (turn + 1) cycle.now)
         found.new.entered.items found.new.noted.items found.new.low.items) }
-    ensures kept { AreKept found.old.entered.items found.new.entered.items }
+    ensures kept { AreMarksKept found.old.entered.items found.new.entered.items }
 {
     let mut steps: Vec<Step, A> = Vec::new(alloc);
     let mut from = graph.first[cycle[turn] as usize];
@@ -165,7 +165,7 @@ fn gather<A: Allocator + Copy>(
         found.old.entered.items found.old.noted.items found.old.low.items }
     ensures gathered { IfOk result (λ cycle. IsGathered graph.now.next.items graph.now.class.items
         from cycle.items found.new.entered.items found.new.noted.items found.new.low.items) }
-    ensures kept { AreKept found.old.entered.items found.new.entered.items }
+    ensures kept { AreMarksKept found.old.entered.items found.new.entered.items }
 {
     let mut cycle = Vec::new(alloc);
     let mut at = from;
@@ -203,15 +203,15 @@ fn enter_all<A: Allocator + Copy>(
 ) -> Result<(), AllocError>
     requires from { from < length graph.now.next.items }
     requires visited { length visited.old ≡ length graph.now.next.items }
-    requires walked { AreKept visited.old found.old.entered.items }
+    requires walked { AreMarksKept visited.old found.old.entered.items }
     requires graph { IsGraph graph.now.next.items graph.now.class.items
         graph.now.first.items graph.now.sibling.items }
     requires found { IsFound graph.now.next.items graph.now.class.items [] []
         found.old.entered.items found.old.noted.items found.old.low.items }
     ensures found { IfOk result (λ _. IsFound graph.now.next.items graph.now.class.items [] []
         found.new.entered.items found.new.noted.items found.new.low.items) }
-    ensures kept { IfOk result (λ _. AreKept found.old.entered.items found.new.entered.items) }
-    ensures walked { IfOk result (λ _. AreKept visited.new found.new.entered.items) }
+    ensures kept { IfOk result (λ _. AreMarksKept found.old.entered.items found.new.entered.items) }
+    ensures walked { IfOk result (λ _. AreMarksKept visited.new found.new.entered.items) }
     ensures entered { IfOk result (λ _. get_or found.new.entered.items from false ≡ true) }
 {
     if found.entered[from as usize] {

@@ -10,15 +10,16 @@
 //! A walk that comes to its own number goes round, and ends nowhere. Each header is passed once.
 
 ghost use Rattle.std.specs.Prelude.{◌≡◌, ℕ, List, ◌+◌, ◌*◌, ◌++◌, [], ◌∷◌, ◌<◌, ◌↔◌, ◌^◌, ◌/◌, length, get_or, true, false, IsTrue, IfOk};
-ghost use Rattle.romfs_format.specs.Fields.{root as root_of, cleared};
+ghost use Rattle.romfs_format.specs.Fields.{cleared};
 ghost use Rattle.romfs_format.specs.Chains.{IsSomeMember};
 ghost use Rattle.romfs_format.specs.Links.{IsHardLink, IsDirectory, IsTarget, EndsAs};
-ghost use Rattle.romfs_rules.specs.Marks.{IsVolumeImage, AreMarks};
-ghost use Rattle.romfs_rules.specs.Ends.{HasEnds, AreEnds, KnowsEnd, Passes, IsUnpassed};
+ghost use Rattle.romfs_rules.specs.Marks.{AreMarks};
+ghost use Rattle.romfs_rules.specs.Ends.{HasEnds, AreWalkedEnds, KnowsEnd, Passes, IsUnpassed};
 
 use crate::slot::{is_hard_link, is_inside};
 use crate::slot_set::SlotSet;
 use crate::slot_words::SlotWords;
+use crate::volume::Volume;
 use romfs_format::head::{End, Kind};
 use romfs_format::read::{cleared, kind_of, word};
 use std::alloc::{AllocError, Allocator};
@@ -44,40 +45,36 @@ impl<'s, A: Allocator> Ends<'s, A> {
     }
 
     /// Where the chain of a member ends that is a hard link.
-    pub(crate) fn of_member(&self, image: &[u8], root: usize, at: usize) -> End
-        requires small { length image.now < 2 ^ 32 }
-        requires root { root ≡ root_of image.now }
-        requires ends { AreEnds image.now self.now.walks self.now.ends.items }
-        requires member { IsSomeMember image.now at }
-        requires hard { IsHardLink image.now at }
-        ensures { EndsAs image.now at result }
+    pub(crate) fn of_member(&self, image: &Volume, at: usize) -> End
+        requires ends { AreWalkedEnds image.now.bytes.now self.now.walks self.now.ends.items }
+        requires member { IsSomeMember image.now.bytes.now at }
+        requires hard { IsHardLink image.now.bytes.now at }
+        ensures { EndsAs image.now.bytes.now at result }
     {
-        let to = cleared(word(image, at + 4)) as usize;
-        if is_hard_link(image, root, to) {
+        let to = cleared(word(image.bytes, at + 4)) as usize;
+        if is_hard_link(image, to) {
             self.at(to)
         } else {
-            end_at(image, root, to)
+            end_at(image, to)
         }
     }
 }
 
 // Whether a header lies in the image and is a directory.
-fn is_directory(image: &[u8], root: usize, at: usize) -> bool
+fn is_directory(image: &Volume, at: usize) -> bool
     requires at { at < 2 ^ 32 }
-    requires root { root ≡ root_of image.now }
-    ensures { IsTrue result ↔ IsDirectory image.now at }
+    ensures { IsTrue result ↔ IsDirectory image.now.bytes.now at }
 {
-    is_inside(image, root, at) && kind_of(word(image, at)) == Kind::Directory
+    is_inside(image, at) && kind_of(word(image.bytes, at)) == Kind::Directory
 }
 
 // Where a chain ends at a header that is no hard link.
-fn end_at(image: &[u8], root: usize, at: usize) -> End
+fn end_at(image: &Volume, at: usize) -> End
     requires at { at < 2 ^ 32 }
-    requires root { root ≡ root_of image.now }
-    requires last { ¬ IsHardLink image.now at }
-    ensures { EndsAs image.now at result }
+    requires last { ¬ IsHardLink image.now.bytes.now at }
+    ensures { EndsAs image.now.bytes.now at result }
 {
-    if is_directory(image, root, at) {
+    if is_directory(image, at) {
         End::AtDirectory
     } else {
         End::AtOther
@@ -86,30 +83,22 @@ fn end_at(image: &[u8], root: usize, at: usize) -> End
 
 // Where the chain of a hard link ends. Marks each hard link on the way with the number of this
 // walk, up to one that an earlier walk passed.
-fn end_of<A: Allocator>(
-    image: &[u8],
-    root: usize,
-    from: usize,
-    walks: &mut SlotWords<A>,
-    ends: &[End],
-) -> End
-    requires small { length image.now < 2 ^ 32 }
-    requires root { root ≡ root_of image.now }
+fn end_of<A: Allocator>(image: &Volume, from: usize, walks: &mut SlotWords<A>, ends: &[End]) -> End
     requires aligned { cleared from ≡ from }
-    requires hard { IsHardLink image.now from }
-    requires target { IsTarget image.now from }
-    requires targets { AreMarks image.now (IsTarget image.now) walks.old.slots }
-    requires sized { length walks.old.by_slot ≡ length image.now / 16 }
+    requires hard { IsHardLink image.now.bytes.now from }
+    requires target { IsTarget image.now.bytes.now from }
+    requires targets { AreMarks image.now.bytes.now (IsTarget image.now.bytes.now) walks.old.slots }
+    requires sized { length walks.old.by_slot ≡ length image.now.bytes.now / 16 }
     requires few { length ends.now + 1 < 2 ^ 32 }
-    requires known { HasEnds image.now walks.old.by_slot ends.now }
-    ensures end { EndsAs image.now from result }
-    ensures known { HasEnds image.now walks.new.by_slot (ends.now ++ result ∷ []) }
+    requires known { HasEnds image.now.bytes.now walks.old.by_slot ends.now }
+    ensures end { EndsAs image.now.bytes.now from result }
+    ensures known { HasEnds image.now.bytes.now walks.new.by_slot (ends.now ++ result ∷ []) }
     ensures passes { Passes from walks.old.by_slot walks.new.by_slot }
     ensures same { walks.new.slots ≡ walks.old.slots }
 {
     let mine = ends.len() as u32 + 1;
     let mut at = from;
-    while is_hard_link(image, root, at) {
+    while is_hard_link(image, at) {
         let walk = walks.at(at / 16);
         if walk == mine {
             return End::Nowhere;
@@ -118,40 +107,35 @@ fn end_of<A: Allocator>(
             return ends[walk as usize - 1];
         }
         walks.put(at / 16, mine);
-        at = cleared(word(image, at + 4)) as usize;
+        at = cleared(word(image.bytes, at + 4)) as usize;
     }
-    end_at(image, root, at)
+    end_at(image, at)
 }
 
 // Whether a slot holds a hard link that no walk passed.
-fn is_left<A: Allocator>(image: &[u8], root: usize, slot: usize, walks: &SlotWords<A>) -> bool
-    requires small { length image.now < 2 ^ 32 }
-    requires root { root ≡ root_of image.now }
-    requires slot { slot < length image.now / 16 }
+fn is_left<A: Allocator>(image: &Volume, slot: usize, walks: &SlotWords<A>) -> bool
+    requires slot { slot < length image.now.bytes.now / 16 }
     requires there { get_or walks.now.slots slot false ≡ true }
-    ensures { IsTrue result ↔ IsUnpassed image.now walks.now.by_slot slot }
+    ensures { IsTrue result ↔ IsUnpassed image.now.bytes.now walks.now.by_slot slot }
 {
-    walks.at(slot) == 0 && is_hard_link(image, root, slot * 16)
+    walks.at(slot) == 0 && is_hard_link(image, slot * 16)
 }
 
 /// Follows each hard link that members' hard links lead over to where it ends.
 pub(crate) fn find_ends<'s, A: Allocator + Copy>(
     alloc: A,
-    image: &[u8],
-    root: usize,
+    image: &Volume,
     targets: &'s SlotSet<A>,
 ) -> Result<Ends<'s, A>, AllocError>
-    requires volume { IsVolumeImage image.now }
-    requires root { root ≡ root_of image.now }
-    requires targets { AreMarks image.now (IsTarget image.now) targets.now }
-    ensures { IfOk result (λ found. AreEnds image.now found.walks found.ends.items) }
+    requires targets { AreMarks image.now.bytes.now (IsTarget image.now.bytes.now) targets.now }
+    ensures { IfOk result (λ found. AreWalkedEnds image.now.bytes.now found.walks found.ends.items) }
 {
     let mut walks = SlotWords::new(alloc, targets)?;
     let mut ends = Vec::new(alloc);
     let mut from = 0;
     while let Some(slot) = targets.next_from(from) {
-        if is_left(image, root, slot, &walks) {
-            let end = end_of(image, root, slot * 16, &mut walks, &ends);
+        if is_left(image, slot, &walks) {
+            let end = end_of(image, slot * 16, &mut walks, &ends);
             ends.push(end)?;
         }
         from = slot + 1;

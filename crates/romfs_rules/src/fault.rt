@@ -3,7 +3,6 @@
 ghost use Rattle.std.specs.Prelude.{◌≡◌, ℕ, List, IfOk};
 ghost use Rattle.romfs_format.specs.Fields.{root as root_of, image};
 ghost use Rattle.romfs_format.specs.Rules.{IsVolume};
-ghost use Rattle.romfs_rules.specs.Marks.{IsVolumeImage};
 ghost use Rattle.romfs_rules.specs.InChains.{AreChains};
 ghost use Rattle.romfs_rules.specs.SameNames.{HaveSameNamesIfAlone};
 ghost use Rattle.romfs_rules.specs.Judge.{IsHeaderFault};
@@ -17,7 +16,7 @@ use crate::outside::find_outside;
 use crate::same_names::find_same_names;
 use crate::targets::mark_targets;
 use crate::twice::find_twice;
-use crate::volume::{image_of, volume_fault};
+use crate::volume::{Volume, image_of, volume_fault};
 use romfs_format::read::{root_of, word};
 use romfs_format::{ImageFault, Profile};
 use std::alloc::{AllocError, Allocator};
@@ -26,39 +25,33 @@ use std::alloc::{AllocError, Allocator};
 // another chain than its own, since then no fault of a name is the first.
 fn same_names_below<A: Allocator + Copy>(
     alloc: A,
-    bytes: &[u8],
-    root: usize,
+    image: &Volume,
     chains: &Chains<A>,
 ) -> Result<Vec<u32, A>, AllocError>
-    requires volume { IsVolumeImage bytes.now }
-    requires root { root ≡ root_of bytes.now }
-    requires chains { AreChains bytes.now chains.now }
-    ensures { IfOk result (λ found. HaveSameNamesIfAlone bytes.now found.items) }
+    requires chains { AreChains image.now.bytes.now chains.now }
+    ensures { IfOk result (λ found. HaveSameNamesIfAlone image.now.bytes.now found.items) }
 {
     if chains.root_elsewhere {
         Ok(Vec::new(alloc))
     } else {
-        find_same_names(alloc, bytes, root, chains)
+        find_same_names(alloc, image, chains)
     }
 }
 
 // The first breach of a rule of file headers.
 fn header_fault_in<A: Allocator + Copy>(
     alloc: A,
-    bytes: &[u8],
-    root: usize,
+    image: &Volume,
     profile: Profile,
 ) -> Result<Option<ImageFault>, AllocError>
-    requires volume { IsVolumeImage bytes.now }
-    requires root { root ≡ root_of bytes.now }
-    ensures { IfOk result (IsHeaderFault profile bytes.now) }
+    ensures { IfOk result (IsHeaderFault profile image.now.bytes.now) }
 {
-    let chains = find_chains(alloc, bytes, root)?;
-    let same_names = same_names_below(alloc, bytes, root, &chains)?;
-    let twice = find_twice(alloc, bytes, root, &chains)?;
-    let targets = mark_targets(alloc, bytes, root, &chains)?;
-    let ends = find_ends(alloc, bytes, root, &targets)?;
-    let outside = find_outside(bytes, root, &chains, &targets);
+    let chains = find_chains(alloc, image)?;
+    let same_names = same_names_below(alloc, image, &chains)?;
+    let twice = find_twice(alloc, image, &chains)?;
+    let targets = mark_targets(alloc, image, &chains)?;
+    let ends = find_ends(alloc, image, &targets)?;
+    let outside = find_outside(image, &chains, &targets);
     let sets = Sets {
         chains: &chains,
         targets: &targets,
@@ -66,26 +59,23 @@ fn header_fault_in<A: Allocator + Copy>(
         same_names: &same_names,
         ends: &ends,
     };
-    Ok(header_fault(bytes, root, profile, &sets, outside))
+    Ok(header_fault(image, profile, &sets, outside))
 }
 
 // The fault of an image that keeps the rules of the volume header, by its accessible bytes; none where
 // it is sound.
 fn fault_in<A: Allocator + Copy>(
     alloc: A,
-    bytes: &[u8],
-    root: usize,
+    volume: &Volume,
     profile: Profile,
 ) -> Result<Option<ImageFault>, AllocError>
-    requires volume { IsVolumeImage bytes.now }
-    requires root { root ≡ root_of bytes.now }
-    ensures { IfOk result (λ fault. (b : List ℕ) → image b ≡ bytes.now → IsVolume b →
+    ensures { IfOk result (λ fault. (b : List ℕ) → image b ≡ volume.now.bytes.now → IsVolume b →
         IsFaultOfAs profile b fault) }
 {
-    let header = header_fault_in(alloc, bytes, root, profile)?;
+    let header = header_fault_in(alloc, volume, profile)?;
     let deep = match header {
         Some(_) => None,
-        None => find_deep(alloc, bytes, root)?,
+        None => find_deep(alloc, volume)?,
     };
     Ok(fault_of(header, deep))
 }
@@ -109,7 +99,11 @@ pub fn first_fault<A: Allocator + Copy>(
         Some(fault) => Ok(Some(fault)),
         None => {
             let accessible = image_of(bytes, word(bytes, 8) as usize);
-            fault_in(alloc, accessible, root_of(accessible) as usize, profile)
+            let volume = Volume {
+                bytes: accessible,
+                root: root_of(accessible) as usize,
+            };
+            fault_in(alloc, &volume, profile)
         }
     }
 }

@@ -1,15 +1,14 @@
 //! The first rule of file headers that an image breaks, from sets of its headers.
 
-ghost use Rattle.std.specs.Prelude.{◌≡◌, ℕ, List, ◌+◌, ◌*◌, ◌<◌, ◌≤◌, ◌↔◌, ◌^◌, ◌/◌, length, IsTrue, IfSome, IfNone, MatchOption};
-ghost use Rattle.std.specs.List.Sorted.{IsNonDecreasing};
+ghost use Rattle.std.specs.Prelude.{◌≡◌, ℕ, List, ◌+◌, ◌*◌, ◌<◌, ◌≤◌, ◌↔◌, ◌/◌, length, IsTrue, MatchOption};
 ghost use Rattle.romfs_format.specs.declared.limits.TheConstants.{HEAD_SIZE};
 ghost use Rattle.romfs_format.specs.Fields.{root as root_of, image, data_at};
 ghost use Rattle.romfs_format.specs.Chains.{IsSomeMember};
 ghost use Rattle.romfs_format.specs.Links.{IsHardLink, IsReached, EndsAs};
 ghost use Rattle.romfs_format.specs.Rules.{IsVolume, IsUsed, HasData, IsDevice, IsBadName, EndsOutside};
 ghost use Rattle.romfs_format.specs.Rules.{HasLongTarget, HasLargeMajor, HasBadSum, BreaksHeader, BreaksHeaderAs};
-ghost use Rattle.romfs_rules.specs.Marks.{IsVolumeImage, IsElsewhere};
-ghost use Rattle.romfs_rules.specs.Outside.{IsLeast, IsBelow, IsAbove};
+ghost use Rattle.romfs_rules.specs.Marks.{IsElsewhere};
+ghost use Rattle.romfs_rules.specs.Outside.{IsLeast, IsBelow, IsPastEnd};
 ghost use Rattle.romfs_rules.specs.Judge.{AreSets, HasSlot, IsHeaderRule, KeepsHeaderRules, IsFirstRule, KeepsBelow, IsFirstInside, IsHeaderFault, IsDeepFault};
 ghost use Rattle.romfs_format.specs.Rules.{IsFaultOfAs};
 
@@ -20,6 +19,7 @@ use crate::member::{is_in_chain, is_some_member};
 use crate::outside::Outside;
 use crate::slot::is_hard_link;
 use crate::slot_set::SlotSet;
+use crate::volume::Volume;
 use romfs_format::head::{End, Kind};
 use romfs_format::limits::{HEAD_SIZE, MAX_MAJOR, MAX_TARGET_SIZE};
 use romfs_format::read::{header_bytes, kind_of, padded, text_at, word, word_sum};
@@ -43,14 +43,12 @@ pub(crate) struct Sets<'s, A: Allocator> {
 }
 
 // Whether a header is a member, or a member's hard links lead over it.
-fn is_used<A: Allocator>(image: &[u8], root: usize, sets: &Sets<A>, at: usize) -> bool
-    requires volume { IsVolumeImage image.now }
-    requires root { root ≡ root_of image.now }
-    requires sets { AreSets image.now sets.now }
-    requires slot { HasSlot image.now at }
-    ensures { IsTrue result ↔ IsUsed image.now at }
+fn is_used<A: Allocator>(image: &Volume, sets: &Sets<A>, at: usize) -> bool
+    requires sets { AreSets image.now.bytes.now sets.now }
+    requires slot { HasSlot image.now.bytes.now at }
+    ensures { IsTrue result ↔ IsUsed image.now.bytes.now at }
 {
-    sets.targets.contains(at / 16) || is_some_member(image, root, at, sets.chains)
+    sets.targets.contains(at / 16) || is_some_member(image, at, sets.chains)
 }
 
 // Whether a name is empty or holds `/`.
@@ -61,199 +59,174 @@ fn is_bad_name(name: &[u8]) -> bool
 }
 
 // Whether a header is that of a regular file or a symbolic link.
-fn has_data(image: &[u8], at: usize) -> bool
-    requires { at + HEAD_SIZE ≤ length image.now }
-    ensures { IsTrue result ↔ HasData image.now at }
+fn has_data(image: &Volume, at: usize) -> bool
+    requires { at + HEAD_SIZE ≤ length image.now.bytes.now }
+    ensures { IsTrue result ↔ HasData image.now.bytes.now at }
 {
-    matches!(kind_of(word(image, at)), Kind::Regular | Kind::SymLink)
+    matches!(
+        kind_of(word(image.bytes, at)),
+        Kind::Regular | Kind::SymLink
+    )
 }
 
 // Whether the data of a header with this name ends beyond the image.
-fn is_data_outside(image: &[u8], at: usize, name: &[u8]) -> bool
-    requires at { at + HEAD_SIZE ≤ length image.now }
-    requires small { length image.now < 2 ^ 32 }
-    requires name { data_at at name.now ≤ length image.now }
-    ensures { IsTrue result ↔ EndsOutside image.now at name.now }
+fn is_data_outside(image: &Volume, at: usize, name: &[u8]) -> bool
+    requires at { at + HEAD_SIZE ≤ length image.now.bytes.now }
+    requires name { data_at at name.now ≤ length image.now.bytes.now }
+    ensures { IsTrue result ↔ EndsOutside image.now.bytes.now at name.now }
 {
-    let size = word(image, at + 8) as usize;
-    image.len() < at + HEAD_SIZE + padded(name.len() + 1) + size
+    let size = word(image.bytes, at + 8) as usize;
+    image.bytes.len() < at + HEAD_SIZE + padded(name.len() + 1) + size
 }
 
 // Whether a header is that of a symbolic link with a target that is too long.
-fn is_target_long(image: &[u8], at: usize) -> bool
-    requires { at + HEAD_SIZE ≤ length image.now }
-    ensures { IsTrue result ↔ HasLongTarget image.now at }
+fn is_target_long(image: &Volume, at: usize) -> bool
+    requires { at + HEAD_SIZE ≤ length image.now.bytes.now }
+    ensures { IsTrue result ↔ HasLongTarget image.now.bytes.now at }
 {
-    kind_of(word(image, at)) == Kind::SymLink && word(image, at + 8) > MAX_TARGET_SIZE
+    kind_of(word(image.bytes, at)) == Kind::SymLink && word(image.bytes, at + 8) > MAX_TARGET_SIZE
 }
 
 // Whether a header is that of a device.
-fn is_device(image: &[u8], at: usize) -> bool
-    requires { at + HEAD_SIZE ≤ length image.now }
-    ensures { IsTrue result ↔ IsDevice image.now at }
+fn is_device(image: &Volume, at: usize) -> bool
+    requires { at + HEAD_SIZE ≤ length image.now.bytes.now }
+    ensures { IsTrue result ↔ IsDevice image.now.bytes.now at }
 {
-    matches!(kind_of(word(image, at)), Kind::Block | Kind::Character)
+    matches!(
+        kind_of(word(image.bytes, at)),
+        Kind::Block | Kind::Character
+    )
 }
 
 // Whether a header is that of a device with a major number that is too large.
-fn is_major_large(image: &[u8], at: usize) -> bool
-    requires { at + HEAD_SIZE ≤ length image.now }
-    ensures { IsTrue result ↔ HasLargeMajor image.now at }
+fn is_major_large(image: &Volume, at: usize) -> bool
+    requires { at + HEAD_SIZE ≤ length image.now.bytes.now }
+    ensures { IsTrue result ↔ HasLargeMajor image.now.bytes.now at }
 {
-    is_device(image, at) && word(image, at + 4) / 65536 > MAX_MAJOR
+    is_device(image, at) && word(image.bytes, at + 4) / 65536 > MAX_MAJOR
 }
 
 // Whether a name is not ended.
-fn breaks_name_open(image: &[u8], root: usize, at: usize) -> bool
-    requires volume { IsVolumeImage image.now }
-    requires root { root ≡ root_of image.now }
-    requires slot { HasSlot image.now at }
-    requires reached { IsReached image.now at }
-    ensures { IsTrue result ↔ BreaksHeader image.now Rule.NameOpen at }
+fn breaks_name_open(image: &Volume, at: usize) -> bool
+    requires slot { HasSlot image.now.bytes.now at }
+    requires reached { IsReached image.now.bytes.now at }
+    ensures { IsTrue result ↔ BreaksHeader image.now.bytes.now Rule.NameOpen at }
 {
-    at != root && text_at(image, at + HEAD_SIZE).is_none()
+    at != image.root && text_at(image.bytes, at + HEAD_SIZE).is_none()
 }
 
 // Whether a member's name is empty or holds `/`.
-fn breaks_name_bad<A: Allocator>(image: &[u8], root: usize, sets: &Sets<A>, at: usize) -> bool
-    requires volume { IsVolumeImage image.now }
-    requires root { root ≡ root_of image.now }
-    requires sets { AreSets image.now sets.now }
-    requires slot { HasSlot image.now at }
-    ensures { IsTrue result ↔ BreaksHeader image.now Rule.NameBad at }
+fn breaks_name_bad<A: Allocator>(image: &Volume, sets: &Sets<A>, at: usize) -> bool
+    requires sets { AreSets image.now.bytes.now sets.now }
+    requires slot { HasSlot image.now.bytes.now at }
+    ensures { IsTrue result ↔ BreaksHeader image.now.bytes.now Rule.NameBad at }
 {
-    match text_at(image, at + HEAD_SIZE) {
+    match text_at(image.bytes, at + HEAD_SIZE) {
         None => false,
-        Some(name) => { is_bad_name(name) && is_some_member(image, root, at, sets.chains) }
+        Some(name) => { is_bad_name(name) && is_some_member(image, at, sets.chains) }
     }
 }
 
 // Whether a header has data, and is used.
-fn is_data_used<A: Allocator>(image: &[u8], root: usize, sets: &Sets<A>, at: usize) -> bool
-    requires volume { IsVolumeImage image.now }
-    requires root { root ≡ root_of image.now }
-    requires sets { AreSets image.now sets.now }
-    requires slot { HasSlot image.now at }
-    ensures { IsTrue result ↔ (IsUsed image.now at × HasData image.now at) }
+fn is_data_used<A: Allocator>(image: &Volume, sets: &Sets<A>, at: usize) -> bool
+    requires sets { AreSets image.now.bytes.now sets.now }
+    requires slot { HasSlot image.now.bytes.now at }
+    ensures { IsTrue result ↔ (IsUsed image.now.bytes.now at × HasData image.now.bytes.now at) }
 {
-    has_data(image, at) && is_used(image, root, sets, at)
+    has_data(image, at) && is_used(image, sets, at)
 }
 
 // Whether the data of a regular file or a symbolic link ends beyond the image.
-fn breaks_data_outside<A: Allocator>(image: &[u8], root: usize, sets: &Sets<A>, at: usize) -> bool
-    requires volume { IsVolumeImage image.now }
-    requires root { root ≡ root_of image.now }
-    requires sets { AreSets image.now sets.now }
-    requires slot { HasSlot image.now at }
-    ensures { IsTrue result ↔ BreaksHeader image.now Rule.DataOutside at }
+fn breaks_data_outside<A: Allocator>(image: &Volume, sets: &Sets<A>, at: usize) -> bool
+    requires sets { AreSets image.now.bytes.now sets.now }
+    requires slot { HasSlot image.now.bytes.now at }
+    ensures { IsTrue result ↔ BreaksHeader image.now.bytes.now Rule.DataOutside at }
 {
-    match text_at(image, at + HEAD_SIZE) {
+    match text_at(image.bytes, at + HEAD_SIZE) {
         None => false,
-        Some(name) => is_data_outside(image, at, name) && is_data_used(image, root, sets, at),
+        Some(name) => is_data_outside(image, at, name) && is_data_used(image, sets, at),
     }
 }
 
 // Whether the target of a symbolic link is too long.
-fn breaks_target_long<A: Allocator>(image: &[u8], root: usize, sets: &Sets<A>, at: usize) -> bool
-    requires volume { IsVolumeImage image.now }
-    requires root { root ≡ root_of image.now }
-    requires sets { AreSets image.now sets.now }
-    requires slot { HasSlot image.now at }
-    ensures { IsTrue result ↔ BreaksHeader image.now Rule.TargetLong at }
+fn breaks_target_long<A: Allocator>(image: &Volume, sets: &Sets<A>, at: usize) -> bool
+    requires sets { AreSets image.now.bytes.now sets.now }
+    requires slot { HasSlot image.now.bytes.now at }
+    ensures { IsTrue result ↔ BreaksHeader image.now.bytes.now Rule.TargetLong at }
 {
-    is_target_long(image, at) && is_used(image, root, sets, at)
+    is_target_long(image, at) && is_used(image, sets, at)
 }
 
 // Whether two links name a header, or another directory's chain holds the root's.
-fn breaks_twice<A: Allocator>(image: &[u8], root: usize, sets: &Sets<A>, at: usize) -> bool
-    requires volume { IsVolumeImage image.now }
-    requires root { root ≡ root_of image.now }
-    requires sets { AreSets image.now sets.now }
-    requires slot { HasSlot image.now at }
-    ensures { IsTrue result ↔ BreaksHeader image.now Rule.Twice at }
+fn breaks_twice<A: Allocator>(image: &Volume, sets: &Sets<A>, at: usize) -> bool
+    requires sets { AreSets image.now.bytes.now sets.now }
+    requires slot { HasSlot image.now.bytes.now at }
+    ensures { IsTrue result ↔ BreaksHeader image.now.bytes.now Rule.Twice at }
 {
-    is_listed(sets.twice, at) || at == root && sets.chains.root_elsewhere
+    is_listed(sets.twice, at) || at == image.root && sets.chains.root_elsewhere
 }
 
 // Whether a member is a hard link whose chain ends in this way.
-fn member_ends_as<A: Allocator>(
-    image: &[u8],
-    root: usize,
-    sets: &Sets<A>,
-    at: usize,
-    end: End,
-) -> bool
-    requires volume { IsVolumeImage image.now }
-    requires root { root ≡ root_of image.now }
-    requires sets { AreSets image.now sets.now }
-    requires slot { HasSlot image.now at }
-    ensures { IsTrue result ↔ (IsSomeMember image.now at × IsHardLink image.now at
-        × EndsAs image.now at end) }
+fn member_ends_as<A: Allocator>(image: &Volume, sets: &Sets<A>, at: usize, end: End) -> bool
+    requires sets { AreSets image.now.bytes.now sets.now }
+    requires slot { HasSlot image.now.bytes.now at }
+    ensures { IsTrue result ↔ (IsSomeMember image.now.bytes.now at × IsHardLink image.now.bytes.now at
+        × EndsAs image.now.bytes.now at end) }
 {
-    if is_hard_link(image, root, at) && is_some_member(image, root, at, sets.chains) {
-        sets.ends.of_member(image, root, at) == end
+    if is_hard_link(image, at) && is_some_member(image, at, sets.chains) {
+        sets.ends.of_member(image, at) == end
     } else {
         false
     }
 }
 
 // Whether a member is a hard link whose chain never leaves hard links.
-fn breaks_link_loop<A: Allocator>(image: &[u8], root: usize, sets: &Sets<A>, at: usize) -> bool
-    requires volume { IsVolumeImage image.now }
-    requires root { root ≡ root_of image.now }
-    requires sets { AreSets image.now sets.now }
-    requires slot { HasSlot image.now at }
-    ensures { IsTrue result ↔ BreaksHeader image.now Rule.LinkLoop at }
+fn breaks_link_loop<A: Allocator>(image: &Volume, sets: &Sets<A>, at: usize) -> bool
+    requires sets { AreSets image.now.bytes.now sets.now }
+    requires slot { HasSlot image.now.bytes.now at }
+    ensures { IsTrue result ↔ BreaksHeader image.now.bytes.now Rule.LinkLoop at }
 {
-    member_ends_as(image, root, sets, at, End::Nowhere)
+    member_ends_as(image, sets, at, End::Nowhere)
 }
 
 // Whether a member is a hard link whose chain ends at a directory.
-fn breaks_link_directory<A: Allocator>(image: &[u8], root: usize, sets: &Sets<A>, at: usize) -> bool
-    requires volume { IsVolumeImage image.now }
-    requires root { root ≡ root_of image.now }
-    requires sets { AreSets image.now sets.now }
-    requires slot { HasSlot image.now at }
-    ensures { IsTrue result ↔ BreaksHeader image.now Rule.LinkDirectory at }
+fn breaks_link_directory<A: Allocator>(image: &Volume, sets: &Sets<A>, at: usize) -> bool
+    requires sets { AreSets image.now.bytes.now sets.now }
+    requires slot { HasSlot image.now.bytes.now at }
+    ensures { IsTrue result ↔ BreaksHeader image.now.bytes.now Rule.LinkDirectory at }
 {
-    member_ends_as(image, root, sets, at, End::AtDirectory)
+    member_ends_as(image, sets, at, End::AtDirectory)
 }
 
 // Whether the major number of a device is too large.
-fn breaks_major_large<A: Allocator>(image: &[u8], root: usize, sets: &Sets<A>, at: usize) -> bool
-    requires volume { IsVolumeImage image.now }
-    requires root { root ≡ root_of image.now }
-    requires sets { AreSets image.now sets.now }
-    requires slot { HasSlot image.now at }
-    ensures { IsTrue result ↔ BreaksHeader image.now Rule.MajorLarge at }
+fn breaks_major_large<A: Allocator>(image: &Volume, sets: &Sets<A>, at: usize) -> bool
+    requires sets { AreSets image.now.bytes.now sets.now }
+    requires slot { HasSlot image.now.bytes.now at }
+    ensures { IsTrue result ↔ BreaksHeader image.now.bytes.now Rule.MajorLarge at }
 {
-    is_major_large(image, at) && is_used(image, root, sets, at)
+    is_major_large(image, at) && is_used(image, sets, at)
 }
 
 // Whether the words of a header, its name and the padding do not sum to 0.
-fn is_sum_bad(image: &[u8], root: usize, at: usize) -> bool
-    requires root { root ≡ root_of image.now }
-    requires inside { at + HEAD_SIZE ≤ length image.now }
-    requires small { length image.now < 2 ^ 32 }
-    ensures { IsTrue result ↔ HasBadSum image.now at }
+fn is_sum_bad(image: &Volume, at: usize) -> bool
+    requires inside { at + HEAD_SIZE ≤ length image.now.bytes.now }
+    ensures { IsTrue result ↔ HasBadSum image.now.bytes.now at }
 {
-    match text_at(image, at + HEAD_SIZE) {
-        None => at == root,
-        Some(name) => word_sum(header_bytes(image, at, name)) != 0,
+    match text_at(image.bytes, at + HEAD_SIZE) {
+        None => at == image.root,
+        Some(name) => word_sum(header_bytes(image.bytes, at, name)) != 0,
     }
 }
 
 // Whether the sum of a header is looked at, and bad.
-fn breaks_header_sum(image: &[u8], root: usize, profile: Profile, at: usize) -> bool
-    requires volume { IsVolumeImage image.now }
-    requires root { root ≡ root_of image.now }
-    requires slot { HasSlot image.now at }
-    requires reached { IsReached image.now at }
-    ensures { IsTrue result ↔ BreaksHeaderAs profile image.now Rule.HeaderSum at }
+fn breaks_header_sum(image: &Volume, profile: Profile, at: usize) -> bool
+    requires slot { HasSlot image.now.bytes.now at }
+    requires reached { IsReached image.now.bytes.now at }
+    ensures { IsTrue result ↔ BreaksHeaderAs profile image.now.bytes.now Rule.HeaderSum at }
 {
     match profile {
         Profile::Usual => false,
-        Profile::Strict => is_sum_bad(image, root, at),
+        Profile::Strict => is_sum_bad(image, at),
     }
 }
 
@@ -274,33 +247,30 @@ const HEADER_RULES: [Rule; 10] = [
 // Whether a reached header breaks a rule of file headers. Equal names are known only where the
 // root's header stands in no other directory's chain.
 fn breaks<A: Allocator>(
-    image: &[u8],
-    root: usize,
+    image: &Volume,
     profile: Profile,
     sets: &Sets<A>,
     rule: Rule,
     at: usize,
 ) -> bool
-    requires volume { IsVolumeImage image.now }
-    requires root { root ≡ root_of image.now }
-    requires sets { AreSets image.now sets.now }
-    requires slot { HasSlot image.now at }
-    requires reached { IsReached image.now at }
+    requires sets { AreSets image.now.bytes.now sets.now }
+    requires slot { HasSlot image.now.bytes.now at }
+    requires reached { IsReached image.now.bytes.now at }
     requires rule { IsHeaderRule rule }
-    requires named { rule ≡ Rule.SameName → ¬ IsElsewhere image.now (root_of image.now) }
-    ensures { IsTrue result ↔ BreaksHeaderAs profile image.now rule at }
+    requires named { rule ≡ Rule.SameName → ¬ IsElsewhere image.now.bytes.now (root_of image.now.bytes.now) }
+    ensures { IsTrue result ↔ BreaksHeaderAs profile image.now.bytes.now rule at }
 {
     match rule {
-        Rule::NameOpen => breaks_name_open(image, root, at),
-        Rule::NameBad => breaks_name_bad(image, root, sets, at),
-        Rule::DataOutside => breaks_data_outside(image, root, sets, at),
-        Rule::TargetLong => breaks_target_long(image, root, sets, at),
-        Rule::Twice => breaks_twice(image, root, sets, at),
+        Rule::NameOpen => breaks_name_open(image, at),
+        Rule::NameBad => breaks_name_bad(image, sets, at),
+        Rule::DataOutside => breaks_data_outside(image, sets, at),
+        Rule::TargetLong => breaks_target_long(image, sets, at),
+        Rule::Twice => breaks_twice(image, sets, at),
         Rule::SameName => is_listed(sets.same_names, at),
-        Rule::LinkLoop => breaks_link_loop(image, root, sets, at),
-        Rule::LinkDirectory => breaks_link_directory(image, root, sets, at),
-        Rule::MajorLarge => breaks_major_large(image, root, sets, at),
-        Rule::HeaderSum => breaks_header_sum(image, root, profile, at),
+        Rule::LinkLoop => breaks_link_loop(image, sets, at),
+        Rule::LinkDirectory => breaks_link_directory(image, sets, at),
+        Rule::MajorLarge => breaks_major_large(image, sets, at),
+        Rule::HeaderSum => breaks_header_sum(image, profile, at),
         _ => false,
     }
 }
@@ -308,24 +278,21 @@ fn breaks<A: Allocator>(
 // The first rule of file headers that a reached header breaks. Where the root's header stands
 // in the chain of another directory, only the root may be asked for.
 fn rule_at<A: Allocator>(
-    image: &[u8],
-    root: usize,
+    image: &Volume,
     profile: Profile,
     sets: &Sets<A>,
     at: usize,
 ) -> Option<Rule>
-    requires volume { IsVolumeImage image.now }
-    requires root { root ≡ root_of image.now }
-    requires sets { AreSets image.now sets.now }
-    requires slot { HasSlot image.now at }
-    requires reached { IsReached image.now at }
-    requires root_once { IsElsewhere image.now (root_of image.now) → at ≡ root_of image.now }
-    ensures { MatchOption result (KeepsHeaderRules profile image.now at)
-        (IsFirstRule profile image.now at) }
+    requires sets { AreSets image.now.bytes.now sets.now }
+    requires slot { HasSlot image.now.bytes.now at }
+    requires reached { IsReached image.now.bytes.now at }
+    requires root_once { IsElsewhere image.now.bytes.now (root_of image.now.bytes.now) → at ≡ root_of image.now.bytes.now }
+    ensures { MatchOption result (KeepsHeaderRules profile image.now.bytes.now at)
+        (IsFirstRule profile image.now.bytes.now at) }
 {
     for number in 0..HEADER_RULES.len() {
         let rule = HEADER_RULES[number];
-        if breaks(image, root, profile, sets, rule, at) {
+        if breaks(image, profile, sets, rule, at) {
             return Some(rule);
         }
     }
@@ -334,22 +301,19 @@ fn rule_at<A: Allocator>(
 
 // The first rule that a reached header breaks, with its place.
 fn fault_at<A: Allocator>(
-    image: &[u8],
-    root: usize,
+    image: &Volume,
     profile: Profile,
     sets: &Sets<A>,
     at: usize,
 ) -> Option<ImageFault>
-    requires volume { IsVolumeImage image.now }
-    requires root { root ≡ root_of image.now }
-    requires sets { AreSets image.now sets.now }
-    requires slot { HasSlot image.now at }
-    requires reached { IsReached image.now at }
-    requires root_once { IsElsewhere image.now (root_of image.now) → at ≡ root_of image.now }
-    ensures { MatchOption result (KeepsHeaderRules profile image.now at)
-        (λ f. (f.place ≡ at) × IsFirstRule profile image.now at f.rule) }
+    requires sets { AreSets image.now.bytes.now sets.now }
+    requires slot { HasSlot image.now.bytes.now at }
+    requires reached { IsReached image.now.bytes.now at }
+    requires root_once { IsElsewhere image.now.bytes.now (root_of image.now.bytes.now) → at ≡ root_of image.now.bytes.now }
+    ensures { MatchOption result (KeepsHeaderRules profile image.now.bytes.now at)
+        (λ f. (f.place ≡ at) × IsFirstRule profile image.now.bytes.now at f.rule) }
 {
-    match rule_at(image, root, profile, sets, at) {
+    match rule_at(image, profile, sets, at) {
         Some(rule) => Some(ImageFault {
             rule,
             place: at as u32,
@@ -361,23 +325,20 @@ fn fault_at<A: Allocator>(
 // The first header inside the image that breaks a rule of file headers, and the first rule that
 // it breaks.
 fn fault_inside<A: Allocator>(
-    image: &[u8],
-    root: usize,
+    image: &Volume,
     profile: Profile,
     sets: &Sets<A>,
 ) -> Option<ImageFault>
-    requires volume { IsVolumeImage image.now }
-    requires root { root ≡ root_of image.now }
-    requires sets { AreSets image.now sets.now }
-    ensures { MatchOption result (KeepsBelow profile image.now (length image.now))
-        (λ f. IsFirstInside profile image.now f.rule f.place) }
+    requires sets { AreSets image.now.bytes.now sets.now }
+    ensures { MatchOption result (KeepsBelow profile image.now.bytes.now (length image.now.bytes.now))
+        (λ f. IsFirstInside profile image.now.bytes.now f.rule f.place) }
 {
-    if let Some(fault) = fault_at(image, root, profile, sets, root) {
+    if let Some(fault) = fault_at(image, profile, sets, image.root) {
         return Some(fault);
     }
-    let mut from = root / 16 + 1;
+    let mut from = image.root / 16 + 1;
     while let Some(slot) = sets.chains.headers.next_of_either(sets.targets, from) {
-        if let Some(fault) = fault_at(image, root, profile, sets, slot * 16) {
+        if let Some(fault) = fault_at(image, profile, sets, slot * 16) {
             return Some(fault);
         }
         from = slot + 1;
@@ -387,18 +348,15 @@ fn fault_inside<A: Allocator>(
 
 /// The first breach of a rule of file headers.
 pub(crate) fn header_fault<A: Allocator>(
-    image: &[u8],
-    root: usize,
+    image: &Volume,
     profile: Profile,
     sets: &Sets<A>,
     outside: Outside,
 ) -> Option<ImageFault>
-    requires volume { IsVolumeImage image.now }
-    requires root { root ≡ root_of image.now }
-    requires sets { AreSets image.now sets.now }
-    requires below { IsLeast (λ h. IsReached image.now h × IsBelow image.now h) outside.below }
-    requires above { IsLeast (λ h. IsReached image.now h × IsAbove image.now h) outside.above }
-    ensures { IsHeaderFault profile image.now result }
+    requires sets { AreSets image.now.bytes.now sets.now }
+    requires below { IsLeast (λ h. IsReached image.now.bytes.now h × IsBelow image.now.bytes.now h) outside.below }
+    requires above { IsLeast (λ h. IsReached image.now.bytes.now h × IsPastEnd image.now.bytes.now h) outside.above }
+    ensures { IsHeaderFault profile image.now.bytes.now result }
 {
     if let Some(place) = outside.below {
         return Some(ImageFault {
@@ -406,7 +364,7 @@ pub(crate) fn header_fault<A: Allocator>(
             place,
         });
     }
-    if let Some(fault) = fault_inside(image, root, profile, sets) {
+    if let Some(fault) = fault_inside(image, profile, sets) {
         return Some(fault);
     }
     match outside.above {

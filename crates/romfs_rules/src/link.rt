@@ -1,7 +1,7 @@
 //! The headers that the fields of a header name.
 
-ghost use Rattle.std.specs.Prelude.{◌≡◌, ◌<◌, ◌^◌, length};
-ghost use Rattle.romfs_format.specs.Fields.{root as root_of, IsInside, cleared};
+ghost use Rattle.std.specs.Prelude.{◌≡◌, ◌<◌};
+ghost use Rattle.romfs_format.specs.Fields.{IsInside, cleared};
 ghost use Rattle.romfs_format.specs.Links.{first_of, next_of, IsLink};
 ghost use Rattle.romfs_rules.specs.Leads.{IsTheOne};
 ghost use Rattle.romfs_rules.specs.InChains.{AreChains};
@@ -9,15 +9,16 @@ ghost use Rattle.romfs_rules.specs.InChains.{AreChains};
 use crate::chains::Chains;
 use crate::lead::{first_of, next_of};
 use crate::member::{is_in_chain, is_opened};
+use crate::volume::Volume;
 use std::alloc::Allocator;
 
 /// The header that next names, of a header in a chain.
 #[tactic(auto, using(crate::proofs::Links::no_next))]
-pub(crate) fn next_link<A: Allocator>(image: &[u8], at: usize, chains: &Chains<A>) -> Option<u32>
-    requires inside { IsInside image.now at }
+pub(crate) fn next_link<A: Allocator>(image: &Volume, at: usize, chains: &Chains<A>) -> Option<u32>
+    requires inside { IsInside image.now.bytes.now at }
     requires slot { cleared at ≡ at }
-    requires chains { AreChains image.now chains.now }
-    ensures { IsTheOne (IsLink image.now (next_of at)) result }
+    requires chains { AreChains image.now.bytes.now chains.now }
+    ensures { IsTheOne (IsLink image.now.bytes.now (next_of at)) result }
 {
     if is_in_chain(image, at, chains) {
         next_of(image, at)
@@ -28,21 +29,14 @@ pub(crate) fn next_link<A: Allocator>(image: &[u8], at: usize, chains: &Chains<A
 
 /// The first header of an opened directory.
 #[tactic(auto, using(crate::proofs::Links::first_named, crate::proofs::Links::no_first))]
-pub(crate) fn first_link<A: Allocator>(
-    image: &[u8],
-    root: usize,
-    at: usize,
-    chains: &Chains<A>,
-) -> Option<u32>
-    requires small { length image.now < 2 ^ 32 }
-    requires root { root ≡ root_of image.now }
-    requires inside { IsInside image.now at }
+pub(crate) fn first_link<A: Allocator>(image: &Volume, at: usize, chains: &Chains<A>) -> Option<u32>
+    requires inside { IsInside image.now.bytes.now at }
     requires slot { cleared at ≡ at }
-    requires chains { AreChains image.now chains.now }
-    ensures { IsTheOne (IsLink image.now (first_of at)) result }
+    requires chains { AreChains image.now.bytes.now chains.now }
+    ensures { IsTheOne (IsLink image.now.bytes.now (first_of at)) result }
 {
-    if is_opened(image, root, at, chains) {
-        first_of(image, root, at)
+    if is_opened(image, at, chains) {
+        first_of(image, at)
     } else {
         None
     }

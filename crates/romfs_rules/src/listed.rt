@@ -1,6 +1,6 @@
 //! Headers in rising lists.
 
-ghost use Rattle.std.specs.Prelude.{◌≡◌, ◌<◌, ◌≤◌, ◌↔◌, ◌^◌, ℕ, IfOk, IsTrue, Contains, length};
+ghost use Rattle.std.specs.Prelude.{◌<◌, ◌↔◌, ◌^◌, IfOk, IsTrue, Contains, length};
 ghost use Rattle.std.specs.List.Sorted.{IsNonDecreasing};
 ghost use Rattle.romfs_rules.specs.SameNames.{AreCollected};
 

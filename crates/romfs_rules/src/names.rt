@@ -4,9 +4,9 @@ ghost use Rattle.std.specs.Prelude.{◌≡◌, ◌+◌, ◌^◌, ◌<◌, ◌≤
 ghost use Rattle.std.specs.Option.{option_map};
 ghost use Rattle.std.specs.Map.{update};
 ghost use Rattle.romfs_format.specs.declared.limits.TheConstants.{HEAD_SIZE};
-ghost use Rattle.romfs_format.specs.Fields.{root as root_of};
 ghost use Rattle.romfs_rules.specs.Names.{kept_name, class_in, IsClass, AreClassesOf};
 
+use crate::volume::Volume;
 use name_keys::key_of;
 use romfs_format::limits::HEAD_SIZE;
 use romfs_format::read::{is_dot_name, text_at};
@@ -17,16 +17,14 @@ use std::collections::BTreeMap;
 type Keyed<'a> = (u64, &'a [u8]);
 
 // The name that a header has wherever it is a member: not the root's, nor `.` or `..`.
-fn kept_name(image: &[u8], root: usize, at: usize) -> Option<&[u8]>
-    requires small { length image.now < 2 ^ 32 }
-    requires root { root ≡ root_of image.now }
-    requires inside { at + HEAD_SIZE ≤ length image.now }
-    ensures { option_map (λ name. name.now) result ≡ kept_name image.now at }
+fn kept_name<'a>(image: &Volume<'a>, at: usize) -> Option<&'a [u8]>
+    requires inside { at + HEAD_SIZE ≤ length image.now.bytes.now }
+    ensures { option_map (λ name. name.now) result ≡ kept_name image.now.bytes.now at }
 {
-    if at == root {
+    if at == image.root {
         return None;
     }
-    let name = text_at(image, at + HEAD_SIZE)?;
+    let name = text_at(image.bytes, at + HEAD_SIZE)?;
     if is_dot_name(name) { None } else { Some(name) }
 }
 
@@ -46,18 +44,15 @@ fn class_of<'a, A: Allocator + Clone>(
 
 // The class of a header by its name, which is the given one where no header before has the name.
 fn class_at<'a, A: Allocator + Clone>(
-    image: &'a [u8],
-    root: usize,
+    image: &Volume<'a>,
     known: &mut BTreeMap<Keyed<'a>, u32, A>,
     at: usize,
     class: u32,
 ) -> Result<u32, AllocError>
-    requires small { length image.now < 2 ^ 32 }
-    requires root { root ≡ root_of image.now }
-    requires inside { at + HEAD_SIZE ≤ length image.now }
-    ensures { IfOk result (λ c. IsClass (kept_name image.now at) class c known.old known.new) }
+    requires inside { at + HEAD_SIZE ≤ length image.now.bytes.now }
+    ensures { IfOk result (λ c. IsClass (kept_name image.now.bytes.now at) class c known.old known.new) }
 {
-    match kept_name(image, root, at) {
+    match kept_name(image, at) {
         Some(name) => class_of(known, name, class),
         None => Ok(class),
     }
@@ -66,21 +61,18 @@ fn class_at<'a, A: Allocator + Clone>(
 /// The classes of headers by their names, each a number of a header, with one more for none.
 pub(crate) fn classes<A: Allocator + Copy>(
     alloc: A,
-    image: &[u8],
-    root: usize,
+    image: &Volume,
     heads: &[u32],
 ) -> Result<Vec<u32, A>, AllocError>
-    requires small { length image.now < 2 ^ 32 }
-    requires root { root ≡ root_of image.now }
     requires few { length heads.now < 2 ^ 32 }
     requires inside { (i : ℕ) → i < length heads.now →
-        get_or heads.now i 0 + HEAD_SIZE ≤ length image.now }
-    ensures { IfOk result (λ classes. AreClassesOf image.now heads.now classes.items) }
+        get_or heads.now i 0 + HEAD_SIZE ≤ length image.now.bytes.now }
+    ensures { IfOk result (λ classes. AreClassesOf image.now.bytes.now heads.now classes.items) }
 {
     let mut known = BTreeMap::new(alloc);
     let mut classes = Vec::with_capacity(alloc, heads.len() + 1)?;
     for (number, at) in heads.iter().enumerate() {
-        let class = class_at(image, root, &mut known, *at as usize, number as u32)?;
+        let class = class_at(image, &mut known, *at as usize, number as u32)?;
         classes.push(class)?;
     }
     classes.push(heads.len() as u32)?;

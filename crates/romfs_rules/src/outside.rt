@@ -1,18 +1,19 @@
 //! Headers that are reached, and lie outside the image.
 
-ghost use Rattle.std.specs.Prelude.{◌≡◌, ◌*◌, ◌/◌, ◌<◌, ◌^◌, length};
-ghost use Rattle.romfs_format.specs.Fields.{root as root_of, IsInside, cleared};
+ghost use Rattle.std.specs.Prelude.{◌≡◌, ◌*◌, ◌/◌, ◌<◌};
+ghost use Rattle.romfs_format.specs.Fields.{IsInside, cleared};
 ghost use Rattle.romfs_format.specs.Links.{IsTarget, IsReached};
-ghost use Rattle.romfs_rules.specs.Marks.{IsVolumeImage, AreMarks};
+ghost use Rattle.romfs_rules.specs.Marks.{AreMarks};
 ghost use Rattle.romfs_rules.specs.InChains.{AreChains};
 ghost use Rattle.romfs_rules.specs.Leads.{IsTheOne};
-ghost use Rattle.romfs_rules.specs.Outside.{Names, NamesDestination, IsLeast, IsBelow, IsAbove, lesser, Notes};
+ghost use Rattle.romfs_rules.specs.Outside.{Names, NamesDestination, IsLeast, IsBelow, IsPastEnd, lesser, Notes};
 
 use crate::chains::Chains;
 use crate::lead::destination_of;
 use crate::link::{first_link, next_link};
 use crate::member::is_some_member;
 use crate::slot_set::SlotSet;
+use crate::volume::Volume;
 use romfs_format::limits::HEAD_SIZE;
 use std::alloc::Allocator;
 
@@ -27,21 +28,18 @@ pub(crate) struct Outside {
 
 // The destination of a hard link that is a member, or that a member's hard link leads over.
 fn named_destination<A: Allocator>(
-    image: &[u8],
-    root: usize,
+    image: &Volume,
     at: usize,
     chains: &Chains<A>,
     targets: &SlotSet<A>,
 ) -> Option<u32>
-    requires small { length image.now < 2 ^ 32 }
-    requires root { root ≡ root_of image.now }
-    requires inside { IsInside image.now at }
+    requires inside { IsInside image.now.bytes.now at }
     requires slot { cleared at ≡ at }
-    requires chains { AreChains image.now chains.now }
-    requires targets { AreMarks image.now (IsTarget image.now) targets.now }
-    ensures { IsTheOne (NamesDestination image.now at) result }
+    requires chains { AreChains image.now.bytes.now chains.now }
+    requires targets { AreMarks image.now.bytes.now (IsTarget image.now.bytes.now) targets.now }
+    ensures { IsTheOne (NamesDestination image.now.bytes.now at) result }
 {
-    if targets.contains(at / 16) || is_some_member(image, root, at, chains) {
+    if targets.contains(at / 16) || is_some_member(image, at, chains) {
         destination_of(image, at)
     } else {
         None
@@ -60,21 +58,20 @@ fn lesser(found: Option<u32>, word: u32) -> u32
 
 // What is found with one header more, if there is one.
 #[tactic(auto, using(crate::proofs::Reach::unnamed, crate::proofs::Reach::noted, crate::proofs::Reach::unnoted))]
-fn note(found: Outside, image: &[u8], root: usize, word: Option<u32>) -> Outside
-    requires root { root ≡ root_of image.now }
-    ensures below { Notes (λ h. word ≡ Some h) (IsBelow image.now) found.below result.below }
-    ensures above { Notes (λ h. word ≡ Some h) (IsAbove image.now) found.above result.above }
+fn note(found: Outside, image: &Volume, word: Option<u32>) -> Outside
+    ensures below { Notes (λ h. word ≡ Some h) (IsBelow image.now.bytes.now) found.below result.below }
+    ensures above { Notes (λ h. word ≡ Some h) (IsPastEnd image.now.bytes.now) found.above result.above }
 {
     let Some(word) = word else {
         return found;
     };
     let at = word as usize;
-    if at < root {
+    if at < image.root {
         Outside {
             below: Some(lesser(found.below, word)),
             above: found.above,
         }
-    } else if image.len() < at + HEAD_SIZE {
+    } else if image.bytes.len() < at + HEAD_SIZE {
         Outside {
             below: found.below,
             above: Some(lesser(found.above, word)),
@@ -87,51 +84,45 @@ fn note(found: Outside, image: &[u8], root: usize, word: Option<u32>) -> Outside
 // What is found with the headers more that a header leads to.
 fn note_named<A: Allocator>(
     found: Outside,
-    image: &[u8],
-    root: usize,
+    image: &Volume,
     at: usize,
     chains: &Chains<A>,
     targets: &SlotSet<A>,
 ) -> Outside
-    requires small { length image.now < 2 ^ 32 }
-    requires root { root ≡ root_of image.now }
-    requires inside { IsInside image.now at }
+    requires inside { IsInside image.now.bytes.now at }
     requires slot { cleared at ≡ at }
-    requires chains { AreChains image.now chains.now }
-    requires targets { AreMarks image.now (IsTarget image.now) targets.now }
-    ensures below { Notes (Names image.now at) (IsBelow image.now) found.below result.below }
-    ensures above { Notes (Names image.now at) (IsAbove image.now) found.above result.above }
+    requires chains { AreChains image.now.bytes.now chains.now }
+    requires targets { AreMarks image.now.bytes.now (IsTarget image.now.bytes.now) targets.now }
+    ensures below { Notes (Names image.now.bytes.now at) (IsBelow image.now.bytes.now) found.below result.below }
+    ensures above { Notes (Names image.now.bytes.now at) (IsPastEnd image.now.bytes.now) found.above result.above }
 {
     let next = next_link(image, at, chains);
-    let first = first_link(image, root, at, chains);
-    let destination = named_destination(image, root, at, chains, targets);
-    let with_next = note(found, image, root, next);
-    let with_first = note(with_next, image, root, first);
-    note(with_first, image, root, destination)
+    let first = first_link(image, at, chains);
+    let destination = named_destination(image, at, chains, targets);
+    let with_next = note(found, image, next);
+    let with_first = note(with_next, image, first);
+    note(with_first, image, destination)
 }
 
 /// Finds the least headers outside the image that are reached, on either side.
 pub(crate) fn find_outside<A: Allocator>(
-    image: &[u8],
-    root: usize,
+    image: &Volume,
     chains: &Chains<A>,
     targets: &SlotSet<A>,
 ) -> Outside
-    requires volume { IsVolumeImage image.now }
-    requires root { root ≡ root_of image.now }
-    requires chains { AreChains image.now chains.now }
-    requires targets { AreMarks image.now (IsTarget image.now) targets.now }
-    ensures below { IsLeast (λ h. IsReached image.now h × IsBelow image.now h) result.below }
-    ensures above { IsLeast (λ h. IsReached image.now h × IsAbove image.now h) result.above }
+    requires chains { AreChains image.now.bytes.now chains.now }
+    requires targets { AreMarks image.now.bytes.now (IsTarget image.now.bytes.now) targets.now }
+    ensures below { IsLeast (λ h. IsReached image.now.bytes.now h × IsBelow image.now.bytes.now h) result.below }
+    ensures above { IsLeast (λ h. IsReached image.now.bytes.now h × IsPastEnd image.now.bytes.now h) result.above }
 {
     let none = Outside {
         below: None,
         above: None,
     };
-    let mut found = note_named(none, image, root, root, chains, targets);
-    let mut from = root / 16 + 1;
+    let mut found = note_named(none, image, image.root, chains, targets);
+    let mut from = image.root / 16 + 1;
     while let Some(slot) = chains.headers.next_of_either(targets, from) {
-        found = note_named(found, image, root, slot * 16, chains, targets);
+        found = note_named(found, image, slot * 16, chains, targets);
         from = slot + 1;
     }
     found

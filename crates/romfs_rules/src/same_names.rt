@@ -1,10 +1,10 @@
 //! Members of a directory that have the name of another.
 
-ghost use Rattle.std.specs.Prelude.{◌≡◌, ◌≢◌, ◌+◌, ◌/◌, ◌^◌, ◌<◌, ◌≤◌, ◌↔◌, ℕ, List, Bool, IfOk, IsTrue, length, get_or};
+ghost use Rattle.std.specs.Prelude.{◌+◌, ◌/◌, ◌^◌, ◌<◌, ◌≤◌, ℕ, IfOk, length, get_or};
 ghost use Rattle.romfs_format.specs.Fields.{root as root_of};
-ghost use Rattle.romfs_rules.specs.Marks.{IsVolumeImage, IsElsewhere};
+ghost use Rattle.romfs_rules.specs.Marks.{IsElsewhere};
 ghost use Rattle.romfs_rules.specs.InChains.{AreChains};
-ghost use Rattle.romfs_rules.specs.SameNames.{IsLinked, AreCollected, AreNumbered, IsNextNumber, AreNextNumbers, AreChosen, HaveSameNames};
+ghost use Rattle.romfs_rules.specs.SameNames.{IsLinked, AreNumbered, IsNextNumber, AreNextNumbers, AreChosen, HaveSameNames};
 
 use crate::chains::Chains;
 use crate::climb::note_higher;
@@ -13,26 +13,24 @@ use crate::listed::headers_of;
 use crate::names::classes;
 use crate::slot::is_inside;
 use crate::slot_numbers::SlotNumbers;
+use crate::volume::Volume;
 use romfs_format::read::{cleared, word};
 use std::alloc::{AllocError, Allocator};
 
 // The number of the header after one, or that of headers where there is none inside the image.
 fn next_number<A: Allocator>(
-    image: &[u8],
-    root: usize,
+    image: &Volume,
     heads: &[u32],
     numbers: &SlotNumbers<A>,
     at: usize,
 ) -> u32
-    requires small { length image.now < 2 ^ 32 }
-    requires root { root ≡ root_of image.now }
     requires few { length heads.now < 2 ^ 32 }
-    requires numbered { AreNumbered image.now heads.now numbers.now }
-    requires at { IsLinked image.now at }
-    ensures { IsNextNumber image.now heads.now at result }
+    requires numbered { AreNumbered image.now.bytes.now heads.now numbers.now }
+    requires at { IsLinked image.now.bytes.now at }
+    ensures { IsNextNumber image.now.bytes.now heads.now at result }
 {
-    let after = cleared(word(image, at)) as usize;
-    if after != 0 && is_inside(image, root, after) {
+    let after = cleared(word(image.bytes, at)) as usize;
+    if after != 0 && is_inside(image, after) {
         numbers.number(after / 16)
     } else {
         heads.len() as u32
@@ -42,20 +40,17 @@ fn next_number<A: Allocator>(
 // The number of the header after each, and one more, for none, that leads to itself.
 fn next_numbers<A: Allocator + Copy>(
     alloc: A,
-    image: &[u8],
-    root: usize,
+    image: &Volume,
     heads: &[u32],
     numbers: &SlotNumbers<A>,
 ) -> Result<Vec<u32, A>, AllocError>
-    requires small { length image.now < 2 ^ 32 }
-    requires root { root ≡ root_of image.now }
     requires few { length heads.now < 2 ^ 32 }
-    requires numbered { AreNumbered image.now heads.now numbers.now }
-    ensures { IfOk result (λ next. AreNextNumbers image.now heads.now next.items) }
+    requires numbered { AreNumbered image.now.bytes.now heads.now numbers.now }
+    ensures { IfOk result (λ next. AreNextNumbers image.now.bytes.now heads.now next.items) }
 {
     let mut next = Vec::with_capacity(alloc, heads.len() + 1)?;
     for at in heads {
-        next.push(next_number(image, root, heads, numbers, *at as usize))?;
+        next.push(next_number(image, heads, numbers, *at as usize))?;
     }
     next.push(heads.len() as u32)?;
     Ok(next)
@@ -81,21 +76,18 @@ fn chosen<A: Allocator>(alloc: A, heads: &[u32], noted: &[bool]) -> Result<Vec<u
 /// place, in the order of their places.
 pub(crate) fn find_same_names<A: Allocator + Copy>(
     alloc: A,
-    image: &[u8],
-    root: usize,
+    image: &Volume,
     chains: &Chains<A>,
 ) -> Result<Vec<u32, A>, AllocError>
-    requires volume { IsVolumeImage image.now }
-    requires root { root ≡ root_of image.now }
-    requires chains { AreChains image.now chains.now }
-    requires alone { ¬ IsElsewhere image.now (root_of image.now) }
-    ensures { IfOk result (λ found. HaveSameNames image.now found.items) }
+    requires chains { AreChains image.now.bytes.now chains.now }
+    requires alone { ¬ IsElsewhere image.now.bytes.now (root_of image.now.bytes.now) }
+    ensures { IfOk result (λ found. HaveSameNames image.now.bytes.now found.items) }
 {
     let heads = headers_of(alloc, &chains.headers)?;
     let numbers = SlotNumbers::of(alloc, &chains.headers)?;
-    let next = next_numbers(alloc, image, root, &heads, &numbers)?;
+    let next = next_numbers(alloc, image, &heads, &numbers)?;
     drop(numbers);
-    let class = classes(alloc, image, root, &heads)?;
+    let class = classes(alloc, image, &heads)?;
     let (first, sibling) = lists(alloc, &next)?;
     let noted = note_higher(
         alloc,

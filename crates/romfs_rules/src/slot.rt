@@ -1,46 +1,39 @@
 //! Headers and their slots.
 
 ghost use Rattle.std.specs.Prelude.{◌≡◌, ◌<◌, ◌/◌, ◌⊎◌, ◌↔◌, ◌^◌, false, length, IsTrue};
-ghost use Rattle.romfs_format.specs.Fields.{root as root_of, IsInside};
+ghost use Rattle.romfs_format.specs.Fields.{IsInside};
 ghost use Rattle.romfs_format.specs.Links.{IsHardLink};
 ghost use Rattle.romfs_rules.specs.Marks.{IsMarked, IsFresh};
 
 use crate::slot_set::SlotSet;
+use crate::volume::Volume;
 use romfs_format::head::Kind;
 use romfs_format::limits::HEAD_SIZE;
 use romfs_format::read::{kind_of, word};
 use std::alloc::Allocator;
 
 /// Whether a header lies in the image.
-pub(crate) fn is_inside(image: &[u8], root: usize, at: usize) -> bool
+pub(crate) fn is_inside(image: &Volume, at: usize) -> bool
     requires at { at < 2 ^ 32 }
-    requires root { root ≡ root_of image.now }
-    ensures { IsTrue result ↔ IsInside image.now at }
+    ensures { IsTrue result ↔ IsInside image.now.bytes.now at }
 {
-    root <= at && at + HEAD_SIZE <= image.len()
+    image.root <= at && at + HEAD_SIZE <= image.bytes.len()
 }
 
 /// Whether a header lies in the image, and has no mark.
-pub(crate) fn is_fresh<A: Allocator>(
-    image: &[u8],
-    root: usize,
-    at: usize,
-    marks: &SlotSet<A>,
-) -> bool
+pub(crate) fn is_fresh<A: Allocator>(image: &Volume, at: usize, marks: &SlotSet<A>) -> bool
     requires at { at < 2 ^ 32 }
-    requires root { root ≡ root_of image.now }
-    requires sized { length marks.now ≡ length image.now / 16 }
-    ensures fresh { IsTrue result → IsFresh image.now marks.now at }
-    ensures stale { result ≡ false → (¬ IsInside image.now at) ⊎ IsMarked marks.now at }
+    requires sized { length marks.now ≡ length image.now.bytes.now / 16 }
+    ensures fresh { IsTrue result → IsFresh image.now.bytes.now marks.now at }
+    ensures stale { result ≡ false → (¬ IsInside image.now.bytes.now at) ⊎ IsMarked marks.now at }
 {
-    is_inside(image, root, at) && !marks.contains(at / 16)
+    is_inside(image, at) && !marks.contains(at / 16)
 }
 
 /// Whether a header lies in the image and is a hard link.
-pub(crate) fn is_hard_link(image: &[u8], root: usize, at: usize) -> bool
+pub(crate) fn is_hard_link(image: &Volume, at: usize) -> bool
     requires at { at < 2 ^ 32 }
-    requires root { root ≡ root_of image.now }
-    ensures { IsTrue result ↔ IsHardLink image.now at }
+    ensures { IsTrue result ↔ IsHardLink image.now.bytes.now at }
 {
-    is_inside(image, root, at) && kind_of(word(image, at)) == Kind::HardLink
+    is_inside(image, at) && kind_of(word(image.bytes, at)) == Kind::HardLink
 }

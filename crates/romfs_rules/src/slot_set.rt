@@ -4,7 +4,7 @@
 //! image. To go over its slots upward skips a word that has none in one step.
 
 ghost use Rattle.std.specs.Prelude.{◌≡◌, ◌+◌, ◌*◌, ◌/◌, ◌<◌, ◌≤◌, ◌^◌, false, true, length, get_or, set, replicate, IfOk};
-ghost use Rattle.romfs_rules.specs.SlotSets.{IsNext, IsNextOfEither, IsUnion, rank};
+ghost use Rattle.romfs_rules.specs.SlotSets.{IsNextSlot, IsNextOfEither, IsUnion, rank};
 
 use std::alloc::{AllocError, Allocator};
 use std::marker::Model;
@@ -117,7 +117,7 @@ impl<A: Allocator> SlotSet<A> {
     /// The first slot of the set from a slot on.
     #[tactic(auto, using(crate::proofs::Unions::next_of_one))]
     pub(crate) fn next_from(&self, from: usize) -> Option<usize>
-        ensures next { IsNext self.now from result }
+        ensures next { IsNextSlot self.now from result }
         ensures small { length self.now < 2 ^ 32 }
     {
         let _ = &self.words;

@@ -1,9 +1,9 @@
 //! The headers that two links name.
 
-ghost use Rattle.std.specs.Prelude.{◌≡◌, ◌+◌, ◌*◌, ◌<◌, ◌≤◌, ◌/◌, ◌^◌, ◌↔◌, length, IsTrue, IfOk};
-ghost use Rattle.romfs_format.specs.Fields.{root as root_of, IsInside, cleared};
+ghost use Rattle.std.specs.Prelude.{◌≡◌, ◌+◌, ◌*◌, ◌<◌, ◌/◌, length, IfOk};
+ghost use Rattle.romfs_format.specs.Fields.{IsInside, cleared};
 ghost use Rattle.romfs_format.specs.Rules.{IsLinkedTwice};
-ghost use Rattle.romfs_rules.specs.Marks.{IsVolumeImage, AreMarks, IsListOf};
+ghost use Rattle.romfs_rules.specs.Marks.{AreMarks, IsListOf};
 ghost use Rattle.romfs_rules.specs.InChains.{AreChains};
 ghost use Rattle.romfs_rules.specs.Twice.{Counts, CountsBoth};
 
@@ -12,26 +12,25 @@ use crate::link::{first_link, next_link};
 use crate::listed::headers_of;
 use crate::slot::is_inside;
 use crate::slot_set::SlotSet;
+use crate::volume::Volume;
 use std::alloc::{AllocError, Allocator};
 
 // Counts a link to a header, if it lies in the image.
 fn count_link<A: Allocator>(
-    image: &[u8],
-    root: usize,
+    image: &Volume,
     to: Option<u32>,
     once: &mut SlotSet<A>,
     twice: &mut SlotSet<A>,
 )
-    requires root { root ≡ root_of image.now }
-    requires once { length once.old ≡ length image.now / 16 }
-    requires twice { length twice.old ≡ length image.now / 16 }
-    ensures { Counts image.now to once.old twice.old once.new twice.new }
+    requires once { length once.old ≡ length image.now.bytes.now / 16 }
+    requires twice { length twice.old ≡ length image.now.bytes.now / 16 }
+    ensures { Counts image.now.bytes.now to once.old twice.old once.new twice.new }
 {
     let Some(to) = to else {
         return;
     };
     let at = to as usize;
-    if !is_inside(image, root, at) {
+    if !is_inside(image, at) {
         return;
     }
     if once.contains(at / 16) {
@@ -43,46 +42,40 @@ fn count_link<A: Allocator>(
 
 // Counts the links of a header's fields.
 fn count_links<A: Allocator>(
-    image: &[u8],
-    root: usize,
+    image: &Volume,
     at: usize,
     chains: &Chains<A>,
     once: &mut SlotSet<A>,
     twice: &mut SlotSet<A>,
 )
-    requires volume { IsVolumeImage image.now }
-    requires root { root ≡ root_of image.now }
-    requires inside { IsInside image.now at }
+    requires inside { IsInside image.now.bytes.now at }
     requires slot { cleared at ≡ at }
-    requires chains { AreChains image.now chains.now }
-    requires once { length once.old ≡ length image.now / 16 }
-    requires twice { length twice.old ≡ length image.now / 16 }
-    ensures { CountsBoth image.now at once.old twice.old once.new twice.new }
+    requires chains { AreChains image.now.bytes.now chains.now }
+    requires once { length once.old ≡ length image.now.bytes.now / 16 }
+    requires twice { length twice.old ≡ length image.now.bytes.now / 16 }
+    ensures { CountsBoth image.now.bytes.now at once.old twice.old once.new twice.new }
 {
     let next = next_link(image, at, chains);
-    count_link(image, root, next, once, twice);
-    let first = first_link(image, root, at, chains);
-    count_link(image, root, first, once, twice);
+    count_link(image, next, once, twice);
+    let first = first_link(image, at, chains);
+    count_link(image, first, once, twice);
 }
 
 // Marks the headers that two links name.
 fn mark_twice<A: Allocator + Copy>(
     alloc: A,
-    image: &[u8],
-    root: usize,
+    image: &Volume,
     chains: &Chains<A>,
 ) -> Result<SlotSet<A>, AllocError>
-    requires volume { IsVolumeImage image.now }
-    requires root { root ≡ root_of image.now }
-    requires chains { AreChains image.now chains.now }
-    ensures { IfOk result (λ marks. AreMarks image.now (IsLinkedTwice image.now) marks) }
+    requires chains { AreChains image.now.bytes.now chains.now }
+    ensures { IfOk result (λ marks. AreMarks image.now.bytes.now (IsLinkedTwice image.now.bytes.now) marks) }
 {
-    let mut once = SlotSet::new(alloc, image.len() / 16)?;
-    let mut twice = SlotSet::new(alloc, image.len() / 16)?;
-    count_links(image, root, root, chains, &mut once, &mut twice);
-    let mut from = root / 16 + 1;
+    let mut once = SlotSet::new(alloc, image.bytes.len() / 16)?;
+    let mut twice = SlotSet::new(alloc, image.bytes.len() / 16)?;
+    count_links(image, image.root, chains, &mut once, &mut twice);
+    let mut from = image.root / 16 + 1;
     while let Some(slot) = chains.headers.next_from(from) {
-        count_links(image, root, slot * 16, chains, &mut once, &mut twice);
+        count_links(image, slot * 16, chains, &mut once, &mut twice);
         from = slot + 1;
     }
     Ok(twice)
@@ -91,15 +84,12 @@ fn mark_twice<A: Allocator + Copy>(
 /// The headers that two links name, rising.
 pub(crate) fn find_twice<A: Allocator + Copy>(
     alloc: A,
-    image: &[u8],
-    root: usize,
+    image: &Volume,
     chains: &Chains<A>,
 ) -> Result<Vec<u32, A>, AllocError>
-    requires volume { IsVolumeImage image.now }
-    requires root { root ≡ root_of image.now }
-    requires chains { AreChains image.now chains.now }
-    ensures { IfOk result (λ found. IsListOf image.now (IsLinkedTwice image.now) found.items) }
+    requires chains { AreChains image.now.bytes.now chains.now }
+    ensures { IfOk result (λ found. IsListOf image.now.bytes.now (IsLinkedTwice image.now.bytes.now) found.items) }
 {
-    let twice = mark_twice(alloc, image, root, chains)?;
+    let twice = mark_twice(alloc, image, chains)?;
     headers_of(alloc, &twice)
 }

@@ -1,7 +1,7 @@
 //! The rules of the volume header.
 
 ghost use Rattle.std.specs.Prelude.{◌≡◌, ◌≤◌, ◌↔◌, length, IfNone, IsTrue};
-ghost use Rattle.romfs_format.specs.Fields.{image, summed, word};
+ghost use Rattle.romfs_format.specs.Fields.{image, root as root_of, summed, word};
 ghost use Rattle.romfs_format.specs.Rules.{StartsWith, magic};
 ghost use Rattle.romfs_rules.specs.Marks.{IsVolumeImage};
 ghost use Rattle.romfs_rules.specs.Volumes.{IsVolumeFault, HoldsRoot};
@@ -10,6 +10,17 @@ use romfs_format::head::Kind;
 use romfs_format::limits::{HEAD_SIZE, SUMMED_SIZE};
 use romfs_format::read::{kind_of, padded, text_at, word, word_sum};
 use romfs_format::rule::{ImageFault, Rule};
+
+/// An image that keeps the rules of the volume header.
+#[derive(Drop)]
+pub(crate) struct Volume<'v> {
+    /// The accessible bytes.
+    pub(crate) bytes: &'v [u8],
+    /// Where the root's header stands.
+    pub(crate) root: usize,
+    ghost keeps: { IsVolumeImage bytes.now },
+    ghost rooted: { root ≡ root_of bytes.now },
+}
 
 /// The accessible bytes.
 #[tactic(auto, unfolding(romfs_format::specs::Fields::image))]

@@ -4,33 +4,33 @@ use Rattle.romfs_rules.proofs.Closure.{Walked, begun, all_marked, step_stale, le
 use Rattle.romfs_rules.proofs.chains.mark_elsewhere.Goals as goal
 
 pub loop-word-init : goal.loop-word-init
-loop-word-init g c = begun c.args.image.now c.in_ok-todo.todo.items c.in_ok-marks.marks c.in_ok-todo.ensures c.in_ok-marks.ensures
+loop-word-init g c = begun c.args.image.now.bytes.now c.in_ok-todo.todo.items c.in_ok-marks.marks c.in_ok-todo.ensures c.in_ok-marks.ensures
 
 pub loop-word-preserved-then-not-is_fresh : goal.loop-word-preserved-then-not-is_fresh
 loop-word-preserved-then-not-is_fresh g c =
-    step_stale c.args.image.now c.loop-word.todo.items c.pop.new.self.items c.loop-word.marks c.in-Some.word
+    step_stale c.args.image.now.bytes.now c.loop-word.todo.items c.pop.new.self.items c.loop-word.marks c.in-Some.word
     c.in-Some.ensures.items c.loop-word.invariant (c.if-not-is_fresh.ensures.stale refl)
 
 pub loop-word-smaller-then-not-is_fresh : goal.loop-word-smaller-then-not-is_fresh
-loop-word-smaller-then-not-is_fresh g c = less_stale c.args.image.now c.loop-word.todo.items
+loop-word-smaller-then-not-is_fresh g c = less_stale c.args.image.now.bytes.now c.loop-word.todo.items
     c.pop.new.self.items c.loop-word.marks c.in-Some.word c.in-Some.ensures.items c.loop-word.invariant
 
 pub loop-word-preserved : goal.loop-word-preserved
 loop-word-preserved g c =
     let f = c.if-not-is_fresh.ensures.fresh refl in
-    rw c.insert.ensures (step_fresh c.args.image.now c.loop-word.todo.items c.pop.new.self.items
+    rw c.insert.ensures (step_fresh c.args.image.now.bytes.now c.loop-word.todo.items c.pop.new.self.items
     c.loop-word.marks c.in-Some.word c.in-Some.ensures.items c.loop-word.invariant c.follow.new.todo.items
     c.in_ok-follow.ensures f.1 f.0)
 
 pub loop-word-smaller : goal.loop-word-smaller
 loop-word-smaller g c =
     let f = c.if-not-is_fresh.ensures.fresh refl in
-    rw c.insert.ensures (less_fresh c.args.image.now c.loop-word.todo.items c.pop.new.self.items
+    rw c.insert.ensures (less_fresh c.args.image.now.bytes.now c.loop-word.todo.items c.pop.new.self.items
     c.loop-word.marks c.in-Some.word c.in-Some.ensures.items c.loop-word.invariant c.follow.new.todo.items
     c.in_ok-follow.ensures f.1 f.2)
 
 pub returns : goal.returns
 returns g c =
-    all_marked c.args.image.now c.loop-word.marks (subst (λ x. Walked c.args.image.now x c.loop-word.marks)
+    all_marked c.args.image.now.bytes.now c.loop-word.marks (subst (λ x. Walked c.args.image.now.bytes.now x c.loop-word.marks)
     (none_left c.loop-word.todo.items c.pop.new.self.items _ c.in_default.ensures.items
     c.in_default.ensures.rest c.in_default.ensures.cases.0) c.loop-word.invariant)

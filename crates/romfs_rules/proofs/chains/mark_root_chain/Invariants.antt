@@ -4,7 +4,7 @@ use Rattle.romfs_rules.proofs.RootWalk.{Walked}
 use Rattle.romfs_rules.proofs.chains.mark_root_chain.Given as goal
 
 abbrev pub invariant-loop-marks : goal.invariant-loop-marks
-invariant-loop-marks g l = record { walked : Walked l.image l.marks l.at; narrow : l.at < 2 ^ 32 }
+invariant-loop-marks g l = record { walked : Walked l.image.bytes.now l.marks l.at; narrow : l.at < 2 ^ 32 }
 
 abbrev pub decreases-loop-marks : goal.decreases-loop-marks
 decreases-loop-marks g l = unmarked l.marks

@@ -3,7 +3,7 @@ use Rattle.romfs_rules.proofs.Closure.{Seeded}
 use Rattle.romfs_rules.proofs.chains.seeds.Given as goal
 
 abbrev pub invariant-loop-slot : goal.invariant-loop-slot
-invariant-loop-slot g l = record { low : l.from ≤ length l.root_chain; seeded : Seeded l.image l.root_chain l.from l.todo.items }
+invariant-loop-slot g l = record { low : l.from ≤ length l.root_chain; seeded : Seeded l.image.bytes.now l.root_chain l.from l.todo.items }
 
 abbrev pub decreases-loop-slot : goal.decreases-loop-slot
 decreases-loop-slot g l = length l.root_chain - l.from

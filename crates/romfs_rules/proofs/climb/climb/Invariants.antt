@@ -1,5 +1,5 @@
 use Rattle.std.proofs.Common.{◌≡◌, ◌+◌, ◌*◌, length, get_or, drop, reverse}
-use Rattle.romfs_rules.specs.Climb.{AreKept}
+use Rattle.romfs_rules.specs.Climb.{AreMarksKept}
 use Rattle.romfs_rules.proofs.MarkLists.{unmarked}
 use Rattle.romfs_rules.proofs.Ascent.{IsUnderWay}
 use Rattle.romfs_rules.proofs.climb.climb.Given as goal
@@ -9,7 +9,7 @@ invariant-loop-found g l = record {
   under_way : IsUnderWay l.graph.next.items l.graph.class.items l.graph.first.items l.graph.sibling.items
       (reverse l.cycle) (drop (l.turn + 1) l.cycle) (get_or l.cycle l.turn 0) l.from (reverse l.steps.items)
       l.found.entered.items l.found.noted.items l.found.low.items;
-  kept : AreKept l.fn.found.entered.items l.found.entered.items;
+  kept : AreMarksKept l.fn.found.entered.items l.found.entered.items;
   entered : length l.found.entered.items ≡ length l.graph.next.items;
   noted : length l.found.noted.items ≡ length l.graph.next.items;
   low : length l.found.low.items ≡ length l.graph.next.items;

@@ -1,13 +1,13 @@
 use Rattle.std.proofs.Common.{◌≡◌, ◌<◌, List, Bool, false, length, get_or}
-use Rattle.romfs_rules.specs.Climb.{AreKept, IsClosed, IsWalk}
+use Rattle.romfs_rules.specs.Climb.{AreMarksKept, IsClosed, IsFreshWalk}
 use Rattle.romfs_rules.proofs.MarkLists.{unmarked}
 use Rattle.romfs_rules.proofs.climb.seek.Given as goal
 
 abbrev pub invariant-loop-visited : goal.invariant-loop-visited
 invariant-loop-visited l = record {
   inside : l.at < length l.next;
-  walk : (entered : List Bool) → IsClosed l.next entered → AreKept l.initial.visited entered
-      → get_or entered l.from false ≡ false → IsWalk l.next entered l.visited l.from l.at;
+  walk : (entered : List Bool) → IsClosed l.next entered → AreMarksKept l.initial.visited entered
+      → get_or entered l.from false ≡ false → IsFreshWalk l.next entered l.visited l.from l.at;
 }
 
 abbrev pub decreases-loop-visited : goal.decreases-loop-visited

@@ -1,6 +1,6 @@
 use Rattle.std.proofs.Common.{◌∙◌, sym, subst, length, arith}
 use Rattle.std.proofs.lemmas.Bool.{false≢true}
-use Rattle.romfs_rules.specs.Ends.{AreEnds}
+use Rattle.romfs_rules.specs.Ends.{AreWalkedEnds}
 use Rattle.romfs_rules.proofs.EndWalk.{found_more, found_same, found_to, found_all, found_none}
 use Rattle.romfs_rules.proofs.ends.find_ends.Goals as goal
 use Rattle.romfs_rules.proofs.ends.find_ends.Goals.{then-is_left+in_ok-push, else-is_left}
@@ -11,12 +11,12 @@ loop-slot-init g c =
     record {
       low = omega arith;
       same = e.0;
-      found = rw (e.1, c.new-ends.ensures.items) (found_none c.args.image.now (length c.args.targets.now) c.requires.targets.sized);
+      found = rw (e.1, c.new-ends.ensures.items) (found_none c.args.image.now.bytes.now (length c.args.targets.now) c.requires.targets.sized);
     }
 
 pub loop-slot-preserved : goal.loop-slot-preserved
 loop-slot-preserved g c =
-    let a = c.args.image.now in
+    let a = c.args.image.now.bytes.now in
     let slot = c.in-Some.slot in
     let n = c.in-Some.ensures.next in
     let h = n.high in
@@ -40,11 +40,11 @@ loop-slot-preserved g c =
 
 pub returns : goal.returns
 returns g c =
-    let a = c.args.image.now in
+    let a = c.args.image.now.bytes.now in
     let targets = c.args.targets.now in
     let s = c.requires.targets.sized in
     let all = found_to a c.loop-slot.walks.by_slot c.loop-slot.ends.items targets c.requires.targets
     c.loop-slot.from (length targets) c.loop-slot.invariant.low c.in_default.ensures.next
     c.loop-slot.invariant.found in
-    subst (λ slots. AreEnds a (record { slots = slots; by_slot = c.loop-slot.walks.by_slot }) c.loop-slot.ends.items) (sym c.loop-slot.invariant.same)
+    subst (λ slots. AreWalkedEnds a (record { slots = slots; by_slot = c.loop-slot.walks.by_slot }) c.loop-slot.ends.items) (sym c.loop-slot.invariant.same)
     (found_all a c.loop-slot.walks.by_slot c.loop-slot.ends.items (length targets) all targets c.requires.targets (omega arith))

@@ -20,7 +20,7 @@ pub returns-in-Twice : goal.returns-in-Twice
 returns-in-Twice g c = rw c.in-Twice.is c.breaks_twice.ensures
 
 pub returns-in-SameName : goal.returns-in-SameName
-returns-in-SameName g c = rw c.in-SameName.is (listed_says c.args.image.now c.args.at
+returns-in-SameName g c = rw c.in-SameName.is (listed_says c.args.image.now.bytes.now c.args.at
     c.args.sets.now.same_names.now c.is_listed.result
     (c.requires.sets.same_names (c.requires.named c.in-SameName.is)) c.is_listed.ensures)
 

@@ -5,9 +5,9 @@ use Rattle.romfs_rules.proofs.judge.fault_inside.Given as goal
 
 abbrev pub invariant-loop-slot : goal.invariant-loop-slot
 invariant-loop-slot g l = record {
-  behind : root l.image < l.from * 16;
+  behind : root l.image.bytes.now < l.from * 16;
   low : l.from ≤ length l.sets.chains.now.headers;
-  keeps : KeepsBelow l.profile l.image (l.from * 16);
+  keeps : KeepsBelow l.profile l.image.bytes.now (l.from * 16);
 }
 
 abbrev pub decreases-loop-slot : goal.decreases-loop-slot

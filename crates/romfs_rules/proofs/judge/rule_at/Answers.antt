@@ -7,22 +7,22 @@ use Rattle.romfs_rules.proofs.judge.rule_at.Goals as goal
 pub breaks-requires-clause-named : goal.breaks-requires-clause-named
 breaks-requires-clause-named g c =
     let n = tried_number c.loop-number.number _ (omega arith) in
-    name_tried c.args.profile c.args.image.now c.args.at _ _ n c.requires.root_once c.loop-number.invariant
+    name_tried c.args.profile c.args.image.now.bytes.now c.args.at _ _ n c.requires.root_once c.loop-number.invariant
 
 pub breaks-requires-clause-rule : goal.breaks-requires-clause-rule
 breaks-requires-clause-rule g c = header_tried c.loop-number.number _ (omega arith)
 
 pub loop-number-init : goal.loop-number-init
-loop-number-init g c = none_tried c.args.profile c.args.image.now c.args.at c.requires.slot.inside
+loop-number-init g c = none_tried c.args.profile c.args.image.now.bytes.now c.args.at c.requires.slot.inside
 
 pub loop-number-preserved : goal.loop-number-preserved
 loop-number-preserved g c =
     let n = tried_number c.loop-number.number _ (omega arith) in
-    let k = one_tried c.args.profile c.args.image.now c.args.at _ _ n c.loop-number.invariant (fails c.breaks.ensures c.if-breaks.false) in
+    let k = one_tried c.args.profile c.args.image.now.bytes.now c.args.at _ _ n c.loop-number.invariant (fails c.breaks.ensures c.if-breaks.false) in
     let e : c.loop-number.number + 7 + 1 ≡ c.loop-number.number + 1 + 7 = omega arith in
-    subst (λ m. KeepsBefore c.args.profile c.args.image.now c.args.at m) e k
+    subst (λ m. KeepsBefore c.args.profile c.args.image.now.bytes.now c.args.at m) e k
 
 pub returns-then-breaks : goal.returns-then-breaks
 returns-then-breaks g c =
     let n = tried_number c.loop-number.number _ (omega arith) in
-    first_broken c.args.profile c.args.image.now c.args.at _ _ n (omega arith, omega arith) c.loop-number.invariant (c.breaks.ensures.0 c.if-breaks.true)
+    first_broken c.args.profile c.args.image.now.bytes.now c.args.at _ _ n (omega arith, omega arith) c.loop-number.invariant (c.breaks.ensures.0 c.if-breaks.true)

@@ -5,6 +5,6 @@ use Rattle.romfs_rules.proofs.names.classes.Given as goal
 
 abbrev pub invariant-loop-number : goal.invariant-loop-number
 invariant-loop-number g l = record {
-  classing : IsClassing (λ i. kept_name l.image (get_or l.heads i 0)) l.classes.items (class_in l.known);
+  classing : IsClassing (λ i. kept_name l.image.bytes.now (get_or l.heads i 0)) l.classes.items (class_in l.known);
   sized : length l.classes.items ≡ l.number;
 }

@@ -1,20 +1,20 @@
 use Rattle.std.proofs.Common.{◌≡◌, ◌*◌, ◌/◌, ℕ, Option, None, subst, arith, length}
-use Rattle.romfs_rules.specs.Outside.{IsBelow, IsAbove, Names, Notes}
+use Rattle.romfs_rules.specs.Outside.{IsBelow, IsPastEnd, Names, Notes}
 use Rattle.romfs_rules.proofs.Slots.{slot_inside, cleared_root, inside_root}
 use Rattle.romfs_rules.proofs.Reach.{IsFoundBefore, nothing, scans, scanned_to, all_scanned}
 use Rattle.romfs_rules.proofs.outside.find_outside.Goals as goal
 
 pub note_named-found-requires-clause-slot : goal.note_named-found-requires-clause-slot
-note_named-found-requires-clause-slot g c = let t = c.requires.root in rw t (cleared_root c.args.image.now)
+note_named-found-requires-clause-slot g c = let t = c.args.image.now.rooted in rw t (cleared_root c.args.image.now.bytes.now)
 
 pub loop-slot-init : goal.loop-slot-init
 loop-slot-init g c =
-    let a = c.args.image.now in
-    let slot = c.args.root / 16 in
-    let t = c.requires.root in
+    let a = c.args.image.now.bytes.now in
+    let slot = c.args.image.now.root / 16 in
+    let t = c.args.image.now.rooted in
     let k = cleared_root a in
-    let e : c.args.root ≡ slot * 16 = omega arith in
-    let v = c.requires.volume.inside in
+    let e : c.args.image.now.root ≡ slot * 16 = omega arith in
+    let v = c.args.image.now.keeps.inside in
     let s = c.requires.chains.headers.sized in
     let inside = slot_inside a slot (omega arith) (omega arith) in
     let after = c.note_named-found in
@@ -24,14 +24,14 @@ loop-slot-init g c =
       below = scans a (IsBelow a) slot None after.result.below inside
           (nothing a (IsBelow a) slot (omega arith)) (subst
           (λ h. Notes (Names a h) (IsBelow a) None after.result.below) e after.ensures.below);
-      above = scans a (IsAbove a) slot None after.result.above inside
-          (nothing a (IsAbove a) slot (omega arith)) (subst
-          (λ h. Notes (Names a h) (IsAbove a) None after.result.above) e after.ensures.above);
+      above = scans a (IsPastEnd a) slot None after.result.above inside
+          (nothing a (IsPastEnd a) slot (omega arith)) (subst
+          (λ h. Notes (Names a h) (IsPastEnd a) None after.result.above) e after.ensures.above);
     }
 
 pub loop-slot-preserved : goal.loop-slot-preserved
 loop-slot-preserved g c =
-    let a = c.args.image.now in
+    let a = c.args.image.now.bytes.now in
     let slot = c.in-Some.slot in
     let n = c.in-Some.ensures in
     let l = n.low in
@@ -50,15 +50,15 @@ loop-slot-preserved g c =
           (scanned_to a (IsBelow a) headers targets c.requires.chains.headers c.requires.targets
           c.loop-slot.from slot before.below b l n.one_clear n.other_clear c.loop-slot.invariant.below)
           after.ensures.below;
-      above = scans a (IsAbove a) slot before.above after.result.above inside
-          (scanned_to a (IsAbove a) headers targets c.requires.chains.headers c.requires.targets
+      above = scans a (IsPastEnd a) slot before.above after.result.above inside
+          (scanned_to a (IsPastEnd a) headers targets c.requires.chains.headers c.requires.targets
           c.loop-slot.from slot before.above b l n.one_clear n.other_clear c.loop-slot.invariant.above)
           after.ensures.above;
     }
 
 pub returns : goal.returns
 returns g c =
-    let a = c.args.image.now in
+    let a = c.args.image.now.bytes.now in
     let headers = c.args.chains.now.headers in
     let targets = c.args.targets.now in
     let s = c.requires.chains.headers.sized in
@@ -69,10 +69,10 @@ returns g c =
     c.requires.chains.headers c.requires.targets c.loop-slot.from (length headers) found b
     c.loop-slot.invariant.low d.0 d.1 f in
     record {
-      below = all_scanned a (IsBelow a) c.requires.volume (length headers) c.loop-slot.found.below
+      below = all_scanned a (IsBelow a) c.args.image.now.keeps (length headers) c.loop-slot.found.below
           (omega arith) (λ g q e. omega arith) (all (IsBelow a) c.loop-slot.found.below
           c.loop-slot.invariant.below);
-      above = all_scanned a (IsAbove a) c.requires.volume (length headers) c.loop-slot.found.above
-          (omega arith) (λ g q e. (let i = inside_root a c.requires.volume in omega arith))
-          (all (IsAbove a) c.loop-slot.found.above c.loop-slot.invariant.above);
+      above = all_scanned a (IsPastEnd a) c.args.image.now.keeps (length headers) c.loop-slot.found.above
+          (omega arith) (λ g q e. (let i = inside_root a c.args.image.now.keeps in omega arith))
+          (all (IsPastEnd a) c.loop-slot.found.above c.loop-slot.invariant.above);
     }

@@ -1,15 +1,15 @@
 use Rattle.std.proofs.Common.{◌-◌, ◌*◌, ◌<◌, ◌≤◌, length}
 use Rattle.romfs_format.specs.Fields.{root}
-use Rattle.romfs_rules.specs.Outside.{IsBelow, IsAbove}
+use Rattle.romfs_rules.specs.Outside.{IsBelow, IsPastEnd}
 use Rattle.romfs_rules.proofs.Reach.{IsFoundBefore}
 use Rattle.romfs_rules.proofs.outside.find_outside.Given as goal
 
 abbrev pub invariant-loop-slot : goal.invariant-loop-slot
 invariant-loop-slot g l = record {
-  behind : root l.image < l.from * 16;
+  behind : root l.image.bytes.now < l.from * 16;
   low : l.from ≤ length l.chains.headers;
-  below : IsFoundBefore l.image (IsBelow l.image) l.from l.found.below;
-  above : IsFoundBefore l.image (IsAbove l.image) l.from l.found.above;
+  below : IsFoundBefore l.image.bytes.now (IsBelow l.image.bytes.now) l.from l.found.below;
+  above : IsFoundBefore l.image.bytes.now (IsPastEnd l.image.bytes.now) l.from l.found.above;
 }
 
 abbrev pub decreases-loop-slot : goal.decreases-loop-slot

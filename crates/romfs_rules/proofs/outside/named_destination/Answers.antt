@@ -7,14 +7,14 @@ use Rattle.romfs_rules.proofs.outside.named_destination.Goals.{then-contains, el
 
 pub returns-then-is_some_member : goal.returns-then-is_some_member
 returns-then-is_some_member g c =
-    let a = c.args.image.now in
+    let a = c.args.image.now.bytes.now in
     let h = c.args.at in
     let target = marked a (IsTarget a) c.args.targets.now h c.requires.targets c.requires.slot c.requires.inside in
     destination_named a h c.destination_of.result (elim c.if-contains.branch [ then-contains w ↦ inr (target.0 (sym w.if-contains.ensures)) | else-contains w ↦ inl (w.is_some_member.ensures.0 (sym w.value-is ∙ c.if-is_some_member.true)) ]) c.destination_of.ensures
 
 pub returns-else-is_some_member : goal.returns-else-is_some_member
 returns-else-is_some_member g c =
-    let a = c.args.image.now in
+    let a = c.args.image.now.bytes.now in
     let h = c.args.at in
     let target = marked a (IsTarget a) c.args.targets.now h c.requires.targets c.requires.slot c.requires.inside in
     elim c.if-contains.branch [

@@ -1,10 +1,10 @@
-use Rattle.romfs_rules.specs.Outside.{IsBelow, IsAbove}
+use Rattle.romfs_rules.specs.Outside.{IsBelow, IsPastEnd}
 use Rattle.romfs_rules.proofs.Reach.{noted_named}
 use Rattle.romfs_rules.proofs.outside.note_named.Goals as goal
 
 pub returns : goal.returns
 returns g c =
-    let a = c.args.image.now in
+    let a = c.args.image.now.bytes.now in
     let next = c.next_link-next in
     let first = c.first_link-first in
     let hard = c.named_destination-destination in
@@ -15,7 +15,7 @@ returns g c =
       below = noted_named a c.args.at (IsBelow a) next.result first.result hard.result c.args.found.below
           one.result.below two.result.below three.result.below next.ensures first.ensures hard.ensures
           one.ensures.below two.ensures.below three.ensures.below;
-      above = noted_named a c.args.at (IsAbove a) next.result first.result hard.result c.args.found.above
+      above = noted_named a c.args.at (IsPastEnd a) next.result first.result hard.result c.args.found.above
           one.result.above two.result.above three.result.above next.ensures first.ensures hard.ensures
           one.ensures.above two.ensures.above three.ensures.above;
     }

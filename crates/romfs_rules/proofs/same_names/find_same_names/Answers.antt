@@ -2,7 +2,7 @@ use Rattle.std.proofs.Common.{arith, subst, length, get_or}
 use Rattle.std.proofs.lemmas.Result.{IfOk-weaker}
 use Rattle.romfs_rules.specs.SameNames.{AreNextNumbers, AreChosen, HaveSameNames}
 use Rattle.romfs_rules.specs.Names.{kept_name, AreClasses}
-use Rattle.romfs_rules.proofs.HeadNumbers.{grown}
+use Rattle.romfs_rules.proofs.HeadNumbers.{grown, next_below}
 use Rattle.romfs_rules.proofs.SameNaming.{numbered, same_names}
 use Rattle.romfs_rules.proofs.same_names.find_same_names.Goals as goal
 
@@ -20,7 +20,7 @@ chosen-requires-clause-rising g c = rw c.deref-4.ensures.value (c.in_ok-heads.en
 
 pub returns : goal.returns
 returns g c =
-    let a = c.args.image.now in
+    let a = c.args.image.now.bytes.now in
     let heads = c.in_ok-heads.heads.items in
     let n = numbered a _ heads c.requires.chains.headers c.in_ok-heads.ensures in
     let next : AreNextNumbers a heads c.in_ok-next.next.items = rw c.deref.ensures.value at c.in_ok-next.ensures in
@@ -31,11 +31,14 @@ returns g c =
     c.in_ok-noted.noted.items n next class c.in_ok-noted.ensures c.requires.alone found.items w)
     (rw (c.deref-4.ensures.value, c.deref-5.ensures.value) at c.chosen.ensures)
 
+pub lists-requires-clause-next : goal.lists-requires-clause-next
+lists-requires-clause-next g c = rw c.deref-3.ensures.value (next_below (rw c.deref.ensures.value at c.in_ok-next.ensures))
+
 pub note_higher-requires : goal.note_higher-requires
 note_higher-requires g c =
     let few = c.in_ok-heads.ensures.few in
     let sized = c.requires.chains.headers.sized in
-    let small = c.requires.volume.small in
+    let small = c.args.image.now.keeps.small in
     grown (omega arith) (rw c.deref.ensures.value at c.in_ok-next.ensures)
     (rw c.deref-2.ensures.value at c.in_ok-class.ensures)
     (rw c.deref-3.ensures.value at c.in_ok-first.ensures)

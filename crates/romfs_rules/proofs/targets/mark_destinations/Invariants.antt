@@ -3,7 +3,7 @@ use Rattle.romfs_rules.proofs.MarkLists.{unmarked}
 use Rattle.romfs_rules.proofs.targets.mark_destinations.Given as goal
 
 abbrev pub invariant-loop-at : goal.invariant-loop-at
-invariant-loop-at g l = Walks l.image l.from l.at l.initial.marks l.marks
+invariant-loop-at g l = Walks l.image.bytes.now l.from l.at l.initial.marks l.marks
 
 abbrev pub decreases-loop-at : goal.decreases-loop-at
 decreases-loop-at g l = unmarked l.marks

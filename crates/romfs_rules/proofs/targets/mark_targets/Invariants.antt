@@ -3,7 +3,7 @@ use Rattle.romfs_rules.proofs.Destined.{Reaches}
 use Rattle.romfs_rules.proofs.targets.mark_targets.Given as goal
 
 abbrev pub invariant-loop-slot : goal.invariant-loop-slot
-invariant-loop-slot g l = record { low : l.from ≤ length l.chains.headers; reaches : Reaches l.image l.from l.marks }
+invariant-loop-slot g l = record { low : l.from ≤ length l.chains.headers; reaches : Reaches l.image.bytes.now l.from l.marks }
 
 abbrev pub decreases-loop-slot : goal.decreases-loop-slot
 decreases-loop-slot g l = length l.chains.headers - l.from

@@ -5,9 +5,9 @@ use Rattle.romfs_rules.proofs.twice.mark_twice.Given as goal
 
 abbrev pub invariant-loop-slot : goal.invariant-loop-slot
 invariant-loop-slot g l = record {
-  behind : root l.image < l.from * 16;
+  behind : root l.image.bytes.now < l.from * 16;
   low : l.from ≤ length l.chains.headers;
-  tallied : Tallied l.image (Below l.image l.from) l.once l.twice;
+  tallied : Tallied l.image.bytes.now (Below l.image.bytes.now l.from) l.once l.twice;
 }
 
 abbrev pub decreases-loop-slot : goal.decreases-loop-slot
