@@ -1,19 +1,39 @@
-"""Tries the wrong bodies of trials/CRATE/*.edit: python3 tools/trials.py [--all] [CRATE..]
+"""Tries the wrong bodies of trials/CRATE/*.edit: python3 tools/trials.py [--all] [--jobs N] [CRATE..]
 
-Each crate is laid, with its edits, into a scratch copy of the repository outside of it, over what checks of the
-crates below it kept (`make build` leaves that), and `rt must-fail CRATE` tries them there. The prover must refuse
-each. The last line says how many it refused; the status is 0 where these are all. --all tries those of the crate's own
-must-fail/ too.
+The prover must refuse each. --all tries those of the crate's own must-fail/ too. The last line says how many were
+refused; the status is 0 where these are all.
+
+Each crate is laid into a scratch copy of the repository, with what `make build` kept of it and of the crates below.
+Edits that change bodies alone, each another function's, are laid into it together, and one `rt check --only` of these
+functions tries them. That is fair: what a function's proof takes from another is its contract, which stands, and never
+its body or its proof. So a wrong body is judged by its own goals: it counts as refused where one of them is, at a
+place within the function, or in its own written answers; that it calls what is not proved does not count. Where a
+batch does not compile, the edit at the place of the error is taken out and the others are tried again.
+
+Any other edit, and each that no batch shows refused, is tried alone: by a whole check of the crate over what was kept,
+and where that shows nothing by `rt must-fail`, from nothing. "Only at a name" is what fails since a written answer
+names what the edit took away, which tells little of the contract.
 """
+import argparse
+import glob
 import os
 import re
+import resource
 import shutil
 import subprocess
 import sys
 import tempfile
 import time
 
+from trial_edits import Edit, Misfit, batches_of, bodies_of, together
+
 ROOT = os.path.dirname(os.path.dirname(os.path.abspath(__file__)))
+MOST = 12
+GOAL = re.compile(r"note: (?:\./)?(src/\S+):(\d+):\d+: (it is not proved that .*)")
+ERROR = re.compile(r"(?:\./)?((?:src|specs|proofs)/\S+):(\d+):\d+: error\S* (.*)")
+AT_NAME = "only at a name"
+# a proof that names what is not there, and what cites that proof
+NAMES = re.compile(r"has no field|is not in scope|has no `|was not admitted")
 
 
 def crates_below():
@@ -40,47 +60,189 @@ def crates_below():
     return below
 
 
-def copied(crate, others, room, folders):
-    """A copy of the repository that holds this crate and what it stands on, with the trials as its must-fail edits."""
+def copied(crate, others, room):
+    """A copy of the repository that holds this crate, what it stands on, and what was kept of these."""
     lines = open(ROOT + "/crates.txt", encoding="utf-8").read().splitlines()
     kept = [line for line in lines if line.partition(":")[0].split()[:1] in [[name] for name in [crate, *others]]]
     with open(room + "/crates.txt", "w", encoding="utf-8") as out:
         out.write("\n".join(kept) + "\n")
     shutil.copy(ROOT + "/HANDLES", room)
     for name in [crate, *others]:
-        ignored = shutil.ignore_patterns("must-fail", *([] if name != crate else ["out"]))
+        ignored = shutil.ignore_patterns("must-fail", *(["incremental"] if name != crate else []))
         shutil.copytree("%s/crates/%s" % (ROOT, name), "%s/crates/%s" % (room, name), ignore=ignored)
-    for folder in folders:
-        shutil.copytree(folder, "%s/crates/%s/must-fail" % (room, crate), dirs_exist_ok=True)
 
 
-def tried(crate, others, with_gate):
+def verdict(goals, errors):
+    """At what the prover refused, by the texts of these goals and errors; None where there are none."""
+    for text in goals:
+        goal = re.search(r"\(`([^`]*)`\)", text)
+        kinds = {"ensures holds when it returns": "clause", "invariant": "invariant", "measure": "measure"}
+        kind = next((kinds[word] for word in kinds if word in text), "requires of a call or an operation")
+        return "%s, %s" % (kind, goal[1] if goal else text[:90])
+    for text in errors:
+        if not NAMES.search(text):
+            return "written answer, %s" % text[:90]
+    return "%s, %s" % (AT_NAME, errors[0][:90]) if errors else None
+
+
+def place_of(file):
+    """The module of a file of src/, as the parts of its path in the crate."""
+    parts = re.sub(r"^src/|(/mod)?\.rt$", "", file).split("/")
+    return [] if parts in (["lib"], ["main"]) else parts
+
+
+class Trials:
+    """The edits of one crate, tried in a scratch copy."""
+
+    def __init__(self, crate, room, jobs):
+        self.crate, self.room, self.jobs = crate, room, jobs
+        self.folder, self.kept, self.said = "%s/crates/%s" % (room, crate), room + "/kept", ""
+        self.check([])
+        if "\nlogic=proved" not in self.said:
+            sys.exit("%s is not proved as it stands\n%s" % (crate, self.said[-2000:]))
+        self.names = re.findall(r"(?m)^fn (\S+): proved", self.said)
+        shutil.copytree(self.folder, self.kept)
+
+    def check(self, words):
+        done = subprocess.run(["rt", "check", "--jobs", self.jobs, *words], cwd=self.folder, text=True,
+                              stdin=subprocess.DEVNULL, stdout=subprocess.PIPE, stderr=subprocess.STDOUT,
+                              errors="replace", check=False)
+        self.said = done.stdout
+
+    def lay(self, texts):
+        """The crate with these texts in place of its own, and what was kept of it."""
+        shutil.rmtree(self.folder)
+        shutil.copytree(self.kept, self.folder)
+        for file, text in texts.items():
+            with open("%s/%s" % (self.folder, file), "w", encoding="utf-8") as out:
+                out.write(text)
+
+    def told(self, kind):
+        """What a check said of this kind, each as file, line and text."""
+        return [(it[1], int(it[2]), it[3]) for it in map(kind.match, self.said.split("\n")) if it]
+
+    def named(self, edit):
+        """The names that a check gives to the functions that an edit changes: all that end alike in their module."""
+        found = set()
+        for file, name in edit.keys:
+            module = [self.crate, *place_of(file)]
+            ends = {it.name for it in bodies_of(edit.texts[file]) if it.cycle == name} or {name}
+            for it in self.names:
+                parts = it.split("::")
+                if parts[:len(module)] == module and parts[-1] in ends:
+                    found.add(it)
+        return found
+
+    def batch(self, edits):
+        """At what each of these edits was refused, by its name; None where this does not tell."""
+        texts = together(edits, self.kept)
+        bodies = {file: bodies_of(text) for file, text in texts.items()}
+
+        def own(edit, told):
+            """What was said of a body that the edit changes, and of the written answers of its function."""
+            for file, line, text in told:
+                answers = file.startswith("proofs/") and file.split("/")[1:-1]
+                if answers and any(answers[-1] == name and answers[:len(place_of(it))] == place_of(it)
+                                   for it, name in edit.keys):
+                    yield text
+                if any(it == file and bodies[file][at].first < line <= bodies[file][at].ends + 1
+                       for it, at in edit.changes):
+                    yield text
+
+        self.lay(texts)
+        names = sorted(set().union(*map(self.named, edits)))
+        self.check([word for name in names for word in ("--only", name)])
+        goals, errors = self.told(GOAL), self.told(ERROR)
+        outcomes = {it.name: None for it in edits}
+        if not re.search(r"(?m)^only=\d+ proved=", self.said):
+            left = [it for it in edits if not any(own(it, errors))]
+            return {**outcomes, **(self.batch(left) if 0 < len(left) < len(edits) else {})}
+        # a lemma that fails may be what another function's goal wants
+        if any(re.match(r"proofs/.*/", it[0]) is None for it in errors):
+            return outcomes
+        for it in edits:
+            found = verdict(list(own(it, goals)), list(own(it, errors)))
+            outcomes[it.name] = found if found and not found.startswith(AT_NAME) else None
+        return outcomes
+
+    def alone(self, edit):
+        """Whether an edit is refused by a check of the whole crate, and at what."""
+        self.lay(edit.texts)
+        self.check([])
+        goals, errors = self.told(GOAL), self.told(ERROR)
+        if "\nlogic=not-proved" in self.said and all(it[0].startswith("proofs/") for it in errors):
+            found = verdict([it[2] for it in goals], [it[2] for it in errors])
+            if found:
+                return True, found
+        self.lay({})
+        os.makedirs(self.folder + "/must-fail")
+        shutil.copy(edit.path, self.folder + "/must-fail")
+        done = subprocess.run(["rt", "must-fail", self.crate], cwd=self.room, stdout=subprocess.PIPE,
+                              stderr=subprocess.STDOUT, text=True, errors="replace", check=False)
+        said = done.stdout.strip().split("\n")[-1][:200]
+        return ": refused, as it must be" in done.stdout, said
+
+    def say(self, edit, text):
+        print("%s %s: %s" % (self.crate, edit, text), flush=True)
+
+    def run(self, paths):
+        """How many of these edits are refused."""
+        edits, refused = [], 0
+        for path in paths:
+            try:
+                edits.append(Edit(path, self.kept))
+            except Misfit as why:
+                self.say(os.path.basename(path), "DOES NOT FIT: %s" % why)
+        fit = [it for it in edits if self.named(it)]
+        left = [it for it in edits if it not in fit]
+        groups = batches_of(fit, MOST)
+        for at, group in enumerate(groups):
+            begun = time.monotonic()
+            outcomes = self.batch(group)
+            print("%s: batch %d of %d, %d s" % (self.crate, at + 1, len(groups), time.monotonic() - begun))
+            for edit in group:
+                found = outcomes[edit.name]
+                self.say(edit.name, "refused: %s" % found if found else "not told, so tried alone below")
+                refused += found is not None
+                left += [edit] if found is None else []
+        for edit in left:
+            begun = time.monotonic()
+            is_refused, found = self.alone(edit)
+            refused += is_refused
+            self.say(edit.name, "%s: %s; alone, %d s" % ("refused" if is_refused else "NOT REFUSED", found,
+                                                         time.monotonic() - begun))
+        return refused
+
+
+def tried(crate, others, with_gate, jobs):
     """How many edits of a crate there are, and how many of them were refused."""
     folders = ["%s/trials/%s" % (ROOT, crate)] + ["%s/crates/%s/must-fail" % (ROOT, crate)] * with_gate
-    folders = [folder for folder in folders if os.path.isdir(folder)]
-    count = len([name for folder in folders for name in os.listdir(folder) if name.endswith(".edit")])
+    paths = [it for folder in folders for it in sorted(glob.glob(folder + "/*.edit"))]
     begun = time.monotonic()
-    print("trying %d edits of %s" % (count, crate), flush=True)
+    print("%s: %d edits" % (crate, len(paths)), flush=True)
     with tempfile.TemporaryDirectory(prefix="trials-") as room:
-        copied(crate, others, room, folders)
-        done = subprocess.run(["rt", "must-fail", crate], cwd=room, stdout=subprocess.PIPE, stderr=subprocess.STDOUT,
-                              text=True, errors="replace", check=False)
-    print(done.stdout, end="")
-    refused = len(re.findall(r"(?m)^(?:rt: )?must-fail \S+: refused", done.stdout))
-    print("%s: %d of %d refused, %d s" % (crate, refused, count, time.monotonic() - begun), flush=True)
-    return count, refused
+        copied(crate, others, room)
+        refused = Trials(crate, room, jobs).run(paths)
+    print("%s: %d of %d refused, %d s" % (crate, refused, len(paths), time.monotonic() - begun), flush=True)
+    return len(paths), refused
 
 
 def main(words):
-    names = [word for word in words if word != "--all"]
+    wanted = argparse.ArgumentParser(prog="trials.py", description="Tries the wrong bodies of trials/CRATE/*.edit.")
+    wanted.add_argument("crates", nargs="*", metavar="CRATE")
+    wanted.add_argument("--all", action="store_true", help="those of the crate's must-fail/ too")
+    wanted.add_argument("--jobs", default="2", help="the processors that a check may use")
+    given = wanted.parse_args(words)
     below = crates_below()
     there = sorted(name for name in os.listdir(ROOT + "/trials") if os.path.isdir("%s/trials/%s" % (ROOT, name)))
-    unknown = [name for name in names if name not in (below if names != words else there)]
+    unknown = [name for name in given.crates if name not in (below if given.all else there)]
     lost = [name for name in there if name not in below]
     if unknown or lost:
         sys.exit("no trials of %s" % ", ".join(unknown) if unknown else "trials of no crate: %s" % ", ".join(lost))
-    counts = [tried(name, below[name], names != words) for name in names or there]
+    counts = [tried(name, below[name], given.all, given.jobs) for name in given.crates or there]
     edits, refused = sum(it[0] for it in counts), sum(it[1] for it in counts)
+    used = resource.getrusage(resource.RUSAGE_CHILDREN)
+    print("%d minutes of one processor" % ((used.ru_utime + used.ru_stime) / 60))
     print("%d refused, %d not" % (refused, edits - refused))
     sys.exit(0 if edits == refused else 1)
 
