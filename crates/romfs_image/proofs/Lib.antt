@@ -3,6 +3,7 @@ pub mod Keeps
 pub mod Given
 pub mod Listing
 pub mod Hops
+pub mod Named
 pub mod Steps
 pub mod Readings
 pub mod Whole

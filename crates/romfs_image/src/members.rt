@@ -7,8 +7,9 @@ ghost use Rattle.romfs_format.specs.Heads.{head_of};
 ghost use Rattle.romfs_image.specs.Readers.{passes_over};
 ghost use Rattle.romfs_image.specs.Walks.{IsWalk, IsNextMember, members_from};
 
+use crate::parts::name_in;
 use romfs_format::head::Head;
-use romfs_format::read::{head_at, is_dot_name, text_at};
+use romfs_format::read::{head_at, is_dot_name};
 use std::marker::Model;
 
 /// The members of a directory, in the order of its chain. A clause sees the list of those that are
@@ -73,6 +74,7 @@ impl<'a> Iterator for Members<'a> {
 }
 
 /// Whether a header is passed over in the chain of a directory.
+#[tactic(auto, using(crate::proofs::Named::dotted))]
 fn is_passed_over(image: &[u8], root: u32, directory: u32, head: &Head) -> bool
     requires root { root ≡ root_of image.now }
     requires small { length image.now < 2 ^ 32 }
@@ -83,10 +85,7 @@ fn is_passed_over(image: &[u8], root: u32, directory: u32, head: &Head) -> bool
     if directory == root && head.offset == root {
         return true;
     }
-    match text_at(image, head.name_at as usize) {
-        None => false,
-        Some(name) => is_dot_name(name),
-    }
+    is_dot_name(name_in(image, head))
 }
 
 /// The first member from a place of a chain on.

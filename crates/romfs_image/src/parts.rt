@@ -20,6 +20,7 @@ pub struct Part {
 }
 
 /// The header at an offset, if a header with an ended name can stand there.
+#[tactic(auto, using(crate::proofs::Named::some_name))]
 pub(crate) fn place_at(image: &[u8], root: u32, offset: u32) -> Option<Head>
     requires image { IsImage image.now }
     requires root { root ≡ root_of image.now }
@@ -29,9 +30,13 @@ pub(crate) fn place_at(image: &[u8], root: u32, offset: u32) -> Option<Head>
     if offset % 16 != 0 || offset < root || image.len() < place + HEAD_SIZE {
         return None;
     }
+    let head = head_at(image, offset);
+    if head.name_len != 0 {
+        return Some(head);
+    }
     match text_at(image, place + HEAD_SIZE) {
         None => None,
-        Some(_) => Some(head_at(image, offset)),
+        Some(_) => Some(head),
     }
 }
 

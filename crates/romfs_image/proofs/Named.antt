@@ -1,0 +1,21 @@
+-- What the length of a name, or the name that stands for none, says of the name.
+use Rattle.std.proofs.Common.{◌≡◌, ◌≢◌, ℕ, List, [], length, Option, Some, None, IsSome, false, refl}
+use Rattle.std.specs.Prelude.{unwrap_or}
+use Rattle.std.specs.Option.{option_map_or}
+use Rattle.romfs_format.specs.Fields.{name, is_dot_name}
+use Rattle.romfs_format.specs.Heads.{name_of}
+
+some_text : (o : Option (List ℕ)) → length (unwrap_or o []) ≢ 0 → IsSome o
+some_text None n = absurd (n refl)
+some_text (Some text) n = refl
+
+pub some_name : (a : List ℕ) (h : ℕ) → length (name_of a h) ≢ 0 → IsSome (name a h)
+some_name a h = some_text (name a h)
+
+dotted_text : (o : Option (List ℕ)) → is_dot_name (unwrap_or o []) ≡ option_map_or is_dot_name o false
+dotted_text None = refl
+dotted_text (Some text) = refl
+
+-- no name is no dot
+pub dotted : (a : List ℕ) (h : ℕ) → is_dot_name (name_of a h) ≡ option_map_or is_dot_name (name a h) false
+dotted a h = dotted_text (name a h)
