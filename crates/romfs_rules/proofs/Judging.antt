@@ -27,6 +27,13 @@ pub mark_says : (a : List ℕ) (P : ℕ → Type 0) (marks : List Bool) (h : ℕ
     → HasSlot a h → b ≡ get_or marks (h / 16) false → IsTrue b ↔ P h
 mark_says a P marks h b m s e = (λ t. (marked a P marks h m s.aligned s.inside).0 (sym e ∙ t), λ p. e ∙ (marked a P marks h m s.aligned s.inside).1 p)
 
+-- both of two facts, by the test of the one where the other is known, or by that of the other where it fails
+pub and_known : {P Q : Type 0} {b c : Bool} → IsTrue b ↔ Q → b ≡ true → IsTrue c ↔ P → IsTrue c ↔ (P × Q)
+and_known s e t = (λ y. (t.0 y, s.0 e), λ x. t.1 x.0)
+
+pub and_not : {P Q : Type 0} {b : Bool} → IsTrue b ↔ Q → b ≡ false → IsTrue b ↔ (P × Q)
+and_not s e = (λ y. absurd (false≢true (sym e ∙ y)), λ x. s.1 x.1)
+
 -- the second of two tests, where the first fails or holds
 pub or_else : {P Q : Type 0} {b c : Bool} → IsTrue b ↔ P → b ≡ false → IsTrue c ↔ Q → IsTrue c ↔ (P ⊎ Q)
 or_else s e t = (λ y. inr (t.0 y), elim [ inl p ↦ absurd (fails s e p) | inr q ↦ t.1 q ])

@@ -44,7 +44,6 @@ pub(crate) fn is_in_chain<A: Allocator>(image: &Volume, at: usize, chains: &Chai
 }
 
 /// Whether a header is a directory that is opened.
-#[tactic(auto, using(crate::proofs::Standing::opened, crate::proofs::Standing::opened_root))]
 pub(crate) fn is_opened<A: Allocator>(image: &Volume, at: usize, chains: &Chains<A>) -> bool
     requires inside { IsInside image.now.bytes.now at }
     requires slot { cleared at ≡ at }
