@@ -13,8 +13,8 @@ use Rattle.romfs_format.specs.Fields.{root, IsInside, name}
 use Rattle.romfs_format.specs.Chains.{IsSomeMember}
 use Rattle.romfs_format.specs.Links.{IsHardLink, IsDirectory, IsFinal, stays, follows, EndsAs}
 use Rattle.romfs_format.specs.Rules.{IsRootElsewhere, IsUsed, HasData, IsBadName, EndsOutside, BreaksHeader, number}
-use Rattle.romfs_rules.specs.Marks.{AreMarks, IsListOf, IsElsewhere}
-use Rattle.romfs_rules.specs.Judge.{HasSlot, IsHeaderRule, KeepsBefore}
+use Rattle.romfs_rules.specs.Marks.{HasSlot, AreMarks, IsListOf, IsElsewhere}
+use Rattle.romfs_rules.specs.Judge.{IsHeaderRule, KeepsBefore}
 use Rattle.romfs_rules.specs.SameNames.{HaveSameNames}
 use Rattle.romfs_rules.proofs.Slots.{marked}
 
