@@ -13,8 +13,8 @@ use Rattle.romfs_format.specs.Fields.{root, IsInside, name}
 use Rattle.romfs_format.specs.Chains.{IsSomeMember}
 use Rattle.romfs_format.specs.Links.{IsHardLink, IsDirectory, IsFinal, stays, follows, EndsAs}
 use Rattle.romfs_format.specs.Rules.{IsRootElsewhere, IsUsed, HasData, IsBadName, EndsOutside, BreaksHeader, rule_number}
-use Rattle.romfs_rules.specs.Marks.{AreMarks, IsListOf, IsElsewhere}
-use Rattle.romfs_rules.specs.Judge.{HasSlot, IsHeaderRule, KeepsBefore}
+use Rattle.romfs_rules.specs.Marks.{HasSlot, AreMarks, IsListOf, IsElsewhere}
+use Rattle.romfs_rules.specs.Judge.{IsHeaderRule, KeepsBefore}
 use Rattle.romfs_rules.specs.SameNames.{HaveSameNames}
 use Rattle.romfs_rules.proofs.Slots.{marked}
 
@@ -26,6 +26,13 @@ fails t e p = false≢true (sym e ∙ t.1 p)
 pub mark_says : (a : List ℕ) (P : ℕ → Type 0) (marks : List Bool) (h : ℕ) (b : Bool) → AreMarks a P marks
     → HasSlot a h → b ≡ get_or marks (h / 16) false → IsTrue b ↔ P h
 mark_says a P marks h b m s e = (λ t. (marked a P marks h m s.aligned s.inside).0 (sym e ∙ t), λ p. e ∙ (marked a P marks h m s.aligned s.inside).1 p)
+
+-- both of two facts, by the test of the one where the other is known, or by that of the other where it fails
+pub and_known : {P Q : Type 0} {b c : Bool} → IsTrue b ↔ Q → b ≡ true → IsTrue c ↔ P → IsTrue c ↔ (P × Q)
+and_known s e t = (λ y. (t.0 y, s.0 e), λ x. t.1 x.0)
+
+pub and_not : {P Q : Type 0} {b : Bool} → IsTrue b ↔ Q → b ≡ false → IsTrue b ↔ (P × Q)
+and_not s e = (λ y. absurd (false≢true (sym e ∙ y)), λ x. s.1 x.1)
 
 -- the second of two tests, where the first fails or holds
 pub or_else : {P Q : Type 0} {b c : Bool} → IsTrue b ↔ P → b ≡ false → IsTrue c ↔ Q → IsTrue c ↔ (P ⊎ Q)

@@ -5,7 +5,7 @@ use Rattle.romfs_format.specs.declared.limits.TheConstants.{HEAD_SIZE}
 use Rattle.romfs_format.specs.Fields.{root, text_at, text_end, IsInside, spec, cleared}
 use Rattle.romfs_format.specs.Chains.{IsAt, IsInChain, IsOpened, at_root, below}
 use Rattle.romfs_format.specs.Links.{IsDestination, here, there}
-use Rattle.romfs_rules.specs.Marks.{IsVolumeImage, IsMarked, AreMarks}
+use Rattle.romfs_rules.specs.Marks.{HasSlot, IsVolumeImage, IsMarked, AreMarks}
 
 pub cleared_root : (a : List ℕ) → cleared (root a) ≡ root a
 unfolding root
@@ -42,6 +42,12 @@ cleared_destination a (there l d) = cleared_destination a d
 -- the slots from the root's on have headers inside
 pub slot_inside : (a : List ℕ) (slot : ℕ) → root a / 16 ≤ slot → slot < length a / 16 → IsInside a (slot * 16)
 slot_inside a slot l m = let c = cleared_root a in (omega arith, omega arith)
+
+pub slot_at : (a : List ℕ) (slot : ℕ) → root a / 16 ≤ slot → slot < length a / 16 → HasSlot a (slot * 16)
+slot_at a slot l m = record { inside = slot_inside a slot l m; aligned = omega arith }
+
+pub root_slot : (a : List ℕ) → IsVolumeImage a → (h : ℕ) → h ≡ root a → HasSlot a h
+root_slot a v h e = rw e (record { inside = inside_root a v; aligned = cleared_root a })
 
 -- what the mark of a header says
 pub marked : (a : List ℕ) (P : ℕ → Type 0) (marks : List Bool) (h : ℕ) → AreMarks a P marks → cleared h ≡ h → IsInside a h → IsMarked marks h ↔ P h

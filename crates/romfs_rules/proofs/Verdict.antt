@@ -11,14 +11,14 @@ use Rattle.romfs_format.specs.declared.rule.Profile.{Profile}
 use Rattle.romfs_format.specs.declared.rule.Profile.TheVariants.{Usual, Strict}
 use Rattle.romfs_format.specs.Rules.{IsVolume, BreaksHeader, BreaksHeaderAs, BreaksAs, IsUsed, rule_number, stage, IsNamedBefore, IsFaultAs, IsSoundAs}
 use Rattle.romfs_format.proofs.Faults.{one_rule}
-use Rattle.romfs_rules.specs.Marks.{IsVolumeImage, AreMarks, IsElsewhere}
+use Rattle.romfs_rules.specs.Marks.{HasSlot, IsVolumeImage, AreMarks, IsElsewhere}
 use Rattle.romfs_rules.specs.Leads.{IsInSomeChain}
 use Rattle.romfs_rules.specs.SlotSets.{IsClear}
 use Rattle.romfs_rules.proofs.Unions.{over_to, outside_set}
 use Rattle.romfs_format.specs.declared.rule.ImageFault.{ImageFault}
 use Rattle.romfs_rules.specs.Outside.{IsLeast, IsBelow, IsPastEnd}
-use Rattle.romfs_rules.specs.Judge.{HasSlot, IsHeaderRule, KeepsBefore, KeepsHeaderRules, IsFirstRule, KeepsBelow, IsFirstInside, KeepsAllHeaderRules, IsFirstBreach}
-use Rattle.romfs_rules.proofs.Slots.{cleared_root, cleared_in_chain, inside_root, cleared_destination, slot_inside}
+use Rattle.romfs_rules.specs.Judge.{IsHeaderRule, KeepsBefore, KeepsHeaderRules, IsFirstRule, KeepsBelow, IsFirstInside, KeepsAllHeaderRules, IsFirstBreach}
+use Rattle.romfs_rules.proofs.Slots.{root_slot, cleared_root, cleared_in_chain, cleared_destination, slot_inside}
 use Rattle.romfs_rules.proofs.Standing.{reached, member_in_chain}
 use Rattle.romfs_rules.proofs.Judging.{root_elsewhere}
 
@@ -170,18 +170,12 @@ module _ (profile : Profile) (a : List ℕ) (h : ℕ) where
 
 -- a scan over the slots, upward
 module _ (profile : Profile) (a : List ℕ) (v : IsVolumeImage a) where
-  pub slot_at : (slot : ℕ) → root a / 16 ≤ slot → slot < length a / 16 → HasSlot a (slot * 16)
-  slot_at slot l m = record { inside = slot_inside a slot l m; aligned = omega arith }
-
-  pub root_slot : HasSlot a (root a)
-  root_slot = record { inside = inside_root a v; aligned = cleared_root a }
-
   -- where the root's header stands elsewhere the scan ends there
   pub root_first : (p : ℕ) → KeepsBelow profile a p → root a ≤ p → IsElsewhere a (root a) → p ≡ root a
   root_first p k l e = elim (cases_order p (root a)) [
     | inl q ↦ q
     | inr (inl m) ↦ absurd (omega arith)
-    | inr (inr m) ↦ absurd ((k.keeps (root a) root_slot m).keeps Twice (lit≤ tt, lit< tt) (inr ((root_elsewhere a (root a) refl).0 e)))
+    | inr (inr m) ↦ absurd ((k.keeps (root a) (root_slot a v (root a) refl) m).keeps Twice (lit≤ tt, lit< tt) (inr ((root_elsewhere a (root a) refl).0 e)))
   ]
 
   pub scan_more : (slot : ℕ) → KeepsBelow profile a (slot * 16) → KeepsHeaderRules profile a (slot * 16) → KeepsBelow profile a ((slot + 1) * 16)
@@ -223,7 +217,7 @@ module _ (profile : Profile) (a : List ℕ) (v : IsVolumeImage a) where
   pub at_root : (f : ImageFault) (place : ℕ) → place ≡ root a → (f.place ≡ place) × IsFirstRule profile a place f.rule → IsFirstInside profile a f.rule f.place
   at_root f place t (e, r) = subst (IsFirstInside profile a f.rule) (sym (e ∙ t))
       (record {
-        slot = root_slot;
+        slot = root_slot a v (root a) refl;
         rule = subst (λ h. IsFirstRule profile a h f.rule) t r;
         below = none_below;
       })

@@ -1,14 +1,13 @@
 -- The first rule that an image breaks, of the rules of file headers, and of all.
-use Rattle.std.specs.Prelude.{◌≡◌, ℕ, ◌<◌, ◌≤◌, List, Option, MatchOption, IsNone}
+use Rattle.std.specs.Prelude.{ℕ, ◌<◌, ◌≤◌, List, Option, MatchOption, IsNone}
 use Rattle.romfs_rules.specs.declared.judge.Sets.{Sets}
 use Rattle.romfs_format.specs.declared.rule.Rule.{Rule}
 use Rattle.romfs_format.specs.declared.rule.Rule.TheVariants.{Deep}
 use Rattle.romfs_format.specs.declared.rule.Profile.{Profile}
 use Rattle.romfs_format.specs.declared.rule.ImageFault.{ImageFault}
-use Rattle.romfs_format.specs.Fields.{IsInside, cleared}
 use Rattle.romfs_format.specs.Links.{IsTarget}
 use Rattle.romfs_format.specs.Rules.{BreaksHeader, BreaksHeaderAs, rule_number, IsNamedBefore, IsLinkedTwice}
-use Rattle.romfs_rules.specs.Marks.{AreMarks, IsListOf}
+use Rattle.romfs_rules.specs.Marks.{HasSlot, AreMarks, IsListOf}
 use Rattle.romfs_rules.specs.InChains.{AreChains}
 use Rattle.romfs_rules.specs.Ends.{AreWalkedEnds}
 use Rattle.romfs_rules.specs.Outside.{IsLeast}
@@ -21,11 +20,6 @@ pub record AreSets {A : Type 0} (a : List ℕ) (sets : Sets A) : Type 0 where
   pub twice : IsListOf a (IsLinkedTwice a) sets.twice.now
   pub same_names : HaveSameNamesIfAlone a sets.same_names.now
   pub ends : AreWalkedEnds a sets.ends.now.walks sets.ends.now.ends.items
-
--- a header may stand at h
-pub record HasSlot (a : List ℕ) (h : ℕ) : Type 0 where
-  pub inside : IsInside a h
-  pub aligned : cleared h ≡ h
 
 -- the rules of file headers, of which the least place is named
 abbrev pub IsHeaderRule : Rule → Type 0

@@ -12,6 +12,11 @@ pub record IsVolumeImage (a : List ℕ) : Type 0 where
   pub behind : 2 * HEAD_SIZE ≤ root a
   pub inside : root a + HEAD_SIZE ≤ length a
 
+-- a header may stand at h
+pub record HasSlot (a : List ℕ) (h : ℕ) : Type 0 where
+  pub inside : IsInside a h
+  pub aligned : cleared h ≡ h
+
 abbrev pub IsMarked : List Bool → ℕ → Type 0
 IsMarked marks h = get_or marks (h / 16) false ≡ true
 

@@ -7,9 +7,9 @@ ghost use Rattle.romfs_format.specs.Chains.{IsSomeMember};
 ghost use Rattle.romfs_format.specs.Links.{IsHardLink, IsReached, EndsAs};
 ghost use Rattle.romfs_format.specs.Rules.{IsVolume, IsUsed, HasData, IsDevice, IsBadName, EndsOutside};
 ghost use Rattle.romfs_format.specs.Rules.{HasLongTarget, HasLargeMajor, HasBadSum, BreaksHeader, BreaksHeaderAs};
-ghost use Rattle.romfs_rules.specs.Marks.{IsElsewhere};
+ghost use Rattle.romfs_rules.specs.Marks.{HasSlot, IsElsewhere};
 ghost use Rattle.romfs_rules.specs.Outside.{IsLeast, IsBelow, IsPastEnd};
-ghost use Rattle.romfs_rules.specs.Judge.{AreSets, HasSlot, IsHeaderRule, KeepsHeaderRules, IsFirstRule, KeepsBelow, IsFirstInside, IsHeaderFault, IsDeepFault};
+ghost use Rattle.romfs_rules.specs.Judge.{AreSets, IsHeaderRule, KeepsHeaderRules, IsFirstRule, KeepsBelow, IsFirstInside, IsHeaderFault, IsDeepFault};
 ghost use Rattle.romfs_format.specs.Rules.{IsFaultOfAs};
 
 use crate::chains::Chains;

@@ -1,8 +1,8 @@
 //! The headers that the fields of a header name.
 
-ghost use Rattle.std.specs.Prelude.{◌≡◌, ◌<◌};
-ghost use Rattle.romfs_format.specs.Fields.{IsInside, cleared};
+ghost use Rattle.std.specs.Prelude.{◌<◌};
 ghost use Rattle.romfs_format.specs.Links.{first_of, next_of, IsLink};
+ghost use Rattle.romfs_rules.specs.Marks.{HasSlot};
 ghost use Rattle.romfs_rules.specs.Leads.{IsTheOne};
 ghost use Rattle.romfs_rules.specs.InChains.{AreChains};
 
@@ -15,8 +15,7 @@ use std::alloc::Allocator;
 /// The header that next names, of a header in a chain.
 #[tactic(auto, using(crate::proofs::Links::no_next))]
 pub(crate) fn next_link<A: Allocator>(image: &Volume, at: usize, chains: &Chains<A>) -> Option<u32>
-    requires inside { IsInside image.now.bytes.now at }
-    requires slot { cleared at ≡ at }
+    requires slot { HasSlot image.now.bytes.now at }
     requires chains { AreChains image.now.bytes.now chains.now }
     ensures { IsTheOne (IsLink image.now.bytes.now (next_of at)) result }
 {
@@ -30,8 +29,7 @@ pub(crate) fn next_link<A: Allocator>(image: &Volume, at: usize, chains: &Chains
 /// The first header of an opened directory.
 #[tactic(auto, using(crate::proofs::Links::first_named, crate::proofs::Links::no_first))]
 pub(crate) fn first_link<A: Allocator>(image: &Volume, at: usize, chains: &Chains<A>) -> Option<u32>
-    requires inside { IsInside image.now.bytes.now at }
-    requires slot { cleared at ≡ at }
+    requires slot { HasSlot image.now.bytes.now at }
     requires chains { AreChains image.now.bytes.now chains.now }
     ensures { IsTheOne (IsLink image.now.bytes.now (first_of at)) result }
 {

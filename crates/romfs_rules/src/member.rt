@@ -1,9 +1,9 @@
 //! What a header is to the directories in whose chains it stands.
 
-ghost use Rattle.std.specs.Prelude.{◌≡◌, ◌+◌, ◌/◌, ◌<◌, ◌↔◌, false, IsTrue};
-ghost use Rattle.romfs_format.specs.Fields.{IsInside, cleared};
+ghost use Rattle.std.specs.Prelude.{◌+◌, ◌/◌, ◌<◌, ◌↔◌, false, IsTrue};
+ghost use Rattle.romfs_format.specs.Fields.{IsInside};
 ghost use Rattle.romfs_format.specs.Chains.{IsDotted, IsOpened, IsSomeMember};
-ghost use Rattle.romfs_rules.specs.Marks.{Opens};
+ghost use Rattle.romfs_rules.specs.Marks.{HasSlot, Opens};
 ghost use Rattle.romfs_rules.specs.Leads.{IsInSomeChain, StandsKept};
 ghost use Rattle.romfs_rules.specs.InChains.{AreChains};
 
@@ -35,8 +35,7 @@ pub(crate) fn opens(image: &Volume, at: usize) -> bool
 
 /// Whether a header stands in a chain.
 pub(crate) fn is_in_chain<A: Allocator>(image: &Volume, at: usize, chains: &Chains<A>) -> bool
-    requires inside { IsInside image.now.bytes.now at }
-    requires slot { cleared at ≡ at }
+    requires slot { HasSlot image.now.bytes.now at }
     requires chains { AreChains image.now.bytes.now chains.now }
     ensures { IsTrue result ↔ IsInSomeChain image.now.bytes.now at }
 {
@@ -44,10 +43,8 @@ pub(crate) fn is_in_chain<A: Allocator>(image: &Volume, at: usize, chains: &Chai
 }
 
 /// Whether a header is a directory that is opened.
-#[tactic(auto, using(crate::proofs::Standing::opened, crate::proofs::Standing::opened_root))]
 pub(crate) fn is_opened<A: Allocator>(image: &Volume, at: usize, chains: &Chains<A>) -> bool
-    requires inside { IsInside image.now.bytes.now at }
-    requires slot { cleared at ≡ at }
+    requires slot { HasSlot image.now.bytes.now at }
     requires chains { AreChains image.now.bytes.now chains.now }
     ensures { IsTrue result ↔ IsOpened image.now.bytes.now at }
 {
@@ -56,8 +53,7 @@ pub(crate) fn is_opened<A: Allocator>(image: &Volume, at: usize, chains: &Chains
 
 // Whether a header stands in a chain, the root's in another than its own.
 fn stands_kept<A: Allocator>(image: &Volume, at: usize, chains: &Chains<A>) -> bool
-    requires inside { IsInside image.now.bytes.now at }
-    requires slot { cleared at ≡ at }
+    requires slot { HasSlot image.now.bytes.now at }
     requires chains { AreChains image.now.bytes.now chains.now }
     ensures { IsTrue result ↔ StandsKept image.now.bytes.now at }
 {
@@ -70,8 +66,7 @@ fn stands_kept<A: Allocator>(image: &Volume, at: usize, chains: &Chains<A>) -> b
 
 /// Whether a header is a member of some directory.
 pub(crate) fn is_some_member<A: Allocator>(image: &Volume, at: usize, chains: &Chains<A>) -> bool
-    requires inside { IsInside image.now.bytes.now at }
-    requires slot { cleared at ≡ at }
+    requires slot { HasSlot image.now.bytes.now at }
     requires chains { AreChains image.now.bytes.now chains.now }
     ensures { IsTrue result ↔ IsSomeMember image.now.bytes.now at }
 {

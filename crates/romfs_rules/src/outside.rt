@@ -1,9 +1,8 @@
 //! Headers that are reached, and lie outside the image.
 
 ghost use Rattle.std.specs.Prelude.{◌≡◌, ◌*◌, ◌/◌, ◌<◌};
-ghost use Rattle.romfs_format.specs.Fields.{IsInside, cleared};
 ghost use Rattle.romfs_format.specs.Links.{IsTarget, IsReached};
-ghost use Rattle.romfs_rules.specs.Marks.{AreMarks};
+ghost use Rattle.romfs_rules.specs.Marks.{HasSlot, AreMarks};
 ghost use Rattle.romfs_rules.specs.InChains.{AreChains};
 ghost use Rattle.romfs_rules.specs.Leads.{IsTheOne};
 ghost use Rattle.romfs_rules.specs.Outside.{Names, NamesDestination, IsLeast, IsBelow, IsPastEnd, lesser, Notes};
@@ -33,8 +32,7 @@ fn named_destination<A: Allocator>(
     chains: &Chains<A>,
     targets: &SlotSet<A>,
 ) -> Option<u32>
-    requires inside { IsInside image.now.bytes.now at }
-    requires slot { cleared at ≡ at }
+    requires slot { HasSlot image.now.bytes.now at }
     requires chains { AreChains image.now.bytes.now chains.now }
     requires targets { AreMarks image.now.bytes.now (IsTarget image.now.bytes.now) targets.now }
     ensures { IsTheOne (NamesDestination image.now.bytes.now at) result }
@@ -89,8 +87,7 @@ fn note_named<A: Allocator>(
     chains: &Chains<A>,
     targets: &SlotSet<A>,
 ) -> Outside
-    requires inside { IsInside image.now.bytes.now at }
-    requires slot { cleared at ≡ at }
+    requires slot { HasSlot image.now.bytes.now at }
     requires chains { AreChains image.now.bytes.now chains.now }
     requires targets { AreMarks image.now.bytes.now (IsTarget image.now.bytes.now) targets.now }
     ensures below { Notes (Names image.now.bytes.now at) (IsBelow image.now.bytes.now) found.below result.below }

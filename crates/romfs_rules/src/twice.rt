@@ -1,9 +1,8 @@
 //! The headers that two links name.
 
 ghost use Rattle.std.specs.Prelude.{◌≡◌, ◌+◌, ◌*◌, ◌<◌, ◌/◌, length, IfOk};
-ghost use Rattle.romfs_format.specs.Fields.{IsInside, cleared};
 ghost use Rattle.romfs_format.specs.Rules.{IsLinkedTwice};
-ghost use Rattle.romfs_rules.specs.Marks.{AreMarks, IsListOf};
+ghost use Rattle.romfs_rules.specs.Marks.{HasSlot, AreMarks, IsListOf};
 ghost use Rattle.romfs_rules.specs.InChains.{AreChains};
 ghost use Rattle.romfs_rules.specs.Twice.{Counts, CountsBoth};
 
@@ -48,8 +47,7 @@ fn count_links<A: Allocator>(
     once: &mut SlotSet<A>,
     twice: &mut SlotSet<A>,
 )
-    requires inside { IsInside image.now.bytes.now at }
-    requires slot { cleared at ≡ at }
+    requires slot { HasSlot image.now.bytes.now at }
     requires chains { AreChains image.now.bytes.now chains.now }
     requires once { length once.old ≡ length image.now.bytes.now / 16 }
     requires twice { length twice.old ≡ length image.now.bytes.now / 16 }

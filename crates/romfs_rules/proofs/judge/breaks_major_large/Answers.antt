@@ -1,5 +1,8 @@
+use Rattle.romfs_rules.proofs.Judging.{and_known, and_not}
 use Rattle.romfs_rules.proofs.judge.breaks_major_large.Goals as goal
 
 pub returns-then-is_major_large : goal.returns-then-is_major_large
-returns-then-is_major_large g c =
-    (λ t. (c.is_used.ensures.0 t, c.is_major_large.ensures.0 c.if-is_major_large.true), λ x. c.is_used.ensures.1 x.0)
+returns-then-is_major_large g c = and_known c.is_major_large.ensures c.if-is_major_large.true c.is_used.ensures
+
+pub returns-else-is_major_large : goal.returns-else-is_major_large
+returns-else-is_major_large g c = and_not c.is_major_large.ensures c.if-is_major_large.false

@@ -1,11 +1,10 @@
-use Rattle.std.proofs.Common.{◌*◌, arith, length, refl, sym, subst}
-use Rattle.romfs_rules.specs.Judge.{HasSlot}
-use Rattle.romfs_rules.proofs.Slots.{cleared_root}
-use Rattle.romfs_rules.proofs.Verdict.{root_first, scan_more, scanned_to, scan_all, slot_reached, at_root, at_slot, root_kept, root_slot}
+use Rattle.std.proofs.Common.{◌*◌, arith, length, refl}
+use Rattle.romfs_rules.proofs.Slots.{cleared_root, root_slot}
+use Rattle.romfs_rules.proofs.Verdict.{root_first, scan_more, scanned_to, scan_all, slot_reached, at_root, at_slot, root_kept}
 use Rattle.romfs_rules.proofs.judge.fault_inside.Goals as goal
 
 pub fault_at-requires-clause-slot : goal.fault_at-requires-clause-slot
-fault_at-requires-clause-slot g c = subst (HasSlot c.args.image.now.bytes.now) (sym c.args.image.now.rooted) (root_slot c.args.profile c.args.image.now.bytes.now c.args.image.now.keeps)
+fault_at-requires-clause-slot g c = root_slot c.args.image.now.bytes.now c.args.image.now.keeps c.args.image.now.root c.args.image.now.rooted
 
 pub returns-in-Some : goal.returns-in-Some
 returns-in-Some g c = at_root c.args.profile c.args.image.now.bytes.now c.args.image.now.keeps c.in-Some.fault c.args.image.now.root c.args.image.now.rooted c.in-Some.ensures

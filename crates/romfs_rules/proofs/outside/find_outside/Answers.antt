@@ -1,11 +1,19 @@
 use Rattle.std.proofs.Common.{◌≡◌, ◌*◌, ◌/◌, ℕ, Option, None, subst, arith, length}
 use Rattle.romfs_rules.specs.Outside.{IsBelow, IsPastEnd, Names, Notes}
-use Rattle.romfs_rules.proofs.Slots.{slot_inside, cleared_root, inside_root}
+use Rattle.romfs_rules.proofs.Slots.{slot_inside, slot_at, root_slot, cleared_root, inside_root}
 use Rattle.romfs_rules.proofs.Reach.{IsFoundBefore, nothing, scans, scanned_to, all_scanned}
 use Rattle.romfs_rules.proofs.outside.find_outside.Goals as goal
 
 pub note_named-found-requires-clause-slot : goal.note_named-found-requires-clause-slot
-note_named-found-requires-clause-slot g c = let t = c.args.image.now.rooted in rw t (cleared_root c.args.image.now.bytes.now)
+note_named-found-requires-clause-slot g c = root_slot c.args.image.now.bytes.now c.args.image.now.keeps c.args.image.now.root c.args.image.now.rooted
+
+pub note_named-found-requires-in-Some-clause-slot : goal.note_named-found-requires-in-Some-clause-slot
+note_named-found-requires-in-Some-clause-slot g c =
+    let l = c.in-Some.ensures.low in
+    let h = c.in-Some.ensures.high in
+    let s = c.requires.chains.headers.sized in
+    let b = c.loop-slot.invariant.behind in
+    slot_at c.args.image.now.bytes.now c.in-Some.slot (omega arith) (omega arith)
 
 pub loop-slot-init : goal.loop-slot-init
 loop-slot-init g c =

@@ -4,6 +4,12 @@ use Rattle.romfs_rules.proofs.Destined.{Reaches, passes, skips, skipped_to, all_
 use Rattle.romfs_rules.proofs.targets.mark_targets.Goals as goal
 use Rattle.romfs_rules.proofs.targets.mark_targets.Goals.{then-is_hard_link+then-is_some_member, else-is_hard_link, else-is_hard_link-via-then-is_hard_link+else-is_some_member, else-is_hard_link-via-else-is_hard_link}
 
+pub is_some_member-requires-clause-slot : goal.is_some_member-requires-clause-slot
+is_some_member-requires-clause-slot g c = record {
+  inside = (c.is_hard_link.ensures.0 c.if-is_hard_link.true).0;
+  aligned = omega arith;
+}
+
 pub loop-slot-preserved : goal.loop-slot-preserved
 loop-slot-preserved g c =
     let image = c.args.image.now.bytes.now in

@@ -1,6 +1,6 @@
 use Rattle.std.proofs.Common.{◌≡◌, ◌*◌, ◌/◌, subst, arith, length}
 use Rattle.romfs_rules.specs.Twice.{CountsBoth}
-use Rattle.romfs_rules.proofs.Slots.{cleared_root}
+use Rattle.romfs_rules.proofs.Slots.{cleared_root, slot_at, root_slot}
 use Rattle.romfs_rules.proofs.Counted.{Tallied, Below, none_tallied, passes, skipped_to, all_twice}
 use Rattle.romfs_rules.proofs.twice.mark_twice.Goals as goal
 
@@ -22,7 +22,15 @@ loop-slot-init g c =
     }
 
 pub count_links-requires-clause-slot : goal.count_links-requires-clause-slot
-count_links-requires-clause-slot g c = let t = c.args.image.now.rooted in rw t (cleared_root c.args.image.now.bytes.now)
+count_links-requires-clause-slot g c = root_slot c.args.image.now.bytes.now c.args.image.now.keeps c.args.image.now.root c.args.image.now.rooted
+
+pub count_links-requires-in-Some-clause-slot : goal.count_links-requires-in-Some-clause-slot
+count_links-requires-in-Some-clause-slot g c =
+    let l = c.in-Some.ensures.next.low in
+    let h = c.in-Some.ensures.next.high in
+    let s = c.requires.chains.headers.sized in
+    let b = c.loop-slot.invariant.behind in
+    slot_at c.args.image.now.bytes.now c.in-Some.slot (omega arith) (omega arith)
 
 pub loop-slot-preserved : goal.loop-slot-preserved
 loop-slot-preserved g c =
