@@ -1,14 +1,17 @@
 //! What small stacks show and cut.
 
-use crate::layers::Is::{Directory, File, Hard};
-use crate::layers::other_of_stack;
+use crate::listings::Is::{Directory, File, Hard};
+use crate::listings::Row;
+use crate::trees::bracketings::{FOUR, FOUR_SEEN};
+use crate::trees::layers::{Seen, other_of_stack};
 use std::test::Fail;
 
-#[test]
-fn a_marker_for_one_name(rt: HostRuntime) -> Result<(), Fail> {
-    let other = other_of_stack(
-        &rt,
-        rt.alloc(),
+/// Layers, the lowest first, and what their stack says.
+type Stack<'a> = (&'a [&'a [Row<'a>]], &'a [Seen<'a>]);
+
+const STACKS: [Stack<'static>; 8] = [
+    // A marker for one name.
+    (
         &[
             &[
                 (1, b"a", Directory),
@@ -28,16 +31,9 @@ fn a_marker_for_one_name(rt: HostRuntime) -> Result<(), Fail> {
             (&[b"b", b"c"], None, true),
             (&[b"a", b".wh.x"], None, false),
         ],
-    )?;
-    assert_eq!(rt; other, None);
-    Ok(())
-}
-
-#[test]
-fn an_opaque_marker_beside_a_marker_for_a_name_of_its_layer(rt: HostRuntime) -> Result<(), Fail> {
-    let other = other_of_stack(
-        &rt,
-        rt.alloc(),
+    ),
+    // An opaque marker beside a marker for a name of its layer.
+    (
         &[
             &[(1, b"a", Directory), (2, b"x", File), (2, b"y", File)],
             &[
@@ -52,16 +48,9 @@ fn an_opaque_marker_beside_a_marker_for_a_name_of_its_layer(rt: HostRuntime) -> 
             (&[b"a", b"x"], None, true),
             (&[b"a", b"y"], Some(1), true),
         ],
-    )?;
-    assert_eq!(rt; other, None);
-    Ok(())
-}
-
-#[test]
-fn a_hard_link_outlives_its_target(rt: HostRuntime) -> Result<(), Fail> {
-    let other = other_of_stack(
-        &rt,
-        rt.alloc(),
+    ),
+    // A hard link outlives its target.
+    (
         &[
             &[(1, b"k", File), (1, b"m", Hard(0))],
             &[(1, b".wh.k", File), (1, b".wh.none", File)],
@@ -71,16 +60,9 @@ fn a_hard_link_outlives_its_target(rt: HostRuntime) -> Result<(), Fail> {
             (&[b"m"], Some(0), true),
             (&[b"none"], None, true),
         ],
-    )?;
-    assert_eq!(rt; other, None);
-    Ok(())
-}
-
-#[test]
-fn markers_in_odd_places(rt: HostRuntime) -> Result<(), Fail> {
-    let other = other_of_stack(
-        &rt,
-        rt.alloc(),
+    ),
+    // Markers in odd places.
+    (
         &[
             &[(1, b"a", File), (1, b"b", File)],
             &[
@@ -97,32 +79,18 @@ fn markers_in_odd_places(rt: HostRuntime) -> Result<(), Fail> {
             (&[b".wh.x"], None, false),
             (&[b"b"], Some(0), true),
         ],
-    )?;
-    assert_eq!(rt; other, None);
-    Ok(())
-}
-
-#[test]
-fn a_file_over_a_directory_over_a_file(rt: HostRuntime) -> Result<(), Fail> {
-    let other = other_of_stack(
-        &rt,
-        rt.alloc(),
+    ),
+    // A file over a directory over a file.
+    (
         &[
             &[(1, b"b", File)],
             &[(1, b"b", Directory), (2, b"c", File)],
             &[(1, b"b", File)],
         ],
         &[(&[b"b"], Some(2), true), (&[b"b", b"c"], None, true)],
-    )?;
-    assert_eq!(rt; other, None);
-    Ok(())
-}
-
-#[test]
-fn an_opaque_marker_in_the_root(rt: HostRuntime) -> Result<(), Fail> {
-    let other = other_of_stack(
-        &rt,
-        rt.alloc(),
+    ),
+    // An opaque marker in the root.
+    (
         &[
             &[(1, b"b", File)],
             &[(1, b".wh..wh..opq", File), (1, b"c", File)],
@@ -132,23 +100,25 @@ fn an_opaque_marker_in_the_root(rt: HostRuntime) -> Result<(), Fail> {
             (&[b"b"], None, true),
             (&[b"c"], Some(1), true),
         ],
-    )?;
-    assert_eq!(rt; other, None);
-    Ok(())
-}
-
-#[test]
-fn only_markers_below_a_layer_that_brings_the_names_back(rt: HostRuntime) -> Result<(), Fail> {
-    let other = other_of_stack(
-        &rt,
-        rt.alloc(),
+    ),
+    // Only markers below a layer that brings the names back.
+    (
         &[
             &[(1, b"a", File), (1, b"b", File)],
             &[(1, b".wh.a", File), (1, b".wh.b", File)],
             &[(1, b"a", File)],
         ],
         &[(&[b"a"], Some(2), true), (&[b"b"], None, true)],
-    )?;
-    assert_eq!(rt; other, None);
+    ),
+    // Four layers.
+    (&FOUR, &FOUR_SEEN),
+];
+
+#[test]
+fn small_stacks(rt: HostRuntime) -> Result<(), Fail> {
+    for (index, (layers, seen)) in STACKS.iter().enumerate() {
+        let other = other_of_stack(&rt, rt.alloc(), layers, seen)?;
+        assert_eq!(rt; other, None, "stack {index}");
+    }
     Ok(())
 }
