@@ -13,5 +13,5 @@ abbrev pub word_at : List Bool → List ℕ → ℕ → ℕ
 word_at set words k = cond (get_or set k false) (get_or words (rank set k) 0) 0
 
 -- the numbers by slot
-unfoldable pub spread : List Bool → List ℕ → List ℕ
-spread set words = map (word_at set words) (range_with_len 0 (length set))
+unfoldable pub words_by_slot : List Bool → List ℕ → List ℕ
+words_by_slot set words = map (word_at set words) (range_with_len 0 (length set))

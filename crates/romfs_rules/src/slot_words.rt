@@ -20,12 +20,12 @@ pub(crate) struct SlotWords<'s, A: Allocator> {
 impl<'s, A: Allocator> Model for SlotWords<'s, A> {
     ghost use Rattle.std.specs.Prelude.{◌≡◌, ◌^◌, ◌<◌, length};
     ghost use Rattle.romfs_rules.specs.SlotSets.{rank};
-    ghost use Rattle.romfs_rules.specs.SlotWords.{Words, spread};
+    ghost use Rattle.romfs_rules.specs.SlotWords.{Words, words_by_slot};
 
     ghost Value = { Words };
 
     ghost view = { λ held.
-        record { slots = held.numbers; by_slot = spread held.numbers held.words.items } };
+        record { slots = held.numbers; by_slot = words_by_slot held.numbers held.words.items } };
 
     ghost invariant = { λ held. (length held.words.items ≡ rank held.numbers (length held.numbers))
         × (length held.numbers < 2 ^ 32) };

@@ -1,6 +1,6 @@
 use Rattle.std.proofs.Common.{◌≡◌, ◌∙◌, ap, get_or, set, false, true, arith}
 use Rattle.romfs_rules.specs.SlotSets.{rank}
-use Rattle.romfs_rules.specs.SlotWords.{Words, spread}
+use Rattle.romfs_rules.specs.SlotWords.{Words, words_by_slot}
 use Rattle.romfs_rules.proofs.Spreading.{number_fits, put_is}
 use Rattle.romfs_rules.proofs.slot_words.SlotWords.put.Goals as goal
 
@@ -21,5 +21,5 @@ returns-clause-put g c =
     let m : get_or slots slot false ≡ true = ap (λ (w : Words). get_or w.slots slot false) c.self.view_is ∙ c.requires in
     let f = number_fits slots words slot m c.self.invariant.0 in
     let n : c.number-number.result ≡ rank slots slot = c.number-number.ensures in
-    ap (λ x. spread slots (set words x c.args.word)) n ∙ put_is slots words slot m c.args.word f
+    ap (λ x. words_by_slot slots (set words x c.args.word)) n ∙ put_is slots words slot m c.args.word f
     ∙ ap (λ (w : Words). set w.by_slot slot c.args.word) c.self.view_is
