@@ -92,7 +92,7 @@ fn kept_below<T: Copy + Drop, A: Allocator + Copy>(
     }
     lows.reverse();
     let mut rest = marks;
-    let mut kept = Vec::new(alloc);
+    let mut kept = Vec::with_capacity(alloc, lows.len())?;
     while let Some(low) = lows.pop() {
         rest = from_name(rest, low.name());
         match first_named(rest, low.name()) {

@@ -1,6 +1,6 @@
 //! Bytes on their way to a sink.
 
-ghost use Rattle.std.specs.Prelude.{◌≡◌, ◌≤◌, ◌<◌, ◌+◌, ◌^◌, [], ◌++◌, length, OnOk, vec_len, vec_capacity};
+ghost use Rattle.std.specs.Prelude.{◌≡◌, ◌≤◌, ◌<◌, ◌+◌, ◌^◌, [], ◌∷◌, ◌++◌, length, OnOk, vec_len, vec_capacity};
 ghost use Rattle.std.specs.Io.KnownBytes.{Appends};
 ghost use Rattle.devices.specs.Counting.{Settles};
 ghost use Rattle.path_list.specs.Walks.{Gains};
@@ -14,6 +14,16 @@ fn append<A: Allocator>(room: &mut Vec<u8, A>, bytes: &[u8])
     ensures { room.new.items ≡ room.old.items ++ bytes.now }
 {
     let Ok(()) = room.extend_from_slice(bytes) else {
+        unreachable!()
+    };
+}
+
+// Appends a byte for which there is room.
+fn append_byte<A: Allocator>(room: &mut Vec<u8, A>, byte: u8)
+    requires { vec_len room.old < vec_capacity room.old }
+    ensures { room.new.items ≡ room.old.items ++ byte ∷ [] }
+{
+    let Ok(()) = room.push(byte) else {
         unreachable!()
     };
 }
@@ -55,4 +65,22 @@ pub(crate) fn put<K: Sink, A: Allocator>(
         return Ok(());
     }
     hand_on(sink, bytes)
+}
+
+// Puts a byte.
+pub(crate) fn put_byte<K: Sink, A: Allocator>(
+    sink: &mut K,
+    room: &mut Vec<u8, A>,
+    byte: u8,
+) -> Result<(), Failed>
+    requires { (K.counts sink.old).failures < 2 ^ 63 }
+    ensures gained { OnOk result (Gains (K.held sink.old) room.old.items
+        (K.held sink.new) room.new.items (byte ∷ [])) }
+    ensures counted { Settles result (K.counts sink.old) (K.counts sink.new) }
+{
+    if room.len() < room.capacity() {
+        append_byte(room, byte);
+        return Ok(());
+    }
+    put(sink, room, &[byte])
 }

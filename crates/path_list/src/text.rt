@@ -6,7 +6,7 @@ ghost use Rattle.devices.specs.Counting.{Settles};
 ghost use Rattle.path_list.specs.Lines.{hex_digit, escaped, name_text, names_text, path_text, octal_digit, mode_text, is_unescaped, spaced};
 ghost use Rattle.path_list.specs.Walks.{Gains, GainsAllBut, way};
 
-use crate::room::put;
+use crate::room::{put, put_byte};
 use crate::trail::Trail;
 use devices::{Failed, Sink};
 use itoa::Buffer;
@@ -59,7 +59,7 @@ fn put_escaped<K: Sink, A: Allocator>(
     ensures counted { Settles result (K.counts sink.old) (K.counts sink.new) }
 {
     if is_unescaped(byte) {
-        put(sink, room, &[byte])
+        put_byte(sink, room, byte)
     } else {
         put(
             sink,
@@ -135,7 +135,7 @@ fn put_step<K: Sink, A: Allocator>(
         (K.held sink.new) room.new.items (47 ∷ name_text name.now)) }
     ensures counted { Settles result (K.counts sink.old) (K.counts sink.new) }
 {
-    put(sink, room, b"/")?;
+    put_byte(sink, room, b'/')?;
     put_name(sink, room, name)
 }
 
@@ -171,7 +171,7 @@ pub(crate) fn put_path<K: Sink, A: Allocator>(
     ensures counted { Settles result (K.counts sink.old) (K.counts sink.new) }
 {
     match trail {
-        None => put(sink, room, b"/"),
+        None => put_byte(sink, room, b'/'),
         Some(here) => {
             put_names(sink, room, here.above)?;
             put_step(sink, room, here.name)
@@ -192,7 +192,7 @@ pub(crate) fn put_number<K: Sink, A: Allocator>(
 {
     let mut digits = Buffer::new();
     put(sink, room, digits.format(number).as_bytes())?;
-    put(sink, room, b" ")
+    put_byte(sink, room, b' ')
 }
 
 // Puts a mode, and a space.

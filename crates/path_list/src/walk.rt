@@ -8,7 +8,7 @@ ghost use Rattle.path_list.specs.Lines.{lines};
 ghost use Rattle.path_list.specs.Faults.{Lists, IsBrokenOff};
 ghost use Rattle.path_list.specs.Walks.{Gains, IsVisited, way, line_at, lines_below};
 
-use crate::room::{drain, put};
+use crate::room::{drain, put_byte};
 use crate::text::{put_mode, put_number, put_path};
 use crate::trail::Trail;
 use devices::{Failed, Sink};
@@ -73,7 +73,7 @@ fn put_line<K: Sink, A: Allocator, B: Allocator>(
     put_number(sink, room, attr.size)?;
     put_number(sink, room, u64::from(node.place.layer))?;
     put_path(sink, room, trail)?;
-    put(sink, room, b"\n")
+    put_byte(sink, room, b'\n')
 }
 
 // Puts the lines of all paths below that of a number. No recursion goes deeper than the paths are long.

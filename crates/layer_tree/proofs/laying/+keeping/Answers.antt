@@ -11,12 +11,12 @@ kept_below-returns-then-is_empty g t c =
     rw (empty c.args.marks.now e) (no_marks c.args.lows.items c.requires.lows)
 
 pub kept_below-loop-low-init : goal.kept_below-loop-low-init
-kept_below-loop-low-init g t c = rw c.new-kept.ensures.items
+kept_below-loop-low-init g t c = rw c.in_ok-kept.ensures.items
     (keeping_begun c.args.lows.items c.reverse.new.self.items c.args.marks.now c.requires.lows
     c.requires.marks.names c.reverse.ensures.items (reverse-reverse _))
 
-pub kept_below-loop-low-preserved-in-Continue-1 : goal.kept_below-loop-low-preserved-in-Continue-1
-kept_below-loop-low-preserved-in-Continue-1 g t c =
+pub kept_below-loop-low-preserved-in-Continue-branch-2 : goal.kept_below-loop-low-preserved-in-Continue-branch-2
+kept_below-loop-low-preserved-in-Continue-branch-2 g t c =
     untouched c.args.lows.items c.loop-low.lows.items c.pop.new.self.items c.loop-low.kept.items
     c.args.marks.now c.loop-low.rest.now c.from_name-rest.result.now c.in-Some.low c.loop-low.invariant
     c.in-Some.ensures.items (rw (← c.name.ensures) c.from_name-rest.ensures) c.push.new.self.items
@@ -29,8 +29,8 @@ kept_below-kept_of-requires g t c κs within =
     c.in-Some.ensures.items (rw (← c.name.ensures) c.from_name-rest.ensures) in
     search (rules, m)
 
-pub kept_below-loop-low-preserved-in-Continue-branch-4 : goal.kept_below-loop-low-preserved-in-Continue-branch-4
-kept_below-loop-low-preserved-in-Continue-branch-4 g t c =
+pub kept_below-loop-low-preserved-in-Continue-branch-5 : goal.kept_below-loop-low-preserved-in-Continue-branch-5
+kept_below-loop-low-preserved-in-Continue-branch-5 g t c =
     kept_one c.args.lows.items c.loop-low.lows.items c.pop.new.self.items c.loop-low.kept.items
     c.args.marks.now c.loop-low.rest.now c.from_name-rest.result.now c.in-Some.low c.loop-low.invariant
     c.in-Some.ensures.items (rw (← c.name.ensures) c.from_name-rest.ensures)
