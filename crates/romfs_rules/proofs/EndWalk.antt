@@ -168,9 +168,6 @@ module _ (a : List ℕ) (ends : List End) where
   meets from at m n marks g e z o p = let h = g.high (at / 16) in let q : m ≡ suc n = omega arith in
       subst (λ y. EndsAs a y (get_or ends n AtDirectory)) g.aligned (g.past (at / 16) n (e ∙ q) (omega arith))
 
-  pub read : (from at m : ℕ) (marks : List ℕ) → Going a ends from at marks → IsHardLink a at → m ≡ get_or marks (at / 16) m → get_or marks (at / 16) 0 ≡ m
-  read from at m marks g l e = get_or_default marks (at / 16) 0 m (let i = l.0.1 in let s = g.sized in omega arith) ∙ sym e
-
 -- what a walk that is under way has left of the marks from before it, and of where it began
 pub record Passing (from at : ℕ) (before marks : List ℕ) : Type 0 where
   pub sized : length marks ≡ length before
@@ -275,9 +272,6 @@ module _ (a : List ℕ) (walks : Words) (ends : List End) (at : ℕ) (k : KnowsE
   module _ (walk : ℕ) (is : walk ≡ get_or walks.by_slot (at / 16) 0) where
     reads : get_or walks.by_slot (at / 16) 0 ≡ suc (walk - 1)
     reads = let m = k.known.all at k.target k.hard in omega arith
-
-    pub walk_counts : walk ≢ 0
-    walk_counts e = k.known.all at k.target k.hard (sym is ∙ e)
 
     pub ended_in : walk - 1 < length ends
     ended_in = (k.known.known.each (at / 16) (walk - 1) reads).0

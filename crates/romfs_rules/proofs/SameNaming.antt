@@ -95,13 +95,6 @@ module _ (a : List ℕ) where
         all = λ g x j. (p.0, p.1 ∙ e ∙ sym x.1);
       }
 
-  pub no_number : (heads : List ℕ) (h after : ℕ) → after ≡ next a h → ((after ≡ 0) ⊎ (¬ IsInside a after)) → IsNextNumber a heads h (length heads)
-  no_number heads h after e o = record {
-    below = omega arith;
-    only = λ k. absurd (omega arith);
-    all = λ g x j. elim o [ inl z ↦ absurd (x.2 (x.1 ∙ sym e ∙ z)) | inr n ↦ absurd (n (subst (λ y. IsInside a y) (x.1 ∙ sym e) j)) ];
-  }
-
 -- the name that a header keeps
 none_some : (q : List ℕ) → ◌≡◌ {A = Option (List ℕ)} None (Some q) → ⊥
 none_some q e = cc

@@ -74,10 +74,6 @@ module _ (a : List ℕ) where
   link_in h (inl c) = link_to (root a) c.0 h (at_root refl) c.1
   link_in h (inr e) = link_to e.dir e.in_chain.0 h e.opened e.in_chain.1
 
-  -- the headers that links name are those in a chain
-  pub some_link : (h : ℕ) → ((f : Field) × IsLink a f h) ↔ IsInSomeChain a h
-  some_link h = (λ l. linked l.0 h l.1, link_in h)
-
   pub reached : (h : ℕ) → IsReached a h ↔ ((h ≡ root a) ⊎ IsInRootChain a h ⊎ IsElsewhere a h ⊎ IsTarget a h)
   reached h = (to, from)
     where

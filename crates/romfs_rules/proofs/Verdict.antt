@@ -165,9 +165,6 @@ module _ (profile : Profile) (a : List ℕ) (h : ℕ) where
       → BreaksHeaderAs profile a r h → IsFirstRule profile a h r
   first_broken r n e x k b = record { rule = x; broken = b; before = subst (λ m. KeepsBefore profile a h m) (sym e) k }
 
-  pub all_tried : KeepsBefore profile a h 17 → KeepsHeaderRules profile a h
-  all_tried k = record { keeps = λ s x b. k.keeps s x x.1 b }
-
 -- a scan over the slots, upward
 module _ (profile : Profile) (a : List ℕ) (v : IsVolumeImage a) where
   -- where the root's header stands elsewhere the scan ends there

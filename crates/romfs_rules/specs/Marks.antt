@@ -47,6 +47,17 @@ pub record IsElsewhere (a : List ℕ) (h : ℕ) : Type 0 where
   pub opened : IsOpened a dir
   pub in_chain : IsInChain a dir h
 
+-- the root's header does
+abbrev pub HasRootElsewhere : List ℕ → Type 0
+HasRootElsewhere a = IsElsewhere a (root a)
+
+-- the marks are those of the root's chain, of the chains of other opened directories
+abbrev pub AreInRootChain : List ℕ → List Bool → Type 0
+AreInRootChain a marks = AreMarks a (IsInRootChain a) marks
+
+abbrev pub AreElsewhere : List ℕ → List Bool → Type 0
+AreElsewhere a marks = AreMarks a (IsElsewhere a) marks
+
 -- the header opens as a directory wherever it is a member
 pub record Opens (a : List ℕ) (h : ℕ) : Type 0 where
   pub inside : IsInside a h

@@ -3,7 +3,7 @@ use Rattle.std.specs.Prelude.{◌≡◌, ℕ, ◌+◌, ◌<◌, ◌≤◌, ◌�
 use Rattle.romfs_format.specs.declared.limits.TheConstants.{HEAD_SIZE}
 use Rattle.romfs_format.specs.Fields.{root}
 use Rattle.romfs_format.specs.Chains.{IsSomeMember}
-use Rattle.romfs_format.specs.Links.{first_of, next_of, IsLink, IsHardLink, destination, IsTarget}
+use Rattle.romfs_format.specs.Links.{first_of, next_of, IsLink, IsHardLink, destination, IsTarget, IsReached}
 
 -- g is the destination of h, a hard link that is a member or that a member's hard link leads over
 abbrev pub NamesDestination : List ℕ → ℕ → ℕ → Type 0
@@ -25,6 +25,13 @@ IsBelow a h = h < root a
 -- from the root's header on, and not whole in the image
 abbrev pub IsPastEnd : List ℕ → ℕ → Type 0
 IsPastEnd a h = (root a ≤ h) × (length a < h + HEAD_SIZE)
+
+-- the least reached header before the root's, and the least from there on that is not whole in the image
+abbrev pub IsLeastBelow : List ℕ → Option ℕ → Type 0
+IsLeastBelow a least = IsLeast (λ h. IsReached a h × IsBelow a h) least
+
+abbrev pub IsLeastPastEnd : List ℕ → Option ℕ → Type 0
+IsLeastPastEnd a least = IsLeast (λ h. IsReached a h × IsPastEnd a h) least
 
 -- the lesser of a word and what was found before
 abbrev pub lesser : Option ℕ → ℕ → ℕ

@@ -1,8 +1,12 @@
 -- Sets of headers that hold each hard link's destination with it.
 use Rattle.std.specs.Prelude.{◌≡◌, ℕ, ◌*◌, ◌⊎◌, List, length, Bool, true, false, get_or}
 use Rattle.romfs_format.specs.Fields.{IsInside}
-use Rattle.romfs_format.specs.Links.{IsHardLink, destination, IsDestination}
-use Rattle.romfs_rules.specs.Marks.{IsMarked}
+use Rattle.romfs_format.specs.Links.{IsHardLink, destination, IsDestination, IsTarget}
+use Rattle.romfs_rules.specs.Marks.{IsMarked, AreMarks}
+
+-- the marks are those of the headers on destination chains of members
+abbrev pub AreTargets : List ℕ → List Bool → Type 0
+AreTargets a marks = AreMarks a (IsTarget a) marks
 
 -- where h leads has a mark, or lies outside
 abbrev pub IsFollowed : List ℕ → List Bool → ℕ → Type 0

@@ -2,7 +2,13 @@
 use Rattle.std.specs.Prelude.{◌≡◌, ℕ, ◌/◌, ◌⊎◌, ◌↔◌, List, length, Bool, true, false, get_or, Option, Some}
 use Rattle.romfs_format.specs.Fields.{IsInside}
 use Rattle.romfs_format.specs.Links.{first_of, next_of, IsLink}
+use Rattle.romfs_format.specs.Rules.{IsLinkedTwice}
+use Rattle.romfs_rules.specs.Marks.{IsListOf}
 use Rattle.romfs_rules.specs.Leads.{IsTheOne}
+
+-- the headers that two links name, rising
+abbrev pub AreTwice : List ℕ → List ℕ → Type 0
+AreTwice a found = IsListOf a (IsLinkedTwice a) found
 
 -- k is the slot of the header to, which is there and lies in the image
 abbrev pub IsSlotOf : List ℕ → Option ℕ → ℕ → Type 0

@@ -3,7 +3,7 @@
 ghost use Rattle.std.specs.Prelude.{◌≡◌, ◌+◌, ◌/◌, ◌<◌, ◌++◌, IfOk};
 ghost use Rattle.std.specs.Option.{option_to_list};
 ghost use Rattle.romfs_format.specs.Fields.{IsInside};
-ghost use Rattle.romfs_rules.specs.Marks.{IsInRootChain, IsElsewhere, AreMarks};
+ghost use Rattle.romfs_rules.specs.Marks.{AreInRootChain, AreElsewhere};
 ghost use Rattle.romfs_rules.specs.Leads.{AreStarts, LeadsOn, Adds};
 ghost use Rattle.romfs_rules.specs.InChains.{AreChains};
 
@@ -26,7 +26,7 @@ pub(crate) struct Chains<A: Allocator> {
 
 // Marks the headers of the root's chain, up to one that lies outside or comes again.
 fn mark_root_chain<A: Allocator + Copy>(alloc: A, image: &Volume) -> Result<SlotSet<A>, AllocError>
-    ensures { IfOk result (λ marks. AreMarks image.now.bytes.now (IsInRootChain image.now.bytes.now) marks) }
+    ensures { IfOk result (AreInRootChain image.now.bytes.now) }
 {
     let mut marks = SlotSet::new(alloc, image.bytes.len() / 16)?;
     let mut at = cleared(word(image.bytes, image.root + 4)) as usize;
@@ -53,7 +53,7 @@ fn seeds<A: Allocator + Copy>(
     image: &Volume,
     root_chain: &SlotSet<A>,
 ) -> Result<Vec<u32, A>, AllocError>
-    requires root_chain { AreMarks image.now.bytes.now (IsInRootChain image.now.bytes.now) root_chain.now }
+    requires root_chain { AreInRootChain image.now.bytes.now root_chain.now }
     ensures { IfOk result (λ todo. AreStarts image.now.bytes.now todo.items) }
 {
     let mut todo = Vec::new(alloc);
@@ -68,7 +68,8 @@ fn seeds<A: Allocator + Copy>(
 // Adds what a header leads on to.
 fn follow<A: Allocator>(image: &Volume, at: usize, todo: &mut Vec<u32, A>) -> Result<(), AllocError>
     requires inside { IsInside image.now.bytes.now at }
-    ensures { IfOk result (λ _. Adds (LeadsOn image.now.bytes.now at) todo.old.items todo.new.items) }
+    ensures { IfOk result
+        (λ _. Adds (LeadsOn image.now.bytes.now at) todo.old.items todo.new.items) }
 {
     push_some(todo, next_of(image, at))?;
     push_some(todo, first_below(image, at))?;
@@ -81,8 +82,8 @@ fn mark_elsewhere<A: Allocator + Copy>(
     image: &Volume,
     root_chain: &SlotSet<A>,
 ) -> Result<SlotSet<A>, AllocError>
-    requires root_chain { AreMarks image.now.bytes.now (IsInRootChain image.now.bytes.now) root_chain.now }
-    ensures { IfOk result (λ marks. AreMarks image.now.bytes.now (IsElsewhere image.now.bytes.now) marks) }
+    requires root_chain { AreInRootChain image.now.bytes.now root_chain.now }
+    ensures { IfOk result (AreElsewhere image.now.bytes.now) }
 {
     let mut marks = SlotSet::new(alloc, image.bytes.len() / 16)?;
     let mut todo = seeds(alloc, image, root_chain)?;

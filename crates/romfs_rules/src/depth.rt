@@ -48,7 +48,8 @@ fn follow<A: Allocator>(
 ) -> Result<(), AllocError>
     requires inside { IsInside image.now.bytes.now from.header }
     requires names { from.names + 1 < 2 ^ 32 }
-    ensures { IfOk result (λ _. Adds (LeadsDown image.now.bytes.now from) todo.old.items todo.new.items) }
+    ensures { IfOk result
+        (λ _. Adds (LeadsDown image.now.bytes.now from) todo.old.items todo.new.items) }
 {
     let at = from.header as usize;
     push_some(todo, next_of(image, at), from.names)?;

@@ -13,7 +13,7 @@ ghost use Rattle.std.specs.Prelude.{◌≡◌, ℕ, List, ◌+◌, ◌*◌, ◌+
 ghost use Rattle.romfs_format.specs.Fields.{cleared};
 ghost use Rattle.romfs_format.specs.Chains.{IsSomeMember};
 ghost use Rattle.romfs_format.specs.Links.{IsHardLink, IsDirectory, IsTarget, EndsAs};
-ghost use Rattle.romfs_rules.specs.Marks.{AreMarks};
+ghost use Rattle.romfs_rules.specs.Targets.{AreTargets};
 ghost use Rattle.romfs_rules.specs.Ends.{HasEnds, AreWalkedEnds, KnowsEnd, Passes, IsUnpassed};
 
 use crate::slot::{is_hard_link, is_inside};
@@ -87,7 +87,7 @@ fn end_of<A: Allocator>(image: &Volume, from: usize, walks: &mut SlotWords<A>, e
     requires aligned { cleared from ≡ from }
     requires hard { IsHardLink image.now.bytes.now from }
     requires target { IsTarget image.now.bytes.now from }
-    requires targets { AreMarks image.now.bytes.now (IsTarget image.now.bytes.now) walks.old.slots }
+    requires targets { AreTargets image.now.bytes.now walks.old.slots }
     requires sized { length walks.old.by_slot ≡ length image.now.bytes.now / 16 }
     requires few { length ends.now + 1 < 2 ^ 32 }
     requires known { HasEnds image.now.bytes.now walks.old.by_slot ends.now }
@@ -127,7 +127,7 @@ pub(crate) fn find_ends<'s, A: Allocator + Copy>(
     image: &Volume,
     targets: &'s SlotSet<A>,
 ) -> Result<Ends<'s, A>, AllocError>
-    requires targets { AreMarks image.now.bytes.now (IsTarget image.now.bytes.now) targets.now }
+    requires targets { AreTargets image.now.bytes.now targets.now }
     ensures { IfOk result (λ found. AreWalkedEnds image.now.bytes.now found.walks found.ends.items) }
 {
     let mut walks = SlotWords::new(alloc, targets)?;

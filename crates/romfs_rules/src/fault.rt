@@ -69,8 +69,8 @@ fn fault_in<A: Allocator + Copy>(
     volume: &Volume,
     profile: Profile,
 ) -> Result<Option<ImageFault>, AllocError>
-    ensures { IfOk result (λ fault. (b : List ℕ) → image b ≡ volume.now.bytes.now → IsVolume b →
-        IsFaultOfAs profile b fault) }
+    ensures { IfOk result (λ fault. (b : List ℕ) → image b ≡ volume.now.bytes.now
+        → IsVolume b → IsFaultOfAs profile b fault) }
 {
     let header = header_fault_in(alloc, volume, profile)?;
     let deep = match header {

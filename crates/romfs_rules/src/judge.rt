@@ -7,8 +7,8 @@ ghost use Rattle.romfs_format.specs.Chains.{IsSomeMember};
 ghost use Rattle.romfs_format.specs.Links.{IsHardLink, IsReached, EndsAs};
 ghost use Rattle.romfs_format.specs.Rules.{IsVolume, IsUsed, HasData, IsDevice, IsBadName, EndsOutside};
 ghost use Rattle.romfs_format.specs.Rules.{HasLongTarget, HasLargeMajor, HasBadSum, BreaksHeader, BreaksHeaderAs};
-ghost use Rattle.romfs_rules.specs.Marks.{HasSlot, IsElsewhere};
-ghost use Rattle.romfs_rules.specs.Outside.{IsLeast, IsBelow, IsPastEnd};
+ghost use Rattle.romfs_rules.specs.Marks.{HasRootElsewhere, HasSlot};
+ghost use Rattle.romfs_rules.specs.Outside.{IsLeastBelow, IsLeastPastEnd};
 ghost use Rattle.romfs_rules.specs.Judge.{AreSets, IsHeaderRule, KeepsHeaderRules, IsFirstRule, KeepsBelow, IsFirstInside, IsHeaderFault, IsDeepFault};
 ghost use Rattle.romfs_format.specs.Rules.{IsFaultOfAs};
 
@@ -257,7 +257,7 @@ fn breaks<A: Allocator>(
     requires slot { HasSlot image.now.bytes.now at }
     requires reached { IsReached image.now.bytes.now at }
     requires rule { IsHeaderRule rule }
-    requires named { rule ≡ Rule.SameName → ¬ IsElsewhere image.now.bytes.now (root_of image.now.bytes.now) }
+    requires named { rule ≡ Rule.SameName → ¬ HasRootElsewhere image.now.bytes.now }
     ensures { IsTrue result ↔ BreaksHeaderAs profile image.now.bytes.now rule at }
 {
     match rule {
@@ -286,7 +286,7 @@ fn rule_at<A: Allocator>(
     requires sets { AreSets image.now.bytes.now sets.now }
     requires slot { HasSlot image.now.bytes.now at }
     requires reached { IsReached image.now.bytes.now at }
-    requires root_once { IsElsewhere image.now.bytes.now (root_of image.now.bytes.now) → at ≡ root_of image.now.bytes.now }
+    requires root_once { HasRootElsewhere image.now.bytes.now → at ≡ root_of image.now.bytes.now }
     ensures { MatchOption result (KeepsHeaderRules profile image.now.bytes.now at)
         (IsFirstRule profile image.now.bytes.now at) }
 {
@@ -309,7 +309,7 @@ fn fault_at<A: Allocator>(
     requires sets { AreSets image.now.bytes.now sets.now }
     requires slot { HasSlot image.now.bytes.now at }
     requires reached { IsReached image.now.bytes.now at }
-    requires root_once { IsElsewhere image.now.bytes.now (root_of image.now.bytes.now) → at ≡ root_of image.now.bytes.now }
+    requires root_once { HasRootElsewhere image.now.bytes.now → at ≡ root_of image.now.bytes.now }
     ensures { MatchOption result (KeepsHeaderRules profile image.now.bytes.now at)
         (λ f. (f.place ≡ at) × IsFirstRule profile image.now.bytes.now at f.rule) }
 {
@@ -354,8 +354,8 @@ pub(crate) fn header_fault<A: Allocator>(
     outside: Outside,
 ) -> Option<ImageFault>
     requires sets { AreSets image.now.bytes.now sets.now }
-    requires below { IsLeast (λ h. IsReached image.now.bytes.now h × IsBelow image.now.bytes.now h) outside.below }
-    requires above { IsLeast (λ h. IsReached image.now.bytes.now h × IsPastEnd image.now.bytes.now h) outside.above }
+    requires below { IsLeastBelow image.now.bytes.now outside.below }
+    requires above { IsLeastPastEnd image.now.bytes.now outside.above }
     ensures { IsHeaderFault profile image.now.bytes.now result }
 {
     if let Some(place) = outside.below {

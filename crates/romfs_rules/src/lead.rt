@@ -54,7 +54,8 @@ pub(crate) fn first_below(image: &Volume, at: usize) -> Option<u32>
 #[tactic(auto, using(crate::proofs::Leads::hard_some, crate::proofs::Leads::hard_none))]
 pub(crate) fn destination_of(image: &Volume, at: usize) -> Option<u32>
     requires inside { IsInside image.now.bytes.now at }
-    ensures { IsTheOne (λ g. IsHardLink image.now.bytes.now at × (g ≡ destination image.now.bytes.now at)) result }
+    ensures { IsTheOne
+        (λ g. IsHardLink image.now.bytes.now at × (g ≡ destination image.now.bytes.now at)) result }
 {
     if kind_of(word(image.bytes, at)) == Kind::HardLink {
         Some(cleared(word(image.bytes, at + 4)))

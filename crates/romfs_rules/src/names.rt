@@ -50,7 +50,8 @@ fn class_at<'a, A: Allocator + Clone>(
     class: u32,
 ) -> Result<u32, AllocError>
     requires inside { at + HEAD_SIZE ≤ length image.now.bytes.now }
-    ensures { IfOk result (λ c. IsClass (kept_name image.now.bytes.now at) class c known.old known.new) }
+    ensures { IfOk result
+        (λ c. IsClass (kept_name image.now.bytes.now at) class c known.old known.new) }
 {
     match kept_name(image, at) {
         Some(name) => class_of(known, name, class),

@@ -1,11 +1,11 @@
 //! Headers that are reached, and lie outside the image.
 
 ghost use Rattle.std.specs.Prelude.{◌≡◌, ◌*◌, ◌/◌, ◌<◌};
-ghost use Rattle.romfs_format.specs.Links.{IsTarget, IsReached};
-ghost use Rattle.romfs_rules.specs.Marks.{HasSlot, AreMarks};
+ghost use Rattle.romfs_rules.specs.Targets.{AreTargets};
+ghost use Rattle.romfs_rules.specs.Marks.{HasSlot};
 ghost use Rattle.romfs_rules.specs.InChains.{AreChains};
 ghost use Rattle.romfs_rules.specs.Leads.{IsTheOne};
-ghost use Rattle.romfs_rules.specs.Outside.{Names, NamesDestination, IsLeast, IsBelow, IsPastEnd, lesser, Notes};
+ghost use Rattle.romfs_rules.specs.Outside.{IsLeastBelow, IsLeastPastEnd, Names, NamesDestination, IsBelow, IsPastEnd, lesser, Notes};
 
 use crate::chains::Chains;
 use crate::lead::destination_of;
@@ -34,7 +34,7 @@ fn named_destination<A: Allocator>(
 ) -> Option<u32>
     requires slot { HasSlot image.now.bytes.now at }
     requires chains { AreChains image.now.bytes.now chains.now }
-    requires targets { AreMarks image.now.bytes.now (IsTarget image.now.bytes.now) targets.now }
+    requires targets { AreTargets image.now.bytes.now targets.now }
     ensures { IsTheOne (NamesDestination image.now.bytes.now at) result }
 {
     if targets.contains(at / 16) || is_some_member(image, at, chains) {
@@ -57,8 +57,10 @@ fn lesser(found: Option<u32>, word: u32) -> u32
 // What is found with one header more, if there is one.
 #[tactic(auto, using(crate::proofs::Reach::unnamed, crate::proofs::Reach::noted, crate::proofs::Reach::unnoted))]
 fn note(found: Outside, image: &Volume, word: Option<u32>) -> Outside
-    ensures below { Notes (λ h. word ≡ Some h) (IsBelow image.now.bytes.now) found.below result.below }
-    ensures above { Notes (λ h. word ≡ Some h) (IsPastEnd image.now.bytes.now) found.above result.above }
+    ensures below { Notes (λ h. word ≡ Some h) (IsBelow image.now.bytes.now)
+        found.below result.below }
+    ensures above { Notes (λ h. word ≡ Some h) (IsPastEnd image.now.bytes.now)
+        found.above result.above }
 {
     let Some(word) = word else {
         return found;
@@ -89,9 +91,11 @@ fn note_named<A: Allocator>(
 ) -> Outside
     requires slot { HasSlot image.now.bytes.now at }
     requires chains { AreChains image.now.bytes.now chains.now }
-    requires targets { AreMarks image.now.bytes.now (IsTarget image.now.bytes.now) targets.now }
-    ensures below { Notes (Names image.now.bytes.now at) (IsBelow image.now.bytes.now) found.below result.below }
-    ensures above { Notes (Names image.now.bytes.now at) (IsPastEnd image.now.bytes.now) found.above result.above }
+    requires targets { AreTargets image.now.bytes.now targets.now }
+    ensures below { Notes (Names image.now.bytes.now at) (IsBelow image.now.bytes.now)
+        found.below result.below }
+    ensures above { Notes (Names image.now.bytes.now at) (IsPastEnd image.now.bytes.now)
+        found.above result.above }
 {
     let next = next_link(image, at, chains);
     let first = first_link(image, at, chains);
@@ -108,9 +112,9 @@ pub(crate) fn find_outside<A: Allocator>(
     targets: &SlotSet<A>,
 ) -> Outside
     requires chains { AreChains image.now.bytes.now chains.now }
-    requires targets { AreMarks image.now.bytes.now (IsTarget image.now.bytes.now) targets.now }
-    ensures below { IsLeast (λ h. IsReached image.now.bytes.now h × IsBelow image.now.bytes.now h) result.below }
-    ensures above { IsLeast (λ h. IsReached image.now.bytes.now h × IsPastEnd image.now.bytes.now h) result.above }
+    requires targets { AreTargets image.now.bytes.now targets.now }
+    ensures below { IsLeastBelow image.now.bytes.now result.below }
+    ensures above { IsLeastPastEnd image.now.bytes.now result.above }
 {
     let none = Outside {
         below: None,

@@ -1,8 +1,7 @@
 //! Members of a directory that have the name of another.
 
 ghost use Rattle.std.specs.Prelude.{◌+◌, ◌/◌, ◌^◌, ◌<◌, ◌≤◌, ℕ, IfOk, length, get_or};
-ghost use Rattle.romfs_format.specs.Fields.{root as root_of};
-ghost use Rattle.romfs_rules.specs.Marks.{IsElsewhere};
+ghost use Rattle.romfs_rules.specs.Marks.{HasRootElsewhere};
 ghost use Rattle.romfs_rules.specs.InChains.{AreChains};
 ghost use Rattle.romfs_rules.specs.SameNames.{IsLinked, AreNumbered, IsNextNumber, AreNextNumbers, AreChosen, HaveSameNames};
 
@@ -80,7 +79,7 @@ pub(crate) fn find_same_names<A: Allocator + Copy>(
     chains: &Chains<A>,
 ) -> Result<Vec<u32, A>, AllocError>
     requires chains { AreChains image.now.bytes.now chains.now }
-    requires alone { ¬ IsElsewhere image.now.bytes.now (root_of image.now.bytes.now) }
+    requires alone { ¬ HasRootElsewhere image.now.bytes.now }
     ensures { IfOk result (λ found. HaveSameNames image.now.bytes.now found.items) }
 {
     let heads = headers_of(alloc, &chains.headers)?;

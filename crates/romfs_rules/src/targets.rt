@@ -1,10 +1,8 @@
 //! The headers on the destination chains of hard links.
 
 ghost use Rattle.std.specs.Prelude.{◌≡◌, ◌<◌, ◌/◌, ◌^◌, length, IfOk};
-ghost use Rattle.romfs_format.specs.Links.{IsTarget};
-ghost use Rattle.romfs_rules.specs.Marks.{AreMarks};
 ghost use Rattle.romfs_rules.specs.InChains.{AreChains};
-ghost use Rattle.romfs_rules.specs.Targets.{IsClosed, FollowsLink};
+ghost use Rattle.romfs_rules.specs.Targets.{AreTargets, IsClosed, FollowsLink};
 
 use crate::chains::Chains;
 use crate::member::is_some_member;
@@ -39,7 +37,7 @@ pub(crate) fn mark_targets<A: Allocator + Copy>(
     chains: &Chains<A>,
 ) -> Result<SlotSet<A>, AllocError>
     requires chains { AreChains image.now.bytes.now chains.now }
-    ensures { IfOk result (λ marks. AreMarks image.now.bytes.now (IsTarget image.now.bytes.now) marks) }
+    ensures { IfOk result (AreTargets image.now.bytes.now) }
 {
     let mut marks = SlotSet::new(alloc, image.bytes.len() / 16)?;
     let mut from = 0;

@@ -2,9 +2,9 @@
 
 ghost use Rattle.std.specs.Prelude.{◌≡◌, ◌+◌, ◌*◌, ◌<◌, ◌/◌, length, IfOk};
 ghost use Rattle.romfs_format.specs.Rules.{IsLinkedTwice};
-ghost use Rattle.romfs_rules.specs.Marks.{HasSlot, AreMarks, IsListOf};
+ghost use Rattle.romfs_rules.specs.Marks.{HasSlot, AreMarks};
 ghost use Rattle.romfs_rules.specs.InChains.{AreChains};
-ghost use Rattle.romfs_rules.specs.Twice.{Counts, CountsBoth};
+ghost use Rattle.romfs_rules.specs.Twice.{AreTwice, Counts, CountsBoth};
 
 use crate::chains::Chains;
 use crate::link::{first_link, next_link};
@@ -86,7 +86,7 @@ pub(crate) fn find_twice<A: Allocator + Copy>(
     chains: &Chains<A>,
 ) -> Result<Vec<u32, A>, AllocError>
     requires chains { AreChains image.now.bytes.now chains.now }
-    ensures { IfOk result (λ found. IsListOf image.now.bytes.now (IsLinkedTwice image.now.bytes.now) found.items) }
+    ensures { IfOk result (λ found. AreTwice image.now.bytes.now found.items) }
 {
     let twice = mark_twice(alloc, image, chains)?;
     headers_of(alloc, &twice)
