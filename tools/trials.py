@@ -179,15 +179,15 @@ class Trials:
         shutil.copy(edit.path, self.folder + "/must-fail")
         done = subprocess.run(["rt", "must-fail", self.crate], cwd=self.room, stdout=subprocess.PIPE,
                               stderr=subprocess.STDOUT, text=True, errors="replace", check=False)
-        said = done.stdout.strip().split("\n")[-1][:200]
-        return ": refused, as it must be" in done.stdout, said
+        is_refused = ": refused, as it must be" in done.stdout
+        return is_refused, "%s%s" % ("must-fail, " * is_refused, done.stdout.strip().split("\n")[-1][:200])
 
     def say(self, edit, text):
         print("%s %s: %s" % (self.crate, edit, text), flush=True)
 
     def run(self, paths):
-        """How many of these edits are refused."""
-        edits, refused = [], 0
+        """At what those of these edits were refused that are."""
+        edits, kinds = [], []
         for path in paths:
             try:
                 edits.append(Edit(path, self.kept))
@@ -203,15 +203,15 @@ class Trials:
             for edit in group:
                 found = outcomes[edit.name]
                 self.say(edit.name, "refused: %s" % found if found else "not told, so tried alone below")
-                refused += found is not None
+                kinds += [found.partition(",")[0]] if found else []
                 left += [edit] if found is None else []
         for edit in left:
             begun = time.monotonic()
             is_refused, found = self.alone(edit)
-            refused += is_refused
+            kinds += [found.partition(",")[0]] if is_refused else []
             self.say(edit.name, "%s: %s; alone, %d s" % ("refused" if is_refused else "NOT REFUSED", found,
                                                          time.monotonic() - begun))
-        return refused
+        return kinds
 
 
 def tried(crate, others, with_gate, jobs):
@@ -222,9 +222,10 @@ def tried(crate, others, with_gate, jobs):
     print("%s: %d edits" % (crate, len(paths)), flush=True)
     with tempfile.TemporaryDirectory(prefix="trials-") as room:
         copied(crate, others, room)
-        refused = Trials(crate, room, jobs).run(paths)
-    print("%s: %d of %d refused, %d s" % (crate, refused, len(paths), time.monotonic() - begun), flush=True)
-    return len(paths), refused
+        kinds = Trials(crate, room, jobs).run(paths)
+    counts = "".join(", %d %s" % (kinds.count(it), it) for it in sorted(set(kinds)))
+    print("%s: %d of %d refused%s; %d s" % (crate, len(kinds), len(paths), counts, time.monotonic() - begun), flush=True)
+    return len(paths), len(kinds)
 
 
 def main(words):
