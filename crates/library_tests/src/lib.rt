@@ -1,29 +1,20 @@
-//! The tests of library calls that no command line shows, and of memory that is refused. No contract can say these.
+//! The tests of what no command line shows of images: how samples are laid out, what is read, and memory that is refused.
+//! No contract can say these.
 //!
 //! They stand in a crate of their own, so that what they call is proved once, and so that `test_kit` is part of no
-//! program; and in one, since much of what a crate of tests costs is reading the libraries that it stands on.
+//! program.
 //!
-//! - `images`: how samples are laid out, and what is read from checked images.
-//! - `trees`: what trees and stacks show and cut.
-//! - `tables`: names that are no children, numbers that are not in use, attributes of each kind.
-//! - `writers`: each writer of a reply or a row, with its request for memory refused.
-//! - `serving`: streams, rounds and single answers.
+//! - `sample_layouts`: what `romfs_image::sample` lays out.
+//! - `readers`: what is read from checked images.
+//! - `memory`: each request for memory of building and checking an image is refused in turn.
 //! - `refusing`: which request the tests' allocator refuses.
-//!
-//! What they share: `listings`, images that are laid out for rows.
 #![tactic(auto)]
 
 #[cfg(test)]
-mod images;
+mod memory;
 #[cfg(test)]
-mod listings;
+mod readers;
 #[cfg(test)]
 mod refusing;
 #[cfg(test)]
-mod serving;
-#[cfg(test)]
-mod tables;
-#[cfg(test)]
-mod trees;
-#[cfg(test)]
-mod writers;
+mod sample_layouts;

@@ -1,11 +1,13 @@
 //! Readers and writers that fail.
 
-use crate::program::{ended, image_file};
+use crate::program::image_file;
+use devices::{Spout, Tap};
 use std::alloc::Global;
 use std::fs::{self, Files};
 use std::io::{self, Error, ErrorKind, Read, Write};
 use std::test::Fail;
 use std::thread::Threads;
+use strata::command::command;
 use test_kit::messages::{REPLIES, REQUESTS};
 
 /// A reader that gives its bytes, and then fails.
@@ -57,26 +59,17 @@ fn is_told<R: Files + Threads + Sync, I: Read + Drop, O: Write + Drop>(
     output: O,
     line: &[u8],
 ) -> bool {
-    let (status, faults) = ended(rt, alloc, alloc, words, input, output);
+    let mut faults = Vec::new(alloc);
+    let status = command(
+        rt,
+        alloc,
+        alloc,
+        words,
+        &mut Tap::new(input),
+        &mut Spout::new(output),
+        &mut faults,
+    );
     status == 1 && faults.as_slice() == line
-}
-
-/// Whether a command tells of a writer that is full, and of one that cannot flush.
-fn are_told<R: Files + Threads + Sync>(rt: &R, alloc: Global, words: &[&str]) -> bool {
-    for (room, flushes) in [(10, true), (1000, false)] {
-        let full = Full { room, flushes };
-        if !is_told(
-            rt,
-            alloc,
-            words,
-            REQUESTS.as_slice(),
-            full,
-            b"write fault\n",
-        ) {
-            return false;
-        }
-    }
-    true
 }
 
 #[test]
@@ -84,30 +77,31 @@ fn writers_that_fail_are_told(rt: HostRuntime) -> Result<(), Fail> {
     let image = image_file(&rt, "writers")?;
     let path = image.as_str();
     for words in [["check", path], ["list", path], ["serve", path]] {
-        assert!(rt; are_told(&rt, rt.alloc(), &words));
+        for (room, flushes) in [(10, true), (1000, false)] {
+            let full = Full { room, flushes };
+            let input = REQUESTS.as_slice();
+            let told = is_told(&rt, rt.alloc(), &words, input, full, b"write fault\n");
+            assert!(rt; told, "room {room}");
+        }
     }
-    fs::remove_file(&rt, image.as_str())?;
+    fs::remove_file(&rt, path)?;
     Ok(())
-}
-
-/// Whether a reader that fails is told, with the replies to what it gave.
-fn tells_reader<R: Files + Threads + Sync>(rt: &R, alloc: Global, words: &[&str]) -> bool {
-    let mut output = Vec::new(alloc);
-    let is_told = is_told(
-        rt,
-        alloc,
-        words,
-        Broken(&REQUESTS),
-        &mut output,
-        b"read fault\n",
-    );
-    is_told && output.as_slice() == REPLIES.as_slice()
 }
 
 #[test]
 fn a_reader_that_fails_is_told(rt: HostRuntime) -> Result<(), Fail> {
     let image = image_file(&rt, "reader")?;
-    assert!(rt; tells_reader(&rt, rt.alloc(), &["serve", image.as_str()]));
+    let words = ["serve", image.as_str()];
+    let mut output = Vec::new(rt.alloc());
+    let told = is_told(
+        &rt,
+        rt.alloc(),
+        &words,
+        Broken(&REQUESTS),
+        &mut output,
+        b"read fault\n",
+    );
+    assert!(rt; told && output.as_slice() == REPLIES.as_slice());
     fs::remove_file(&rt, image.as_str())?;
     Ok(())
 }

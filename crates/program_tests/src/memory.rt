@@ -1,50 +1,60 @@
 //! Each request for memory of the program is refused in turn, and told.
 
-use crate::program::{ended, file_path, image_file};
-use std::alloc::Global;
+use crate::program::{file_path, image_file};
+use devices::{Spout, Tap};
+use std::alloc::{Allocator, Global};
 use std::fs::{self, Files};
 use std::test::Fail;
 use std::thread::Threads;
+use strata::command::command;
 use test_kit::messages::{REPLIES, REQUESTS};
-use test_kit::refusing::{Refusing, refuse_each};
+use test_kit::refusing::refuse_each;
 
-/// Whether the program over two requests tells that memory was refused, with some of the first bytes of the output
-/// written; or else went through.
-fn is_told<'a, R: Files + Threads + Sync>(
+/// The status of the program over two requests, in memory of `alloc`, and what it wrote to its output and to standard
+/// error.
+fn run_in<R: Files + Threads + Sync, A: Allocator + Copy + Send + Sync>(
     rt: &R,
     global: Global,
-    refusing: &'a Refusing<Global>,
+    alloc: A,
     words: &[&str],
-    whole: &[u8],
-) -> bool {
+) -> (u8, Vec<u8>, Vec<u8>) {
     let mut output = Vec::new(global);
-    let (status, faults) = ended(
+    let mut faults = Vec::new(global);
+    let status = command(
         rt,
+        alloc,
         global,
-        refusing,
         words,
-        REQUESTS.as_slice(),
-        &mut output,
+        &mut Tap::new(REQUESTS.as_slice()),
+        &mut Spout::new(&mut output),
+        &mut faults,
     );
-    if refusing.refused() {
-        let is_refused = status == 5 && faults.as_slice() == b"out of memory\n".as_slice();
-        is_refused && whole.starts_with(&output)
-    } else {
-        status == 0 && faults.is_empty() && output.as_slice() == whole
-    }
+    (status, output, faults)
 }
 
-/// How many requests for memory a run makes, each of which is refused once and told.
+/// How many requests for memory a run makes, each of which is refused once and told, with some of the first bytes of
+/// the output written.
 fn told_refusals<R: Files + Threads + Sync>(
     rt: &R,
     global: Global,
     words: &[&str],
     whole: &[u8],
 ) -> Result<u64, Fail> {
-    refuse_each(
-        global,
-        |refusing| is_told(rt, global, refusing, words, whole),
-    )
+    refuse_each(global, |refusing, refuse_at| {
+        let (status, output, faults) = run_in(rt, global, refusing, words);
+        let is_right = if refusing.refused() {
+            status == 5
+                && whole.starts_with(&output)
+                && faults.as_slice() == b"out of memory\n".as_slice()
+        } else {
+            status == 0 && output.as_slice() == whole && faults.is_empty()
+        };
+        if is_right {
+            Ok(())
+        } else {
+            Err(Fail::new(format_args!("at {refuse_at}")))
+        }
+    })
 }
 
 #[test]
@@ -65,7 +75,8 @@ fn refused_memory_is_told_of_a_stream(rt: HostRuntime) -> Result<(), Fail> {
     let balances = file_path(&rt, "stream", "balances")?;
     let words = ["serve", "--balances", balances.as_str(), image.as_str()];
     assert!(rt; 10 < told_refusals(&rt, rt.alloc(), &words, &REPLIES)?);
-    assert!(rt; fs::read(&rt, balances.as_str())?.as_slice() == b"1 0\n".as_slice());
+    let lines = fs::read(&rt, balances.as_str())?;
+    assert!(rt; lines.as_slice() == b"1 0\n".as_slice());
     fs::remove_file(&rt, balances.as_str())?;
     fs::remove_file(&rt, image.as_str())?;
     Ok(())

@@ -48,13 +48,6 @@ impl<A> Refusing<A> {
         }
     }
 
-    /// The number of the request that is refused; 0 where none is.
-    pub fn refuse_at(&self) -> u64
-        ensures { result ≡ self.now.tally.refuse_at }
-    {
-        self.tally.refuse_at
-    }
-
     /// How many requests came up to now, the refused one and those that failed in `inner` included.
     /// The count stays at `u64::MAX` once it is there, and requests after that have no number and are never refused.
     pub fn requests(&self) -> u64 {
@@ -146,8 +139,8 @@ impl Tally {
 }
 
 /// Makes a call with the first request for memory refused, then with the second, and so on, until it
-/// makes fewer requests than that. Gives how many it makes. The call says whether it went as it should.
-pub fn refuse_each<F: FnMut(&Refusing<Global>) -> bool>(
+/// makes fewer requests than that. Gives how many it makes. The call is told which one is refused.
+pub fn refuse_each<F: FnMut(&Refusing<Global>, u64) -> Result<(), Fail>>(
     alloc: Global,
     mut call: F,
 ) -> Result<u64, Fail>
@@ -155,9 +148,7 @@ pub fn refuse_each<F: FnMut(&Refusing<Global>) -> bool>(
 {
     for refuse_at in 1..1000 {
         let refusing = Refusing::new(alloc, refuse_at);
-        if !call(&refusing) {
-            return Err(Fail::new(format_args!("at {refuse_at}")));
-        }
+        call(&refusing, refuse_at)?;
         if !refusing.refused() {
             return Ok(refuse_at - 1);
         }

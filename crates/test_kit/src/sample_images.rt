@@ -1,73 +1,69 @@
-//! Images that several tests look at, as dumps print them.
+//! Images that several tests look at.
 
-use crate::bytes::{bytes_of, put_words};
+use crate::bytes::bytes_of;
+use romfs_image::sample::{BuildFault, Item, What, build};
 use std::alloc::{AllocError, Allocator, Global};
 
 /// The empty image with the volume name `v`.
-pub const EMPTY: [u32; 24] = [
+const EMPTY: [u32; 24] = [
     0x2d726f6d, 0x3166732d, 0x00000060, 0x2b271d06, 0x76000000, 0x00000000, 0x00000000, 0x00000000,
     0x00000049, 0x00000020, 0x00000000, 0xd1ffff97, 0x2e000000, 0x00000000, 0x00000000, 0x00000000,
     0x00000000, 0x00000020, 0x00000000, 0xd1d1ffe0, 0x2e2e0000, 0x00000000, 0x00000000, 0x00000000,
-];
-
-/// What the sample has before the data of its file `big`: 5,000 bytes, each of them its place modulo 251.
-const SAMPLE_HEAD: [u32; 32] = [
-    0x2d726f6d, 0x3166732d, 0x000014f0, 0x1eba3c6c, 0x76000000, 0x00000000, 0x00000000, 0x00000000,
-    0x00000049, 0x00000020, 0x00000000, 0xd1ffff97, 0x2e000000, 0x00000000, 0x00000000, 0x00000000,
-    0x00000060, 0x00000020, 0x00000000, 0xd1d1ff80, 0x2e2e0000, 0x00000000, 0x00000000, 0x00000000,
-    0x00001412, 0x00000000, 0x00001388, 0x9d967166, 0x62696700, 0x00000000, 0x00000000, 0x00000000,
-];
-
-/// What it has after them: their padding, the executable directory `d` with the file `x`, the symbolic link `l` to
-/// `d/x`, and the device `null`.
-const SAMPLE_TAIL: [u32; 58] = [
-    0x00000000, 0x00000000, 0x000014a9, 0x00001430, 0x00000000, 0x9bffd727, 0x64000000, 0x00000000,
-    0x00000000, 0x00000000, 0x00001450, 0x00001410, 0x00000000, 0xd1ffd7a0, 0x2e000000, 0x00000000,
-    0x00000000, 0x00000000, 0x00001470, 0x00000020, 0x00000000, 0xd1d1eb70, 0x2e2e0000, 0x00000000,
-    0x00000000, 0x00000000, 0x00000002, 0x00000000, 0x00000002, 0x87fffffc, 0x78000000, 0x00000000,
-    0x00000000, 0x00000000, 0x68690000, 0x00000000, 0x00000000, 0x00000000, 0x000014d3, 0x00000000,
-    0x00000003, 0x93ffeb2a, 0x6c000000, 0x00000000, 0x00000000, 0x00000000, 0x642f7800, 0x00000000,
-    0x00000000, 0x00000000, 0x00000005, 0x00010003, 0x00000000, 0x9189938c, 0x6e756c6c, 0x00000000,
-    0x00000000, 0x00000000,
-];
-
-/// An image with hard links `a`, to the later `d/e`, and `d/h`, to `a`; an executable device `b`; and a directory in a
-/// directory, `d/f`, that holds `g`. Its headers stand at 0x20, `.`; 0x40, `..`; 0x60, `a`; 0x80, `b`; 0xa0, `d`; 0xc0
-/// and 0xe0, its own two; 0x100, `e`; 0x120, `f`; 0x140 and 0x160, its own two; 0x180, `g`; and 0x1a0, `h`.
-const MIXED: [u32; 112] = [
-    0x2d726f6d, 0x3166732d, 0x000001c0, 0x2b271ba6, 0x76000000, 0x00000000, 0x00000000, 0x00000000,
-    0x00000049, 0x00000020, 0x00000000, 0xd1ffff97, 0x2e000000, 0x00000000, 0x00000000, 0x00000000,
-    0x00000060, 0x00000020, 0x00000000, 0xd1d1ff80, 0x2e2e0000, 0x00000000, 0x00000000, 0x00000000,
-    0x00000080, 0x00000100, 0x00000000, 0x9efffe80, 0x61000000, 0x00000000, 0x00000000, 0x00000000,
-    0x000000ac, 0x00020003, 0x00000000, 0x9dfdff51, 0x62000000, 0x00000000, 0x00000000, 0x00000000,
-    0x00000001, 0x000000c0, 0x00000000, 0x9bffff3f, 0x64000000, 0x00000000, 0x00000000, 0x00000000,
-    0x000000e0, 0x000000a0, 0x00000000, 0xd1fffe80, 0x2e000000, 0x00000000, 0x00000000, 0x00000000,
-    0x00000100, 0x00000020, 0x00000000, 0xd1d1fee0, 0x2e2e0000, 0x00000000, 0x00000000, 0x00000000,
-    0x00000127, 0x00000000, 0x00000000, 0x9afffed9, 0x65000000, 0x00000000, 0x00000000, 0x00000000,
-    0x000001a1, 0x00000140, 0x00000000, 0x99fffd1f, 0x66000000, 0x00000000, 0x00000000, 0x00000000,
-    0x00000160, 0x00000120, 0x00000000, 0xd1fffd80, 0x2e000000, 0x00000000, 0x00000000, 0x00000000,
-    0x00000180, 0x000000a0, 0x00000000, 0xd1d1fde0, 0x2e2e0000, 0x00000000, 0x00000000, 0x00000000,
-    0x00000006, 0x00000000, 0x00000000, 0x98fffffa, 0x67000000, 0x00000000, 0x00000000, 0x00000000,
-    0x00000000, 0x00000060, 0x00000000, 0x97ffffa0, 0x68000000, 0x00000000, 0x00000000, 0x00000000,
 ];
 
 pub fn empty(alloc: Global) -> Result<Vec<u8>, AllocError> {
     bytes_of(alloc, &EMPTY)
 }
 
-/// The image with the 5,000 bytes.
-pub fn sample<A: Allocator>(alloc: A) -> Result<Vec<u8, A>, AllocError> {
-    let mut image = bytes_of(alloc, &SAMPLE_HEAD)?;
-    for place in 0..5000u32 {
-        image.push((place % 251) as u8)?;
-    }
-    put_words(&mut image, &SAMPLE_TAIL)?;
-    Ok(image)
+pub fn item<A: Allocator + Copy>(
+    alloc: A,
+    depth: u16,
+    name: &[u8],
+    what: What<A>,
+) -> Result<Item<A>, AllocError> {
+    Ok(Item {
+        depth,
+        name: name.to_vec(alloc)?,
+        exec: false,
+        what,
+    })
 }
 
-/// The image with hard links.
-pub fn mixed(alloc: Global) -> Result<Vec<u8>, AllocError> {
-    bytes_of(alloc, &MIXED)
+/// An image with `big` of 5,000 bytes, an executable directory `d` with a file `x`, a link `l` to
+/// `d/x`, and the device `null`.
+pub fn sample<A: Allocator + Copy>(alloc: A) -> Result<Vec<u8, A>, BuildFault> {
+    let mut big = Vec::new(alloc);
+    for number in 0..5000u32 {
+        big.push((number % 251) as u8)?;
+    }
+    let text = What::Regular(b"hi".to_vec(alloc)?);
+    let link = What::SymLink(b"d/x".to_vec(alloc)?);
+    let mut directory = item(alloc, 1, b"d", What::Directory)?;
+    directory.exec = true;
+    let mut items = Vec::new(alloc);
+    items.push(item(alloc, 1, b"big", What::Regular(big))?)?;
+    items.push(directory)?;
+    items.push(item(alloc, 2, b"x", text)?)?;
+    items.push(item(alloc, 1, b"l", link)?)?;
+    items.push(item(alloc, 1, b"null", What::Character(1, 3))?)?;
+    build(alloc, b"v", &items)
+}
+
+/// An image with hard links `a`, to the later `d/e`, and `d/h`, to `a`; an executable device `b`; and
+/// a directory in a directory, `d/f`, that holds `g`.
+pub fn mixed(alloc: Global) -> Result<Vec<u8>, BuildFault> {
+    let mut device = item(alloc, 1, b"b", What::Block(2, 3))?;
+    device.exec = true;
+    let items = vec![in alloc;
+        item(alloc, 1, b"a", What::Hard(3))?,
+        device,
+        item(alloc, 1, b"d", What::Directory)?,
+        item(alloc, 2, b"e", What::Fifo)?,
+        item(alloc, 2, b"f", What::Directory)?,
+        item(alloc, 3, b"g", What::Socket)?,
+        item(alloc, 2, b"h", What::Hard(0))?,
+    ]?;
+    build(alloc, b"v", &items)
 }
 
 /// One image alone.

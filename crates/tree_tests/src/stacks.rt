@@ -1,17 +1,14 @@
 //! What small stacks show and cut.
 
-use crate::listings::Is::{Directory, File, Hard};
-use crate::listings::Row;
-use crate::trees::bracketings::{FOUR, FOUR_SEEN};
-use crate::trees::layers::{Seen, other_of_stack};
+use crate::layers::Is::{Directory, File, Hard};
+use crate::layers::other_of_stack;
 use std::test::Fail;
 
-/// Layers, the lowest first, and what their stack says.
-type Stack<'a> = (&'a [&'a [Row<'a>]], &'a [Seen<'a>]);
-
-const STACKS: [Stack<'static>; 8] = [
-    // A marker for one name.
-    (
+#[test]
+fn a_marker_for_one_name(rt: HostRuntime) -> Result<(), Fail> {
+    let other = other_of_stack(
+        &rt,
+        rt.alloc(),
         &[
             &[
                 (1, b"a", Directory),
@@ -31,9 +28,16 @@ const STACKS: [Stack<'static>; 8] = [
             (&[b"b", b"c"], None, true),
             (&[b"a", b".wh.x"], None, false),
         ],
-    ),
-    // An opaque marker beside a marker for a name of its layer.
-    (
+    )?;
+    assert_eq!(rt; other, None);
+    Ok(())
+}
+
+#[test]
+fn an_opaque_marker_beside_a_marker_for_a_name_of_its_layer(rt: HostRuntime) -> Result<(), Fail> {
+    let other = other_of_stack(
+        &rt,
+        rt.alloc(),
         &[
             &[(1, b"a", Directory), (2, b"x", File), (2, b"y", File)],
             &[
@@ -48,9 +52,16 @@ const STACKS: [Stack<'static>; 8] = [
             (&[b"a", b"x"], None, true),
             (&[b"a", b"y"], Some(1), true),
         ],
-    ),
-    // A hard link outlives its target.
-    (
+    )?;
+    assert_eq!(rt; other, None);
+    Ok(())
+}
+
+#[test]
+fn a_hard_link_outlives_its_target(rt: HostRuntime) -> Result<(), Fail> {
+    let other = other_of_stack(
+        &rt,
+        rt.alloc(),
         &[
             &[(1, b"k", File), (1, b"m", Hard(0))],
             &[(1, b".wh.k", File), (1, b".wh.none", File)],
@@ -60,9 +71,16 @@ const STACKS: [Stack<'static>; 8] = [
             (&[b"m"], Some(0), true),
             (&[b"none"], None, true),
         ],
-    ),
-    // Markers in odd places.
-    (
+    )?;
+    assert_eq!(rt; other, None);
+    Ok(())
+}
+
+#[test]
+fn markers_in_odd_places(rt: HostRuntime) -> Result<(), Fail> {
+    let other = other_of_stack(
+        &rt,
+        rt.alloc(),
         &[
             &[(1, b"a", File), (1, b"b", File)],
             &[
@@ -79,18 +97,32 @@ const STACKS: [Stack<'static>; 8] = [
             (&[b".wh.x"], None, false),
             (&[b"b"], Some(0), true),
         ],
-    ),
-    // A file over a directory over a file.
-    (
+    )?;
+    assert_eq!(rt; other, None);
+    Ok(())
+}
+
+#[test]
+fn a_file_over_a_directory_over_a_file(rt: HostRuntime) -> Result<(), Fail> {
+    let other = other_of_stack(
+        &rt,
+        rt.alloc(),
         &[
             &[(1, b"b", File)],
             &[(1, b"b", Directory), (2, b"c", File)],
             &[(1, b"b", File)],
         ],
         &[(&[b"b"], Some(2), true), (&[b"b", b"c"], None, true)],
-    ),
-    // An opaque marker in the root.
-    (
+    )?;
+    assert_eq!(rt; other, None);
+    Ok(())
+}
+
+#[test]
+fn an_opaque_marker_in_the_root(rt: HostRuntime) -> Result<(), Fail> {
+    let other = other_of_stack(
+        &rt,
+        rt.alloc(),
         &[
             &[(1, b"b", File)],
             &[(1, b".wh..wh..opq", File), (1, b"c", File)],
@@ -100,25 +132,23 @@ const STACKS: [Stack<'static>; 8] = [
             (&[b"b"], None, true),
             (&[b"c"], Some(1), true),
         ],
-    ),
-    // Only markers below a layer that brings the names back.
-    (
+    )?;
+    assert_eq!(rt; other, None);
+    Ok(())
+}
+
+#[test]
+fn only_markers_below_a_layer_that_brings_the_names_back(rt: HostRuntime) -> Result<(), Fail> {
+    let other = other_of_stack(
+        &rt,
+        rt.alloc(),
         &[
             &[(1, b"a", File), (1, b"b", File)],
             &[(1, b".wh.a", File), (1, b".wh.b", File)],
             &[(1, b"a", File)],
         ],
         &[(&[b"a"], Some(2), true), (&[b"b"], None, true)],
-    ),
-    // Four layers.
-    (&FOUR, &FOUR_SEEN),
-];
-
-#[test]
-fn small_stacks(rt: HostRuntime) -> Result<(), Fail> {
-    for (index, (layers, seen)) in STACKS.iter().enumerate() {
-        let other = other_of_stack(&rt, rt.alloc(), layers, seen)?;
-        assert_eq!(rt; other, None, "stack {index}");
-    }
+    )?;
+    assert_eq!(rt; other, None);
     Ok(())
 }

@@ -1,12 +1,12 @@
 //! An answer, and what it moves, with each request for memory refused in turn: what stood before is as it was.
 
-use crate::serving::jobs::{Job, jobs_of};
-use crate::serving::runs::sample_table;
-use crate::serving::script::lookups;
+use crate::jobs::{Job, jobs_of};
+use crate::runs::sample_table;
+use crate::script::lookups;
 use fuse_answer::{answer, moves};
 use node_table::Table;
 use reply_model::Move;
-use std::alloc::{AllocError, Allocator, Global};
+use std::alloc::{AllocError, Allocator};
 use std::test::Fail;
 use test_kit::refusing::refuse_each;
 
@@ -46,47 +46,48 @@ fn is_told(left: &Option<Left>, refuse_at: u64, refused: bool, whole: usize) -> 
     }
 }
 
-/// What an answer comes to, or what it moves.
-fn left<A: Allocator, B: Allocator>(
-    alloc: B,
-    table: &Table<A>,
-    job: &Job<'_>,
-    moving: bool,
-) -> Option<Left> {
-    if moving {
-        moved(alloc, table, job)
-    } else {
-        answered(alloc, table, job)
-    }
-}
-
-/// How much the jobs append in all, each with each request for memory refused once.
-fn told_refusals(
-    alloc: Global,
-    table: &Table<Global>,
-    jobs: &[Job<'_>],
-    moving: bool,
-) -> Result<usize, Fail> {
+#[test]
+fn an_answer_is_refused(rt: HostRuntime) -> Result<(), Fail> {
+    let table = sample_table(&rt, rt.alloc()).ok_or("the sample image")?;
+    let stream = lookups(rt.alloc())?;
     let mut all = 0usize;
-    for job in jobs {
-        let Some((Ok(()), whole)) = left(alloc, table, job, moving) else {
+    for job in jobs_of(rt.alloc(), &stream)?.iter() {
+        let Some((Ok(()), whole)) = answered(rt.alloc(), &table, job) else {
             return Err(Fail::new("no answer"));
         };
-        refuse_each(alloc, |refusing| {
-            let left = left(refusing, table, job, moving);
-            is_told(&left, refusing.refuse_at(), refusing.refused(), whole)
+        refuse_each(rt.alloc(), |refusing, refuse_at| {
+            let left = answered(refusing, &table, job);
+            assert!(rt;
+                is_told(&left, refuse_at, refusing.refused(), whole),
+                "at {refuse_at}"
+            );
+            Ok(())
         })?;
         all = all.saturating_add(whole);
     }
-    Ok(all)
+    assert_eq!(rt; all, 1648);
+    Ok(())
 }
 
 #[test]
-fn an_answer_or_its_moves_are_refused(rt: HostRuntime) -> Result<(), Fail> {
+fn the_moves_are_refused(rt: HostRuntime) -> Result<(), Fail> {
     let table = sample_table(&rt, rt.alloc()).ok_or("the sample image")?;
     let stream = lookups(rt.alloc())?;
-    let jobs = jobs_of(rt.alloc(), &stream)?;
-    assert_eq!(rt; told_refusals(rt.alloc(), &table, &jobs, false)?, 1648);
-    assert_eq!(rt; told_refusals(rt.alloc(), &table, &jobs, true)?, 10);
+    let mut all = 0usize;
+    for job in jobs_of(rt.alloc(), &stream)?.iter() {
+        let Some((Ok(()), whole)) = moved(rt.alloc(), &table, job) else {
+            return Err(Fail::new("no moves"));
+        };
+        refuse_each(rt.alloc(), |refusing, refuse_at| {
+            let left = moved(refusing, &table, job);
+            assert!(rt;
+                is_told(&left, refuse_at, refusing.refused(), whole),
+                "at {refuse_at}"
+            );
+            Ok(())
+        })?;
+        all = all.saturating_add(whole);
+    }
+    assert_eq!(rt; all, 10);
     Ok(())
 }

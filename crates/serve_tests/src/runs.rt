@@ -1,7 +1,7 @@
 //! What a run came to.
 
-use crate::serving::reader::Pieces;
-use crate::serving::writer::Taker;
+use crate::reader::Pieces;
+use crate::writer::Taker;
 use devices::{Spout, Tap};
 use node_table::Table;
 use reply_pool::Plan;
@@ -113,21 +113,12 @@ pub fn serve_over<R: Threads + Sync, A: Allocator + Copy + Send + Sync>(
     told(&done, &pieces, &taker, replies)
 }
 
-/// The table of an image alone.
-pub fn table_of<R: Threads + Sync, A: Allocator + Copy + Send + Sync>(
-    rt: &R,
-    alloc: A,
-    image: Vec<u8, A>,
-) -> Option<Table<A>> {
-    let images = alone(alloc, image).ok()?;
-    prepare(rt, alloc, images, &FreePass).ok()
-}
-
 /// The table of the sample image.
 pub fn sample_table<R: Threads + Sync, A: Allocator + Copy + Send + Sync>(
     rt: &R,
     alloc: A,
 ) -> Option<Table<A>> {
     let image = sample(alloc).ok()?;
-    table_of(rt, alloc, image)
+    let images = alone(alloc, image).ok()?;
+    prepare(rt, alloc, images, &FreePass).ok()
 }

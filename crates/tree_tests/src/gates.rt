@@ -1,8 +1,7 @@
 //! Trees of layers are made at the same time.
 
-use crate::listings::Is::File;
-use crate::listings::Row;
-use crate::trees::layers::layers;
+use crate::layers::Is::File;
+use crate::layers::{Row, layers};
 use romfs_image::sample::BuildFault;
 use stack_core::{Gate, Work, stack};
 use std::alloc::Global;

@@ -1,6 +1,6 @@
-//! The tests of serving over devices of their own: pieces of every size, devices that fail, too few turns, and memory
-//! that is refused. No command shows how often a device is called, or that it is not called. The tests of rounds and of
-//! single answers stand here too.
+//! The tests of `serve_core` over devices of their own: pieces of every size, devices that fail, too few turns, and
+//! memory that is refused. No command shows how often a device is called, or that it is not called. The tests of rounds
+//! and of single answers stand here too.
 //!
 //! - `streams`: one stream, however it is cut, answered and taken; how often each device is called.
 //! - `memory`: each request for memory is refused in turn.
@@ -10,14 +10,25 @@
 //!
 //! What they share: `reader` and `writer`, the two devices; `runs`, what a run came to; `script`, two streams and the
 //! replies to one; `jobs`, the requests of a stream.
+#![tactic(auto)]
 
+#[cfg(test)]
 mod answers;
+#[cfg(test)]
 mod batches;
+#[cfg(test)]
 mod jobs;
+#[cfg(test)]
 mod layers;
+#[cfg(test)]
 mod memory;
+#[cfg(test)]
 mod reader;
-pub mod runs;
+#[cfg(test)]
+mod runs;
+#[cfg(test)]
 mod script;
+#[cfg(test)]
 mod streams;
+#[cfg(test)]
 mod writer;

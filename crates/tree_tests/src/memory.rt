@@ -1,8 +1,7 @@
 //! Each request for memory is refused in turn, in whichever thread.
 
-use crate::listings::Is::{Directory, File};
-use crate::listings::Row;
-use crate::trees::layers::{Seen, other_of_stack};
+use crate::layers::Is::{Directory, File};
+use crate::layers::{Row, Seen, other_of_stack};
 use romfs_image::sample::BuildFault;
 use std::test::Fail;
 use test_kit::refusing::refuse_each;
@@ -26,14 +25,15 @@ const SEEN: [Seen<'static>; 3] = [
 
 #[test]
 fn each_request_of_a_stack_is_refused_in_turn(rt: HostRuntime) -> Result<(), Fail> {
-    let requests = refuse_each(rt.alloc(), |refusing| {
+    let requests = refuse_each(rt.alloc(), |refusing, refuse_at| {
         let other = other_of_stack(&rt, refusing, &LAYERS, &SEEN);
-        other
-            == if refusing.refused() {
-                Err(BuildFault::Memory)
-            } else {
-                Ok(None)
-            }
+        let wanted = if refusing.refused() {
+            Err(BuildFault::Memory)
+        } else {
+            Ok(None)
+        };
+        assert_eq!(rt; other, wanted, "at {refuse_at}");
+        Ok(())
     })?;
     assert!(rt; 50 < requests);
     Ok(())

@@ -1,8 +1,8 @@
 //! Rounds of jobs by any plan: their replies, the sums of their moves, and the gates that they pass.
 
-use crate::serving::jobs::{Job, jobs_of};
-use crate::serving::runs::sample_table;
-use crate::serving::script::{lookups, script, script_replies};
+use crate::jobs::{Job, jobs_of};
+use crate::runs::sample_table;
+use crate::script::{lookups, script, script_replies};
 use node_table::Table;
 use reply_model::Move;
 use reply_pool::{Plan, Rounded, round};
@@ -59,35 +59,19 @@ fn round_of<R: Threads + Sync, A: Allocator + Copy + Send + Sync>(
     Some(round(rt, alloc, table, &jobs[..few], plan, notes))
 }
 
-/// Whether a round comes to these replies and moves, and the batches that passed its gate.
-fn came_to<R: Threads + Sync>(
-    rt: &R,
-    alloc: Global,
-    table: &Table<Global>,
-    jobs: &[Job<'_>],
-    plan: (u32, u32),
+/// Whether a round came to these replies and moves.
+fn came_to<A: Allocator>(
+    rounded: &Option<Result<Rounded<A>, AllocError>>,
     replies: &[u8],
     moves: &[Move],
-) -> (bool, u64) {
-    let notes = Notes::new();
-    let is_right = match round_of(rt, alloc, table, jobs, plan, &notes) {
+) -> bool {
+    match rounded {
         Some(Ok(rounded)) => {
             rounded.bytes.as_slice() == replies && rounded.moves.as_slice() == moves
         }
         _ => false,
-    };
-    (is_right, notes.digits())
+    }
 }
-
-/// What passes the gate in rounds of the script by each of the plans.
-const PASSED: [u64; 6] = [
-    0x1234_5678_9abc,
-    0x1234_5678_9abc,
-    0x1234_5678_9abc,
-    0x1234,
-    0x1234,
-    0x1234,
-];
 
 #[test]
 fn the_script_gives_back_what_it_takes(rt: HostRuntime) -> Result<(), Fail> {
@@ -95,14 +79,17 @@ fn the_script_gives_back_what_it_takes(rt: HostRuntime) -> Result<(), Fail> {
     let script = script(rt.alloc())?;
     let replies = script_replies(rt.alloc())?;
     let jobs = jobs_of(rt.alloc(), &script)?;
-    for (plan, passed) in PLANS.iter().zip(&PASSED) {
-        let told = came_to(&rt, rt.alloc(), &table, &jobs, *plan, &replies, &[]);
-        assert_eq!(rt; told, (true, *passed), "by {plan:?}");
+    for plan in PLANS {
+        let notes = Notes::new();
+        let rounded = round_of(&rt, rt.alloc(), &table, &jobs, plan, &notes);
+        assert!(rt; came_to(&rounded, &replies, &[]), "by {plan:?}");
+        let passed = if plan.1 == 1 {
+            0x1234_5678_9abc
+        } else {
+            0x1234
+        };
+        assert_eq!(rt; notes.digits(), passed);
     }
-    assert_eq!(rt;
-        came_to(&rt, rt.alloc(), &table, &[], (2, 3), &[], &[]),
-        (true, 0)
-    );
     Ok(())
 }
 
@@ -112,44 +99,51 @@ fn sums() -> [Move; 5] {
     [(1, 1), (2, 1), (3, 2), (5, 1), (6, -4)].map(|(node, amount)| Move { node, amount })
 }
 
-/// The size of the replies to a round, where its moves are the sums.
-fn replies_with_sums<R: Threads + Sync, A: Allocator + Copy + Send + Sync>(
-    rt: &R,
-    alloc: A,
-    table: &Table<A>,
-    jobs: &[Job<'_>],
-    plan: (u32, u32),
-) -> Option<Result<usize, AllocError>> {
-    match round_of(rt, alloc, table, jobs, plan, &Notes::new())? {
-        Ok(rounded) => {
-            let is_right = rounded.moves.as_slice() == sums().as_slice();
-            is_right.then_some(Ok(rounded.bytes.len()))
-        }
-        Err(refused) => Some(Err(refused)),
-    }
-}
-
 #[test]
 fn moves_are_summed(rt: HostRuntime) -> Result<(), Fail> {
     let table = sample_table(&rt, rt.alloc()).ok_or("the sample image")?;
     let stream = lookups(rt.alloc())?;
     let jobs = jobs_of(rt.alloc(), &stream)?;
     for plan in PLANS {
-        let told = replies_with_sums(&rt, rt.alloc(), &table, &jobs, plan);
-        assert!(rt; told == Some(Ok(1648)), "by {plan:?}");
+        let notes = Notes::new();
+        let rounded = round_of(&rt, rt.alloc(), &table, &jobs, plan, &notes);
+        let Some(Ok(rounded)) = rounded else {
+            return Err(Fail::new("no round"));
+        };
+        assert!(rt; rounded.bytes.len() == 1648, "by {plan:?}");
+        assert!(rt;
+            rounded.moves.as_slice() == sums().as_slice(),
+            "by {plan:?}"
+        );
     }
     Ok(())
 }
 
-/// A round over the table of the sample image, in memory of `alloc`.
-fn round_in<'a, R: Threads + Sync>(
+#[test]
+fn a_round_of_no_jobs(rt: HostRuntime) -> Result<(), Fail> {
+    let table = sample_table(&rt, rt.alloc()).ok_or("the sample image")?;
+    let notes = Notes::new();
+    let rounded = round_of(&rt, rt.alloc(), &table, &[], (2, 3), &notes);
+    assert!(rt; came_to(&rounded, &[], &[]) && notes.digits() == 0);
+    Ok(())
+}
+
+/// Whether a round of the jobs comes to these replies and moves, or fails where memory is refused.
+fn round_is_told<'a, R: Threads + Sync>(
     rt: &R,
     plain: &'a Refusing<Global>,
     alloc: &'a Refusing<Global>,
     jobs: &[Job<'_>],
-) -> Option<Result<usize, AllocError>> {
-    let table = sample_table(rt, plain)?;
-    replies_with_sums(rt, alloc, &table, jobs, (2, 3))
+    replies: usize,
+) -> bool {
+    let Some(table) = sample_table(rt, plain) else {
+        return false;
+    };
+    match round_of(rt, alloc, &table, jobs, (2, 3), &Notes::new()) {
+        Some(Ok(rounded)) => !alloc.refused() && rounded.bytes.len() == replies,
+        Some(Err(AllocError)) => alloc.refused(),
+        None => false,
+    }
 }
 
 #[test]
@@ -157,13 +151,12 @@ fn a_round_is_refused(rt: HostRuntime) -> Result<(), Fail> {
     let stream = lookups(rt.alloc())?;
     let jobs = jobs_of(rt.alloc(), &stream)?;
     let plain = Refusing::new(rt.alloc(), 0);
-    let requests = refuse_each(rt.alloc(), |refusing| {
-        let told = round_in(&rt, &plain, refusing, &jobs);
-        told == if refusing.refused() {
-            Some(Err(AllocError))
-        } else {
-            Some(Ok(1648))
-        }
+    let requests = refuse_each(rt.alloc(), |refusing, refuse_at| {
+        assert!(rt;
+            round_is_told(&rt, &plain, refusing, &jobs, 1648),
+            "at {refuse_at}"
+        );
+        Ok(())
     })?;
     assert!(rt; 5 < requests);
     Ok(())

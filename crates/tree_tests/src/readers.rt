@@ -1,8 +1,7 @@
 //! What the readers of a tree say of the root, of markers' names and of paths through files.
 
-use crate::listings::Is::{Directory, File, Hard};
-use crate::listings::Row;
-use crate::trees::layers::layers;
+use crate::layers::Is::{Directory, File, Hard};
+use crate::layers::{Row, layers};
 use layer_tree::Tree;
 use romfs_image::Kind;
 use romfs_image::sample::BuildFault;
@@ -37,21 +36,6 @@ fn is_told<A: Allocator>(tree: &Tree<A>, row: &Told<'_>) -> bool {
     found == shown && tree.cuts(path) == cut && are_children(tree, path, names)
 }
 
-/// The index of the first path of which a tree says something else.
-fn first_other<A: Allocator>(tree: &Tree<A>, rows: &[Told<'_>]) -> Option<usize> {
-    for (index, row) in rows.iter().enumerate() {
-        if !is_told(tree, row) {
-            return Some(index);
-        }
-    }
-    None
-}
-
-/// Whether `m` has the place of `k`.
-fn is_linked<A: Allocator>(tree: &Tree<A>) -> bool {
-    tree.entry(&[b"m"]) == tree.entry(&[b"k"])
-}
-
 /// The index of the first path of which the stack of these layers says something else; and whether `m` has the
 /// place of `k`.
 fn told<R: Threads + Sync>(
@@ -65,7 +49,13 @@ fn told<R: Threads + Sync>(
         return Err(BuildFault::Listing);
     }
     let tree = stack(rt, alloc, &images, &FreePass)?;
-    Ok((first_other(&tree, rows), is_linked(&tree)))
+    let linked = tree.entry(&[b"m"]) == tree.entry(&[b"k"]);
+    for (index, row) in rows.iter().enumerate() {
+        if !is_told(&tree, row) {
+            return Ok((Some(index), linked));
+        }
+    }
+    Ok((None, linked))
 }
 
 const LOW: &[Row<'static>] = &[

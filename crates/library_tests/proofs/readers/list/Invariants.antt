@@ -1,6 +1,6 @@
 use Rattle.std.proofs.Common.{All}
 use Rattle.romfs_image.specs.Readers.{IsGiven}
-use Rattle.library_tests.proofs.images.readers.list.Given as goal
+use Rattle.library_tests.proofs.readers.list.Given as goal
 
 abbrev pub invariant-loop-head : goal.invariant-loop-head
 invariant-loop-head g l = All (λ head. IsGiven l.image head) l.head-iterator

@@ -22,30 +22,45 @@ const THREE_FILES: [u32; 64] = [
     0x23212f62, 0x696e2f73, 0x680a6578, 0x65632073, 0x680a0000, 0x00000000, 0x00000000, 0x00000000,
 ];
 
-/// The names of the root's members, each with the data at the end of its hard links.
-fn texts<A: Allocator>(alloc: Global, image: &Image<A>) -> Result<Vec<(&[u8], &[u8])>, AllocError> {
-    let mut texts = Vec::new(alloc);
+/// The names of the root's members.
+fn names<A: Allocator>(alloc: Global, image: &Image<A>) -> Result<Vec<&[u8]>, AllocError> {
+    let mut names = Vec::new(alloc);
+    let root = image.root();
+    for head in image.members(&root) {
+        names.push(image.name(&head))?;
+    }
+    Ok(names)
+}
+
+/// The data of the root's members, each at the end of its hard links.
+fn bodies<A: Allocator>(alloc: Global, image: &Image<A>) -> Result<Vec<&[u8]>, AllocError> {
+    let mut bodies = Vec::new(alloc);
     let root = image.root();
     for head in image.members(&root) {
         let file = image.target(&head);
-        texts.push((image.name(&head), image.body(&file)))?;
+        bodies.push(image.body(&file))?;
     }
-    Ok(texts)
+    Ok(bodies)
 }
-
-const TEXTS: [(&[u8], &[u8]); 3] = [
-    (b"passwd", b"root:x:0:0:root:/:/bin/sh\n"),
-    (b"motd", b""),
-    (b"init", b"#!/bin/sh\nexec sh\n"),
-];
 
 #[test]
 fn reads_three_files(rt: HostRuntime) -> Result<(), Fail> {
     let image = Image::check(rt.alloc(), bytes_of(rt.alloc(), &THREE_FILES)?)?;
-    let texts = texts(rt.alloc(), &image)?;
-    assert!(rt; texts.as_slice() == TEXTS.as_slice());
-    let is_found = image.head(32) == Some(image.root()) && image.head(33).is_none();
-    assert!(rt; is_found && image.full() == 256);
+    assert!(rt; image.full() == 256);
+    let names = names(rt.alloc(), &image)?;
+    assert!(rt; names.as_slice() == [b"passwd".as_slice(), b"motd", b"init"].as_slice());
+    let bodies = bodies(rt.alloc(), &image)?;
+    assert!(rt;
+        bodies.as_slice()
+            == [
+                b"root:x:0:0:root:/:/bin/sh\n".as_slice(),
+                b"",
+                b"#!/bin/sh\nexec sh\n"
+            ]
+            .as_slice()
+    );
+    assert!(rt; image.head(32) == Some(image.root()));
+    assert!(rt; image.head(33).is_none());
     Ok(())
 }
 
@@ -75,20 +90,19 @@ fn list_two<A: Allocator>(alloc: Global, image: &Image<A>) -> Result<Vec<(u32, u
     Ok(found)
 }
 
-const LED: [(u32, u32); 6] = [
-    (0x60, 0x100),
-    (0x80, 0x80),
-    (0xa0, 0xa0),
-    (0x100, 0x100),
-    (0x120, 0x120),
-    (0x1a0, 0x100),
-];
-
 #[test]
 fn reads_members_and_targets(rt: HostRuntime) -> Result<(), Fail> {
     let image = Image::check(rt.alloc(), mixed(rt.alloc())?)?;
     let found = list_two(rt.alloc(), &image)?;
-    assert_eq!(rt; found.as_slice(), LED.as_slice());
+    let wanted = [
+        (0x60, 0x100),
+        (0x80, 0x80),
+        (0xa0, 0xa0),
+        (0x100, 0x100),
+        (0x120, 0x120),
+        (0x1a0, 0x100),
+    ];
+    assert_eq!(rt; found.as_slice(), wanted.as_slice());
     Ok(())
 }
 
