@@ -39,12 +39,14 @@ unfolding name_text
 text_first byte rest = refl
 
 -- what follows a run is the text of the other bytes
-pub run_then : (name run others : List ℕ) (i : ℕ) → IsRun name i → run ≡ take i name → others ≡ drop i name → run ++ name_text others ≡ name_text name
+pub run_then : (name run others : List ℕ) (i : ℕ)
+    → IsRun name i → run ≡ take i name → others ≡ drop i name → run ++ name_text others ≡ name_text name
 run_then name run others i r p q =
     ap (λ t. t ++ name_text others) (p ∙ sym r) ∙ ap (λ t. name_text (take i name) ++ name_text t) q
     ∙ text_joined (take i name) (drop i name) ∙ ap name_text (take-append-drop i name)
 
-pub byte_then : (name run others rest : List ℕ) (byte i : ℕ) → IsRun name i → run ≡ take i name → others ≡ drop i name → IsFirstAndRest others byte rest →
+pub byte_then : (name run others rest : List ℕ) (byte i : ℕ)
+    → IsRun name i → run ≡ take i name → others ≡ drop i name → IsFirstAndRest others byte rest →
     (run ++ escaped byte) ++ name_text rest ≡ name_text name
 byte_then name run others rest byte i r p q f =
     append_assoc run (escaped byte) (name_text rest) ∙ ap (λ t. run ++ t) (sym (text_first byte rest) ∙ ap name_text (sym f.0))
@@ -53,7 +55,8 @@ byte_then name run others rest byte i r p q f =
 pub all_left : (w : Option (List ℕ)) (r name : List ℕ) → GainsAllBut w r w r name name
 all_left w r name = record { text = []; gains = gains_none w r; whole = refl }
 
-pub less_left : {u v w : Option (List ℕ)} {r s t name rest others : List ℕ} → GainsAllBut u r v s name rest → GainsAllBut v s w t rest others → GainsAllBut u r w t name others
+pub less_left : {u v w : Option (List ℕ)} {r s t name rest others : List ℕ}
+    → GainsAllBut u r v s name rest → GainsAllBut v s w t rest others → GainsAllBut u r w t name others
 less_left {others = others} g h = record {
   text = g.text ++ h.text;
   gains = gains_more g.gains h.gains;

@@ -16,7 +16,8 @@ pub record Gains (old_held : Option (List ℕ)) (old_room : List ℕ) (new_held 
   pub gained : Appends (append_known old_held old_room) (append_known new_held new_room) bytes
 
 -- what they gained is the text of a name but for that of this rest of it
-pub record GainsAllBut (old_held : Option (List ℕ)) (old_room : List ℕ) (new_held : Option (List ℕ)) (new_room : List ℕ) (name rest : List ℕ) : Type 0 where
+pub record GainsAllBut (old_held : Option (List ℕ)) (old_room : List ℕ)
+    (new_held : Option (List ℕ)) (new_room : List ℕ) (name rest : List ℕ) : Type 0 where
   pub text : List ℕ
   pub gains : Gains old_held old_room new_held new_room text
   pub whole : text ++ name_text rest ≡ name_text name

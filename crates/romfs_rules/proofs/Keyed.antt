@@ -25,7 +25,8 @@ tie m n =
     then_tied _ _ (bytes_eq m n) (is_eq-slice_cmp m n)
     (λ e. ap (λ q. nat_cmp (name_key 8 m) (name_key 8 q)) (sym ((bytes_eq-Decides m n).0 e)) ∙ tied_itself nat_cmp_total (name_key 8 m))
 
-pub class_set : (known map : BTreeMap (ℕ × Bor (List ℕ)) ℕ) (name : Bor (List ℕ)) (key : ℕ) (class : Option ℕ) → key ≡ name_key 8 name.now → UpdatesBy keyed_cmp (keyed_cmp (key, name)) known map class
+pub class_set : (known map : BTreeMap (ℕ × Bor (List ℕ)) ℕ) (name : Bor (List ℕ)) (key : ℕ) (class : Option ℕ)
+    → key ≡ name_key 8 name.now → UpdatesBy keyed_cmp (keyed_cmp (key, name)) known map class
     → (q : List ℕ) → class_in map q ≡ update bytes_eq (class_in known) name.now class q
 class_set known map name key class e u q =
     u.0 (name_key 8 q, record { ref_ptr = name.ref_ptr; now = q })
