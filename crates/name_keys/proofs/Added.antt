@@ -4,18 +4,18 @@ use Rattle.std.specs.List.{slice_index_or}
 use Rattle.std.proofs.lemmas.Bool.{cases_lt}
 use Rattle.std.proofs.lemmas.List.{append-nil, map-append, get_or_default, get_or-map, length-map, take_all, take_more}
 use Rattle.name_keys.specs.Names.{Rise}
-use Rattle.name_keys.specs.Keys.{name_key, AreBytes}
+use Rattle.name_keys.specs.Keys.{key, AreBytes}
 use Rattle.name_keys.specs.Keyed.{ShareFront, AddsKeys}
 use Rattle.name_keys.proofs.Fronts.{long_each}
 
 -- the key of a name
 abbrev key_after : ℕ → List ℕ → ℕ
-key_after shared name = name_key (drop shared name)
+key_after shared name = key 8 (drop shared name)
 
 -- how far the adding of keys has come
 pub record Keying (shared : ℕ) (names : List (List ℕ)) (old new : List ℕ) (i : ℕ) : Type 0 where
   pub bytes : (k : ℕ) (d : List ℕ) → k < i → k < length names → AreBytes (slice_index_or names k d)
-  pub made : new ≡ old ++ map (λ name. name_key (drop shared name)) (take i names)
+  pub made : new ≡ old ++ map (λ name. key 8 (drop shared name)) (take i names)
 
 pub begins : (shared : ℕ) (names : List (List ℕ)) (old : List ℕ) → Keying shared names old old 0
 begins shared names old = record {
@@ -38,7 +38,7 @@ long_here f shared rows i row l at front =
 -- one row more, as the code goes
 pub goes_on : {X : Type 0} (f : X → List ℕ) (shared : ℕ) (rows : List X) (old new new' : List ℕ) (i : ℕ) (row : X) (k : ℕ)
     → i < length rows → row ≡ slice_index_or rows i row → AreBytes (f row) →
-    k ≡ name_key (drop shared (f row)) → new' ≡ new ++ k ∷ [] → Keying shared (map f rows) old new i → Keying shared (map f rows) old new' (i + 1)
+    k ≡ key 8 (drop shared (f row)) → new' ≡ new ++ k ∷ [] → Keying shared (map f rows) old new i → Keying shared (map f rows) old new' (i + 1)
 goes_on f shared rows old new new' i row k l at bytes made pushed g =
     let n = length-map rows f in
     let here : slice_index_or (map f rows) i [] ≡ f row = get_or-map f rows i row [] l ∙ ap f (sym at) in

@@ -1,25 +1,24 @@
 -- Names whose keys differ have other bytes.
-use Rattle.std.proofs.Common.{◌≡◌, ◌≢◌, ◌∙◌, sym, ap, ℕ, ◌%◌, ◌<◌, inl, inr, List, [], ◌++◌, length, take, drop, arith, All}
+use Rattle.std.proofs.Common.{◌≡◌, ◌≢◌, ◌∙◌, sym, ap, ℕ, ◌<◌, inl, inr, List, [], ◌++◌, length, take, drop, arith, All}
 use Rattle.std.specs.Cmp.Lexicographic.{slice_cmp}
-use Rattle.std.specs.Prelude.{slice_index}
 use Rattle.std.specs.List.{slice_index_or}
 use Rattle.std.specs.List.Sorted.{IsNonDecreasingBy}
 use Rattle.std.specs.Ordering.{nat_cmp}
 use Rattle.std.specs.declared.cmp.Ordering.TheVariants.{Less}
 use Rattle.std.proofs.lemmas.Bool.{cases_order}
 use Rattle.std.proofs.lemmas.List.{get_or-map, length-map, take-append-drop}
-use Rattle.name_keys.specs.Keys.{name_key, AreBytes}
+use Rattle.name_keys.specs.Keys.{key}
 use Rattle.name_keys.specs.Runs.{IsKeyRun}
 use Rattle.name_keys.specs.Keyed.{AreKeyed, Narrows, first_of}
 use Rattle.name_keys.proofs.Fronts.{long_each}
-use Rattle.name_keys.proofs.Order.{Bytes, bytes-drop, each_byte, name_key_order, name_key_tells, cmp-front}
+use Rattle.name_keys.proofs.Order.{Bytes, bytes-drop, each_byte, key_order, cmp-front}
 
 module _ (shared : ℕ) (keys : List ℕ) (names : List (List ℕ)) (is : AreKeyed shared keys names) where
   pub length-keys : length keys ≡ length names
-  length-keys = ap length is.made ∙ length-map names (λ name. name_key (drop shared name))
+  length-keys = ap length is.made ∙ length-map names (λ name. key 8 (drop shared name))
 
-  pub key_at : (k : ℕ) (d : List ℕ) (e : ℕ) → k < length names → slice_index_or keys k e ≡ name_key (drop shared (slice_index_or names k d))
-  key_at k d e l = ap (λ (xs : List ℕ). slice_index_or xs k e) is.made ∙ get_or-map (λ name. name_key (drop shared name)) names k d e l
+  pub key_at : (k : ℕ) (d : List ℕ) (e : ℕ) → k < length names → slice_index_or keys k e ≡ key 8 (drop shared (slice_index_or names k d))
+  key_at k d e l = ap (λ (xs : List ℕ). slice_index_or xs k e) is.made ∙ get_or-map (λ name. key 8 (drop shared name)) names k d e l
 
   split : (k : ℕ) (d : List ℕ) → k < length names → slice_index_or names k d ≡ take shared (first_of names) ++ drop shared (slice_index_or names k d)
   split k d l = let name = slice_index_or names k d in sym (take-append-drop shared name) ∙ ap (λ (xs : List ℕ). xs ++ drop shared name) (is.front.same k d l)
@@ -37,15 +36,15 @@ module _ (shared : ℕ) (keys : List ℕ) (names : List (List ℕ)) (is : AreKey
         let x = slice_index_or names i [] in
         let y = slice_index_or names j [] in
         let c : slice_cmp nat_cmp (front ++ drop shared x) (front ++ drop shared y) ≡ Less = rw (← split i [] (omega arith), ← split j [] (omega arith)) (is.rise i j [] q (omega arith)) in
-        rw (key_at i [] e (omega arith), key_at j [] e (omega arith)) (name_key_order (drop shared x) (drop shared y) (rest_bytes i [] (omega arith)) (rest_bytes j [] (omega arith)) (sym (cmp-front front (drop shared x) (drop shared y)) ∙ c))
+        rw (key_at i [] e (omega arith), key_at j [] e (omega arith)) (key_order 8 (drop shared x) (drop shared y) (rest_bytes i [] (omega arith)) (sym (cmp-front front (drop shared x) (drop shared y)) ∙ c))
     | inr (inr q) ↦ absurd (omega arith)
   ]
 
   -- where the key is another, the name is
-  other_key : (name : List ℕ) (k : ℕ) (d : List ℕ) → k < length names → slice_index_or keys k 0 ≢ name_key (drop shared name) → slice_index_or names k d ≢ name
-  other_key name k d l n e = n (key_at k d 0 l ∙ ap (λ (x : List ℕ). name_key (drop shared x)) e)
+  other_key : (name : List ℕ) (k : ℕ) (d : List ℕ) → k < length names → slice_index_or keys k 0 ≢ key 8 (drop shared name) → slice_index_or names k d ≢ name
+  other_key name k d l n e = n (key_at k d 0 l ∙ ap (λ (x : List ℕ). key 8 (drop shared x)) e)
 
-  pub narrows : (name : List ℕ) (t low high : ℕ) → t ≡ name_key (drop shared name) → IsKeyRun keys t low high → Narrows names name low high
+  pub narrows : (name : List ℕ) (t low high : ℕ) → t ≡ key 8 (drop shared name) → IsKeyRun keys t low high → Narrows names name low high
   narrows name t low high made run =
       let n = length-keys in
       let within = run.within_low in
@@ -58,18 +57,3 @@ module _ (shared : ℕ) (keys : List ℕ) (names : List (List ℕ)) (is : AreKey
   -- a name that is shorter than what all share is none of these
   pub too_short : (name : List ℕ) → length name < shared → All (λ its. its ≢ name) names
   too_short name s k d l e = let m = long_each shared names is.front k d l in let n = ap length e in absurd (omega arith)
-
-  -- where the key tells all bytes past the front, a name is the one with this key if the fronts are alike
-  module _ (name : List ℕ) (bytes : AreBytes name) (k : ℕ) (l : k < length names)
-      (made : slice_index keys k ≡ name_key (drop shared name)) (told : slice_index keys k % 256 < 8) where
-    rest_alike : drop shared (slice_index_or names k []) ≡ drop shared name
-    rest_alike =
-        name_key_tells _ _ (rest_bytes k [] l) (bytes-drop shared name (each_byte name bytes))
-        (sym (key_at k [] 0 l) ∙ made) (rw made at told)
-
-    pub told_alike : take shared (first_of names) ≡ take shared name → slice_index_or names k [] ≡ name
-    told_alike e = split k [] l ∙ ap (λ (xs : List ℕ). xs ++ drop shared (slice_index_or names k [])) e
-        ∙ ap (λ (xs : List ℕ). take shared name ++ xs) rest_alike ∙ take-append-drop shared name
-
-    pub alike_front : slice_index_or names k [] ≡ name → take shared (first_of names) ≡ take shared name
-    alike_front e = sym (is.front.same k [] l) ∙ ap (take shared) e

@@ -7,9 +7,9 @@ use Rattle.std.specs.declared.cmp.Ordering.TheVariants.{Less, Greater}
 use Rattle.std.proofs.Math.Nat.{pow-suc, mul_assoc, mul_comm}
 use Rattle.std.proofs.lemmas.Bool.{cases_lt}
 use Rattle.std.proofs.lemmas.Cmp.{nat_cmp_total, ranked, by_ranked, tied_itself}
-use Rattle.std.proofs.lemmas.List.{get_or-take, get_or-drop, get_or_past, get_or_default, length-take, take_all}
+use Rattle.std.proofs.lemmas.List.{get_or-take, get_or-drop, get_or_past, get_or_default, length-take}
 use Rattle.std.proofs.lemmas.Nat.{mul-add-lt, div-mul-add, mod-mul-add}
-use Rattle.name_keys.specs.Keys.{key, name_key, AreBytes}
+use Rattle.name_keys.specs.Keys.{key, AreBytes}
 
 -- the same as `AreBytes`, by places past the end too
 abbrev pub Bytes : List ℕ → Type 0
@@ -62,18 +62,6 @@ key_order (suc n) (x ∷ xs) (y ∷ ys) b c =
     (λ o e. let i = key_order n xs ys t (rw o at c) in rw e (omega arith))
     (λ o l. absurd (let z : Greater ≡ Less = rw o at c in cc)))
 
--- keys that are alike are of first bytes that are alike, and so are those of the rest
-heads : (n x : ℕ) (xs : List ℕ) (y : ℕ) (ys : List ℕ) → Bytes (x ∷ xs) → Bytes (y ∷ ys) → key (suc n) (x ∷ xs) ≡ key (suc n) (y ∷ ys)
-    → (x ≡ y) × (key n xs ≡ key n ys)
-heads n x xs y ys a b e =
-    let w = 256 ^ n in
-    let p = key_below n xs (tail_bytes x xs a) in
-    let q = key_below n ys (tail_bytes y ys b) in
-    let s : x * w + key n xs ≡ y * w + key n ys = sym (key-cons n x xs) ∙ e ∙ key-cons n y ys in (
-      sym (div-mul-add x w (key n xs) p) ∙ ap (λ (v : ℕ). v / w) s ∙ div-mul-add y w (key n ys) q,
-      sym (mod-mul-add x w (key n xs) p) ∙ ap (λ (v : ℕ). v % w) s ∙ mod-mul-add y w (key n ys) q,
-    )
-
 -- of bytes of one length a key tells the first ones
 pub key_tells : (n : ℕ) (xs ys : List ℕ) → Bytes xs → Bytes ys → length xs ≡ length ys → key n xs ≡ key n ys → take n xs ≡ take n ys
 key_tells zero xs ys a b l e = refl
@@ -81,41 +69,13 @@ key_tells (suc n) [] [] a b l e = refl
 key_tells (suc n) [] (y ∷ ys) a b l e = absurd (omega arith)
 key_tells (suc n) (x ∷ xs) [] a b l e = absurd (omega arith)
 key_tells (suc n) (x ∷ xs) (y ∷ ys) a b l e =
-    let h = heads n x xs y ys a b e in
-    rw (h.0, key_tells n xs ys (tail_bytes x xs a) (tail_bytes y ys b) (omega arith) h.1) refl
-
--- where the first bytes are alike, what comes first is no longer, if the other ends among them
-no_longer : (n : ℕ) (xs ys : List ℕ) → Bytes xs → Bytes ys → slice_cmp nat_cmp xs ys ≡ Less → key n xs ≡ key n ys
-    → length ys ≤ n → length xs ≤ length ys
-no_longer n [] ys a b c e l = omega arith
-no_longer n (x ∷ xs) [] a b c e l = absurd (cc)
-no_longer zero (x ∷ xs) (y ∷ ys) a b c e l = absurd (omega arith)
-no_longer (suc n) (x ∷ xs) (y ∷ ys) a b c e l =
-    let h = heads n x xs y ys a b e in
-    let i = no_longer n xs ys (tail_bytes x xs a) (tail_bytes y ys b) (rw (h.0, tied_itself nat_cmp_total y) at c) h.1 (omega arith) in
-    omega arith
-
--- the keys of names keep their order too
-pub name_key_order : (xs ys : List ℕ) → Bytes xs → Bytes ys → slice_cmp nat_cmp xs ys ≡ Less → name_key xs ≤ name_key ys
-name_key_order xs ys a b c =
-    let i = key_order 7 xs ys a c in
-    elim (cases_lt (key 7 xs) (key 7 ys)) [
-      | inl l ↦ omega arith
-      | inr l ↦
-          let e : key 7 xs ≡ key 7 ys = omega arith in
-          elim (cases_lt 7 (length ys)) [
-            | inl m ↦ omega arith
-            | inr m ↦ let k = no_longer 7 xs ys a b c e m in omega arith
-          ]
-    ]
-
--- a key that ends below 8 tells all bytes
-pub name_key_tells : (xs ys : List ℕ) → Bytes xs → Bytes ys → name_key xs ≡ name_key ys → name_key ys % 256 < 8 → xs ≡ ys
-name_key_tells xs ys a b e l =
-    let m : length ys ≤ 7 = omega arith in
-    let n : length xs ≡ length ys = omega arith in
-    let k : key 7 xs ≡ key 7 ys = omega arith in
-    sym (take_all 7 xs (omega arith)) ∙ key_tells 7 xs ys a b n k ∙ take_all 7 ys m
+    let w = 256 ^ n in
+    let p = key_below n xs (tail_bytes x xs a) in
+    let q = key_below n ys (tail_bytes y ys b) in
+    let s : x * w + key n xs ≡ y * w + key n ys = sym (key-cons n x xs) ∙ e ∙ key-cons n y ys in
+    let head : x ≡ y = sym (div-mul-add x w (key n xs) p) ∙ ap (λ (v : ℕ). v / w) s ∙ div-mul-add y w (key n ys) q in
+    let rest : key n xs ≡ key n ys = sym (mod-mul-add x w (key n xs) p) ∙ ap (λ (v : ℕ). v % w) s ∙ mod-mul-add y w (key n ys) q in
+    rw (head, key_tells n xs ys (tail_bytes x xs a) (tail_bytes y ys b) (omega arith) rest) refl
 
 -- what stands before both decides nothing
 pub cmp-front : (front xs ys : List ℕ) → slice_cmp nat_cmp (front ++ xs) (front ++ ys) ≡ slice_cmp nat_cmp xs ys

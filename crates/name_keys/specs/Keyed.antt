@@ -2,7 +2,7 @@
 use Rattle.std.specs.Prelude.{◌≡◌, ◌≢◌, ℕ, ◌≤◌, List, [], ◌++◌, length, map, take, drop, All}
 use Rattle.std.specs.List.{slice_index_or, AllWithin}
 use Rattle.name_keys.specs.Names.{Rise}
-use Rattle.name_keys.specs.Keys.{name_key, AreBytes}
+use Rattle.name_keys.specs.Keys.{key, AreBytes}
 
 -- the first name, and no bytes where there is none
 abbrev pub first_of : List (List ℕ) → List ℕ
@@ -13,12 +13,12 @@ pub record ShareFront (shared : ℕ) (names : List (List ℕ)) : Type 0 where
   pub long : shared ≤ length (first_of names)
   pub same : All (λ name. take shared name ≡ take shared (first_of names)) names
 
--- the names come in order and share a front, and each key is that of the bytes after it
+-- the names come in order and share a front, and each key is made of the eight bytes after it
 pub record AreKeyed (shared : ℕ) (keys : List ℕ) (names : List (List ℕ)) : Type 0 where
   pub rise : Rise names
   pub bytes : All AreBytes names
   pub front : ShareFront shared names
-  pub made : keys ≡ map (λ name. name_key (drop shared name)) names
+  pub made : keys ≡ map (λ name. key 8 (drop shared name)) names
 
 -- the keys of these names are added at the end
 pub record AddsKeys (shared : ℕ) (names : List (List ℕ)) (old new : List ℕ) : Type 0 where

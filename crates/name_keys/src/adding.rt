@@ -1,10 +1,11 @@
 //! Keys of names that come in order.
 
-ghost use Rattle.std.specs.Prelude.{◌≡◌, ◌≤◌, length, map, take, IfOk};
+ghost use Rattle.std.specs.Prelude.{◌≡◌, ◌≤◌, length, map, take, drop, IfOk};
 ghost use Rattle.name_keys.specs.Names.{Rise};
+ghost use Rattle.name_keys.specs.Keys.{key, AreBytes};
 ghost use Rattle.name_keys.specs.Keyed.{ShareFront, AddsKeys};
 
-use crate::key::key_past;
+use crate::key::key_of;
 use crate::named::Named;
 use std::alloc::{AllocError, Allocator};
 
@@ -25,6 +26,15 @@ pub fn add_keys<T: Named, A: Allocator>(
         keys.push(key_past(row.name(), shared))?;
     }
     Ok(shared)
+}
+
+/// The key of a name past the bytes that all share.
+fn key_past(name: &[u8], shared: usize) -> u64
+    requires { shared ≤ length name.now }
+    ensures value { result ≡ key 8 (drop shared name.now) }
+    ensures bytes { AreBytes name.now }
+{
+    key_of(&name[shared..])
 }
 
 /// How many bytes at their fronts names in order share: those that the first and the last one share.

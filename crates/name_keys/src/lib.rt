@@ -7,22 +7,19 @@
 //! # How a name is found
 //!
 //! The names of a directory that come in order share the front that its first and its last name share. After it the
-//! next seven bytes are taken as a number, the first byte highest, and then how many bytes come after the front, with 8
-//! for more than seven: the name's key. Keys never fall where names rise, and one that ends below 8 tells all of its
-//! name but the front.
+//! next eight bytes are taken as a number, the name's key, the first byte highest. Keys never fall where names rise.
 //!
 //! ```text
 //! a directory whose names share `file-`
 //!   rows               keys
-//!   file-000017        "000017\0" 6
-//!   file-000018        "000018\0" 6
-//!   file-1             "1\0\0\0\0\0\0" 1
-//!   file-backup-2      "backup-" 8
+//!   file-000017        "000017\0\0"
+//!   file-000018        "000018\0\0"
+//!   file-1             "1\0\0\0\0\0\0\0"
 //! ```
 //!
-//! So a look-up searches among numbers that stand side by side, by halves and with no branch on what it compares. Where
-//! the key that it finds tells the name, only the front is compared, with that of the first row; else one row is read,
-//! whose name is compared as a whole. Where several names have one key, these are searched by whole names.
+//! So a look-up searches among numbers that stand side by side, by halves and with no branch on what it compares, and
+//! reads one row, whose name is compared as a whole. Where several names have one key, these are searched by whole
+//! names.
 //!
 //! # What it costs
 //!

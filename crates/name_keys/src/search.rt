@@ -1,12 +1,10 @@
 //! The place of a name in one directory.
 
-ghost use Rattle.std.specs.Prelude.{◌≡◌, ◌≤◌, ◌<◌, ◌↔◌, [], length, map, drop, slice_index, IsTrue};
-ghost use Rattle.std.specs.List.{slice_index_or};
+ghost use Rattle.std.specs.Prelude.{◌≡◌, map};
 ghost use Rattle.name_keys.specs.Names.{Rise, place_of};
-ghost use Rattle.name_keys.specs.Keys.{name_key, AreBytes};
 ghost use Rattle.name_keys.specs.Keyed.{AreKeyed, Narrows};
 
-use crate::key::{key_past, tells_all};
+use crate::key::key_of;
 use crate::named::Named;
 use crate::run::run_of;
 use std::cmp::Ordering;
@@ -24,32 +22,15 @@ pub fn find<T: Named>(rows: &[T], keys: &[u64], shared: usize, name: &[u8]) -> O
     if name.len() < shared {
         return None;
     }
-    let key = key_past(name, shared);
+    let key = key_of(&name[shared..]);
     let (low, high) = run_of(keys, key);
     if low + 1 != high {
         return find_by_name(rows, name, low, high);
     }
-    if is_named(rows, keys, shared, name, low) {
+    if rows[low].name() == name {
         Some(low)
     } else {
         None
-    }
-}
-
-/// Whether the row at a place, whose key the name has, has this name. Where the key tells all bytes past the front
-/// that the names share, only the front is compared, with that of the first row.
-fn is_named<T: Named>(rows: &[T], keys: &[u64], shared: usize, name: &[u8], place: usize) -> bool
-    requires keyed { AreKeyed shared keys.now (map T.name rows.now) }
-    requires long { shared ≤ length name.now }
-    requires place { place < length keys.now }
-    requires key { slice_index keys.now place ≡ name_key (drop shared name.now) }
-    requires bytes { AreBytes name.now }
-    ensures { IsTrue result ↔ (slice_index_or (map T.name rows.now) place [] ≡ name.now) }
-{
-    if tells_all(keys[place]) {
-        rows[0].name()[..shared] == name[..shared]
-    } else {
-        rows[place].name() == name
     }
 }
 

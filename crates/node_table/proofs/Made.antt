@@ -14,7 +14,7 @@ use Rattle.layer_tree.specs.declared.place.Entry.{Entry}
 use Rattle.path_tree.specs.Rows.{Shoot}
 use Rattle.node_table.specs.declared.node.Node.{Node}
 use Rattle.node_table.specs.declared.directory.Directory.{Directory as Folder}
-use Rattle.name_keys.specs.Keys.{name_key}
+use Rattle.name_keys.specs.Keys.{key}
 use Rattle.name_keys.specs.Keyed.{AreKeyed}
 use Rattle.node_table.specs.Rows.{Line, names}
 use Rattle.node_table.specs.Readers.{placed, rows_of}
@@ -153,7 +153,7 @@ module _ (layers : List (List ℕ)) (entries : List Listed) (tell : Place → �
       let lines = map (line_in tell) cs in
       let k = ap length m.keys_are.is in
       let f = ap length m.keys_are.keyed.made in
-      let n = length_map (λ (name : List ℕ). name_key (drop d.shared name)) (names lines) in
+      let n = length_map (λ (name : List ℕ). key 8 (drop d.shared name)) (names lines) in
       let o = length_map (λ (line : Line). line.name) lines in
       let r = ap length m.rows_are in
       omega (arith, length-append keys m.keys_are.keys, length-append old lines)

@@ -1,16 +1,16 @@
 -- The row with a name, by the place of the name.
-use Rattle.std.proofs.Common.{◌≡◌, ◌∙◌, sym, ap, ℕ, suc, ◌-◌, ◌<◌, inl, inr, List, [], ◌∷◌, length, get_or, take, drop, refl, arith, Bool, false, Some, None}
-use Rattle.std.specs.Prelude.{find, slice_get, slice_index, slice_range}
+use Rattle.std.proofs.Common.{◌≡◌, ◌∙◌, sym, ap, ℕ, suc, ◌<◌, inl, inr, List, [], ◌∷◌, length, get_or, refl, arith, Bool, false, Some, None}
+use Rattle.std.specs.Prelude.{find, slice_get}
 use Rattle.std.specs.List.{position_or_len}
 use Rattle.std.proofs.lemmas.Bool.{cases_lt, lt-ltb}
-use Rattle.std.proofs.lemmas.List.{get_or-map, length-map, drop-map, take-map}
+use Rattle.std.proofs.lemmas.List.{get_or-map, length-map}
 use Rattle.std.proofs.lemmas.List.Folds.{find_at}
 use Rattle.std.proofs.lemmas.List.Quantifiers.{position-Some}
 use Rattle.std.proofs.lemmas.List.Sums.{position_or_len_is, fails_before_first}
 use Rattle.std.proofs.lemmas.Option.{slice_get-get_or}
 use Rattle.stack_model.specs.Numbers.{same_name}
 use Rattle.name_keys.specs.Names.{place_of}
-use Rattle.node_table.specs.Rows.{Line, names, row_numbers, line_named}
+use Rattle.node_table.specs.Rows.{Line, names, line_named}
 
 module _ (n : List ℕ) (ls : List Line) where
   abbrev is : Line → Bool
@@ -44,13 +44,3 @@ named_nowhere n ls e = elim (cases_lt (position_or_len (same_name n) (names ls))
       let m = length-map ls (λ (line : Line). line.name) in
       none_is (is n ls) ls (λ k d o. sym (is_named n ls k d o) ∙ fails_before_first (same_name n) (names ls) k [] (omega arith))
 ]
-
--- the numbers of some rows that stand side by side
-pub range_numbers : (ls : List Line) (a b : ℕ) → slice_range (row_numbers ls) a b ≡ row_numbers (slice_range ls a b)
-range_numbers ls a b =
-    let f = λ (l : Line). l.number in
-    ap (take (b - a)) (drop-map f a ls) ∙ take-map f (b - a) (drop a ls)
-
--- the number that stands beside the row at a place
-pub number_at : (ls : List Line) (ns : List ℕ) (i : ℕ) (d : Line) → ns ≡ row_numbers ls → i < length ls → (get_or ls i d).number ≡ slice_index ns i
-number_at ls ns i d e l = sym (get_or-map (λ (line : Line). line.number) ls i d 0 l) ∙ ap (λ (x : List ℕ). get_or x i 0) (sym e)

@@ -12,10 +12,6 @@ pub record Line : Type 0 where
 abbrev pub names : List Line → List (List ℕ)
 names lines = map (λ line. line.name) lines
 
--- their numbers
-abbrev pub row_numbers : List Line → List ℕ
-row_numbers lines = map (λ line. line.number) lines
-
 -- the row with this name
 abbrev pub line_named : List ℕ → List Line → Option Line
 line_named name lines = find (λ line. same_name name line.name) lines

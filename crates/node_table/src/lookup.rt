@@ -3,7 +3,7 @@
 ghost use Rattle.std.specs.Prelude.{◌≡◌, ◌≤◌, None, Some, MatchOption, length, slice_range};
 ghost use Rattle.name_keys.specs.Keyed.{AreKeyed};
 ghost use Rattle.node_table.specs.Held.{attr_held, held_at, directory_held};
-ghost use Rattle.node_table.specs.Rows.{names, row_numbers, number_named};
+ghost use Rattle.node_table.specs.Rows.{names, number_named};
 
 use crate::directory::Directory;
 use crate::node::{Attr, Node};
@@ -63,27 +63,26 @@ pub(crate) fn rows_of<'a, A: Allocator>(rows: &'a [Row<A>], directory: &Director
     &rows[directory.rows_start..directory.rows_end]
 }
 
-// What stands beside a directory's rows, of what stands beside all rows.
-pub(crate) fn beside_rows<'a>(all: &'a [u64], directory: &Directory) -> &'a [u64]
+// The keys of a directory's rows.
+pub(crate) fn keys_of<'a>(keys: &'a [u64], directory: &Directory) -> &'a [u64]
     requires start { directory.now.rows_start ≤ directory.now.rows_end }
-    requires end { directory.now.rows_end ≤ length all.now }
-    ensures { result.now ≡ slice_range all.now directory.now.rows_start directory.now.rows_end }
+    requires end { directory.now.rows_end ≤ length keys.now }
+    ensures { result.now ≡ slice_range keys.now directory.now.rows_start directory.now.rows_end }
 {
-    &all[directory.rows_start..directory.rows_end]
+    &keys[directory.rows_start..directory.rows_end]
 }
 
-// The number of the row with this name, by the keys and the numbers of these rows.
+// The number of the row with this name, by the keys of these rows.
 pub(crate) fn number_named<A: Allocator>(
     rows: &[Row<A>],
     keys: &[u64],
-    numbers: &[u64],
     shared: usize,
     name: &[u8],
 ) -> Option<u64>
-    requires keyed { AreKeyed shared keys.now (names rows.now) }
-    requires numbered { numbers.now ≡ row_numbers rows.now }
+    requires { AreKeyed shared keys.now (names rows.now) }
     ensures { result ≡ number_named name.now rows.now }
 {
     let at = find(rows, keys, shared, name)?;
-    Some(numbers[at])
+    let row = &rows[at];
+    Some(row.number)
 }

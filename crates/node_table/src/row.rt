@@ -1,11 +1,10 @@
 //! A child of a directory.
 
-ghost use Rattle.std.specs.Prelude.{◌≡◌, IfOk};
-ghost use Rattle.node_table.specs.Rows.{row_numbers};
+ghost use Rattle.std.specs.Prelude.{◌≡◌};
 
 use name_keys::Named;
 use path_tree::Name;
-use std::alloc::{AllocError, Allocator};
+use std::alloc::Allocator;
 use std::marker::Model;
 
 /// A child of a directory: its number, and its name there. A short name stands in the row itself.
@@ -30,20 +29,6 @@ impl<A: Allocator> Row<A> {
     {
         self.name.as_slice()
     }
-}
-
-// The numbers of rows.
-pub(crate) fn numbers_of<A: Allocator + Copy>(
-    alloc: A,
-    rows: &[Row<A>],
-) -> Result<Vec<u64, A>, AllocError>
-    ensures { IfOk result (λ all. all.items ≡ row_numbers rows.now) }
-{
-    let mut all = Vec::with_capacity(alloc, rows.len())?;
-    for row in rows {
-        all.push(row.number)?;
-    }
-    Ok(all)
 }
 
 impl<A: Allocator> Named for Row<A> {

@@ -7,7 +7,6 @@ ghost use Rattle.layer_tree.specs.Trees.{IsTreeOf};
 ghost use Rattle.stack_model.specs.Listing.{IsListing};
 ghost use Rattle.stack_model.specs.Numbers.{nodes};
 ghost use Rattle.stack_model.specs.Attributes.{blocks_all};
-ghost use Rattle.node_table.specs.Rows.{row_numbers};
 ghost use Rattle.node_table.specs.Stacked.{Listed, listed_once, IsTableOf};
 ghost use Rattle.node_table.specs.Seeds.{AreMade};
 ghost use Rattle.node_table.specs.Readers.{TellsNode, attr_at, parent_at, child_at, rows_at, data_of_number};
@@ -15,10 +14,10 @@ ghost use Rattle.node_table.specs.Readers.{TellsNode, attr_at, parent_at, child_
 use crate::building::{Parts, make};
 use crate::completing::{blocks_of, complete_all};
 use crate::directory::{Directories, Directory};
-use crate::lookup::{attr_of, beside_rows, directory_at, node_at, number_named, rows_of};
+use crate::lookup::{attr_of, directory_at, keys_of, node_at, number_named, rows_of};
 use crate::node::{Attr, Node};
 use crate::numbering::number_places;
-use crate::row::{Row, numbers_of};
+use crate::row::Row;
 use crate::walk::{Walked, walk};
 use layer_tree::Tree;
 use romfs_image::Image;
@@ -28,23 +27,21 @@ use std::thread::Threads;
 
 /// The nodes of a stack of layers, by number: attributes, rows and data.
 ///
-/// A clause sees the layers and their listing. Each node and row takes at most 96 bytes beside a name of more than 23,
-/// and a directory 32 more. No reader takes memory, and each answers for every number: 1 is the root, and a number that
-/// is not in use has nothing.
+/// A clause sees the layers and their listing. Each node and row takes at most 88 bytes beside a name of more than 23,
+/// and a directory 32 more. No reader
+/// takes memory, and each answers for every number: 1 is the root, and a number that is not in use has nothing.
 #[derive(Drop)]
 pub struct Table<A: Allocator> {
     images: Vec<Image<A>, A>,
     nodes: Vec<Node, A>,
     directories: Directories<A>,
-    numbers: Vec<u64, A>,
     blocks: u64,
-    ghost numbered: { numbers.items ≡ row_numbers directories.rows.items },
     ghost listing: { Listed images.items } by { listed_once images.items },
 }
 
 const _: () = prove!(size_of::<Node>() <= 40);
 
-const _: () = prove!(size_of::<Node>() + size_of::<Row<Global>>() + 2 * size_of::<u64>() <= 96);
+const _: () = prove!(size_of::<Node>() + size_of::<Row<Global>>() + size_of::<u64>() <= 88);
 
 const _: () = prove!(size_of::<Directory>() <= 32);
 
@@ -81,12 +78,10 @@ impl<A: Allocator + Copy> Table<A> {
             directories,
         } = parts_of(alloc, &tree, &images)?;
         complete_all(rt, &mut nodes);
-        let numbers = numbers_of(alloc, &directories.rows)?;
         Ok(Table {
             images,
             nodes,
             directories,
-            numbers,
             blocks,
         })
     }
@@ -147,9 +142,8 @@ impl<A: Allocator> Table<A> {
     {
         let directory = directory_at(&self.nodes, &self.directories.all, number)?;
         let rows = rows_of(&self.directories.rows, directory);
-        let keys = beside_rows(&self.directories.keys, directory);
-        let numbers = beside_rows(&self.numbers, directory);
-        number_named(rows, keys, numbers, directory.shared, name)
+        let keys = keys_of(&self.directories.keys, directory);
+        number_named(rows, keys, directory.shared, name)
     }
 
     /// The children of a directory in the order of their names, without `.` and `..`; empty where the number is no

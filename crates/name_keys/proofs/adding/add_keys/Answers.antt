@@ -1,5 +1,5 @@
 use Rattle.std.proofs.Common.{◌∙◌, sym, ap, subst, ◌≤◌, ℕ, List, length, drop}
-use Rattle.name_keys.specs.Keys.{name_key, AreBytes}
+use Rattle.name_keys.specs.Keys.{key, AreBytes}
 use Rattle.name_keys.proofs.Added.{goes_on, long_here}
 use Rattle.name_keys.proofs.adding.add_keys.Goals as goal
 
@@ -14,5 +14,5 @@ loop-row-preserved g c =
     goes_on g.T.Named.name c.shared_by_all-shared.result c.args.rows.now c.args.keys.now.items
     c.loop-row.keys.items c.push.new.self.items c.loop-row.row-index c.row-item.result c.key_past.result
     c.loop-row-test.true c.row-item.is (subst AreBytes c.name.ensures c.key_past.ensures.bytes)
-    (c.key_past.ensures.value ∙ ap (λ (x : List ℕ). name_key (drop c.shared_by_all-shared.result x))
+    (c.key_past.ensures.value ∙ ap (λ (x : List ℕ). key 8 (drop c.shared_by_all-shared.result x))
     c.name.ensures) c.in_ok-push.ensures.items c.loop-row.invariant
