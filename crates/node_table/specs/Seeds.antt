@@ -27,7 +27,8 @@ pub record AreSeedlings (layers : List (List ℕ)) (entries : List Listed) (tell
 -- the branch agrees with the listing at its place
 pub record IsSeed (layers : List (List ℕ)) (entries : List Listed) (tell : Seat → ℕ) (paths : ℕ) (spot : Spot Entry) : Type 0 where
   pub seat : IsSeat layers spot.0.now
-  pub data_is : (image : List ℕ) → slice_get layers spot.0.now.value.place.layer ≡ Some image → data_in image spot.0.now.value.place.header ≡ data_of layers (spot_place spot)
+  pub data_is : (image : List ℕ) → slice_get layers spot.0.now.value.place.layer ≡ Some image
+      → data_in image spot.0.now.value.place.header ≡ data_of layers (spot_place spot)
   pub kind_is : spot.0.now.value.kind ≡ kind_at layers (spot_place spot)
   pub parent_is : tell spot.1.place ≡ number entries (parent entries (spot_place spot))
   pub below : (cs : List (Shoot Entry)) → spot.0.now.below ≡ spread cs → IsForest cs → AreSeedlings layers entries tell (spot_place spot) cs
