@@ -23,7 +23,9 @@ Listed layers = (entries : List Entry) × ∥ IsListing layers entries ∥₁
 -- an entry is told by its path, its layer and its header
 abbrev entry_code : Coded Entry
 entry_code =
-    code_by (List (List ℕ) × (ℕ × ℕ)) (coded× {A = List (List ℕ)} {B = ℕ × ℕ} (coded_list (coded_list coded_ℕ)) (coded× coded_ℕ coded_ℕ)) (λ e. (e.path, (e.layer, e.header))) (λ p. record { path = p.0; layer = p.1.0; header = p.1.1 }) (λ _. refl)
+    code_by (List (List ℕ) × (ℕ × ℕ))
+    (coded× {A = List (List ℕ)} {B = ℕ × ℕ} (coded_list (coded_list coded_ℕ)) (coded× coded_ℕ coded_ℕ))
+    (λ e. (e.path, (e.layer, e.header))) (λ p. record { path = p.0; layer = p.1.0; header = p.1.1 }) (λ _. refl)
 
 -- there is only one
 pub listed_once : (layers : List (List ℕ)) → IsProp (Listed layers)
