@@ -43,4 +43,4 @@ pub use put::{
     put_error, put_head, put_init, put_open, put_statfs,
 };
 pub use reply::{Attr, Dirent, InitOut};
-pub use request::{Op, Request};
+pub use request::{Op, Request, glance};

@@ -1,11 +1,12 @@
 //! Replies and rows as bytes. Each writer appends exactly its bytes; where the vector has no room for them and gets
 //! none, it is as before.
 
-ghost use Rattle.std.specs.Prelude.{◌≡◌, ◌++◌, ◌<◌, ◌≤◌, ◌+◌, ◌-◌, ◌^◌, [], length};
+ghost use Rattle.std.specs.Prelude.{◌≡◌, ◌++◌, ◌<◌, ◌≤◌, ◌+◌, ◌-◌, ◌^◌, [], length, vec_len, vec_capacity};
 ghost use Rattle.std.specs.Option.{option_copied, option_map_or};
 ghost use Rattle.fuse_wire.specs.Structures.{zeros, init_out, entry_out, attr_out, open_out, statfs_out, dirent_size, padding, row_bytes, plus_row_bytes};
 ghost use Rattle.fuse_wire.specs.Replies.{reply_head, reply_with, error_reply};
 ghost use Rattle.fuse_wire.specs.Appends.{Appends};
+ghost use Rattle.fuse_wire.specs.declared.put.TheConstants.{DIRENT_FRONT_SIZE};
 
 use crate::structure::Structure;
 use crate::structures::{
@@ -19,8 +20,8 @@ use std::alloc::{AllocError, Allocator};
 /// The size of a `struct fuse_dirent` before its name.
 const DIRENT_FRONT_SIZE: usize = 24;
 
-/// What stands behind a name, up to a multiple of 8 bytes.
-const PADDING: [u8; 7] = [0; 7];
+/// What stands behind a name, up to a multiple of 8 bytes: fewer than these.
+const PADDING: [u8; 8] = [0; 8];
 
 /// Appends a reply without data: a `struct fuse_out_header` of 16 bytes alone, with no error.
 #[tactic(auto, unfolding(crate::specs::Replies::reply_with), using(std::proofs::lemmas::Grind::common_steps))]
@@ -223,6 +224,7 @@ fn entry_or_zeros(fields: &mut Structure, entry: Option<&Attr>)
 }
 
 // Appends the front of a row, its name, and zeros.
+#[tactic(auto, using(crate::proofs::Padding::padding_is))]
 #[inline(always)]
 fn put_row<A: Allocator>(
     out: &mut Vec<u8, A>,
@@ -232,17 +234,40 @@ fn put_row<A: Allocator>(
     requires { length name.now < 2 ^ 32 }
     ensures { Appends result out.old out.new (front.now ++ name.now ++ padding (length name.now)) }
 {
-    put_three(out, front.as_slice(), name, padding(name.len()))
+    let front = front.as_slice();
+    let padding = padding(name.len());
+    if out.capacity() - out.len() < front.len() + name.len() + PADDING.len() {
+        return put_three(out, front, name, &PADDING[..padding]);
+    }
+    put_in_room(out, front, name, padding);
+    Ok(())
 }
 
-// The zeros behind a name of this many bytes.
-#[tactic(auto, using(crate::proofs::Padding::padding_is))]
-fn padding(name_len: usize) -> &'static [u8]
-    requires { name_len < 2 ^ 32 }
-    ensures zeros { result.now ≡ padding name_len }
-    ensures few { length result.now ≤ 7 }
+// The same, where there is room for more zeros than are wanted: eight are written at once, and cut to these.
+#[tactic(auto, using(crate::proofs::Padding::cut_to))]
+#[inline(always)]
+fn put_in_room<A: Allocator>(out: &mut Vec<u8, A>, front: &[u8], name: &[u8], padding: usize)
+    requires few { padding ≤ 8 }
+    requires room { vec_len out.old + length front.now + length name.now + 8
+        ≤ vec_capacity out.old }
+    ensures items { out.new.items ≡ out.old.items ++ front.now ++ name.now ++ zeros padding }
+    ensures capacity { vec_capacity out.old ≤ vec_capacity out.new }
 {
-    &PADDING[..dirent_size(name_len) - (DIRENT_FRONT_SIZE + name_len)]
+    let _ = out.extend_from_slice(front);
+    let _ = out.extend_from_slice(name);
+    let end = out.len() + padding;
+    let _ = out.extend_from_slice(&PADDING);
+    out.truncate(end);
+}
+
+// How many zeros stand behind a name of this many bytes.
+#[inline(always)]
+fn padding(name_len: usize) -> usize
+    requires { name_len < 2 ^ 32 }
+    ensures value { result ≡ dirent_size name_len - (DIRENT_FRONT_SIZE + name_len) }
+    ensures few { result ≤ 7 }
+{
+    dirent_size(name_len) - (DIRENT_FRONT_SIZE + name_len)
 }
 
 // Appends three runs of bytes, one after another, in one growth.

@@ -25,19 +25,27 @@
 //!
 //! Making keys takes one step a name, and eight bytes. Finding a name takes as many steps over keys as the number of
 //! names has binary digits. Only where keys are equal does it take at most as many over keys and over names again, so
-//! no choice of names makes it slower than a search by halves over the names, but for a constant factor. Nothing is
-//! hashed, and a look-up takes no memory.
+//! no choice of names makes it slower than a search by halves over the names, but for a constant factor. A look-up
+//! takes no memory.
+//!
+//! # Guesses
+//!
+//! Whoever has many directories may keep [`Guesses`] beside all their rows: a table in which a hash of directory and
+//! name tells where the row may stand. A guess counts only where the row has the name, so a stranger who knows the hash
+//! can make a look-up no dearer than by keys. It costs 8 to 16 bytes a row.
 //!
 //! The crate stands on `std` alone.
 #![tactic(auto)]
 
 mod adding;
+mod guesses;
 mod key;
 mod named;
 mod run;
 mod search;
 
 pub use adding::add_keys;
+pub use guesses::Guesses;
 pub use key::key_of;
 pub use named::Named;
 pub use search::find;

@@ -13,9 +13,9 @@
 //! ```
 //!
 //! All nodes lie in one vector by their numbers, and all rows in another, those of a directory together; beside each
-//! row lies the key by which its name is found (`name_keys`). A node keeps where its data lie, so no answer parses a
-//! header, and only a directory keeps more: where its rows lie, and which directory is above. What these parts have to
-//! say of the listing is the table's invariant (`specs/Held.antt`).
+//! row lies the key by which its name is found (`name_keys`), where a guess does not tell the row. A node keeps where
+//! its data lie, so no answer parses a header, and only a directory keeps more: where its rows lie, and which directory
+//! is above. What these parts have to say of the listing is the table's invariant (`specs/Held.antt`).
 //!
 //! A table is made in one walk over the tree, which tells for each branch where the one above stands and how many are
 //! below it. Places are numbered by a sort of them; from then on a branch's number is found by where it stands.

@@ -1,16 +1,17 @@
 //! Look-ups in the parts of a table.
 
 ghost use Rattle.std.specs.Prelude.{◌≡◌, ◌≤◌, None, Some, MatchOption, length, slice_range};
+ghost use Rattle.name_keys.specs.Names.{place_of};
 ghost use Rattle.name_keys.specs.Keyed.{AreKeyed};
 ghost use Rattle.node_table.specs.Held.{attr_held, held_at, directory_held};
 ghost use Rattle.node_table.specs.Rows.{names, number_named};
 
-use crate::directory::Directory;
+use crate::directory::{Directories, Directory};
 use crate::node::{Attr, Node};
 use crate::row::Row;
-use name_keys::find;
+use name_keys::{Guesses, find};
 use romfs_image::Kind;
-use std::alloc::Allocator;
+use std::alloc::{AllocError, Allocator};
 
 // The node of a number, counted from 1.
 pub(crate) fn node_at(nodes: &[Node], number: u64) -> Option<&Node>
@@ -72,17 +73,59 @@ pub(crate) fn keys_of<'a>(keys: &'a [u64], directory: &Directory) -> &'a [u64]
     &keys[directory.rows_start..directory.rows_end]
 }
 
-// The number of the row with this name, by the keys of these rows.
+// The number of the row with this name, by what is guessed or by the keys of these rows.
 pub(crate) fn number_named<A: Allocator>(
     rows: &[Row<A>],
     keys: &[u64],
-    shared: usize,
+    guesses: &Guesses<A>,
+    number: u64,
+    directory: &Directory,
     name: &[u8],
 ) -> Option<u64>
-    requires { AreKeyed shared keys.now (names rows.now) }
+    requires { AreKeyed directory.now.shared keys.now (names rows.now) }
     ensures { result ≡ number_named name.now rows.now }
 {
-    let at = find(rows, keys, shared, name)?;
+    let at = place_of(rows, keys, guesses, number, directory, name)?;
     let row = &rows[at];
     Some(row.number)
+}
+
+// The place of this name among these rows.
+fn place_of<A: Allocator>(
+    rows: &[Row<A>],
+    keys: &[u64],
+    guesses: &Guesses<A>,
+    number: u64,
+    directory: &Directory,
+    name: &[u8],
+) -> Option<usize>
+    requires { AreKeyed directory.now.shared keys.now (names rows.now) }
+    ensures { result ≡ place_of name.now (names rows.now) }
+{
+    match guesses.find(number, directory.rows_start, rows, name) {
+        Some(at) => Some(at),
+        None => find(rows, keys, directory.shared, name),
+    }
+}
+
+// Guesses of where the rows of all directories stand.
+pub(crate) fn guesses_of<A: Allocator>(
+    alloc: A,
+    nodes: &[Node],
+    directories: &Directories<A>,
+) -> Result<Guesses<A>, AllocError> {
+    let mut guesses = Guesses::for_rows(alloc, directories.rows.len())?;
+    for (at, _node) in nodes.iter().enumerate() {
+        let number = (at as u64).wrapping_add(1);
+        if let Some(directory) = directory_at(nodes, &directories.all, number) {
+            match directories
+                .rows
+                .get(directory.rows_start..directory.rows_end)
+            {
+                Some(rows) => guesses.note_all(number, directory.rows_start, rows),
+                None => {}
+            }
+        }
+    }
+    Ok(guesses)
 }

@@ -14,12 +14,13 @@ ghost use Rattle.node_table.specs.Readers.{TellsNode, attr_at, parent_at, child_
 use crate::building::{Parts, make};
 use crate::completing::{blocks_of, complete_all};
 use crate::directory::{Directories, Directory};
-use crate::lookup::{attr_of, directory_at, keys_of, node_at, number_named, rows_of};
+use crate::lookup::{attr_of, directory_at, guesses_of, keys_of, node_at, number_named, rows_of};
 use crate::node::{Attr, Node};
 use crate::numbering::number_places;
 use crate::row::Row;
 use crate::walk::{Walked, walk};
 use layer_tree::Tree;
+use name_keys::Guesses;
 use romfs_image::Image;
 use std::alloc::{AllocError, Allocator, Global};
 use std::marker::Model;
@@ -27,14 +28,15 @@ use std::thread::Threads;
 
 /// The nodes of a stack of layers, by number: attributes, rows and data.
 ///
-/// A clause sees the layers and their listing. Each node and row takes at most 88 bytes beside a name of more than 23,
-/// and a directory 32 more. No reader
-/// takes memory, and each answers for every number: 1 is the root, and a number that is not in use has nothing.
+/// A clause sees the layers and their listing. Each node and row takes at most 104 bytes beside a name of more than 23
+/// (16 of them for guesses of where names stand), and a directory 32 more. No reader takes memory, and each answers for
+/// every number: 1 is the root, and a number that is not in use has nothing.
 #[derive(Drop)]
 pub struct Table<A: Allocator> {
     images: Vec<Image<A>, A>,
     nodes: Vec<Node, A>,
     directories: Directories<A>,
+    guesses: Guesses<A>,
     blocks: u64,
     ghost listing: { Listed images.items } by { listed_once images.items },
 }
@@ -77,11 +79,13 @@ impl<A: Allocator + Copy> Table<A> {
             mut nodes,
             directories,
         } = parts_of(alloc, &tree, &images)?;
+        let guesses = guesses_of(alloc, &nodes, &directories)?;
         complete_all(rt, &mut nodes);
         Ok(Table {
             images,
             nodes,
             directories,
+            guesses,
             blocks,
         })
     }
@@ -135,15 +139,33 @@ impl<A: Allocator> Table<A> {
     /// The number of the child with this name in a directory; none where the number is no directory that shows
     /// such a child. Names compare byte by byte, and neither `.` nor `..` is a child.
     ///
-    /// It takes as many steps over the keys of the directory's rows as their number has binary digits, and where many
-    /// names have one key at most as many over these names again.
+    /// Where the row is guessed it looks at one row, or at few. Else it takes as many steps over the keys of the
+    /// directory's rows as their number has binary digits, and where many names have one key at most as many over these
+    /// names again.
     pub fn child(&self, number: u64, name: &[u8]) -> Option<u64>
         ensures { result ≡ child_at self.now number name.now }
     {
         let directory = directory_at(&self.nodes, &self.directories.all, number)?;
         let rows = rows_of(&self.directories.rows, directory);
         let keys = keys_of(&self.directories.keys, directory);
-        number_named(rows, keys, directory.shared, name)
+        number_named(rows, keys, &self.guesses, number, directory, name)
+    }
+
+    /// Where the row of a directory's child may stand among all rows. It is a guess, for whoever reads ahead: no answer
+    /// follows from it.
+    pub fn guess(&self, number: u64, name: &[u8]) -> Option<usize> {
+        let place = self.guesses.first(number, name)?;
+        let directory = directory_at(&self.nodes, &self.directories.all, number)?;
+        if place < directory.rows_end {
+            Some(place)
+        } else {
+            None
+        }
+    }
+
+    /// The row that stands at a guessed place among all rows.
+    pub fn guessed(&self, place: usize) -> Option<&Row<A>> {
+        self.directories.rows.get(place)
     }
 
     /// The children of a directory in the order of their names, without `.` and `..`; empty where the number is no

@@ -10,6 +10,7 @@
 //! on the caller's thread, batch after batch.
 #![tactic(auto)]
 
+mod ahead;
 mod jobs;
 pub mod laws;
 mod plan;

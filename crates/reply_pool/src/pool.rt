@@ -6,6 +6,7 @@ ghost use Rattle.rounds.specs.Moves.{AreWithin};
 ghost use Rattle.rounds.specs.Rounds.{change, AppendsAnswer};
 ghost use Rattle.reply_pool.specs.Answers.{answering};
 
+use crate::ahead::Ahead;
 use crate::plan::{Plan, pass_batch};
 use fuse_answer::{after, answer_and_move};
 use fuse_wire::Request;
@@ -73,6 +74,8 @@ impl<'a, A: Allocator, G: Gate> Rounds for Pool<'a, A, G> {
         replies: &mut Vec<u8, B>,
         balances: &mut [i128],
     ) -> Result<Round, AllocError> {
+        let mut ahead = Ahead::new();
+        ahead.read(self.table, stream, balances);
         walk(self, stream, session, replies, balances)
     }
 }
