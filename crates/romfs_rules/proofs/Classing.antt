@@ -1,144 +1,252 @@
--- Classes of names, one header after another.
-use Rattle.std.proofs.Common.{◌≡◌, ◌≢◌, ◌∙◌, sym, ap, subst, ℕ, ◌<◌, ◌≤◌, ◌⊎◌, inl, inr, List, [], ◌∷◌, ◌++◌, length, get_or, Bool, true, false, Option, Some, None, bytes_eq, unwrap_or, refl, arith, length-append}
-use Rattle.std.proofs.lemmas.List.{get_or_at, get_or_append_left}
-use Rattle.std.proofs.lemmas.Bool.{cases_order, false≢true}
-use Rattle.std.proofs.lemmas.Slice.Eq.{bytes_eq-Decides}
-use Rattle.std.specs.Map.{update}
-use Rattle.std.specs.Borrow.{Bor}
-use Rattle.std.specs.BTreeMap.{BTreeMap}
-use Rattle.romfs_rules.specs.Names.{IsClass, class_in, AreClasses}
-
--- the classes of the headers so far, and those of the names that are known
-pub record IsClassing (key : ℕ → Option (List ℕ)) (class : List ℕ) (known : List ℕ → Option ℕ) : Type 0 where
-  pub below : (k : ℕ) → k < length class → get_or class k 0 ≤ k
-  pub none : (k : ℕ) → k < length class → key k ≡ None → get_or class k 0 ≡ k
-  pub some : (k : ℕ) (q : List ℕ) → k < length class → key k ≡ Some q → known q ≡ Some (get_or class k 0)
-  pub knows : (q : List ℕ) (c : ℕ) → known q ≡ Some c → (c < length class) × (key c ≡ Some q)
+-- Classes of headers by their names, one after another in the order of names.
+use Rattle.std.proofs.Common.{◌≡◌, ◌≢◌, ◌∙◌, sym, ap, subst, ℕ, ◌+◌, ◌-◌, ◌<◌, ◌≤◌, ◌⊎◌, inl, inr, List, [], ◌∷◌, ◌++◌, length, get_or, set, Option, Some, None, refl, arith, length-append, get_or-set_same, get_or-set_other, length-set, true, false}
+use Rattle.std.specs.Ordering.{is_eq}
+use Rattle.std.specs.declared.cmp.Ordering.{Ordering}
+use Rattle.std.specs.declared.cmp.Ordering.TheVariants.{Less, Equal, Greater}
+use Rattle.std.proofs.lemmas.Bool.{cases_eq, false≢true}
+use Rattle.std.proofs.lemmas.List.{get_or_at, get_or_append_left, get_or_default}
+use Rattle.romfs_rules.specs.declared.names.Named.{Named}
+use Rattle.romfs_rules.specs.Names.{named_cmp, AreByName, AreNumbersBelow, AreClasses}
+use Rattle.romfs_rules.proofs.Keyed.{none_some, below_or_at, between, one_name}
 
 same_some : {X : Type 0} (x y : X) → ◌≡◌ {A = Option X} (Some x) (Some y) → x ≡ y
 same_some x y e = cc
 
-none_some : {X : Type 0} (x : X) → ◌≡◌ {A = Option X} None (Some x) → ⊥
-none_some x e = cc
+pub one_number : (n : ℕ) (xs : List ℕ) → AreNumbersBelow n xs → AreNumbersBelow (n + 1) (xs ++ n ∷ [])
+one_number n xs w = record {
+  sized = length-append xs (n ∷ []) ∙ ap (λ m. m + 1) w.sized;
+  each = λ k l. elim (below_or_at k n l) [
+    | inl m ↦ get_or_append_left xs (n ∷ []) 0 k (let s = w.sized in omega arith) ∙ w.each k m
+    | inr m ↦ ap (λ j. get_or (xs ++ n ∷ []) j 0) m ∙ get_or_at xs n [] 0 n w.sized ∙ sym m
+  ];
+}
 
--- one more at the end
-at_cases : (class : List ℕ) (c k : ℕ) → k < length (class ++ c ∷ [])
-    → ((k < length class) × (get_or (class ++ c ∷ []) k 0 ≡ get_or class k 0))
-    ⊎ ((k ≡ length class) × (get_or (class ++ c ∷ []) k 0 ≡ c))
-at_cases class c k l = let s = length-append class (c ∷ []) in elim (cases_order k (length class)) [
-  | inl e ↦ inr (e, rw e (get_or_at class c [] 0 (length class) refl))
-  | inr (inl m) ↦ inl (m, get_or_append_left class (c ∷ []) 0 k m)
-  | inr (inr m) ↦ absurd (omega arith)
-]
+is_tie : (o : Ordering) → is_eq o ≡ true → o ≡ Equal
+is_tie Equal e = refl
+is_tie Less e = absurd (false≢true e)
+is_tie Greater e = absurd (false≢true e)
 
-module _ (key : ℕ → Option (List ℕ)) (class : List ℕ) (known : List ℕ → Option ℕ) (w : IsClassing key class known) where
-  pub class_none : (c : ℕ) → key (length class) ≡ None → c ≡ length class → IsClassing key (class ++ c ∷ []) known
-  class_none c n e =
-      let s = length-append class (c ∷ []) in
-      record {
-        below = λ k l. elim (at_cases class c k l) [
-          | inl p ↦ (let b = w.below k p.0 in let f = p.1 in omega arith)
-          | inr p ↦ (let f = p.0 in let h = p.1 in omega arith)
-        ];
-        none = λ k l f. elim (at_cases class c k l) [ inl p ↦ p.1 ∙ w.none k p.0 f | inr p ↦ p.1 ∙ e ∙ sym p.0 ];
-        some = λ k q l f. elim (at_cases class c k l) [
-          | inl p ↦ w.some k q p.0 f ∙ ap (λ x. Some x) (sym p.1)
-          | inr p ↦ absurd (none_some q (sym (ap key p.0 ∙ n) ∙ f))
-        ];
-        knows = λ q d f. (let r = w.knows q d f in let l = r.0 in (omega arith, r.1));
-      }
+-- what stands for a header where there is none
+abbrev pub nothing : Named
+nothing = record { key = 0; name = record { ref_ptr = (0, 0); now = [] }; number = 0 }
 
-  pub class_some : (c : ℕ) (n : List ℕ) (known' : List ℕ → Option ℕ) → key (length class) ≡ Some n → c ≡ unwrap_or (known n) (length class)
-      → ((q : List ℕ) → known' q ≡ update bytes_eq known n (Some c) q) → IsClassing key (class ++ c ∷ []) known'
-  class_some c n known' f e u = go (known n) refl
-    where
-      at_name : (q : List ℕ) → ((n ≡ q) × (known' q ≡ Some c)) ⊎ ((n ≢ q) × (known' q ≡ known q))
-      at_name q = go (bytes_eq n q) refl
+abbrev pub number_at : List Named → ℕ → ℕ
+number_at hs m = (get_or hs m nothing).number
+
+abbrev pub name_at : List Named → ℕ → List ℕ
+name_at hs m = (get_or hs m nothing).name.now
+
+-- the headers before place i of hs have their classes, and each other number has itself
+pub record IsClassing (name : ℕ → Option (List ℕ)) (n : ℕ) (hs : List Named) (class : List ℕ) (i : ℕ) : Type 0 where
+  pub sized : length class ≡ n + 1
+  pub rest : (k : ℕ) → k < n + 1 → ((m : ℕ) → m < i → m < length hs → number_at hs m ≢ k) → get_or class k 0 ≡ k
+  pub own : (m : ℕ) → m < i → m < length hs
+      → (get_or class (number_at hs m) 0 < n) × (name (get_or class (number_at hs m) 0) ≡ Some (name_at hs m))
+  pub alike : (l m : ℕ) → l < i → m < i → l < length hs → m < length hs → name_at hs l ≡ name_at hs m
+      → get_or class (number_at hs l) 0 ≡ get_or class (number_at hs m) 0
+
+module _ (name : ℕ → Option (List ℕ)) (n : ℕ) (hs : List Named) (by : AreByName name n hs) where
+  owned : (m : ℕ) → m < length hs → name (number_at hs m) ≡ Some (name_at hs m)
+  owned m l = (by.are.each m nothing l).own
+
+  -- headers of one number have one name
+  named_alike : (l m : ℕ) → l < length hs → m < length hs → number_at hs l ≡ number_at hs m
+      → name_at hs l ≡ name_at hs m
+  named_alike l m p q e = same_some _ _ (sym (owned l p) ∙ ap name e ∙ owned m q)
+
+  pub first_classed : (class : List ℕ) → AreNumbersBelow (n + 1) class → IsClassing name n hs class 1
+  first_classed class w = record {
+    sized = w.sized;
+    rest = λ k l _. w.each k l;
+    own = λ m l p. (
+        let b = (by.are.each m nothing p).below in
+        let e = w.each (number_at hs m) (omega arith) in
+        (omega arith, ap name e ∙ owned m p));
+    alike = λ l m p q _ _ _. ap (λ k. get_or class (number_at hs k) 0) (omega arith);
+  }
+
+  module _ (class : List ℕ) (i : ℕ) (w : IsClassing name n hs class i) (from : 0 < i) (lt : i < length hs) where
+    -- the header at i has its class, and those before it have theirs still
+    one_classed : (class' : List ℕ) → length class' ≡ n + 1
+        → ((k : ℕ) → k < n + 1 → ((m : ℕ) → m < i + 1 → m < length hs → number_at hs m ≢ k) → get_or class' k 0 ≡ k)
+        → ((m : ℕ) → m < i → get_or class' (number_at hs m) 0 ≡ get_or class (number_at hs m) 0)
+        → (get_or class' (number_at hs i) 0 < n) × (name (get_or class' (number_at hs i) 0) ≡ Some (name_at hs i))
+        → ((m : ℕ) → m < i → name_at hs m ≡ name_at hs i
+        → get_or class' (number_at hs m) 0 ≡ get_or class' (number_at hs i) 0)
+        → IsClassing name n hs class' (i + 1)
+    one_classed class' sized rest kept here level = record {
+      sized = sized;
+      rest = rest;
+      own = λ m p q. elim (below_or_at m i p) [
+        | inl b ↦ subst (λ c. (c < n) × (name c ≡ Some (name_at hs m))) (sym (kept m b)) (w.own m b q)
+        | inr b ↦ subst (λ k. (get_or class' (number_at hs k) 0 < n)
+            × (name (get_or class' (number_at hs k) 0) ≡ Some (name_at hs k))) (sym b) here
+      ];
+      alike = λ l m p q x y e. elim (below_or_at l i p) [
+        | inl b ↦ elim (below_or_at m i q) [
+          | inl c ↦ kept l b ∙ w.alike l m b c x y e ∙ sym (kept m c)
+          | inr c ↦ level l b (e ∙ ap (name_at hs) c) ∙ ap (λ k. get_or class' (number_at hs k) 0) (sym c)
+        ]
+        | inr b ↦ elim (below_or_at m i q) [
+          | inl c ↦ ap (λ k. get_or class' (number_at hs k) 0) b ∙ sym (level m c (sym e ∙ ap (name_at hs) b))
+          | inr c ↦ ap (λ k. get_or class' (number_at hs k) 0) (b ∙ sym c)
+        ]
+      ];
+    }
+
+    -- a header whose name is that of the one before it takes its class
+    class_taken : (class' : List ℕ) → named_cmp (get_or hs (i - 1) nothing) (get_or hs i nothing) ≡ Equal
+        → class' ≡ set class (number_at hs i) (get_or class (number_at hs (i - 1)) 0)
+        → IsClassing name n hs class' (i + 1)
+    class_taken class' e put = one_classed class' (ap length put ∙ simp length-set w.sized)
+        (λ k l free. other k (λ f. free i (omega arith) lt (sym f)) ∙ w.rest k l (λ m p q. free m (omega arith) q))
+        kept
+        (subst (λ c. (c < n) × (name c ≡ Some (name_at hs i))) (sym here)
+        (subst (λ t. (get_or class (number_at hs (i - 1)) 0 < n)
+        × (name (get_or class (number_at hs (i - 1)) 0) ≡ Some t)) same
+        (w.own (i - 1) (omega arith) (omega arith))))
+        (λ m p f. kept m p ∙ taken m p f ∙ sym here)
+      where
+        same : name_at hs (i - 1) ≡ name_at hs i
+        same = one_name (get_or hs (i - 1) nothing) (get_or hs i nothing) e
+
+        here : get_or class' (number_at hs i) 0 ≡ get_or class (number_at hs (i - 1)) 0
+        here =
+            let b = (by.are.each i nothing lt).below in
+            let s = w.sized in
+            ap (λ xs. get_or xs (number_at hs i) 0) put ∙ get_or-set_same class (number_at hs i) _ 0 (omega arith)
+
+        other : (k : ℕ) → k ≢ number_at hs i → get_or class' k 0 ≡ get_or class k 0
+        other k d = ap (λ xs. get_or xs k 0) put ∙ get_or-set_other class (number_at hs i) k _ 0 d
+
+        taken : (m : ℕ) → m < i → name_at hs m ≡ name_at hs i
+            → get_or class (number_at hs m) 0 ≡ get_or class (number_at hs (i - 1)) 0
+        taken m p f = w.alike m (i - 1) p (omega arith) (omega arith) (omega arith) (f ∙ sym same)
+
+        kept : (m : ℕ) → m < i → get_or class' (number_at hs m) 0 ≡ get_or class (number_at hs m) 0
+        kept m p = elim (cases_eq (number_at hs m) (number_at hs i)) [
+          | inl f ↦ ap (λ k. get_or class' k 0) f ∙ here ∙ sym (taken m p (named_alike m i (omega arith) lt f))
+          | inr d ↦ other _ d
+        ]
+
+    -- a header of another name than the one before it is the first of its name, and keeps its number
+    class_begun : named_cmp (get_or hs (i - 1) nothing) (get_or hs i nothing) ≢ Equal
+        → IsClassing name n hs class (i + 1)
+    class_begun ne = one_classed class w.sized
+        (λ k l free. w.rest k l (λ m p q. free m (omega arith) q))
+        (λ m p. refl)
+        (subst (λ c. c < n) (sym here) (by.are.each i nothing lt).below, ap name here ∙ owned i lt)
+        (λ m p f. absurd (unlike m p f))
+      where
+        unlike : (m : ℕ) → m < i → name_at hs m ≡ name_at hs i → ⊥
+        unlike m p f = ne (between name n hs by m (i - 1) i nothing (omega arith) (omega arith) lt f)
+
+        here : get_or class (number_at hs i) 0 ≡ number_at hs i
+        here =
+            let b : number_at hs i < n = (by.are.each i nothing lt).below in
+            w.rest (number_at hs i) (omega arith) (λ m p q f. unlike m p (named_alike m i q lt f))
+
+    -- the header at i and the one before it, and how they stand
+    module _ (x y : Named) (before : x ≡ get_or hs (i - 1) x) (at : y ≡ get_or hs i y)
+        (o : Ordering) (stand : o ≡ named_cmp x y) where
+      is_before : get_or hs (i - 1) nothing ≡ x
+      is_before = get_or_default hs (i - 1) nothing x (omega arith) ∙ sym before
+
+      is_at : get_or hs i nothing ≡ y
+      is_at = get_or_default hs i nothing y lt ∙ sym at
+
+      stood : o ≡ named_cmp (get_or hs (i - 1) nothing) (get_or hs i nothing)
+      stood =
+          stand ∙ ap (λ z. named_cmp z y) (sym is_before)
+          ∙ ap (λ z. named_cmp (get_or hs (i - 1) nothing) z) (sym is_at)
+
+      pub taken : is_eq o ≡ true → (c : ℕ) → c ≡ get_or class x.number c
+          → (class' : List ℕ) → class' ≡ set class y.number c → IsClassing name n hs class' (i + 1)
+      taken t c own class' put = class_taken class' (sym stood ∙ is_tie o t)
+          (put ∙ ap (λ (z : Named). set class z.number c) (sym is_at) ∙ ap (set class (number_at hs i)) its)
         where
-          go : (t : Bool) → bytes_eq n q ≡ t → ((n ≡ q) × (known' q ≡ Some c)) ⊎ ((n ≢ q) × (known' q ≡ known q))
-          go true h = inl ((bytes_eq-Decides n q).0 h, u q ∙ rw h refl)
-          go false h = inr ((λ e. absurd (false≢true (sym h ∙ (bytes_eq-Decides n q).1 e))), u q ∙ rw h refl)
+          its : c ≡ get_or class (number_at hs (i - 1)) 0
+          its =
+              let b : number_at hs (i - 1) < n = (by.are.each (i - 1) nothing (omega arith)).below in
+              let e : number_at hs (i - 1) ≡ x.number = ap (λ (z : Named). z.number) is_before in
+              let s = w.sized in
+              own ∙ get_or_default class x.number c 0 (omega arith) ∙ ap (λ k. get_or class k 0) (sym e)
 
-      ends : c ≤ length class → key c ≡ Some n → ((d : ℕ) → known n ≡ Some d → c ≡ d) → IsClassing key (class ++ c ∷ []) known'
-      ends l k same =
-          let s = length-append class (c ∷ []) in
-          record {
-            below = λ i m. elim (at_cases class c i m) [
-              | inl p ↦ (let b = w.below i p.0 in let h = p.1 in omega arith)
-              | inr p ↦ (let h = p.1 in let j = p.0 in omega arith)
-            ];
-            none = λ i m h. elim (at_cases class c i m) [ inl p ↦ p.1 ∙ w.none i p.0 h | inr p ↦ absurd (none_some n (sym h ∙ ap key p.0 ∙ f)) ];
-            some = λ i q m h. elim (at_cases class c i m) [
-              | inl p ↦ elim (at_name q) [
-                | inl r ↦ r.1 ∙ ap (λ x. Some x) (same _ (ap known r.0 ∙ w.some i q p.0 h) ∙ sym p.1)
-                | inr r ↦ r.1 ∙ w.some i q p.0 h ∙ ap (λ x. Some x) (sym p.1)
-              ]
-              | inr p ↦ (
-                  let z : n ≡ q = same_some n q (sym f ∙ sym (ap key p.0) ∙ h) in
-                  elim (at_name q) [
-                    | inl r ↦ r.1 ∙ ap (λ x. Some x) (sym p.1)
-                    | inr r ↦ absurd (r.0 z)
-                  ])
-            ];
-            knows = λ q d h. elim (at_name q) [
-              | inl r ↦ (let z : c ≡ d = same_some c d (sym r.1 ∙ h) in ((let y = l in omega arith), subst (λ x. key x ≡ Some q) z (k ∙ ap (λ x. Some x) r.0)))
-              | inr r ↦ (let y = w.knows q d (sym r.1 ∙ h) in let b = y.0 in (omega arith, y.1))
-            ];
-          }
+      pub begun : is_eq o ≡ false → IsClassing name n hs class (i + 1)
+      begun f = class_begun (λ e. absurd (false≢true (sym f ∙ ap is_eq (stood ∙ e))))
 
-      go : (o : Option ℕ) → known n ≡ o → IsClassing key (class ++ c ∷ []) known'
-      go None h = let z : c ≡ length class = e ∙ ap (λ x. unwrap_or x (length class)) h in
-          ends (omega arith) (ap key z ∙ f) (λ d k. absurd (none_some d (sym h ∙ k)))
-      go (Some d) h = let z : c ≡ d = e ∙ ap (λ x. unwrap_or x (length class)) h in let y = w.knows n d h in
-          let b = y.0 in ends (omega arith) (ap key z ∙ y.1) (λ x k. z ∙ same_some d x (sym h ∙ k))
+  abbrev Place : ℕ → Type 0
+  Place k = (m : ℕ) × (m < length hs) × (number_at hs m ≡ k)
 
-  pub class_all : AreClasses key (length class) (class ++ length class ∷ [])
-  class_all =
-      let s = length-append class (length class ∷ []) in
-      record {
-        sized = s;
-        below = λ i l. elim (at_cases class (length class) i (omega arith)) [
-          | inl p ↦ (let b = w.below i p.0 in let e = p.1 in let m = p.0 in omega arith)
-          | inr p ↦ (let e = p.1 in omega arith)
-        ];
-        only = λ i j l m d e. elim (at_cases class (length class) i (omega arith)) [
-          | inl p ↦ elim (at_cases class (length class) j (omega arith)) [
-            | inl q ↦ (p.0, q.0, one_name i j p.0 q.0 d (sym p.1 ∙ e ∙ q.1))
-            | inr q ↦ absurd (let b = w.below i p.0 in let f = p.1 in let g = q.1 in let h = p.0 in omega arith)
-          ]
-          | inr p ↦ elim (at_cases class (length class) j (omega arith)) [
-            | inl q ↦ absurd (let b = w.below j q.0 in let f = p.1 in let g = q.1 in let h = q.0 in omega arith)
-            | inr q ↦ absurd (d (p.0 ∙ sym q.0))
-          ]
-        ];
-        all = λ i j q l m e f. get_or_append_left class _ 0 i l
-            ∙ same_some _ _ (sym (w.some i q l e) ∙ w.some j q m f) ∙ sym (get_or_append_left class _ 0 j m);
-      }
+  found : (k : ℕ) (q : List ℕ) → k < n → name k ≡ Some q → Place k
+  found k q l e =
+      let x = by.are.every k q l e in
+      let at = x.1 in
+      (at.0, at.1, ap (λ (h : Named). h.number) (get_or_default hs at.0 nothing x.0 at.1 ∙ at.2) ∙ x.2)
+
+  -- the place of a number among the headers, unless none has it
+  placed : (k : ℕ) → k < n + 1 → Place k ⊎ ((m : ℕ) → m < length hs → number_at hs m ≢ k)
+  placed k l = elim (below_or_at k n l) [
+    | inl b ↦ by_its_name k b (name k) refl
+    | inr e ↦ inr (λ m p f. (let b = (by.are.each m nothing p).below in absurd (omega arith)))
+  ]
     where
-      both : (i j : ℕ) → i < length class → j < length class → i ≢ j → get_or class i 0 ≡ get_or class j 0
-          → (o p : Option (List ℕ)) → key i ≡ o → key j ≡ p
-          → (q : List ℕ) × (key i ≡ Some q) × (key j ≡ Some q)
-      both i j l m d e None None f g = absurd (d (sym (w.none i l f) ∙ e ∙ w.none j m g))
-      both i j l m d e None (Some q) f g =
-          let r = w.knows q _ (w.some j q m g) in
-          absurd (none_some q (sym f ∙ ap key (sym (w.none i l f) ∙ e) ∙ r.1))
-      both i j l m d e (Some q) None f g =
-          let r = w.knows q _ (w.some i q l f) in
-          absurd (none_some q (sym g ∙ ap key (sym (w.none j m g) ∙ sym e) ∙ r.1))
-      both i j l m d e (Some q) (Some r) f g =
-          let x = w.knows q _ (w.some i q l f) in
-          let y = w.knows r _ (w.some j r m g) in
-          (q, f, g ∙ sym y.1 ∙ ap key (sym e) ∙ x.1)
+      by_its_name : (k : ℕ) → k < n → (o : Option (List ℕ)) → name k ≡ o
+          → Place k ⊎ ((m : ℕ) → m < length hs → number_at hs m ≢ k)
+      by_its_name k b None e = inr (λ m p f. absurd (none_some _ (sym e ∙ ap name (sym f) ∙ owned m p)))
+      by_its_name k b (Some q) e = inl (found k q b e)
 
-      one_name : (i j : ℕ) → i < length class → j < length class → i ≢ j → get_or class i 0 ≡ get_or class j 0
-          → (q : List ℕ) × (key i ≡ Some q) × (key j ≡ Some q)
-      one_name i j l m d e = both i j l m d e (key i) (key j) refl refl
+  pub all_classed : (class : List ℕ) (i : ℕ) → length hs ≤ i → IsClassing name n hs class i → AreClasses name n class
+  all_classed class i le w = record {
+    sized = w.sized;
+    below = λ k l. elim (placed k l) [
+      | inl x ↦ (let o = (own_of k x).0 in omega arith)
+      | inr free ↦ (let e = alone k l free in omega arith)
+    ];
+    only = λ k j l p d e. elim (placed k l) [
+      | inl x ↦ elim (placed j p) [
+        | inl y ↦ (
+          number_below k x,
+          number_below j y,
+          (
+            name_at hs x.0,
+            named_of k x,
+            named_of j y ∙ sym (own_of j y).1 ∙ ap name (sym e) ∙ (own_of k x).1,
+          ),
+        )
+        | inr free ↦ absurd (lone k j l p x free e)
+      ]
+      | inr free ↦ elim (placed j p) [
+        | inl y ↦ absurd (lone j k p l y free (sym e))
+        | inr other ↦ absurd (d (sym (alone k l free) ∙ e ∙ alone j p other))
+      ]
+    ];
+    all = λ k j q l p e f. (
+        let x = found k q l e in
+        let y = found j q p f in
+        ap (λ c. get_or class c 0) (sym x.2)
+        ∙ w.alike x.0 y.0 (let b = x.1 in omega arith) (let b = y.1 in omega arith) x.1 y.1
+        (same_some _ _ (sym (named_of k x) ∙ e ∙ sym f ∙ named_of j y))
+        ∙ ap (λ c. get_or class c 0) y.2);
+  }
+    where
+      number_below : (k : ℕ) → Place k → k < n
+      number_below k x = let b = (by.are.each x.0 nothing x.1).below in let e = x.2 in omega arith
 
-pub class_more : (key : ℕ → Option (List ℕ)) (class : List ℕ) (c new : ℕ) (known known' : BTreeMap (ℕ × Bor (List ℕ)) ℕ)
-    → new ≡ length class → IsClass (key (length class)) new c known known'
-    → IsClassing key class (class_in known) → IsClassing key (class ++ c ∷ []) (class_in known')
-class_more key class c new known known' e k w = go (key (length class)) refl
-  where
-    go : (o : Option (List ℕ)) → key (length class) ≡ o → IsClassing key (class ++ c ∷ []) (class_in known')
-    go None f = let r = k.none f in subst (λ m. IsClassing key (class ++ c ∷ []) (class_in m)) (sym r.1) (class_none key class (class_in known) w c f (r.0 ∙ e))
-    go (Some n) f = let r = k.some n f in class_some key class (class_in known) w c n (class_in known') f (r.0 ∙ ap (λ x. unwrap_or (class_in known n) x) e) r.1
+      named_of : (k : ℕ) (x : Place k) → name k ≡ Some (name_at hs x.0)
+      named_of k x = ap name (sym x.2) ∙ owned x.0 x.1
+
+      own_of : (k : ℕ) (x : Place k) → (get_or class k 0 < n) × (name (get_or class k 0) ≡ Some (name_at hs x.0))
+      own_of k x = subst (λ j. (get_or class j 0 < n) × (name (get_or class j 0) ≡ Some (name_at hs x.0))) x.2
+          (w.own x.0 (let b = x.1 in omega arith) x.1)
+
+      alone : (k : ℕ) → k < n + 1 → ((m : ℕ) → m < length hs → number_at hs m ≢ k) → get_or class k 0 ≡ k
+      alone k l free = w.rest k l (λ m _ q. free m q)
+
+      lone : (k j : ℕ) → k < n + 1 → j < n + 1 → Place k → ((m : ℕ) → m < length hs → number_at hs m ≢ j)
+          → get_or class k 0 ≡ get_or class j 0 → ⊥
+      lone k j l p x free e =
+          let f : get_or class k 0 ≡ j = e ∙ alone j p free in
+          let o = subst (λ c. (c < n) × (name c ≡ Some (name_at hs x.0))) f (own_of k x) in
+          let y = found j _ o.0 o.1 in
+          free y.0 y.1 y.2

@@ -1,13 +1,13 @@
 -- Headers of one name, as classes of their numbers.
-use Rattle.std.specs.Prelude.{◌≡◌, ◌≢◌, ℕ, ◌+◌, ◌<◌, ◌==◌, List, length, get_or, Option, Some, None, if◌then◌else◌, unwrap_or, bytes_eq}
-use Rattle.std.specs.Borrow.{Bor}
-use Rattle.std.specs.BTreeMap.{BTreeMap, get_by}
+use Rattle.std.specs.Prelude.{◌≡◌, ◌≢◌, ℕ, ◌+◌, ◌<◌, ◌==◌, List, ◌∷◌, length, get_or, All, Option, Some, None, if◌then◌else◌}
 use Rattle.std.specs.Cmp.Lexicographic.{slice_cmp}
-use Rattle.std.specs.Map.{update}
-use Rattle.std.specs.Ordering.{nat_cmp, ordering_then}
+use Rattle.std.specs.List.{Contains}
+use Rattle.std.specs.List.Sorted.{IsSorted}
+use Rattle.std.specs.Ordering.{nat_cmp}
 use Rattle.std.specs.declared.cmp.Ordering.{Ordering}
 use Rattle.name_keys.specs.Keys.{key as name_key}
 use Rattle.romfs_format.specs.Fields.{root, name, is_dot_name}
+use Rattle.romfs_rules.specs.declared.names.Named.{Named}
 
 -- the name, unless it is . or ..
 abbrev pub unless_dotted : Option (List ℕ) → Option (List ℕ)
@@ -18,21 +18,31 @@ unless_dotted (Some n) = if is_dot_name n then None else Some n
 abbrev pub kept_name : List ℕ → ℕ → Option (List ℕ)
 kept_name a h = if h == root a then None else unless_dotted (name a h)
 
--- how names stand, each after its first eight bytes as a number
-abbrev pub keyed_cmp : ℕ × Bor (List ℕ) → ℕ × Bor (List ℕ) → Ordering
-keyed_cmp x y = ordering_then (nat_cmp x.0 y.0) (slice_cmp nat_cmp x.1.now y.1.now)
+-- how headers stand by their names, each name after its first eight bytes as a number
+abbrev pub named_cmp : Named → Named → Ordering
+named_cmp x y = slice_cmp nat_cmp (x.key ∷ x.name.now) (y.key ∷ y.name.now)
 
--- the class of a name that is known
-abbrev pub class_in : BTreeMap (ℕ × Bor (List ℕ)) ℕ → List ℕ → Option ℕ
-class_in known q = get_by (λ k. ordering_then (nat_cmp (name_key 8 q) k.0) (slice_cmp nat_cmp q k.1.now)) known
+-- a header below n with its own name
+pub record IsNamed (name : ℕ → Option (List ℕ)) (n : ℕ) (h : Named) : Type 0 where
+  pub below : h.number < n
+  pub own : name h.number ≡ Some h.name.now
+  pub keyed : h.key ≡ name_key 8 h.name.now
 
--- a header with this name is of this class, where `new` is the class of a new name
-pub record IsClass (key : Option (List ℕ)) (new class : ℕ)
-    (known known' : BTreeMap (ℕ × Bor (List ℕ)) ℕ) : Type 0 where
-  pub none : key ≡ None → (class ≡ new) × (known' ≡ known)
-  pub some : (n : List ℕ) → key ≡ Some n
-      → (class ≡ unwrap_or (class_in known n) new)
-      × ((q : List ℕ) → class_in known' q ≡ update bytes_eq (class_in known) n (Some class) q)
+-- those of the headers below n that have a name, each with it
+pub record AreNamed (name : ℕ → Option (List ℕ)) (n : ℕ) (named : List Named) : Type 0 where
+  pub each : All (IsNamed name n) named
+  pub every : (k : ℕ) (q : List ℕ) → k < n → name k ≡ Some q
+      → (h : Named) × Contains named h × (h.number ≡ k)
+
+-- these in the order of their names
+pub record AreByName (name : ℕ → Option (List ℕ)) (n : ℕ) (named : List Named) : Type 0 where
+  pub are : AreNamed name n named
+  pub sorted : IsSorted named_cmp named
+
+-- the numbers below n
+pub record AreNumbersBelow (n : ℕ) (numbers : List ℕ) : Type 0 where
+  pub sized : length numbers ≡ n
+  pub each : (k : ℕ) → k < n → get_or numbers k 0 ≡ k
 
 -- of the numbers up to n, two have one class exactly where both are below n and have one name
 pub record AreClasses (key : ℕ → Option (List ℕ)) (n : ℕ) (class : List ℕ) : Type 0 where

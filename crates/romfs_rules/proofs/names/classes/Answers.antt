@@ -1,27 +1,35 @@
-use Rattle.std.proofs.Common.{◌≡◌, ◌∙◌, sym, ap, subst, ◌+◌, ◌++◌, ◌∷◌, [], length, get_or, arith}
-use Rattle.std.proofs.lemmas.List.{length_push}
-use Rattle.romfs_rules.specs.Names.{kept_name, IsClass, AreClasses}
-use Rattle.romfs_rules.proofs.Classing.{class_more, class_all}
+use Rattle.std.proofs.Common.{◌∙◌, sym, ap, ◌<◌, ℕ, length, get_or, arith}
+use Rattle.std.specs.Vec.{vec_items}
+use Rattle.romfs_rules.specs.Names.{kept_name}
+use Rattle.romfs_rules.proofs.Classing.{taken, begun, all_classed}
 use Rattle.romfs_rules.proofs.names.classes.Goals as goal
+use Rattle.romfs_rules.proofs.names.classes.Goals.{then-is_eq, else-is_eq}
 
-pub loop-number-preserved : goal.loop-number-preserved
-loop-number-preserved g c =
-    let w = c.loop-number.invariant in
-    let k = subst (λ n. IsClass (kept_name c.args.image.now.bytes.now (get_or c.args.heads.now n 0))
-    c.loop-number.number c.in_ok-class.class c.loop-number.known c.class_at.new.known) (sym w.sized)
-    c.in_ok-class.ensures in
-    record {
-      classing = rw c.in_ok-push.ensures.items (class_more
-          (λ i. kept_name c.args.image.now.bytes.now (get_or c.args.heads.now i 0)) _ _ _ _ _ (sym w.sized) k
-          w.classing);
-      sized = ap length c.in_ok-push.ensures.items ∙ length_push c.loop-number.classes.items c.in_ok-class.class ∙ ap (λ n. n + 1) w.sized;
-    }
+pub loop-i-preserved : goal.loop-i-preserved
+loop-i-preserved g c =
+    let name = λ (i : ℕ). kept_name c.args.image.now.bytes.now (get_or c.args.heads.now i 0) in
+    let n = length c.args.heads.now in
+    let hs = c.in_ok-named.named.items in
+    let i = c.loop-i.i in
+    let from : 0 < i = omega arith in
+    let lt : i < length hs = omega arith in
+    let x = c.index.result.now in
+    let y = c.index-in-loop-i.result.now in
+    let was = c.loop-i.classes.items in
+    let by = c.in_ok-named.ensures in
+    let stands = c.order.ensures in
+    elim c.if-is_eq.branch [
+      | then-is_eq w ↦
+          taken name n hs by was i c.loop-i.invariant from lt
+          x y c.index.ensures c.index-in-loop-i.ensures c.order.result stands (sym c.is_eq.ensures ∙ w.if-is_eq.true)
+          w.index-then-is_eq.result.now w.index-then-is_eq.ensures c.if-is_eq.classes.items (ap vec_items w.classes-is)
+      | else-is_eq w ↦
+          rw w.classes-is (begun name n hs by was i c.loop-i.invariant from lt
+          x y c.index.ensures c.index-in-loop-i.ensures c.order.result stands (sym c.is_eq.ensures ∙ w.if-is_eq.false))
+    ]
 
 pub returns : goal.returns
 returns g c =
-    let w = c.loop-number.invariant in
-    let e : length c.loop-number.classes.items ≡ length c.args.heads.now = (let s = w.sized in omega arith) in
-    rw c.in_ok-push-2.ensures.items (subst (λ n. AreClasses
-    (λ i. kept_name c.args.image.now.bytes.now (get_or c.args.heads.now i 0)) n
-    (c.loop-number.classes.items ++ n ∷ [])) e (class_all
-    (λ i. kept_name c.args.image.now.bytes.now (get_or c.args.heads.now i 0)) _ _ w.classing))
+    let name = λ (i : ℕ). kept_name c.args.image.now.bytes.now (get_or c.args.heads.now i 0) in
+    all_classed name (length c.args.heads.now) c.in_ok-named.named.items c.in_ok-named.ensures
+    c.loop-i.classes.items c.loop-i.i (omega arith) c.loop-i.invariant

@@ -1,10 +1,9 @@
-use Rattle.std.proofs.Common.{◌≡◌, length, get_or}
-use Rattle.romfs_rules.specs.Names.{kept_name, class_in}
+use Rattle.std.proofs.Common.{get_or, length}
+use Rattle.romfs_rules.specs.Names.{kept_name}
 use Rattle.romfs_rules.proofs.Classing.{IsClassing}
 use Rattle.romfs_rules.proofs.names.classes.Given as goal
 
-abbrev pub invariant-loop-number : goal.invariant-loop-number
-invariant-loop-number g l = record {
-  classing : IsClassing (λ i. kept_name l.image.bytes.now (get_or l.heads i 0)) l.classes.items (class_in l.known);
-  sized : length l.classes.items ≡ l.number;
-}
+abbrev pub invariant-loop-i : goal.invariant-loop-i
+invariant-loop-i g l =
+    IsClassing (λ i. kept_name l.image.bytes.now (get_or l.heads i 0)) (length l.heads)
+    l.named.items l.classes.items l.i
