@@ -7,15 +7,15 @@ use Rattle.romfs_format.specs.declared.head.End.{End}
 use Rattle.romfs_format.specs.declared.head.End.TheVariants.{AtDirectory, AtOther, Nowhere}
 use Rattle.romfs_format.specs.declared.rule.Rule.{Rule}
 use Rattle.romfs_format.specs.declared.rule.Profile.{Profile}
-use Rattle.romfs_format.specs.declared.rule.Rule.TheVariants.{NameBad, DataOutside, Twice, SameName}
-use Rattle.romfs_rules.specs.declared.judge.TheConstants.{HEADER_RULES}
-use Rattle.romfs_format.specs.Fields.{root, IsInside, name}
+use Rattle.romfs_format.specs.declared.rule.Rule.TheVariants.{DataOutside, Twice, SameName}
+use Rattle.romfs_rules.specs.declared.header.TheConstants.{HEADER_RULES}
+use Rattle.romfs_format.specs.Fields.{root, name}
 use Rattle.romfs_format.specs.Chains.{IsSomeMember}
 use Rattle.romfs_format.specs.Links.{IsHardLink, IsDirectory, IsFinal, stays, follows, EndsAs}
-use Rattle.romfs_format.specs.Rules.{IsRootElsewhere, IsUsed, HasData, IsBadName, EndsOutside, BreaksHeader, rule_number}
+use Rattle.romfs_format.specs.Rules.{IsRootElsewhere, IsUsed, HasData, EndsOutside, BreaksHeader, rule_number}
 use Rattle.romfs_rules.specs.Marks.{HasSlot, AreMarks, IsListOf, IsElsewhere}
 use Rattle.romfs_rules.specs.Judge.{IsHeaderRule, KeepsBefore}
-use Rattle.romfs_rules.specs.SameNames.{HaveSameNames}
+use Rattle.romfs_rules.specs.SameNames.{HaveSameNamesIfAlone}
 use Rattle.romfs_rules.proofs.Slots.{marked}
 
 -- what a test that fails says
@@ -78,20 +78,16 @@ data_says a h n b e l t = (
   λ x. t.1 (x.0, x.1),
 )
 
-pub bad_says : (a : List ℕ) (h : ℕ) (n : List ℕ) (b : Bool) → IsInside a h → Some n ≡ name a h
-    → IsBadName n → IsTrue b ↔ IsSomeMember a h → IsTrue b ↔ BreaksHeader a NameBad h
-bad_says a h n b i e l t = (λ y. (t.0 y, i, subst (λ o. IsSomeAnd o IsBadName) e l), λ x. t.1 x.0)
-
-pub bad_not : (a : List ℕ) (h : ℕ) (n : List ℕ) (b : Bool) → Some n ≡ name a h → b ≡ false
-    → IsTrue b ↔ IsBadName n → IsTrue b ↔ BreaksHeader a NameBad h
-bad_not a h n b e f t = (λ y. absurd (false≢true (sym f ∙ y)), λ x. t.1 (subst (λ o. IsSomeAnd o IsBadName) (sym e) x.2))
-
 -- equal names are known of a header that no two links name
-pub alone : (a : List ℕ) (h : ℕ) → (IsElsewhere a (root a) → h ≡ root a) → ¬ BreaksHeader a Twice h → ¬ IsElsewhere a (root a)
+alone : (a : List ℕ) (h : ℕ) → (IsElsewhere a (root a) → h ≡ root a) → ¬ BreaksHeader a Twice h → ¬ IsElsewhere a (root a)
 alone a h only once e = once (inr ((root_elsewhere a h (only e)).0 (subst (λ y. IsElsewhere a y) (sym (only e)) e)))
 
-pub listed_says : (a : List ℕ) (h : ℕ) (hs : List ℕ) (b : Bool) → HaveSameNames a hs → IsTrue b ↔ Contains hs h → IsTrue b ↔ BreaksHeader a SameName h
-listed_says a h hs b n t = (λ y. n.each h (t.0 y), λ x. t.1 (n.all h x))
+pub listed_says : (a : List ℕ) (h : ℕ) (hs : List ℕ) (b : Bool) → HaveSameNamesIfAlone a hs
+    → (IsElsewhere a (root a) → h ≡ root a) → IsTrue b ↔ Contains hs h → ¬ BreaksHeader a Twice h
+    → IsTrue b ↔ BreaksHeader a SameName h
+listed_says a h hs b s only t once =
+    let n = s.names (alone a h only once) in
+    (λ y. n.each h (t.0 y), λ x. t.1 (n.all h x))
 
 -- a test that looks a header up in a list
 pub list_says : (a : List ℕ) (P : ℕ → Type 0) (hs : List ℕ) (h : ℕ) (b : Bool) → IsListOf a P hs → HasSlot a h → IsTrue b ↔ Contains hs h → IsTrue b ↔ P h
@@ -126,8 +122,6 @@ tried_number i d l = numbered_at HEADER_RULES 7 i d (refl, (refl, (refl, (refl, 
 pub header_tried : (i : ℕ) (d : Rule) → i < 10 → IsHeaderRule (get_or HEADER_RULES i d)
 header_tried i d l = let n = tried_number i d l in (omega arith, omega arith)
 
--- equal names are tried only on headers that no two links name
-pub name_tried : (profile : Profile) (a : List ℕ) (h : ℕ) (r : Rule) (n : ℕ) → rule_number r ≡ n
-    → (IsElsewhere a (root a) → h ≡ root a) → KeepsBefore profile a h n → r ≡ SameName
-    → ¬ IsElsewhere a (root a)
-name_tried profile a h r n e only k s = alone a h only (k.keeps Twice (lit≤ tt, lit< tt) (let f : rule_number r ≡ 12 = ap rule_number s in omega arith))
+-- a header that keeps the rules before that of equal names is named by no two links
+pub not_twice : (profile : Profile) (a : List ℕ) (h : ℕ) → KeepsBefore profile a h (rule_number SameName) → ¬ BreaksHeader a Twice h
+not_twice profile a h k = k.keeps Twice (lit≤ tt, lit< tt) (lit< tt)

@@ -13,11 +13,12 @@ use Rattle.romfs_format.specs.Rules.{IsVolume, BreaksHeader, BreaksHeaderAs, Bre
 use Rattle.romfs_format.proofs.Faults.{one_rule}
 use Rattle.romfs_rules.specs.Marks.{HasSlot, IsVolumeImage, AreMarks, IsElsewhere}
 use Rattle.romfs_rules.specs.Leads.{IsInSomeChain}
-use Rattle.romfs_rules.specs.SlotSets.{IsClear}
+use Rattle.romfs_rules.specs.SlotSets.{IsClear, IsNextInEither}
+use Rattle.romfs_rules.specs.Headers.{IsAsked}
 use Rattle.romfs_rules.proofs.Unions.{over_to, outside_set}
 use Rattle.romfs_format.specs.declared.rule.ImageFault.{ImageFault}
 use Rattle.romfs_rules.specs.Outside.{IsLeast, IsBelow, IsPastEnd}
-use Rattle.romfs_rules.specs.Judge.{IsHeaderRule, KeepsBefore, KeepsHeaderRules, IsFirstRule, KeepsBelow, IsFirstInside, KeepsAllHeaderRules, IsFirstBreach}
+use Rattle.romfs_rules.specs.Judge.{IsHeaderRule, KeepsBefore, KeepsHeaderRules, IsFirstRule, IsFirstAt, KeepsBelow, IsFirstInside, KeepsAllHeaderRules, IsFirstBreach}
 use Rattle.romfs_rules.proofs.Slots.{root_slot, cleared_root, cleared_in_chain, cleared_destination, slot_inside}
 use Rattle.romfs_rules.proofs.Standing.{reached, member_in_chain}
 use Rattle.romfs_rules.proofs.Judging.{root_elsewhere}
@@ -168,7 +169,7 @@ module _ (profile : Profile) (a : List ℕ) (h : ℕ) where
 -- a scan over the slots, upward
 module _ (profile : Profile) (a : List ℕ) (v : IsVolumeImage a) where
   -- where the root's header stands elsewhere the scan ends there
-  pub root_first : (p : ℕ) → KeepsBelow profile a p → root a ≤ p → IsElsewhere a (root a) → p ≡ root a
+  root_first : (p : ℕ) → KeepsBelow profile a p → root a ≤ p → IsElsewhere a (root a) → p ≡ root a
   root_first p k l e = elim (cases_order p (root a)) [
     | inl q ↦ q
     | inr (inl m) ↦ absurd (omega arith)
@@ -200,28 +201,39 @@ module _ (profile : Profile) (a : List ℕ) (v : IsVolumeImage a) where
       ])))
 
   -- a slot of either set
-  pub slot_reached : (headers targets : List Bool) → AreMarks a (IsInSomeChain a) headers
+  slot_reached : (headers targets : List Bool) → AreMarks a (IsInSomeChain a) headers
       → AreMarks a (IsTarget a) targets → (slot : ℕ)
       → (get_or headers slot false ≡ true) ⊎ (get_or targets slot false ≡ true)
       → HasSlot a (slot * 16) × IsReached a (slot * 16)
   slot_reached headers targets m t slot (inl x) = let y = m.each slot x in (record { inside = y.1; aligned = omega arith }, elim y.0 [ inl z ↦ (reached a (slot * 16)).1 (inr (inl z)) | inr z ↦ (reached a (slot * 16)).1 (inr (inr (inl z))) ])
   slot_reached headers targets m t slot (inr x) = let y = t.each slot x in (record { inside = y.1; aligned = omega arith }, inr (inr y.0))
 
-  pub none_below : KeepsBelow profile a (root a)
+  -- the scan asks for the root's header, then for the next of either set
+  pub asked_root : (h : ℕ) → h ≡ root a → IsAsked a h
+  asked_root h e = record { slot = root_slot a v h e; reached = inl e; alone = λ x. e }
+
+  pub asked_next : (headers targets : List Bool) → AreMarks a (IsInSomeChain a) headers
+      → AreMarks a (IsTarget a) targets → (from slot : ℕ) → root a < from * 16
+      → KeepsBelow profile a (from * 16) → IsNextInEither headers targets from slot
+      → IsAsked a (slot * 16) × KeepsBelow profile a (slot * 16)
+  asked_next headers targets m t from slot b x n =
+      let s = m.sized in
+      let l = n.low in
+      let h = n.high in
+      let r = slot_reached headers targets m t slot n.is in
+      let k = scanned_to headers targets m t from slot b l (omega arith) n.one_clear n.other_clear x in
+      (record { slot = r.0; reached = r.1; alone = root_first (slot * 16) k (omega arith) }, k)
+
+  none_below : KeepsBelow profile a (root a)
   none_below = record { keeps = λ h s l. let i = s.inside.0 in absurd (omega arith) }
 
   -- the first fault is at the root, or further up
-  pub at_root : (f : ImageFault) (place : ℕ) → place ≡ root a → (f.place ≡ place) × IsFirstRule profile a place f.rule → IsFirstInside profile a f.rule f.place
-  at_root f place t (e, r) = subst (IsFirstInside profile a f.rule) (sym (e ∙ t))
-      (record {
-        slot = root_slot a v (root a) refl;
-        rule = subst (λ h. IsFirstRule profile a h f.rule) t r;
-        below = none_below;
-      })
+  pub at_slot : (f : ImageFault) (h : ℕ) → IsAsked a h → KeepsBelow profile a h
+      → IsFirstAt profile a h f → IsFirstInside profile a f.rule f.place
+  at_slot f h s k x = subst (IsFirstInside profile a f.rule) (sym x.place) (record { slot = s.slot; rule = x.rule; below = k })
 
-  pub at_slot : (f : ImageFault) (h : ℕ) → HasSlot a h → KeepsBelow profile a h
-      → (f.place ≡ h) × IsFirstRule profile a h f.rule → IsFirstInside profile a f.rule f.place
-  at_slot f h s k (e, r) = subst (IsFirstInside profile a f.rule) (sym e) (record { slot = s; rule = r; below = k })
+  pub at_root : (f : ImageFault) (h : ℕ) → h ≡ root a → IsFirstAt profile a h f → IsFirstInside profile a f.rule f.place
+  at_root f h e = at_slot f h (asked_root h e) (rw e none_below)
 
   pub root_kept : (slot place : ℕ) → place ≡ root a → slot ≡ place / 16 + 1 → KeepsHeaderRules profile a place → KeepsBelow profile a (slot * 16)
   root_kept slot place t e k =

@@ -1,25 +1,12 @@
 -- The first rule that an image breaks, of the rules of file headers, and of all.
-use Rattle.std.specs.Prelude.{ℕ, ◌<◌, ◌≤◌, List, Option, MatchOption, IsNone}
-use Rattle.romfs_rules.specs.declared.judge.Sets.{Sets}
+use Rattle.std.specs.Prelude.{◌≡◌, ℕ, ◌<◌, ◌≤◌, List, Option, MatchOption, IsNone}
 use Rattle.romfs_format.specs.declared.rule.Rule.{Rule}
 use Rattle.romfs_format.specs.declared.rule.Rule.TheVariants.{Deep}
 use Rattle.romfs_format.specs.declared.rule.Profile.{Profile}
 use Rattle.romfs_format.specs.declared.rule.ImageFault.{ImageFault}
-use Rattle.romfs_format.specs.Links.{IsTarget}
-use Rattle.romfs_format.specs.Rules.{BreaksHeader, BreaksHeaderAs, rule_number, IsNamedBefore, IsLinkedTwice}
-use Rattle.romfs_rules.specs.Marks.{HasSlot, AreMarks, IsListOf}
-use Rattle.romfs_rules.specs.InChains.{AreChains}
-use Rattle.romfs_rules.specs.Ends.{AreWalkedEnds}
+use Rattle.romfs_format.specs.Rules.{BreaksHeader, BreaksHeaderAs, rule_number, IsNamedBefore}
+use Rattle.romfs_rules.specs.Marks.{HasSlot}
 use Rattle.romfs_rules.specs.Outside.{IsLeast}
-use Rattle.romfs_rules.specs.SameNames.{HaveSameNamesIfAlone}
-
--- the sets are what their names say; equal names are known where the root stands in no chain but its own
-pub record AreSets {A : Type 0} (a : List ℕ) (sets : Sets A) : Type 0 where
-  pub chains : AreChains a sets.chains.now
-  pub targets : AreMarks a (IsTarget a) sets.targets.now
-  pub twice : IsListOf a (IsLinkedTwice a) sets.twice.now
-  pub same_names : HaveSameNamesIfAlone a sets.same_names.now
-  pub ends : AreWalkedEnds a sets.ends.now.walks sets.ends.now.ends.items
 
 -- the rules of file headers, of which the least place is named
 abbrev pub IsHeaderRule : Rule → Type 0
@@ -38,6 +25,11 @@ pub record IsFirstRule (profile : Profile) (a : List ℕ) (h : ℕ) (r : Rule) :
   pub rule : IsHeaderRule r
   pub broken : BreaksHeaderAs profile a r h
   pub before : KeepsBefore profile a h (rule_number r)
+
+-- the fault is at h, and of the first of them that h breaks
+pub record IsFirstAt (profile : Profile) (a : List ℕ) (h : ℕ) (fault : ImageFault) : Type 0 where
+  pub place : fault.place ≡ h
+  pub rule : IsFirstRule profile a h fault.rule
 
 -- no header below this place, inside the image, breaks any of them
 pub record KeepsBelow (profile : Profile) (a : List ℕ) (place : ℕ) : Type 0 where

@@ -9,6 +9,8 @@ pub mod Twice
 pub mod Depth
 pub mod Ends
 pub mod Judge
+pub mod Headers
+pub mod Sets
 pub mod Climb
 pub mod Names
 pub mod SameNames

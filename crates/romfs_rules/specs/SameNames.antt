@@ -11,9 +11,10 @@ pub record HaveSameNames (a found : List ℕ) : Type 0 where
   pub all : (h : ℕ) → HasSameName a h → Contains found h
   pub rising : (i j : ℕ) → i < j → j < length found → get_or found i 0 < get_or found j 0
 
--- where the root's header stands in no chain but its own
-abbrev pub HaveSameNamesIfAlone : List ℕ → List ℕ → Type 0
-HaveSameNamesIfAlone a found = ¬ IsElsewhere a (root a) → HaveSameNames a found
+-- where the root's header stands in no chain but its own, and headers that rise in any case
+pub record HaveSameNamesIfAlone (a found : List ℕ) : Type 0 where
+  pub names : ¬ IsElsewhere a (root a) → HaveSameNames a found
+  pub rising : (i j : ℕ) → i < j → j < length found → get_or found i 0 < get_or found j 0
 
 -- h lies in the image, in the chain of some opened directory
 pub record IsLinked (a : List ℕ) (h : ℕ) : Type 0 where

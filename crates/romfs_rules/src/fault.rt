@@ -11,7 +11,7 @@ ghost use Rattle.romfs_format.specs.Rules.{IsFaultOfAs};
 use crate::chains::{Chains, find_chains};
 use crate::depth::find_deep;
 use crate::ends::find_ends;
-use crate::judge::{Sets, fault_of, header_fault};
+use crate::judge::{Sets, fault_of};
 use crate::outside::find_outside;
 use crate::same_names::find_same_names;
 use crate::targets::mark_targets;
@@ -51,15 +51,16 @@ fn header_fault_in<A: Allocator + Copy>(
     let twice = find_twice(alloc, image, &chains)?;
     let targets = mark_targets(alloc, image, &chains)?;
     let ends = find_ends(alloc, image, &targets)?;
-    let outside = find_outside(image, &chains, &targets);
     let sets = Sets {
+        image,
         chains: &chains,
         targets: &targets,
         twice: &twice,
         same_names: &same_names,
         ends: &ends,
+        outside: find_outside(image, &chains, &targets),
     };
-    Ok(header_fault(image, profile, &sets, outside))
+    Ok(sets.header_fault(profile))
 }
 
 // The fault of an image that keeps the rules of the volume header, by its accessible bytes; none where

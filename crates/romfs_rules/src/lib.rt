@@ -16,6 +16,7 @@ mod depth;
 mod ends;
 mod fault;
 mod graph;
+mod header;
 mod judge;
 mod lead;
 mod link;

@@ -1,0 +1,16 @@
+use Rattle.std.proofs.Common.{subst}
+use Rattle.romfs_rules.specs.Sets.{AreSets}
+use Rattle.romfs_rules.proofs.Judging.{listed_says}
+use Rattle.romfs_rules.proofs.judge.Sets.header.Goals as goal
+
+pub invariant_of-result : goal.invariant_of-result
+invariant_of-result g c =
+    let sets = subst (λ a. AreSets a c.self.inside) c.self.view_is c.self.invariant in
+    rw c.self.view_is (record {
+      asked = c.requires;
+      is_member = rw c.self.view_is at c.is_some_member.ensures;
+      is_used = c.is_used.ensures;
+      is_twice = c.is_twice.ensures;
+      has_same_name = listed_says _ _ _ _ sets.same_names c.requires.alone c.is_listed.ensures;
+      ends = c.end_of.ensures;
+    })

@@ -1,0 +1,250 @@
+//! A header that is reached, and the first rule of file headers that it breaks.
+//!
+//! What the rules ask of a header beside its bytes (whether it is a member, whether two links name it, where its hard
+//! links end) is looked up once, when the header is made (`Sets::header`). Then no rule looks at a set.
+
+ghost use Rattle.std.specs.Prelude.{◌≡◌, ◌+◌, ◌<◌, ◌≤◌, ◌↔◌, length, IsTrue, MatchOption};
+ghost use Rattle.romfs_format.specs.declared.limits.TheConstants.{HEAD_SIZE};
+ghost use Rattle.romfs_format.specs.Fields.{data_at};
+ghost use Rattle.romfs_format.specs.Chains.{IsSomeMember};
+ghost use Rattle.romfs_format.specs.Links.{IsHardLink, EndsAs};
+ghost use Rattle.romfs_format.specs.Rules.{IsUsed, HasData, IsDevice, IsBadName, EndsOutside, HasLongTarget, HasLargeMajor};
+ghost use Rattle.romfs_format.specs.Rules.{HasBadSum, BreaksHeader, BreaksHeaderAs, rule_number};
+ghost use Rattle.romfs_rules.specs.Judge.{IsHeaderRule, KeepsBefore, KeepsHeaderRules, IsFirstRule, IsFirstAt};
+
+use crate::volume::Volume;
+use romfs_format::head::{End, Kind};
+use romfs_format::limits::{HEAD_SIZE, MAX_MAJOR, MAX_TARGET_SIZE};
+use romfs_format::read::{header_bytes, kind_of, padded, text_at, word, word_sum};
+use romfs_format::rule::{ImageFault, Profile, Rule};
+use std::marker::Model;
+
+/// A reached header inside an image. A clause sees the image and where the header stands.
+#[derive(Drop)]
+pub(crate) struct Header<'h> {
+    pub(crate) image: &'h Volume<'h>,
+    pub(crate) at: usize,
+    /// Whether it is a member of some directory.
+    pub(crate) member: bool,
+    /// Whether it is a member, or a member's hard links lead over it.
+    pub(crate) used: bool,
+    /// Whether two links name it, or another directory's chain holds it as the root's.
+    pub(crate) twice: bool,
+    /// Whether a member of the same directory has its name at a lower place; any value where `twice` is true.
+    pub(crate) same_name: bool,
+    /// Where its hard links end, if it is a member and a hard link.
+    pub(crate) end: Option<End>,
+}
+
+impl<'h> Model for Header<'h> {
+    ghost use Rattle.romfs_rules.specs.Headers.{Place, IsHeader};
+
+    ghost Value = { Place };
+
+    ghost view = { λ held. record { image = held.image.now.bytes.now; at = held.at } };
+
+    ghost invariant = { λ held.
+        IsHeader held.image.now.bytes.now held.at held.member held.used held.twice held.same_name held.end };
+}
+
+// Whether a name is empty or holds `/`.
+fn is_bad_name(name: &[u8]) -> bool
+    ensures { IsTrue result ↔ IsBadName name.now }
+{
+    name.is_empty() || name.contains(&b'/')
+}
+
+// Whether a header is that of a regular file or a symbolic link.
+fn has_data(image: &Volume, at: usize) -> bool
+    requires { at + HEAD_SIZE ≤ length image.now.bytes.now }
+    ensures { IsTrue result ↔ HasData image.now.bytes.now at }
+{
+    matches!(
+        kind_of(word(image.bytes, at)),
+        Kind::Regular | Kind::SymLink
+    )
+}
+
+// Whether the data of a header with this name ends beyond the image.
+fn is_data_outside(image: &Volume, at: usize, name: &[u8]) -> bool
+    requires at { at + HEAD_SIZE ≤ length image.now.bytes.now }
+    requires name { data_at at name.now ≤ length image.now.bytes.now }
+    ensures { IsTrue result ↔ EndsOutside image.now.bytes.now at name.now }
+{
+    let size = word(image.bytes, at + 8) as usize;
+    image.bytes.len() < at + HEAD_SIZE + padded(name.len() + 1) + size
+}
+
+// Whether a header is that of a symbolic link with a target that is too long.
+fn is_target_long(image: &Volume, at: usize) -> bool
+    requires { at + HEAD_SIZE ≤ length image.now.bytes.now }
+    ensures { IsTrue result ↔ HasLongTarget image.now.bytes.now at }
+{
+    kind_of(word(image.bytes, at)) == Kind::SymLink && word(image.bytes, at + 8) > MAX_TARGET_SIZE
+}
+
+// Whether a header is that of a device.
+fn is_device(image: &Volume, at: usize) -> bool
+    requires { at + HEAD_SIZE ≤ length image.now.bytes.now }
+    ensures { IsTrue result ↔ IsDevice image.now.bytes.now at }
+{
+    matches!(
+        kind_of(word(image.bytes, at)),
+        Kind::Block | Kind::Character
+    )
+}
+
+// Whether a header is that of a device with a major number that is too large.
+fn is_major_large(image: &Volume, at: usize) -> bool
+    requires { at + HEAD_SIZE ≤ length image.now.bytes.now }
+    ensures { IsTrue result ↔ HasLargeMajor image.now.bytes.now at }
+{
+    is_device(image, at) && word(image.bytes, at + 4) / 65536 > MAX_MAJOR
+}
+
+// Whether the words of a header, its name and the padding do not sum to 0.
+fn is_sum_bad(image: &Volume, at: usize) -> bool
+    requires inside { at + HEAD_SIZE ≤ length image.now.bytes.now }
+    ensures { IsTrue result ↔ HasBadSum image.now.bytes.now at }
+{
+    match text_at(image.bytes, at + HEAD_SIZE) {
+        None => at == image.root,
+        Some(name) => word_sum(header_bytes(image.bytes, at, name)) != 0,
+    }
+}
+
+// The rules of file headers that a header inside the image may break, in the order of their numbers.
+const HEADER_RULES: [Rule; 10] = [
+    Rule::NameOpen,
+    Rule::NameBad,
+    Rule::DataOutside,
+    Rule::TargetLong,
+    Rule::Twice,
+    Rule::SameName,
+    Rule::LinkLoop,
+    Rule::LinkDirectory,
+    Rule::MajorLarge,
+    Rule::HeaderSum,
+];
+
+impl<'h> Header<'h> {
+    // Whether its name is not ended.
+    fn breaks_name_open(&self) -> bool
+        ensures { IsTrue result ↔ BreaksHeader self.now.image Rule.NameOpen self.now.at }
+    {
+        self.at != self.image.root && text_at(self.image.bytes, self.at + HEAD_SIZE).is_none()
+    }
+
+    // Whether it is a member whose name is empty or holds `/`.
+    fn breaks_name_bad(&self) -> bool
+        ensures { IsTrue result ↔ BreaksHeader self.now.image Rule.NameBad self.now.at }
+    {
+        match text_at(self.image.bytes, self.at + HEAD_SIZE) {
+            None => false,
+            Some(name) => is_bad_name(name) && self.member,
+        }
+    }
+
+    // Whether it is used, and is that of a regular file or a symbolic link.
+    fn has_used_data(&self) -> bool
+        ensures { IsTrue result ↔ (IsUsed self.now.image self.now.at
+            × HasData self.now.image self.now.at) }
+    {
+        has_data(self.image, self.at) && self.used
+    }
+
+    // Whether it is used, and its data as a regular file or a symbolic link end beyond the image.
+    fn breaks_data_outside(&self) -> bool
+        ensures { IsTrue result ↔ BreaksHeader self.now.image Rule.DataOutside self.now.at }
+    {
+        match text_at(self.image.bytes, self.at + HEAD_SIZE) {
+            None => false,
+            Some(name) => is_data_outside(self.image, self.at, name) && self.has_used_data(),
+        }
+    }
+
+    // Whether it is used, and its target as a symbolic link is too long.
+    fn breaks_target_long(&self) -> bool
+        ensures { IsTrue result ↔ BreaksHeader self.now.image Rule.TargetLong self.now.at }
+    {
+        is_target_long(self.image, self.at) && self.used
+    }
+
+    // Whether it is a member and a hard link whose chain ends in this way.
+    fn ends_as(&self, end: End) -> bool
+        ensures { IsTrue result ↔ (IsSomeMember self.now.image self.now.at
+            × IsHardLink self.now.image self.now.at × EndsAs self.now.image self.now.at end) }
+    {
+        match self.end {
+            None => false,
+            Some(found) => found == end,
+        }
+    }
+
+    // Whether it is used, and its major number as a device is too large.
+    fn breaks_major_large(&self) -> bool
+        ensures { IsTrue result ↔ BreaksHeader self.now.image Rule.MajorLarge self.now.at }
+    {
+        is_major_large(self.image, self.at) && self.used
+    }
+
+    // Whether its sum is looked at, and bad.
+    fn breaks_header_sum(&self, profile: Profile) -> bool
+        ensures { IsTrue result ↔ BreaksHeaderAs profile self.now.image Rule.HeaderSum self.now.at }
+    {
+        match profile {
+            Profile::Usual => false,
+            Profile::Strict => is_sum_bad(self.image, self.at),
+        }
+    }
+
+    // Whether it breaks a rule of file headers, where it keeps those before that rule.
+    fn breaks(&self, profile: Profile, rule: Rule) -> bool
+        requires rule { IsHeaderRule rule }
+        requires before { KeepsBefore profile self.now.image self.now.at (rule_number rule) }
+        ensures { IsTrue result ↔ BreaksHeaderAs profile self.now.image rule self.now.at }
+    {
+        match rule {
+            Rule::NameOpen => self.breaks_name_open(),
+            Rule::NameBad => self.breaks_name_bad(),
+            Rule::DataOutside => self.breaks_data_outside(),
+            Rule::TargetLong => self.breaks_target_long(),
+            Rule::Twice => self.twice,
+            Rule::SameName => self.same_name,
+            Rule::LinkLoop => self.ends_as(End::Nowhere),
+            Rule::LinkDirectory => self.ends_as(End::AtDirectory),
+            Rule::MajorLarge => self.breaks_major_large(),
+            Rule::HeaderSum => self.breaks_header_sum(profile),
+            _ => false,
+        }
+    }
+
+    // The first rule of file headers that it breaks.
+    fn first_rule(&self, profile: Profile) -> Option<Rule>
+        ensures { MatchOption result (KeepsHeaderRules profile self.now.image self.now.at)
+            (IsFirstRule profile self.now.image self.now.at) }
+    {
+        let _ = &self.image;
+        for number in 0..HEADER_RULES.len() {
+            let rule = HEADER_RULES[number];
+            if self.breaks(profile, rule) {
+                return Some(rule);
+            }
+        }
+        None
+    }
+
+    /// The first rule of file headers that it breaks, with its place.
+    pub(crate) fn fault(&self, profile: Profile) -> Option<ImageFault>
+        ensures { MatchOption result (KeepsHeaderRules profile self.now.image self.now.at)
+            (IsFirstAt profile self.now.image self.now.at) }
+    {
+        match self.first_rule(profile) {
+            Some(rule) => Some(ImageFault {
+                rule,
+                place: self.at as u32,
+            }),
+            None => None,
+        }
+    }
+}
