@@ -1,5 +1,5 @@
 -- Lists of headers that grow by one.
-use Rattle.std.proofs.Common.{◌≡◌, ◌∙◌, sym, ap, subst, ℕ, ◌+◌, ◌*◌, ◌/◌, ◌<◌, ◌≤◌, ◌⊎◌, inl, inr, List, [], ◌∷◌, ◌++◌, length, get_or, Bool, true, false, Option, ◌^◌, refl, arith}
+use Rattle.std.proofs.Common.{◌≡◌, ◌∙◌, sym, ap, subst, ℕ, ◌+◌, ◌*◌, ◌/◌, ◌<◌, ◌≤◌, ◌⊎◌, inl, inr, List, [], ◌∷◌, ◌++◌, length, get_or, Bool, true, false, Option, refl, arith}
 use Rattle.std.proofs.lemmas.List.{get_or_at, get_or_append_left, get_or_default, length_push}
 use Rattle.std.proofs.lemmas.List.Elements.{Contains-append_left, Contains-append_right, Contains-append_cases}
 use Rattle.std.proofs.lemmas.Bool.{cases_order, cases_lt, false≢true}
@@ -8,7 +8,7 @@ use Rattle.romfs_rules.proofs.Ranks.{rank_zero, rank_member, rank_other, rank_be
 use Rattle.romfs_rules.proofs.Unions.{over_to}
 use Rattle.romfs_rules.specs.SlotSets.{rank, IsClear}
 use Rattle.romfs_rules.specs.Marks.{AreMarks, IsListOf}
-use Rattle.romfs_rules.specs.Climb.{AreBelow, AreLists, IsGraph}
+use Rattle.romfs_rules.specs.Climb.{AreBelow}
 use Rattle.romfs_rules.specs.Names.{AreClasses}
 use Rattle.romfs_rules.specs.SameNames.{AreCollected, IsNextNumber, AreNextNumbers, AreChosen}
 
@@ -175,16 +175,10 @@ next_below {heads = heads} {next = next} n = let s = n.sized in record {
   ];
 }
 
--- headers, the numbers after them and their classes, with the lists of those before each
-pub grown : {a heads next class first sibling : List ℕ} {key : ℕ → Option (List ℕ)}
-    → length heads + 1 < 2 ^ 32 → AreNextNumbers a heads next → AreClasses key (length heads) class
-    → AreLists next first sibling → IsGraph next class first sibling
-grown {heads = heads} {next = next} {class = class} few n c l =
-    let s = n.sized in
-    let t = c.sized in
-    record {
-      few = omega arith;
-      leads = next_below n;
-      classes = record { sized = omega arith; each = λ k m. let b = c.below k (omega arith) in omega arith };
-      lists = l;
-    }
+-- classes are numbers of headers
+pub class_below : {a heads next class : List ℕ} {key : ℕ → Option (List ℕ)}
+    → AreNextNumbers a heads next → AreClasses key (length heads) class → AreBelow class (length next)
+class_below {heads = heads} n c = let s = n.sized in let t = c.sized in record {
+  sized = omega arith;
+  each = λ k m. let b = c.below k (omega arith) in omega arith;
+}

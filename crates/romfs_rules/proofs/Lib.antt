@@ -24,5 +24,6 @@ pub mod Classing
 pub mod Ascent
 pub mod Rounds
 pub mod Siblings
+pub mod Graphs
 pub mod SameNaming
 pub mod HeadNumbers

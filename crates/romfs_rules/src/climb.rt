@@ -20,7 +20,7 @@
 //! steps, the climb takes n.
 
 ghost use Rattle.std.specs.Prelude.{◌≡◌, ◌+◌, ◌<◌, ◌^◌, ℕ, true, false, IfOk, length, get_or, set, min, drop, reverse, []};
-ghost use Rattle.romfs_rules.specs.Climb.{After, AreBelow, IsGraph, IsFound, IsLow, IsCycle, IsMet, IsGathered, IsNoted, IsSkipped, AreMarksKept, AreNoted};
+ghost use Rattle.romfs_rules.specs.Climb.{After, AreBelow, IsFound, IsLow, IsCycle, IsMet, IsGathered, IsNoted, IsSkipped, AreMarksKept, AreNoted};
 
 use crate::graph::Graph;
 use std::alloc::{AllocError, Allocator};
@@ -43,7 +43,6 @@ struct Step {
 
 // Puts a header on the path, and notes the higher of it and the lowest of its class there.
 fn enter<A: Allocator>(graph: &Graph<A>, found: &mut Found<A>, at: u32) -> u32
-    requires class { AreBelow graph.now.class.items (length graph.now.next.items) }
     requires at { at < length graph.now.next.items }
     requires low { length found.old.low.items ≡ length graph.now.next.items }
     requires entered { length found.old.entered.items ≡ length graph.now.next.items }
@@ -67,23 +66,20 @@ fn enter<A: Allocator>(graph: &Graph<A>, found: &mut Found<A>, at: u32) -> u32
 }
 
 // The first header on a list that has not been entered.
-fn skip_entered(sibling: &[u32], entered: &[bool], from: u32) -> u32
-    requires sized { length entered.now ≡ length sibling.now }
-    requires rising { (x : ℕ) → x < length sibling.now → x < get_or sibling.now x 0 }
-    ensures skipped { IsSkipped sibling.now entered.now from result }
-    ensures fresh { result < length sibling.now → get_or entered.now result false ≡ false }
+fn skip_entered<A: Allocator>(graph: &Graph<A>, entered: &[bool], from: u32) -> u32
+    requires { length entered.now ≡ length graph.now.next.items }
+    ensures skipped { IsSkipped graph.now.sibling.items entered.now from result }
+    ensures fresh { result < length graph.now.next.items → get_or entered.now result false ≡ false }
 {
     let mut at = from;
-    while (at as usize) < sibling.len() && entered[at as usize] {
-        at = sibling[at as usize];
+    while (at as usize) < graph.sibling.len() && entered[at as usize] {
+        at = graph.sibling[at as usize];
     }
     at
 }
 
 // Takes the last header off the path, and gives the next that leads where it does.
 fn leave<A: Allocator>(graph: &Graph<A>, found: &mut Found<A>, step: Step) -> u32
-    requires class { AreBelow graph.now.class.items (length graph.now.next.items) }
-    requires sibling { length graph.now.sibling.items ≡ length graph.now.next.items }
     requires at { step.at < length graph.now.next.items }
     requires low { length found.old.low.items ≡ length graph.now.next.items }
     ensures next { result ≡ get_or graph.now.sibling.items step.at 0 }
@@ -106,8 +102,6 @@ fn climb<A: Allocator + Copy>(
     turn: usize,
 ) -> Result<(), AllocError>
     requires turn { turn < length cycle.now }
-    requires graph { IsGraph graph.now.next.items graph.now.class.items
-        graph.now.first.items graph.now.sibling.items }
     requires cycle { IsCycle graph.now.next.items (reverse cycle.now) }
     requires found { IsFound graph.now.next.items graph.now.class.items
         (reverse cycle.now) (drop turn cycle.now)
@@ -120,7 +114,7 @@ fn climb<A: Allocator + Copy>(
     let mut steps: Vec<Step, A> = Vec::new(alloc);
     let mut from = graph.first[cycle[turn] as usize];
     loop {
-        let at = skip_entered(&graph.sibling, &found.entered, from);
+        let at = skip_entered(graph, &found.entered, from);
         if (at as usize) < graph.next.len() {
             let low = enter(graph, found, at);
             steps.push(Step { at, low })?;
@@ -159,8 +153,6 @@ fn gather<A: Allocator + Copy>(
     requires from { from < length graph.now.next.items }
     requires fresh { get_or found.old.entered.items from false ≡ false }
     requires cycle { After graph.now.next.items from from }
-    requires graph { IsGraph graph.now.next.items graph.now.class.items
-        graph.now.first.items graph.now.sibling.items }
     requires found { IsFound graph.now.next.items graph.now.class.items [] []
         found.old.entered.items found.old.noted.items found.old.low.items }
     ensures gathered { IfOk result (λ cycle. IsGathered graph.now.next.items graph.now.class.items
@@ -179,8 +171,6 @@ fn gather<A: Allocator + Copy>(
 
 // Takes a cycle off the path.
 fn clear<A: Allocator>(graph: &Graph<A>, found: &mut Found<A>, cycle: &[u32])
-    requires few { length graph.now.next.items < 2 ^ 32 }
-    requires class { AreBelow graph.now.class.items (length graph.now.next.items) }
     requires cycle { IsCycle graph.now.next.items (reverse cycle.now) }
     requires low { IsLow graph.now.class.items found.old.low.items (reverse cycle.now) }
     ensures low { IsLow graph.now.class.items found.new.low.items [] }
@@ -204,8 +194,6 @@ fn enter_all<A: Allocator + Copy>(
     requires from { from < length graph.now.next.items }
     requires visited { length visited.old ≡ length graph.now.next.items }
     requires walked { AreMarksKept visited.old found.old.entered.items }
-    requires graph { IsGraph graph.now.next.items graph.now.class.items
-        graph.now.first.items graph.now.sibling.items }
     requires found { IsFound graph.now.next.items graph.now.class.items [] []
         found.old.entered.items found.old.noted.items found.old.low.items }
     ensures found { IfOk result (λ _. IsFound graph.now.next.items graph.now.class.items [] []
@@ -231,8 +219,6 @@ pub(crate) fn note_higher<A: Allocator + Copy>(
     alloc: A,
     graph: &Graph<A>,
 ) -> Result<Vec<bool, A>, AllocError>
-    requires { IsGraph graph.now.next.items graph.now.class.items
-        graph.now.first.items graph.now.sibling.items }
     ensures { IfOk result
         (λ noted. AreNoted graph.now.next.items graph.now.class.items noted.items) }
 {

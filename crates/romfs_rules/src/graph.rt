@@ -1,6 +1,6 @@
 //! Headers that each lead on to one.
 
-ghost use Rattle.std.specs.Prelude.{◌<◌, ◌^◌, IfOk, length};
+ghost use Rattle.std.specs.Prelude.{◌≡◌, ℕ, ◌<◌, ◌^◌, IfOk, length, get_or};
 ghost use Rattle.romfs_rules.specs.Climb.{AreBelow, AreLists};
 
 use std::alloc::{AllocError, Allocator};
@@ -16,10 +16,39 @@ pub(crate) struct Graph<A: Allocator> {
     pub first: Vec<u32, A>,
     /// The next that leads to the same header, or the number of headers.
     pub sibling: Vec<u32, A>,
+    ghost few: { length next.items < 2 ^ 32 },
+    ghost leads: { AreBelow next.items (length next.items) },
+    ghost classes: { AreBelow class.items (length next.items) },
+    ghost siblings: { length sibling.items ≡ length next.items },
+    ghost rising: { (x : ℕ) → x < length sibling.items → x < get_or sibling.items x 0 },
+    ghost lists: { ∥ AreLists next.items first.items sibling.items ∥₁ },
 }
 
-/// The lists of those that lead to each: the first of each list, and what follows each on its own.
-pub(crate) fn lists<A: Allocator + Copy>(
+impl<A: Allocator + Copy> Graph<A> {
+    /// The headers with these classes, each of which leads on to the next that is given.
+    pub(crate) fn of(
+        alloc: A,
+        next: Vec<u32, A>,
+        class: Vec<u32, A>,
+    ) -> Result<Graph<A>, AllocError>
+        requires few { length next.items < 2 ^ 32 }
+        requires leads { AreBelow next.items (length next.items) }
+        requires classes { AreBelow class.items (length next.items) }
+        ensures { IfOk result
+            (λ graph. (graph.next.items ≡ next.items) × (graph.class.items ≡ class.items)) }
+    {
+        let (first, sibling) = lists(alloc, &next)?;
+        Ok(Graph {
+            next,
+            class,
+            first,
+            sibling,
+        })
+    }
+}
+
+// The lists of those that lead to each: the first of each list, and what follows each on its own.
+fn lists<A: Allocator + Copy>(
     alloc: A,
     next: &[u32],
 ) -> Result<(Vec<u32, A>, Vec<u32, A>), AllocError>

@@ -7,7 +7,7 @@ ghost use Rattle.romfs_rules.specs.SameNames.{IsLinked, AreNumbered, IsNextNumbe
 
 use crate::chains::Chains;
 use crate::climb::note_higher;
-use crate::graph::{Graph, lists};
+use crate::graph::Graph;
 use crate::listed::headers_of;
 use crate::names::classes;
 use crate::slot::is_inside;
@@ -87,15 +87,7 @@ pub(crate) fn find_same_names<A: Allocator + Copy>(
     let next = next_numbers(alloc, image, &heads, &numbers)?;
     drop(numbers);
     let class = classes(alloc, image, &heads)?;
-    let (first, sibling) = lists(alloc, &next)?;
-    let noted = note_higher(
-        alloc,
-        &Graph {
-            next,
-            class,
-            first,
-            sibling,
-        },
-    )?;
+    let graph = Graph::of(alloc, next, class)?;
+    let noted = note_higher(alloc, &graph)?;
     chosen(alloc, &heads, &noted)
 }

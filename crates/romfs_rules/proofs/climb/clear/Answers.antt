@@ -7,7 +7,7 @@ use Rattle.romfs_rules.proofs.climb.clear.Goals as goal
 pub loop-at-init : goal.loop-at-init
 loop-at-init g c = record {
   clearing = clears_none _ _ _ c.requires.low;
-  low = c.requires.low.sized ∙ c.requires.class.sized;
+  low = c.requires.low.sized ∙ c.args.graph.now.classes.sized;
   entered = refl;
   noted = refl;
 }
@@ -15,24 +15,24 @@ loop-at-init g c = record {
 pub index-requires : goal.index-requires
 index-requires g c =
     let i = c.requires.cycle.inside _ (on_turn c.args.cycle.now c.loop-at.at-index c.loop-at-test.true) in
-    let s = c.requires.class.sized in
+    let s = c.args.graph.now.classes.sized in
     omega (arith, c.args.graph.now.class.ok.0)
 
 pub index_mut-requires : goal.index_mut-requires
 index_mut-requires g c =
     let i = c.requires.cycle.inside _ (on_turn c.args.cycle.now c.loop-at.at-index c.loop-at-test.true) in
-    let s = c.requires.class.sized in
+    let s = c.args.graph.now.classes.sized in
     let e = get_or_read c.args.graph.now.class.items _ _ (omega arith) c.index.ensures 0 in
-    let k = c.requires.class.each _ i in
+    let k = c.args.graph.now.classes.each _ i in
     omega (arith, c.loop-at.found.low.ok.0, c.loop-at.invariant.low)
 
 pub loop-at-preserved : goal.loop-at-preserved
 loop-at-preserved g c =
     let l = c.loop-at.invariant in
     let i = c.requires.cycle.inside _ (on_turn c.args.cycle.now c.loop-at.at-index c.loop-at-test.true) in
-    let s = c.requires.class.sized in
+    let s = c.args.graph.now.classes.sized in
     let e = get_or_read c.args.graph.now.class.items _ _ (omega arith) c.index.ensures 0 in
-    let k = c.requires.class.each _ i in
+    let k = c.args.graph.now.classes.each _ i in
     let n : c.len-none.result ≡ length c.args.graph.now.class.items = omega (arith, c.args.graph.now.next.ok.0) in
     record {
       clearing = rw (e, n) (clears_more _ _ c.args.cycle.now c.loop-at.at-index c.loop-at-test.true (omega arith) l.clearing);

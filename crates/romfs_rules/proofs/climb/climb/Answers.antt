@@ -3,17 +3,18 @@ use Rattle.std.proofs.lemmas.List.{get_or_read, length-set, length-append}
 use Rattle.romfs_rules.specs.Climb.{IsSkipped}
 use Rattle.romfs_rules.proofs.MarkLists.{unmarked, marks_fall}
 use Rattle.romfs_rules.proofs.Ascent.{begins, skips, enters, leaves, ends, on_turn, drop_turn, reverse_push, keeps, popped, no_steps, step_fits}
+use Rattle.romfs_rules.proofs.Graphs.{graph_of}
 use Rattle.romfs_rules.proofs.climb.climb.Goals as goal
 
 pub index-from-requires : goal.index-from-requires
 index-from-requires g c =
     let i = c.requires.cycle.inside _ (on_turn c.args.cycle.now c.args.turn c.requires.turn) in
-    let f = c.requires.graph.lists.firsts in
+    let f = (graph_of c.args.graph.now).lists.firsts in
     omega (arith, c.args.graph.now.first.ok.0)
 
 pub loop-found-init : goal.loop-found-init
 loop-found-init g c =
-    let f = c.requires.graph in
+    let f = graph_of c.args.graph.now in
     let o = on_turn c.args.cycle.now c.args.turn c.requires.turn in
     let i = c.requires.cycle.inside _ o in
     let e = get_or_read c.args.graph.now.first.items (get_or c.args.cycle.now c.args.turn 0)
@@ -29,8 +30,8 @@ loop-found-init g c =
 
 pub loop-found-smaller-then-at-len : goal.loop-found-smaller-then-at-len
 loop-found-smaller-then-at-len g c =
-    let fresh = rw (c.deref.ensures.value, c.deref-in-loop-found.ensures.value) at c.skip_entered-at.ensures.fresh in
-    let s = c.requires.graph.lists.siblings in
+    let fresh = rw (c.deref.ensures.value) at c.skip_entered-at.ensures.fresh in
+    let s = c.args.graph.now.siblings in
     let v = c.loop-found.invariant.entered in
     let k = marks_fall c.loop-found.found.entered.items c.skip_entered-at.result (omega arith) (fresh (omega arith)) in
     let u = ap unmarked c.enter-low.ensures.entered in
@@ -39,12 +40,12 @@ loop-found-smaller-then-at-len g c =
 
 pub loop-found-preserved-then-at-len : goal.loop-found-preserved-then-at-len
 loop-found-preserved-then-at-len g c =
-    let f = c.requires.graph in
+    let f = graph_of c.args.graph.now in
     let l = c.loop-found.invariant in
     let at = c.skip_entered-at.result in
     let o = on_turn c.args.cycle.now c.args.turn c.requires.turn in
     let s : IsSkipped c.args.graph.now.sibling.items c.loop-found.found.entered.items c.loop-found.from
-    at = rw (c.deref.ensures.value, c.deref-in-loop-found.ensures.value) at
+    at = rw (c.deref.ensures.value) at
     c.skip_entered-at.ensures.skipped in
     let i : at < length c.args.graph.now.next.items = omega arith in
     let e = get_or_read c.args.graph.now.first.items at c.index-from-then-at-len.result.now
@@ -66,12 +67,12 @@ leave-from-requires-clause-at g c = step_fits (rw (popped _ _ _ c.in-Some.ensure
 
 pub loop-found-preserved : goal.loop-found-preserved
 loop-found-preserved g c =
-    let f = c.requires.graph in
+    let f = graph_of c.args.graph.now in
     let l = c.loop-found.invariant in
     let at = c.skip_entered-at.result in
     let o = on_turn c.args.cycle.now c.args.turn c.requires.turn in
     let s : IsSkipped c.args.graph.now.sibling.items c.loop-found.found.entered.items c.loop-found.from
-    at = rw (c.deref.ensures.value, c.deref-in-loop-found.ensures.value) at
+    at = rw (c.deref.ensures.value) at
     c.skip_entered-at.ensures.skipped in
     let e = c.leave-from.ensures in
     record {
@@ -87,12 +88,12 @@ loop-found-preserved g c =
 
 pub returns-in-None-clause-found : goal.returns-in-None-clause-found
 returns-in-None-clause-found g c =
-    let f = c.requires.graph in
+    let f = graph_of c.args.graph.now in
     let l = c.loop-found.invariant in
     let at = c.skip_entered-at.result in
     let o = on_turn c.args.cycle.now c.args.turn c.requires.turn in
     let s : IsSkipped c.args.graph.now.sibling.items c.loop-found.found.entered.items c.loop-found.from
-    at = rw (c.deref.ensures.value, c.deref-in-loop-found.ensures.value) at
+    at = rw (c.deref.ensures.value) at
     c.skip_entered-at.ensures.skipped in
     let n : length c.loop-found.steps.items ≡ 0 = (let z = c.in-None.ensures.cases.0 in omega (arith, c.loop-found.steps.ok.0)) in
     ends _ _ _ _ _ f _ c.requires.cycle o _ at _ _ _ (omega arith)

@@ -49,7 +49,7 @@ returns-clause-walked g c =
         | inr a ↦ (
             let i = marked_inside c.seek-start.new.visited x m in
             let s = c.seek-start.auto.visited in
-            leads_in _ _ c.requires.graph.leads (closed (returns-clause-found g c)) (omega arith) a (start_entered g c))
+            leads_in _ _ c.args.graph.now.leads (closed (returns-clause-found g c)) (omega arith) a (start_entered g c))
       ];
     }
 
@@ -60,5 +60,5 @@ returns-clause-entered g c =
     (let e = c.requires.found.compared.sized in omega arith) c.index.ensures c.if-index.false) in
     elim w.leads [
       | inl e ↦ subst (λ x. get_or c.clear.new.found.entered.items x false ≡ true) e (start_entered g c)
-      | inr a ↦ leads_in _ _ c.requires.graph.leads (closed (returns-clause-found g c)) c.requires.from a (start_entered g c)
+      | inr a ↦ leads_in _ _ c.args.graph.now.leads (closed (returns-clause-found g c)) c.requires.from a (start_entered g c)
     ]

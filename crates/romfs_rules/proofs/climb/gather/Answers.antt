@@ -7,7 +7,7 @@ use Rattle.romfs_rules.proofs.climb.gather.Goals as goal
 
 pub loop-found-init : goal.loop-found-init
 loop-found-init g c =
-    let f = c.requires.graph in
+    let f = c.args.graph.now in
     record {
       rounding = rw c.new-cycle.ensures.items (begins _ _ f.classes.sized f.leads f.classes _ c.requires.cycle _ _ _ c.requires.fresh c.requires.found);
       inside = c.requires.from;
@@ -28,7 +28,7 @@ loop-found-smaller g c =
 
 pub loop-found-preserved : goal.loop-found-preserved
 loop-found-preserved g c =
-    let f = c.requires.graph in
+    let f = c.args.graph.now in
     let l = c.loop-found.invariant in
     let at = c.loop-found.at in
     let i : at < length c.loop-found.found.entered.items = (let a = l.inside in let b = l.entered in omega arith) in
@@ -45,7 +45,7 @@ loop-found-preserved g c =
 
 pub returns-clause-gathered : goal.returns-clause-gathered
 returns-clause-gathered g c =
-    let f = c.requires.graph in
+    let f = c.args.graph.now in
     let l = c.loop-found.invariant in
     let at = c.loop-found.at in
     let i : at < length c.loop-found.found.entered.items = (let a = l.inside in let b = l.entered in omega arith) in

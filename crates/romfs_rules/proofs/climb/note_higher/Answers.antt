@@ -6,7 +6,7 @@ use Rattle.romfs_rules.proofs.climb.note_higher.Goals as goal
 
 pub loop-from-init : goal.loop-from-init
 loop-from-init g c =
-    let f = c.requires in
+    let f = c.args.graph.now in
     let v = c.args.graph.now.next.ok.0 in
     let n : c.len-count.result ≡ length c.args.graph.now.next.items = omega (arith, v) in
     let entered = c.in_ok-vec.ensures.items_if_clones_equal (λ y e. e) in

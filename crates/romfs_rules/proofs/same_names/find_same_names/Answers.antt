@@ -2,7 +2,7 @@ use Rattle.std.proofs.Common.{arith, subst, length, get_or}
 use Rattle.std.proofs.lemmas.Result.{IfOk-weaker}
 use Rattle.romfs_rules.specs.SameNames.{AreNextNumbers, AreChosen, HaveSameNames}
 use Rattle.romfs_rules.specs.Names.{kept_name, AreClasses}
-use Rattle.romfs_rules.proofs.HeadNumbers.{grown, next_below}
+use Rattle.romfs_rules.proofs.HeadNumbers.{class_below, next_below}
 use Rattle.romfs_rules.proofs.SameNaming.{numbered, same_names}
 use Rattle.romfs_rules.proofs.same_names.find_same_names.Goals as goal
 
@@ -16,7 +16,7 @@ classes-requires-clause-inside g c =
     rw c.deref-2.ensures.value (λ i l. (n.each i l).inside.1)
 
 pub chosen-requires-clause-rising : goal.chosen-requires-clause-rising
-chosen-requires-clause-rising g c = rw c.deref-4.ensures.value (c.in_ok-heads.ensures.rising)
+chosen-requires-clause-rising g c = rw c.deref-3.ensures.value (c.in_ok-heads.ensures.rising)
 
 pub returns : goal.returns
 returns g c =
@@ -28,17 +28,20 @@ returns g c =
     subst (λ hs. AreClasses (λ i. kept_name a (get_or hs i 0)) (length hs) c.in_ok-class.class.items) c.deref-2.ensures.value c.in_ok-class.ensures in
     IfOk-weaker c.chosen.result (λ found. AreChosen heads c.in_ok-noted.noted.items (length heads) found.items) (λ found. HaveSameNames a found.items)
     (λ found w. same_names a heads c.args.chains.now.headers c.in_ok-next.next.items c.in_ok-class.class.items
-    c.in_ok-noted.noted.items n next class c.in_ok-noted.ensures c.requires.alone found.items w)
-    (rw (c.deref-4.ensures.value, c.deref-5.ensures.value) at c.chosen.ensures)
+    c.in_ok-noted.noted.items n next class
+    (rw (c.in_ok-graph.ensures.0, c.in_ok-graph.ensures.1) at c.in_ok-noted.ensures) c.requires.alone found.items w)
+    (rw (c.deref-3.ensures.value, c.deref-4.ensures.value) at c.chosen.ensures)
 
-pub lists-requires-clause-next : goal.lists-requires-clause-next
-lists-requires-clause-next g c = rw c.deref-3.ensures.value (next_below (rw c.deref.ensures.value at c.in_ok-next.ensures))
-
-pub note_higher-requires : goal.note_higher-requires
-note_higher-requires g c =
+pub of-requires-2-clause-few : goal.of-requires-2-clause-few
+of-requires-2-clause-few g c =
     let few = c.in_ok-heads.ensures.few in
     let sized = c.requires.chains.headers.sized in
     let small = c.args.image.now.keeps.small in
-    grown (omega arith) (rw c.deref.ensures.value at c.in_ok-next.ensures)
-    (rw c.deref-2.ensures.value at c.in_ok-class.ensures)
-    (rw c.deref-3.ensures.value at c.in_ok-first.ensures)
+    let next = (rw c.deref.ensures.value at c.in_ok-next.ensures).sized in
+    omega arith
+
+pub of-requires-2-clause-leads : goal.of-requires-2-clause-leads
+of-requires-2-clause-leads g c = next_below (rw c.deref.ensures.value at c.in_ok-next.ensures)
+
+pub of-requires-2-clause-classes : goal.of-requires-2-clause-classes
+of-requires-2-clause-classes g c = class_below (rw c.deref.ensures.value at c.in_ok-next.ensures) (rw c.deref-2.ensures.value at c.in_ok-class.ensures)
