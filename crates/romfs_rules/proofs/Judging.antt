@@ -1,8 +1,6 @@
 -- What the tests of the rules say of a header.
-use Rattle.std.proofs.Common.{◌≡◌, ◌∙◌, sym, subst, ℕ, zero, suc, ◌+◌, ◌/◌, ◌<◌, ◌↔◌, ◌⊎◌, inl, inr, List, [], ◌∷◌, length, Bool, get_or, true, false, Some, IsTrue, IsSomeAnd, Contains, refl, ap, arith, lit<, lit≤}
-use Rattle.std.proofs.lemmas.Bool.{false≢true, cases_order}
-use Rattle.std.proofs.lemmas.Grind.{get_or_default_zero}
-use Rattle.std.specs.List.Sorted.{IsNonDecreasing}
+use Rattle.std.proofs.Common.{◌≡◌, ◌∙◌, sym, subst, ℕ, zero, suc, ◌+◌, ◌/◌, ◌<◌, ◌↔◌, ◌⊎◌, inl, inr, List, [], ◌∷◌, length, Bool, get_or, true, false, Some, IsTrue, IsSomeAnd, Contains, refl, arith, lit<, lit≤}
+use Rattle.std.proofs.lemmas.Bool.{false≢true}
 use Rattle.romfs_format.specs.declared.head.End.{End}
 use Rattle.romfs_format.specs.declared.head.End.TheVariants.{AtDirectory, AtOther, Nowhere}
 use Rattle.romfs_format.specs.declared.rule.Rule.{Rule}
@@ -27,12 +25,9 @@ pub mark_says : (a : List ℕ) (P : ℕ → Type 0) (marks : List Bool) (h : ℕ
     → HasSlot a h → b ≡ get_or marks (h / 16) false → IsTrue b ↔ P h
 mark_says a P marks h b m s e = (λ t. (marked a P marks h m s.aligned s.inside).0 (sym e ∙ t), λ p. e ∙ (marked a P marks h m s.aligned s.inside).1 p)
 
--- both of two facts, by the test of the one where the other is known, or by that of the other where it fails
+-- both of two facts, by the test of the one where the other is known
 pub and_known : {P Q : Type 0} {b c : Bool} → IsTrue b ↔ Q → b ≡ true → IsTrue c ↔ P → IsTrue c ↔ (P × Q)
 and_known s e t = (λ y. (t.0 y, s.0 e), λ x. t.1 x.0)
-
-pub and_not : {P Q : Type 0} {b : Bool} → IsTrue b ↔ Q → b ≡ false → IsTrue b ↔ (P × Q)
-and_not s e = (λ y. absurd (false≢true (sym e ∙ y)), λ x. s.1 x.1)
 
 -- the second of two tests, where the first fails or holds
 pub or_else : {P Q : Type 0} {b c : Bool} → IsTrue b ↔ P → b ≡ false → IsTrue c ↔ Q → IsTrue c ↔ (P ⊎ Q)
@@ -92,18 +87,6 @@ listed_says a h hs b s only t once =
 -- a test that looks a header up in a list
 pub list_says : (a : List ℕ) (P : ℕ → Type 0) (hs : List ℕ) (h : ℕ) (b : Bool) → IsListOf a P hs → HasSlot a h → IsTrue b ↔ Contains hs h → IsTrue b ↔ P h
 list_says a P hs h b l s t = (λ y. l.each h (t.0 y), λ p. t.1 (l.all h p s.inside s.aligned))
-
--- headers that rise do not fall
-pub not_falling : (hs : List ℕ) → ((i j : ℕ) → i < j → j < length hs → get_or hs i 0 < get_or hs j 0) → IsNonDecreasing hs
-not_falling hs n i j d l k = elim (cases_order i j) [
-  | inl e ↦ (let same : get_or hs i d ≡ get_or hs j d = ap (λ m. get_or hs m d) e in omega arith)
-  | inr (inl m) ↦ (
-      let r = n i j m k in
-      let x = get_or_default_zero hs i d (omega arith) in
-      let y = get_or_default_zero hs j d k in
-      omega arith)
-  | inr (inr m) ↦ absurd (omega arith)
-]
 
 -- the rules are numbered one after the other from n on
 abbrev AreNumberedFrom : ℕ → List Rule → Type 0
