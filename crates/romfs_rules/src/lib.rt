@@ -4,8 +4,8 @@
 //! lead anywhere, links to links, names that come twice. It first collects sets of headers (`chains`, `same_names`,
 //! `twice`, `targets`, `ends`), as a bit for every 16 bytes of the image (`slot_set`) or as a rising list (`listed`);
 //! what is kept for a header of a set is kept by its number there (`slot_numbers`). Then it goes upward once over the
-//! headers that are reached and asks for the first rule that is broken there (`judge`); the depth is looked at last
-//! (`depth`). Each walk is a loop, and each visits a header a constant number of times.
+//! headers that are reached (`judge`) and asks each for the first rule that it breaks (`header`); the depth is looked at
+//! last (`depth`). Each walk is a loop, and each visits a header a constant number of times.
 //!
 //! Nothing is public but that call: its promise is `IsFaultOfAs`, of `romfs_format`.
 #![tactic(auto)]
