@@ -32,6 +32,8 @@ struct Found<A: Allocator> {
     /// The lowest header of each class on the path, or the number of headers.
     low: Vec<u32, A>,
     noted: Vec<bool, A>,
+    ghost entered_sized: { length entered.items ≡ length low.items },
+    ghost noted_sized: { length noted.items ≡ length low.items },
 }
 
 // A header on the path, and what was the lowest of its class before it.
@@ -45,8 +47,6 @@ struct Step {
 fn enter<A: Allocator>(graph: &Graph<A>, found: &mut Found<A>, at: u32) -> u32
     requires at { at < length graph.now.next.items }
     requires low { length found.old.low.items ≡ length graph.now.next.items }
-    requires entered { length found.old.entered.items ≡ length graph.now.next.items }
-    requires noted { length found.old.noted.items ≡ length graph.now.next.items }
     ensures lowest { result ≡ get_or found.old.low.items (get_or graph.now.class.items at 0) 0 }
     ensures low { found.new.low.items
         ≡ set found.old.low.items (get_or graph.now.class.items at 0) (min result at) }
