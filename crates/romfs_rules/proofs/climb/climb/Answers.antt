@@ -1,4 +1,4 @@
-use Rattle.std.proofs.Common.{◌≡◌, ◌∙◌, ap, ◌<◌, length, get_or, true, arith, refl}
+use Rattle.std.proofs.Common.{◌≡◌, ◌∙◌, ap, ◌<◌, length, get_or, arith, refl}
 use Rattle.std.proofs.lemmas.List.{get_or_read, length-set, length-append}
 use Rattle.romfs_rules.specs.Climb.{IsSkipped}
 use Rattle.romfs_rules.proofs.MarkLists.{unmarked, marks_fall}
@@ -23,8 +23,6 @@ loop-found-init g c =
       under_way = rw (c.new-steps.ensures.items, e) (begins _ _ _ _ _ f _ c.requires.cycle o _ _ _ _
           (rw (← drop_turn c.args.cycle.now c.args.turn c.requires.turn) c.requires.found));
       kept = record { each = λ x m. m };
-      entered = c.requires.found.compared.sized;
-      noted = c.requires.found.spare.sized ∙ f.classes.sized;
       low = c.requires.found.lowest.sized ∙ f.classes.sized;
     }
 
@@ -32,7 +30,8 @@ pub loop-found-smaller-then-at-len : goal.loop-found-smaller-then-at-len
 loop-found-smaller-then-at-len g c =
     let fresh = rw (c.deref.ensures.value) at c.skip_entered-at.ensures.fresh in
     let s = c.args.graph.now.siblings in
-    let v = c.loop-found.invariant.entered in
+    let v = c.loop-found.found.entered_sized in
+    let w = c.loop-found.invariant.low in
     let k = marks_fall c.loop-found.found.entered.items c.skip_entered-at.result (omega arith) (fresh (omega arith)) in
     let u = ap unmarked c.enter-low.ensures.entered in
     let n = ap length c.in_ok-push.ensures.items ∙ length-append c.loop-found.steps.items _ in
@@ -56,9 +55,7 @@ loop-found-preserved-then-at-len g c =
           (record { at = at; low = c.enter-low.result }) refl refl i c.enter-low.ensures.lowest
           c.enter-low.ensures.low (rw f.classes.sized c.enter-low.ensures.noted)
           (skips _ _ _ _ _ f _ c.requires.cycle o _ _ at _ _ _ _ s l.under_way));
-      kept = rw c.enter-low.ensures.entered (keeps _ _ at (let v = l.entered in omega arith) l.kept);
-      entered = ap length c.enter-low.ensures.entered ∙ length-set _ at true ∙ l.entered;
-      noted = c.enter-low.ensures.noted.sized ∙ l.noted;
+      kept = rw c.enter-low.ensures.entered (keeps _ _ at (let v = c.loop-found.found.entered_sized in let w = l.low in omega arith) l.kept);
       low = ap length c.enter-low.ensures.low ∙ length-set c.loop-found.found.low.items _ _ ∙ l.low;
     }
 
@@ -81,8 +78,6 @@ loop-found-preserved g c =
           (rw (popped _ _ _ c.in-Some.ensures.items) at
           (skips _ _ _ _ _ f _ c.requires.cycle o _ _ at _ _ _ _ s l.under_way)));
       kept = rw e.entered l.kept;
-      entered = ap length e.entered ∙ l.entered;
-      noted = ap length e.noted ∙ l.noted;
       low = ap length e.low ∙ length-set c.loop-found.found.low.items _ _ ∙ l.low;
     }
 

@@ -10,8 +10,6 @@ invariant-loop-found g l = record {
       (reverse l.cycle) (drop (l.turn + 1) l.cycle) (get_or l.cycle l.turn 0) l.from (reverse l.steps.items)
       l.found.entered.items l.found.noted.items l.found.low.items;
   kept : AreMarksKept l.fn.found.entered.items l.found.entered.items;
-  entered : length l.found.entered.items ≡ length l.graph.next.items;
-  noted : length l.found.noted.items ≡ length l.graph.next.items;
   low : length l.found.low.items ≡ length l.graph.next.items;
 }
 

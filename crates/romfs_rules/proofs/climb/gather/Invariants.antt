@@ -8,8 +8,6 @@ invariant-loop-found g l = record {
   rounding : IsRounding l.graph.next.items l.graph.class.items l.fn.found.entered.items l.found.entered.items
       l.from l.at (reverse l.cycle.items) l.found.noted.items l.found.low.items;
   inside : l.at < length l.graph.next.items;
-  entered : length l.found.entered.items ≡ length l.graph.next.items;
-  noted : length l.found.noted.items ≡ length l.graph.next.items;
   low : length l.found.low.items ≡ length l.graph.next.items;
 }
 
