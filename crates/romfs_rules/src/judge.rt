@@ -5,6 +5,7 @@
 
 ghost use Rattle.std.specs.Prelude.{◌≡◌, ℕ, List, ◌*◌, ◌<◌, ◌↔◌, ◌/◌, length, IsTrue, MatchOption};
 ghost use Rattle.romfs_format.specs.Fields.{image};
+ghost use Rattle.romfs_format.specs.Chains.{IsSomeMember};
 ghost use Rattle.romfs_format.specs.Rules.{IsVolume, IsUsed, BreaksHeader, IsFaultOfAs};
 ghost use Rattle.romfs_rules.specs.Marks.{HasSlot};
 ghost use Rattle.romfs_rules.specs.Headers.{IsAsked, IsEndOfMember};
@@ -57,11 +58,12 @@ impl<'s, A: Allocator> Model for Sets<'s, A> {
 
 impl<'s, A: Allocator> Sets<'s, A> {
     // Whether a header is a member, or a member's hard links lead over it.
-    fn is_used(&self, at: usize) -> bool
-        requires { HasSlot self.now at }
+    fn is_used(&self, at: usize, member: bool) -> bool
+        requires slot { HasSlot self.now at }
+        requires member { IsTrue member ↔ IsSomeMember self.now at }
         ensures { IsTrue result ↔ IsUsed self.now at }
     {
-        self.targets.contains(at / 16) || is_some_member(self.image, at, self.chains)
+        member || self.targets.contains(at / 16)
     }
 
     // Whether two links name a header, or another directory's chain holds the root's.
@@ -73,11 +75,12 @@ impl<'s, A: Allocator> Sets<'s, A> {
     }
 
     // Where the hard links of a header end, if it is a member and a hard link.
-    fn end_of(&self, at: usize) -> Option<End>
-        requires { HasSlot self.now at }
+    fn end_of(&self, at: usize, member: bool) -> Option<End>
+        requires slot { HasSlot self.now at }
+        requires member { IsTrue member ↔ IsSomeMember self.now at }
         ensures { IsEndOfMember self.now at result }
     {
-        if is_hard_link(self.image, at) && is_some_member(self.image, at, self.chains) {
+        if is_hard_link(self.image, at) && member {
             Some(self.ends.of_member(self.image, at))
         } else {
             None
@@ -90,14 +93,15 @@ impl<'s, A: Allocator> Sets<'s, A> {
         ensures image { result.image ≡ self.now }
         ensures at { result.at ≡ at }
     {
+        let member = is_some_member(self.image, at, self.chains);
         Header {
             image: self.image,
             at,
-            member: is_some_member(self.image, at, self.chains),
-            used: self.is_used(at),
+            member,
+            used: self.is_used(at, member),
             twice: self.is_twice(at),
             same_name: is_listed(self.same_names, at),
-            end: self.end_of(at),
+            end: self.end_of(at, member),
         }
     }
 

@@ -8,9 +8,15 @@ invariant_of-result g c =
     let sets = subst (λ a. AreSets a c.self.inside) c.self.view_is c.self.invariant in
     rw c.self.view_is (record {
       asked = c.requires;
-      is_member = rw c.self.view_is at c.is_some_member.ensures;
+      is_member = rw c.self.view_is at c.is_some_member-member.ensures;
       is_used = c.is_used.ensures;
       is_twice = c.is_twice.ensures;
       has_same_name = listed_says _ _ _ _ sets.same_names c.requires.alone c.is_listed.ensures;
       ends = c.end_of.ensures;
     })
+
+pub is_used-requires-clause-member : goal.is_used-requires-clause-member
+is_used-requires-clause-member g c = rw c.self.view_is at c.is_some_member-member.ensures
+
+pub end_of-requires-clause-member : goal.end_of-requires-clause-member
+end_of-requires-clause-member g c = rw c.self.view_is at c.is_some_member-member.ensures
