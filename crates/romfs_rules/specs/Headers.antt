@@ -1,8 +1,11 @@
 -- A reached header, with what the rules ask of it beside its bytes.
-use Rattle.std.specs.Prelude.{◌≡◌, ℕ, ◌↔◌, List, Bool, IsTrue, Option, MatchOption}
+use Rattle.std.specs.Prelude.{◌≡◌, ℕ, ◌+◌, ◌≤◌, ◌↔◌, List, length, Bool, IsTrue, Option, IfSome, MatchOption}
+use Rattle.std.specs.Borrow.{Bor}
+use Rattle.std.specs.Option.{option_map}
+use Rattle.romfs_format.specs.declared.limits.TheConstants.{HEAD_SIZE}
 use Rattle.romfs_format.specs.declared.head.End.{End}
 use Rattle.romfs_format.specs.declared.rule.Rule.TheVariants.{Twice, SameName}
-use Rattle.romfs_format.specs.Fields.{root}
+use Rattle.romfs_format.specs.Fields.{root, text_at, text_end}
 use Rattle.romfs_format.specs.Chains.{IsSomeMember}
 use Rattle.romfs_format.specs.Links.{IsHardLink, IsReached, EndsAs}
 use Rattle.romfs_format.specs.Rules.{IsUsed, BreaksHeader}
@@ -25,9 +28,11 @@ IsEndOfMember a h end = MatchOption end (¬ (IsSomeMember a h × IsHardLink a h)
     (λ e. IsSomeMember a h × IsHardLink a h × EndsAs a h e)
 
 -- such a header, of which these are known
-pub record IsHeader (a : List ℕ) (h : ℕ) (member used twice same_name : Bool)
-    (end : Option End) : Type 0 where
+pub record IsHeader (a : List ℕ) (h : ℕ) (name : Option (Bor (List ℕ)))
+    (member used twice same_name : Bool) (end : Option End) : Type 0 where
   pub asked : IsAsked a h
+  pub is_name : option_map (λ n. n.now) name ≡ text_at a (h + HEAD_SIZE)
+  pub name_within : IfSome name (λ n. text_end (h + HEAD_SIZE) n.now ≤ length a)
   pub is_member : IsTrue member ↔ IsSomeMember a h
   pub is_used : IsTrue used ↔ IsUsed a h
   pub is_twice : IsTrue twice ↔ BreaksHeader a Twice h

@@ -24,6 +24,8 @@ use std::marker::Model;
 pub(crate) struct Header<'h> {
     pub(crate) image: &'h Volume<'h>,
     pub(crate) at: usize,
+    /// Its name, if it is ended.
+    pub(crate) name: Option<&'h [u8]>,
     /// Whether it is a member of some directory.
     pub(crate) member: bool,
     /// Whether it is a member, or a member's hard links lead over it.
@@ -43,8 +45,8 @@ impl<'h> Model for Header<'h> {
 
     ghost view = { λ held. record { image = held.image.now.bytes.now; at = held.at } };
 
-    ghost invariant = { λ held.
-        IsHeader held.image.now.bytes.now held.at held.member held.used held.twice held.same_name held.end };
+    ghost invariant = { λ held. IsHeader held.image.now.bytes.now held.at
+        held.name held.member held.used held.twice held.same_name held.end };
 }
 
 // Whether a name is empty or holds `/`.
@@ -132,14 +134,14 @@ impl<'h> Header<'h> {
     fn breaks_name_open(&self) -> bool
         ensures { IsTrue result ↔ BreaksHeader self.now.image Rule.NameOpen self.now.at }
     {
-        self.at != self.image.root && text_at(self.image.bytes, self.at + HEAD_SIZE).is_none()
+        self.at != self.image.root && self.name.is_none()
     }
 
     // Whether it is a member whose name is empty or holds `/`.
     fn breaks_name_bad(&self) -> bool
         ensures { IsTrue result ↔ BreaksHeader self.now.image Rule.NameBad self.now.at }
     {
-        match text_at(self.image.bytes, self.at + HEAD_SIZE) {
+        match self.name {
             None => false,
             Some(name) => is_bad_name(name) && self.member,
         }
@@ -157,7 +159,7 @@ impl<'h> Header<'h> {
     fn breaks_data_outside(&self) -> bool
         ensures { IsTrue result ↔ BreaksHeader self.now.image Rule.DataOutside self.now.at }
     {
-        match text_at(self.image.bytes, self.at + HEAD_SIZE) {
+        match self.name {
             None => false,
             Some(name) => is_data_outside(self.image, self.at, name) && self.has_used_data(),
         }

@@ -21,6 +21,8 @@ use crate::slot::is_hard_link;
 use crate::slot_set::SlotSet;
 use crate::volume::Volume;
 use romfs_format::head::End;
+use romfs_format::limits::HEAD_SIZE;
+use romfs_format::read::text_at;
 use romfs_format::rule::{ImageFault, Profile, Rule};
 use std::alloc::Allocator;
 use std::marker::Model;
@@ -97,6 +99,7 @@ impl<'s, A: Allocator> Sets<'s, A> {
         Header {
             image: self.image,
             at,
+            name: text_at(self.image.bytes, at + HEAD_SIZE),
             member,
             used: self.is_used(at, member),
             twice: self.is_twice(at),

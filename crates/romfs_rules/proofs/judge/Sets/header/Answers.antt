@@ -8,6 +8,8 @@ invariant_of-result g c =
     let sets = subst (λ a. AreSets a c.self.inside) c.self.view_is c.self.invariant in
     rw c.self.view_is (record {
       asked = c.requires;
+      is_name = rw c.self.view_is at c.text_at.ensures.value;
+      name_within = rw c.self.view_is at c.text_at.ensures.within;
       is_member = rw c.self.view_is at c.is_some_member-member.ensures;
       is_used = c.is_used.ensures;
       is_twice = c.is_twice.ensures;

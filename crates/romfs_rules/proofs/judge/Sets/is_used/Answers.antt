@@ -1,4 +1,4 @@
-use Rattle.std.proofs.Common.{inl, inr, refl, subst}
+use Rattle.std.proofs.Common.{inl, inr, subst}
 use Rattle.romfs_rules.specs.Sets.{AreSets}
 use Rattle.romfs_rules.proofs.Judging.{mark_says, fails}
 use Rattle.romfs_rules.proofs.judge.Sets.is_used.Goals as goal
