@@ -6,7 +6,7 @@ use Rattle.std.specs.declared.cmp.Ordering.TheVariants.{Less, Equal, Greater}
 use Rattle.std.proofs.lemmas.Bool.{cases_eq, false≢true}
 use Rattle.std.proofs.lemmas.List.{get_or_at, get_or_append_left, get_or_default}
 use Rattle.romfs_rules.specs.declared.names.Named.{Named}
-use Rattle.romfs_rules.specs.Names.{named_cmp, AreByName, AreNumbersBelow, AreClasses}
+use Rattle.romfs_rules.specs.Names.{named_cmp, AreInNameOrder, AreNumbersBelow, AreClasses}
 use Rattle.romfs_rules.proofs.Keyed.{none_some, below_or_at, between, one_name}
 
 same_some : {X : Type 0} (x y : X) → ◌≡◌ {A = Option X} (Some x) (Some y) → x ≡ y
@@ -45,7 +45,7 @@ pub record IsClassing (name : ℕ → Option (List ℕ)) (n : ℕ) (hs : List Na
   pub alike : (l m : ℕ) → l < i → m < i → l < length hs → m < length hs → name_at hs l ≡ name_at hs m
       → get_or class (number_at hs l) 0 ≡ get_or class (number_at hs m) 0
 
-module _ (name : ℕ → Option (List ℕ)) (n : ℕ) (hs : List Named) (by : AreByName name n hs) where
+module _ (name : ℕ → Option (List ℕ)) (n : ℕ) (hs : List Named) (by : AreInNameOrder name n hs) where
   owned : (m : ℕ) → m < length hs → name (number_at hs m) ≡ Some (name_at hs m)
   owned m l = (by.are.each m nothing l).own
 

@@ -11,7 +11,7 @@ use Rattle.std.proofs.lemmas.List.Elements.{All-push, Contains-push, Contains-ap
 use Rattle.std.proofs.lemmas.List.Sorted.{ranks_by, sorted_far, All-permutation, Contains-permutation}
 use Rattle.name_keys.specs.Keys.{key as name_key}
 use Rattle.romfs_rules.specs.declared.names.Named.{Named}
-use Rattle.romfs_rules.specs.Names.{named_cmp, IsNamed, AreNamed, AreByName}
+use Rattle.romfs_rules.specs.Names.{named_cmp, HasItsName, HaveTheirNames, AreInNameOrder}
 
 pub none_some : {X : Type 0} (x : X) → ◌≡◌ {A = Option X} None (Some x) → ⊥
 none_some x e = cc
@@ -24,13 +24,13 @@ below_or_at (suc k) (suc n) l =
     elim (below_or_at k n (omega arith)) [ inl m ↦ inl (omega arith) | inr m ↦ inr (ap suc m) ]
 
 module _ (name : ℕ → Option (List ℕ)) where
-  pub none_named : AreNamed name 0 []
+  pub none_named : HaveTheirNames name 0 []
   none_named = record { each = λ k d l. absurd (omega arith); every = λ k q l. absurd (omega arith) }
 
-  wider : (n : ℕ) (h : Named) → IsNamed name n h → IsNamed name (n + 1) h
+  wider : (n : ℕ) (h : Named) → HasItsName name n h → HasItsName name (n + 1) h
   wider n h w = let l = w.below in record { below = omega arith; own = w.own; keyed = w.keyed }
 
-  pub one_without : (n : ℕ) (hs : List Named) → name n ≡ None → AreNamed name n hs → AreNamed name (n + 1) hs
+  pub one_without : (n : ℕ) (hs : List Named) → name n ≡ None → HaveTheirNames name n hs → HaveTheirNames name (n + 1) hs
   one_without n hs none w = record {
     each = λ k d l. wider n _ (w.each k d l);
     every = λ k q l e. elim (below_or_at k n l) [
@@ -41,9 +41,9 @@ module _ (name : ℕ → Option (List ℕ)) where
 
   pub one_named : (n : ℕ) (hs : List Named) (h : Named)
       → h.number ≡ n → name n ≡ Some h.name.now → h.key ≡ name_key 8 h.name.now
-      → AreNamed name n hs → AreNamed name (n + 1) (hs ++ h ∷ [])
+      → HaveTheirNames name n hs → HaveTheirNames name (n + 1) (hs ++ h ∷ [])
   one_named n hs h number own keyed w = record {
-    each = All-push (IsNamed name (n + 1)) hs h (λ k d l. wider n _ (w.each k d l))
+    each = All-push (HasItsName name (n + 1)) hs h (λ k d l. wider n _ (w.each k d l))
         (record { below = omega arith; own = ap name number ∙ own; keyed = keyed });
     every = λ k q l e. elim (below_or_at k n l) [
       | inl m ↦ (let x = w.every k q m e in (x.0, Contains-append_left hs (h ∷ []) x.0 x.1, x.2))
@@ -52,10 +52,10 @@ module _ (name : ℕ → Option (List ℕ)) where
   }
 
   pub by_name : (n : ℕ) (hs hs' : List Named)
-      → AreNamed name n hs → IsPermutation hs hs' → IsSorted named_cmp hs' → AreByName name n hs'
+      → HaveTheirNames name n hs → IsPermutation hs hs' → IsSorted named_cmp hs' → AreInNameOrder name n hs'
   by_name n hs hs' w p up = record {
     are = record {
-      each = All-permutation (IsNamed name n) hs hs' p w.each;
+      each = All-permutation (HasItsName name n) hs hs' p w.each;
       every = λ k q l e. (let x = w.every k q l e in (x.0, Contains-permutation hs hs' x.0 p x.1, x.2));
     };
     sorted = up;
@@ -79,7 +79,7 @@ neither_less x y p q = pick (slice_cmp nat_cmp x y) refl
         absurd (let z : is_lt Less ≡ false = subst (λ o. is_lt o ≡ false) back q in cc)
 
 -- between two headers of one name each has that name
-pub between : (name : ℕ → Option (List ℕ)) (n : ℕ) (hs : List Named) → AreByName name n hs
+pub between : (name : ℕ → Option (List ℕ)) (n : ℕ) (hs : List Named) → AreInNameOrder name n hs
     → (i j k : ℕ) (d : Named) → i ≤ j → j ≤ k → k < length hs → (get_or hs i d).name.now ≡ (get_or hs k d).name.now
     → named_cmp (get_or hs j d) (get_or hs k d) ≡ Equal
 between name n hs w i j k d l m h e =

@@ -12,7 +12,7 @@ use Rattle.romfs_format.specs.Rules.{IsUsed, BreaksHeader}
 use Rattle.romfs_rules.specs.Marks.{HasSlot, HasRootElsewhere}
 
 -- a place of an image
-pub record Place : Type 0 where
+pub record HeaderPlace : Type 0 where
   pub image : List ℕ
   pub at : ℕ
 

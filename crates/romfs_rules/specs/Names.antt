@@ -23,20 +23,20 @@ abbrev pub named_cmp : Named → Named → Ordering
 named_cmp x y = slice_cmp nat_cmp (x.key ∷ x.name.now) (y.key ∷ y.name.now)
 
 -- a header below n with its own name
-pub record IsNamed (name : ℕ → Option (List ℕ)) (n : ℕ) (h : Named) : Type 0 where
+pub record HasItsName (name : ℕ → Option (List ℕ)) (n : ℕ) (h : Named) : Type 0 where
   pub below : h.number < n
   pub own : name h.number ≡ Some h.name.now
   pub keyed : h.key ≡ name_key 8 h.name.now
 
 -- those of the headers below n that have a name, each with it
-pub record AreNamed (name : ℕ → Option (List ℕ)) (n : ℕ) (named : List Named) : Type 0 where
-  pub each : All (IsNamed name n) named
+pub record HaveTheirNames (name : ℕ → Option (List ℕ)) (n : ℕ) (named : List Named) : Type 0 where
+  pub each : All (HasItsName name n) named
   pub every : (k : ℕ) (q : List ℕ) → k < n → name k ≡ Some q
       → (h : Named) × Contains named h × (h.number ≡ k)
 
 -- these in the order of their names
-pub record AreByName (name : ℕ → Option (List ℕ)) (n : ℕ) (named : List Named) : Type 0 where
-  pub are : AreNamed name n named
+pub record AreInNameOrder (name : ℕ → Option (List ℕ)) (n : ℕ) (named : List Named) : Type 0 where
+  pub are : HaveTheirNames name n named
   pub sorted : IsSorted named_cmp named
 
 -- the numbers below n

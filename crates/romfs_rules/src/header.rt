@@ -39,9 +39,9 @@ pub(crate) struct Header<'h> {
 }
 
 impl<'h> Model for Header<'h> {
-    ghost use Rattle.romfs_rules.specs.Headers.{Place, IsHeader};
+    ghost use Rattle.romfs_rules.specs.Headers.{HeaderPlace, IsHeader};
 
-    ghost Value = { Place };
+    ghost Value = { HeaderPlace };
 
     ghost view = { λ held. record { image = held.image.now.bytes.now; at = held.at } };
 

@@ -7,7 +7,7 @@
 ghost use Rattle.std.specs.Prelude.{◌≡◌, ◌+◌, ◌<◌, ◌≤◌, ◌^◌, ℕ, IfOk, length, get_or};
 ghost use Rattle.std.specs.Option.{option_map};
 ghost use Rattle.romfs_format.specs.declared.limits.TheConstants.{HEAD_SIZE};
-ghost use Rattle.romfs_rules.specs.Names.{kept_name, named_cmp, AreByName, AreNumbersBelow, AreClassesOf};
+ghost use Rattle.romfs_rules.specs.Names.{kept_name, named_cmp, AreInNameOrder, AreNumbersBelow, AreClassesOf};
 
 use crate::volume::Volume;
 use name_keys::key_of;
@@ -57,7 +57,7 @@ fn sorted_by_name<'a, A: Allocator + Copy>(
     requires few { length heads.now < 2 ^ 32 }
     requires inside { (i : ℕ) → i < length heads.now →
         get_or heads.now i 0 + HEAD_SIZE ≤ length image.now.bytes.now }
-    ensures { IfOk result (λ named. AreByName
+    ensures { IfOk result (λ named. AreInNameOrder
         (λ i. kept_name image.now.bytes.now (get_or heads.now i 0)) (length heads.now) named.items) }
 {
     let mut named = Vec::with_capacity(alloc, heads.len())?;

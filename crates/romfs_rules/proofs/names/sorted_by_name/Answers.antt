@@ -3,7 +3,7 @@ use Rattle.std.specs.Ordering.{is_lt}
 use Rattle.std.proofs.lemmas.Cmp.{nat_list_cmp_total}
 use Rattle.std.proofs.lemmas.List.Sorted.{ranks_by, answers_always}
 use Rattle.romfs_rules.specs.declared.names.Named.{Named}
-use Rattle.romfs_rules.specs.Names.{kept_name, named_cmp, AreNamed}
+use Rattle.romfs_rules.specs.Names.{kept_name, named_cmp, HaveTheirNames}
 use Rattle.romfs_rules.proofs.Keyed.{one_named, one_without, by_name}
 use Rattle.romfs_rules.proofs.names.sorted_by_name.Goals as goal
 use Rattle.romfs_rules.proofs.names.sorted_by_name.Goals.{in-Some+in_ok-push, in_default}
@@ -27,7 +27,7 @@ returns g c =
     let name = λ (i : ℕ). kept_name c.args.image.now.bytes.now (get_or c.args.heads.now i 0) in
     let n : c.loop-number.number ≡ length c.args.heads.now = omega arith in
     by_name name (length c.args.heads.now) c.loop-number.named.items c.sort_unstable_by.new.self.items
-    (subst (λ n. AreNamed name n c.loop-number.named.items) n c.loop-number.invariant)
+    (subst (λ n. HaveTheirNames name n c.loop-number.named.items) n c.loop-number.invariant)
     c.sort_unstable_by.ensures.permutation
     (c.sort_unstable_by.ensures.sorted
     (λ x y. is_lt (named_cmp x y))
