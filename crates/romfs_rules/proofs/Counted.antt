@@ -8,12 +8,12 @@ use Rattle.romfs_format.specs.Rules.{IsLinkedTwice}
 use Rattle.romfs_rules.specs.Marks.{IsVolumeImage, IsMarked, AreMarks}
 use Rattle.romfs_rules.specs.Leads.{IsTheOne}
 use Rattle.romfs_rules.specs.Twice.{IsSlotOf, Counts, CountsBoth}
-use Rattle.romfs_rules.specs.SlotSets.{IsClear}
+use Rattle.slot_sets.specs.Sets.{IsClear}
 use Rattle.romfs_rules.specs.Leads.{IsInSomeChain}
-use Rattle.romfs_rules.proofs.Unions.{over_to, outside_set}
+use Rattle.slot_sets.proofs.Unions.{over_to}
+use Rattle.romfs_rules.proofs.Slots.{outside_set, twice_cleared, cleared_root, cleared_in_chain, inside_opened, cleared_opened}
 use Rattle.romfs_rules.proofs.Standing.{opened, in_some_chain}
-use Rattle.romfs_rules.proofs.Slots.{twice_cleared, cleared_root, cleared_in_chain, inside_opened, cleared_opened}
-use Rattle.romfs_rules.proofs.MarkLists.{no_marks}
+use Rattle.graph_climb.proofs.Marks.{no_marks}
 
 module _ (a : List ℕ) where
   cleared_link : (f : Field) (h : ℕ) → IsLink a f h → cleared h ≡ h

@@ -7,12 +7,12 @@ use Rattle.romfs_format.specs.Chains.{IsSomeMember}
 use Rattle.romfs_format.specs.Links.{IsHardLink, destination, IsDestination, here, there, IsTarget}
 use Rattle.romfs_rules.specs.Marks.{IsMarked, AreMarks}
 use Rattle.romfs_rules.specs.Targets.{IsFollowed, IsClosed, FollowsLink}
-use Rattle.romfs_rules.specs.SlotSets.{IsClear}
+use Rattle.slot_sets.specs.Sets.{IsClear}
 use Rattle.romfs_rules.specs.Leads.{IsInSomeChain}
-use Rattle.romfs_rules.proofs.Unions.{over_to, outside_set}
+use Rattle.slot_sets.proofs.Unions.{over_to}
+use Rattle.romfs_rules.proofs.Slots.{outside_set, twice_cleared, cleared_in_chain}
 use Rattle.romfs_rules.proofs.Standing.{member_in_chain}
-use Rattle.romfs_rules.proofs.Slots.{twice_cleared, cleared_in_chain}
-use Rattle.romfs_rules.proofs.MarkLists.{unmarked, marks_fall, newly_set, still_set, was_set}
+use Rattle.graph_climb.proofs.Marks.{unmarked, marks_fall, newly_set, still_set, was_set}
 
 -- a chain goes on
 pub goes_on : (a : List ℕ) {h g : ℕ} → IsDestination a h g → IsHardLink a g → IsDestination a h (destination a g)

@@ -11,11 +11,11 @@ use Rattle.romfs_format.specs.Links.{IsHardLink, IsTarget, IsFinal, here, stays,
 use Rattle.romfs_format.specs.Chains.{IsSomeMember}
 use Rattle.romfs_rules.specs.Marks.{AreMarks}
 use Rattle.romfs_rules.proofs.Destined.{goes_on}
-use Rattle.romfs_rules.specs.SlotWords.{Words}
-use Rattle.romfs_rules.specs.SlotSets.{IsClear}
-use Rattle.romfs_rules.proofs.Unions.{over_to, outside_set}
+use Rattle.slot_sets.specs.Words.{Words}
+use Rattle.slot_sets.specs.Sets.{IsClear}
+use Rattle.slot_sets.proofs.Unions.{over_to}
+use Rattle.romfs_rules.proofs.Slots.{outside_set, twice_cleared, cleared_destination}
 use Rattle.romfs_rules.specs.Ends.{HasEnds, AreWalkedEnds, KnowsEnd, Passes, IsUnpassedTarget}
-use Rattle.romfs_rules.proofs.Slots.{twice_cleared, cleared_destination}
 
 -- from within a closed set of hard links no chain leaves
 never_leaves : (a : List ℕ) (S : ℕ → Type 0) (inside : (h : ℕ) → S h → IsHardLink a h × S (cleared (spec a h))) {h e : ℕ} → IsFinal a h e → ¬ S h

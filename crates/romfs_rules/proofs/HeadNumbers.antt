@@ -1,105 +1,17 @@
 -- Lists of headers that grow by one.
-use Rattle.std.proofs.Common.{◌≡◌, ◌∙◌, sym, ap, subst, ℕ, ◌+◌, ◌*◌, ◌/◌, ◌<◌, ◌≤◌, ◌⊎◌, inl, inr, List, [], ◌∷◌, ◌++◌, length, get_or, Bool, true, false, Option, refl, arith}
-use Rattle.std.proofs.lemmas.List.{get_or_at, get_or_append_left, get_or_default, length_push}
+use Rattle.std.proofs.Common.{◌≡◌, ◌∙◌, sym, ap, subst, ℕ, ◌+◌, ◌*◌, ◌/◌, ◌<◌, inl, inr, List, [], ◌∷◌, ◌++◌, length, get_or, Bool, true, false, Option, refl, arith}
+use Rattle.std.proofs.lemmas.List.{get_or_append_left, get_or_default, length_push}
 use Rattle.std.proofs.lemmas.List.Elements.{Contains-append_left, Contains-append_right, Contains-append_cases}
 use Rattle.std.proofs.lemmas.Bool.{cases_order, cases_lt, false≢true}
 use Rattle.romfs_rules.proofs.Lists.{one_in}
-use Rattle.romfs_rules.proofs.Ranks.{rank_zero, rank_member, rank_other, rank_below}
-use Rattle.romfs_rules.proofs.Unions.{over_to}
-use Rattle.romfs_rules.specs.SlotSets.{rank, IsClear}
+use Rattle.slot_sets.proofs.Ranks.{rank_below}
+use Rattle.slot_sets.proofs.Listing.{places, last}
+use Rattle.slot_sets.specs.Sets.{rank}
+use Rattle.slot_sets.specs.Listed.{AreCollected}
 use Rattle.romfs_rules.specs.Marks.{AreMarks, IsListOf}
-use Rattle.romfs_rules.specs.Climb.{AreBelow}
+use Rattle.graph_climb.specs.Climb.{AreBelow}
 use Rattle.romfs_rules.specs.Names.{AreClasses}
-use Rattle.romfs_rules.specs.SameNames.{AreCollected, IsNextNumber, AreNextNumbers, AreChosen}
-
--- a place of a list with one more at the end
-places : (xs : List ℕ) (x k : ℕ) → k < length (xs ++ x ∷ [])
-    → ((k < length xs) × (get_or (xs ++ x ∷ []) k 0 ≡ get_or xs k 0))
-    ⊎ ((k ≡ length xs) × (get_or (xs ++ x ∷ []) k 0 ≡ x))
-places xs x k l = let s = length_push xs x in elim (cases_order k (length xs)) [
-  | inl e ↦ inr (e, rw e (get_or_at xs x [] 0 (length xs) refl))
-  | inr (inl m) ↦ inl (m, get_or_append_left xs (x ∷ []) 0 k m)
-  | inr (inr m) ↦ absurd (omega arith)
-]
-
-last : (xs : List ℕ) (x : ℕ) → get_or (xs ++ x ∷ []) (length xs) 0 ≡ x
-last xs x = get_or_at xs x [] 0 (length xs) refl
-
-module _ (set : List Bool) where
-  pub collects_none : AreCollected set 0 []
-  collects_none = record {
-    count = sym (rank_zero set);
-    few = omega arith;
-    rising = λ i j l k. absurd (omega arith);
-    each = λ i l. absurd (omega arith);
-    place = λ k l m. absurd (omega arith);
-  }
-
-  module _ (slot : ℕ) (heads : List ℕ) (w : AreCollected set slot heads) where
-    pub collects_plain : get_or set slot false ≡ false → AreCollected set (slot + 1) heads
-    collects_plain n = record {
-      count = w.count ∙ sym (rank_other set slot n);
-      few = (let f = w.few in omega arith);
-      rising = w.rising;
-      each = λ i l. (let r = w.each i l in let k = r.1 in (r.0, (let z = k in omega arith), r.2, r.3));
-      place = λ k l m. elim (cases_order k slot) [
-        | inl e ↦ absurd (false≢true (sym n ∙ ap (λ z. get_or set z false) (sym e) ∙ m))
-        | inr (inl d) ↦ w.place k d m
-        | inr (inr d) ↦ absurd (omega arith)
-      ];
-    }
-
-    pub collects_marked : get_or set slot false ≡ true → AreCollected set (slot + 1) (heads ++ slot * 16 ∷ [])
-    collects_marked e = record {
-      count = length_push heads (slot * 16) ∙ ap (λ x. x + 1) w.count ∙ sym (rank_member set slot e);
-      few = (let f = w.few in let s = length_push heads (slot * 16) in omega arith);
-      rising = λ i j l k. elim (places heads (slot * 16) j k) [
-        | inl p ↦ (let r = w.rising i j l p.0 in let a = p.1 in
-            let b = get_or_append_left heads (slot * 16 ∷ []) 0 i (let q = p.0 in omega arith) in omega arith)
-        | inr p ↦ (
-            let q : i < length heads = (let a = p.0 in omega arith) in
-            let r = w.each i q in
-            let a = p.1 in
-            let b = get_or_append_left heads (slot * 16 ∷ []) 0 i q in
-            let d = r.1 in
-            let g = r.2 in
-            omega arith)
-      ];
-      each = λ i l. elim (places heads (slot * 16) i l) [
-        | inl p ↦ (let r = w.each i p.0 in let k = r.1 in (r.0, (let z = k in omega arith), p.1 ∙ r.2, r.3))
-        | inr p ↦ (slot, omega arith, p.1, e)
-      ];
-      place = λ k l m. elim (cases_order k slot) [
-        | inl d ↦ ap (λ z. get_or (heads ++ slot * 16 ∷ []) z 0) (ap (rank set) d ∙ sym w.count) ∙ last heads (slot * 16) ∙ ap (λ z. z * 16) (sym d)
-        | inr (inl d) ↦ (
-            let b = rank_below set k slot m d in
-            let n = w.count in
-            get_or_append_left heads (slot * 16 ∷ []) 0 (rank set k) (omega arith) ∙ w.place k d m)
-        | inr (inr d) ↦ absurd (omega arith)
-      ];
-    }
-
-  -- over slots that are not in the set
-  pub collects_to : (low high : ℕ) (heads : List ℕ) → low ≤ high → IsClear set low high → AreCollected set low heads → AreCollected set high heads
-  collects_to low high heads l c w = over_to (λ k. AreCollected set k heads) low high l w (λ k n o x. collects_plain k heads x (c.each k n o))
-
--- the headers of a set, as a list
-pub lists_marks : (a : List ℕ) (P : ℕ → Type 0) (set : List Bool) (heads : List ℕ) → AreMarks a P set → AreCollected set (length set) heads → IsListOf a P heads
-lists_marks a P set heads m w = record {
-  each = λ h c. (
-      let k = w.each c.0 c.1 in
-      let e : h ≡ k.0 * 16 = sym c.2 ∙ sym (get_or_default heads c.0 0 h c.1) ∙ k.2 in
-      rw e (m.each k.0 k.3).0);
-  all = λ h p i q. (
-      let s = m.sized in
-      let l = i.1 in
-      let t = m.all h p i in
-      let b = rank_below set (h / 16) (length set) t (omega arith) in
-      let n = w.count in
-      let fits : rank set (h / 16) < length heads = omega arith in
-      (rank set (h / 16), fits, sym (get_or_default heads (rank set (h / 16)) 0 h fits) ∙ w.place (h / 16) (omega arith) t ∙ q));
-  rising = w.rising;
-}
+use Rattle.romfs_rules.specs.SameNames.{IsNextNumber, AreNextNumbers, AreChosen}
 
 -- the numbers of the headers after the first ones
 pub record AreNextSoFar (a heads next : List ℕ) (count : ℕ) : Type 0 where
@@ -181,4 +93,22 @@ pub class_below : {a heads next class : List ℕ} {key : ℕ → Option (List �
 class_below {heads = heads} n c = let s = n.sized in let t = c.sized in record {
   sized = omega arith;
   each = λ k m. let b = c.below k (omega arith) in omega arith;
+}
+
+-- the headers of a set, as a list
+pub lists_marks : (a : List ℕ) (P : ℕ → Type 0) (set : List Bool) (heads : List ℕ) → AreMarks a P set → AreCollected set (length set) heads → IsListOf a P heads
+lists_marks a P set heads m w = record {
+  each = λ h c. (
+      let k = w.each c.0 c.1 in
+      let e : h ≡ k.0 * 16 = sym c.2 ∙ sym (get_or_default heads c.0 0 h c.1) ∙ k.2 in
+      rw e (m.each k.0 k.3).0);
+  all = λ h p i q. (
+      let s = m.sized in
+      let l = i.1 in
+      let t = m.all h p i in
+      let b = rank_below set (h / 16) (length set) t (omega arith) in
+      let n = w.count in
+      let fits : rank set (h / 16) < length heads = omega arith in
+      (rank set (h / 16), fits, sym (get_or_default heads (rank set (h / 16)) 0 h fits) ∙ w.place (h / 16) (omega arith) t ∙ q));
+  rising = w.rising;
 }

@@ -1,11 +1,6 @@
-pub mod Bits
-pub mod Ranks
-pub mod Spreading
-pub mod Unions
 pub mod Slots
 pub mod Standing
 pub mod Leads
-pub mod MarkLists
 pub mod Lists
 pub mod Links
 pub mod RootWalk
@@ -18,12 +13,7 @@ pub mod Descent
 pub mod EndWalk
 pub mod Judging
 pub mod Verdict
-pub mod Climbing
 pub mod Keyed
 pub mod Classing
-pub mod Ascent
-pub mod Rounds
-pub mod Siblings
-pub mod Graphs
 pub mod SameNaming
 pub mod HeadNumbers

@@ -7,10 +7,10 @@ use Rattle.romfs_format.specs.Links.{Field, first_of, next_of, IsLink, IsHardLin
 use Rattle.romfs_rules.specs.Marks.{IsVolumeImage, AreMarks}
 use Rattle.romfs_rules.specs.Leads.{IsTheOne}
 use Rattle.romfs_rules.specs.Outside.{NamesDestination, Names, IsLeast, lesser, Notes}
-use Rattle.romfs_rules.proofs.Slots.{cleared_root, cleared_in_chain, inside_opened, cleared_opened, cleared_destination}
-use Rattle.romfs_rules.specs.SlotSets.{IsClear}
+use Rattle.romfs_rules.proofs.Slots.{cleared_root, cleared_in_chain, inside_opened, cleared_opened, cleared_destination, outside_set}
+use Rattle.slot_sets.specs.Sets.{IsClear}
 use Rattle.romfs_rules.specs.Leads.{IsInSomeChain}
-use Rattle.romfs_rules.proofs.Unions.{over_to, outside_set}
+use Rattle.slot_sets.proofs.Unions.{over_to}
 use Rattle.romfs_rules.proofs.Standing.{opened, in_some_chain, member_in_chain}
 use Rattle.romfs_rules.proofs.Destined.{goes_on}
 use Rattle.std.proofs.lemmas.Bool.Decides.{nat_tests}

@@ -4,8 +4,8 @@ use Rattle.std.proofs.lemmas.List.{length-set, length-replicate}
 use Rattle.romfs_format.specs.Fields.{root, IsInside, next, spec, cleared}
 use Rattle.romfs_format.specs.Chains.{IsFirst, IsNext, IsAt}
 use Rattle.romfs_rules.specs.Marks.{IsVolumeImage, IsMarked, AreMarks, IsInRootChain}
-use Rattle.romfs_rules.proofs.Slots.{cleared_at}
-use Rattle.romfs_rules.proofs.MarkLists.{no_marks, newly_set, still_set, one_more}
+use Rattle.romfs_rules.proofs.Slots.{cleared_at, one_more}
+use Rattle.graph_climb.proofs.Marks.{no_marks, newly_set, still_set}
 
 -- g comes next, lies outside or is marked
 abbrev IsDone : List ℕ → List Bool → ℕ → ℕ → Type 0

@@ -1,10 +1,13 @@
 -- Headers and their slots.
-use Rattle.std.proofs.Common.{◌≡◌, ◌∙◌, sym, ap, get_or, false, IsTrue, subst, ℕ, zero, suc, ◌*◌, ◌/◌, ◌<◌, ◌≤◌, ◌↔◌, List, Bool, length, Some, None, refl, arith}
+use Rattle.std.proofs.Common.{◌≡◌, ◌∙◌, sym, ap, get_or, set, true, false, IsTrue, subst, ℕ, zero, suc, ◌*◌, ◌/◌, ◌<◌, ◌≤◌, ◌↔◌, ◌⊎◌, inl, inr, List, Bool, length, Some, None, refl, arith}
+use Rattle.std.proofs.lemmas.Bool.{true≢false}
 use Rattle.std.specs.Option.{option_map_or}
 use Rattle.romfs_format.specs.declared.limits.TheConstants.{HEAD_SIZE}
 use Rattle.romfs_format.specs.Fields.{root, text_at, text_end, IsInside, spec, cleared}
 use Rattle.romfs_format.specs.Chains.{IsAt, IsInChain, IsOpened, at_root, below}
 use Rattle.romfs_format.specs.Links.{IsDestination, here, there}
+use Rattle.slot_sets.specs.Sets.{IsClear, IsUnion}
+use Rattle.graph_climb.proofs.Marks.{was_set}
 use Rattle.romfs_rules.specs.Marks.{HasSlot, IsVolumeImage, IsMarked, AreMarks}
 
 pub cleared_root : (a : List ℕ) → cleared (root a) ≡ root a
@@ -60,3 +63,28 @@ root_marked a v P marks flag h m e f =
     let t = marked a P marks (root a) m (cleared_root a) (inside_root a v) in
     let g : flag ≡ get_or marks (root a / 16) false = f ∙ ap (λ x. get_or marks (x / 16) false) e in
     (λ x. t.0 (sym g ∙ x), λ p. g ∙ t.1 p)
+
+-- where no slot is in the set of P, no header is of P
+pub outside_set : (a : List ℕ) (P : ℕ → Type 0) (marks : List Bool) → AreMarks a P marks → (low high : ℕ)
+    → IsClear marks low high → (k : ℕ) → low ≤ k → k < high → IsInside a (k * 16) → ¬ P (k * 16)
+outside_set a P marks m low high c k l h i p =
+    let e : k * 16 / 16 ≡ k = omega arith in
+    true≢false (sym (subst (λ x. get_or marks x false ≡ true) e (m.all (k * 16) p i)) ∙ c.each k l h)
+
+-- a set joined with another is the set of what is of either
+pub united_marks : (a : List ℕ) (P Q : ℕ → Type 0) (one other both : List Bool) → AreMarks a P one
+    → AreMarks a Q other → IsUnion one other both → AreMarks a (λ h. Q h ⊎ P h) both
+united_marks a P Q one other both m n u = record {
+  sized = u.sized ∙ m.sized;
+  each = λ k x. elim (u.each k x) [ inl y ↦ (let z = m.each k y in (inr z.0, z.1)) | inr y ↦ (let z = n.each k y in (inl z.0, z.1)) ];
+  all = λ h p i. elim p [ inl q ↦ u.new (h / 16) (n.all h q i) | inr q ↦ u.old (h / 16) (m.all h q i) ];
+}
+
+-- what holds of each marked header, and of this one
+pub one_more : (marks : List Bool) (at : ℕ) → cleared at ≡ at → (k : ℕ) (P : ℕ → Type 0)
+    → (get_or marks k false ≡ true → P (k * 16)) → P at → get_or (set marks (at / 16) true) k false ≡ true
+    → P (k * 16)
+one_more marks at clean k P old this m = elim (was_set marks (at / 16) k m) [
+  | inl e ↦ rw e (rw clean this)
+  | inr o ↦ old o
+]

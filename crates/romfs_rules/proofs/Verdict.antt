@@ -13,13 +13,13 @@ use Rattle.romfs_format.specs.Rules.{IsVolume, BreaksHeader, BreaksHeaderAs, Bre
 use Rattle.romfs_format.proofs.Faults.{one_rule}
 use Rattle.romfs_rules.specs.Marks.{HasSlot, IsVolumeImage, AreMarks, IsElsewhere}
 use Rattle.romfs_rules.specs.Leads.{IsInSomeChain}
-use Rattle.romfs_rules.specs.SlotSets.{IsClear, IsNextInEither}
+use Rattle.slot_sets.specs.Sets.{IsClear, IsNextInEither}
 use Rattle.romfs_rules.specs.Headers.{IsAsked}
-use Rattle.romfs_rules.proofs.Unions.{over_to, outside_set}
+use Rattle.slot_sets.proofs.Unions.{over_to}
+use Rattle.romfs_rules.proofs.Slots.{outside_set, root_slot, cleared_root, cleared_in_chain, cleared_destination, slot_inside}
 use Rattle.romfs_format.specs.declared.rule.ImageFault.{ImageFault}
 use Rattle.romfs_rules.specs.Outside.{IsLeast, IsBelow, IsPastEnd}
 use Rattle.romfs_rules.specs.Judge.{IsHeaderRule, KeepsBefore, KeepsHeaderRules, IsFirstRule, IsFirstAt, KeepsBelow, IsFirstInside, KeepsAllHeaderRules, IsFirstBreach}
-use Rattle.romfs_rules.proofs.Slots.{root_slot, cleared_root, cleared_in_chain, cleared_destination, slot_inside}
 use Rattle.romfs_rules.proofs.Standing.{reached, member_in_chain}
 use Rattle.romfs_rules.proofs.Judging.{root_elsewhere}
 

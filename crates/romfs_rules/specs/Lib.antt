@@ -1,5 +1,3 @@
-pub mod SlotSets
-pub mod SlotWords
 pub mod Marks
 pub mod Leads
 pub mod InChains
@@ -11,7 +9,6 @@ pub mod Ends
 pub mod Judge
 pub mod Headers
 pub mod Sets
-pub mod Climb
 pub mod Names
 pub mod SameNames
 pub mod Volumes

@@ -1,9 +1,9 @@
 -- The headers in chains, by number, and those of which a member of the same directory has the name.
-use Rattle.std.specs.Prelude.{◌≡◌, ℕ, ◌+◌, ◌*◌, ◌/◌, ◌<◌, ◌≤◌, List, length, get_or, Bool, true, false, Contains}
+use Rattle.std.specs.Prelude.{◌≡◌, ℕ, ◌+◌, ◌/◌, ◌<◌, List, length, get_or, Bool, true, false, Contains}
 use Rattle.romfs_format.specs.Fields.{root, IsInside}
 use Rattle.romfs_format.specs.Chains.{IsNext, Stands}
 use Rattle.romfs_rules.specs.Marks.{HasSameName, IsElsewhere}
-use Rattle.romfs_rules.specs.SlotSets.{rank}
+use Rattle.slot_sets.specs.Sets.{rank}
 
 -- exactly the headers with the name of a member of their directory at a lower place, rising and each once
 pub record HaveSameNames (a found : List ℕ) : Type 0 where
@@ -21,15 +21,6 @@ pub record IsLinked (a : List ℕ) (h : ℕ) : Type 0 where
   pub inside : IsInside a h
   pub dir : ℕ
   pub stands : Stands a dir h
-
--- the headers of the slots below n that are in the set, in order
-pub record AreCollected (set : List Bool) (n : ℕ) (heads : List ℕ) : Type 0 where
-  pub count : length heads ≡ rank set n
-  pub few : length heads ≤ n
-  pub rising : (i j : ℕ) → i < j → j < length heads → get_or heads i 0 < get_or heads j 0
-  pub each : (i : ℕ) → i < length heads
-      → (k : ℕ) × (k < n) × (get_or heads i 0 ≡ k * 16) × (get_or set k false ≡ true)
-  pub place : (k : ℕ) → k < n → get_or set k false ≡ true → get_or heads (rank set k) 0 ≡ k * 16
 
 -- all headers that are linked, in order, each at the number of its slot
 pub record AreNumbered (a heads : List ℕ) (set : List Bool) : Type 0 where

@@ -9,9 +9,9 @@ ghost use Rattle.romfs_rules.specs.InChains.{AreChains};
 
 use crate::lead::{first_below, next_of};
 use crate::slot::is_fresh;
-use crate::slot_set::SlotSet;
 use crate::volume::Volume;
 use romfs_format::read::{cleared, word};
+use slot_sets::SlotSet;
 use std::alloc::{AllocError, Allocator};
 
 /// The headers in chains. Which of them stand in the root's and which elsewhere matters for the root's own

@@ -12,10 +12,10 @@ ghost use Rattle.romfs_rules.specs.Depth.{IsTooDeep, Notes, waiting, LeadsDown};
 use crate::lead::{first_below, first_of, next_of};
 use crate::member::is_dotted;
 use crate::slot::is_fresh;
-use crate::slot_set::SlotSet;
 use crate::volume::Volume;
 use romfs_format::limits::MAX_NAMES;
 use romfs_format::rule::Rule;
+use slot_sets::SlotSet;
 use std::alloc::{AllocError, Allocator};
 
 // A header that is still to come, and how many names lead to the directory of its chain.

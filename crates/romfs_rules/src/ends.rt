@@ -17,11 +17,10 @@ ghost use Rattle.romfs_rules.specs.Targets.{AreTargets};
 ghost use Rattle.romfs_rules.specs.Ends.{HasEnds, AreWalkedEnds, KnowsEnd, Passes, IsUnpassed};
 
 use crate::slot::{is_hard_link, is_inside};
-use crate::slot_set::SlotSet;
-use crate::slot_words::SlotWords;
 use crate::volume::Volume;
 use romfs_format::head::{End, Kind};
 use romfs_format::read::{cleared, kind_of, word};
+use slot_sets::{SlotSet, SlotWords};
 use std::alloc::{AllocError, Allocator};
 
 /// Where the chains end of the hard links that members' hard links lead over.

@@ -14,16 +14,15 @@ ghost use Rattle.romfs_rules.specs.Judge.{KeepsBelow, IsFirstInside, IsHeaderFau
 use crate::chains::Chains;
 use crate::ends::Ends;
 use crate::header::Header;
-use crate::listed::is_listed;
 use crate::member::is_some_member;
 use crate::outside::Outside;
 use crate::slot::is_hard_link;
-use crate::slot_set::SlotSet;
 use crate::volume::Volume;
 use romfs_format::head::End;
 use romfs_format::limits::HEAD_SIZE;
 use romfs_format::read::text_at;
 use romfs_format::rule::{ImageFault, Profile, Rule};
+use slot_sets::{SlotSet, is_listed};
 use std::alloc::Allocator;
 use std::marker::Model;
 

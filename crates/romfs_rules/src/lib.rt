@@ -2,8 +2,8 @@
 //!
 //! [`first_fault`] answers for every list of bytes, whatever a stranger made: directories whose chains merge, loop or
 //! lead anywhere, links to links, names that come twice. It first collects sets of headers (`chains`, `same_names`,
-//! `twice`, `targets`, `ends`), as a bit for every 16 bytes of the image (`slot_set`) or as a rising list (`listed`);
-//! what is kept for a header of a set is kept by its number there (`slot_numbers`). Then it goes upward once over the
+//! `twice`, `targets`, `ends`), as a bit for every 16 bytes of the image or as a rising list (`slot_sets`);
+//! what is kept for a header of a set is kept by its number there. Then it goes upward once over the
 //! headers that are reached (`judge`) and asks each for the first rule that it breaks (`header`); the depth is looked at
 //! last (`depth`). Each walk is a loop, and each visits a header a constant number of times.
 //!
@@ -11,24 +11,18 @@
 #![tactic(auto)]
 
 mod chains;
-mod climb;
 mod depth;
 mod ends;
 mod fault;
-mod graph;
 mod header;
 mod judge;
 mod lead;
 mod link;
-mod listed;
 mod member;
 mod names;
 mod outside;
 mod same_names;
 mod slot;
-mod slot_numbers;
-mod slot_set;
-mod slot_words;
 mod targets;
 mod twice;
 mod volume;

@@ -11,9 +11,9 @@ use crate::chains::Chains;
 use crate::lead::destination_of;
 use crate::link::{first_link, next_link};
 use crate::member::is_some_member;
-use crate::slot_set::SlotSet;
 use crate::volume::Volume;
 use romfs_format::limits::HEAD_SIZE;
+use slot_sets::SlotSet;
 use std::alloc::Allocator;
 
 /// The least places outside the image at which headers are reached.

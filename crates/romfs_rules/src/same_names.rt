@@ -1,4 +1,9 @@
 //! Members of a directory that have the name of another.
+//!
+//! Chains may merge and go round, so that a header may stand in the chains of many directories, and to compare the
+//! names of each chain on its own would be quadratic. But each header leads on to one, in whatever chain. So the headers
+//! are numbered, equal names are one class (`names`), and `graph_climb` notes the numbers with a lower one of their class
+//! on their way or before them.
 
 ghost use Rattle.std.specs.Prelude.{◌+◌, ◌/◌, ◌^◌, ◌<◌, ◌≤◌, ℕ, IfOk, length, get_or};
 ghost use Rattle.romfs_rules.specs.Marks.{HasRootElsewhere};
@@ -6,14 +11,12 @@ ghost use Rattle.romfs_rules.specs.InChains.{AreChains};
 ghost use Rattle.romfs_rules.specs.SameNames.{IsLinked, AreNumbered, IsNextNumber, AreNextNumbers, AreChosen, HaveSameNames};
 
 use crate::chains::Chains;
-use crate::climb::note_higher;
-use crate::graph::Graph;
-use crate::listed::headers_of;
 use crate::names::classes;
 use crate::slot::is_inside;
-use crate::slot_numbers::SlotNumbers;
 use crate::volume::Volume;
+use graph_climb::note_higher;
 use romfs_format::read::{cleared, word};
+use slot_sets::{SlotNumbers, places_of};
 use std::alloc::{AllocError, Allocator};
 
 // The number of the header after one, or that of headers where there is none inside the image.
@@ -82,12 +85,11 @@ pub(crate) fn find_same_names<A: Allocator + Copy>(
     requires alone { ¬ HasRootElsewhere image.now.bytes.now }
     ensures { IfOk result (λ found. HaveSameNames image.now.bytes.now found.items) }
 {
-    let heads = headers_of(alloc, &chains.headers)?;
+    let heads = places_of(alloc, &chains.headers)?;
     let numbers = SlotNumbers::of(alloc, &chains.headers)?;
     let next = next_numbers(alloc, image, &heads, &numbers)?;
     drop(numbers);
     let class = classes(alloc, image, &heads)?;
-    let graph = Graph::of(alloc, next, class)?;
-    let noted = note_higher(alloc, &graph)?;
+    let noted = note_higher(alloc, next, class)?;
     chosen(alloc, &heads, &noted)
 }

@@ -5,11 +5,11 @@ ghost use Rattle.romfs_format.specs.Fields.{IsInside};
 ghost use Rattle.romfs_format.specs.Links.{IsHardLink};
 ghost use Rattle.romfs_rules.specs.Marks.{IsMarked, IsFresh};
 
-use crate::slot_set::SlotSet;
 use crate::volume::Volume;
 use romfs_format::head::Kind;
 use romfs_format::limits::HEAD_SIZE;
 use romfs_format::read::{kind_of, word};
+use slot_sets::SlotSet;
 use std::alloc::Allocator;
 
 /// Whether a header lies in the image.

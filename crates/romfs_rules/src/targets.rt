@@ -7,9 +7,9 @@ ghost use Rattle.romfs_rules.specs.Targets.{AreTargets, IsClosed, FollowsLink};
 use crate::chains::Chains;
 use crate::member::is_some_member;
 use crate::slot::{is_fresh, is_hard_link};
-use crate::slot_set::SlotSet;
 use crate::volume::Volume;
 use romfs_format::read::{cleared, word};
+use slot_sets::SlotSet;
 use std::alloc::{AllocError, Allocator};
 
 // Marks the headers on the destination chain of a header, up to one that has a mark.

@@ -8,10 +8,9 @@ ghost use Rattle.romfs_rules.specs.Twice.{AreTwice, Counts, CountsBoth};
 
 use crate::chains::Chains;
 use crate::link::{first_link, next_link};
-use crate::listed::headers_of;
 use crate::slot::is_inside;
-use crate::slot_set::SlotSet;
 use crate::volume::Volume;
+use slot_sets::{SlotSet, places_of};
 use std::alloc::{AllocError, Allocator};
 
 // Counts a link to a header, if it lies in the image.
@@ -89,5 +88,5 @@ pub(crate) fn find_twice<A: Allocator + Copy>(
     ensures { IfOk result (λ found. AreTwice image.now.bytes.now found.items) }
 {
     let twice = mark_twice(alloc, image, chains)?;
-    headers_of(alloc, &twice)
+    places_of(alloc, &twice)
 }

@@ -1,6 +1,5 @@
 use Rattle.romfs_rules.specs.Marks.{IsInRootChain, IsElsewhere}
-use Rattle.romfs_rules.proofs.Slots.{root_marked}
-use Rattle.romfs_rules.proofs.Unions.{united_marks}
+use Rattle.romfs_rules.proofs.Slots.{root_marked, united_marks}
 use Rattle.romfs_rules.proofs.chains.find_chains.Goals as goal
 
 pub returns : goal.returns

@@ -1,5 +1,5 @@
 use Rattle.std.proofs.Common.{◌<◌, ◌^◌}
-use Rattle.romfs_rules.proofs.MarkLists.{unmarked}
+use Rattle.graph_climb.proofs.Marks.{unmarked}
 use Rattle.romfs_rules.proofs.RootWalk.{Walked}
 use Rattle.romfs_rules.proofs.chains.mark_root_chain.Given as goal
 

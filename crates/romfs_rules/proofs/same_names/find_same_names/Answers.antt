@@ -29,19 +29,19 @@ returns g c =
     IfOk-weaker c.chosen.result (λ found. AreChosen heads c.in_ok-noted.noted.items (length heads) found.items) (λ found. HaveSameNames a found.items)
     (λ found w. same_names a heads c.args.chains.now.headers c.in_ok-next.next.items c.in_ok-class.class.items
     c.in_ok-noted.noted.items n next class
-    (rw (c.in_ok-graph.ensures.0, c.in_ok-graph.ensures.1) at c.in_ok-noted.ensures) c.requires.alone found.items w)
+    c.in_ok-noted.ensures c.requires.alone found.items w)
     (rw (c.deref-3.ensures.value, c.deref-4.ensures.value) at c.chosen.ensures)
 
-pub of-requires-2-clause-few : goal.of-requires-2-clause-few
-of-requires-2-clause-few g c =
+pub note_higher-requires-clause-few : goal.note_higher-requires-clause-few
+note_higher-requires-clause-few g c =
     let few = c.in_ok-heads.ensures.few in
     let sized = c.requires.chains.headers.sized in
     let small = c.args.image.now.keeps.small in
     let next = (rw c.deref.ensures.value at c.in_ok-next.ensures).sized in
     omega arith
 
-pub of-requires-2-clause-leads : goal.of-requires-2-clause-leads
-of-requires-2-clause-leads g c = next_below (rw c.deref.ensures.value at c.in_ok-next.ensures)
+pub note_higher-requires-clause-leads : goal.note_higher-requires-clause-leads
+note_higher-requires-clause-leads g c = next_below (rw c.deref.ensures.value at c.in_ok-next.ensures)
 
-pub of-requires-2-clause-classes : goal.of-requires-2-clause-classes
-of-requires-2-clause-classes g c = class_below (rw c.deref.ensures.value at c.in_ok-next.ensures) (rw c.deref-2.ensures.value at c.in_ok-class.ensures)
+pub note_higher-requires-clause-classes : goal.note_higher-requires-clause-classes
+note_higher-requires-clause-classes g c = class_below (rw c.deref.ensures.value at c.in_ok-next.ensures) (rw c.deref-2.ensures.value at c.in_ok-class.ensures)

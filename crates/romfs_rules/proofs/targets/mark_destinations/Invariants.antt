@@ -1,5 +1,5 @@
 use Rattle.romfs_rules.proofs.Destined.{Walks}
-use Rattle.romfs_rules.proofs.MarkLists.{unmarked}
+use Rattle.graph_climb.proofs.Marks.{unmarked}
 use Rattle.romfs_rules.proofs.targets.mark_destinations.Given as goal
 
 abbrev pub invariant-loop-at : goal.invariant-loop-at

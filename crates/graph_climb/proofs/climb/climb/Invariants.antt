@@ -1,0 +1,17 @@
+use Rattle.std.proofs.Common.{◌≡◌, ◌+◌, ◌*◌, length, get_or, drop, reverse}
+use Rattle.graph_climb.specs.Climb.{AreMarksKept}
+use Rattle.graph_climb.proofs.Marks.{unmarked}
+use Rattle.graph_climb.proofs.Ascent.{IsUnderWay}
+use Rattle.graph_climb.proofs.climb.climb.Given as goal
+
+abbrev pub invariant-loop-found : goal.invariant-loop-found
+invariant-loop-found g l = record {
+  under_way : IsUnderWay l.graph.next.items l.graph.class.items l.graph.first.items l.graph.sibling.items
+      (reverse l.cycle) (drop (l.turn + 1) l.cycle) (get_or l.cycle l.turn 0) l.from (reverse l.steps.items)
+      l.found.entered.items l.found.noted.items l.found.low.items;
+  kept : AreMarksKept l.fn.found.entered.items l.found.entered.items;
+  low : length l.found.low.items ≡ length l.graph.next.items;
+}
+
+abbrev pub decreases-loop-found : goal.decreases-loop-found
+decreases-loop-found g l = 2 * unmarked l.found.entered.items + length l.steps.items

@@ -1,0 +1,15 @@
+use Rattle.std.proofs.Common.{◌≡◌, ◌<◌, length, reverse}
+use Rattle.graph_climb.proofs.Marks.{unmarked}
+use Rattle.graph_climb.proofs.Rounds.{IsRounding}
+use Rattle.graph_climb.proofs.climb.gather.Given as goal
+
+abbrev pub invariant-loop-found : goal.invariant-loop-found
+invariant-loop-found g l = record {
+  rounding : IsRounding l.graph.next.items l.graph.class.items l.fn.found.entered.items l.found.entered.items
+      l.from l.at (reverse l.cycle.items) l.found.noted.items l.found.low.items;
+  inside : l.at < length l.graph.next.items;
+  low : length l.found.low.items ≡ length l.graph.next.items;
+}
+
+abbrev pub decreases-loop-found : goal.decreases-loop-found
+decreases-loop-found g l = unmarked l.found.entered.items

@@ -1,0 +1,14 @@
+use Rattle.std.proofs.Common.{◌≡◌, ◌<◌, List, Bool, false, length, get_or}
+use Rattle.graph_climb.specs.Climb.{AreMarksKept, IsClosed, IsFreshWalk}
+use Rattle.graph_climb.proofs.Marks.{unmarked}
+use Rattle.graph_climb.proofs.climb.seek.Given as goal
+
+abbrev pub invariant-loop-visited : goal.invariant-loop-visited
+invariant-loop-visited l = record {
+  inside : l.at < length l.next;
+  walk : (entered : List Bool) → IsClosed l.next entered → AreMarksKept l.initial.visited entered
+      → get_or entered l.from false ≡ false → IsFreshWalk l.next entered l.visited l.from l.at;
+}
+
+abbrev pub decreases-loop-visited : goal.decreases-loop-visited
+decreases-loop-visited l = unmarked l.visited

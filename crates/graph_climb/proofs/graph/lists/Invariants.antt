@@ -1,0 +1,5 @@
+use Rattle.graph_climb.proofs.Siblings.{AreListed}
+use Rattle.graph_climb.proofs.graph.lists.Given as goal
+
+abbrev pub invariant-loop-at : goal.invariant-loop-at
+invariant-loop-at g l = AreListed l.next l.first.items l.sibling.items l.at

@@ -1,9 +1,0 @@
-use Rattle.std.proofs.Common.{◌-◌, length}
-use Rattle.romfs_rules.specs.Climb.{IsSkipped}
-use Rattle.romfs_rules.proofs.climb.skip_entered.Given as goal
-
-abbrev pub invariant-loop-at : goal.invariant-loop-at
-invariant-loop-at g l = IsSkipped l.graph.sibling.items l.entered l.from l.at
-
-abbrev pub decreases-loop-at : goal.decreases-loop-at
-decreases-loop-at g l = length l.graph.sibling.items - l.at

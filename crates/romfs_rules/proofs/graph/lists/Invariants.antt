@@ -1,5 +1,0 @@
-use Rattle.romfs_rules.proofs.Siblings.{AreListed}
-use Rattle.romfs_rules.proofs.graph.lists.Given as goal
-
-abbrev pub invariant-loop-at : goal.invariant-loop-at
-invariant-loop-at g l = AreListed l.next l.first.items l.sibling.items l.at

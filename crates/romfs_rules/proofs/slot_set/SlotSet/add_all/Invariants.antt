@@ -1,9 +1,0 @@
-use Rattle.std.proofs.Common.{◌-◌, length}
-use Rattle.romfs_rules.proofs.Unions.{IsUnionBelow}
-use Rattle.romfs_rules.proofs.slot_set.SlotSet.add_all.Given as goal
-
-abbrev pub invariant-loop-slot : goal.invariant-loop-slot
-invariant-loop-slot g l = IsUnionBelow l.from l.initial.self l.other l.self
-
-abbrev pub decreases-loop-slot : goal.decreases-loop-slot
-decreases-loop-slot g l = length l.other - l.from

@@ -1,0 +1,11 @@
+use Rattle.std.proofs.Common.{◌≡◌, ◌*◌, length}
+use Rattle.slot_sets.specs.Sets.{rank}
+use Rattle.slot_sets.proofs.Ranks.{AreCountsSoFar}
+use Rattle.slot_sets.proofs.slot_numbers.SlotNumbers.of.Given as goal
+
+abbrev pub invariant-loop-word : goal.invariant-loop-word
+invariant-loop-word g l = record {
+  sized : length l.before.items ≡ l.word;
+  count : l.count ≡ rank l.set (l.word * 64);
+  so_far : AreCountsSoFar l.set l.before.items;
+}

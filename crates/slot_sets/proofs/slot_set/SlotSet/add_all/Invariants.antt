@@ -1,0 +1,9 @@
+use Rattle.std.proofs.Common.{◌-◌, length}
+use Rattle.slot_sets.proofs.Unions.{IsUnionBelow}
+use Rattle.slot_sets.proofs.slot_set.SlotSet.add_all.Given as goal
+
+abbrev pub invariant-loop-slot : goal.invariant-loop-slot
+invariant-loop-slot g l = IsUnionBelow l.from l.initial.self l.other l.self
+
+abbrev pub decreases-loop-slot : goal.decreases-loop-slot
+decreases-loop-slot g l = length l.other - l.from

@@ -1,0 +1,66 @@
+//! The numbers of the slots of a set.
+//!
+//! The slots of a set are numbered from 0, upward. For each word of the set it is kept how many slots of the set
+//! stand in the words before it, so that a slot's number is had by a look at two words:
+//!
+//! ```text
+//! set     ..1.1... 1....... .11.....
+//! before  0        2        3          the number of the last slot is 3 + 1
+//! ```
+//!
+//! What is kept for the slots of a set is then as long as they are many, and not as all slots are.
+
+ghost use Rattle.std.specs.Prelude.{◌≡◌, ◌≤◌, ◌^◌, ◌<◌, length, IfOk};
+ghost use Rattle.slot_sets.specs.Sets.{rank};
+
+use crate::slot_set::SlotSet;
+use std::alloc::{AllocError, Allocator};
+use std::marker::Model;
+
+/// A set of slots with their numbers. A clause sees the set.
+#[derive(Drop)]
+pub struct SlotNumbers<'s, A: Allocator> {
+    set: &'s SlotSet<A>,
+    /// By word of the set, how many of its slots stand before that word.
+    before: Vec<u32, A>,
+}
+
+impl<'s, A: Allocator> Model for SlotNumbers<'s, A> {
+    ghost use Rattle.std.specs.Prelude.{List, Bool};
+    ghost use Rattle.slot_sets.specs.Sets.{AreCounts};
+
+    ghost Value = { List Bool };
+
+    ghost view = { λ held. held.set.now };
+
+    ghost invariant = { λ held. AreCounts held.set.now held.before.items };
+}
+
+impl<'s, A: Allocator + Copy> SlotNumbers<'s, A> {
+    /// Numbers the slots of a set.
+    pub fn of(alloc: A, set: &'s SlotSet<A>) -> Result<SlotNumbers<'s, A>, AllocError>
+        requires { length set.now < 2 ^ 32 }
+        ensures { IfOk result (λ numbers. numbers ≡ set.now) }
+    {
+        let words = set.slots() / 64;
+        let mut before = Vec::with_capacity(alloc, words + 1)?;
+        let mut count = 0;
+        for word in 0..words {
+            before.push(count)?;
+            count += set.count_in_word(word);
+        }
+        before.push(count)?;
+        Ok(SlotNumbers { set, before })
+    }
+}
+
+impl<'s, A: Allocator> SlotNumbers<'s, A> {
+    /// How many of the set stand before a slot: its number, where it is in the set.
+    pub fn number(&self, slot: usize) -> u32
+        requires small { length self.now < 2 ^ 32 }
+        requires slot { slot ≤ length self.now }
+        ensures { result ≡ rank self.now slot }
+    {
+        self.before[slot / 64] + self.set.count_before(slot)
+    }
+}
