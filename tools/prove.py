@@ -55,7 +55,7 @@ def tail_of(path):
 def main():
     below = crates_below()
     crates = [*below[PROGRAM], PROGRAM]
-    wanted = sorted(crates, key=lambda name: -sum(name in below[it] for it in crates))  # what most stand on first
+    wanted = sorted(crates, key=lambda name: -sum(name in below[it] for it in crates))  # what most stand on
     os.makedirs(ROOT + "/build/logs", exist_ok=True)
     say("proving %d crates, on %d cores; some minutes the first time" % (len(wanted), CORES))
     proved, running = set(), []

@@ -10,7 +10,7 @@ use Rattle.slot_sets.specs.Sets.{rank}
 use Rattle.slot_sets.specs.Listed.{AreCollected}
 use Rattle.romfs_rules.specs.Marks.{AreMarks, IsListOf}
 use Rattle.graph_climb.specs.Climb.{AreBelow}
-use Rattle.romfs_rules.specs.Names.{AreClasses}
+use Rattle.name_classes.specs.Names.{AreClasses}
 use Rattle.romfs_rules.specs.SameNames.{IsNextNumber, AreNextNumbers, AreChosen}
 
 -- the numbers of the headers after the first ones

@@ -13,7 +13,5 @@ pub mod Descent
 pub mod EndWalk
 pub mod Judging
 pub mod Verdict
-pub mod Keyed
-pub mod Classing
 pub mod SameNaming
 pub mod HeadNumbers

@@ -7,7 +7,8 @@ use Rattle.romfs_format.specs.Fields.{root, IsInside, name, next, is_dot_name}
 use Rattle.romfs_format.specs.Chains.{IsNext, IsAt, IsInChain, IsPassedOver, IsDotted, IsOpened, IsMember}
 use Rattle.romfs_rules.specs.Marks.{IsElsewhere, HasSameName, AreMarks}
 use Rattle.graph_climb.specs.Climb.{After, one, more, AreNoted}
-use Rattle.romfs_rules.specs.Names.{unless_dotted, kept_name, AreClasses}
+use Rattle.name_classes.specs.Names.{AreClasses}
+use Rattle.romfs_rules.specs.Names.{unless_dotted, kept_name}
 use Rattle.slot_sets.specs.Listed.{AreCollected}
 use Rattle.romfs_rules.specs.SameNames.{IsLinked, AreNumbered, IsNextNumber, AreNextNumbers, AreChosen, HaveSameNames}
 use Rattle.romfs_rules.specs.Leads.{IsInSomeChain}

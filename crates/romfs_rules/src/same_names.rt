@@ -2,7 +2,7 @@
 //!
 //! Chains may merge and go round, so that a header may stand in the chains of many directories, and to compare the
 //! names of each chain on its own would be quadratic. But each header leads on to one, in whatever chain. So the headers
-//! are numbered, equal names are one class (`names`), and `graph_climb` notes the numbers with a lower one of their class
+//! are numbered, equal names are one class (`name_classes`), and `graph_climb` notes the numbers with a lower one of their class
 //! on their way or before them.
 
 ghost use Rattle.std.specs.Prelude.{◌+◌, ◌/◌, ◌^◌, ◌<◌, ◌≤◌, ℕ, IfOk, length, get_or};
@@ -11,7 +11,7 @@ ghost use Rattle.romfs_rules.specs.InChains.{AreChains};
 ghost use Rattle.romfs_rules.specs.SameNames.{IsLinked, AreNumbered, IsNextNumber, AreNextNumbers, AreChosen, HaveSameNames};
 
 use crate::chains::Chains;
-use crate::names::classes;
+use crate::names::name_classes_of;
 use crate::slot::is_inside;
 use crate::volume::Volume;
 use graph_climb::note_higher;
@@ -89,7 +89,7 @@ pub(crate) fn find_same_names<A: Allocator + Copy>(
     let numbers = SlotNumbers::of(alloc, &chains.headers)?;
     let next = next_numbers(alloc, image, &heads, &numbers)?;
     drop(numbers);
-    let class = classes(alloc, image, &heads)?;
+    let class = name_classes_of(alloc, image, &heads)?;
     let noted = note_higher(alloc, next, class)?;
     chosen(alloc, &heads, &noted)
 }

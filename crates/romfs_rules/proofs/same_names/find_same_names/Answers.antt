@@ -1,7 +1,8 @@
 use Rattle.std.proofs.Common.{arith, subst, length, get_or}
 use Rattle.std.proofs.lemmas.Result.{IfOk-weaker}
 use Rattle.romfs_rules.specs.SameNames.{AreNextNumbers, AreChosen, HaveSameNames}
-use Rattle.romfs_rules.specs.Names.{kept_name, AreClasses}
+use Rattle.name_classes.specs.Names.{AreClasses}
+use Rattle.romfs_rules.specs.Names.{kept_name}
 use Rattle.romfs_rules.proofs.HeadNumbers.{class_below, next_below}
 use Rattle.romfs_rules.proofs.SameNaming.{numbered, same_names}
 use Rattle.romfs_rules.proofs.same_names.find_same_names.Goals as goal
@@ -10,8 +11,8 @@ pub next_numbers-requires-clause-numbered : goal.next_numbers-requires-clause-nu
 next_numbers-requires-clause-numbered g c =
     rw c.deref.ensures.value (rw c.in_ok-numbers.ensures (numbered _ _ _ c.requires.chains.headers c.in_ok-heads.ensures))
 
-pub classes-requires-clause-inside : goal.classes-requires-clause-inside
-classes-requires-clause-inside g c =
+pub name_classes_of-requires-clause-inside : goal.name_classes_of-requires-clause-inside
+name_classes_of-requires-clause-inside g c =
     let n = numbered _ _ _ c.requires.chains.headers c.in_ok-heads.ensures in
     rw c.deref-2.ensures.value (λ i l. (n.each i l).inside.1)
 

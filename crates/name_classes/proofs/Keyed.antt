@@ -10,8 +10,8 @@ use Rattle.std.proofs.lemmas.Map.Lookups.{exact_bytes}
 use Rattle.std.proofs.lemmas.List.Elements.{All-push, Contains-push, Contains-append_left}
 use Rattle.std.proofs.lemmas.List.Sorted.{ranks_by, sorted_far, All-permutation, Contains-permutation}
 use Rattle.name_keys.specs.Keys.{key as name_key}
-use Rattle.romfs_rules.specs.declared.names.Named.{Named}
-use Rattle.romfs_rules.specs.Names.{named_cmp, HasItsName, HaveTheirNames, AreInNameOrder}
+use Rattle.name_classes.specs.declared.names.Named.{Named}
+use Rattle.name_classes.specs.Names.{named_cmp, HasItsName, HaveTheirNames, AreInNameOrder}
 
 pub none_some : {X : Type 0} (x : X) → ◌≡◌ {A = Option X} None (Some x) → ⊥
 none_some x e = cc
@@ -78,7 +78,7 @@ neither_less x y p q = pick (slice_cmp nat_cmp x y) refl
         let back : slice_cmp nat_cmp y x ≡ Less = nat_list_cmp_total.antisymm y x ∙ ap ordering_reverse e in
         absurd (let z : is_lt Less ≡ false = subst (λ o. is_lt o ≡ false) back q in cc)
 
--- between two headers of one name each has that name
+-- between two names of one name each has that name
 pub between : (name : ℕ → Option (List ℕ)) (n : ℕ) (hs : List Named) → AreInNameOrder name n hs
     → (i j k : ℕ) (d : Named) → i ≤ j → j ≤ k → k < length hs → (get_or hs i d).name.now ≡ (get_or hs k d).name.now
     → named_cmp (get_or hs j d) (get_or hs k d) ≡ Equal

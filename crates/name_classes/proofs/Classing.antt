@@ -1,13 +1,13 @@
--- Classes of headers by their names, one after another in the order of names.
+-- Classes of names by their names, one after another in the order of names.
 use Rattle.std.proofs.Common.{◌≡◌, ◌≢◌, ◌∙◌, sym, ap, subst, ℕ, ◌+◌, ◌-◌, ◌<◌, ◌≤◌, ◌⊎◌, inl, inr, List, [], ◌∷◌, ◌++◌, length, get_or, set, Option, Some, None, refl, arith, length-append, get_or-set_same, get_or-set_other, length-set, true, false}
 use Rattle.std.specs.Ordering.{is_eq}
 use Rattle.std.specs.declared.cmp.Ordering.{Ordering}
 use Rattle.std.specs.declared.cmp.Ordering.TheVariants.{Less, Equal, Greater}
 use Rattle.std.proofs.lemmas.Bool.{cases_eq, false≢true}
 use Rattle.std.proofs.lemmas.List.{get_or_at, get_or_append_left, get_or_default}
-use Rattle.romfs_rules.specs.declared.names.Named.{Named}
-use Rattle.romfs_rules.specs.Names.{named_cmp, AreInNameOrder, AreNumbersBelow, AreClasses}
-use Rattle.romfs_rules.proofs.Keyed.{none_some, below_or_at, between, one_name}
+use Rattle.name_classes.specs.declared.names.Named.{Named}
+use Rattle.name_classes.specs.Names.{named_cmp, AreInNameOrder, AreNumbersBelow, AreClasses}
+use Rattle.name_classes.proofs.Keyed.{none_some, below_or_at, between, one_name}
 
 same_some : {X : Type 0} (x y : X) → ◌≡◌ {A = Option X} (Some x) (Some y) → x ≡ y
 same_some x y e = cc
@@ -26,7 +26,7 @@ is_tie Equal e = refl
 is_tie Less e = absurd (false≢true e)
 is_tie Greater e = absurd (false≢true e)
 
--- what stands for a header where there is none
+-- what stands for a name where there is none
 abbrev pub nothing : Named
 nothing = record { key = 0; name = record { ref_ptr = (0, 0); now = [] }; number = 0 }
 
@@ -36,7 +36,7 @@ number_at hs m = (get_or hs m nothing).number
 abbrev pub name_at : List Named → ℕ → List ℕ
 name_at hs m = (get_or hs m nothing).name.now
 
--- the headers before place i of hs have their classes, and each other number has itself
+-- the names before place i of hs have their classes, and each other number has itself
 pub record IsClassing (name : ℕ → Option (List ℕ)) (n : ℕ) (hs : List Named) (class : List ℕ) (i : ℕ) : Type 0 where
   pub sized : length class ≡ n + 1
   pub rest : (k : ℕ) → k < n + 1 → ((m : ℕ) → m < i → m < length hs → number_at hs m ≢ k) → get_or class k 0 ≡ k
@@ -49,7 +49,7 @@ module _ (name : ℕ → Option (List ℕ)) (n : ℕ) (hs : List Named) (by : Ar
   owned : (m : ℕ) → m < length hs → name (number_at hs m) ≡ Some (name_at hs m)
   owned m l = (by.are.each m nothing l).own
 
-  -- headers of one number have one name
+  -- names of one number have one name
   named_alike : (l m : ℕ) → l < length hs → m < length hs → number_at hs l ≡ number_at hs m
       → name_at hs l ≡ name_at hs m
   named_alike l m p q e = same_some _ _ (sym (owned l p) ∙ ap name e ∙ owned m q)
@@ -66,7 +66,7 @@ module _ (name : ℕ → Option (List ℕ)) (n : ℕ) (hs : List Named) (by : Ar
   }
 
   module _ (class : List ℕ) (i : ℕ) (w : IsClassing name n hs class i) (from : 0 < i) (lt : i < length hs) where
-    -- the header at i has its class, and those before it have theirs still
+    -- the name at i has its class, and those before it have theirs still
     one_classed : (class' : List ℕ) → length class' ≡ n + 1
         → ((k : ℕ) → k < n + 1 → ((m : ℕ) → m < i + 1 → m < length hs → number_at hs m ≢ k) → get_or class' k 0 ≡ k)
         → ((m : ℕ) → m < i → get_or class' (number_at hs m) 0 ≡ get_or class (number_at hs m) 0)
@@ -94,7 +94,7 @@ module _ (name : ℕ → Option (List ℕ)) (n : ℕ) (hs : List Named) (by : Ar
       ];
     }
 
-    -- a header whose name is that of the one before it takes its class
+    -- a name whose name is that of the one before it takes its class
     class_taken : (class' : List ℕ) → named_cmp (get_or hs (i - 1) nothing) (get_or hs i nothing) ≡ Equal
         → class' ≡ set class (number_at hs i) (get_or class (number_at hs (i - 1)) 0)
         → IsClassing name n hs class' (i + 1)
@@ -129,7 +129,7 @@ module _ (name : ℕ → Option (List ℕ)) (n : ℕ) (hs : List Named) (by : Ar
           | inr d ↦ other _ d
         ]
 
-    -- a header of another name than the one before it is the first of its name, and keeps its number
+    -- a name of another name than the one before it is the first of its name, and keeps its number
     class_begun : named_cmp (get_or hs (i - 1) nothing) (get_or hs i nothing) ≢ Equal
         → IsClassing name n hs class (i + 1)
     class_begun ne = one_classed class w.sized
@@ -146,7 +146,7 @@ module _ (name : ℕ → Option (List ℕ)) (n : ℕ) (hs : List Named) (by : Ar
             let b : number_at hs i < n = (by.are.each i nothing lt).below in
             w.rest (number_at hs i) (omega arith) (λ m p q f. unlike m p (named_alike m i q lt f))
 
-    -- the header at i and the one before it, and how they stand
+    -- the name at i and the one before it, and how they stand
     module _ (x y : Named) (before : x ≡ get_or hs (i - 1) x) (at : y ≡ get_or hs i y)
         (o : Ordering) (stand : o ≡ named_cmp x y) where
       is_before : get_or hs (i - 1) nothing ≡ x
@@ -184,7 +184,7 @@ module _ (name : ℕ → Option (List ℕ)) (n : ℕ) (hs : List Named) (by : Ar
       let at = x.1 in
       (at.0, at.1, ap (λ (h : Named). h.number) (get_or_default hs at.0 nothing x.0 at.1 ∙ at.2) ∙ x.2)
 
-  -- the place of a number among the headers, unless none has it
+  -- the place of a number among the names, unless none has it
   placed : (k : ℕ) → k < n + 1 → Place k ⊎ ((m : ℕ) → m < length hs → number_at hs m ≢ k)
   placed k l = elim (below_or_at k n l) [
     | inl b ↦ by_its_name k b (name k) refl
@@ -250,3 +250,13 @@ module _ (name : ℕ → Option (List ℕ)) (n : ℕ) (hs : List Named) (by : Ar
           let o = subst (λ c. (c < n) × (name c ≡ Some (name_at hs x.0))) f (own_of k x) in
           let y = found j _ o.0 o.1 in
           free y.0 y.1 y.2
+
+-- the number of a name is one that has a class
+pub number_fits : {n i : ℕ} {hs : List Named} {class : List ℕ} → (name : ℕ → Option (List ℕ)) × AreInNameOrder name n hs
+    → ((name : ℕ → Option (List ℕ)) → AreInNameOrder name n hs → IsClassing name n hs class i)
+    → (k : ℕ) (h : Named) → k < length hs → h ≡ get_or hs k h → h.number < length class
+number_fits {hs = hs} by w k h l e =
+    let b = (by.1.are.each k h l).below in
+    let s = (w by.0 by.1).sized in
+    let f : h.number ≡ (get_or hs k h).number = ap (λ (x : Named). x.number) e in
+    omega arith

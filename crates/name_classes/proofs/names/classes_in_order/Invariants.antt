@@ -1,0 +1,10 @@
+use Rattle.std.proofs.Common.{ℕ, List, Option}
+use Rattle.name_classes.specs.Names.{AreInNameOrder}
+use Rattle.name_classes.proofs.Classing.{IsClassing}
+use Rattle.name_classes.proofs.names.classes_in_order.Given as goal
+
+abbrev pub invariant-loop-i : goal.invariant-loop-i
+invariant-loop-i g l = record {
+  classing : (name : ℕ → Option (List ℕ)) → AreInNameOrder name l.count l.named.items
+      → IsClassing name l.count l.named.items l.classes.items l.i;
+}

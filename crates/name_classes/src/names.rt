@@ -1,0 +1,86 @@
+//! Names in their order, and the classes of their numbers.
+
+ghost use Rattle.std.specs.Prelude.{◌≡◌, ◌+◌, ◌<◌, ◌≤◌, ◌^◌, ℕ, List, Option, IfOk, length};
+ghost use Rattle.name_classes.specs.Names.{named_cmp, HaveTheirNames, AreInNameOrder, AreNumbersBelow, AreClasses};
+
+use std::alloc::{AllocError, Allocator};
+use std::cmp::Ordering;
+
+/// A name with the number of what has it.
+#[derive(Clone, Copy)]
+pub struct Named<'a> {
+    /// The name's first eight bytes as a number.
+    pub key: u64,
+    /// The name.
+    pub name: &'a [u8],
+    /// The number of what has it.
+    pub number: u32,
+}
+
+// How names stand by their keys, and by all their bytes where these are equal.
+fn order(x: &Named<'_>, y: &Named<'_>) -> Ordering
+    ensures { result ≡ named_cmp x.now y.now }
+{
+    match x.key.cmp(&y.key) {
+        Ordering::Equal => x.name.cmp(y.name),
+        other => other,
+    }
+}
+
+// Names in their order.
+fn sorted<'a, A: Allocator>(named: Vec<Named<'a>, A>) -> Vec<Named<'a>, A>
+    ensures { (name : ℕ → Option (List ℕ)) (n : ℕ) → HaveTheirNames name n named.entry.items
+        → AreInNameOrder name n result.items }
+{
+    let mut named = named;
+    named.sort_unstable_by(|x, y| order(x, y));
+    named
+}
+
+// The numbers below this one.
+fn numbers_below<A: Allocator>(alloc: A, end: usize) -> Result<Vec<u32, A>, AllocError>
+    requires { end ≤ 2 ^ 32 }
+    ensures { IfOk result (λ numbers. AreNumbersBelow end numbers.items) }
+{
+    let mut numbers = Vec::with_capacity(alloc, end)?;
+    for number in 0..end {
+        numbers.push(number as u32)?;
+    }
+    Ok(numbers)
+}
+
+// The classes of the numbers below this one and of one more, from names in their order.
+fn classes_in_order<A: Allocator + Copy>(
+    alloc: A,
+    named: &Vec<Named<'_>, A>,
+    count: usize,
+) -> Result<Vec<u32, A>, AllocError>
+    requires few { count < 2 ^ 32 }
+    requires named { (name : ℕ → Option (List ℕ)) × AreInNameOrder name count named.now.items }
+    ensures { IfOk result (λ classes. (name : ℕ → Option (List ℕ))
+        → AreInNameOrder name count named.now.items → AreClasses name count classes.items) }
+{
+    let mut classes = numbers_below(alloc, count + 1)?;
+    for i in 1..named.len() {
+        let (before, it) = (&named[i - 1], &named[i]);
+        if order(before, it).is_eq() {
+            classes[it.number as usize] = classes[before.number as usize];
+        }
+    }
+    Ok(classes)
+}
+
+/// The classes of the numbers below this one by their names, each a number, with one more for none.
+pub fn classes<'a, A: Allocator + Copy>(
+    alloc: A,
+    named: Vec<Named<'a>, A>,
+    count: usize,
+) -> Result<Vec<u32, A>, AllocError>
+    requires few { count < 2 ^ 32 }
+    requires named { (name : ℕ → Option (List ℕ)) × HaveTheirNames name count named.items }
+    ensures { IfOk result (λ classes. (name : ℕ → Option (List ℕ))
+        → HaveTheirNames name count named.entry.items → AreClasses name count classes.items) }
+{
+    let named = sorted(named);
+    classes_in_order(alloc, &named, count)
+}
