@@ -1,10 +1,12 @@
--- A name, by the place of the first zero byte.
-use Rattle.std.proofs.Common.{◌≡◌, ◌≢◌, ◌∙◌, sym, ap, subst, ℕ, suc, ◌+◌, ◌<◌, ◌≤◌, inl, inr, List, [], ◌∷◌, length, take, drop, refl, arith, Option, Some, None, Bool, true, false, not, cond, ◌==◌, nat_lt, length-drop}
-use Rattle.std.specs.List.{position_or_len, position}
+-- A name, by the last zero byte before the end of its message.
+use Rattle.std.proofs.Common.{◌≡◌, ◌≢◌, ◌∙◌, sym, ap, subst, ℕ, suc, ◌+◌, ◌-◌, ◌<◌, ◌≤◌, inl, inr, List, [], ◌∷◌, length, take, drop, get_or, refl, arith, Option, Some, None, Bool, true, false, not, cond, ◌==◌, length-drop}
+use Rattle.std.specs.List.{position_or_len}
 use Rattle.std.specs.Option.{option_map}
-use Rattle.std.proofs.lemmas.Bool.{cases_lt}
+use Rattle.std.proofs.lemmas.Bool.{cases_lt, eqb-true}
 use Rattle.std.proofs.lemmas.Bool.Decides.{nat_tests}
-use Rattle.std.proofs.lemmas.List.{drop_all, length-take-le}
+use Rattle.std.proofs.lemmas.List.{drop_all, length-take-le, get_or-take, get_or-drop}
+use Rattle.std.proofs.lemmas.List.Sums.{position_or_len_is, fails_before_first}
+use Rattle.memchr.specs.Find.{IsLastByte, is_byte}
 use Rattle.fuse_wire.specs.Requests.{cut_at_zero, body_name}
 
 -- how many bytes stand before the first zero byte
@@ -43,46 +45,95 @@ unnamed [] ys h = refl
 unnamed (b ∷ xs) [] h = absurd (omega arith)
 unnamed (b ∷ xs) (y ∷ ys) h = refl
 
-found : (n len i : ℕ) → cond (nat_lt n len) (Some n) None ≡ Some i → (n ≡ i) × (n < len)
-found n len i e = elim (cases_lt n len) [
-  | inl low ↦ (grind (arith, nat_tests), low)
-  | inr high ↦ absurd (grind (arith, nat_tests))
-]
+-- no byte before this place is zero
+abbrev Clear : List ℕ → ℕ → Type 0
+Clear body e = (k : ℕ) → k < e → get_or body k 0 ≢ 0
 
-not_found : (n len : ℕ) → cond (nat_lt n len) (Some n) None ≡ None → len ≤ n
-not_found n len e = elim (cases_lt n len) [
-  | inl low ↦ absurd (grind (arith, nat_tests))
+is_not : (b : ℕ) → b ≢ 0 → (b == 0) ≡ false
+is_not b h = grind (arith, nat_tests)
+
+first_at : (body : List ℕ) (e : ℕ) → e < length body → Clear body e → get_or body e 0 ≡ 0 → before body ≡ e
+first_at body e l clear z = position_or_len_is (λ byte. byte == 0) body e 0 (omega arith) (λ k h. is_not (get_or body k 0) (clear k h)) (λ _. ap (λ v. v == 0) z)
+
+first_none : (body : List ℕ) → Clear body (length body) → length body ≤ before body
+first_none body clear =
+    let e : before body ≡ length body = position_or_len_is (λ byte. byte == 0) body (length body) 0 (omega arith) (λ k h. is_not (get_or body k 0) (clear k h)) (λ h. absurd (omega arith)) in
+    omega (arith, e)
+
+first_by : (body : List ℕ) (k : ℕ) → get_or body k 0 ≡ 0 → before body ≤ k
+first_by body k z = elim (cases_lt k (before body)) [
+  | inl low ↦ (let f : true ≡ false = sym (ap (λ v. v == 0) z) ∙ fails_before_first (λ byte. byte == 0) body k 0 low in cc)
   | inr high ↦ high
 ]
 
-cut_found : (body : List ℕ) (i : ℕ) → position (λ byte. byte == 0) body ≡ Some i → (i < length body) × (cut_at_zero body ≡ Some (take i body, drop (i + 1) body))
-cut_found body i e =
-    let f = found (before body) (length body) i e in
-    let at : (k : ℕ) → before body ≡ k → cut_at_zero body ≡ Some (take k body, drop (k + 1) body) = λ k s. subst (λ (v : ℕ). cut_at_zero body ≡ Some (take v body, drop (v + 1) body)) s (cut_at body f.1) in
-    (omega (arith, f.0, f.1), at i f.0)
+-- a body of one byte, or none
+pub name_short : (body : List ℕ) → length body < 2 → None ≡ body_name (cut_at_zero body)
+name_short [] h = refl
+name_short (b ∷ []) h = alone (b == 0)
+  where
+    alone : (t : Bool) → None ≡ body_name (cond {A = Option (List ℕ × List ℕ)} t (Some ([], [])) None)
+    alone true = refl
+    alone false = refl
+name_short (b ∷ c ∷ body) h = absurd (omega arith)
 
--- the only zero byte is the last, and not the first
-pub name_found : (body : List ℕ) (i : ℕ) → position (λ byte. byte == 0) body ≡ Some i → 0 < i → i + 1 ≡ length body → Some (take i body) ≡ body_name (cut_at_zero body)
-name_found body i e some last =
-    let f = cut_found body i e in
-    let t : length (take i body) ≡ i = length-take-le i body (omega (arith, f.0)) in
-    sym (ap body_name f.1 ∙ name_whole (take i body) (drop (i + 1) body) (omega arith) (drop_all (i + 1) body (omega arith)))
+-- the last byte is zero, and no other
+ended : (body : List ℕ) (e : ℕ) → Clear body e → get_or body e 0 ≡ 0 → 0 < e → e + 1 ≡ length body → Some (take e body) ≡ body_name (cut_at_zero body)
+ended body e clear z some last =
+    let at : before body ≡ e = first_at body e (omega arith) clear z in
+    let cut : cut_at_zero body ≡ Some (take e body, drop (e + 1) body) = subst (λ (v : ℕ). cut_at_zero body ≡ Some (take v body, drop (v + 1) body)) at (cut_at body (omega (arith, at))) in
+    let t : length (take e body) ≡ e = length-take-le e body (omega arith) in
+    sym (ap body_name cut ∙ name_whole (take e body) (drop (e + 1) body) (omega arith) (drop_all (e + 1) body (omega arith)))
 
--- bytes stand behind the first zero byte
-pub name_more : (body : List ℕ) (i : ℕ) → position (λ byte. byte == 0) body ≡ Some i → i + 1 ≢ length body → None ≡ body_name (cut_at_zero body)
-name_more body i e more =
-    let f = cut_found body i e in
-    sym (ap body_name f.1 ∙ unnamed (take i body) (drop (i + 1) body) (let l = length-drop (i + 1) body in omega (arith, f.0)))
+-- no byte is zero
+unended : (body : List ℕ) (e : ℕ) → Clear body e → get_or body e 0 ≢ 0 → e + 1 ≡ length body → None ≡ body_name (cut_at_zero body)
+unended body e clear other last = sym (ap body_name (uncut body (first_none body all)))
+  where
+    all : Clear body (length body)
+    all k h = elim (cases_lt k e) [
+      | inl low ↦ clear k low
+      | inr high ↦ subst (λ (v : ℕ). get_or body v 0 ≢ 0) (omega arith) other
+    ]
 
--- nothing stands before the first zero byte
-pub name_empty : (body : List ℕ) (i : ℕ) → position (λ byte. byte == 0) body ≡ Some i → i ≤ 0 → None ≡ body_name (cut_at_zero body)
-name_empty body i e none =
-    let z : i ≡ 0 = omega arith in
-    let f = cut_found body 0 (e ∙ ap (λ (v : ℕ). Some v) z) in
-    sym (ap body_name f.1)
+-- a byte before the last one is zero
+broken : (body : List ℕ) (e k : ℕ) → get_or body k 0 ≡ 0 → k < e → e + 1 ≡ length body → None ≡ body_name (cut_at_zero body)
+broken body e k z low last =
+    let f = first_by body k z in
+    sym (ap body_name (cut_at body (omega (arith, f))) ∙ unnamed (take (before body) body) (drop (before body + 1) body) (let l = length-drop (before body + 1) body in omega (arith, f)))
 
--- there is no zero byte
-pub name_open : (body : List ℕ) → position (λ byte. byte == 0) body ≡ None → None ≡ body_name (cut_at_zero body)
-name_open body e = sym (ap body_name (uncut body (not_found (before body) (length body) e)))
+-- the search through a message, whose body stands behind the first h bytes
+module _ (message body : List ℕ) (h e : ℕ) (rest : body ≡ drop h message) (last : e + 1 ≡ length body) where
+  abbrev searched : List ℕ
+  searched = take (h + e) message
 
-pub ruleset named = (name_found, name_more, name_empty, name_open)
+  pub long : length searched ≡ h + e
+  long = length-take-le (h + e) message (let l = length-drop h message in let m = ap length rest in omega (arith, l, m))
+
+  same : (k : ℕ) → k < e → get_or searched (h + k) 0 ≡ get_or body k 0
+  same k l = get_or-take (h + e) message (h + k) 0 (omega arith) ∙ sym (get_or-drop h message k 0) ∙ ap (λ v. get_or v k 0) (sym rest)
+
+  clear_none : IsLastByte (is_byte 0) searched None → Clear body e
+  clear_none none k l z = none (h + k) (omega arith) (omega (arith, long)) (ap (λ v. v == 0) (same k l ∙ z))
+
+  clear_some : (p : ℕ) → IsLastByte (is_byte 0) searched (Some p) → p < h → Clear body e
+  clear_some p found low k l z = found.0.after (h + k) (omega arith) (omega (arith, long)) (ap (λ v. v == 0) (same k l ∙ z))
+
+  pub name_holds_zero : (p : ℕ) → IsLastByte (is_byte 0) (take (h + e) message) (Some p) → h ≤ p → None ≡ body_name (cut_at_zero body)
+  name_holds_zero p found high =
+      let high_end = found.0.high in
+      let below : p - h < e = omega (arith, long, high_end) in
+      let there : h + (p - h) ≡ p = omega arith in
+      broken body e (p - h) (sym (same (p - h) below) ∙ ap (λ v. get_or searched v 0) there ∙ eqb-true _ _ found.1) below last
+
+  pub name_ends_none : IsLastByte (is_byte 0) (take (h + e) message) None → get_or body e 0 ≡ 0 → 0 < e → Some (take e body) ≡ body_name (cut_at_zero body)
+  name_ends_none none z some = ended body e (clear_none none) z some last
+
+  pub name_ends_some : (p : ℕ) → IsLastByte (is_byte 0) (take (h + e) message) (Some p) → p < h → get_or body e 0 ≡ 0 → 0 < e → Some (take e body) ≡ body_name (cut_at_zero body)
+  name_ends_some p found low z some = ended body e (clear_some p found low) z some last
+
+  pub name_open_none : IsLastByte (is_byte 0) (take (h + e) message) None → get_or body e 0 ≢ 0 → None ≡ body_name (cut_at_zero body)
+  name_open_none none other = unended body e (clear_none none) other last
+
+  pub name_open_some : (p : ℕ) → IsLastByte (is_byte 0) (take (h + e) message) (Some p) → p < h → get_or body e 0 ≢ 0 → None ≡ body_name (cut_at_zero body)
+  name_open_some p found low other = unended body e (clear_some p found low) other last
+
+pub ruleset named = (name_short, name_holds_zero, name_ends_none, name_ends_some, name_open_none, name_open_some)

@@ -1,7 +1,7 @@
 //! What an opcode asks with the bytes after a message's header. Bytes after a structure are ignored: later clients
 //! append fields.
 
-ghost use Rattle.std.specs.Prelude.{◌≡◌, ◌+◌, ◌≤◌, ◌==◌, length, position};
+ghost use Rattle.std.specs.Prelude.{◌≡◌, ◌+◌, ◌≤◌, length, drop};
 ghost use Rattle.std.specs.Option.{option_map};
 ghost use Rattle.fuse_wire.specs.declared.limits.TheConstants.{HEADER_SIZE, MAX_MESSAGE_SIZE};
 ghost use Rattle.fuse_wire.specs.Stream.{field};
@@ -9,9 +9,11 @@ ghost use Rattle.fuse_wire.specs.Requests.{op_of, cut_at_zero, body_name, lookup
 ghost use Rattle.fuse_wire.specs.Reads.{op_said};
 
 use crate::forget::Forgets;
+use crate::limits::HEADER_SIZE;
 use crate::opcode;
 use crate::request::Op;
 use byteorder::{ByteOrder, LittleEndian};
+use memchr::memrchr;
 
 /// The size of a `struct fuse_init_in` of version 7.31.
 const INIT_IN_SIZE: usize = 16;
@@ -31,14 +33,15 @@ const READ_IN_SIZE: usize = 40;
 /// The size of a `struct fuse_batch_forget_in`, before its items.
 const BATCH_FORGET_IN_SIZE: usize = 8;
 
-// What an opcode asks with this body.
+// What an opcode asks with this body of a message.
 #[tactic(auto, unfolding(crate::specs::Requests::op_of))]
-pub fn read_op(opcode: u32, body: &[u8]) -> Op<'_>
-    requires { HEADER_SIZE + length body.now ≤ MAX_MESSAGE_SIZE }
+pub fn read_op<'a>(opcode: u32, message: &[u8], body: &'a [u8]) -> Op<'a>
+    requires rest { body.now ≡ drop HEADER_SIZE message.now }
+    requires short { HEADER_SIZE + length body.now ≤ MAX_MESSAGE_SIZE }
     ensures { op_said result ≡ op_of opcode body.now }
 {
     match opcode {
-        opcode::LOOKUP => read_lookup(body),
+        opcode::LOOKUP => read_lookup(message, body),
         opcode::FORGET if FORGET_IN_SIZE <= body.len() => Op::Forget {
             nlookup: wide(body, 0),
         },
@@ -121,11 +124,12 @@ fn wide(body: &[u8], place: usize) -> u64
     LittleEndian::read_u64(&body[place..])
 }
 
-// What a LOOKUP asks with this body.
-fn read_lookup(body: &[u8]) -> Op<'_>
+// What a LOOKUP asks with this body of a message.
+fn read_lookup<'a>(message: &[u8], body: &'a [u8]) -> Op<'a>
+    requires { body.now ≡ drop HEADER_SIZE message.now }
     ensures { op_said result ≡ lookup_of body.now }
 {
-    match read_name(body) {
+    match read_name(message, body) {
         Some(name) => Op::Lookup { name },
         None => Op::Malformed {
             opcode: opcode::LOOKUP,
@@ -134,19 +138,21 @@ fn read_lookup(body: &[u8]) -> Op<'_>
 }
 
 // The name in a body, whose last byte is its only zero byte. A name is not empty.
+//
+// The search for another one begins behind the name, and may end in the message's header. So there are 32 bytes to look
+// at at once, and few names are longer.
 #[tactic(auto, using(crate::proofs::Names::named))]
-fn read_name(body: &[u8]) -> Option<&[u8]>
+fn read_name<'a>(message: &[u8], body: &'a [u8]) -> Option<&'a [u8]>
+    requires { body.now ≡ drop HEADER_SIZE message.now }
     ensures { option_map (λ name. name.now) result ≡ body_name (cut_at_zero body.now) }
 {
-    match first_zero(body) {
-        Some(end) if 0 < end && end + 1 == body.len() => Some(&body[..end]),
-        _ => None,
+    if body.len() < 2 {
+        return None;
     }
-}
-
-// The place of the first zero byte.
-fn first_zero(body: &[u8]) -> Option<usize>
-    ensures { result ≡ position (λ byte. byte == 0) body.now }
-{
-    body.iter().position(|byte| *byte == 0)
+    let end = body.len() - 1;
+    match memrchr(0, &message[..HEADER_SIZE + end]) {
+        Some(place) if HEADER_SIZE <= place => None,
+        _ if body[end] != 0 => None,
+        _ => Some(&body[..end]),
+    }
 }

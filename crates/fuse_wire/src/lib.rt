@@ -14,10 +14,10 @@
 //! the definition and in the code. [`laws`] says that a stream is cut in one way, however its bytes come in pieces, and
 //! how long structures are; [`examples`] lists what each opcode asks.
 //!
-//! Framing and reading take no memory, and look at each byte at most once; names and items are borrowed from their
+//! Framing and reading take no memory, and a few steps for each byte at most; names and items are borrowed from their
 //! message. A writer puts its fields together on the stack and asks for memory at most once, for the growth of the
 //! vector; where it is refused the vector is as before, and where the vector has the room no writer fails. The crate
-//! stands on `byteorder` alone.
+//! stands on `byteorder` and `memchr` alone.
 #![tactic(auto)]
 
 mod body;

@@ -1,8 +1,8 @@
 //! Replies and rows as bytes. Each writer appends exactly its bytes; where the vector has no room for them and gets
 //! none, it is as before.
 
-ghost use Rattle.std.specs.Prelude.{◌≡◌, ◌++◌, ◌<◌, ◌≤◌, ◌+◌, ◌-◌, ◌^◌, [], length, vec_len, vec_capacity};
-ghost use Rattle.std.specs.Option.{option_copied, option_map_or};
+ghost use Rattle.std.specs.Prelude.{◌≡◌, ◌++◌, ◌<◌, ◌≤◌, ◌+◌, ◌-◌, ◌^◌, [], None, length, vec_len, vec_capacity};
+ghost use Rattle.std.specs.Option.{option_copied};
 ghost use Rattle.fuse_wire.specs.Structures.{zeros, init_out, entry_out, attr_out, open_out, statfs_out, dirent_size, padding, row_bytes, plus_row_bytes};
 ghost use Rattle.fuse_wire.specs.Replies.{reply_head, reply_with, error_reply};
 ghost use Rattle.fuse_wire.specs.Appends.{Appends};
@@ -191,7 +191,7 @@ pub fn put_dirent<A: Allocator>(out: &mut Vec<u8, A>, row: &Dirent<'_>) -> Resul
 
 /// Appends a row of READDIRPLUS (`struct fuse_direntplus`): the node's entry, or 128 zeros for `.` and `..`, which
 /// have none, and the row of READDIR.
-#[tactic(auto, unfolding(crate::specs::Structures::direntplus), using(crate::proofs::Sizes::sizes))]
+#[tactic(auto, unfolding(crate::specs::Structures::direntplus, crate::specs::Structures::dirent), using(crate::proofs::Sizes::sizes, std::proofs::lemmas::Grind::common_steps))]
 #[inline(always)]
 pub fn put_direntplus<A: Allocator>(
     out: &mut Vec<u8, A>,
@@ -201,26 +201,26 @@ pub fn put_direntplus<A: Allocator>(
     requires { length row.now.name.now < 2 ^ 32 }
     ensures { Appends result out.old out.new (plus_row_bytes (option_copied entry.entry) row.now) }
 {
-    out.reserve(ENTRY_OUT_SIZE + dirent_size(row.name.len()))?;
+    let Some(node) = entry else {
+        return put_bare(out, *row);
+    };
     let mut front = Structure::new();
-    entry_or_zeros(&mut front, entry);
-    out.extend_from_slice(front.as_slice())?;
-    put_dirent(out, row)?;
-    Ok(())
+    entry_out(&mut front, node);
+    dirent_front(&mut front, row);
+    put_row(out, &front, row.name)
 }
 
-// `struct fuse_entry_out`, or as many zeros where there is no entry.
-#[tactic(auto, using(crate::proofs::Sizes::sizes))]
-#[inline(always)]
-fn entry_or_zeros(fields: &mut Structure, entry: Option<&Attr>)
-    requires { fields.old ≡ [] }
-    ensures fields { fields.new ≡ option_map_or entry_out (option_copied entry.entry) (zeros 128) }
-    ensures len { length fields.new ≡ 128 }
+// Appends a row of READDIRPLUS that has no entry. Few have none, so this stands apart from the loop over rows.
+#[tactic(auto, unfolding(crate::specs::Structures::direntplus, crate::specs::Structures::dirent), using(crate::proofs::Sizes::sizes, std::proofs::lemmas::Grind::common_steps))]
+#[inline(never)]
+fn put_bare<A: Allocator>(out: &mut Vec<u8, A>, row: Dirent<'_>) -> Result<(), AllocError>
+    requires { length row.name.now < 2 ^ 32 }
+    ensures { Appends result out.old out.new (plus_row_bytes None row.entry) }
 {
-    match entry {
-        Some(node) => entry_out(fields, node),
-        None => fields.zeros::<ENTRY_OUT_SIZE>(),
-    }
+    let mut front = Structure::new();
+    front.zeros::<ENTRY_OUT_SIZE>();
+    dirent_front(&mut front, &row);
+    put_row(out, &front, row.name)
 }
 
 // Appends the front of a row, its name, and zeros.

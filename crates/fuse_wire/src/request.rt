@@ -130,6 +130,7 @@ impl<'a> Request<'a> {
             node: LittleEndian::read_u64(&message[NODEID..]),
             op: read_op(
                 LittleEndian::read_u32(&message[OPCODE..]),
+                message,
                 &message[HEADER_SIZE..],
             ),
         }

@@ -6,8 +6,8 @@ ghost use Rattle.fuse_wire.specs.Structures.{u16, u32, u64, zeros};
 
 use std::marker::Model;
 
-/// The most bytes that stand together: a reply's header with a `struct fuse_entry_out`.
-pub const ROOM: usize = 144;
+/// The most bytes that stand together: a `struct fuse_entry_out` with a `struct fuse_dirent` up to its name.
+pub const ROOM: usize = 152;
 
 /// The fields so far, side by side: to a contract their bytes.
 #[derive(Drop)]
