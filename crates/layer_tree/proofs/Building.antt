@@ -1,5 +1,5 @@
 -- The branches of a directory's members are those of all paths from it.
-use Rattle.std.proofs.Common.{◌≡◌, ◌≢◌, ◌∙◌, sym, ap, subst, ℕ, zero, suc, ◌+◌, ◌-◌, ◌<◌, ◌≤◌, inl, inr, List, [], ◌∷◌, ◌++◌, append_assoc, length, length-append, get_or, drop, refl, arith, add-one, Some, None, true, false}
+use Rattle.std.proofs.Common.{◌≡◌, ◌≢◌, ◌∙◌, sym, ap, subst, ℕ, zero, suc, ◌+◌, ◌-◌, ◌<◌, ◌≤◌, inl, inr, List, [], ◌∷◌, ◌++◌, append_assoc, length, length-append, get_or, drop, refl, arith, add-one, Option, Some, None, true, false}
 use Rattle.std.specs.Prelude.{slice_get}
 use Rattle.std.specs.List.{AllByRecursion}
 use Rattle.std.specs.declared.cmp.Ordering.TheVariants.{Less}
@@ -12,11 +12,12 @@ use Rattle.romfs_image.specs.Images.{IsImage}
 use Rattle.romfs_image.proofs.Paths.{short}
 use Rattle.stack_model.specs.Stack.{Path, IsMarker, marker}
 use Rattle.path_tree.specs.Rows.{Shoot, name_cmp, named, IsRising, IsForest}
-use Rattle.path_tree.proofs.Names.{same_or_not}
+use Rattle.path_tree.proofs.Names.{same_or_not, named_below}
+use Rattle.path_tree.proofs.Spread.{through}
 use Rattle.layer_tree.specs.declared.place.Entry.{Entry}
 use Rattle.layer_tree.specs.declared.place.Mark.{Mark}
 use Rattle.layer_tree.specs.declared.members.Named.{Named}
-use Rattle.layer_tree.specs.Reading.{IsBefore, NamedRise, IsNamedMember, IsAtDepth, AreMembersAt, AreBranchesOf, AreBuilt, none_built, hidden, built, AreWhiteouts, none_white, other, white}
+use Rattle.layer_tree.specs.Reading.{IsBefore, NamedRise, IsNamedMember, IsAtDepth, AreMembersAt, IsBranchOf, RemovesFrom, IsBranchAlone, AreBranchesOf, AreBuilt, none_built, hidden, alone, built, AreWhiteouts, none_white, other, white}
 use Rattle.layer_tree.proofs.Layered.{leads_on}
 
 -- members from the i-th on are left
@@ -50,6 +51,15 @@ module _ (a : List ℕ) (layer : ℕ) (all : List Named) (i : ℕ) (es : List (S
     (ks : List (Shoot Mark)) (l : i < length all) (w : Building a layer all (drop i all) es ks) where
   pub build_hidden : IsMarker (at_index all i).name.now → Building a layer all (drop (i + 1) all) es ks
   build_hidden h = record { more = λ es' ks' b. w.more es' ks' (rw (next all i l) (hidden (at_index all i) (drop (i + 1) all) es' ks' h b)) }
+
+  pub build_alone : (e : Shoot Entry) (es' : List (Shoot Entry)) → ¬ IsMarker (at_index all i).name.now
+      → IsBranchAlone a layer (at_index all i).head.offset (at_index all i).name.now e → es' ≡ es ++ e ∷ []
+      → Building a layer all (drop (i + 1) all) es' ks
+  build_alone e es' n b p = record {
+    more = λ es'' ks'' c. rw p
+        (simp append_assoc (w.more (e ∷ es'') ks''
+        (rw (next all i l) (alone (at_index all i) (drop (i + 1) all) e es'' ks'' n b c))));
+  }
 
   pub build_one : (e : Shoot Entry) (k : Shoot Mark) (es' : List (Shoot Entry)) (ks' : List (Shoot Mark))
       → ¬ IsMarker (at_index all i).name.now
@@ -120,18 +130,23 @@ before_built : (a : List ℕ) (layer : ℕ) {ms : List Named} {es : List (Shoot 
     × AllByRecursion (λ t. name_cmp m.name.now t.name ≡ Less) ks
 before_built a layer none_built m r = (tt, tt)
 before_built a layer (hidden x ms es ks h b) m r = before_built a layer b m r.1
+before_built a layer (alone x ms e es ks n w b) m r = let t = before_built a layer b m r.1 in ((rw w.name r.0, t.0), t.1)
 before_built a layer (built x ms e es k ks n w b) m r = let t = before_built a layer b m r.1 in ((rw w.entry_name r.0, t.0), (rw w.mark_name r.0, t.1))
 
 pub forests : (a : List ℕ) (layer : ℕ) {ms : List Named} {es : List (Shoot Entry)} {ks : List (Shoot Mark)}
     → AreBuilt a layer ms es ks → NamedRise ms → IsForest es × IsForest ks
 forests a layer none_built r = (record { names = tt; each = tt }, record { names = tt; each = tt })
 forests a layer (hidden m ms es ks h b) r = forests a layer b r.1
+forests a layer (alone m ms e es ks n w b) r =
+    let f = forests a layer b r.1 in
+    let t = before_built a layer b m r.0 in
+    (record { names = (rw w.name t.0, f.0.names); each = (w.entries.rising, f.0.each) }, f.1)
 forests a layer (built m ms e es k ks n w b) r =
     let f = forests a layer b r.1 in
     let t = before_built a layer b m r.0 in (
       record { names = (rw w.entry_name t.0, f.0.names); each = (w.entries.rising, f.0.each) },
       record
-          { names = (rw w.mark_name t.1, f.1.names); each = (w.marks.rising, f.1.each) },
+          { names = (rw w.mark_name t.1, f.1.names); each = (w.rising, f.1.each) },
     )
 
 marked_before : (x y : List ℕ) → name_cmp (marker ++ x) (marker ++ y) ≡ name_cmp x y
@@ -164,42 +179,49 @@ pub data FoundBuilt (a : List ℕ) (layer d : ℕ) (n : List ℕ) (ms : List Nam
   nowhere : named n es ≡ None → named n ks ≡ None
       → ((j : ℕ) (m : Named) → slice_get ms j ≡ Some m → m.name.now ≡ n → IsMarker n)
       → FoundBuilt a layer d n ms es ks
-  somewhere : (m : Named) (e : Shoot Entry) (k : Shoot Mark) → named n es ≡ Some e → named n ks ≡ Some k
-      → m.name.now ≡ n → ¬ IsMarker n → IsNamedMember a d m → AreBranchesOf a layer m.head.offset n e k
-      → FoundBuilt a layer d n ms es ks
+  somewhere : (m : Named) (e : Shoot Entry) (k : Option (Shoot Mark)) → named n es ≡ Some e → named n ks ≡ k
+      → m.name.now ≡ n → ¬ IsMarker n → IsNamedMember a d m → IsBranchOf a layer m.head.offset e
+      → RemovesFrom a m.head.offset (through k) e → FoundBuilt a layer d n ms es ks
 
-pub find_built : (a : List ℕ) (layer d : ℕ) (n : List ℕ) {ms : List Named} {es : List (Shoot Entry)} {ks : List (Shoot Mark)}
-    → AreBuilt a layer ms es ks → AllByRecursion (IsNamedMember a d) ms → FoundBuilt a layer d n ms es ks
-find_built a layer d n none_built p = nowhere refl refl (λ j m f g. absurd (cc))
-find_built a layer d n (hidden m ms es ks h b) p = more (find_built a layer d n b p.1)
-  where
-    more : FoundBuilt a layer d n ms es ks → FoundBuilt a layer d n (m ∷ ms) es ks
-    more (nowhere f g q) = nowhere f g rest
-      where
-        rest : (j : ℕ) (x : Named) → slice_get (m ∷ ms) j ≡ Some x → x.name.now ≡ n → IsMarker n
-        rest zero x u v = (let z : m ≡ x = cc in subst IsMarker (ap (λ (y : Named). y.name.now) z ∙ v) h)
-        rest (suc j) x u v = q j x u v
-    more (somewhere x e k f g q r s t) = somewhere x e k f g q r s t
-find_built a layer d n (built m ms e es k ks h w b) p = more (find_built a layer d n b p.1)
-  where
-    more : FoundBuilt a layer d n ms es ks → FoundBuilt a layer d n (m ∷ ms) (e ∷ es) (k ∷ ks)
-    more found = elim (same_or_not m.name.now n) [
-      | inl x ↦ (
-          let f : named n (e ∷ es) ≡ Some e = rw (w.entry_name, x.1) refl in
-          let g : named n (k ∷ ks) ≡ Some k = rw (w.mark_name, x.1) refl in
-          somewhere m e k f g x.0 (subst (λ y. ¬ IsMarker y) x.0 h) p.0 (subst (λ y. AreBranchesOf a layer m.head.offset y e k) x.0 w))
-      | inr x ↦ later x.0 (let f : named n (e ∷ es) ≡ named n es = rw (w.entry_name, x.1) refl in f)
-          (let g : named n (k ∷ ks) ≡ named n ks = rw (w.mark_name, x.1) refl in g) found
-    ]
-      where
-        later : m.name.now ≢ n → named n (e ∷ es) ≡ named n es → named n (k ∷ ks) ≡ named n ks
-            → FoundBuilt a layer d n ms es ks → FoundBuilt a layer d n (m ∷ ms) (e ∷ es) (k ∷ ks)
-        later o u v (nowhere f g q) = nowhere (u ∙ f) (v ∙ g) rest
-          where
-            rest : (j : ℕ) (x : Named) → slice_get (m ∷ ms) j ≡ Some x → x.name.now ≡ n → IsMarker n
-            rest zero x s t = (let z : m ≡ x = cc in absurd (o (ap (λ (y : Named). y.name.now) z ∙ t)))
-            rest (suc j) x s t = q j x s t
-        later o u v (somewhere x y z f g q r s t) = somewhere x y z (u ∙ f) (v ∙ g) q r s t
+module _ (a : List ℕ) (layer d : ℕ) (n : List ℕ) where
+  -- what was found among later members is found among all, if the first has another name
+  found_later : (m : Named) (ms : List Named) (es es' : List (Shoot Entry)) (ks ks' : List (Shoot Mark)) → m.name.now ≢ n
+      → named n es' ≡ named n es → named n ks' ≡ named n ks
+      → FoundBuilt a layer d n ms es ks → FoundBuilt a layer d n (m ∷ ms) es' ks'
+  found_later m ms es es' ks ks' o u v (nowhere f g q) = nowhere (u ∙ f) (v ∙ g) rest
+    where
+      rest : (j : ℕ) (x : Named) → slice_get (m ∷ ms) j ≡ Some x → x.name.now ≡ n → IsMarker n
+      rest zero x s t = (let z : m ≡ x = cc in absurd (o (ap (λ (y : Named). y.name.now) z ∙ t)))
+      rest (suc j) x s t = q j x s t
+  found_later m ms es es' ks ks' o u v (somewhere x y z f g q r s t w) = somewhere x y z (u ∙ f) (v ∙ g) q r s t w
+
+  pub find_built : {ms : List Named} {es : List (Shoot Entry)} {ks : List (Shoot Mark)}
+      → AreBuilt a layer ms es ks → AllByRecursion (IsNamedMember a d) ms → NamedRise ms → FoundBuilt a layer d n ms es ks
+  find_built none_built p r = nowhere refl refl (λ j m f g. absurd (cc))
+  find_built (hidden m ms es ks h b) p r = more (find_built b p.1 r.1)
+    where
+      more : FoundBuilt a layer d n ms es ks → FoundBuilt a layer d n (m ∷ ms) es ks
+      more (nowhere f g q) = nowhere f g rest
+        where
+          rest : (j : ℕ) (x : Named) → slice_get (m ∷ ms) j ≡ Some x → x.name.now ≡ n → IsMarker n
+          rest zero x u v = (let z : m ≡ x = cc in subst IsMarker (ap (λ (y : Named). y.name.now) z ∙ v) h)
+          rest (suc j) x u v = q j x u v
+      more (somewhere x e k f g q r s t w) = somewhere x e k f g q r s t w
+  find_built (alone m ms e es ks h w b) p r = elim (same_or_not m.name.now n) [
+    | inl x ↦ (
+        let f : named n (e ∷ es) ≡ Some e = rw (w.name, x.1) refl in
+        let g : named n ks ≡ None = named_below n ks (subst (λ y. AllByRecursion (λ t. name_cmp y t.name ≡ Less) ks) x.0 (before_built a layer b m r.0).1) in
+        somewhere m e None f g x.0 (subst (λ y. ¬ IsMarker y) x.0 h) p.0 w.entries w.exact)
+    | inr x ↦ found_later m ms es (e ∷ es) ks ks x.0 (let f : named n (e ∷ es) ≡ named n es = rw (w.name, x.1) refl in f) refl (find_built b p.1 r.1)
+  ]
+  find_built (built m ms e es k ks h w b) p r = elim (same_or_not m.name.now n) [
+    | inl x ↦ (
+        let f : named n (e ∷ es) ≡ Some e = rw (w.entry_name, x.1) refl in
+        let g : named n (k ∷ ks) ≡ Some k = rw (w.mark_name, x.1) refl in
+        somewhere m e (Some k) f g x.0 (subst (λ y. ¬ IsMarker y) x.0 h) p.0 w.entries w.exact)
+    | inr x ↦ found_later m ms es (e ∷ es) ks (k ∷ ks) x.0 (let f : named n (e ∷ es) ≡ named n es = rw (w.entry_name, x.1) refl in f)
+        (let g : named n (k ∷ ks) ≡ named n ks = rw (w.mark_name, x.1) refl in g) (find_built b p.1 r.1)
+  ]
 
 -- a mark of the name n, and the marker that it is of
 pub data FoundWhite (n : List ℕ) (ms : List Named) (ks : List (Shoot Mark)) : Type 0 where

@@ -1,6 +1,6 @@
 -- The walk down the marks along a path.
 use Rattle.std.proofs.Common.{◌≡◌, ◌∙◌, ap, ℕ, ◌+◌, ◌<◌, ◌≤◌, List, [], ◌∷◌, refl, Option, Some, None, Bor, map, drop, get_or, length, add-one, Bool, true, false, ◌||◌, ◌&&◌, not}
-use Rattle.std.specs.Prelude.{nat_eq}
+use Rattle.std.specs.Prelude.{nat_eq, option_map}
 use Rattle.std.specs.List.{starts_with}
 use Rattle.std.proofs.Math.Seq.{drop-cons}
 use Rattle.std.proofs.lemmas.List.{drop_all}
@@ -46,27 +46,50 @@ pub by_name : (ms : List (Shoot Mark)) → NamesRise ms → (n : List ℕ) (path
     → cut_by (λ q. at_path (spread ms) (n ∷ q)) path ≡ cut_through (named n ms) path
 by_name ms r n path = cut_same (λ q. at_path (spread ms) (n ∷ q)) (through (named n ms)) (λ q. at_spread ms r n q) path ∙ by_through (named n ms) path
 
--- a path is cut by the mark above all of it, or by the branch of its first name
-pub cut_step : (s : Shoot Mark) (ss : List (Shoot Mark)) (o : Option (Shoot Mark)) (n : List ℕ) (path : List (List ℕ))
-    → s.below ≡ spread ss → NamesRise ss → named n ss ≡ o
-    → cut_by (at_path (whole s)) (n ∷ path) ≡ (cuts_below (Some s.value) || cut_through o path)
-cut_step s ss o n path e r f =
-    ap (λ b. cuts_below (Some s.value) || b) (cut_same (λ q. at_path (whole s) (n ∷ q)) (through o) (λ q. step s ss o n q e r f) path ∙ by_through o path)
+-- what values that are marks mark
+pub themselves : (o : Option Mark) → option_map (λ m. m) o ≡ o
+themselves None = refl
+themselves (Some m) = refl
 
--- the names from the i-th on are left, and the walk stands at here, with no mark above it
-pub record IsCutFrom (marks : Shoot Mark) (path : List (Bor (List ℕ))) (i : ℕ) (here : Shoot Mark) : Type 0 where
-  pub same : cut_by (at_path (whole marks)) (map (λ n. n.now) path) ≡ cut_by (at_path (whole here)) (map (λ n. n.now) (drop i path))
+pub cut_by_themselves : (rows : List (List (List ℕ) × Mark)) (path : List (List ℕ))
+    → cut_by (λ q. option_map (λ m. m) (at_path rows q)) path ≡ cut_by (at_path rows) path
+cut_by_themselves rows path = cut_same (λ q. option_map (λ m. m) (at_path rows q)) (at_path rows) (λ q. themselves (at_path rows q)) path
 
-module _ (marks : Shoot Mark) (path : List (Bor (List ℕ))) (i : ℕ) (s : Shoot Mark) (d : Bor (List ℕ))
-    (l : i < length path) (w : IsCutFrom marks path i s) where
-  at_name : cut_by (at_path (whole marks)) (map (λ n. n.now) path) ≡ cut_by (at_path (whole s)) ((get_or path i d).now ∷ map (λ n. n.now) (drop (i + 1) path))
-  at_name = w.same ∙ rw (add-one, drop-cons path i d l) refl
+module _ {T : Type 0} (m : T → Mark) where
+  -- what a branch cuts by what its values remove
+  abbrev pub cut_in : Shoot T → List (List ℕ) → Bool
+  cut_in s path = cut_by (λ q. option_map m (at_path (whole s) q)) path
 
-  pub cut_here : cuts_below (Some s.value) ≡ true → cut_by (at_path (whole marks)) (map (λ n. n.now) path) ≡ true
-  cut_here e = at_name ∙ rw e refl
+  abbrev pub cut_in_found : Option (Shoot T) → List (List ℕ) → Bool
+  cut_in_found o path = cut_by (λ q. option_map m (through o q)) path
 
-  pub cut_deeper : (ss : List (Shoot Mark)) (o : Option (Shoot Mark)) → s.below ≡ spread ss → NamesRise ss
-      → named (get_or path i d).now ss ≡ o → cuts_below (Some s.value) ≡ false
-      → cut_by (at_path (whole marks)) (map (λ n. n.now) path)
-      ≡ cut_through o (map (λ n. n.now) (drop (i + 1) path))
-  cut_deeper ss o e r f none = at_name ∙ cut_step s ss o _ _ e r f ∙ rw none refl
+  -- a path is cut by the value above all of it, or by the branch of its first name
+  cut_step : (s : Shoot T) (ss : List (Shoot T)) (o : Option (Shoot T)) (n : List ℕ) (path : List (List ℕ))
+      → s.below ≡ spread ss → NamesRise ss → named n ss ≡ o
+      → cut_in s (n ∷ path) ≡ (cuts_below (Some (m s.value)) || cut_in_found o path)
+  cut_step s ss o n path e r f = ap (λ b. cuts_below (Some (m s.value)) || b)
+      (cut_same (λ q. option_map m (at_path (whole s) (n ∷ q))) (λ q. option_map m (through o q))
+      (λ q. ap (λ x. option_map m x) (step s ss o n q e r f)) path)
+
+  -- the names from the i-th on are left, and the walk stands at here, with nothing above it that cuts
+  pub record IsCutFrom (tree : Shoot T) (path : List (Bor (List ℕ))) (i : ℕ) (here : Shoot T) : Type 0 where
+    pub same : cut_in tree (map (λ n. n.now) path) ≡ cut_in here (map (λ n. n.now) (drop i path))
+
+  module _ (tree : Shoot T) (path : List (Bor (List ℕ))) (i : ℕ) (s : Shoot T) (d : Bor (List ℕ))
+      (l : i < length path) (w : IsCutFrom tree path i s) where
+    at_name : cut_in tree (map (λ n. n.now) path) ≡ cut_in s ((get_or path i d).now ∷ map (λ n. n.now) (drop (i + 1) path))
+    at_name = w.same ∙ rw (add-one, drop-cons path i d l) refl
+
+    pub cut_here : cuts_below (Some (m s.value)) ≡ true → cut_in tree (map (λ n. n.now) path) ≡ true
+    cut_here e = at_name ∙ rw e refl
+
+    pub cut_deeper : (ss : List (Shoot T)) (o : Option (Shoot T)) → s.below ≡ spread ss → NamesRise ss
+        → named (get_or path i d).now ss ≡ o → cuts_below (Some (m s.value)) ≡ false
+        → cut_in tree (map (λ n. n.now) path)
+        ≡ cut_in_found o (map (λ n. n.now) (drop (i + 1) path))
+    cut_deeper ss o e r f none = at_name ∙ cut_step s ss o _ _ e r f ∙ rw none refl
+
+    pub cut_nowhere : (ss : List (Shoot T)) → s.below ≡ spread ss → NamesRise ss
+        → named (get_or path i d).now ss ≡ None → cuts_below (Some (m s.value)) ≡ false
+        → cut_in tree (map (λ n. n.now) path) ≡ false
+    cut_nowhere ss e r f none = cut_deeper ss None e r f none ∙ nothing_cut (map (λ n. n.now) (drop (i + 1) path))

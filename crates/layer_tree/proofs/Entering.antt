@@ -1,9 +1,12 @@
 -- The entry of a header, by where its hard links end.
-use Rattle.std.proofs.Common.{◌≡◌, ◌∙◌, sym, ap, subst, ℕ, List}
+use Rattle.std.proofs.Common.{◌≡◌, ◌≢◌, ◌∙◌, sym, ap, subst, ℕ, inr, List}
 use Rattle.romfs_format.specs.declared.head.Head.{Head}
 use Rattle.romfs_format.specs.declared.head.Kind.TheVariants.{Directory}
 use Rattle.romfs_format.specs.Fields.{kind}
-use Rattle.romfs_format.specs.Links.{IsFinal, stays}
+use Rattle.romfs_format.specs.Links.{IsFinal, stays, follows}
+use Rattle.romfs_image.specs.Images.{IsImage}
+use Rattle.romfs_image.proofs.Keeps.{not_directory}
+use Rattle.romfs_image.proofs.Given.{From, from_inside, hard_member}
 use Rattle.romfs_image.specs.Readers.{IsGiven}
 use Rattle.layer_tree.specs.declared.place.Entry.{Entry}
 use Rattle.layer_tree.specs.Reading.{IsEntryIn}
@@ -11,6 +14,13 @@ use Rattle.layer_tree.specs.Reading.{IsEntryIn}
 -- no hard link leads on from a directory
 pub directory_stays : (a : List ℕ) (h : ℕ) → kind a h ≡ Directory → IsFinal a h h
 directory_stays a h d = stays (λ l. let k = l.1 in absurd (cc))
+
+-- what is no directory does not lead to one
+pub no_directory : (a : List ℕ) → IsImage a → (h e : ℕ) → From a h → kind a h ≢ Directory → IsFinal a h e → kind a e ≢ Directory
+no_directory a i h e from n (stays m) = n
+no_directory a i h e from n (follows l f) = λ k. (
+    let m = hard_member a i h from l in
+    not_directory a i h (m, l, (e, follows l f, (from_inside a i e (inr (inr (h, m, follows l f))), k))))
 
 pub entered : (a : List ℕ) (layer h : ℕ) (end : Head) (entry : Entry) → IsGiven a end → IsFinal a h end.offset
     → entry.place.layer ≡ layer → entry.place.header ≡ end.offset → entry.kind ≡ end.kind

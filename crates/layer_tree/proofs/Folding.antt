@@ -1,13 +1,15 @@
 -- A directory with the branches of its members has those of all paths from it.
-use Rattle.std.proofs.Common.{◌≡◌, ◌≢◌, ◌∙◌, sym, ap, subst, ℕ, zero, suc, ◌↔◌, inl, inr, List, [], ◌∷◌, ◌++◌, refl, Some, Bool, true, false, ◌||◌, IsTrue, IsSomeAnd}
-use Rattle.std.specs.Prelude.{slice_get, is_some}
+use Rattle.std.proofs.Common.{◌≡◌, ◌≢◌, ◌∙◌, sym, ap, subst, ℕ, zero, suc, ◌↔◌, inl, inr, List, [], ◌∷◌, ◌++◌, refl, Some, None, Option, Bool, true, false, ◌||◌, not, IsTrue, IsSomeAnd}
+use Rattle.std.specs.Prelude.{slice_get, is_some, option_map, MatchOption}
 use Rattle.std.specs.List.{AllByRecursion}
-use Rattle.romfs_format.specs.declared.head.Kind.TheVariants.{Directory}
+use Rattle.romfs_format.specs.declared.head.Kind.{Kind}
+use Rattle.romfs_format.specs.declared.head.Kind.TheVariants.{HardLink, Directory, Regular, SymLink, Block, Character, Socket, Fifo}
 use Rattle.romfs_format.specs.Fields.{kind, name}
 use Rattle.romfs_format.specs.Chains.{IsMember, Leads}
 use Rattle.romfs_image.specs.Images.{IsImage}
 use Rattle.romfs_image.proofs.Paths.{one_header}
 use Rattle.stack_model.specs.Stack.{Path, IsPlain, marker, opaque}
+use Rattle.stack_model.specs.Attributes.{is_directory}
 use Rattle.path_tree.specs.Rows.{Shoot, spread, whole, named, at_path, IsForest}
 use Rattle.path_tree.specs.Laying.{AreLaid}
 use Rattle.path_tree.proofs.Spread.{through, at_spread}
@@ -15,33 +17,42 @@ use Rattle.path_tree.proofs.Rising.{branch_rises}
 use Rattle.layer_tree.specs.declared.place.Entry.{Entry}
 use Rattle.layer_tree.specs.declared.place.Mark.{Mark}
 use Rattle.layer_tree.specs.declared.members.Named.{Named}
-use Rattle.layer_tree.specs.Marks.{cut_by}
+use Rattle.layer_tree.specs.Marks.{cut_by, mark_of, covered_by, removed_by}
 use Rattle.layer_tree.specs.Laying.{united}
-use Rattle.layer_tree.specs.Reading.{IsNamedMember, AreByName, HasNamed, CutsFrom, CutsAt, IsEntryIn, IsBranchOf, IsMarkOf, AreBranchesOf, AreBuilt, AreWhiteouts, rest_of_opaque}
-use Rattle.layer_tree.proofs.Cutting.{cut_through, by_name}
-use Rattle.layer_tree.proofs.Joining.{cut_united, or_true}
+use Rattle.layer_tree.specs.Reading.{IsNamedMember, AreByName, HasNamed, CutsFrom, CutsAt, IsEntryIn, IsBranchOf, RemovesFrom, IsBranchAlone, AreBranchesOf, IsMadeOf, IsBlank, AreBuilt, AreWhiteouts, rest_of_opaque}
+use Rattle.layer_tree.proofs.Cutting.{nothing_cut, cut_same, cut_through, by_name, by_through}
+use Rattle.layer_tree.proofs.Removing.{or_true, or_left, or_right, file_covers}
+use Rattle.layer_tree.proofs.Joining.{cut_united}
 use Rattle.layer_tree.proofs.Stepping.{all_cut}
-use Rattle.layer_tree.proofs.Layered.{opened_directory}
+use Rattle.layer_tree.proofs.Layered.{opened_directory, final_directory}
 use Rattle.layer_tree.proofs.Building.{forests, white_forest, FoundBuilt, nowhere, somewhere, find_built, FoundWhite, unmarked, marked, find_white}
 
 -- no member stands in what is no directory
 no_member : (a : List ℕ) (i : IsImage a) (h c : ℕ) → kind a h ≢ Directory → IsMember a h c → ⊥
 no_member a i h c n m = n (opened_directory a i m.opened)
 
--- an entry that is no directory, and its cut mark
-pub single : (a : List ℕ) (i : IsImage a) (layer h : ℕ) (n : List ℕ) (entry : Entry) (mark : Mark)
-    → mark.cut ≡ true → kind a h ≢ Directory → IsEntryIn a layer h entry
-    → AreBranchesOf a layer h n (record { name = n; value = entry; below = [] })
-    (record { name = n; value = mark; below = [] })
-single a i layer h n entry mark cut other w = record {
-  entry_name = refl;
-  mark_name = refl;
+not_folder : (k : Kind) → k ≢ Directory → is_directory k ≡ false
+not_folder Directory n = absurd (n refl)
+not_folder HardLink n = refl
+not_folder Regular n = refl
+not_folder SymLink n = refl
+not_folder Block n = refl
+not_folder Character n = refl
+not_folder Socket n = refl
+not_folder Fifo n = refl
+
+-- an entry that is no directory needs no mark
+pub single : (a : List ℕ) (i : IsImage a) (layer h : ℕ) (n : List ℕ) (entry : Entry)
+    → kind a h ≢ Directory → entry.kind ≢ Directory → IsEntryIn a layer h entry
+    → IsBranchAlone a layer h n (record { name = n; value = entry; below = [] })
+single a i layer h n entry other file w = record {
+  name = refl;
   entries = record { rising = record { rises = (tt, tt) }; shown = shown; only = only };
-  marks = record {
-    rising = record { rises = (tt, tt) };
-    exact = λ path p.
-        ((λ t. inl other), (λ c. (all_cut (record { name = n; value = mark; below = [] }) cut).cut path));
-  };
+  exact = λ path p. (
+    (λ t. inl other),
+    (λ c. or_right (cut_by (λ q. None) path) (covered_by (at_path (whole (record { name = n; value = entry; below = [] }))) path)
+        (file_covers (at_path (whole (record { name = n; value = entry; below = [] }))) path [] path refl (ap not (not_folder entry.kind file)))),
+  );
 }
   where
     shown : (path : Path) (g : ℕ) → IsPlain path → Leads a h path g
@@ -89,16 +100,16 @@ module _ (a : List ℕ) (i : IsImage a) (layer h : ℕ) (ms : List Named) (es : 
   shown_below : (n : List ℕ) (path : Path) (g : ℕ) → IsPlain (n ∷ path) → Leads a h (n ∷ path) g
       → FoundBuilt a layer h n ms es mm → IsSomeAnd (through (named n es) path) (λ e. IsEntryIn a layer g e)
   shown_below n path g p l (nowhere f k q) = (let m = member_at n l.0 l.1 l.2 in absurd (p.0 (q m.0 m.1 m.2 m.4)))
-  shown_below n path g p l (somewhere m e k f u r s t v) =
+  shown_below n path g p l (somewhere m e k f u r s t v x) =
       let here : m.head.offset ≡ l.0 = one_member n m.head.offset l.0 t.member (t.name ∙ ap Some r) l.1 l.2 in
-      rw f (v.entries.shown path g p.1 (subst (λ x. Leads a x path g) (sym here) l.3))
+      rw f (v.shown path g p.1 (subst (λ x. Leads a x path g) (sym here) l.3))
 
   only_below : (n : List ℕ) (path : Path) (e : Entry) → through (named n es) path ≡ Some e
       → FoundBuilt a layer h n ms es mm
       → IsPlain (n ∷ path) × ((g : ℕ) × Leads a h (n ∷ path) g × IsEntryIn a layer g e)
   only_below n path e x (nowhere f k q) = (let y = rw f at x in absurd (cc))
-  only_below n path e x (somewhere m b k f u r s t v) =
-      let w = v.entries.only path e (rw f at x) in
+  only_below n path e x (somewhere m b k f u r s t v y) =
+      let w = v.only path e (rw f at x) in
       ((s, w.0), (w.1.0, (m.head.offset, t.member, t.name ∙ ap Some r, w.1.1), w.1.2))
 
   pub entries_of : (n : List ℕ) (entry : Entry) → IsEntryIn a layer h entry → IsBranchOf a layer h (record { name = n; value = entry; below = spread es })
@@ -108,28 +119,32 @@ module _ (a : List ℕ) (i : IsImage a) (layer h : ℕ) (ms : List Named) (es : 
           → IsSomeAnd (at_path (whole (record { name = n; value = entry; below = spread es })) path)
           (λ e. IsEntryIn a layer g e)
       shown [] g p l = subst (λ x. IsEntryIn a layer x entry) l w
-      shown (m ∷ path) g p l = rw (at_spread es entries_forest.names m path) (shown_below m path g p l (find_built a layer h m b members.each))
+      shown (m ∷ path) g p l = rw (at_spread es entries_forest.names m path) (shown_below m path g p l (find_built a layer h m b members.each members.rising))
 
       only : (path : Path) (e : Entry) → at_path (whole
           (record { name = n; value = entry; below = spread es })) path ≡ Some e
           → IsPlain path × ((g : ℕ) × Leads a h path g × IsEntryIn a layer g e)
       only [] e f = (let s : entry ≡ e = cc in (tt, (h, refl, subst (IsEntryIn a layer h) s w)))
-      only (m ∷ path) e f = only_below m path e (sym (at_spread es entries_forest.names m path) ∙ f) (find_built a layer h m b members.each)
+      only (m ∷ path) e f = only_below m path e (sym (at_spread es entries_forest.names m path) ∙ f) (find_built a layer h m b members.each members.rising)
 
   -- a marker's mark stands for a marker among the members
   white_is : (n : List ℕ) (path : Path) → FoundWhite n ms ws → (cut_through (named n ws) path ≡ true) ↔ HasNamed a h (marker ++ n)
   white_is n path (unmarked f q) = (λ e. (let y = rw f at e in absurd (cc)), λ x. (let m = member_at (marker ++ n) x.0 x.1 x.2 in absurd (q m.0 m.1 m.2 m.4)))
   white_is n path (marked j m k f c s e) = (λ y. (let t = has_at j m s in (m.head.offset, t.member, t.name ∙ ap Some e)), λ x. rw f ((all_cut k c).cut path))
 
+  -- what is removed below a name is what the layer cuts from the member of that name
   below_is : (n : List ℕ) (path : Path) → IsPlain (n ∷ path) → FoundBuilt a layer h n ms es mm
-      → (cut_through (named n mm) path ≡ true)
+      → (removed_by (through (named n mm)) (through (named n es)) path ≡ true)
       ↔ ((c : ℕ) × IsMember a h c × (name a c ≡ Some n) × CutsAt a c path)
-  below_is n path p (nowhere f k q) = (λ e. (let y = rw k at e in absurd (cc)), λ x. (let m = member_at n x.0 x.1 x.2 in absurd (p.0 (q m.0 m.1 m.2 m.4))))
-  below_is n path p (somewhere m e k f g r s t v) = (
-    λ y. (m.head.offset, t.member, t.name ∙ ap Some r, (v.marks.exact path p.1).0 (rw g at y)),
+  below_is n path p (nowhere f k q) = (
+    λ e. absurd (let y : (cut_by (λ q. None) path || cut_by (λ q. None) path) ≡ true = rw (f, k) at e in let z = nothing_cut path in cc),
+    λ x. (let m = member_at n x.0 x.1 x.2 in absurd (p.0 (q m.0 m.1 m.2 m.4))),
+  )
+  below_is n path p (somewhere m e k f g r s t v w) = (
+    λ y. (m.head.offset, t.member, t.name ∙ ap Some r, (w path p.1).0 (rw (f, g) at y)),
     λ x. (
         let here : x.0 ≡ m.head.offset = one_member n x.0 m.head.offset x.1 x.2 t.member (t.name ∙ ap Some r) in
-        rw g ((v.marks.exact path p.1).1 (subst (λ c. CutsAt a c path) here x.3))),
+        rw (f, g) ((w path p.1).1 (subst (λ c. CutsAt a c path) here x.3))),
   )
 
   -- what the marks of the whole directory say: it is opaque, or a name in it is cut
@@ -141,30 +156,28 @@ module _ (a : List ℕ) (i : IsImage a) (layer h : ℕ) (ms : List Named) (es : 
       ∙ ap (λ x. x || cut_by (λ q. at_path (spread ws) (n ∷ q)) path) (by_name mm f.names n path)
       ∙ ap (λ x. cut_through (named n mm) path || x) (by_name ws w.names n path)
 
-  module _ (whole_cut : Bool) (is_whole : (whole_cut ≡ true) ↔ HasNamed a h opaque) (directory : kind a h ≡ Directory) where
-    or_left : (x y : Bool) → x ≡ true → (x || y) ≡ true
-    or_left true y e = refl
-    or_left false y e = absurd (cc)
+  module _ (whole_cut : Bool) (is_whole : (whole_cut ≡ true) ↔ HasNamed a h opaque) (directory : kind a h ≡ Directory)
+      (entry : Entry) (in_layer : IsEntryIn a layer h entry) where
+    branch : List ℕ → Shoot Entry
+    branch n = record { name = n; value = entry; below = spread es }
 
-    or_later : (x y : Bool) → y ≡ true → (x || y) ≡ true
-    or_later true y e = refl
-    or_later false y e = e
-
+    -- the names below the directory's own that the markers cut, or what the members leave
     from_cuts : (n : List ℕ) (path : Path) → IsPlain (n ∷ path) → CutsFrom a h (n ∷ path)
-        → (whole_cut || (cut_through (named n mm) path || cut_through (named n ws) path)) ≡ true
-    from_cuts n path p (inl x) = or_later whole_cut _ (or_later (cut_through (named n mm) path) _ ((white_is n path (find_white n wh)).1 x))
+        → (whole_cut || (removed_by (through (named n mm)) (through (named n es)) path || cut_through (named n ws) path)) ≡ true
+    from_cuts n path p (inl x) = or_right whole_cut _
+        (or_right (removed_by (through (named n mm)) (through (named n es)) path) _ ((white_is n path (find_white n wh)).1 x))
     from_cuts n path p (inr (inl x)) = or_left whole_cut _ (is_whole.1 x)
-    from_cuts n path p (inr (inr x)) = or_later whole_cut _
-        (or_left (cut_through (named n mm) path) _ ((below_is n path p
-        (find_built a layer h n b members.each)).1 x))
+    from_cuts n path p (inr (inr x)) = or_right whole_cut _
+        (or_left (removed_by (through (named n mm)) (through (named n es)) path) _ ((below_is n path p
+        (find_built a layer h n b members.each members.rising)).1 x))
 
     to_cuts : (n : List ℕ) (path : Path) → IsPlain (n ∷ path)
-        → (whole_cut || (cut_through (named n mm) path || cut_through (named n ws) path)) ≡ true
+        → (whole_cut || (removed_by (through (named n mm)) (through (named n es)) path || cut_through (named n ws) path)) ≡ true
         → CutsFrom a h (n ∷ path)
     to_cuts n path p e = elim (or_true whole_cut _ e) [
       | inl x ↦ inr (inl (is_whole.0 x))
-      | inr y ↦ elim (or_true (cut_through (named n mm) path) _ y) [
-        | inl x ↦ inr (inr ((below_is n path p (find_built a layer h n b members.each)).0 x))
+      | inr y ↦ elim (or_true (removed_by (through (named n mm)) (through (named n es)) path) _ y) [
+        | inl x ↦ inr (inr ((below_is n path p (find_built a layer h n b members.each members.rising)).0 x))
         | inr x ↦ inl ((white_is n path (find_white n wh)).0 x)
       ]
     ]
@@ -173,26 +186,57 @@ module _ (a : List ℕ) (i : IsImage a) (layer h : ℕ) (ms : List Named) (es : 
     down path (inl n) = absurd (n directory)
     down path (inr c) = c
 
-    pub marks_of : (n : List ℕ) → IsMarkOf a h (record { name = n; value = record { cut = false; opaque = whole_cut }; below = spread out })
-    marks_of n = record { rising = branch_rises n (record { cut = false; opaque = whole_cut }) out laid.forest; exact = exact }
+    is_folder : is_directory entry.kind ≡ true
+    is_folder = ap is_directory (in_layer.kind ∙ final_directory a h entry.place.header in_layer.final directory)
+
+    in_turn : (w x y z k : Bool) → k ≡ false → ((w || (x || y)) || ((k || false) || z)) ≡ (w || ((x || z) || y))
+    in_turn true x y z k e = refl
+    in_turn false true y z k e = refl
+    in_turn false false true z false e = or_comm_true z
       where
-        exact : (path : Path) → IsPlain path → IsTrue
-            (cut_by (at_path (whole (record {
-              name = n;
-              value = record { cut = false; opaque = whole_cut };
-              below = spread out;
-            }))) path) ↔ CutsAt a h path
-        exact [] p = (λ t. absurd (cc), λ c. absurd (down [] c))
-        exact (m ∷ path) p = (
-          λ t. inr (to_cuts m path p (ap (λ x. whole_cut || x) (sym (cut_name m path)) ∙ t)),
-          λ c. ap (λ x. whole_cut || x) (cut_name m path) ∙ from_cuts m path p (down (m ∷ path) c),
-        )
+        or_comm_true : (z : Bool) → true ≡ (z || true)
+        or_comm_true true = refl
+        or_comm_true false = refl
+    in_turn false false false true false e = refl
+    in_turn false false false false false e = refl
+    in_turn false false y z true e = absurd (cc)
+
+    covered_name : (n : List ℕ) (path : Path) → covered_by (λ q. at_path (spread es) (n ∷ q)) path ≡ covered_by (through (named n es)) path
+    covered_name n path = cut_same (λ q. option_map mark_of (at_path (spread es) (n ∷ q))) (λ q. option_map mark_of (through (named n es) q))
+        (λ q. ap (λ x. option_map mark_of x) (at_spread es entries_forest.names n q)) path
+
+    -- what the branch and the mark of the directory remove
+    removed_name : (k : List ℕ) (n : List ℕ) (path : Path)
+        → removed_by (at_path (whole (record { name = k; value = record { cut = false; opaque = whole_cut }; below = spread out })))
+        (at_path (whole (record { name = k; value = entry; below = spread es }))) (n ∷ path)
+        ≡ (whole_cut || (removed_by (through (named n mm)) (through (named n es)) path || cut_through (named n ws) path))
+    removed_name k n path =
+        ap (λ x. (whole_cut || x) || ((not (is_directory entry.kind) || false) || covered_by (λ q. at_path (spread es) (n ∷ q)) path)) (cut_name n path)
+        ∙ ap (λ x. (whole_cut || (cut_through (named n mm) path || cut_through (named n ws) path)) || ((not (is_directory entry.kind) || false) || x)) (covered_name n path)
+        ∙ in_turn whole_cut (cut_through (named n mm) path) (cut_through (named n ws) path) (covered_by (through (named n es)) path)
+        (not (is_directory entry.kind)) (ap not is_folder)
+        ∙ ap (λ x. whole_cut || ((x || covered_by (through (named n es)) path) || cut_through (named n ws) path)) (sym (by_through (named n mm) path))
+
+    pub removes_of : (n : List ℕ) → RemovesFrom a h
+        (at_path (whole (record { name = n; value = record { cut = false; opaque = whole_cut }; below = spread out })))
+        (record { name = n; value = entry; below = spread es })
+    removes_of n [] p = (λ t. absurd (let x = ap not is_folder in cc), λ c. absurd (down [] c))
+    removes_of n (m ∷ path) p = (
+      λ t. inr (to_cuts m path p (sym (removed_name n m path) ∙ t)),
+      λ c. removed_name n m path ∙ from_cuts m path p (down (m ∷ path) c),
+    )
 
     -- the directory's own branches
-    pub folder : (n : List ℕ) (entry : Entry) → IsEntryIn a layer h entry
+    pub folder : (n : List ℕ)
         → AreBranchesOf a layer h n (record { name = n; value = entry; below = spread es })
         (record { name = n; value = record { cut = false; opaque = whole_cut }; below = spread out })
-    folder n entry w = record { entry_name = refl; mark_name = refl; entries = entries_of n entry w; marks = marks_of n }
+    folder n = record {
+      entry_name = refl;
+      mark_name = refl;
+      entries = entries_of n entry in_layer;
+      rising = branch_rises n (record { cut = false; opaque = whole_cut }) out laid.forest;
+      exact = removes_of n;
+    }
 
   -- whether a mark stands at the rest of the opaque marker's name
   pub opaque_is_held : (is_some (named rest_of_opaque ws) ≡ true) ↔ HasNamed a h opaque
@@ -201,3 +245,24 @@ module _ (a : List ℕ) (i : IsImage a) (layer h : ℕ) (ms : List Named) (es : 
       go : FoundWhite rest_of_opaque ms ws → (is_some (named rest_of_opaque ws) ≡ true) ↔ HasNamed a h opaque
       go (unmarked f q) = (λ e. absurd (let y = rw f at e in cc), λ x. absurd (let m = member_at opaque x.0 x.1 x.2 in q m.0 m.1 m.2 m.4))
       go (marked j m k f c s e) = (λ y. (let t = has_at j m s in (m.head.offset, t.member, t.name ∙ ap Some e)), λ x. rw f refl)
+
+-- a mark that cuts nothing is not needed
+pub alone_without : (a : List ℕ) (layer h : ℕ) (n : List ℕ) (e : Shoot Entry) (k : Shoot Mark)
+    → AreBranchesOf a layer h n e k → IsBlank k → IsBranchAlone a layer h n e
+alone_without a layer h n e k w blank = record { name = w.entry_name; entries = w.entries; exact = exact }
+  where
+    nothing : (path : Path) → cut_by (at_path (whole k)) path ≡ false
+    nothing [] = blank.uncut
+    nothing (n ∷ path) = rw (blank.uncut, blank.clear, blank.nothing) (nothing_cut path)
+
+    exact : RemovesFrom a h (λ q. None) e
+    exact path p =
+        let same : removed_by (λ q. None) (at_path (whole e)) path ≡ removed_by (at_path (whole k)) (at_path (whole e)) path
+        = ap (λ x. x || covered_by (at_path (whole e)) path) (nothing_cut path ∙ sym (nothing path)) in
+        subst (λ x. IsTrue x ↔ CutsAt a h path) (sym same) (w.exact path p)
+
+-- a mark where one is needed
+pub made_as_needed : (a : List ℕ) (layer h : ℕ) (n : List ℕ) (e : Shoot Entry) (k : Shoot Mark) (o : Option (Shoot Mark))
+    → AreBranchesOf a layer h n e k → MatchOption o (IsBlank k) (λ s. s ≡ k) → IsMadeOf a layer h n (e, o)
+made_as_needed a layer h n e k None w p = alone_without a layer h n e k w p
+made_as_needed a layer h n e k (Some s) w p = subst (λ x. AreBranchesOf a layer h n e x) (sym p) w

@@ -1,16 +1,19 @@
 -- A tree laid on a tree is the tree of both runs.
-use Rattle.std.proofs.Common.{◌≡◌, ◌∙◌, sym, ap, subst, ℕ, zero, suc, ◌+◌, ◌⊎◌, ◌↔◌, inl, inr, List, [], ◌∷◌, ◌++◌, length, refl, arith, Option, Some, None, Bool, true, false, ◌||◌, ◌&&◌, IsTrue, IsSomeAnd}
+use Rattle.std.proofs.Common.{◌≡◌, ◌∙◌, sym, ap, subst, ℕ, zero, suc, ◌+◌, ◌↔◌, inl, inr, List, [], ◌∷◌, ◌++◌, length, refl, arith, Option, Some, None, Bool, true, false, ◌||◌, ◌&&◌, IsTrue, IsSomeAnd}
 use Rattle.std.specs.Prelude.{slice_get, Result, Ok, Err, IfOk}
+use Rattle.romfs_format.specs.declared.head.Kind.TheVariants.{Directory}
 use Rattle.stack_model.specs.Stack.{Path, IsPlain, Shows, IsTop, IsFree, IsCut}
 use Rattle.stack_model.proofs.Joined.{shows_joined, cuts_joined, free_is}
 use Rattle.path_tree.specs.Rows.{Shoot, whole, at_path}
 use Rattle.path_tree.specs.Laying.{laid_at, IsLaid}
 use Rattle.layer_tree.specs.declared.place.Entry.{Entry}
 use Rattle.layer_tree.specs.declared.place.Mark.{Mark}
-use Rattle.layer_tree.specs.Marks.{cuts_itself, cuts_below, cut_by, is_plain}
-use Rattle.layer_tree.specs.Trees.{TreeRows, entry_at, cuts_at, IsEntryOf, IsTreeOf}
-use Rattle.layer_tree.specs.Laying.{unless, upper, united, IsKept, Lays}
+use Rattle.layer_tree.specs.Marks.{cuts_itself, cuts_below, cut_by, mark_of, is_plain}
+use Rattle.layer_tree.specs.Trees.{TreeRows, entry_at, removes, cuts_at, IsEntryOf, IsTreeOf}
+use Rattle.layer_tree.specs.Laying.{unless, upper, united, IsKept, AreRootClashes, Lays}
 use Rattle.layer_tree.proofs.Plain.{plain_is}
+use Rattle.layer_tree.proofs.Removing.{or_true}
+use Rattle.layer_tree.proofs.Clashing.{what_is_left, what_both_remove}
 
 or_four : (a b c d : Bool) → ((a || b) || (c || d)) ≡ ((a || c) || (b || d))
 or_four true b c d = refl
@@ -45,10 +48,6 @@ cut_united f g h e (n ∷ path) =
 and_or : (p a b : Bool) → (p && (a || b)) ≡ ((p && a) || (p && b))
 and_or true a b = refl
 and_or false a b = refl
-
-pub or_true : (a b : Bool) → (a || b) ≡ true → (a ≡ true) ⊎ (b ≡ true)
-or_true true b e = inl refl
-or_true false b e = inr e
 
 or_right : (a : Bool) → (a || true) ≡ true
 or_right true = refl
@@ -91,7 +90,7 @@ module _ (first : ℕ) (ls hs : List (List ℕ)) (low high out : TreeRows) (l : 
   entry_high : (i j k : ℕ) (e : Entry) → i ≡ length ls + j → IsEntryOf (first + length ls) hs j k e → IsEntryOf first (ls ++ hs) i k e
   entry_high i j k e d w = record { layer = omega (arith, w.layer); end = (w.end.0, get_high ls hs i j w.end.0 d w.end.1, w.end.2, w.end.3) }
 
-  uncut : (path : Path) → IsPlain path → ¬ IsCut hs path → (b : Bool) → cut_by (at_path high.marks) path ≡ b → b ≡ false
+  uncut : (path : Path) → IsPlain path → ¬ IsCut hs path → (b : Bool) → removes high path ≡ b → b ≡ false
   uncut path p c false e = refl
   uncut path p c true e = absurd (c ((h.cuts path).0 (rw ((plain_is path).1 p, e) refl)))
 
@@ -118,23 +117,23 @@ module _ (first : ℕ) (ls hs : List (List ℕ)) (low high out : TreeRows) (l : 
           → IsSomeAnd (entry_at out path) (λ e. IsEntryOf first (ls ++ hs) i k e)
       from_high path i j k e d f w =
           let g : entry_at out path ≡ Some e = lays.entries path
-          ∙ ap (laid_at upper (unless (cut_by (at_path high.marks) path) (entry_at low path))) f
-          ∙ over (unless (cut_by (at_path high.marks) path) (entry_at low path)) e in
+          ∙ ap (laid_at upper (unless (removes high path) (entry_at low path))) f
+          ∙ over (unless (removes high path) (entry_at low path)) e in
           and_some (IsEntryOf first (ls ++ hs) i k) (entry_at out path) e g (entry_high i j k e d w)
 
       from_low : (path : Path) (i k : ℕ) (e : Entry) → IsPlain path → IsFree hs path
           → entry_at low path ≡ Some e → IsEntryOf first ls i k e
           → IsSomeAnd (entry_at out path) (λ e. IsEntryOf first (ls ++ hs) i k e)
       from_low path i k e p free f w =
-          let c = uncut path p ((free_is hs path).0 free).1 (cut_by (at_path high.marks) path) refl in
+          let c = uncut path p ((free_is hs path).0 free).1 (removes high path) refl in
           let n = unshown path free (entry_at high path) refl in
           let g : entry_at out path ≡ Some e = lays.entries path
-          ∙ ap (laid_at upper (unless (cut_by (at_path high.marks) path) (entry_at low path))) n
+          ∙ ap (laid_at upper (unless (removes high path) (entry_at low path))) n
           ∙ ap (λ b. unless b (entry_at low path)) c ∙ f in
           and_some (IsEntryOf first (ls ++ hs) i k) (entry_at out path) e g (entry_low i k e w)
 
   decided : (path : Path) (e : Entry) (o p : Option Entry) (b : Bool) → entry_at high path ≡ o
-      → entry_at low path ≡ p → cut_by (at_path high.marks) path ≡ b → laid_at upper (unless b p) o ≡ Some e
+      → entry_at low path ≡ p → removes high path ≡ b → laid_at upper (unless b p) o ≡ Some e
       → (i k : ℕ) × Shows (ls ++ hs) path i k × IsEntryOf first (ls ++ hs) i k e
   decided path e (Some x) p b f g c r =
       let same : x ≡ e = over (unless b p) r in
@@ -155,7 +154,7 @@ module _ (first : ℕ) (ls hs : List (List ℕ)) (low high out : TreeRows) (l : 
       let w = l.only path e (g ∙ r) in
       let plain : IsPlain path = w.2.0 in
       let clear : ¬ IsCut hs path = λ x. (let t = (h.cuts path).1 x in
-      let u : (is_plain path && cut_by (at_path high.marks) path) ≡ true = t in
+      let u : (is_plain path && removes high path) ≡ true = t in
       let v = rw (c, (plain_is path).1 plain) at u in absurd (cc)) in
       let free : IsFree hs path = free_if hs path plain
       (λ i k s. (let y = some_and (IsEntryOf (first + length ls) hs i k) (entry_at high path)
@@ -163,9 +162,7 @@ module _ (first : ℕ) (ls hs : List (List ℕ)) (low high out : TreeRows) (l : 
       (w.0, w.1, (shows_joined ls hs path w.0 w.1).1 (inr (w.2, free)), entry_low w.0 w.1 e w.3)
 
   cuts_both : (path : Path) → cuts_at out path ≡ (cuts_at low path || cuts_at high path)
-  cuts_both path = ap (λ b. is_plain path && b) (cut_united (at_path out.marks) (at_path low.marks)
-      (at_path high.marks) lays.marks path) ∙ and_or (is_plain path) (cut_by (at_path low.marks) path)
-      (cut_by (at_path high.marks) path)
+  cuts_both path = ap (λ b. is_plain path && b) (lays.removed path) ∙ and_or (is_plain path) (removes low path) (removes high path)
 
   cuts_exactly : (path : Path) → IsTrue (cuts_at out path) ↔ IsCut (ls ++ hs) path
   cuts_exactly path = (
@@ -183,20 +180,34 @@ module _ (first : ℕ) (ls hs : List (List ℕ)) (low high out : TreeRows) (l : 
   tree_of_both = record {
     rising = lays.rising;
     shown = shows;
-    only = λ path e f. decided path e (entry_at high path) (entry_at low path) (cut_by (at_path high.marks) path) refl refl refl (sym (lays.entries path) ∙ f);
+    only = λ path e f. decided path e (entry_at high path) (entry_at low path) (removes high path) refl refl refl (sym (lays.entries path) ∙ f);
     cuts = cuts_exactly;
   }
 
--- kept entries covered by the upper ones, and united marks
-pub lays_of : (le he kept oe : Shoot Entry) (lm hm om : Shoot Mark) → IsKept le hm kept
-    → IsLaid upper kept he oe → IsLaid united lm hm om
+-- united marks of three trees cut what any of them cuts
+three_united : (lm hm rm am om : Shoot Mark) → IsLaid united rm hm am → IsLaid united lm am om → (path : Path)
+    → cut_by (at_path (whole om)) path
+    ≡ (cut_by (at_path (whole lm)) path || (cut_by (at_path (whole rm)) path || cut_by (at_path (whole hm)) path))
+three_united lm hm rm am om a m path =
+    cut_united (at_path (whole om)) (at_path (whole lm)) (at_path (whole am)) m.at path
+    ∙ ap (λ b. cut_by (at_path (whole lm)) path || b)
+    (cut_united (at_path (whole am)) (at_path (whole rm)) (at_path (whole hm)) a.at path)
+
+-- what the upper tree leaves of the lower entries covered by its own, and united marks
+pub lays_of : (le he one two oe : Shoot Entry) (lm hm hidden replaced am om : Shoot Mark)
+    → AreRootClashes mark_of he le hidden → AreRootClashes mark_of le he replaced → IsKept le hm one → IsKept one hidden two
+    → IsLaid upper two he oe → IsLaid united replaced hm am → IsLaid united lm am om
     → Lays (record { entries = whole le; marks = whole lm }) (record { entries = whole he; marks = whole hm })
     (record { entries = whole oe; marks = whole om })
-lays_of le he kept oe lm hm om k l m = record {
-  rising = l.rising.rises;
-  entries = λ path. l.at path ∙ ap (λ o. laid_at upper o (at_path (whole he) path)) (k.at path);
-  marks = m.at;
-}
+lays_of le he one two oe lm hm hidden replaced am om h r k l e a m =
+    let over = what_is_left (at_path (whole le)) (at_path (whole he)) (at_path (whole one)) (at_path (whole two))
+    (at_path (whole oe)) (at_path (whole hm)) (at_path (whole hidden)) k.at l.at e.at h.at in
+    record {
+      rising = e.rising.rises;
+      entries = over;
+      removed = what_both_remove (at_path (whole le)) (at_path (whole he)) (at_path (whole oe)) (at_path (whole lm))
+          (at_path (whole hm)) (at_path (whole replaced)) (at_path (whole om)) over (three_united lm hm replaced am om a m) r.at;
+    }
 
 -- no united mark cuts the root where neither does
 pub root_uncut : (lm hm om : Shoot Mark) → IsLaid united lm hm om → lm.value.cut ≡ false → hm.value.cut ≡ false → om.value.cut ≡ false
@@ -204,6 +215,13 @@ root_uncut lm hm om m e f =
     let s : Some om.value ≡ Some (united lm.value hm.value) = m.at [] in
     let v : om.value ≡ united lm.value hm.value = cc in
     ap (λ (x : Mark). x.cut) v ∙ rw (e, f) refl
+
+-- the root's entry is the upper tree's
+pub root_folder : (two he oe : Shoot Entry) → IsLaid upper two he oe → he.value.kind ≡ Directory → oe.value.kind ≡ Directory
+root_folder two he oe m k =
+    let s : Some oe.value ≡ Some he.value = m.at [] in
+    let v : oe.value ≡ he.value = cc in
+    ap (λ (x : Entry). x.kind) v ∙ k
 
 pub tree_if_ok : {E : Type 0} (first : ℕ) (ls hs : List (List ℕ)) (low high : TreeRows) (r : Result TreeRows E)
     → IfOk r (λ t. Lays low high t) → IsTreeOf first ls low → IsTreeOf (first + length ls) hs high

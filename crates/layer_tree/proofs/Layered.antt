@@ -1,8 +1,9 @@
 -- What one layer cuts and shows, by its directories.
-use Rattle.std.proofs.Common.{◌≡◌, ◌≢◌, sym, ap, subst, ℕ, ◌⊎◌, ◌↔◌, inl, inr, List, [], ◌∷◌, ◌++◌, refl, arith, Option, Some, None, Bool, true, false, IsTrue, IsSomeAnd, ◌&&◌}
+use Rattle.std.proofs.Common.{◌≡◌, ◌≢◌, ◌∙◌, sym, ap, subst, ℕ, ◌⊎◌, ◌↔◌, inl, inr, List, [], ◌∷◌, ◌++◌, refl, arith, Option, Some, None, Bool, true, false, IsTrue, IsSomeAnd, ◌&&◌}
 use Rattle.romfs_format.specs.declared.head.Kind.TheVariants.{Directory}
 use Rattle.romfs_format.specs.Fields.{root, kind, name}
 use Rattle.romfs_format.specs.Chains.{IsOpened, at_root, below, IsMember, Leads}
+use Rattle.romfs_format.specs.Links.{IsFinal, stays, follows}
 use Rattle.romfs_image.specs.Images.{IsImage}
 use Rattle.romfs_image.proofs.Keeps.{root_directory}
 use Rattle.stack_model.specs.Stack.{Path, IsPlain, marker, opaque, Cuts, Shows, IsCut}
@@ -10,10 +11,16 @@ use Rattle.stack_model.proofs.Joined.{alone}
 use Rattle.path_tree.specs.Rows.{Shoot, whole, at_path}
 use Rattle.layer_tree.specs.declared.place.Entry.{Entry}
 use Rattle.layer_tree.specs.declared.place.Mark.{Mark}
-use Rattle.layer_tree.specs.Marks.{cut_by, is_plain}
+use Rattle.layer_tree.specs.Marks.{covered_by, removed_by, is_plain}
 use Rattle.layer_tree.specs.Trees.{IsEntryOf, IsTreeOf}
-use Rattle.layer_tree.specs.Reading.{CutsFrom, CutsAt, IsEntryIn, IsBranchOf, IsMarkOf}
+use Rattle.layer_tree.specs.Reading.{CutsFrom, CutsAt, IsEntryIn, IsBranchOf, RemovesFrom}
 use Rattle.layer_tree.proofs.Plain.{plain_is}
+use Rattle.layer_tree.proofs.Removing.{or_left}
+
+-- hard links from a directory end there
+pub final_directory : (a : List ℕ) (h e : ℕ) → IsFinal a h e → kind a h ≡ Directory → kind a e ≡ Directory
+final_directory a h e (stays n) k = k
+final_directory a h e (follows l f) k = absurd (let m = l.1 in cc)
 
 -- one name more
 pub leads_on : (a : List ℕ) (d : ℕ) (q : Path) (e : ℕ) (n : List ℕ) (c : ℕ) → Leads a d q e → IsMember a e c → name a c ≡ Some n → Leads a d (q ++ n ∷ []) c
@@ -108,7 +115,7 @@ module _ (a : List ℕ) (i : IsImage a) where
         (c.0, (r.above, r.first, r.rest, r.is, ((r.inside.0, r.inside.1, opened_directory a i r.inside.2), r.removes)))),
   )
 
-  module _ (layer : ℕ) (e : Shoot Entry) (k : Shoot Mark) (b : IsBranchOf a layer (root a) e) (m : IsMarkOf a (root a) k) where
+  module _ (layer : ℕ) (e : Shoot Entry) (k : Shoot Mark) (b : IsBranchOf a layer (root a) e) (m : RemovesFrom a (root a) (at_path (whole k)) e) where
     in_run : (h : ℕ) (x : Entry) → IsEntryIn a layer h x → IsEntryOf layer (a ∷ []) 0 h x
     in_run h x w = record { layer = omega (arith, w.number); end = (a, refl, w.final, w.kind) }
 
@@ -130,13 +137,13 @@ module _ (a : List ℕ) (i : IsImage a) where
     root_cuts path (inl n) = absurd (n (root_directory a i))
     root_cuts path (inr c) = c
 
-    is_cut : (path : Path) → IsTrue (is_plain path && cut_by (at_path (whole k)) path) ↔ IsCut (a ∷ []) path
+    is_cut : (path : Path) → IsTrue (is_plain path && removed_by (at_path (whole k)) (at_path (whole e)) path) ↔ IsCut (a ∷ []) path
     is_cut path = (
-      λ t. (let p = both (is_plain path) (cut_by (at_path (whole k)) path) t in
+      λ t. (let p = both (is_plain path) (removed_by (at_path (whole k)) (at_path (whole e)) path) t in
           let plain = (plain_is path).0 p.0 in
-          inl ((cuts_is path).1 (plain, root_cuts path ((m.exact path plain).0 p.1)))),
+          inl ((cuts_is path).1 (plain, root_cuts path ((m path plain).0 p.1)))),
       λ c. elim c [
-        | inl x ↦ (let y = (cuts_is path).0 x in rw ((plain_is path).1 y.0) ((m.exact path y.0).1 (inr y.1)))
+        | inl x ↦ (let y = (cuts_is path).0 x in rw ((plain_is path).1 y.0) ((m path y.0).1 (inr y.1)))
         | inr x ↦ absurd x
       ],
     )
@@ -145,13 +152,17 @@ module _ (a : List ℕ) (i : IsImage a) where
         both true q t = (refl, t)
         both false q t = absurd (cc)
 
+    -- the root's entry is a directory
+    pub root_stays : e.value.kind ≡ Directory
+    root_stays = let w = b.shown [] (root a) tt refl in w.kind ∙ final_directory a (root a) e.value.place.header w.final (root_directory a i)
+
     -- no mark cuts the root
     pub root_kept : k.value.cut ≡ false
     root_kept = by k.value.cut refl
       where
         by : (c : Bool) → k.value.cut ≡ c → c ≡ false
-        by false e = refl
-        by true e = absurd (root_cuts [] ((m.exact [] tt).0 e))
+        by false f = refl
+        by true f = absurd (root_cuts [] ((m [] tt).0 (or_left k.value.cut (covered_by (at_path (whole e)) []) f)))
 
     pub tree_of_layer : IsTreeOf layer (a ∷ []) (record { entries = whole e; marks = whole k })
     tree_of_layer = record { rising = b.rising.rises; shown = is_shown; only = is_only; cuts = is_cut }

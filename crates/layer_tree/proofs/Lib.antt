@@ -2,6 +2,8 @@ pub mod Cutting
 pub mod Listed
 pub mod Plain
 pub mod Stepping
+pub mod Removing
+pub mod Clashing
 pub mod Joining
 pub mod Keyed
 pub mod ByName

@@ -6,14 +6,13 @@ use Rattle.romfs_format.specs.declared.head.Kind.{Kind}
 use Rattle.romfs_format.specs.declared.head.Kind.TheVariants.{HardLink, Directory, Regular, SymLink, Block, Character, Socket, Fifo}
 use Rattle.romfs_format.specs.Fields.{root, kind}
 use Rattle.romfs_format.specs.Chains.{Has}
-use Rattle.romfs_format.specs.Links.{IsFinal, stays, follows}
 use Rattle.romfs_image.specs.Images.{IsImage}
 use Rattle.romfs_image.proofs.Keeps.{root_directory}
 use Rattle.romfs_image.proofs.Paths.{one_header}
 use Rattle.stack_model.specs.Stack.{Path, IsPlain, IsIn, HasDirectory, Cuts, IsFree, IsTop}
 use Rattle.layer_tree.specs.declared.place.Entry.{Entry}
 use Rattle.layer_tree.specs.Trees.{TreeRows, entry_at, IsEntryOf, IsTreeOf}
-use Rattle.layer_tree.proofs.Layered.{last_member, opened_directory}
+use Rattle.layer_tree.proofs.Layered.{final_directory, last_member, opened_directory}
 
 abbrev pub AreImages : List (List ℕ) → Type 0
 AreImages layers = AllByRecursion IsImage layers
@@ -79,10 +78,6 @@ gap (a ∷ above) im q n zero h p t none = let d = above_has a im.0 q n (h, t.0)
         let up = free run im.1 (λ j g u. none (suc j) g u) f.1 in
         ((λ x. none zero x.0 (x.1, up), λ x. f.0.1 (longer_cut c q n p x)), up)
 gap (a ∷ above) im q n (suc i) h p t none = gap above im.1 q n i h p t (λ j g u. none (suc j) g u)
-
-final_directory : (a : List ℕ) (h e : ℕ) → IsFinal a h e → kind a h ≡ Directory → kind a e ≡ Directory
-final_directory a h e (stays n) k = k
-final_directory a h e (follows l f) k = absurd (let m = l.1 in cc)
 
 pub is_directory_or_not : (k : Kind) → (k ≡ Directory) ⊎ (k ≢ Directory)
 is_directory_or_not Directory = inl refl

@@ -139,6 +139,17 @@ module _ {T : Type 0} (marks : List (Shoot Mark)) where
 pub no_marks : {T : Type 0} (ls : List (Shoot T)) → IsForest ls → AreKept ls [] ls
 no_marks ls f = record { forest = f; at = λ n p. rw (nothing_cut p) refl }
 
+not_less : (a b : List ℕ) → name_cmp a b ≡ Less → name_cmp b a ≢ Less
+not_less a b f g = not_below_itself a (nat_list_cmp_total.trans a b a f g)
+
+-- what was the same for later names is so when branches before one name are passed over
+pub still_same : {T U : Type 0} (name : List ℕ) (rest rest' all : List (Shoot U)) → IsFrom name rest rest' → (ls : List (Shoot T))
+    → AllByRecursion (λ t. name_cmp name t.name ≡ Less) ls
+    → AllByRecursion (λ k. named k.name rest ≡ named k.name all) ls
+    → AllByRecursion (λ k. named k.name rest' ≡ named k.name all) ls
+still_same name rest rest' all from [] a s = tt
+still_same name rest rest' all from (k ∷ ks) a s = (from.same k.name (not_less name k.name a.0) ∙ s.0, still_same name rest rest' all from ks a.1 s.1)
+
 -- lows are gone through up to ls, with the marks up to rest
 pub record Keeping {T : Type 0} (lows ls out : List (Shoot T)) (marks rest : List (Shoot Mark)) : Type 0 where
   pub kept : (more : List (Shoot T)) → Keeps marks ls more → Keeps marks lows (out ++ more)
@@ -177,20 +188,11 @@ module _ {T : Type 0} (lows L L' out : List (Shoot T)) (marks rest rest' : List 
         (λ ls. AllByRecursion (λ k. named k.name rest ≡ named k.name marks) ls) turned inv.same in
         from.same l.name (not_below_itself l.name) ∙ s.0
 
-    not_less : (a b : List ℕ) → name_cmp a b ≡ Less → name_cmp b a ≢ Less
-    not_less a b f g = not_below_itself a (nat_list_cmp_total.trans a b a f g)
-
-    later : (ls : List (Shoot T)) → AllByRecursion (λ t. name_cmp l.name t.name ≡ Less) ls
-        → AllByRecursion (λ k. named k.name rest ≡ named k.name marks) ls
-        → AllByRecursion (λ k. named k.name rest' ≡ named k.name marks) ls
-    later [] a s = tt
-    later (k ∷ ks) a s = (from.same k.name (not_less l.name k.name a.0) ∙ s.0, later ks a.1 s.1)
-
     all_later : AllByRecursion (λ k. named k.name rest' ≡ named k.name marks) (reverse L')
     all_later =
         let s : AllByRecursion (λ k. named k.name rest ≡ named k.name marks) (l ∷ reverse L') = subst
         (λ ls. AllByRecursion (λ k. named k.name rest ≡ named k.name marks) ls) turned inv.same in
-        later (reverse L') rises.0 s.1
+        still_same l.name rest rest' marks from (reverse L') rises.0 s.1
 
     shorter : length (spread (reverse L')) ≤ length (spread lows)
     shorter = let s = rw turned at inv.smaller in omega (arith, grown l (reverse L'), s)

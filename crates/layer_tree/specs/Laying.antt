@@ -1,14 +1,14 @@
--- A tree laid on a tree: the upper one's marks leave out entries of the lower one, its entries cover what is left, and
--- the marks are united.
-use Rattle.std.specs.Prelude.{◌≡◌, ◌≢◌, ℕ, List, [], ◌∷◌, Bool, true, ◌||◌, Option, None, MatchOption, if◌then◌else◌}
+-- A tree laid on a tree: the upper one leaves out entries of the lower one, its entries cover what is left, and the
+-- marks are united, with marks for what the upper one's directories cover of the lower one's files.
+use Rattle.std.specs.Prelude.{◌≡◌, ◌≢◌, ℕ, ◌⊎◌, List, [], ◌∷◌, ◌++◌, Bool, true, false, not, ◌||◌, Option, Some, None, MatchOption, if◌then◌else◌}
 use Rattle.path_tree.specs.Rows.{Shoot, name_cmp, named, NamesRise, spread, whole, at_path, IsRising, IsForest, PathsRise}
 use Rattle.std.specs.declared.cmp.Ordering.TheVariants.{Less}
 use Rattle.path_tree.specs.Laying.{laid_at}
 use Rattle.stack_model.specs.Stack.{Path}
 use Rattle.layer_tree.specs.declared.place.Entry.{Entry}
 use Rattle.layer_tree.specs.declared.place.Mark.{Mark}
-use Rattle.layer_tree.specs.Marks.{cut_by}
-use Rattle.layer_tree.specs.Trees.{TreeRows, entry_at}
+use Rattle.layer_tree.specs.Marks.{cuts_itself, cut_by, marked}
+use Rattle.layer_tree.specs.Trees.{TreeRows, entry_at, removes}
 
 -- the value, unless it is cut
 abbrev pub unless : {T : Type 0} → Bool → Option T → Option T
@@ -52,10 +52,54 @@ pub record Lays (low high out : TreeRows) : Type 0 where
   pub rising : PathsRise out.entries
   pub entries : (path : Path)
       → entry_at out path
-      ≡ laid_at upper (unless (cut_by (at_path high.marks) path) (entry_at low path))
-      (entry_at high path)
-  pub marks : (path : Path)
-      → at_path out.marks path ≡ laid_at united (at_path low.marks path) (at_path high.marks path)
+      ≡ laid_at upper (unless (removes high path) (entry_at low path)) (entry_at high path)
+  pub removed : (path : Path) → removes out path ≡ (removes low path || removes high path)
+
+-- whether something stands there that does not cut itself
+abbrev pub is_uncut : Option Mark → Bool
+is_uncut None = false
+is_uncut (Some m) = not m.cut
+
+-- the branch cuts itself and has nothing below it
+pub record IsBare {T : Type 0} (m : T → Mark) (s : Shoot T) : Type 0 where
+  pub itself : (m s.value).cut ≡ true
+  pub nothing : s.below ≡ []
+
+-- nothing but what cuts itself stands at the path, and nothing below it
+pub record IsLeafAt (others : Path → Option Mark) (path : Path) : Type 0 where
+  pub itself : is_uncut (others path) ≡ false
+  pub below : (n : List ℕ) (q : Path) → others (path ++ n ∷ q) ≡ None
+
+-- marks of the paths at which the first of two trees cuts itself, and the other does not or has something below: they
+-- cut nothing but what the first cuts, and all of it where the other has more than leaves
+pub record Clash (files others marks : Path → Option Mark) : Type 0 where
+  pub sound : (path : Path) → cut_by marks path ≡ true → cut_by files path ≡ true
+  pub whole : (path : Path) → cuts_itself (files path) ≡ true
+      → (cut_by marks path ≡ true) ⊎ IsLeafAt others path
+
+-- the same of the branches of two directories
+pub record AreClashes {T : Type 0} (m : T → Mark) (files others : List (Shoot T))
+    (marks : List (Shoot Mark)) : Type 0 where
+  pub forest : IsForest marks
+  pub at : (n : List ℕ) → Clash (λ q. marked m (spread files) (n ∷ q))
+      (λ q. marked m (spread others) (n ∷ q)) (λ q. at_path (spread marks) (n ∷ q))
+
+-- the mark is that of all clashes of two branches
+pub record IsClashMark {T : Type 0} (m : T → Mark) (file other : Shoot T) (mark : Shoot Mark) : Type 0 where
+  pub name : mark.name ≡ file.name
+  pub rising : IsRising mark
+  pub at : Clash (marked m (whole file)) (marked m (whole other)) (at_path (whole mark))
+
+-- the same of a mark that there may be
+abbrev pub HasClash : {T : Type 0} → (T → Mark) → Shoot T → Shoot T → Option (Shoot Mark) → Type 0
+HasClash m file other mark = MatchOption mark
+    (Clash (marked m (whole file)) (marked m (whole other)) (λ q. None))
+    (λ k. IsClashMark m file other k)
+
+-- the same of two roots: no mark cuts the root itself
+pub record AreRootClashes {T : Type 0} (m : T → Mark) (file other : Shoot T) (mark : Shoot Mark) : Type 0 where
+  pub uncut : mark.value.cut ≡ false
+  pub at : Clash (marked m (whole file)) (marked m (whole other)) (at_path (whole mark))
 
 -- no branch has a name that comes before this one
 abbrev pub NoneBefore : {T : Type 0} → List ℕ → List (Shoot T) → Type 0

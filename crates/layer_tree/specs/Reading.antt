@@ -1,5 +1,5 @@
 -- One layer read as a tree: what stands at and below a header, and what is cut there.
-use Rattle.std.specs.Prelude.{◌≡◌, ◌≢◌, ℕ, ◌+◌, ◌⊎◌, ◌↔◌, List, [], ◌∷◌, ◌++◌, length, true, Some, IsSomeAnd, IsTrue, slice_get, codes}
+use Rattle.std.specs.Prelude.{◌≡◌, ◌≢◌, ℕ, ◌+◌, ◌⊎◌, ◌↔◌, List, [], ◌∷◌, ◌++◌, length, true, false, Option, Some, None, MatchOption, IsSomeAnd, IsTrue, slice_get, codes}
 use Rattle.std.specs.List.{AllByRecursion}
 use Rattle.std.specs.declared.cmp.Ordering.TheVariants.{Less}
 use Rattle.romfs_format.specs.declared.head.Kind.TheVariants.{Directory}
@@ -13,7 +13,7 @@ use Rattle.path_tree.specs.Rows.{Shoot, name_cmp, whole, at_path, IsRising}
 use Rattle.layer_tree.specs.declared.place.Entry.{Entry}
 use Rattle.layer_tree.specs.declared.place.Mark.{Mark}
 use Rattle.layer_tree.specs.declared.members.Named.{Named}
-use Rattle.layer_tree.specs.Marks.{cut_by}
+use Rattle.layer_tree.specs.Marks.{removed_by}
 
 -- the member comes before the other one by its name
 abbrev pub IsBefore : Named → Named → Type 0
@@ -75,30 +75,52 @@ pub record IsBranchOf (a : List ℕ) (layer h : ℕ) (b : Shoot Entry) : Type 0 
   pub only : (path : Path) (entry : Entry) → at_path (whole b) path ≡ Some entry
       → IsPlain path × ((g : ℕ) × Leads a h path g × IsEntryIn a layer g entry)
 
--- the branch has the marks of all that is cut from the header h
-pub record IsMarkOf (a : List ℕ) (h : ℕ) (b : Shoot Mark) : Type 0 where
-  pub rising : IsRising b
-  pub exact : (path : Path) → IsPlain path
-      → IsTrue (cut_by (at_path (whole b)) path) ↔ CutsAt a h path
+-- marks and entries remove what the layer cuts from the header h
+abbrev pub RemovesFrom : List ℕ → ℕ → (Path → Option Mark) → Shoot Entry → Type 0
+RemovesFrom a h marks e = (path : Path) → IsPlain path
+    → IsTrue (removed_by marks (at_path (whole e)) path) ↔ CutsAt a h path
 
--- both, with the name n
+-- the branch of the header h with the name n, which needs no mark
+pub record IsBranchAlone (a : List ℕ) (layer h : ℕ) (n : List ℕ) (e : Shoot Entry) : Type 0 where
+  pub name : e.name ≡ n
+  pub entries : IsBranchOf a layer h e
+  pub exact : RemovesFrom a h (λ q. None) e
+
+-- the branch of the header h and its mark, with the name n
 pub record AreBranchesOf (a : List ℕ) (layer h : ℕ) (n : List ℕ) (e : Shoot Entry)
     (k : Shoot Mark) : Type 0 where
   pub entry_name : e.name ≡ n
   pub mark_name : k.name ≡ n
   pub entries : IsBranchOf a layer h e
-  pub marks : IsMarkOf a h k
+  pub rising : IsRising k
+  pub exact : RemovesFrom a h (at_path (whole k)) e
 
--- the two that are made of the header h under the name n
-abbrev pub IsMadeOf : List ℕ → ℕ → ℕ → List ℕ → (Shoot Entry × Shoot Mark) → Type 0
-IsMadeOf a layer h n made = AreBranchesOf a layer h n made.0 made.1
+-- both are made of the header h under the name n
+abbrev pub AreMadeOf : List ℕ → ℕ → ℕ → List ℕ → (Shoot Entry × Shoot Mark) → Type 0
+AreMadeOf a layer h n made = AreBranchesOf a layer h n made.0 made.1
 
--- members that are no markers have become branches of entries and of marks
+-- the same, with a mark where one is needed
+abbrev pub IsMadeOf : List ℕ → ℕ → ℕ → List ℕ → (Shoot Entry × Option (Shoot Mark)) → Type 0
+IsMadeOf a layer h n made =
+    MatchOption made.1 (IsBranchAlone a layer h n made.0) (λ k. AreBranchesOf a layer h n made.0 k)
+
+-- the mark cuts nothing, and has nothing below
+pub record IsBlank (k : Shoot Mark) : Type 0 where
+  pub uncut : k.value.cut ≡ false
+  pub clear : k.value.opaque ≡ false
+  pub nothing : k.below ≡ []
+
+-- members that are no markers have become branches of entries, and of marks where they need one
 pub data AreBuilt (a : List ℕ) (layer : ℕ) : List Named → List (Shoot Entry) → List (Shoot Mark)
     → Type 0 where
   none_built : AreBuilt a layer [] [] []
   hidden : (m : Named) (ms : List Named) (es : List (Shoot Entry)) (ks : List (Shoot Mark))
       → IsMarker m.name.now → AreBuilt a layer ms es ks → AreBuilt a layer (m ∷ ms) es ks
+  alone : (m : Named) (ms : List Named) (e : Shoot Entry) (es : List (Shoot Entry))
+      (ks : List (Shoot Mark))
+      → ¬ IsMarker m.name.now → IsBranchAlone a layer m.head.offset m.name.now e
+      → AreBuilt a layer ms es ks
+      → AreBuilt a layer (m ∷ ms) (e ∷ es) ks
   built : (m : Named) (ms : List Named) (e : Shoot Entry) (es : List (Shoot Entry))
       (k : Shoot Mark) (ks : List (Shoot Mark))
       → ¬ IsMarker m.name.now → AreBranchesOf a layer m.head.offset m.name.now e k

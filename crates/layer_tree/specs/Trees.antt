@@ -7,7 +7,7 @@ use Rattle.stack_model.specs.Listing.{Entry as Listed}
 use Rattle.path_tree.specs.Rows.{Shoot, spread, at_path, PathsRise, IsForest}
 use Rattle.layer_tree.specs.declared.place.Entry.{Entry}
 use Rattle.layer_tree.specs.declared.place.Mark.{Mark}
-use Rattle.layer_tree.specs.Marks.{cut_by, is_plain}
+use Rattle.layer_tree.specs.Marks.{removed_by, is_plain}
 
 -- a tree: the entries and the marks by their paths
 pub record TreeRows : Type 0 where
@@ -18,9 +18,13 @@ pub record TreeRows : Type 0 where
 abbrev pub entry_at : TreeRows → Path → Option Entry
 entry_at t path = at_path t.entries path
 
+-- whether marks of the tree, or entries that are no directories, remove the path from what lies below
+abbrev pub removes : TreeRows → Path → Bool
+removes t path = removed_by (at_path t.marks) (at_path t.entries) path
+
 -- whether the tree removes the path from what lies below; never a path with a marker's name
 abbrev pub cuts_at : TreeRows → Path → Bool
-cuts_at t path = is_plain path && cut_by (at_path t.marks) path
+cuts_at t path = is_plain path && removes t path
 
 -- the children of a directory, in the order of their names, with all that is below them
 pub record AreChildren (t : TreeRows) (path : Path) (children : List (Shoot Entry)) : Type 0 where

@@ -1,14 +1,15 @@
 //! A tree laid on a tree.
 //!
-//! The marks of the upper tree leave out what they cut of the lower one's entries, its entries cover what is left,
-//! and the marks of both are united: an entry that is no directory has left a cut mark, so what lies below a file
-//! is gone before the file is laid on it.
+//! What the upper tree removes is left out of the lower one's entries: what its marks cut, and what lies below its
+//! files. Its entries cover what is left. The marks of both are united, with a mark for each file of the lower tree on
+//! which the upper one lays a directory (`clashes`), since what that file cuts is cut by the run of both.
 
 ghost use Rattle.std.specs.Prelude.{◌≡◌, ◌+◌, ◌++◌, ℕ, List, length, IfOk, false};
 ghost use Rattle.path_tree.specs.Rows.{NamesRise, IsForest, IsFirstNamed};
 ghost use Rattle.layer_tree.specs.Trees.{IsTreeOf};
 ghost use Rattle.layer_tree.specs.Laying.{AreKept, IsKept, IsLeft, IsFrom, NoneBefore, Lays};
 
+use crate::clashes::clashes;
 use crate::place::{Entry, Mark};
 use crate::tree::Tree;
 use path_tree::{Branch, Lay, cover};
@@ -41,7 +42,7 @@ impl Lay for Mark {
 }
 
 /// The branches of which the first's name is the first that does not come before a name.
-fn from_name<'a, T: Copy + Drop, A: Allocator>(
+pub(crate) fn from_name<'a, T: Copy + Drop, A: Allocator>(
     branches: &'a [Branch<T, A>],
     name: &[u8],
 ) -> &'a [Branch<T, A>]
@@ -59,7 +60,7 @@ fn from_name<'a, T: Copy + Drop, A: Allocator>(
 }
 
 /// The first branch, if it has the name.
-fn first_named<'a, T: Copy + Drop, A: Allocator>(
+pub(crate) fn first_named<'a, T: Copy + Drop, A: Allocator>(
     branches: &'a [Branch<T, A>],
     name: &[u8],
 ) -> Option<&'a Branch<T, A>>
@@ -145,9 +146,13 @@ fn kept_inside<T: Copy + Drop, A: Allocator + Copy>(
 fn laid<A: Allocator + Copy>(alloc: A, low: Tree<A>, high: Tree<A>) -> Result<Tree<A>, AllocError>
     ensures { IfOk result (λ tree. Lays low high tree) }
 {
-    let kept = kept_inside(alloc, low.entries, &high.marks)?;
+    let hidden = clashes(alloc, &high.entries, &low.entries)?;
+    let replaced = clashes(alloc, &low.entries, &high.entries)?;
+    let unmarked = kept_inside(alloc, low.entries, &high.marks)?;
+    let kept = kept_inside(alloc, unmarked, &hidden)?;
     let entries = cover(alloc, kept, high.entries)?;
-    let marks = cover(alloc, low.marks, high.marks)?;
+    let above = cover(alloc, replaced, high.marks)?;
+    let marks = cover(alloc, low.marks, above)?;
     Ok(Tree { entries, marks })
 }
 

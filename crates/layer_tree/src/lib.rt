@@ -1,8 +1,9 @@
 //! Layers as trees: what a run of layers shows, and what it removes from those below it.
 //!
 //! A tree has two parts, both of one kind ([`path_tree::Branch`]): its entries and its marks, each at a path. An
-//! entry has the kind and the place of what a path shows. A mark cuts its path with all below it, or all below it
-//! alone; whiteouts leave marks, and so does each entry that is no directory.
+//! entry has the kind and the place of what a path shows. An entry that is no directory cuts its path with all below
+//! it from the layers below, and so do marks, or all below their path alone. Whiteouts leave marks, and so does a file
+//! on which a directory of an upper layer was laid; other paths need none.
 //!
 //! One relation says what a tree is, for any run of adjacent layers (`IsTreeOf` in `specs/Trees.antt`): it has an
 //! entry exactly at each path that the run shows, and it cuts exactly what the run cuts. [`Tree::of`] gives the
@@ -13,6 +14,7 @@
 //! show.
 #![tactic(auto)]
 
+mod clashes;
 pub mod laws;
 mod laying;
 mod members;

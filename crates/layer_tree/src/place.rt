@@ -1,5 +1,8 @@
 //! What stands at a path: an entry with its place, or a mark.
 
+ghost use Rattle.std.specs.Prelude.{◌≡◌};
+ghost use Rattle.stack_model.specs.Attributes.{is_directory};
+
 use romfs_format::Kind;
 
 /// Where an entry stands: a layer, counted from 0, the lowest, and the offset of a header in its image, after hard
@@ -18,6 +21,13 @@ pub struct Entry {
     pub place: Place,
 }
 
+/// Whether the kind is a directory's.
+pub(crate) fn is_directory(kind: Kind) -> bool
+    ensures { result ≡ is_directory kind }
+{
+    kind == Kind::Directory
+}
+
 /// What layers remove from those below them (OCI image specification, layer chapter, "Whiteouts").
 #[derive(Clone, Copy, Debug, PartialEq, Eq, Drop)]
 pub struct Mark {
@@ -25,4 +35,36 @@ pub struct Mark {
     pub cut: bool,
     /// All that is below the path.
     pub opaque: bool,
+}
+
+/// What removes its path, or what is below it.
+pub(crate) trait Cuts: Copy + Drop {
+    ghost use Rattle.layer_tree.specs.declared.place.Mark.{Mark};
+
+    ghost removed: { Self → Mark };
+
+    /// What it removes.
+    fn mark(self) -> Mark
+        ensures { result ≡ removed self };
+}
+
+impl Cuts for Mark {
+    ghost removed = { λ m. m };
+
+    fn mark(self) -> Mark {
+        self
+    }
+}
+
+impl Cuts for Entry {
+    ghost use Rattle.layer_tree.specs.Marks.{mark_of};
+
+    ghost removed = { mark_of };
+
+    fn mark(self) -> Mark {
+        Mark {
+            cut: !is_directory(self.kind),
+            opaque: false,
+        }
+    }
 }

@@ -1,18 +1,18 @@
 //! One layer read as a tree.
 //!
-//! A directory's members are sorted by name once. Those that are no markers become branches of entries, and of marks:
-//! an entry that is no directory is a cut mark. Markers become marks of what their names say, and these are laid on
-//! the others. A marker of the whole directory makes its own mark opaque.
+//! A directory's members are sorted by name once. Those that are no markers become branches of entries. Markers
+//! become marks of what their names say, and these are laid on those of the directories below. A marker of the whole
+//! directory makes its own mark opaque. A directory with no marker at all has no mark, but for the root.
 //!
 //! It takes n log n steps in the members of the layer and the hard links that they lead to: ends of hard links
 //! that were found are kept while the tree is made.
 
-ghost use Rattle.std.specs.Prelude.{◌≡◌, ◌≢◌, [], ◌∷◌, IfOk, is_some};
+ghost use Rattle.std.specs.Prelude.{◌≡◌, ◌≢◌, [], ◌∷◌, IfOk, IsTrue, MatchOption, is_some};
 ghost use Rattle.romfs_image.specs.Images.{IsImage};
 ghost use Rattle.romfs_image.specs.Readers.{IsGiven};
 ghost use Rattle.layer_tree.specs.Trees.{IsTreeOf};
 ghost use Rattle.path_tree.specs.Rows.{NamesRise, named};
-ghost use Rattle.layer_tree.specs.Reading.{IsAtDepth, IsEntryIn, AreByName, IsMadeOf, AreBuilt, AreWhiteouts, AreMembersAt, rest_of_opaque};
+ghost use Rattle.layer_tree.specs.Reading.{IsAtDepth, IsBranchAlone, AreByName, AreMadeOf, IsMadeOf, IsBlank, AreBuilt, AreWhiteouts, AreMembersAt, rest_of_opaque};
 
 use crate::members::{Named, is_marker, sorted_members, whiteout_of};
 use crate::place::{Entry, Mark, Place};
@@ -26,8 +26,14 @@ use std::alloc::{AllocError, Allocator};
 const WHOLE: &[u8; 8] = b".wh..opq";
 
 /// The mark of a path that is cut.
-const CUT: Mark = Mark {
+pub(crate) const CUT: Mark = Mark {
     cut: true,
+    opaque: false,
+};
+
+/// The mark of a path that is not cut, where one below it may be.
+pub(crate) const UNCUT: Mark = Mark {
+    cut: false,
     opaque: false,
 };
 
@@ -48,21 +54,21 @@ impl<A: Allocator + Copy> Tree<A> {
         ensures { IfOk result (λ tree. IsTreeOf layer (image.now ∷ []) tree) }
     {
         let mut ends = image.ends(alloc);
-        let (entries, marks) = branches_of(
+        let (entries, marks) = directory(
             alloc,
             image,
             &mut ends,
             layer,
             &[],
-            image.root(),
+            &image.root(),
             MAX_NAMES,
         )?;
         Ok(Tree { entries, marks })
     }
 }
 
-/// What stands at a header and below it, and what is cut there, under a name. A path to the header has `left` names
-/// less than [`MAX_NAMES`].
+/// What stands at a header and below it, and what is cut there, under a name; no mark where none is needed. A path to
+/// the header has `left` names less than [`MAX_NAMES`].
 #[cycle(reading)]
 fn branches_of<A: Allocator + Copy>(
     alloc: A,
@@ -70,24 +76,61 @@ fn branches_of<A: Allocator + Copy>(
     ends: &mut Ends<'_, A>,
     layer: u16,
     name: &[u8],
-    head: Head,
+    head: &Head,
     left: u16,
-) -> Result<(Child<A>, Branch<Mark, A>), AllocError>
+) -> Result<(Child<A>, Option<Branch<Mark, A>>), AllocError>
     requires sound { IsImage image.now }
     requires ends { ends.old ≡ image.now }
-    requires given { IsGiven image.now head }
-    requires depth { IsAtDepth image.now head.offset left }
-    ensures made { IfOk result (IsMadeOf image.now layer head.offset name.now) }
+    requires given { IsGiven image.now head.now }
+    requires depth { IsAtDepth image.now head.now.offset left }
+    ensures made { IfOk result (IsMadeOf image.now layer head.now.offset name.now) }
     ensures ends { ends.new ≡ image.now }
 {
     match head.kind {
         Kind::Directory => {
-            let members = sorted_members(alloc, image, &head)?;
-            let below = branches_below(alloc, image, ends, layer, &members, left)?;
-            folder(alloc, image, layer, name, &head, &members, below)
+            let (entry, mark) = directory(alloc, image, ends, layer, name, head, left)?;
+            Ok((entry, needed(mark)))
         }
-        _ => file(alloc, image, ends, layer, name, &head),
+        _ => Ok((file(alloc, image, ends, layer, name, head)?, None)),
     }
+}
+
+/// A directory and its mark.
+#[cycle(reading)]
+fn directory<A: Allocator + Copy>(
+    alloc: A,
+    image: &Image<A>,
+    ends: &mut Ends<'_, A>,
+    layer: u16,
+    name: &[u8],
+    head: &Head,
+    left: u16,
+) -> Result<(Child<A>, Branch<Mark, A>), AllocError>
+    requires sound { IsImage image.now }
+    requires ends { ends.old ≡ image.now }
+    requires given { IsGiven image.now head.now }
+    requires directory { head.now.kind ≡ Kind.Directory }
+    requires depth { IsAtDepth image.now head.now.offset left }
+    ensures made { IfOk result (AreMadeOf image.now layer head.now.offset name.now) }
+    ensures ends { ends.new ≡ image.now }
+{
+    let members = sorted_members(alloc, image, head)?;
+    let below = branches_below(alloc, image, ends, layer, &members, left)?;
+    folder(alloc, image, layer, name, head, &members, below)
+}
+
+/// The mark, if it or one below it cuts anything.
+fn needed<A: Allocator>(mark: Branch<Mark, A>) -> Option<Branch<Mark, A>>
+    ensures { MatchOption result (IsBlank mark) (λ same. same ≡ mark) }
+{
+    if is_blank(&mark) { None } else { Some(mark) }
+}
+
+/// Whether neither the mark nor one below it cuts anything.
+fn is_blank<A: Allocator>(mark: &Branch<Mark, A>) -> bool
+    ensures { IsTrue result → IsBlank mark.now }
+{
+    !mark.value().cut && !mark.value().opaque && mark.children().is_empty()
 }
 
 /// The branches of members that are no markers, in the same order.
@@ -108,7 +151,7 @@ fn branches_below<A: Allocator + Copy>(
     ensures ends { ends.new ≡ image.now }
 {
     let mut entries = Vec::with_capacity(alloc, members.len())?;
-    let mut marks = Vec::with_capacity(alloc, members.len())?;
+    let mut marks = Vec::new(alloc);
     for member in members {
         if is_marker(member.name) {
             continue;
@@ -119,11 +162,13 @@ fn branches_below<A: Allocator + Copy>(
             ends,
             layer,
             member.name,
-            member.head,
+            &member.head,
             left - 1,
         )?;
         entries.push(entry)?;
-        marks.push(mark)?;
+        if let Some(mark) = mark {
+            marks.push(mark)?;
+        }
     }
     Ok(Branches { entries, marks })
 }
@@ -144,7 +189,7 @@ fn entry_at(layer: u16, end: &Head) -> Entry
     }
 }
 
-/// An entry that is no directory, and its cut mark.
+/// An entry that is no directory; it needs no mark.
 fn file<A: Allocator + Copy>(
     alloc: A,
     image: &Image<A>,
@@ -152,19 +197,18 @@ fn file<A: Allocator + Copy>(
     layer: u16,
     name: &[u8],
     head: &Head,
-) -> Result<(Child<A>, Branch<Mark, A>), AllocError>
+) -> Result<Child<A>, AllocError>
     requires sound { IsImage image.now }
     requires ends { ends.old ≡ image.now }
     requires given { IsGiven image.now head.now }
     requires other { head.now.kind ≢ Kind.Directory }
-    ensures made { IfOk result (IsMadeOf image.now layer head.now.offset name.now) }
+    ensures made { IfOk result (IsBranchAlone image.now layer head.now.offset name.now) }
     ensures ends { ends.new ≡ image.now }
 {
     let end = ends.target(head)?;
     let entry = entry_at(layer, &end);
-    let entry_name = Name::of(alloc, name)?;
-    let mark_name = Name::of(alloc, name)?;
-    Ok((leaf(alloc, entry_name, entry), leaf(alloc, mark_name, CUT)))
+    let own_name = Name::of(alloc, name)?;
+    Ok(leaf(alloc, own_name, entry))
 }
 
 /// A directory, and its mark, over the branches of its members.
@@ -182,7 +226,7 @@ fn folder<A: Allocator + Copy>(
     requires directory { head.now.kind ≡ Kind.Directory }
     requires members { AreByName image.now head.now.offset members.now }
     requires below { AreBuilt image.now layer members.now below.entries.items below.marks.items }
-    ensures { IfOk result (IsMadeOf image.now layer head.now.offset name.now) }
+    ensures { IfOk result (AreMadeOf image.now layer head.now.offset name.now) }
 {
     let entry = entry_at(layer, head);
     let entry_name = Name::of(alloc, name)?;
@@ -222,7 +266,7 @@ fn whiteouts_of<A: Allocator + Copy>(
 }
 
 /// A branch with nothing below.
-fn leaf<T: Copy + Drop, A: Allocator>(alloc: A, name: Name<A>, value: T) -> Branch<T, A>
+pub(crate) fn leaf<T: Copy + Drop, A: Allocator>(alloc: A, name: Name<A>, value: T) -> Branch<T, A>
     ensures { result ≡ record { name = name; value = value; below = [] } }
 {
     Branch::new(name, value, Vec::new(alloc))

@@ -2,11 +2,11 @@
 
 ghost use Rattle.std.specs.Prelude.{◌≡◌, map};
 ghost use Rattle.path_tree.specs.Rows.{whole, at_path};
-ghost use Rattle.layer_tree.specs.Marks.{cut_by, is_plain};
+ghost use Rattle.layer_tree.specs.Marks.{cut_by, marked, is_plain};
 ghost use Rattle.layer_tree.specs.Trees.{entry_at, cuts_at, AreChildren};
 
 use crate::members::is_marker;
-use crate::place::{Entry, Mark};
+use crate::place::{Cuts, Entry, Mark};
 use path_tree::{Branch, child};
 use std::alloc::Allocator;
 use std::marker::Model;
@@ -23,6 +23,7 @@ pub struct Tree<A: Allocator> {
 
 impl<A: Allocator> Model for Tree<A> {
     ghost use Rattle.std.specs.Prelude.{◌≡◌, false};
+    ghost use Rattle.romfs_format.specs.declared.head.Kind.TheVariants.{Directory};
     ghost use Rattle.path_tree.specs.Rows.{whole};
     ghost use Rattle.layer_tree.specs.Trees.{TreeRows};
 
@@ -30,8 +31,8 @@ impl<A: Allocator> Model for Tree<A> {
 
     ghost view = { λ t. record { entries = whole t.entries; marks = whole t.marks } };
 
-    // no mark cuts the root
-    ghost invariant = { λ t. t.marks.value.cut ≡ false };
+    // the root is a directory, and no mark cuts it
+    ghost invariant = { λ t. (t.entries.value.kind ≡ Directory) × (t.marks.value.cut ≡ false) };
 }
 
 impl<A: Allocator> Tree<A> {
@@ -68,7 +69,7 @@ impl<A: Allocator> Tree<A> {
     pub fn cuts(&self, path: &[&[u8]]) -> bool
         ensures { result ≡ cuts_at self.now (map (λ name. name.now) path.now) }
     {
-        is_plain(path) && cut_by(&self.marks, path)
+        is_plain(path) && (cut_by(&self.marks, path) || cut_by(&self.entries, path))
     }
 }
 
@@ -84,13 +85,14 @@ fn is_plain(path: &[&[u8]]) -> bool
     true
 }
 
-/// Whether marks cut a path.
-fn cut_by<A: Allocator>(marks: &Branch<Mark, A>, path: &[&[u8]]) -> bool
-    ensures { result ≡ cut_by (at_path (whole marks.now)) (map (λ name. name.now) path.now) }
+/// Whether what stands along a path cuts it.
+fn cut_by<T: Cuts, A: Allocator>(tree: &Branch<T, A>, path: &[&[u8]]) -> bool
+    ensures { result
+        ≡ cut_by (marked T.removed (whole tree.now)) (map (λ name. name.now) path.now) }
 {
-    let mut here = marks;
+    let mut here = tree;
     for name in path {
-        let mark = here.value();
+        let mark = here.value().mark();
         if mark.cut || mark.opaque {
             return true;
         }
@@ -99,5 +101,5 @@ fn cut_by<A: Allocator>(marks: &Branch<Mark, A>, path: &[&[u8]]) -> bool
             None => return false,
         }
     }
-    here.value().cut
+    here.value().mark().cut
 }

@@ -44,4 +44,4 @@ returns g c =
     (folder a c.requires.sound c.args.layer h c.args.members.now c.args.below.entries.items
     c.args.below.marks.items c.in_ok-whiteouts.whiteouts.items c.in_ok-marks.marks.items
     c.requires.members c.requires.below c.in_ok-whiteouts.ensures c.in_ok-marks.ensures
-    c.has_opaque-opaque.result whole directory c.args.name.now c.entry_at-entry.result entry)
+    c.has_opaque-opaque.result whole directory c.entry_at-entry.result entry c.args.name.now)

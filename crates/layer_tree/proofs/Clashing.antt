@@ -1,0 +1,357 @@
+-- The marks of clashes, and what they are for: what the upper tree removes of the lower one, and what both remove.
+use Rattle.std.proofs.Common.{◌≡◌, ◌∙◌, sym, ap, subst, ℕ, ◌+◌, ◌*◌, ◌<◌, ◌≤◌, ◌⊎◌, inl, inr, List, [], ◌∷◌, ◌++◌, append_assoc, length, refl, arith, Option, Some, None, Bool, true, false, ◌||◌, not}
+use Rattle.std.proofs.lemmas.List.{append-nil}
+use Rattle.std.specs.Prelude.{option_map}
+use Rattle.std.specs.List.{AllByRecursion}
+use Rattle.std.specs.declared.cmp.Ordering.TheVariants.{Less}
+use Rattle.stack_model.specs.Stack.{Path}
+use Rattle.stack_model.specs.Attributes.{is_directory}
+use Rattle.path_tree.specs.Rows.{Shoot, name_cmp, named, NamesRise, IsRising, at_path, spread, whole}
+use Rattle.path_tree.specs.Laying.{laid_at}
+use Rattle.path_tree.proofs.Names.{same_or_not, named_below, not_below_itself}
+use Rattle.path_tree.proofs.Spread.{through, at_spread}
+use Rattle.path_tree.proofs.Merging.{grown}
+use Rattle.layer_tree.specs.declared.place.Entry.{Entry}
+use Rattle.layer_tree.specs.declared.place.Mark.{Mark}
+use Rattle.layer_tree.specs.Marks.{cuts_itself, cuts_below, cut_by, marked, mark_of, covered_by, removed_by}
+use Rattle.layer_tree.specs.Laying.{unless, upper, IsFrom, is_uncut, IsBare, IsLeafAt, Clash, AreClashes, IsClashMark}
+use Rattle.layer_tree.proofs.Cutting.{nothing_cut, cut_same}
+use Rattle.layer_tree.proofs.Removing.{IsFile, or_true, or_left, or_right, both_ways, cut_extends, covering_file, file_covers, removed_extends}
+use Rattle.layer_tree.proofs.Stepping.{all_cut, still_same}
+
+module _ (f f' o o' c c' : Path → Option Mark) (ef : (q : Path) → f q ≡ f' q)
+    (eo : (q : Path) → o q ≡ o' q) (ec : (q : Path) → c q ≡ c' q) where
+  -- clashes of the same marks are the same
+  pub clash_same : Clash f o c → Clash f' o' c'
+  clash_same w = record { sound = sound; whole = whole }
+    where
+      sound : (path : Path) → cut_by c' path ≡ true → cut_by f' path ≡ true
+      sound path e = sym (cut_same f f' ef path) ∙ w.sound path (cut_same c c' ec path ∙ e)
+
+      whole : (q : Path) → cuts_itself (f' q) ≡ true → (cut_by c' q ≡ true) ⊎ IsLeafAt o' q
+      whole q e = elim (w.whole q (ap cuts_itself (ef q) ∙ e)) [
+        | inl x ↦ inl (sym (cut_same c c' ec q) ∙ x)
+        | inr l ↦ inr (record {
+          itself = ap is_uncut (sym (eo q)) ∙ l.itself;
+          below = λ n p. sym (eo (q ++ n ∷ p)) ∙ l.below n p;
+        })
+      ]
+
+-- marks that cut nothing may be left away
+pub clash_without : (f o c : Path → Option Mark) → ((path : Path) → cut_by c path ≡ false) → Clash f o c → Clash f o (λ q. None)
+clash_without f o c none w = record {
+  sound = λ path e. absurd (let x = nothing_cut path in cc);
+  whole = λ q e. elim (w.whole q e) [ inl x ↦ absurd (let y = none q in cc) | inr l ↦ inr l ];
+}
+
+-- nothing clashes with nothing
+pub no_files : (o : Path → Option Mark) → Clash (λ q. None) o (λ q. None)
+no_files o = record { sound = λ path e. absurd (let x = nothing_cut path in cc); whole = λ q e. absurd (cc) }
+
+pub no_others : (f : Path → Option Mark) → Clash f (λ q. None) (λ q. None)
+no_others f = record {
+  sound = λ path e. absurd (let x = nothing_cut path in cc);
+  whole = λ q e. inr (record { itself = refl; below = λ n p. refl });
+}
+
+module _ {T : Type 0} (m : T → Mark) where
+  -- a cut mark stands for what cuts itself, whatever it clashes with
+  pub file_marked : (f o : Shoot T) (n : List ℕ) (mark : Mark) → mark.cut ≡ true → (m f.value).cut ≡ true
+      → Clash (marked m (whole f)) (marked m (whole o)) (at_path (whole (record { name = n; value = mark; below = [] })))
+  file_marked f o n mark cut file = record {
+    sound = λ path e. cut_extends (marked m (whole f)) [] path file;
+    whole = λ q e. inl ((all_cut (record { name = n; value = mark; below = [] }) cut).cut q);
+  }
+
+  -- where the other one is a leaf, none is needed
+  pub file_alone : (f o : Shoot T) → IsBare m o → Clash (marked m (whole f)) (marked m (whole o)) (λ q. None)
+  file_alone f o bare = record { sound = λ path e. absurd (let x = nothing_cut path in cc); whole = λ q e. inr (leaf q) }
+    where
+      below : (n : List ℕ) (p : Path) → marked m (whole o) (n ∷ p) ≡ None
+      below n p = rw bare.nothing refl
+
+      leaf : (q : Path) → IsLeafAt (marked m (whole o)) q
+      leaf [] = record { itself = ap not bare.itself; below = below }
+      leaf (n ∷ q) = record { itself = ap is_uncut (below n q); below = λ k p. below n (q ++ k ∷ p) }
+
+  -- two branches of which the first does not cut itself clash where those below them do
+  pub folders : (f o : Shoot T) (fs os : List (Shoot T)) (ks : List (Shoot Mark)) (n : List ℕ) (mark : Mark)
+      → f.below ≡ spread fs → o.below ≡ spread os → (m f.value).cut ≡ false → mark.cut ≡ false
+      → mark.opaque ≡ false → AreClashes m fs os ks
+      → Clash (marked m (whole f)) (marked m (whole o)) (at_path (whole (record { name = n; value = mark; below = spread ks })))
+  folders f o fs os ks n mark ef eo d uncut clear w = record { sound = sound; whole = into }
+    where
+      sound : (path : Path) → cut_by (at_path (whole (record { name = n; value = mark; below = spread ks }))) path ≡ true → cut_by (marked m (whole f)) path ≡ true
+      sound [] e = absurd (cc)
+      sound (k ∷ p) e =
+          let x : cut_by (λ q. at_path (spread ks) (k ∷ q)) p ≡ true = rw (uncut, clear) at e in
+          or_right (cuts_below (Some (m f.value))) (cut_by (λ q. marked m (whole f) (k ∷ q)) p) (rw ef ((w.at k).sound p x))
+
+      into : (q : Path) → cuts_itself (marked m (whole f) q) ≡ true
+          → (cut_by (at_path (whole (record { name = n; value = mark; below = spread ks }))) q ≡ true) ⊎ IsLeafAt (marked m (whole o)) q
+      into [] e = absurd (cc)
+      into (k ∷ q) e = elim ((w.at k).whole q (rw ef at e)) [
+        | inl x ↦ inl (or_right (cuts_below (Some mark)) (cut_by (λ p. at_path (spread ks) (k ∷ p)) q) x)
+        | inr l ↦ inr (record { itself = rw eo l.itself; below = λ i p. rw eo (l.below i p) })
+      ]
+
+  -- no mark is needed where none stands below
+  pub unmarked_folder : (f o : Shoot T) (fs os : List (Shoot T)) (ks : List (Shoot Mark)) → ks ≡ []
+      → f.below ≡ spread fs → o.below ≡ spread os → (m f.value).cut ≡ false → AreClashes m fs os ks
+      → Clash (marked m (whole f)) (marked m (whole o)) (λ q. None)
+  unmarked_folder f o fs os ks e ef eo d w =
+      clash_without (marked m (whole f)) (marked m (whole o))
+      (at_path (whole (record { name = []; value = record { cut = false; opaque = false }; below = [] }))) none
+      (folders f o fs os [] [] (record { cut = false; opaque = false }) ef eo d refl refl (subst (λ k. AreClashes m fs os k) e w))
+    where
+      none : (path : Path) → cut_by (at_path (whole (record { name = []; value = record { cut = false; opaque = false }; below = [] }))) path ≡ false
+      none [] = refl
+      none (n ∷ path) = nothing_cut path
+
+-- what a found branch marks
+abbrev pub marked_in : {T : Type 0} → (T → Mark) → Option (Shoot T) → Path → Option Mark
+marked_in m o q = option_map m (through o q)
+
+-- the files of a directory, each with its mark or none
+pub data Clashing {T : Type 0} (m : T → Mark) (os : List (Shoot T)) : List (Shoot T) → List (Shoot Mark) → Type 0 where
+  none_left : Clashing m os [] []
+  apart : (f : Shoot T) (fs : List (Shoot T)) (ks : List (Shoot Mark))
+      → Clash (marked m (whole f)) (marked_in m (named f.name os)) (λ q. None)
+      → Clashing m os fs ks → Clashing m os (f ∷ fs) ks
+  together : (f : Shoot T) (fs : List (Shoot T)) (k : Shoot Mark) (ks : List (Shoot Mark))
+      → k.name ≡ f.name → IsRising k → Clash (marked m (whole f)) (marked_in m (named f.name os)) (at_path (whole k))
+      → Clashing m os fs ks → Clashing m os (f ∷ fs) (k ∷ ks)
+
+module _ {T : Type 0} (m : T → Mark) (os : List (Shoot T)) where
+  above : {fs : List (Shoot T)} {ks : List (Shoot Mark)} → Clashing m os fs ks → (n : List ℕ)
+      → AllByRecursion (λ t. name_cmp n t.name ≡ Less) fs → AllByRecursion (λ t. name_cmp n t.name ≡ Less) ks
+  above none_left n a = tt
+  above (apart f fs ks w c) n a = above c n a.1
+  above (together f fs k ks e r w c) n a = (rw e a.0, above c n a.1)
+
+  rise : {fs : List (Shoot T)} {ks : List (Shoot Mark)} → Clashing m os fs ks → NamesRise fs → NamesRise ks
+  rise none_left r = tt
+  rise (apart f fs ks w c) r = rise c r.1
+  rise (together f fs k ks e i w c) r = (rw e (above c f.name r.0), rise c r.1)
+
+  each : {fs : List (Shoot T)} {ks : List (Shoot Mark)} → Clashing m os fs ks → AllByRecursion IsRising ks
+  each none_left = tt
+  each (apart f fs ks w c) = each c
+  each (together f fs k ks e i w c) = (i, each c)
+
+  found : {fs : List (Shoot T)} {ks : List (Shoot Mark)} → Clashing m os fs ks → NamesRise fs → (n : List ℕ)
+      → Clash (marked_in m (named n fs)) (marked_in m (named n os)) (through (named n ks))
+  found none_left r n = no_files (marked_in m (named n os))
+  found (apart f fs ks w c) r n = elim (same_or_not f.name n) [
+    | inl x ↦ (
+        let none : named n ks ≡ None = named_below n ks (subst (λ i. AllByRecursion (λ t. name_cmp i t.name ≡ Less) ks) x.0 (above c f.name r.0)) in
+        rw (x.1, none) (subst (λ i. Clash (marked m (whole f)) (marked_in m (named i os)) (λ q. None)) x.0 w))
+    | inr x ↦ rw x.1 (found c r.1 n)
+  ]
+  found (together f fs k ks e i w c) r n = elim (same_or_not f.name n) [
+    | inl x ↦ rw (e, x.1) (subst (λ i. Clash (marked m (whole f)) (marked_in m (named i os)) (at_path (whole k))) x.0 w)
+    | inr x ↦ rw (e, x.1) (found c r.1 n)
+  ]
+
+  pub are_clashes : {fs : List (Shoot T)} {ks : List (Shoot Mark)} → Clashing m os fs ks → NamesRise fs → NamesRise os → AreClashes m fs os ks
+  are_clashes {fs} {ks} c r s = record {
+    forest = record { names = rise c r; each = each c };
+    at = λ n. clash_same (marked_in m (named n fs)) (λ q. marked m (spread fs) (n ∷ q)) (marked_in m (named n os))
+        (λ q. marked m (spread os) (n ∷ q)) (through (named n ks)) (λ q. at_path (spread ks) (n ∷ q))
+        (λ q. ap (λ x. option_map m x) (sym (at_spread fs r n q))) (λ q. ap (λ x. option_map m x) (sym (at_spread os s n q)))
+        (λ q. sym (at_spread ks (rise c r) n q)) (found c r n);
+  }
+
+-- files are gone through up to left, with the others up to rest
+pub record IsClashing {T : Type 0} (m : T → Mark) (files left others rest : List (Shoot T)) (marks : List (Shoot Mark)) : Type 0 where
+  pub clashing : (more : List (Shoot Mark)) → Clashing m others left more → Clashing m others files (marks ++ more)
+  pub names : NamesRise left
+  pub rest_names : NamesRise rest
+  pub same : AllByRecursion (λ f. named f.name rest ≡ named f.name others) left
+  pub smaller : length (spread left) ≤ length (spread files)
+
+every_same : {T : Type 0} (ls others : List (Shoot T)) → AllByRecursion (λ f. named f.name others ≡ named f.name others) ls
+every_same [] others = tt
+every_same (l ∷ ls) others = (refl, every_same ls others)
+
+pub clashing_begun : {T : Type 0} (m : T → Mark) (files others : List (Shoot T)) → NamesRise files → NamesRise others → IsClashing m files files others others []
+clashing_begun m files others r s = record {
+  clashing = λ more c. c;
+  names = r;
+  rest_names = s;
+  same = every_same files others;
+  smaller = omega arith;
+}
+
+module _ {T : Type 0} (m : T → Mark) (files left later others rest rest' : List (Shoot T)) (marks : List (Shoot Mark)) (f : Shoot T)
+    (inv : IsClashing m files left others rest marks) (e : left ≡ f ∷ later) (from : IsFrom f.name rest rest') where
+  rises : NamesRise (f ∷ later)
+  rises = subst NamesRise e inv.names
+
+  all_same : AllByRecursion (λ x. named x.name rest ≡ named x.name others) (f ∷ later)
+  all_same = subst (λ ls. AllByRecursion (λ x. named x.name rest ≡ named x.name others) ls) e inv.same
+
+  pub at_other : named f.name rest' ≡ named f.name others
+  at_other = from.same f.name (not_below_itself f.name) ∙ all_same.0
+
+  on : (marks' : List (Shoot Mark)) → ((more : List (Shoot Mark)) → Clashing m others later more → Clashing m others files (marks' ++ more))
+      → IsClashing m files later others rest' marks'
+  on marks' c = record {
+    clashing = c;
+    names = rises.1;
+    rest_names = from.names;
+    same = still_same f.name rest rest' others from later rises.0 all_same.1;
+    smaller = let s = rw e at inv.smaller in omega (arith, grown f later, s);
+  }
+
+  pub nothing_there : named f.name rest' ≡ None → IsClashing m files later others rest' marks
+  nothing_there n = on marks (λ more c. inv.clashing more (rw e (apart f later more (rw (sym at_other ∙ n) (no_others (marked m (whole f)))) c)))
+
+  pub no_clash : (o : Shoot T) → named f.name rest' ≡ Some o → Clash (marked m (whole f)) (marked m (whole o)) (λ q. None) → IsClashing m files later others rest' marks
+  no_clash o n w = on marks (λ more c. inv.clashing more (rw e (apart f later more (rw (sym at_other ∙ n) w) c)))
+
+  pub one_clash : (o : Shoot T) (k : Shoot Mark) (marks' : List (Shoot Mark)) → named f.name rest' ≡ Some o
+      → IsClashMark m f o k → marks' ≡ marks ++ k ∷ [] → IsClashing m files later others rest' marks'
+  one_clash o k marks' n w g = on marks' (λ more c. rw (g, append_assoc)
+      (inv.clashing (k ∷ more) (rw e (together f later k more w.name w.rising (rw (sym at_other ∙ n) w.at) c))))
+
+  pub deeper_measure : 2 * length f.below + 1 < 2 * length (spread files)
+  deeper_measure = let s = rw e at inv.smaller in omega (arith, grown f later, s)
+
+pub clashing_ended : {T : Type 0} (m : T → Mark) (files left others rest : List (Shoot T)) (marks : List (Shoot Mark))
+    → IsClashing m files left others rest marks → left ≡ [] → NamesRise files → NamesRise others → AreClashes m files others marks
+clashing_ended m files left others rest marks inv e r s =
+    are_clashes m others (subst (Clashing m others files) (append-nil marks) (inv.clashing [] (rw e none_left))) r s
+
+not_there : (o : Option Entry) → option_map mark_of o ≡ None → o ≡ None
+not_there None e = refl
+not_there (Some x) e = absurd (cc)
+
+not_not : (b : Bool) → not b ≡ false → b ≡ true
+not_not true e = refl
+not_not false e = absurd (cc)
+
+unless_none : (b : Bool) → unless {T = Entry} b None ≡ None
+unless_none true = refl
+unless_none false = refl
+
+-- the upper tree's marks, and then those of the paths at which it has a file over something, leave of the lower one
+-- what the upper one does not remove, as far as it does not cover it itself
+module _ (el eh one two eo : Path → Option Entry) (mh hidden : Path → Option Mark)
+    (first : (q : Path) → one q ≡ unless (cut_by mh q) (el q)) (second : (q : Path) → two q ≡ unless (cut_by hidden q) (one q))
+    (over : (q : Path) → eo q ≡ laid_at upper (two q) (eh q)) (c : Clash (λ q. option_map mark_of (eh q)) (λ q. option_map mark_of (el q)) hidden) where
+  abbrev Goal : Path → Type 0
+  Goal path = eo path ≡ laid_at upper (unless (removed_by mh eh path) (el path)) (eh path)
+
+  high : (path : Path) (x : Entry) → eh path ≡ Some x → Goal path
+  high path x e = over path ∙ ap (laid_at upper (two path)) e ∙ top (two path)
+      ∙ sym (ap (laid_at upper (unless (removed_by mh eh path) (el path))) e ∙ top (unless (removed_by mh eh path) (el path)))
+    where
+      top : (o : Option Entry) → laid_at upper o (Some x) ≡ Some x
+      top None = refl
+      top (Some y) = refl
+
+  low : (path : Path) → eh path ≡ None → (a b d : Bool) → cut_by mh path ≡ a → cut_by hidden path ≡ b → covered_by eh path ≡ d
+      → two path ≡ unless (a || d) (el path)
+  low path e true b d p q r = second path ∙ ap (λ x. unless x (one path)) q ∙ ap (unless b) (first path ∙ ap (λ x. unless x (el path)) p) ∙ unless_none b
+  low path e false true true p q r = second path ∙ ap (λ x. unless x (one path)) q
+  low path e false true false p q r = absurd (let x = sym r ∙ c.sound path q in cc)
+  low path e false false false p q r = second path ∙ ap (λ x. unless x (one path)) q ∙ first path ∙ ap (λ x. unless x (el path)) p
+  low path e false false true p q r =
+      second path ∙ ap (λ x. unless x (one path)) q ∙ first path ∙ ap (λ x. unless x (el path)) p ∙ gone (covering_file eh path r)
+    where
+      gone : ((s : Path) × (t : Path) × (path ≡ s ++ t) × IsFile (eh s)) → el path ≡ None
+      gone (s, [], is, file) = absurd (let x : eh s ≡ None = subst (λ y. eh y ≡ None) (is ∙ append-nil s) e in let y = rw x at file in cc)
+      gone (s, n ∷ t, is, file) = elim (c.whole s file) [
+        | inl x ↦ absurd (let y = subst (λ z. cut_by hidden z ≡ true) (sym is) (cut_extends hidden s (n ∷ t) x) in cc)
+        | inr l ↦ ap el is ∙ not_there (el (s ++ n ∷ t)) (l.below n t)
+      ]
+
+  pub what_is_left : (path : Path) → Goal path
+  what_is_left path = by (eh path) refl
+    where
+      by : (o : Option Entry) → eh path ≡ o → Goal path
+      by None e = over path ∙ ap (laid_at upper (two path)) e
+          ∙ low path e (cut_by mh path) (cut_by hidden path) (covered_by eh path) refl refl refl
+          ∙ sym (ap (laid_at upper (unless (removed_by mh eh path) (el path))) e)
+      by (Some x) e = high path x e
+
+-- both trees together remove what each of them removes
+module _ (el eh eo : Path → Option Entry) (ml mh replaced mo : Path → Option Mark)
+    (over : (q : Path) → eo q ≡ laid_at upper (unless (removed_by mh eh q) (el q)) (eh q))
+    (all : (q : Path) → cut_by mo q ≡ (cut_by ml q || (cut_by replaced q || cut_by mh q))) (c : Clash (λ q. option_map mark_of (el q)) (λ q. option_map mark_of (eh q)) replaced) where
+  upper_stays : (q : Path) (x : Entry) → eh q ≡ Some x → eo q ≡ Some x
+  upper_stays q x e = over q ∙ ap (laid_at upper (unless (removed_by mh eh q) (el q))) e ∙ top (unless (removed_by mh eh q) (el q))
+    where
+      top : (o : Option Entry) → laid_at upper o (Some x) ≡ Some x
+      top None = refl
+      top (Some y) = refl
+
+  lower_stays : (q : Path) (b : Bool) → eh q ≡ None → removed_by mh eh q ≡ b → eo q ≡ unless b (el q)
+  lower_stays q b e r = over q ∙ ap (laid_at upper (unless (removed_by mh eh q) (el q))) e ∙ ap (λ x. unless x (el q)) r
+
+  file_here : (q : Path) (o : Option Entry) → o ≡ eo q → IsFile o → IsFile (eo q)
+  file_here q o e x = subst IsFile e x
+
+  by_marks : (path : Path) → (cut_by ml path || (cut_by replaced path || cut_by mh path)) ≡ true → removed_by mo eo path ≡ true
+  by_marks path e = or_left (cut_by mo path) (covered_by eo path) (all path ∙ e)
+
+  by_file : (path q r : Path) → path ≡ q ++ r → IsFile (eo q) → removed_by mo eo path ≡ true
+  by_file path q r e x = or_right (cut_by mo path) (covered_by eo path) (file_covers eo path q r e x)
+
+  of_high : (path : Path) → removed_by mh eh path ≡ true → removed_by mo eo path ≡ true
+  of_high path e = elim (or_true (cut_by mh path) (covered_by eh path) e) [
+    | inl x ↦ by_marks path (or_right (cut_by ml path) _ (or_right (cut_by replaced path) _ x))
+    | inr x ↦ (let w = covering_file eh path x in by_file path w.0 w.1 w.2 (kept w.0 (eh w.0) refl w.3))
+  ]
+    where
+      kept : (q : Path) (o : Option Entry) → eh q ≡ o → IsFile (eh q) → IsFile (eo q)
+      kept q None e x = absurd (let y = rw e at x in cc)
+      kept q (Some y) e x = file_here q (Some y) (sym (upper_stays q y e)) (rw e at x)
+
+  of_low : (path : Path) → removed_by ml el path ≡ true → removed_by mo eo path ≡ true
+  of_low path e = elim (or_true (cut_by ml path) (covered_by el path) e) [
+    | inl x ↦ by_marks path (or_left (cut_by ml path) _ x)
+    | inr x ↦ (let w = covering_file el path x in file path w.0 w.1 w.2 w.3)
+  ]
+    where
+      kept : (path q r : Path) (o : Option Entry) (b : Bool) → path ≡ q ++ r → eh q ≡ o → removed_by mh eh q ≡ b
+          → is_uncut (option_map mark_of o) ≡ false → IsFile (el q) → removed_by mo eo path ≡ true
+      kept path q r (Some y) b i e f l x = by_file path q r i (file_here q (Some y) (sym (upper_stays q y e)) (not_not (not (is_directory y.kind)) l))
+      kept path q r None true i e f l x = removed_extends mo eo path q r i (of_high q f)
+      kept path q r None false i e f l x = by_file path q r i (file_here q (el q) (sym (lower_stays q false e f)) x)
+
+      file : (path q r : Path) → path ≡ q ++ r → IsFile (el q) → removed_by mo eo path ≡ true
+      file path q r i x = elim (c.whole q x) [
+        | inl y ↦ by_marks path (or_right (cut_by ml path) _ (or_left (cut_by replaced path) _
+            (subst (λ p. cut_by replaced p ≡ true) (sym i) (cut_extends replaced q r y))))
+        | inr l ↦ kept path q r (eh q) (removed_by mh eh q) i refl refl l.itself x
+      ]
+
+  of_either : (path : Path) → removed_by mo eo path ≡ true → (removed_by ml el path || removed_by mh eh path) ≡ true
+  of_either path e = elim (or_true (cut_by mo path) (covered_by eo path) e) [
+    | inl x ↦ elim (or_true (cut_by ml path) _ (sym (all path) ∙ x)) [
+      | inl y ↦ or_left (removed_by ml el path) _ (or_left (cut_by ml path) _ y)
+      | inr y ↦ elim (or_true (cut_by replaced path) _ y) [
+        | inl z ↦ or_left (removed_by ml el path) _ (or_right (cut_by ml path) _ (c.sound path z))
+        | inr z ↦ or_right (removed_by ml el path) _ (or_left (cut_by mh path) _ z)
+      ]
+    ]
+    | inr x ↦ (let w = covering_file eo path x in from path w.0 w.1 w.2 w.3 (eh w.0) (removed_by mh eh w.0) refl refl)
+  ]
+    where
+      from : (path q r : Path) → path ≡ q ++ r → IsFile (eo q) → (o : Option Entry) (b : Bool) → eh q ≡ o → removed_by mh eh q ≡ b
+          → (removed_by ml el path || removed_by mh eh path) ≡ true
+      from path q r i x (Some y) b e f = or_right (removed_by ml el path) _ (or_right (cut_by mh path) _
+          (file_covers eh path q r i (subst IsFile (upper_stays q y e ∙ sym e) x)))
+      from path q r i x None true e f = absurd (let y : IsFile None = subst IsFile (lower_stays q true e f) x in cc)
+      from path q r i x None false e f = or_left (removed_by ml el path) _ (or_right (cut_by ml path) _
+          (file_covers el path q r i (subst IsFile (lower_stays q false e f) x)))
+
+  pub what_both_remove : (path : Path) → removed_by mo eo path ≡ (removed_by ml el path || removed_by mh eh path)
+  what_both_remove path = both_ways (removed_by mo eo path) (removed_by ml el path || removed_by mh eh path) (of_either path)
+      (λ e. elim (or_true (removed_by ml el path) _ e) [ inl x ↦ of_low path x | inr x ↦ of_high path x ])
+
+-- a branch with nothing below has rising paths
+pub leaf_rises : {T : Type 0} (n : List ℕ) (value : T) → IsRising (record { name = n; value = value; below = [] })
+leaf_rises n value = record { rises = (tt, tt) }

@@ -1,0 +1,98 @@
+//! Where one tree has a file, and another one a directory or something below.
+//!
+//! Both trees are gone through in step, in the order of names, and only as far down as both have directories. Most
+//! trees that are laid on one another have no such path, and then there is no mark but that of the root.
+
+ghost use Rattle.std.specs.Prelude.{◌≡◌, true, false, IfOk, IsTrue};
+ghost use Rattle.path_tree.specs.Rows.{IsForest};
+ghost use Rattle.layer_tree.specs.Laying.{AreClashes, HasClash, AreRootClashes, IsBare};
+
+use crate::laying::{first_named, from_name};
+use crate::place::{Cuts, Mark};
+use crate::reading::{CUT, UNCUT, leaf};
+use path_tree::{Branch, Name};
+use std::alloc::{AllocError, Allocator};
+
+/// The marks of all paths at which a tree has a file, and another one a directory or something below. Both roots are
+/// directories.
+pub(crate) fn clashes<T: Cuts, A: Allocator + Copy>(
+    alloc: A,
+    files: &Branch<T, A>,
+    others: &Branch<T, A>,
+) -> Result<Branch<Mark, A>, AllocError>
+    requires { (T.removed files.now.value).cut ≡ false }
+    ensures { IfOk result (λ mark. AreRootClashes T.removed files.now others.now mark) }
+{
+    let marks = clashes_below(alloc, files.children(), others.children())?;
+    let name = Name::of(alloc, files.name())?;
+    Ok(Branch::new(name, UNCUT, marks))
+}
+
+/// The same of the branches of two directories.
+#[cycle(clashing)]
+fn clashes_below<T: Cuts, A: Allocator + Copy>(
+    alloc: A,
+    files: &[Branch<T, A>],
+    others: &[Branch<T, A>],
+) -> Result<Vec<Branch<Mark, A>, A>, AllocError>
+    requires files { IsForest files.now }
+    requires others { IsForest others.now }
+    ensures { IfOk result (λ marks. AreClashes T.removed files.now others.now marks.items) }
+{
+    let mut marks = Vec::new(alloc);
+    let mut left = files;
+    let mut rest = others;
+    while let Some((file, later)) = left.split_first() {
+        rest = from_name(rest, file.name());
+        if let Some(other) = first_named(rest, file.name()) {
+            if let Some(mark) = clash_of(alloc, file, other)? {
+                marks.push(mark)?;
+            }
+        }
+        left = later;
+    }
+    Ok(marks)
+}
+
+/// The same of two branches; none where there is no such path.
+#[cycle(clashing)]
+fn clash_of<T: Cuts, A: Allocator + Copy>(
+    alloc: A,
+    file: &Branch<T, A>,
+    other: &Branch<T, A>,
+) -> Result<Option<Branch<Mark, A>>, AllocError>
+    ensures { IfOk result (HasClash T.removed file.now other.now) }
+{
+    if file.value().mark().cut {
+        return file_clash(alloc, file, other);
+    }
+    let marks = clashes_below(alloc, file.children(), other.children())?;
+    if marks.is_empty() {
+        return Ok(None);
+    }
+    let name = Name::of(alloc, file.name())?;
+    Ok(Some(Branch::new(name, UNCUT, marks)))
+}
+
+/// The same of a file and another branch.
+fn file_clash<T: Cuts, A: Allocator + Copy>(
+    alloc: A,
+    file: &Branch<T, A>,
+    other: &Branch<T, A>,
+) -> Result<Option<Branch<Mark, A>>, AllocError>
+    requires { (T.removed file.now.value).cut ≡ true }
+    ensures { IfOk result (HasClash T.removed file.now other.now) }
+{
+    if is_bare(other) {
+        return Ok(None);
+    }
+    let name = Name::of(alloc, file.name())?;
+    Ok(Some(leaf(alloc, name, CUT)))
+}
+
+/// Whether a branch is no directory and has nothing below it.
+fn is_bare<T: Cuts, A: Allocator>(branch: &Branch<T, A>) -> bool
+    ensures { IsTrue result → IsBare T.removed branch.now }
+{
+    branch.value().mark().cut && branch.children().is_empty()
+}
