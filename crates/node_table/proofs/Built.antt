@@ -1,6 +1,6 @@
 -- Rows and nodes, one after another.
-use Rattle.std.proofs.Common.{◌≡◌, ◌∙◌, sym, ap, subst, ℕ, zero, suc, ◌+◌, ◌-◌, ◌^◌, ◌<◌, ◌≤◌, List, [], ◌∷◌, ◌++◌, length, map, take, drop, get_or, refl, arith, append_assoc, length-append, Bool, true, false, cond, Some}
-use Rattle.std.specs.Prelude.{slice_get, min}
+use Rattle.std.proofs.Common.{◌≡◌, ◌∙◌, sym, ap, subst, ℕ, zero, suc, ◌+◌, ◌-◌, ◌<◌, ◌≤◌, List, [], ◌∷◌, ◌++◌, length, map, take, drop, get_or, refl, arith, append_assoc, length-append, true, false, Some}
+use Rattle.std.specs.Prelude.{slice_get}
 use Rattle.std.specs.List.{AllByRecursion}
 use Rattle.std.specs.declared.cmp.Ordering.TheVariants.{Less}
 use Rattle.std.proofs.lemmas.List.Sums.{count_by_more_yes, count_by_more_no}
@@ -8,7 +8,7 @@ use Rattle.std.proofs.lemmas.List.{take_rest, drop_at}
 use Rattle.romfs_format.specs.declared.head.Kind.{Kind}
 use Rattle.romfs_format.specs.declared.head.Kind.TheVariants.{HardLink, Directory, Regular, SymLink, Block, Character, Socket, Fifo}
 use Rattle.stack_model.specs.Attributes.{is_directory}
-use Rattle.path_tree.specs.Rows.{Shoot, whole, NamesRise, name_cmp, spread, IsForest}
+use Rattle.path_tree.specs.Rows.{Shoot, whole, NamesRise, name_cmp}
 use Rattle.romfs_format.specs.declared.head.Head.{Head}
 use Rattle.romfs_format.specs.Heads.{head_of}
 use Rattle.romfs_image.specs.declared.parts.Part.{Part}
@@ -18,7 +18,6 @@ use Rattle.node_table.specs.declared.directory.Directory.{Directory as Folder}
 use Rattle.layer_tree.specs.declared.place.Place.{Place}
 use Rattle.layer_tree.specs.declared.place.Entry.{Entry}
 use Rattle.name_keys.specs.Names.{Rise}
-use Rattle.name_keys.specs.Keyed.{AddsKeys}
 use Rattle.node_table.specs.Rows.{Line, names}
 use Rattle.node_table.specs.Walks.{Spot}
 use Rattle.node_table.specs.Building.{line_in, directories, IsPosted, AreFollowing, AddsRows, AddsLinked, AddsNothing, AddsByKind, IsReadFrom, AddsNode}

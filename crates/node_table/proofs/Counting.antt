@@ -186,7 +186,7 @@ get_map [] k spot e = absurd (cc)
 get_map (x ∷ spots) zero spot e = let f : x ≡ spot = cc in ap (λ (y : Spot Entry). Some (spot_place y)) f
 get_map (x ∷ spots) (suc k) spot e = get_map spots k spot e
 
-get_below : {X : Type 0} (xs : List X) (k : ℕ) (x : X) → slice_get xs k ≡ Some x → k < length xs
+pub get_below : {X : Type 0} (xs : List X) (k : ℕ) (x : X) → slice_get xs k ≡ Some x → k < length xs
 get_below [] k x e = absurd (cc)
 get_below (y ∷ xs) zero x e = omega arith
 get_below (y ∷ xs) (suc k) x e = let l = get_below xs k x e in omega arith
@@ -392,10 +392,18 @@ among_seen (x ∷ spots) zero e a = absurd a
 among_seen (x ∷ spots) (suc i) e (inl q) = (0, x, omega arith, refl, q)
 among_seen (x ∷ spots) (suc i) e (inr a) = let m = among_seen spots i e a in (suc m.0, m.1, (let l = m.2 in omega arith), m.3, m.4)
 
-spot_below : (spots : List (Spot Entry)) (k : ℕ) → k < length spots → (s : Spot Entry) × (slice_get spots k ≡ Some s)
+pub spot_below : (spots : List (Spot Entry)) (k : ℕ) → k < length spots → (s : Spot Entry) × (slice_get spots k ≡ Some s)
 spot_below [] k l = absurd (omega arith)
 spot_below (x ∷ spots) zero l = (x, refl)
 spot_below (x ∷ spots) (suc k) l = spot_below spots k (omega arith)
+
+pub get_or_is : {X : Type 0} (xs : List X) (k : ℕ) (x d : X) → slice_get xs k ≡ Some x → get_or xs k d ≡ x
+get_or_is [] k x d e = absurd (cc)
+get_or_is (y ∷ xs) zero x d e = cc
+get_or_is (y ∷ xs) (suc k) x d e = get_or_is xs k x d e
+
+pub spot_at : (spots : List (Spot Entry)) (i : ℕ) → i < length spots → (s : Spot Entry) × (s ≡ get_or spots i s)
+spot_at spots i l = let x = spot_below spots i l in (x.0, sym (get_or_is spots i x.0 x.0 x.1))
 
 key_at : (spots : List (Spot Entry)) (k : ℕ) (s : Spot Entry) → slice_get spots k ≡ Some s → slice_index (map key_of spots) k ≡ key_of s
 key_at [] k s e = absurd (cc)
@@ -405,11 +413,6 @@ key_at (x ∷ spots) (suc k) s e = key_at spots k s e
 keys_length : (spots : List (Spot Entry)) → length (map key_of spots) ≡ length spots
 keys_length [] = refl
 keys_length (x ∷ spots) = ap suc (keys_length spots)
-
-get_or_is : {X : Type 0} (xs : List X) (k : ℕ) (x d : X) → slice_get xs k ≡ Some x → get_or xs k d ≡ x
-get_or_is [] k x d e = absurd (cc)
-get_or_is (y ∷ xs) zero x d e = cc
-get_or_is (y ∷ xs) (suc k) x d e = get_or_is xs k x d e
 
 module _ (spots : List (Spot Entry)) (keys firsts : List ℕ) (are : AreKeys spots keys) (f : AreFirsts keys firsts) where
   pub keys_level : length keys ≡ length spots

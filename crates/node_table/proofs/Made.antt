@@ -17,10 +17,10 @@ use Rattle.node_table.specs.declared.directory.Directory.{Directory as Folder}
 use Rattle.name_keys.specs.Keys.{key}
 use Rattle.name_keys.specs.Keyed.{AreKeyed}
 use Rattle.node_table.specs.Rows.{Line, names}
-use Rattle.node_table.specs.Readers.{placed, rows_of}
+use Rattle.node_table.specs.Readers.{placed}
 use Rattle.node_table.specs.Walks.{Spot}
 use Rattle.node_table.specs.Numbering.{spot_place}
-use Rattle.node_table.specs.Building.{line_in, directories, IsReadFrom, IsMade, AddsDirectory, AddsLinked, AddsNothing, AddsByKind, AddsNode, completed}
+use Rattle.node_table.specs.Building.{line_in, IsReadFrom, IsMade, AddsLinked, AddsByKind, AddsNode, completed}
 use Rattle.node_table.specs.Seeds.{AreSeedlings, IsSeed, AreSeeds, AreMade}
 use Rattle.node_table.specs.Held.{IsHeldDirectory, HoldsDirectory, IsNode, AreNodes, IsSomeTable}
 

@@ -5,7 +5,7 @@ use Rattle.std.specs.List.{slice_index_or}
 use Rattle.std.specs.Option.{option_map, option_map_or, option_and_then}
 use Rattle.romfs_image.specs.Readers.{bytes_at, IsPart}
 use Rattle.stack_model.specs.Listing.{Entry}
-use Rattle.stack_model.specs.Numbers.{Place, Child, nodes, node_of, number_of, number, same_name, parent, children, child}
+use Rattle.stack_model.specs.Numbers.{Place, Child, nodes, node_of, number_of, number, same_name, children, child}
 use Rattle.stack_model.specs.Attributes.{is_directory, is_directory_at, kind_at}
 use Rattle.stack_model.proofs.Numbering.{number_used}
 use Rattle.node_table.specs.declared.node.Node.{Node}

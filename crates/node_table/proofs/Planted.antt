@@ -205,9 +205,10 @@ module _ (layers : List (List ℕ)) (t : TreeRows) (is : IsTreeOf 0 layers t) (s
             let q = length-append (prefixed c.name c.below) [] in
             omega arith
 
-    pub posts : ArePosts (number_among spots) numbers places sizes first starts
+    pub posts : ArePosts (number_among spots) spots numbers places sizes first starts
     posts = record {
       level = num.starts_level;
+      there = num.starts_are;
       above = λ k spot e.
           let p = slice_index starts k in
           let s = stand.each p spot (num.starts_are k spot e) in

@@ -1,6 +1,5 @@
 -- Nodes and rows made from branches with numbers.
 use Rattle.std.specs.Prelude.{◌≡◌, ℕ, ◌+◌, ◌-◌, ◌^◌, ◌<◌, ◌≤◌, List, [], ◌∷◌, ◌++◌, length, map, min, count_by, slice_get, slice_index, Some, Bool, true, false, ⊤}
-use Rattle.romfs_format.specs.declared.head.Kind.{Kind}
 use Rattle.romfs_format.specs.Fields.{exec, spec}
 use Rattle.romfs_format.specs.Heads.{head_of}
 use Rattle.romfs_image.specs.Readers.{IsGiven, IsDataPart}
@@ -51,8 +50,9 @@ pub record IsAbove (tell : Place → ℕ) (numbers places : List ℕ) (at : ℕ)
   pub number_is : slice_index numbers (slice_index places at) ≡ tell spot.1.place
 
 -- these spots stand at these places
-pub record ArePosts (tell : Place → ℕ) (numbers places sizes : List ℕ) (first : List (Spot Entry)) (starts : List ℕ) : Type 0 where
+pub record ArePosts (tell : Place → ℕ) (spots : List (Spot Entry)) (numbers places sizes : List ℕ) (first : List (Spot Entry)) (starts : List ℕ) : Type 0 where
   pub level : length starts ≡ length first
+  pub there : (k : ℕ) (spot : Spot Entry) → slice_get first k ≡ Some spot → slice_get spots (slice_index starts k) ≡ Some spot
   pub above : (k : ℕ) (spot : Spot Entry) → slice_get first k ≡ Some spot → IsAbove tell numbers places (slice_index starts k) spot
   pub children : (k : ℕ) (spot : Spot Entry) → slice_get first k ≡ Some spot → AreChildPosts tell numbers sizes (slice_index starts k) spot
 

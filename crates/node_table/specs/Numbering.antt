@@ -57,6 +57,11 @@ pub record IsNumbered (spots : List (Spot Entry)) (i : ℕ) (first : List (Spot 
   pub numbers_level : length numbers ≡ i
   pub known : (k : ℕ) (spot : Spot Entry) → k < i → slice_get spots k ≡ Some spot → number_of (seen spots i) (spot_place spot) ≡ Some (slice_index numbers k)
 
+-- all places are numbered, by what some branches are the first of
+abbrev pub AreNumbered : List (Spot Entry) → List ℕ → List ℕ → List ℕ → Type 0
+AreNumbered spots starts paths numbers =
+    (first : List (Spot Entry)) × IsNumbered spots (length spots) first starts paths numbers
+
 -- the number of a place that spots have; 0 for another one
 unfoldable pub number_among : List (Spot Entry) → Place → ℕ
 number_among spots q = unwrap_or (number_of (seen spots (length spots)) (placed q)) 0

@@ -11,8 +11,8 @@ use Rattle.node_table.specs.declared.node.Node.{Node}
 use Rattle.node_table.specs.declared.directory.Directory.{Directory}
 use Rattle.node_table.specs.Rows.{Line}
 use Rattle.node_table.specs.Walks.{Spot}
-use Rattle.node_table.specs.Numbering.{spot_place}
-use Rattle.node_table.specs.Building.{line_in, directories, IsSeat, completed}
+use Rattle.node_table.specs.Numbering.{spot_place, number_among}
+use Rattle.node_table.specs.Building.{line_in, directories, IsSeat, ArePosts, completed}
 use Rattle.node_table.specs.Held.{AreNodes}
 
 -- the row of a shown child
@@ -44,6 +44,12 @@ pub record AreSeeds (layers : List (List ℕ)) (entries : List Listed) (tell : S
 -- by some listing of the layers
 abbrev pub AreSomeSeeds : List (List ℕ) → (Seat → ℕ) → List (Spot Entry) → List ℕ → Type 0
 AreSomeSeeds layers tell first paths = (entries : List Listed) × AreSeeds layers entries tell first paths
+
+-- the first branches of all places are seeds, and stand where starts say
+abbrev pub AreSeated : List (List ℕ) → List (Spot Entry) → List ℕ → List ℕ → List ℕ → List ℕ → List ℕ → Type 0
+AreSeated layers spots places sizes starts paths numbers =
+    (first : List (Spot Entry)) × AreSomeSeeds layers (number_among spots) first paths
+    × ArePosts (number_among spots) spots numbers places sizes first starts
 
 -- nodes, rows and keys make a table of the layers, once the nodes are completed
 abbrev pub AreMade : List (List ℕ) → List Node → List Directory → List Line → List ℕ → Type 0

@@ -4,9 +4,9 @@ ghost use Rattle.std.specs.Prelude.{◌≡◌, ◌+◌, ◌<◌, length, slice_i
 ghost use Rattle.romfs_format.specs.Heads.{head_of};
 ghost use Rattle.romfs_image.specs.Readers.{IsGiven};
 ghost use Rattle.node_table.specs.Numbering.{number_among};
-ghost use Rattle.node_table.specs.Building.{IsAbove, AreFollowing, AreChildPosts, ArePosts};
+ghost use Rattle.node_table.specs.Building.{IsAbove, AreFollowing, AreChildPosts};
 ghost use Rattle.node_table.specs.Building.{AddsRows, AddsDirectory, AddsNode, IsSeat};
-ghost use Rattle.node_table.specs.Seeds.{AreSomeSeeds, AreMade};
+ghost use Rattle.node_table.specs.Seeds.{AreSeated, AreMade};
 
 use crate::directory::{Directories, Directory};
 use crate::node::Node;
@@ -150,31 +150,29 @@ pub(crate) fn make<A: Allocator + Copy>(
     alloc: A,
     images: &[Image<A>],
     walk: &Walked<'_, Entry, A>,
-    numbered: &Numbered<'_, A>,
+    numbered: &Numbered<A>,
 ) -> Result<Parts<A>, AllocError>
-    requires seeds { AreSomeSeeds images.now (number_among walk.now.spots.items)
-        numbered.now.first.items numbered.now.paths.items }
-    requires posts { ArePosts (number_among walk.now.spots.items)
-        numbered.now.numbers.items walk.now.above.items walk.now.sizes.items
-        numbered.now.first.items numbered.now.starts.items }
+    requires { AreSeated images.now walk.now.spots.items walk.now.above.items
+        walk.now.sizes.items numbered.now.starts.items numbered.now.paths.items
+        numbered.now.numbers.items }
     ensures { IfOk result (λ made. AreMade images.now made.nodes.items
         made.directories.all.items made.directories.rows.items made.directories.keys.items) }
 {
-    let mut nodes = Vec::with_capacity(alloc, numbered.first.len())?;
+    let mut nodes = Vec::with_capacity(alloc, numbered.starts.len())?;
     let mut directories = Directories {
         all: Vec::new(alloc),
         rows: Vec::with_capacity(alloc, walk.spots.len())?,
         keys: Vec::with_capacity(alloc, walk.spots.len())?,
     };
-    for (at, spot) in numbered.first.iter().enumerate() {
-        let start = numbered.starts[at];
+    for (at, start) in numbered.starts.iter().enumerate() {
+        let spot = &walk.spots[*start];
         let paths = numbered.paths[at];
         let node = add_node(
             alloc,
             images,
             walk,
             &numbered.numbers,
-            start,
+            *start,
             spot,
             paths,
             &mut directories,

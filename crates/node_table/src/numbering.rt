@@ -1,7 +1,7 @@
 //! Numbers of places, in the order of their first path.
 
 ghost use Rattle.std.specs.Prelude.{◌≡◌, ◌<◌, ◌^◌, length, slice_index, slice_set, IfOk};
-ghost use Rattle.node_table.specs.Numbering.{place_key, one_more, AreKeys, IsNumbered};
+ghost use Rattle.node_table.specs.Numbering.{place_key, one_more, AreKeys, AreNumbered};
 
 use crate::firsts::firsts_of;
 use crate::walk::Spot;
@@ -10,10 +10,8 @@ use std::alloc::{AllocError, Allocator};
 
 /// The places of branches, numbered from 1 in the order of their first branch.
 #[derive(Drop)]
-pub(crate) struct Numbered<'t, A: Allocator> {
-    /// The first branch of each place.
-    pub(crate) first: Vec<Spot<'t, Entry, A>, A>,
-    /// Where it stands among all branches.
+pub(crate) struct Numbered<A: Allocator> {
+    /// Where the first branch of each place stands among all branches.
     pub(crate) starts: Vec<usize, A>,
     /// How many branches have the place, held at the greatest number of its type.
     pub(crate) paths: Vec<u32, A>,
@@ -54,26 +52,24 @@ fn count_one<A: Allocator>(paths: &mut Vec<u32, A>, at: usize)
 }
 
 // Numbers the places of these branches. It takes n log n steps.
-pub(crate) fn number_places<'t, A: Allocator + Copy>(
+pub(crate) fn number_places<A: Allocator + Copy>(
     alloc: A,
-    spots: &[Spot<'t, Entry, A>],
-) -> Result<Numbered<'t, A>, AllocError>
-    ensures { IfOk result (λ n. IsNumbered spots.now (length spots.now)
-        n.first.items n.starts.items n.paths.items n.numbers.items) }
+    spots: &[Spot<'_, Entry, A>],
+) -> Result<Numbered<A>, AllocError>
+    ensures { IfOk result
+        (λ n. AreNumbered spots.now n.starts.items n.paths.items n.numbers.items) }
 {
     let keys = keys_of(alloc, spots)?;
     let firsts = firsts_of(alloc, &keys)?;
-    let mut first = Vec::with_capacity(alloc, spots.len())?;
     let mut starts = Vec::with_capacity(alloc, spots.len())?;
     let mut paths = Vec::with_capacity(alloc, spots.len())?;
     let mut numbers = Vec::with_capacity(alloc, spots.len())?;
-    for (at, spot) in spots.iter().enumerate() {
+    for at in 0..spots.len() {
         let before = firsts[at];
         if before == at {
-            first.push(*spot)?;
             starts.push(at)?;
             paths.push(1)?;
-            numbers.push(first.len() as u64)?;
+            numbers.push(starts.len() as u64)?;
         } else {
             let number = numbers[before];
             count_one(&mut paths, (number - 1) as usize);
@@ -81,7 +77,6 @@ pub(crate) fn number_places<'t, A: Allocator + Copy>(
         }
     }
     Ok(Numbered {
-        first,
         starts,
         paths,
         numbers,

@@ -1,5 +1,8 @@
+use Rattle.std.proofs.Common.{List}
+use Rattle.layer_tree.specs.declared.place.Entry.{Entry}
+use Rattle.node_table.specs.Walks.{Spot}
 use Rattle.node_table.specs.Numbering.{IsNumbered}
 use Rattle.node_table.proofs.numbering.number_places.Given as goal
 
 abbrev pub invariant-loop-at : goal.invariant-loop-at
-invariant-loop-at g l = IsNumbered l.spots l.at l.first.items l.starts.items l.paths.items l.numbers.items
+invariant-loop-at g l = (first : List (Spot Entry)) × IsNumbered l.spots l.at first l.starts.items l.paths.items l.numbers.items
