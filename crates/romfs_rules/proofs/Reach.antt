@@ -69,8 +69,8 @@ module _ (a : List ℕ) (at : ℕ) where
       → IsTheOne (λ g. IsHardLink a at × (g ≡ destination a at)) word → IsTheOne (NamesDestination a at) word
   destination_named word u o = record { each = λ g. (λ e. (let x = (o.each g).0 e in (u, x.0, x.1)), λ x. (o.each g).1 (x.1, x.2)) }
 
-  pub destination_unnamed : ¬ IsSomeMember a at → ¬ IsTarget a at → IsTheOne (NamesDestination a at) None
-  destination_unnamed m t = nowhere (NamesDestination a at) (λ g x. elim x.0 [ inl y ↦ m y | inr y ↦ t y ])
+  pub destination_unnamed : ¬ ((IsSomeMember a at ⊎ IsTarget a at) × IsHardLink a at) → IsTheOne (NamesDestination a at) None
+  destination_unnamed n = nowhere (NamesDestination a at) (λ g x. n (x.0, x.1))
 
 module _ (Q : ℕ → Type 0) (found : Option ℕ) where
   pub unnamed : Notes (λ h. ◌≡◌ {A = Option ℕ} None (Some h)) Q found found

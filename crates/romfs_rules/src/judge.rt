@@ -14,7 +14,7 @@ ghost use Rattle.romfs_rules.specs.Judge.{KeepsBelow, IsFirstInside, IsHeaderFau
 use crate::chains::Chains;
 use crate::ends::Ends;
 use crate::header::Header;
-use crate::member::is_some_member;
+use crate::member::is_member_by;
 use crate::outside::Outside;
 use crate::slot::is_hard_link;
 use crate::volume::Volume;
@@ -94,11 +94,12 @@ impl<'s, A: Allocator> Sets<'s, A> {
         ensures image { result.image ≡ self.now }
         ensures at { result.at ≡ at }
     {
-        let member = is_some_member(self.image, at, self.chains);
+        let name = text_at(self.image.bytes, at + HEAD_SIZE);
+        let member = is_member_by(self.image, at, name, self.chains);
         Header {
             image: self.image,
             at,
-            name: text_at(self.image.bytes, at + HEAD_SIZE),
+            name,
             member,
             used: self.is_used(at, member),
             twice: self.is_twice(at),

@@ -1,7 +1,9 @@
 //! What a header is to the directories in whose chains it stands.
 
-ghost use Rattle.std.specs.Prelude.{◌+◌, ◌/◌, ◌<◌, ◌↔◌, false, IsTrue};
-ghost use Rattle.romfs_format.specs.Fields.{IsInside};
+ghost use Rattle.std.specs.Prelude.{◌≡◌, ◌+◌, ◌/◌, ◌<◌, ◌↔◌, false, IsTrue};
+ghost use Rattle.std.specs.Option.{option_map};
+ghost use Rattle.romfs_format.specs.declared.limits.TheConstants.{HEAD_SIZE};
+ghost use Rattle.romfs_format.specs.Fields.{IsInside, text_at};
 ghost use Rattle.romfs_format.specs.Chains.{IsDotted, IsOpened, IsSomeMember};
 ghost use Rattle.romfs_rules.specs.Marks.{HasSlot, Opens};
 ghost use Rattle.romfs_rules.specs.Leads.{IsInSomeChain, StandsKept};
@@ -14,15 +16,25 @@ use romfs_format::limits::HEAD_SIZE;
 use romfs_format::read::{is_dot_name, kind_of, text_at, word};
 use std::alloc::Allocator;
 
+// Whether a header with this name is named `.` or `..`.
+fn is_dotted_by(image: &Volume, at: usize, name: Option<&[u8]>) -> bool
+    requires inside { IsInside image.now.bytes.now at }
+    requires name { option_map (λ n. n.now) name ≡ text_at image.now.bytes.now (at + HEAD_SIZE) }
+    ensures { IsTrue result ↔ IsDotted image.now.bytes.now at }
+{
+    let _ = image;
+    match name {
+        None => false,
+        Some(name) => is_dot_name(name),
+    }
+}
+
 /// Whether a header is named `.` or `..`.
 pub(crate) fn is_dotted(image: &Volume, at: usize) -> bool
     requires inside { IsInside image.now.bytes.now at }
     ensures { IsTrue result ↔ IsDotted image.now.bytes.now at }
 {
-    match text_at(image.bytes, at + HEAD_SIZE) {
-        None => false,
-        Some(name) => is_dot_name(name),
-    }
+    is_dotted_by(image, at, text_at(image.bytes, at + HEAD_SIZE))
 }
 
 /// Whether a header opens as a directory wherever it is a member.
@@ -64,11 +76,26 @@ fn stands_kept<A: Allocator>(image: &Volume, at: usize, chains: &Chains<A>) -> b
     }
 }
 
+/// Whether a header with this name is a member of some directory.
+pub(crate) fn is_member_by<A: Allocator>(
+    image: &Volume,
+    at: usize,
+    name: Option<&[u8]>,
+    chains: &Chains<A>,
+) -> bool
+    requires slot { HasSlot image.now.bytes.now at }
+    requires name { option_map (λ n. n.now) name ≡ text_at image.now.bytes.now (at + HEAD_SIZE) }
+    requires chains { AreChains image.now.bytes.now chains.now }
+    ensures { IsTrue result ↔ IsSomeMember image.now.bytes.now at }
+{
+    stands_kept(image, at, chains) && !is_dotted_by(image, at, name)
+}
+
 /// Whether a header is a member of some directory.
 pub(crate) fn is_some_member<A: Allocator>(image: &Volume, at: usize, chains: &Chains<A>) -> bool
     requires slot { HasSlot image.now.bytes.now at }
     requires chains { AreChains image.now.bytes.now chains.now }
     ensures { IsTrue result ↔ IsSomeMember image.now.bytes.now at }
 {
-    stands_kept(image, at, chains) && !is_dotted(image, at)
+    is_member_by(image, at, text_at(image.bytes, at + HEAD_SIZE), chains)
 }

@@ -1,6 +1,8 @@
 //! Headers that are reached, and lie outside the image.
 
-ghost use Rattle.std.specs.Prelude.{◌≡◌, ◌*◌, ◌/◌, ◌<◌};
+ghost use Rattle.std.specs.Prelude.{◌≡◌, ◌*◌, ◌/◌, ◌<◌, ◌⊎◌, ◌↔◌, IsTrue};
+ghost use Rattle.romfs_format.specs.Chains.{IsSomeMember};
+ghost use Rattle.romfs_format.specs.Links.{IsTarget};
 ghost use Rattle.romfs_rules.specs.Targets.{AreTargets};
 ghost use Rattle.romfs_rules.specs.Marks.{HasSlot};
 ghost use Rattle.romfs_rules.specs.InChains.{AreChains};
@@ -11,6 +13,7 @@ use crate::chains::Chains;
 use crate::lead::destination_of;
 use crate::link::{first_link, next_link};
 use crate::member::is_some_member;
+use crate::slot::is_hard_link;
 use crate::volume::Volume;
 use romfs_format::limits::HEAD_SIZE;
 use slot_sets::SlotSet;
@@ -25,6 +28,21 @@ pub(crate) struct Outside {
     pub above: Option<u32>,
 }
 
+// Whether a header is a member, or a member's hard link leads over it.
+fn is_asked<A: Allocator>(
+    image: &Volume,
+    at: usize,
+    chains: &Chains<A>,
+    targets: &SlotSet<A>,
+) -> bool
+    requires slot { HasSlot image.now.bytes.now at }
+    requires chains { AreChains image.now.bytes.now chains.now }
+    requires targets { AreTargets image.now.bytes.now targets.now }
+    ensures { IsTrue result ↔ (IsSomeMember image.now.bytes.now at ⊎ IsTarget image.now.bytes.now at) }
+{
+    targets.contains(at / 16) || is_some_member(image, at, chains)
+}
+
 // The destination of a hard link that is a member, or that a member's hard link leads over.
 fn named_destination<A: Allocator>(
     image: &Volume,
@@ -37,7 +55,10 @@ fn named_destination<A: Allocator>(
     requires targets { AreTargets image.now.bytes.now targets.now }
     ensures { IsTheOne (NamesDestination image.now.bytes.now at) result }
 {
-    if targets.contains(at / 16) || is_some_member(image, at, chains) {
+    if !is_hard_link(image, at) {
+        return None;
+    }
+    if is_asked(image, at, chains, targets) {
         destination_of(image, at)
     } else {
         None

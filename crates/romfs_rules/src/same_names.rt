@@ -1,9 +1,9 @@
 //! Members of a directory that have the name of another.
 //!
 //! Chains may merge and go round, so that a header may stand in the chains of many directories, and to compare the
-//! names of each chain on its own would be quadratic. But each header leads on to one, in whatever chain. So the headers
-//! are numbered, equal names are one class (`name_classes`), and `graph_climb` notes the numbers with a lower one of their class
-//! on their way or before them.
+//! names of each chain on its own would be quadratic. But each header leads on to one, in whatever chain. So the
+//! headers are numbered, equal names are one class (`name_classes`), and `graph_climb` notes the numbers with a lower
+//! one of their class on their way or before them.
 
 ghost use Rattle.std.specs.Prelude.{◌+◌, ◌/◌, ◌^◌, ◌<◌, ◌≤◌, ℕ, IfOk, length, get_or};
 ghost use Rattle.romfs_rules.specs.Marks.{HasRootElsewhere};

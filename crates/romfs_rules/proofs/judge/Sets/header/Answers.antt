@@ -8,9 +8,9 @@ invariant_of-result g c =
     let sets = subst (λ a. AreSets a c.self.inside) c.self.view_is c.self.invariant in
     rw c.self.view_is (record {
       asked = c.requires;
-      is_name = rw c.self.view_is at c.text_at.ensures.value;
-      name_within = rw c.self.view_is at c.text_at.ensures.within;
-      is_member = rw c.self.view_is at c.is_some_member-member.ensures;
+      is_name = rw c.self.view_is at c.text_at-name.ensures.value;
+      name_within = rw c.self.view_is at c.text_at-name.ensures.within;
+      is_member = rw c.self.view_is at c.is_member_by-member.ensures;
       is_used = c.is_used.ensures;
       is_twice = c.is_twice.ensures;
       has_same_name = listed_says _ _ _ _ sets.same_names c.requires.alone c.is_listed.ensures;
@@ -18,7 +18,7 @@ invariant_of-result g c =
     })
 
 pub is_used-requires-clause-member : goal.is_used-requires-clause-member
-is_used-requires-clause-member g c = rw c.self.view_is at c.is_some_member-member.ensures
+is_used-requires-clause-member g c = rw c.self.view_is at c.is_member_by-member.ensures
 
 pub end_of-requires-clause-member : goal.end_of-requires-clause-member
-end_of-requires-clause-member g c = rw c.self.view_is at c.is_some_member-member.ensures
+end_of-requires-clause-member g c = rw c.self.view_is at c.is_member_by-member.ensures
