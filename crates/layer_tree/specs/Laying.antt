@@ -85,19 +85,22 @@ pub record AreClashes {T : Type 0} (m : T → Mark) (files others : List (Shoot 
       (λ q. marked m (spread others) (n ∷ q)) (λ q. at_path (spread marks) (n ∷ q))
 
 -- the mark is that of all clashes of two branches
-pub record IsClashMark {T : Type 0} (m : T → Mark) (file other : Shoot T) (mark : Shoot Mark) : Type 0 where
+pub record IsClashMark {T : Type 0} (m : T → Mark) (file other : Shoot T)
+    (mark : Shoot Mark) : Type 0 where
   pub name : mark.name ≡ file.name
   pub rising : IsRising mark
   pub at : Clash (marked m (whole file)) (marked m (whole other)) (at_path (whole mark))
 
 -- the same of a mark that there may be
-abbrev pub HasClash : {T : Type 0} → (T → Mark) → Shoot T → Shoot T → Option (Shoot Mark) → Type 0
+abbrev pub HasClash : {T : Type 0} → (T → Mark) → Shoot T → Shoot T → Option (Shoot Mark)
+    → Type 0
 HasClash m file other mark = MatchOption mark
     (Clash (marked m (whole file)) (marked m (whole other)) (λ q. None))
     (λ k. IsClashMark m file other k)
 
 -- the same of two roots: no mark cuts the root itself
-pub record AreRootClashes {T : Type 0} (m : T → Mark) (file other : Shoot T) (mark : Shoot Mark) : Type 0 where
+pub record AreRootClashes {T : Type 0} (m : T → Mark) (file other : Shoot T)
+    (mark : Shoot Mark) : Type 0 where
   pub uncut : mark.value.cut ≡ false
   pub at : Clash (marked m (whole file)) (marked m (whole other)) (at_path (whole mark))
 

@@ -14,6 +14,7 @@
 //! show.
 #![tactic(auto)]
 
+mod ahead;
 mod clashes;
 pub mod laws;
 mod laying;

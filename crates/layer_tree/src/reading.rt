@@ -14,6 +14,7 @@ ghost use Rattle.layer_tree.specs.Trees.{IsTreeOf};
 ghost use Rattle.path_tree.specs.Rows.{NamesRise, named};
 ghost use Rattle.layer_tree.specs.Reading.{IsAtDepth, IsBranchAlone, AreByName, AreMadeOf, IsMadeOf, IsBlank, AreBuilt, AreWhiteouts, AreMembersAt, rest_of_opaque};
 
+use crate::ahead::Ahead;
 use crate::members::{Named, is_marker, sorted_members, whiteout_of};
 use crate::place::{Entry, Mark, Place};
 use crate::tree::{Child, Tree};
@@ -152,7 +153,9 @@ fn branches_below<A: Allocator + Copy>(
 {
     let mut entries = Vec::with_capacity(alloc, members.len())?;
     let mut marks = Vec::new(alloc);
+    let mut ahead = Ahead::new();
     for member in members {
+        ahead.pass(members);
         if is_marker(member.name) {
             continue;
         }

@@ -8,6 +8,7 @@ ghost use Rattle.node_table.specs.Building.{IsAbove, AreFollowing, AreChildPosts
 ghost use Rattle.node_table.specs.Building.{AddsRows, AddsDirectory, AddsNode, IsSeat};
 ghost use Rattle.node_table.specs.Seeds.{AreSeated, AreMade};
 
+use crate::ahead::Ahead;
 use crate::directory::{Directories, Directory};
 use crate::node::Node;
 use crate::numbering::Numbered;
@@ -164,7 +165,9 @@ pub(crate) fn make<A: Allocator + Copy>(
         rows: Vec::with_capacity(alloc, walk.spots.len())?,
         keys: Vec::with_capacity(alloc, walk.spots.len())?,
     };
+    let mut ahead = Ahead::new();
     for (at, start) in numbered.starts.iter().enumerate() {
+        ahead.pass(images, walk, &numbered.starts);
         let spot = &walk.spots[*start];
         let paths = numbered.paths[at];
         let node = add_node(

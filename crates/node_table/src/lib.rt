@@ -24,6 +24,7 @@
 //! look-ups, and on `rayon`.
 #![tactic(auto)]
 
+mod ahead;
 mod building;
 mod completing;
 mod directory;

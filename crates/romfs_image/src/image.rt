@@ -133,6 +133,12 @@ impl<A: Allocator> Image<A> {
         place_at(&self.bytes, self.root, offset)
     }
 
+    /// A byte at an offset, for whoever reads ahead what will be asked for later: no answer follows from it. None
+    /// beyond the image.
+    pub fn glance(&self, offset: u32) -> Option<u8> {
+        self.bytes.get(offset as usize).copied()
+    }
+
     /// The members of a directory, each once, in the order of its chain (romfs.rst, "next filehdr" and
     /// "spec.info"). Headers named `.` or `..` are passed over, and so is the root's in its own chain.
     /// A header of another kind has none.

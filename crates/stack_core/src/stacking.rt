@@ -1,6 +1,6 @@
 //! The tree of a list of layers.
 
-ghost use Rattle.std.specs.Prelude.{◌≡◌, ◌+◌, ◌<◌, ◌≤◌, length, map, IfOk};
+ghost use Rattle.std.specs.Prelude.{◌≡◌, ◌+◌, ◌<◌, ◌≤◌, ◌∷◌, [], length, map, IfOk};
 ghost use Rattle.std.specs.Option.{option_map};
 ghost use Rattle.std.specs.Thread.{IsSync};
 ghost use denote.Param.Send.{IsSend, Frees};
@@ -12,11 +12,14 @@ use romfs_image::Image;
 use std::alloc::{AllocError, Allocator};
 use std::thread::{Threads, join};
 
+/// How many times a list is cut into halves that are stacked at the same time.
+const FORKS: u32 = 4;
+
 /// The tree of a list of layers, the lowest first.
 ///
-/// The gate is passed with `Work::Tree` and the layer's number before its tree is made. Images are only read. A path
-/// of n layers that meets in every layer is gone over log n times. `AllocError` comes only where memory was
-/// refused, in whichever thread.
+/// The list is cut in two, and so on, and at most 16 parts are stacked at the same time. The gate is passed with
+/// `Work::Tree` and the layer's number before its tree is made. Images are only read. A path of n layers that meets in
+/// every layer is gone over log n times. `AllocError` comes only where memory was refused, in whichever thread.
 pub fn stack<R: Threads + Sync, A: Allocator + Copy + Send + Sync, G: Gate + Sync>(
     rt: &R,
     alloc: A,
@@ -27,13 +30,24 @@ pub fn stack<R: Threads + Sync, A: Allocator + Copy + Send + Sync, G: Gate + Syn
     requires few { length images.now ≤ 128 }
     ensures { IfOk result (λ tree. IsTreeOf 0 images.now tree) }
 {
-    stack_from(rt, alloc, 0, images, gate)
+    stack_from(rt, alloc, 0, images, gate, FORKS)
 }
 
-/// The tree of a run of layers, of which the lowest has the number `first`.
-#[cycle(halves)]
-fn stack_from<R: Threads + Sync, A: Allocator + Copy + Send + Sync, G: Gate + Sync>(
-    rt: &R,
+/// The tree of one layer.
+fn tree_of<A: Allocator + Copy, G: Gate>(
+    alloc: A,
+    layer: u16,
+    image: &Image<A>,
+    gate: &G,
+) -> Result<Tree<A>, AllocError>
+    ensures { IfOk result (λ tree. IsTreeOf layer (image.now ∷ []) tree) }
+{
+    gate.pass(Work::Tree, u32::from(layer));
+    Tree::of(alloc, image, layer)
+}
+
+/// The tree of a run of layers, of which the lowest has the number `first`, made by the caller alone.
+fn stack_alone<A: Allocator + Copy, G: Gate>(
     alloc: A,
     first: u16,
     images: &[Image<A>],
@@ -44,9 +58,36 @@ fn stack_from<R: Threads + Sync, A: Allocator + Copy + Send + Sync, G: Gate + Sy
     ensures { IfOk result (λ tree. IsTreeOf first images.now tree) }
 {
     if let [image] = images {
-        gate.pass(Work::Tree, u32::from(first));
-        return Tree::of(alloc, image, first);
+        return tree_of(alloc, first, image, gate);
     }
+    let half = images.len() / 2;
+    let (lows, highs) = images.split_at(half);
+    let low = stack_alone(alloc, first, lows, gate)?;
+    let high = stack_alone(alloc, first + half as u16, highs, gate)?;
+    lay(alloc, low, high)
+}
+
+/// The same, in halves at the same time, each of which is cut so once less.
+#[cycle(halves)]
+fn stack_from<R: Threads + Sync, A: Allocator + Copy + Send + Sync, G: Gate + Sync>(
+    rt: &R,
+    alloc: A,
+    first: u16,
+    images: &[Image<A>],
+    gate: &G,
+    forks: u32,
+) -> Result<Tree<A>, AllocError>
+    requires some { 1 ≤ length images.now }
+    requires few { first + length images.now ≤ 128 }
+    ensures { IfOk result (λ tree. IsTreeOf first images.now tree) }
+{
+    if let [image] = images {
+        return tree_of(alloc, first, image, gate);
+    }
+    if forks == 0 {
+        return stack_alone(alloc, first, images, gate);
+    }
+    let less = forks - 1;
     let half = images.len() / 2;
     let (lows, highs) = images.split_at(half);
     let next = first + half as u16;
@@ -57,13 +98,13 @@ fn stack_from<R: Threads + Sync, A: Allocator + Copy + Send + Sync, G: Gate + Sy
                 × Frees A.Allocator A.dealloc_token
                 × (1 ≤ length lows.now) × (first + length lows.now ≤ 128) }
             ensures { IfOk result (λ tree. IsTreeOf first lows.entry.now tree) }
-        { stack_from(rt, alloc, first, lows, gate) },
+        { stack_from(rt, alloc, first, lows, gate, less) },
         move || -> Result<Tree<A>, AllocError>
             requires { IsSync R.row × IsSync G.row × IsSync A.row × IsSend A.row
                 × Frees A.Allocator A.dealloc_token
                 × (1 ≤ length highs.now) × (next + length highs.now ≤ 128) }
             ensures { IfOk result (λ tree. IsTreeOf next highs.entry.now tree) }
-        { stack_from(rt, alloc, next, highs, gate) },
+        { stack_from(rt, alloc, next, highs, gate, less) },
     );
     lay(alloc, low?, high?)
 }

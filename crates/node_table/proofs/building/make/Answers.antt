@@ -43,7 +43,7 @@ add_node-requires-clause-above g c =
     let found = rw c.deref-start-items.ensures.value at c.index-spot.ensures in
     let same : c.index-spot.result.now ≡ s.0 = found ∙ get_or_is c.args.walk.now.spots.items (slice_index starts c.loop-at.at) s.0 _ (inv.3.there c.loop-at.at s.0 s.1) in
     let start : slice_index c.deref-start-items.result.now c.loop-at.at ≡ slice_index starts c.loop-at.at = ap (λ xs. slice_index xs c.loop-at.at) c.deref-start-items.ensures.value in
-    rw (start, c.deref.ensures.value, same) (inv.3.above c.loop-at.at s.0 s.1)
+    rw (start, c.deref-in-loop-at.ensures.value, same) (inv.3.above c.loop-at.at s.0 s.1)
 
 pub add_node-requires-clause-children : goal.add_node-requires-clause-children
 add_node-requires-clause-children g c =
@@ -54,7 +54,7 @@ add_node-requires-clause-children g c =
     let found = rw c.deref-start-items.ensures.value at c.index-spot.ensures in
     let same : c.index-spot.result.now ≡ s.0 = found ∙ get_or_is c.args.walk.now.spots.items (slice_index starts c.loop-at.at) s.0 _ (inv.3.there c.loop-at.at s.0 s.1) in
     let start : slice_index c.deref-start-items.result.now c.loop-at.at ≡ slice_index starts c.loop-at.at = ap (λ xs. slice_index xs c.loop-at.at) c.deref-start-items.ensures.value in
-    rw (start, c.deref.ensures.value, same) (inv.3.children c.loop-at.at s.0 s.1)
+    rw (start, c.deref-in-loop-at.ensures.value, same) (inv.3.children c.loop-at.at s.0 s.1)
 
 pub loop-at-preserved : goal.loop-at-preserved
 loop-at-preserved g c =

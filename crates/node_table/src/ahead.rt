@@ -1,0 +1,69 @@
+//! Headers that will be read, read ahead.
+//!
+//! Places in the order of their numbers stand anywhere in their images, which are larger than the processor's caches.
+//! One after another the read of each header would be waited for. Here a byte of some dozens is read together, before
+//! their nodes are made, and none of these reads waits for another. No node follows from what is read here.
+
+use crate::walk::Walked;
+use layer_tree::Entry;
+use romfs_image::Image;
+use std::alloc::Allocator;
+
+/// How many headers are read together.
+const TOGETHER: usize = 64;
+
+/// How far the places have been gone over.
+#[derive(Drop)]
+pub(crate) struct Ahead {
+    passed: usize,
+    // A sum of all that was read, so that no compiler leaves the reading out.
+    sum: u64,
+}
+
+impl Ahead {
+    /// At the first place.
+    pub(crate) fn new() -> Self {
+        Ahead { passed: 0, sum: 0 }
+    }
+
+    /// Goes over one place more of these; now and then the headers of the next ones are read.
+    pub(crate) fn pass<A: Allocator>(
+        &mut self,
+        images: &[Image<A>],
+        walk: &Walked<'_, Entry, A>,
+        starts: &[usize],
+    ) {
+        if self.passed % TOGETHER == 0 {
+            self.read(images, walk, starts);
+        }
+        self.passed = self.passed.wrapping_add(1);
+    }
+
+    // Reads a byte of the next headers.
+    #[inline(never)]
+    fn read<A: Allocator>(
+        &mut self,
+        images: &[Image<A>],
+        walk: &Walked<'_, Entry, A>,
+        starts: &[usize],
+    ) {
+        if let Some(next) = starts.get(self.passed..) {
+            for start in next.iter().take(TOGETHER) {
+                self.sum ^= u64::from(byte_at(images, walk, *start).unwrap_or(0));
+            }
+        }
+    }
+}
+
+// What stands in the first and the last byte of the header of the branch at a place, and of a short name.
+fn byte_at<A: Allocator>(
+    images: &[Image<A>],
+    walk: &Walked<'_, Entry, A>,
+    start: usize,
+) -> Option<u8> {
+    let spot = walk.spots.get(start)?;
+    let place = spot.0.value().place;
+    let image = images.get(place.layer as usize)?;
+    let end = image.glance(place.header.wrapping_add(31))?;
+    Some(image.glance(place.header)? ^ end)
+}
