@@ -11,6 +11,7 @@
 //! The crate stands on `layer_tree` for trees and on `std::thread::join` for workers.
 #![tactic(auto)]
 
+mod alone;
 pub mod gate;
 mod stacking;
 

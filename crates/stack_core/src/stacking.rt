@@ -6,7 +6,8 @@ ghost use Rattle.std.specs.Thread.{IsSync};
 ghost use denote.Param.Send.{IsSend, Frees};
 ghost use Rattle.layer_tree.specs.Trees.{IsTreeOf, entry_at};
 
-use crate::gate::{Gate, Work};
+use crate::alone::{stack_alone, tree_of};
+use crate::gate::Gate;
 use layer_tree::{Place, Tree, lay};
 use romfs_image::Image;
 use std::alloc::{AllocError, Allocator};
@@ -33,41 +34,8 @@ pub fn stack<R: Threads + Sync, A: Allocator + Copy + Send + Sync, G: Gate + Syn
     stack_from(rt, alloc, 0, images, gate, FORKS)
 }
 
-/// The tree of one layer.
-fn tree_of<A: Allocator + Copy, G: Gate>(
-    alloc: A,
-    layer: u16,
-    image: &Image<A>,
-    gate: &G,
-) -> Result<Tree<A>, AllocError>
-    ensures { IfOk result (λ tree. IsTreeOf layer (image.now ∷ []) tree) }
-{
-    gate.pass(Work::Tree, u32::from(layer));
-    Tree::of(alloc, image, layer)
-}
-
-/// The tree of a run of layers, of which the lowest has the number `first`, made by the caller alone.
-fn stack_alone<A: Allocator + Copy, G: Gate>(
-    alloc: A,
-    first: u16,
-    images: &[Image<A>],
-    gate: &G,
-) -> Result<Tree<A>, AllocError>
-    requires some { 1 ≤ length images.now }
-    requires few { first + length images.now ≤ 128 }
-    ensures { IfOk result (λ tree. IsTreeOf first images.now tree) }
-{
-    if let [image] = images {
-        return tree_of(alloc, first, image, gate);
-    }
-    let half = images.len() / 2;
-    let (lows, highs) = images.split_at(half);
-    let low = stack_alone(alloc, first, lows, gate)?;
-    let high = stack_alone(alloc, first + half as u16, highs, gate)?;
-    lay(alloc, low, high)
-}
-
-/// The same, in halves at the same time, each of which is cut so once less.
+/// The tree of a run of layers, of which the lowest has the number `first`: of its halves at the same time, each of which
+/// is cut so once less, or made by the caller alone.
 #[cycle(halves)]
 fn stack_from<R: Threads + Sync, A: Allocator + Copy + Send + Sync, G: Gate + Sync>(
     rt: &R,
