@@ -1,5 +1,4 @@
 use Rattle.std.proofs.Common.{inl, inr}
-use Rattle.romfs_format.specs.Links.{IsTarget}
 use Rattle.romfs_rules.proofs.Judging.{mark_says, fails}
 use Rattle.romfs_rules.proofs.outside.is_asked.Goals as goal
 
