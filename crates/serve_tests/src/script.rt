@@ -81,6 +81,12 @@ const LOOKUPS: [u32; 132] = [
     0x00000000, 0x00000000, 0x00000000, 0x00000000,
 ];
 
+/// FORGET of one lookup of the root.
+const FORGET: [u32; 12] = [
+    0x30000000, 0x02000000, 0x00000000, 0x00000000, 0x01000000, 0x00000000, 0x00000000, 0x00000000,
+    0x00000000, 0x00000000, 0x01000000, 0x00000000,
+];
+
 /// The script, 652 bytes.
 pub fn script(alloc: Global) -> Result<Vec<u8>, AllocError> {
     bytes_of(alloc, &SCRIPT)
@@ -101,5 +107,39 @@ pub fn script_replies(alloc: Global) -> Result<Vec<u8>, AllocError> {
 pub fn lookups(alloc: Global) -> Result<Vec<u8>, AllocError> {
     let mut stream = bytes_of(alloc, &LOOKUPS)?;
     stream.truncate(525);
+    Ok(stream)
+}
+
+/// The script, and a WRITE of 200,000 bytes after it, for which the room for requests has to grow.
+pub fn long_stream(alloc: Global) -> Result<Vec<u8>, AllocError> {
+    let mut stream = script(alloc)?;
+    stream.extend_from_slice(&200_040u32.to_le_bytes())?;
+    stream.extend_from_slice(&[16, 0, 0, 0, 13, 0, 0, 0, 0, 0, 0, 0])?;
+    stream.resize(652 + 200_040, 0)?;
+    Ok(stream)
+}
+
+/// The replies to it. After DESTROY the last one is EIO.
+pub fn long_replies(alloc: Global) -> Result<Vec<u8>, AllocError> {
+    let mut replies = script_replies(alloc)?;
+    replies.extend_from_slice(&[16, 0, 0, 0, 0xfb, 0xff, 0xff, 0xff])?;
+    replies.extend_from_slice(&[13, 0, 0, 0, 0, 0, 0, 0])?;
+    Ok(replies)
+}
+
+/// INIT and LOOKUP, 100 bytes, and then a length that no message has.
+pub fn bad_stream(alloc: Global) -> Result<Vec<u8>, AllocError> {
+    let mut stream = script(alloc)?;
+    stream.truncate(100);
+    stream.extend_from_slice(&[39, 0, 0, 0, 0])?;
+    Ok(stream)
+}
+
+/// 21,846 FORGETs of one lookup of the root, 48 bytes each.
+pub fn forgets(alloc: Global) -> Result<Vec<u8>, AllocError> {
+    let mut stream = Vec::new(alloc);
+    for _ in 0..21_846 {
+        put_words(&mut stream, &FORGET)?;
+    }
     Ok(stream)
 }
