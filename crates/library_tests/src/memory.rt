@@ -1,37 +1,64 @@
-//! Each request for memory is refused in turn, where an image is built and checked.
+//! Each request for memory of a call is refused in turn, in whichever thread.
 
+use crate::stacks::wrong_of;
+use crate::tables::table_of;
 use romfs_image::sample::BuildFault;
-use romfs_image::{CheckFault, Image};
-use std::alloc::Allocator;
+use stack_core::FreePass;
+use std::alloc::{Allocator, Global};
 use std::test::Fail;
-use test_kit::refusing::{Refusing, refuse_each};
-use test_kit::sample_images::sample;
+use std::thread::Threads;
+use test_kit::refusing::refuse_each;
+use test_kit::sample_images::{SAMPLE, checked, sample};
 
-/// Builds the sample and checks it.
-fn build_and_check<A: Allocator + Copy>(alloc: A) -> Result<bool, BuildFault> {
-    let bytes = sample(alloc)?;
-    match Image::check(alloc, bytes) {
-        Ok(image) => Ok(image.full() == 5360),
-        Err(CheckFault::Memory) => Err(BuildFault::Memory),
-        Err(_) => Ok(false),
+#[derive(Clone, Copy, Debug)]
+enum Call {
+    Build,
+    Check,
+    Stack,
+    Table,
+}
+
+/// Whether a call comes to what it should.
+fn is_right<R: Threads + Sync, A: Allocator + Copy + Send + Sync>(
+    rt: &R,
+    alloc: A,
+    call: Call,
+) -> Result<bool, BuildFault> {
+    match call {
+        Call::Build => Ok(sample(alloc)?.len() == 5360),
+        Call::Check => Ok(checked(alloc, sample(alloc)?)?.full() == 5360),
+        Call::Stack => {
+            // An opaque marker over a marker for a name.
+            let layers = "1/a 2-c 1-b + 1-.wh.b 1/a 2-d + 1/a 2-.wh..wh..opq 2-c";
+            let stack = (layers, "", "2f!/a/c no!/a/d no!/b");
+            Ok(wrong_of(rt, alloc, stack, &FreePass)?.is_none())
+        }
+        Call::Table => Ok(table_of(rt, alloc, SAMPLE)?.len() == 6),
     }
 }
 
-#[test]
-fn an_image_is_built_and_checked(rt: HostRuntime) -> Result<(), Fail> {
-    let counting = Refusing::new(rt.alloc(), 0);
-    sample(&counting)?;
-    let building = counting.requests();
-    let requests = refuse_each(rt.alloc(), |refusing, refuse_at| {
-        let result = build_and_check(refusing);
+/// How many requests a call makes, each of which is refused once.
+fn requests_of<R: Threads + Sync>(rt: &R, alloc: Global, call: Call) -> Result<u64, Fail> {
+    refuse_each(alloc, |refusing, refuse_at| {
+        let came_to = is_right(rt, refusing, call);
         let wanted = if refusing.refused() {
             Err(BuildFault::Memory)
         } else {
             Ok(true)
         };
-        assert!(rt; result == wanted, "at {refuse_at}");
-        Ok(())
-    })?;
-    assert!(rt; building < requests);
+        if came_to == wanted {
+            Ok(())
+        } else {
+            Err(Fail::new(format_args!("{call:?} at {refuse_at}")))
+        }
+    })
+}
+
+#[test]
+fn each_request_is_refused_in_turn(rt: HostRuntime) -> Result<(), Fail> {
+    let building = requests_of(&rt, rt.alloc(), Call::Build)?;
+    assert!(rt; building < requests_of(&rt, rt.alloc(), Call::Check)?);
+    assert!(rt; 50 < requests_of(&rt, rt.alloc(), Call::Stack)?);
+    assert!(rt; 10 < requests_of(&rt, rt.alloc(), Call::Table)?);
     Ok(())
 }

@@ -7,7 +7,7 @@ use romfs_image::{Head, Image};
 use std::alloc::{AllocError, Allocator, Global};
 use std::test::Fail;
 use test_kit::bytes::bytes_of;
-use test_kit::sample_images::{empty, mixed};
+use test_kit::sample_images::{checked, empty, mixed};
 
 /// An image as genromfs lays it out: the root's `.` heads its own chain, `..` is a hard link to it,
 /// and then come `passwd`, an empty `motd` and an executable `init`.
@@ -22,45 +22,35 @@ const THREE_FILES: [u32; 64] = [
     0x23212f62, 0x696e2f73, 0x680a6578, 0x65632073, 0x680a0000, 0x00000000, 0x00000000, 0x00000000,
 ];
 
-/// The names of the root's members.
-fn names<A: Allocator>(alloc: Global, image: &Image<A>) -> Result<Vec<&[u8]>, AllocError> {
-    let mut names = Vec::new(alloc);
-    let root = image.root();
-    for head in image.members(&root) {
-        names.push(image.name(&head))?;
+/// The names of the root's members, each with the data at the end of its hard links.
+fn files<A: Allocator>(alloc: Global, image: &Image<A>) -> Result<Vec<(&[u8], &[u8])>, AllocError> {
+    let mut files = Vec::new(alloc);
+    for head in image.members(&image.root()) {
+        let file = image.target(&head);
+        files.push((image.name(&head), image.body(&file)))?;
     }
-    Ok(names)
+    Ok(files)
 }
 
-/// The data of the root's members, each at the end of its hard links.
-fn bodies<A: Allocator>(alloc: Global, image: &Image<A>) -> Result<Vec<&[u8]>, AllocError> {
-    let mut bodies = Vec::new(alloc);
-    let root = image.root();
-    for head in image.members(&root) {
-        let file = image.target(&head);
-        bodies.push(image.body(&file))?;
-    }
-    Ok(bodies)
+/// Whether the image has its three files, in the order in which they stand.
+fn has_three_files<A: Allocator>(alloc: Global, image: &Image<A>) -> Result<bool, AllocError> {
+    let wanted = [
+        (
+            b"passwd".as_slice(),
+            b"root:x:0:0:root:/:/bin/sh\n".as_slice(),
+        ),
+        (b"motd", b""),
+        (b"init", b"#!/bin/sh\nexec sh\n"),
+    ];
+    Ok(files(alloc, image)?.as_slice() == wanted.as_slice())
 }
 
 #[test]
 fn reads_three_files(rt: HostRuntime) -> Result<(), Fail> {
-    let image = Image::check(rt.alloc(), bytes_of(rt.alloc(), &THREE_FILES)?)?;
-    assert!(rt; image.full() == 256);
-    let names = names(rt.alloc(), &image)?;
-    assert!(rt; names.as_slice() == [b"passwd".as_slice(), b"motd", b"init"].as_slice());
-    let bodies = bodies(rt.alloc(), &image)?;
-    assert!(rt;
-        bodies.as_slice()
-            == [
-                b"root:x:0:0:root:/:/bin/sh\n".as_slice(),
-                b"",
-                b"#!/bin/sh\nexec sh\n"
-            ]
-            .as_slice()
-    );
-    assert!(rt; image.head(32) == Some(image.root()));
-    assert!(rt; image.head(33).is_none());
+    let image = checked(rt.alloc(), bytes_of(rt.alloc(), &THREE_FILES)?)?;
+    let has_files = has_three_files(rt.alloc(), &image)?;
+    let has_root = image.head(32) == Some(image.root()) && image.head(33).is_none();
+    assert!(rt; has_files && has_root && image.full() == 256);
     Ok(())
 }
 
@@ -92,7 +82,7 @@ fn list_two<A: Allocator>(alloc: Global, image: &Image<A>) -> Result<Vec<(u32, u
 
 #[test]
 fn reads_members_and_targets(rt: HostRuntime) -> Result<(), Fail> {
-    let image = Image::check(rt.alloc(), mixed(rt.alloc())?)?;
+    let image = checked(rt.alloc(), mixed(rt.alloc())?)?;
     let found = list_two(rt.alloc(), &image)?;
     let wanted = [
         (0x60, 0x100),
@@ -102,7 +92,7 @@ fn reads_members_and_targets(rt: HostRuntime) -> Result<(), Fail> {
         (0x120, 0x120),
         (0x1a0, 0x100),
     ];
-    assert_eq!(rt; found.as_slice(), wanted.as_slice());
+    assert!(rt; found.as_slice() == wanted.as_slice());
     Ok(())
 }
 
@@ -114,8 +104,7 @@ fn reads_a_root_without_a_name(rt: HostRuntime) -> Result<(), Fail> {
     bytes[11] = 48;
     bytes[0x27] = 0;
     seal(&mut bytes);
-    let image = Image::check(rt.alloc(), bytes)?;
-    assert!(rt; image.name(&image.root()).is_empty());
-    assert!(rt; image.head(0x20).is_none());
+    let image = checked(rt.alloc(), bytes)?;
+    assert!(rt; image.name(&image.root()).is_empty() && image.head(0x20).is_none());
     Ok(())
 }

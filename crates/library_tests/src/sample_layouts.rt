@@ -1,10 +1,10 @@
 //! What is laid out for listings.
 
-use romfs_image::sample::{BuildFault, What, build};
+use romfs_image::sample::{BuildFault, build};
 use std::alloc::{AllocError, Global};
 use std::test::Fail;
 use test_kit::bytes::{bytes_of, put_words};
-use test_kit::sample_images::{empty, item, mixed, sample};
+use test_kit::sample_images::{empty, image, mixed, sample};
 
 /// What the sample has before the data of its file `big`: 5,000 bytes, each of them its place modulo 251.
 const SAMPLE_HEAD: [u32; 32] = [
@@ -65,39 +65,26 @@ fn lays_out_three_images(rt: HostRuntime) -> Result<(), Fail> {
     Ok(())
 }
 
-/// A volume's name; the depths of a directory, a hard link and a fifo; the index that the link leads to;
-/// and the fifo's name.
-type Listing = (&'static [u8], (u16, u16, u16), usize, &'static [u8]);
-
-static BAD: [Listing; 9] = [
-    (b"v\0", (1, 2, 2), 0, b"f"),
-    (b"v", (0, 1, 1), 0, b"f"),
-    (b"v", (2, 2, 2), 0, b"f"),
-    (b"v", (1, 0, 1), 0, b"f"),
-    (b"v", (1, 3, 1), 0, b"f"),
-    (b"v", (1, 2, 3), 0, b"f"),
-    (b"v", (1, 1, 2), 0, b"f"),
-    (b"v", (1, 2, 1), 3, b"f"),
-    (b"v", (1, 2, 1), 0, b"\0"),
+/// Names of a volume, each with the words of a listing.
+static BAD: [(&str, &str); 9] = [
+    ("v\0", "1/d 20/ 2|f"),
+    ("v", "0/d 10/ 1|f"),
+    ("v", "2/d 20/ 2|f"),
+    ("v", "1/d 00/ 1|f"),
+    ("v", "1/d 30/ 1|f"),
+    ("v", "1/d 20/ 3|f"),
+    ("v", "1/d 10/ 2|f"),
+    ("v", "1/d 23/ 1|f"),
+    ("v", "1/d 20/ 1|\0"),
 ];
 
-/// The length of the image of a listing.
-fn build_three(alloc: Global, listing: &Listing) -> Result<usize, BuildFault> {
-    let (volume, depths, index, name) = *listing;
-    let items = vec![in alloc;
-        item(alloc, depths.0, b"d", What::Directory)?,
-        item(alloc, depths.1, b"/", What::Hard(index))?,
-        item(alloc, depths.2, name, What::Fifo)?,
-    ]?;
-    Ok(build(alloc, volume, &items)?.len())
-}
-
 #[test]
-fn refuses_a_bad_listing(rt: HostRuntime) {
-    let good = (b"".as_slice(), (1, 2, 1), 2, b"".as_slice());
-    assert_eq!(rt; build_three(rt.alloc(), &good), Ok(0x100));
-    for (row, listing) in BAD.iter().enumerate() {
-        let built = build_three(rt.alloc(), listing);
-        assert_eq!(rt; built, Err(BuildFault::Listing), "row {row}");
+fn refuses_a_bad_listing(rt: HostRuntime) -> Result<(), Fail> {
+    let good = image(rt.alloc(), b"", "1/d 22/ 1|")?.len();
+    assert_eq!(rt; good, 0x100);
+    for (volume, words) in BAD {
+        let fault = image(rt.alloc(), volume.as_bytes(), words).err();
+        assert_eq!(rt; fault, Some(BuildFault::Listing), "{words}");
     }
+    Ok(())
 }

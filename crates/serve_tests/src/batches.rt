@@ -1,9 +1,8 @@
 //! Rounds of jobs by any plan: their replies, the sums of their moves, and the gates that they pass.
 
-use crate::jobs::{Job, jobs_of};
+use crate::jobs::jobs_of;
 use crate::runs::sample_table;
 use crate::script::{lookups, script, script_replies};
-use node_table::Table;
 use reply_model::Move;
 use reply_pool::{Plan, Rounded, round};
 use stack_core::{Gate, Work};
@@ -11,7 +10,6 @@ use std::alloc::{AllocError, Allocator, Global};
 use std::sync::atomic::{AtomicU64, Ordering};
 use std::test::Fail;
 use std::thread::Threads;
-use test_kit::refusing::{Refusing, refuse_each};
 
 const PLANS: [(u32, u32); 6] = [(1, 1), (2, 1), (5, 1), (1, 3), (2, 3), (5, 3)];
 
@@ -45,52 +43,19 @@ impl Gate for Notes {
     }
 }
 
-/// A round of the first jobs over a table.
-fn round_of<R: Threads + Sync, A: Allocator + Copy + Send + Sync>(
-    rt: &R,
-    alloc: A,
-    table: &Table<A>,
-    jobs: &[Job<'_>],
-    plan: (u32, u32),
-    notes: &Notes,
-) -> Option<Result<Rounded<A>, AllocError>> {
-    let plan = Plan::new(plan.0, plan.1)?;
-    let few = jobs.len().min(256);
-    Some(round(rt, alloc, table, &jobs[..few], plan, notes))
+#[derive(Clone, Copy, Debug, PartialEq, Eq)]
+pub enum Jobs {
+    None,
+    Script,
+    Lookups,
 }
 
-/// Whether a round came to these replies and moves.
-fn came_to<A: Allocator>(
-    rounded: &Option<Result<Rounded<A>, AllocError>>,
-    replies: &[u8],
-    moves: &[Move],
-) -> bool {
-    match rounded {
-        Some(Ok(rounded)) => {
-            rounded.bytes.as_slice() == replies && rounded.moves.as_slice() == moves
-        }
-        _ => false,
+fn stream_of(alloc: Global, jobs: Jobs) -> Result<Vec<u8>, AllocError> {
+    match jobs {
+        Jobs::None => Ok(Vec::new(alloc)),
+        Jobs::Script => script(alloc),
+        Jobs::Lookups => lookups(alloc),
     }
-}
-
-#[test]
-fn the_script_gives_back_what_it_takes(rt: HostRuntime) -> Result<(), Fail> {
-    let table = sample_table(&rt, rt.alloc()).ok_or("the sample image")?;
-    let script = script(rt.alloc())?;
-    let replies = script_replies(rt.alloc())?;
-    let jobs = jobs_of(rt.alloc(), &script)?;
-    for plan in PLANS {
-        let notes = Notes::new();
-        let rounded = round_of(&rt, rt.alloc(), &table, &jobs, plan, &notes);
-        assert!(rt; came_to(&rounded, &replies, &[]), "by {plan:?}");
-        let passed = if plan.1 == 1 {
-            0x1234_5678_9abc
-        } else {
-            0x1234
-        };
-        assert_eq!(rt; notes.digits(), passed);
-    }
-    Ok(())
 }
 
 /// What the script of lookups gives and takes: the first FORGET takes more from node 6 than it was given, and the
@@ -99,65 +64,57 @@ fn sums() -> [Move; 5] {
     [(1, 1), (2, 1), (3, 2), (5, 1), (6, -4)].map(|(node, amount)| Move { node, amount })
 }
 
-#[test]
-fn moves_are_summed(rt: HostRuntime) -> Result<(), Fail> {
-    let table = sample_table(&rt, rt.alloc()).ok_or("the sample image")?;
-    let stream = lookups(rt.alloc())?;
-    let jobs = jobs_of(rt.alloc(), &stream)?;
-    for plan in PLANS {
-        let notes = Notes::new();
-        let rounded = round_of(&rt, rt.alloc(), &table, &jobs, plan, &notes);
-        let Some(Ok(rounded)) = rounded else {
-            return Err(Fail::new("no round"));
-        };
-        assert!(rt; rounded.bytes.len() == 1648, "by {plan:?}");
-        assert!(rt;
-            rounded.moves.as_slice() == sums().as_slice(),
-            "by {plan:?}"
-        );
+/// Whether a round came to the replies to these jobs, and to the sums of their moves. Of lookups the length is asked.
+fn is_right<A: Allocator>(rounded: &Rounded<A>, jobs: Jobs, replies: &[u8]) -> bool {
+    let bytes = rounded.bytes.as_slice();
+    let moves = rounded.moves.as_slice();
+    match jobs {
+        Jobs::None => bytes.is_empty() && moves.is_empty(),
+        Jobs::Script => bytes == replies && moves.is_empty(),
+        Jobs::Lookups => bytes.len() == 1648 && moves == sums().as_slice(),
     }
-    Ok(())
 }
 
-#[test]
-fn a_round_of_no_jobs(rt: HostRuntime) -> Result<(), Fail> {
-    let table = sample_table(&rt, rt.alloc()).ok_or("the sample image")?;
-    let notes = Notes::new();
-    let rounded = round_of(&rt, rt.alloc(), &table, &[], (2, 3), &notes);
-    assert!(rt; came_to(&rounded, &[], &[]) && notes.digits() == 0);
-    Ok(())
-}
-
-/// Whether a round of the jobs comes to these replies and moves, or fails where memory is refused.
-fn round_is_told<'a, R: Threads + Sync>(
+/// Whether a round of jobs comes to what it should, and the batches that pass its gate; over the table of the sample
+/// image, in memory of `plain`.
+pub fn round_of<R: Threads + Sync, A: Allocator + Copy + Send + Sync>(
     rt: &R,
-    plain: &'a Refusing<Global>,
-    alloc: &'a Refusing<Global>,
-    jobs: &[Job<'_>],
-    replies: usize,
-) -> bool {
-    let Some(table) = sample_table(rt, plain) else {
-        return false;
-    };
-    match round_of(rt, alloc, &table, jobs, (2, 3), &Notes::new()) {
-        Some(Ok(rounded)) => !alloc.refused() && rounded.bytes.len() == replies,
-        Some(Err(AllocError)) => alloc.refused(),
-        None => false,
+    global: Global,
+    plain: A,
+    alloc: A,
+    jobs: Jobs,
+    plan: (u32, u32),
+) -> Option<Result<(bool, u64), AllocError>> {
+    let plan = Plan::new(plan.0, plan.1)?;
+    let notes = Notes::new();
+    let stream = stream_of(global, jobs).ok()?;
+    let replies = script_replies(global).ok()?;
+    let requests = jobs_of(global, &stream).ok()?;
+    let table = sample_table(rt, plain)?;
+    let few = requests.len().min(256);
+    match round(rt, alloc, &table, &requests[..few], plan, &notes) {
+        Ok(rounded) => Some(Ok((is_right(&rounded, jobs, &replies), notes.digits()))),
+        Err(AllocError) => Some(Err(AllocError)),
     }
 }
 
 #[test]
-fn a_round_is_refused(rt: HostRuntime) -> Result<(), Fail> {
-    let stream = lookups(rt.alloc())?;
-    let jobs = jobs_of(rt.alloc(), &stream)?;
-    let plain = Refusing::new(rt.alloc(), 0);
-    let requests = refuse_each(rt.alloc(), |refusing, refuse_at| {
-        assert!(rt;
-            round_is_told(&rt, &plain, refusing, &jobs, 1648),
-            "at {refuse_at}"
-        );
-        Ok(())
-    })?;
-    assert!(rt; 5 < requests);
+fn rounds_by_any_plan(rt: HostRuntime) -> Result<(), Fail> {
+    for jobs in [Jobs::None, Jobs::Script, Jobs::Lookups] {
+        for plan in PLANS {
+            let came_to = round_of(&rt, rt.alloc(), rt.alloc(), rt.alloc(), jobs, plan);
+            let Some(Ok((is_right, digits))) = came_to else {
+                return Err(Fail::new("no round"));
+            };
+            assert!(rt; is_right, "{jobs:?} by {plan:?}");
+            let passed = match (jobs, plan.1) {
+                (Jobs::None, _) => 0,
+                (Jobs::Script, 1) => 0x1234_5678_9abc,
+                (Jobs::Script, _) => 0x1234,
+                (Jobs::Lookups, _) => digits,
+            };
+            assert!(rt; digits == passed, "{jobs:?} by {plan:?}");
+        }
+    }
     Ok(())
 }

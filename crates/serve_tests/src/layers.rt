@@ -1,34 +1,15 @@
 //! Images that are refused, and the strict profile.
 
-use crate::reader::Pieces;
-use crate::runs::{Outcome, Seen, serve_over};
-use crate::script::{script, script_replies};
-use crate::writer::Taker;
-use reply_pool::Plan;
+use crate::runs::{Outcome, Run, Seen, WHOLE, serve_of};
 use romfs_format::{ImageFault, Profile, Rule};
-use romfs_image::sample::BuildFault;
+use romfs_image::sample::{BuildFault, seal};
 use serve_core::Stop;
-use std::alloc::Global;
+use std::alloc::{AllocError, Global};
 use std::test::Fail;
-use test_kit::bytes::bytes_of;
 use test_kit::sample_images::{alone, empty, sample};
 
-/// The empty image with another checksum of the volume.
-const BAD_SUM: [u32; 24] = [
-    0x2d726f6d, 0x3166732d, 0x00000060, 0x2b271d07, 0x76000000, 0x00000000, 0x00000000, 0x00000000,
-    0x00000049, 0x00000020, 0x00000000, 0xd1ffff97, 0x2e000000, 0x00000000, 0x00000000, 0x00000000,
-    0x00000000, 0x00000020, 0x00000000, 0xd1d1ffe0, 0x2e2e0000, 0x00000000, 0x00000000, 0x00000000,
-];
-
-/// The empty image with the checksum 0 of the root's header, and a checksum of the volume that goes with it.
-const BAD_HEADER: [u32; 24] = [
-    0x2d726f6d, 0x3166732d, 0x00000060, 0xfd271c9d, 0x76000000, 0x00000000, 0x00000000, 0x00000000,
-    0x00000049, 0x00000020, 0x00000000, 0x00000000, 0x2e000000, 0x00000000, 0x00000000, 0x00000000,
-    0x00000000, 0x00000020, 0x00000000, 0xd1d1ffe0, 0x2e2e0000, 0x00000000, 0x00000000, 0x00000000,
-];
-
 /// The layers of a row.
-#[derive(Clone, Copy)]
+#[derive(Clone, Copy, Debug)]
 enum Layers {
     None,
     BadSumOverEmpty,
@@ -36,15 +17,36 @@ enum Layers {
     Sample,
 }
 
+/// The empty image with another checksum of the volume.
+fn bad_sum(alloc: Global) -> Result<Vec<u8>, AllocError> {
+    let mut image = empty(alloc)?;
+    if let Some(byte) = image.get_mut(15) {
+        *byte = 7;
+    }
+    Ok(image)
+}
+
+/// The empty image with the checksum 0 of the root's header, and a checksum of the volume that goes with it.
+fn bad_header(alloc: Global) -> Result<Vec<u8>, AllocError> {
+    let mut image = empty(alloc)?;
+    for place in 44..48 {
+        if let Some(byte) = image.get_mut(place) {
+            *byte = 0;
+        }
+    }
+    seal(&mut image);
+    Ok(image)
+}
+
 fn images_of(alloc: Global, layers: Layers) -> Result<Vec<Vec<u8>>, BuildFault> {
     match layers {
         Layers::None => Ok(Vec::new(alloc)),
         Layers::BadSumOverEmpty => {
             let mut images = alone(alloc, empty(alloc)?)?;
-            images.push(bytes_of(alloc, &BAD_SUM)?)?;
+            images.push(bad_sum(alloc)?)?;
             Ok(images)
         }
-        Layers::BadHeader => Ok(alone(alloc, bytes_of(alloc, &BAD_HEADER)?)?),
+        Layers::BadHeader => Ok(alone(alloc, bad_header(alloc)?)?),
         Layers::Sample => Ok(alone(alloc, sample(alloc)?)?),
     }
 }
@@ -63,41 +65,31 @@ const SERVED: Outcome = (Ok((12, 1531)), 1531, 2, 2);
 
 #[test]
 fn refused_images_touch_no_device(rt: HostRuntime) -> Result<(), Fail> {
-    let script = script(rt.alloc())?;
-    let replies = script_replies(rt.alloc())?;
-    let plan = Plan::new(2, 3).ok_or("a plan")?;
+    let (usual, strict) = (Profile::Usual, Profile::Strict);
     for (layers, profile, wanted) in [
-        (
-            Layers::None,
-            Profile::Usual,
-            untouched(Stop::Layers { count: 0 }),
-        ),
+        (Layers::None, usual, untouched(Stop::Layers { count: 0 })),
         (
             Layers::BadSumOverEmpty,
-            Profile::Usual,
+            usual,
             untouched(fault(1, Rule::Sum, 12)),
         ),
         (
             Layers::BadHeader,
-            Profile::Strict,
+            strict,
             untouched(fault(0, Rule::HeaderSum, 32)),
         ),
-        (Layers::Sample, Profile::Strict, SERVED),
+        (Layers::Sample, strict, SERVED),
     ] {
         let images = images_of(rt.alloc(), layers)?;
-        let pieces = Pieces::of(&script, 999);
-        let taker = Taker::new(rt.alloc());
-        let seen = serve_over(
-            &rt,
-            rt.alloc(),
-            images,
-            profile,
-            plan,
-            pieces,
-            taker,
-            &replies,
+        let row = Run {
+            piece: 999,
+            ..WHOLE
+        };
+        let seen = serve_of(&rt, rt.alloc(), rt.alloc(), images, profile, row);
+        assert!(rt;
+            seen == Some(Seen::of(wanted)),
+            "{layers:?} came to {seen:?}"
         );
-        assert_eq!(rt; seen, Seen::of(wanted));
     }
     Ok(())
 }

@@ -1,14 +1,15 @@
 //! The tests of `serve_core` over devices of their own: pieces of every size, devices that fail, too few turns, and
-//! memory that is refused. No command shows how often a device is called, or that it is not called. The tests of rounds
-//! and of single answers stand here too.
+//! memory that is refused. No command shows how often a device is called, or that it is not called. The tests of
+//! rounds, of single answers and of the writers of `fuse_wire` stand here too.
 //!
 //! - `streams`: one stream, however it is cut, answered and taken; how often each device is called.
-//! - `memory`: each request for memory is refused in turn.
-//! - `batches`: rounds of jobs by any plan; each request for memory is refused in turn.
-//! - `answers`: single answers and their moves, with each request for memory refused in turn.
+//! - `memory`: each request for memory of a call is refused in turn.
+//! - `batches`: rounds of jobs by any plan.
+//! - `answers`: single answers and their moves.
 //! - `layers`: images that are refused, with no call of a device; the strict profile.
+//! - `writers`: each writer with its request for memory refused.
 //!
-//! What they share: `reader` and `writer`, the two devices; `runs`, what a run came to; `script`, two streams and the
+//! What they share: `reader` and `writer`, the two devices; `runs`, what a run came to; `script`, the streams and the
 //! replies to one; `jobs`, the requests of a stream.
 #![tactic(auto)]
 
@@ -32,3 +33,5 @@ mod script;
 mod streams;
 #[cfg(test)]
 mod writer;
+#[cfg(test)]
+mod writers;

@@ -1,157 +1,177 @@
 //! Each request for memory of a call is refused in turn.
 
-use crate::reader::Pieces;
-use crate::runs::{Seen, TURNS, run_over, sample_table, serve_over};
-use crate::script::{script, script_replies};
-use crate::writer::Taker;
-use reply_pool::Plan;
+use crate::answers::{Left, appended};
+use crate::batches::{Jobs, round_of};
+use crate::runs::{Run, Seen, Stream, WHOLE, run_of, serve_of};
 use romfs_format::Profile;
-use romfs_image::sample::BuildFault;
 use serve_core::{Stop, prepare};
 use stack_core::FreePass;
-use std::alloc::{AllocError, Global};
+use std::alloc::{AllocError, Allocator, Global};
 use std::test::Fail;
 use std::thread::Threads;
 use test_kit::refusing::{Refusing, refuse_each};
 use test_kit::sample_images::{alone, sample};
+
+#[derive(Clone, Copy, Debug)]
+enum Call {
+    Prepare,
+    Round,
+    Run,
+    /// With so many requests for memory to prepare the image.
+    Serve(u64),
+    /// The answer to the request with this index, or what it moves.
+    Answer(usize),
+    Moves(usize),
+}
 
 /// How many nodes the sample image has over itself.
 fn nodes_of_two<'a, R: Threads + Sync>(
     rt: &R,
     plain: &'a Refusing<Global>,
     alloc: &'a Refusing<Global>,
-) -> Result<Result<u64, Stop>, BuildFault> {
-    let mut images = alone(plain, sample(plain)?)?;
-    images.push(sample(plain)?)?;
+) -> Option<Result<u64, Stop>> {
+    let mut images = alone(plain, sample(plain).ok()?).ok()?;
+    images.push(sample(plain).ok()?).ok()?;
     match prepare(rt, alloc, images, &FreePass) {
-        Ok(table) => Ok(Ok(table.len())),
-        Err(stop) => Ok(Err(stop)),
+        Ok(table) => Some(Ok(table.len())),
+        Err(stop) => Some(Err(stop)),
     }
 }
 
-#[test]
-fn preparing_is_refused(rt: HostRuntime) -> Result<(), Fail> {
-    let plain = Refusing::new(rt.alloc(), 0);
-    let requests = refuse_each(rt.alloc(), |refusing, refuse_at| {
-        let nodes = nodes_of_two(&rt, &plain, refusing)?;
-        let wanted = if refusing.refused() {
-            Err(Stop::Memory)
-        } else {
-            Ok(6)
-        };
-        assert_eq!(rt; nodes, wanted, "at {refuse_at}");
-        Ok(())
-    })?;
-    assert!(rt; 50 < requests);
-    Ok(())
+/// The stream, for which the room for requests has to grow.
+const LONG: Run = Run {
+    stream: Stream::Long,
+    ..WHOLE
+};
+
+/// The stream over the sample image, in memory of `alloc`.
+fn serve_in<'a, R: Threads + Sync>(
+    rt: &R,
+    global: Global,
+    plain: &'a Refusing<Global>,
+    alloc: &'a Refusing<Global>,
+) -> Option<Seen> {
+    let images = alone(plain, sample(plain).ok()?).ok()?;
+    serve_of(rt, global, alloc, images, Profile::Usual, LONG)
 }
 
-/// The twelve-request script, and a WRITE of 200,000 bytes after it, for which the room for requests has to grow.
-fn long_stream(alloc: Global) -> Result<Vec<u8>, AllocError> {
-    let mut stream = script(alloc)?;
-    stream.extend_from_slice(&200_040u32.to_le_bytes())?;
-    stream.extend_from_slice(&[16, 0, 0, 0, 13, 0, 0, 0, 0, 0, 0, 0])?;
-    stream.resize(652 + 200_040, 0)?;
-    Ok(stream)
-}
-
-/// The replies to it. After DESTROY the last one is EIO.
-fn long_replies(alloc: Global) -> Result<Vec<u8>, AllocError> {
-    let mut replies = script_replies(alloc)?;
-    replies.extend_from_slice(&[16, 0, 0, 0, 0xfb, 0xff, 0xff, 0xff])?;
-    replies.extend_from_slice(&[13, 0, 0, 0, 0, 0, 0, 0])?;
-    Ok(replies)
+/// How many requests for memory it takes to prepare the sample image.
+fn requests_of_preparing<R: Threads + Sync>(rt: &R, global: Global) -> Option<u64> {
+    let plain = Refusing::new(global, 0);
+    let counting = Refusing::new(global, 0);
+    let images = alone(&plain, sample(&plain).ok()?).ok()?;
+    let table = prepare(rt, &counting, images, &FreePass);
+    let requests = counting.requests();
+    table.is_ok().then_some(requests)
 }
 
 /// Whether a run tells that memory was refused, with some of the first replies put; or else went through.
-fn is_told(seen: &Seen, refused: bool) -> bool {
+fn is_run(seen: &Option<Seen>, refused: bool) -> bool {
     let end = if refused {
         Err(Stop::Memory)
     } else {
         Ok((13, 1547))
     };
-    seen.end == end && seen.put.is_some()
+    seen.is_some_and(|seen| seen.end == end && seen.put.is_some())
 }
 
-/// A run of the stream over the table of the sample image, in memory of `alloc`.
-fn run_in<'a, R: Threads + Sync>(
+/// Whether a call appended all, or nothing where memory was refused. The first request is for what stands before.
+fn is_left(left: Option<Left>, refuse_at: u64, refused: bool, whole: Option<Left>) -> bool {
+    match left {
+        None => refuse_at == 1,
+        Some((true, _)) => !refused && left == whole,
+        Some((false, appended)) => refused && appended == 0,
+    }
+}
+
+/// Whether a run was refused after preparing, or has called no device.
+fn is_untouched(seen: &Option<Seen>, refuse_at: u64, preparing: u64) -> bool {
+    preparing < refuse_at || seen.is_some_and(|seen| seen.reads == 0 && seen.writes == 0)
+}
+
+/// Whether a call tells that memory was refused, or else comes to what it should.
+fn is_told<'a, R: Threads + Sync>(
     rt: &R,
+    global: Global,
     plain: &'a Refusing<Global>,
     alloc: &'a Refusing<Global>,
-    plan: Plan,
-    taker: Taker,
-    stream: &[u8],
-    replies: &[u8],
-) -> Option<Seen> {
-    let table = sample_table(rt, plain)?;
-    let pieces = Pieces::of(stream, usize::MAX);
-    Some(run_over(alloc, &table, plan, TURNS, pieces, taker, replies))
+    refuse_at: u64,
+    call: Call,
+) -> bool {
+    match call {
+        Call::Prepare => match nodes_of_two(rt, plain, alloc) {
+            Some(Ok(nodes)) => !alloc.refused() && nodes == 6,
+            Some(Err(stop)) => alloc.refused() && stop == Stop::Memory,
+            None => false,
+        },
+        Call::Round => match round_of(rt, global, plain, alloc, Jobs::Lookups, (2, 3)) {
+            Some(Ok((is_right, _))) => !alloc.refused() && is_right,
+            Some(Err(AllocError)) => alloc.refused(),
+            None => false,
+        },
+        Call::Run => is_run(&run_of(rt, global, plain, alloc, LONG), alloc.refused()),
+        Call::Serve(preparing) => {
+            let seen = serve_in(rt, global, plain, alloc);
+            is_run(&seen, alloc.refused()) && is_untouched(&seen, refuse_at, preparing)
+        }
+        Call::Answer(index) => {
+            let whole = appended(rt, global, plain, plain, index, false);
+            let left = appended(rt, global, plain, alloc, index, false);
+            is_left(left, refuse_at, alloc.refused(), whole)
+        }
+        Call::Moves(index) => {
+            let whole = appended(rt, global, plain, plain, index, true);
+            let left = appended(rt, global, plain, alloc, index, true);
+            is_left(left, refuse_at, alloc.refused(), whole)
+        }
+    }
+}
+
+/// How many requests a call makes, each of which is refused once.
+fn requests_of<R: Threads + Sync>(rt: &R, global: Global, call: Call) -> Result<u64, Fail> {
+    let plain = Refusing::new(global, 0);
+    refuse_each(global, |refusing, refuse_at| {
+        if is_told(rt, global, &plain, refusing, refuse_at, call) {
+            Ok(())
+        } else {
+            Err(Fail::new(format_args!("{call:?} at {refuse_at}")))
+        }
+    })
 }
 
 #[test]
-fn running_is_refused(rt: HostRuntime) -> Result<(), Fail> {
-    let stream = long_stream(rt.alloc())?;
-    let replies = long_replies(rt.alloc())?;
-    let plan = Plan::new(2, 3).ok_or("a plan")?;
-    let plain = Refusing::new(rt.alloc(), 0);
-    let requests = refuse_each(rt.alloc(), |refusing, refuse_at| {
-        let taker = Taker::new(rt.alloc());
-        let seen = run_in(&rt, &plain, refusing, plan, taker, &stream, &replies);
-        let is_told = seen.is_some_and(|seen| is_told(&seen, refusing.refused()));
-        assert!(rt; is_told, "at {refuse_at}");
-        Ok(())
-    })?;
+fn preparing_rounds_and_runs_are_refused(rt: HostRuntime) -> Result<(), Fail> {
+    assert!(rt; 50 < requests_of(&rt, rt.alloc(), Call::Prepare)?);
+    assert!(rt; 5 < requests_of(&rt, rt.alloc(), Call::Round)?);
     // Balances, replies, the buffer, and its growth.
-    assert_eq!(rt; requests, 4);
+    assert!(rt; requests_of(&rt, rt.alloc(), Call::Run)? == 4);
     Ok(())
 }
 
-/// The stream over the sample image, in memory of `alloc`.
-fn serve_in<'a, R: Threads + Sync>(
-    rt: &R,
-    plain: &'a Refusing<Global>,
-    alloc: &'a Refusing<Global>,
-    plan: Plan,
-    taker: Taker,
-    stream: &[u8],
-    replies: &[u8],
-) -> Result<Seen, BuildFault> {
-    let images = alone(plain, sample(plain)?)?;
-    let pieces = Pieces::of(stream, usize::MAX);
-    let usual = Profile::Usual;
-    Ok(serve_over(rt, alloc, images, usual, plan, pieces, taker, replies))
-}
-
-/// How many requests for memory it takes to prepare the sample image.
-fn requests_of_preparing<R: Threads + Sync>(rt: &R, alloc: Global) -> Result<u64, BuildFault> {
-    let plain = Refusing::new(alloc, 0);
-    let counting = Refusing::new(alloc, 0);
-    let images = alone(&plain, sample(&plain)?)?;
-    let table = prepare(rt, &counting, images, &FreePass);
-    let requests = counting.requests();
-    Ok(if table.is_ok() { requests } else { 0 })
+#[test]
+fn answers_and_moves_are_refused(rt: HostRuntime) -> Result<(), Fail> {
+    let alloc = rt.alloc();
+    let mut all = (0usize, 0usize);
+    for index in 0..10 {
+        requests_of(&rt, alloc, Call::Answer(index))?;
+        requests_of(&rt, alloc, Call::Moves(index))?;
+        let (_, bytes) = appended(&rt, alloc, alloc, alloc, index, false).ok_or("an answer")?;
+        let (_, moves) = appended(&rt, alloc, alloc, alloc, index, true).ok_or("the moves")?;
+        all = (all.0.saturating_add(bytes), all.1.saturating_add(moves));
+    }
+    assert!(rt; all == (1648, 10));
+    Ok(())
 }
 
 #[test]
 fn serving_is_refused(rt: HostRuntime) -> Result<(), Fail> {
-    let stream = long_stream(rt.alloc())?;
-    let replies = long_replies(rt.alloc())?;
-    let plan = Plan::new(2, 3).ok_or("a plan")?;
-    let plain = Refusing::new(rt.alloc(), 0);
-    let preparing = requests_of_preparing(&rt, rt.alloc())?;
-    let requests = refuse_each(rt.alloc(), |refusing, refuse_at| {
-        let taker = Taker::new(rt.alloc());
-        let seen = serve_in(&rt, &plain, refusing, plan, taker, &stream, &replies)?;
-        assert!(rt; is_told(&seen, refusing.refused()), "at {refuse_at}");
-        let is_untouched = seen.reads == 0 && seen.writes == 0;
-        assert!(rt; preparing < refuse_at || is_untouched, "at {refuse_at}");
-        Ok(())
-    })?;
+    let preparing = requests_of_preparing(&rt, rt.alloc()).ok_or("the sample image")?;
+    let requests = requests_of(&rt, rt.alloc(), Call::Serve(preparing))?;
     assert!(rt; 20 < preparing && preparing < requests);
     // The last request is for room behind the beginning of the WRITE: all replies before it are put.
+    let plain = Refusing::new(rt.alloc(), 0);
     let last = Refusing::new(rt.alloc(), requests);
-    let taker = Taker::new(rt.alloc());
-    let seen = serve_in(&rt, &plain, &last, plan, taker, &stream, &replies)?;
-    assert_eq!(rt; seen.put, Some(1531));
+    let seen = serve_in(&rt, rt.alloc(), &plain, &last);
+    assert!(rt; seen.is_some_and(|seen| seen.put == Some(1531)));
     Ok(())
 }

@@ -11,18 +11,6 @@ pub struct Pieces<'a> {
     pub calls: u64,
 }
 
-impl<'a> Pieces<'a> {
-    /// The bytes in pieces, and then the end.
-    pub fn of(rest: &'a [u8], piece: usize) -> Self {
-        Pieces {
-            rest,
-            piece,
-            fails: false,
-            calls: 0,
-        }
-    }
-}
-
 impl Read for Pieces<'_> {
     fn read(&mut self, buf: &mut [u8]) -> io::Result<usize> {
         self.calls = self.calls.saturating_add(1);

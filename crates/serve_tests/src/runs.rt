@@ -1,6 +1,7 @@
-//! What a run came to.
+//! Runs over the sample image, and what they came to.
 
 use crate::reader::Pieces;
+use crate::script::{bad_stream, forgets, long_replies, long_stream, script};
 use crate::writer::Taker;
 use devices::{Spout, Tap};
 use node_table::Table;
@@ -8,12 +9,85 @@ use reply_pool::Plan;
 use romfs_format::Profile;
 use serve_core::{Done, Stop, prepare, run, serve_as};
 use stack_core::FreePass;
-use std::alloc::Allocator;
+use std::alloc::{AllocError, Allocator, Global};
 use std::thread::Threads;
 use test_kit::sample_images::{alone, sample};
 
 /// More pulls than any of the streams has.
 pub const TURNS: u32 = 1 << 20;
+
+#[derive(Clone, Copy, Debug)]
+pub enum Stream {
+    Script,
+    /// The script, and then a WRITE for which the room for requests has to grow.
+    Long,
+    /// The two first messages of the script, and then a length that no message has.
+    Bad,
+    /// A million bytes without a reply.
+    Forgets,
+}
+
+fn stream_of(alloc: Global, stream: Stream) -> Result<Vec<u8>, AllocError> {
+    match stream {
+        Stream::Script => script(alloc),
+        Stream::Long => long_stream(alloc),
+        Stream::Bad => bad_stream(alloc),
+        Stream::Forgets => forgets(alloc),
+    }
+}
+
+/// How a stream comes, and how its replies are taken.
+#[derive(Clone, Copy, Debug)]
+pub struct Run {
+    pub stream: Stream,
+    /// How many first bytes of it are given, in pieces of so many, and whether the read after them fails.
+    pub given: usize,
+    pub piece: usize,
+    pub breaks: bool,
+    pub turns: u32,
+    /// Workers, and messages of a batch.
+    pub plan: (u32, u32),
+    /// How many bytes are taken in all, and at once; whether the write after them fails, or takes none.
+    pub room: usize,
+    pub most: usize,
+    pub fails: bool,
+    /// How many flushes succeed.
+    pub flushes: u64,
+}
+
+/// All of the script, and all of its replies.
+pub const WHOLE: Run = Run {
+    stream: Stream::Script,
+    given: usize::MAX,
+    piece: usize::MAX,
+    breaks: false,
+    turns: TURNS,
+    plan: (2, 3),
+    room: usize::MAX,
+    most: usize::MAX,
+    fails: true,
+    flushes: u64::MAX,
+};
+
+fn pieces_of(stream: &[u8], run: Run) -> Pieces<'_> {
+    Pieces {
+        rest: stream,
+        piece: run.piece,
+        fails: run.breaks,
+        calls: 0,
+    }
+}
+
+fn taker_of(alloc: Global, run: Run) -> Taker {
+    Taker {
+        taken: Vec::new(alloc),
+        room: run.room,
+        most: run.most,
+        fails: run.fails,
+        flushes: run.flushes,
+        calls: 0,
+    }
+}
 
 /// How many messages and how many bytes of replies, or why it stopped.
 pub type End = Result<(u64, u128), Stop>;
@@ -66,39 +140,47 @@ fn told<A: Allocator>(
     }
 }
 
-/// Runs a stream over a table.
-pub fn run_over<A: Allocator + Copy>(
+/// A run over the table of the sample image, which stands in memory of `plain`.
+pub fn run_of<R: Threads + Sync, A: Allocator + Copy + Send + Sync>(
+    rt: &R,
+    global: Global,
+    plain: A,
     alloc: A,
-    table: &Table<A>,
-    plan: Plan,
-    turns: u32,
-    mut pieces: Pieces<'_>,
-    mut taker: Taker,
-    replies: &[u8],
-) -> Seen {
+    row: Run,
+) -> Option<Seen> {
+    let plan = Plan::new(row.plan.0, row.plan.1)?;
+    let mut stream = stream_of(global, row.stream).ok()?;
+    stream.truncate(row.given);
+    let replies = long_replies(global).ok()?;
+    let table = sample_table(rt, plain)?;
+    let mut pieces = pieces_of(&stream, row);
+    let mut taker = taker_of(global, row);
     let done = run(
         alloc,
-        table,
+        &table,
         &mut Tap::new(&mut pieces),
         &mut Spout::new(&mut taker),
         plan,
-        u64::from(turns),
+        u64::from(row.turns),
         &FreePass,
     );
-    told(&done, &pieces, &taker, replies)
+    Some(told(&done, &pieces, &taker, &replies))
 }
 
-/// Serves a stream over images.
-pub fn serve_over<R: Threads + Sync, A: Allocator + Copy + Send + Sync>(
+/// A run over images.
+pub fn serve_of<R: Threads + Sync, A: Allocator + Copy + Send + Sync>(
     rt: &R,
+    global: Global,
     alloc: A,
     images: Vec<Vec<u8, A>, A>,
     profile: Profile,
-    plan: Plan,
-    mut pieces: Pieces<'_>,
-    mut taker: Taker,
-    replies: &[u8],
-) -> Seen {
+    row: Run,
+) -> Option<Seen> {
+    let plan = Plan::new(row.plan.0, row.plan.1)?;
+    let stream = stream_of(global, row.stream).ok()?;
+    let replies = long_replies(global).ok()?;
+    let mut pieces = pieces_of(&stream, row);
+    let mut taker = taker_of(global, row);
     let done = serve_as(
         rt,
         alloc,
@@ -107,10 +189,10 @@ pub fn serve_over<R: Threads + Sync, A: Allocator + Copy + Send + Sync>(
         &mut Tap::new(&mut pieces),
         &mut Spout::new(&mut taker),
         plan,
-        u64::from(TURNS),
+        u64::from(row.turns),
         &FreePass,
     );
-    told(&done, &pieces, &taker, replies)
+    Some(told(&done, &pieces, &taker, &replies))
 }
 
 /// The table of the sample image.

@@ -1,6 +1,5 @@
 //! A writer that takes so much.
 
-use std::alloc::Global;
 use std::io::{self, Error, ErrorKind, Write};
 
 /// A writer that takes so many bytes in all, and at most so many at once; then each write fails, or takes none.
@@ -13,20 +12,6 @@ pub struct Taker {
     pub fails: bool,
     pub flushes: u64,
     pub calls: u64,
-}
-
-impl Taker {
-    /// It takes all.
-    pub fn new(alloc: Global) -> Self {
-        Taker {
-            taken: Vec::new(alloc),
-            room: usize::MAX,
-            most: usize::MAX,
-            fails: true,
-            flushes: u64::MAX,
-            calls: 0,
-        }
-    }
 }
 
 impl Write for Taker {

@@ -1,7 +1,8 @@
-//! Images that several tests look at.
+//! Images that several tests look at, and images told by words.
 
 use crate::bytes::bytes_of;
 use romfs_image::sample::{BuildFault, Item, What, build};
+use romfs_image::{CheckFault, Image};
 use std::alloc::{AllocError, Allocator, Global};
 
 /// The empty image with the volume name `v`.
@@ -15,55 +16,102 @@ pub fn empty(alloc: Global) -> Result<Vec<u8>, AllocError> {
     bytes_of(alloc, &EMPTY)
 }
 
-pub fn item<A: Allocator + Copy>(
-    alloc: A,
-    depth: u16,
-    name: &[u8],
-    what: What<A>,
-) -> Result<Item<A>, AllocError> {
+/// 5,000 bytes, each of them its place modulo 251.
+fn big<A: Allocator>(alloc: A) -> Result<Vec<u8, A>, AllocError> {
+    let mut big = Vec::new(alloc);
+    for place in 0..5000u32 {
+        big.push((place % 251) as u8)?;
+    }
+    Ok(big)
+}
+
+/// The data of the files that have a sign.
+fn data_of<A: Allocator>(alloc: A, sign: u8) -> Result<Vec<u8, A>, AllocError> {
+    match sign {
+        b'#' => big(alloc),
+        b'@' => b"d/x".to_vec(alloc),
+        _ => b"hi".to_vec(alloc),
+    }
+}
+
+/// What the sign of a word stands for.
+fn what_of<A: Allocator>(alloc: A, sign: u8) -> Result<What<A>, AllocError> {
+    match sign {
+        b'-' | b'#' => Ok(What::Regular(data_of(alloc, sign)?)),
+        b'@' => Ok(What::SymLink(data_of(alloc, sign)?)),
+        b'/' | b'*' => Ok(What::Directory),
+        b'%' => Ok(What::Block(2, 3)),
+        b'$' => Ok(What::Character(1, 3)),
+        b'=' => Ok(What::Socket),
+        b'|' => Ok(What::Fifo),
+        _ => Ok(What::Hard(usize::from(sign.saturating_sub(b'0')))),
+    }
+}
+
+fn item_of<A: Allocator + Copy>(alloc: A, word: &[u8]) -> Result<Item<A>, BuildFault> {
+    let [depth, sign, name @ ..] = word else {
+        return Err(BuildFault::Listing);
+    };
+    let name = name.to_vec(alloc)?;
     Ok(Item {
-        depth,
-        name: name.to_vec(alloc)?,
-        exec: false,
-        what,
+        depth: u16::from(depth.saturating_sub(b'0')),
+        name,
+        exec: matches!(*sign, b'*' | b'%'),
+        what: what_of(alloc, *sign)?,
     })
 }
 
-/// An image with `big` of 5,000 bytes, an executable directory `d` with a file `x`, a link `l` to
-/// `d/x`, and the device `null`.
-pub fn sample<A: Allocator + Copy>(alloc: A) -> Result<Vec<u8, A>, BuildFault> {
-    let mut big = Vec::new(alloc);
-    for number in 0..5000u32 {
-        big.push((number % 251) as u8)?;
-    }
-    let text = What::Regular(b"hi".to_vec(alloc)?);
-    let link = What::SymLink(b"d/x".to_vec(alloc)?);
-    let mut directory = item(alloc, 1, b"d", What::Directory)?;
-    directory.exec = true;
+fn items_of<A: Allocator + Copy>(alloc: A, words: &str) -> Result<Vec<Item<A>, A>, BuildFault> {
     let mut items = Vec::new(alloc);
-    items.push(item(alloc, 1, b"big", What::Regular(big))?)?;
-    items.push(directory)?;
-    items.push(item(alloc, 2, b"x", text)?)?;
-    items.push(item(alloc, 1, b"l", link)?)?;
-    items.push(item(alloc, 1, b"null", What::Character(1, 3))?)?;
-    build(alloc, b"v", &items)
+    for word in words.split_whitespace() {
+        items.push(item_of(alloc, word.as_bytes())?)?;
+    }
+    Ok(items)
+}
+
+/// An image with an item for each word, in walk order: a digit for the depth, a sign, and the name.
+///
+/// The sign is `/` for a directory and `*` for an executable one, `-` for a file of the bytes `hi` and `#` for one of
+/// 5,000 bytes, `@` for a symbolic link to `d/x`, `%` for an executable block device, `$` for a character device, `=`
+/// for a socket and `|` for a fifo; and for a hard link a digit, the index of the word that it leads to.
+pub fn image<A: Allocator + Copy>(
+    alloc: A,
+    volume: &[u8],
+    words: &str,
+) -> Result<Vec<u8, A>, BuildFault> {
+    let items = items_of(alloc, words)?;
+    build(alloc, volume, &items)
+}
+
+/// `big` of 5,000 bytes, an executable directory `d` with a file `x`, a link `l` to `d/x`, and the device `null`.
+pub const SAMPLE: &str = "1#big 1*d 2-x 1@l 1$null";
+
+pub fn sample<A: Allocator + Copy>(alloc: A) -> Result<Vec<u8, A>, BuildFault> {
+    image(alloc, b"v", SAMPLE)
 }
 
 /// An image with hard links `a`, to the later `d/e`, and `d/h`, to `a`; an executable device `b`; and
 /// a directory in a directory, `d/f`, that holds `g`.
 pub fn mixed(alloc: Global) -> Result<Vec<u8>, BuildFault> {
-    let mut device = item(alloc, 1, b"b", What::Block(2, 3))?;
-    device.exec = true;
-    let items = vec![in alloc;
-        item(alloc, 1, b"a", What::Hard(3))?,
-        device,
-        item(alloc, 1, b"d", What::Directory)?,
-        item(alloc, 2, b"e", What::Fifo)?,
-        item(alloc, 2, b"f", What::Directory)?,
-        item(alloc, 3, b"g", What::Socket)?,
-        item(alloc, 2, b"h", What::Hard(0))?,
-    ]?;
-    build(alloc, b"v", &items)
+    image(alloc, b"v", "13a 1%b 1/d 2|e 2/f 3=g 20h")
+}
+
+/// The image that bytes are, checked.
+pub fn checked<A: Allocator + Copy>(alloc: A, bytes: Vec<u8, A>) -> Result<Image<A>, BuildFault> {
+    match Image::check(alloc, bytes) {
+        Ok(image) => Ok(image),
+        Err(CheckFault::Memory) => Err(BuildFault::Memory),
+        Err(_) => Err(BuildFault::Listing),
+    }
+}
+
+/// Layers of such words, the lowest first, with a `+` between any two.
+pub fn layers<A: Allocator + Copy>(alloc: A, all: &str) -> Result<Vec<Image<A>, A>, BuildFault> {
+    let mut images = Vec::new(alloc);
+    for words in all.split('+') {
+        images.push(checked(alloc, image(alloc, b"v", words)?)?)?;
+    }
+    Ok(images)
 }
 
 /// One image alone.

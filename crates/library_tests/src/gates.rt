@@ -1,13 +1,9 @@
 //! Trees of layers are made at the same time.
 
-use crate::layers::Is::File;
-use crate::layers::{Row, layers};
-use romfs_image::sample::BuildFault;
-use stack_core::{Gate, Work, stack};
-use std::alloc::Global;
+use crate::stacks::wrong_of;
+use stack_core::{Gate, Work};
 use std::sync::atomic::{AtomicU64, Ordering};
 use std::test::Fail;
-use std::thread::Threads;
 
 /// Holds the lowest layer until the next one has come, for 2^30 turns at most.
 #[derive(Drop)]
@@ -50,23 +46,12 @@ impl Holding {
     }
 }
 
-const TWO: [&[Row<'static>]; 2] = [&[(1, b"a", File)], &[(1, b"b", File)]];
-
-/// How often the lowest layer was given up, and how often each tree was begun.
-fn given_up<R: Threads + Sync>(rt: &R, alloc: Global) -> Result<(u64, u64), BuildFault> {
-    let images = layers(alloc, &TWO)?;
-    if images.is_empty() || 128 < images.len() {
-        return Err(BuildFault::Listing);
-    }
-    let gate = Holding::new();
-    stack(rt, alloc, &images, &gate)?;
-    let begun = gate.begun.load(Ordering::SeqCst);
-    Ok((gate.given_up.load(Ordering::SeqCst), begun))
-}
-
 #[test]
 fn the_lowest_tree_waits_for_the_next(rt: HostRuntime) -> Result<(), Fail> {
-    let counts = given_up(&rt, rt.alloc())?;
-    assert_eq!(rt; counts, (0, 0x0101));
+    let gate = Holding::new();
+    let wrong = wrong_of(&rt, rt.alloc(), ("1-a + 1-b", "", "0f!/a 1f!/b"), &gate)?;
+    assert_eq!(rt; wrong, None);
+    assert_eq!(rt; gate.given_up.load(Ordering::SeqCst), 0);
+    assert_eq!(rt; gate.begun.load(Ordering::SeqCst), 0x0101);
     Ok(())
 }

@@ -1,0 +1,61 @@
+//! The table of the sample image: `big` 2, `d` 3, `d/x` 4, `l` 5, `null` 6.
+
+use node_table::Table;
+use romfs_image::sample::BuildFault;
+use stack_core::{FreePass, stack};
+use std::alloc::Allocator;
+use std::test::Fail;
+use std::thread::Threads;
+use test_kit::sample_images::{SAMPLE, layers};
+
+/// The table of layers by words.
+pub fn table_of<R: Threads + Sync, A: Allocator + Copy + Send + Sync>(
+    rt: &R,
+    alloc: A,
+    words: &str,
+) -> Result<Table<A>, BuildFault> {
+    let images = layers(alloc, words)?;
+    if images.is_empty() || 128 < images.len() {
+        return Err(BuildFault::Listing);
+    }
+    let tree = stack(rt, alloc, &images, &FreePass)?;
+    Ok(Table::of(rt, alloc, tree, images)?)
+}
+
+/// Whether names lead to the nodes that they name, and others nowhere.
+fn are_children<A: Allocator>(table: &Table<A>) -> bool {
+    for (number, name, child) in [
+        (1u64, "d", Some(3u64)),
+        (3, "x", Some(4)),
+        (1, ".", None),
+        (1, "..", None),
+        (1, ".wh.x", None),
+        (1, "x", None),
+        (2, "x", None),
+    ] {
+        if table.child(number, name.as_bytes()) != child {
+            return false;
+        }
+    }
+    table.child(1, [b'q'; 256].as_slice()).is_none()
+}
+
+/// Whether nothing is told of a number.
+fn is_unused<A: Allocator>(table: &Table<A>, number: u64) -> bool {
+    table.node(number).is_none()
+        && table.attr(number).is_none()
+        && table.rows(number).is_empty()
+        && table.parent(number).is_none()
+        && table.bytes(number).is_empty()
+}
+
+#[test]
+fn names_and_numbers_that_are_nowhere(rt: HostRuntime) -> Result<(), Fail> {
+    let table = table_of(&rt, rt.alloc(), SAMPLE)?;
+    let are_unused = is_unused(&table, 0) && is_unused(&table, 7) && is_unused(&table, u64::MAX);
+    let parents = (table.parent(1), table.parent(3), table.parent(2));
+    assert!(rt; are_children(&table) && are_unused);
+    assert!(rt; table.len() == 6 && table.blocks_all() == 11);
+    assert!(rt; parents == (Some(1), Some(1), None));
+    Ok(())
+}
