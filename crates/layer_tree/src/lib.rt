@@ -8,7 +8,7 @@
 //! One relation says what a tree is, for any run of adjacent layers (`IsTreeOf` in `specs/Trees.antt`): it has an
 //! entry exactly at each path that the run shows, and it cuts exactly what the run cuts. [`Tree::of`] gives the
 //! tree of one layer, and [`lay`] that of two runs from theirs. The readers take no memory.
-//! An entry takes 64 bytes, and a mark no more; a name of more than 23 bytes is kept beside that.
+//! An entry takes 64 bytes, and a mark no more; a name of more than 22 bytes is kept beside that.
 //!
 //! The crate stands on `path_tree` for trees, on `romfs_image` for images and on `stack_model` for what stacks
 //! show.

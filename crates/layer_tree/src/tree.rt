@@ -8,11 +8,13 @@ ghost use Rattle.layer_tree.specs.Trees.{entry_at, cuts_at, AreChildren};
 use crate::members::is_marker;
 use crate::place::{Cuts, Entry, Mark};
 use path_tree::{Branch, child};
-use std::alloc::Allocator;
+use std::alloc::{Allocator, Global};
 use std::marker::Model;
 
 /// An entry with its name, and all below it in the order of names.
 pub type Child<A> = Branch<Entry, A>;
+
+const _: () = prove!(size_of::<Child<Global>>() <= 64);
 
 /// What a run of layers shows and cuts.
 #[derive(Drop)]

@@ -7,7 +7,7 @@ use crate::key::key_of;
 use crate::named::Named;
 use std::alloc::{AllocError, Allocator};
 
-/// How many places are looked at for one name.
+/// How many slots are looked at for one name.
 const PROBES: usize = 4;
 
 /// What stands where no row was noted.
@@ -15,19 +15,26 @@ const NOWHERE: u32 = u32::MAX;
 
 /// Guesses of where the rows of directories stand among all rows, by what a directory's number and a name are mixed to.
 ///
+/// The lower bits of a slot tell a row's place, as many of them as the last row takes; in the others stand bits of what
+/// its directory and name are mixed to, so that a slot that is another name's is mostly seen without a look at that row.
 /// Whoever is told a place looks whether the row there has the name, so a guess that is wrong, or one that is not there,
-/// costs a search and nothing else. No more than 2^32 - 1 rows are noted.
+/// costs a search and nothing else. No more than 2^31 rows are noted.
 #[derive(Drop)]
 pub struct Guesses<A: Allocator> {
-    places: Vec<u32, A>,
+    slots: Vec<u32, A>,
+    // The bits of a slot that tell a place.
+    places: u32,
 }
 
 impl<A: Allocator> Guesses<A> {
     /// No guesses yet, with room for this many rows: 8 to 16 bytes a row.
     pub fn for_rows(alloc: A, rows: usize) -> Result<Self, AllocError> {
-        let size = room_for(rows);
-        let places = vec![in alloc; NOWHERE; size]?;
-        Ok(Guesses { places })
+        let bits = bits_for(rows);
+        let slots = vec![in alloc; NOWHERE; 2 << bits]?;
+        Ok(Guesses {
+            slots,
+            places: (1 << bits) - 1,
+        })
     }
 
     /// Notes the rows of a directory, which stand from `start` on among all rows.
@@ -37,17 +44,18 @@ impl<A: Allocator> Guesses<A> {
         }
     }
 
-    // Notes where a row stands, unless all places for it are taken.
+    // Notes where a row stands, unless all slots for it are taken.
     fn note(&mut self, directory: u64, name: &[u8], at: usize) {
-        if at >= NOWHERE as usize {
+        if at > self.places as usize {
             return;
         }
-        let first = mixed(directory, name);
+        let mixed = mixed(directory, name);
+        let noted = (mixed.tag & !self.places) | at as u32;
         for step in 0..PROBES {
-            let slot = self.slot(first, step);
-            match self.places.get_mut(slot) {
-                Some(place) if *place == NOWHERE => {
-                    *place = at as u32;
+            let place = self.slot(mixed.first, step);
+            match self.slots.get_mut(place) {
+                Some(slot) if *slot == NOWHERE => {
+                    *slot = noted;
                     return;
                 }
                 _ => {}
@@ -67,49 +75,77 @@ impl<A: Allocator> Guesses<A> {
         requires { Rise (map T.name rows.now) }
         ensures { MatchOption result ⊤ (λ at. place_of name.now (map T.name rows.now) ≡ Some at) }
     {
-        let first = mixed(directory, name);
+        let mixed = mixed(directory, name);
         for step in 0..PROBES {
-            let slot = self.slot(first, step);
-            let place = *self.places.get(slot)?;
-            if place == NOWHERE {
+            let slot = *self.slots.get(self.slot(mixed.first, step))?;
+            if slot == NOWHERE {
                 return None;
             }
-            let at = (place as usize).wrapping_sub(start);
-            if at < rows.len() && rows[at].name() == name {
-                return Some(at);
+            if let Some(place) = self.place_in(slot, mixed.tag) {
+                let at = place.wrapping_sub(start);
+                if at < rows.len() && rows[at].name() == name {
+                    return Some(at);
+                }
             }
         }
         None
     }
 
-    /// The first place that is looked at for this name of a directory, among all rows; none where no row was noted there.
+    /// The first place that is looked at for this name of a directory, among all rows; none where no row was noted for
+    /// it.
     pub fn first(&self, directory: u64, name: &[u8]) -> Option<usize> {
-        let slot = self.slot(mixed(directory, name), 0);
-        match self.places.get(slot) {
-            Some(place) if *place != NOWHERE => Some(*place as usize),
-            _ => None,
+        let mixed = mixed(directory, name);
+        for step in 0..PROBES {
+            let slot = *self.slots.get(self.slot(mixed.first, step))?;
+            if slot == NOWHERE {
+                return None;
+            }
+            let place = self.place_in(slot, mixed.tag);
+            if place.is_some() {
+                return place;
+            }
+        }
+        None
+    }
+
+    // The place that a slot tells, unless it is another name's by what stands beside it.
+    fn place_in(&self, slot: u32, tag: u32) -> Option<usize> {
+        if (slot ^ tag) & !self.places == 0 {
+            Some((slot & self.places) as usize)
+        } else {
+            None
         }
     }
 
-    // The place of a guess: the number of places is a power of two.
+    // Where a slot stands: their number is a power of two.
     fn slot(&self, first: usize, step: usize) -> usize {
-        first.wrapping_add(step) & self.places.len().wrapping_sub(1)
+        first.wrapping_add(step) & self.slots.len().wrapping_sub(1)
     }
 }
 
-/// The least power of two that is at least twice the number of rows.
-fn room_for(rows: usize) -> usize {
-    for bits in 0..40u32 {
+/// How many bits tell the place of any of these rows, 31 at most.
+fn bits_for(rows: usize) -> u32
+    ensures { result ≤ 31 }
+{
+    for bits in 0..31u32 {
         if rows <= 1 << bits {
-            return 2 << bits;
+            return bits;
         }
     }
-    1
+    31
+}
+
+/// What a directory and a name are mixed to: where their first slot stands, before the number of slots is known, and the
+/// bits that may stand in it beside a place.
+#[derive(Clone, Copy)]
+struct Mix {
+    first: usize,
+    tag: u32,
 }
 
 /// What a directory and a name are mixed to. Names of up to 24 bytes are mixed as a whole, of others the first, the
 /// middle and the last eight bytes.
-fn mixed(directory: u64, name: &[u8]) -> usize {
+fn mixed(directory: u64, name: &[u8]) -> Mix {
     let len = name.len();
     let begun = directory
         .wrapping_mul(0x9e37_79b9_7f4a_7c15)
@@ -124,7 +160,10 @@ fn mixed(directory: u64, name: &[u8]) -> usize {
     };
     let all = begun.wrapping_add(words);
     let folded = (all ^ (all >> 32)).wrapping_mul(0x9e37_79b9_7f4a_7c15);
-    (folded >> 32) as usize
+    Mix {
+        first: (folded >> 32) as usize,
+        tag: (folded & 0xffff_ffff) as u32,
+    }
 }
 
 /// The eight bytes of a name from this one on.

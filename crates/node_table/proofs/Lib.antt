@@ -3,6 +3,7 @@ pub mod Nodes
 pub mod Paths
 pub mod Walking
 pub mod Seating
+pub mod Falling
 pub mod Counting
 pub mod Built
 pub mod Seeded

@@ -7,12 +7,12 @@ use Rattle.std.specs.Ordering.{is_lt, nat_cmp, ordering_then}
 use Rattle.std.proofs.lemmas.Bool.{cases_order}
 use Rattle.std.proofs.lemmas.Bool.Decides.{nat_tests}
 use Rattle.std.proofs.lemmas.List.Sorted.{All-permutation, Contains-permutation}
-use Rattle.node_table.specs.Firsts.{AreSeats, IsFirstOf, AreFirsts}
+use Rattle.node_table.specs.Firsts.{AreSeats, AreThemselves, IsOnce, IsFirstOf, AreFirsts}
 
--- how many keys have seats
+-- of the first keys those that may stand at other places too have seats
 pub record Seating (keys : List ℕ) (seats : List (ℕ × ℕ)) (i : ℕ) : Type 0 where
-  pub level : length seats ≡ i
-  pub each : (k : ℕ) (d : ℕ × ℕ) → k < i → get_or seats k d ≡ (slice_index keys k, k)
+  pub own : All (λ seat. (seat.1 < i) × (slice_index keys seat.1 ≡ seat.0)) seats
+  pub every : (k : ℕ) → k < i → Contains seats (slice_index keys k, k) ⊎ IsOnce keys k
 
 get_front : {X : Type 0} (xs : List X) (y : X) (k : ℕ) (d : X) → k < length xs → get_or (xs ++ y ∷ []) k d ≡ get_or xs k d
 get_front [] y k d l = absurd (omega arith)
@@ -24,36 +24,60 @@ get_end [] y d = refl
 get_end (x ∷ xs) y d = get_end xs y d
 
 pub seats_none : (keys : List ℕ) (seats : List (ℕ × ℕ)) → seats ≡ [] → Seating keys seats 0
-seats_none keys seats e = record { level = ap length e; each = λ k d l. absurd (omega arith) }
+seats_none keys seats e = record {
+  own = λ k d l. absurd (let m : length seats ≡ 0 = ap length e in omega arith);
+  every = λ k l. absurd (omega arith);
+}
 
-below_or_at : (k i : ℕ) → k < i + 1 → (k < i) ⊎ (k ≡ i)
+pub below_or_at : (k i : ℕ) → k < i + 1 → (k < i) ⊎ (k ≡ i)
 below_or_at zero zero l = inr refl
 below_or_at zero (suc i) l = inl (omega arith)
 below_or_at (suc k) zero l = absurd (omega arith)
 below_or_at (suc k) (suc i) l = elim (below_or_at k i (omega arith)) [ inl m ↦ inl (omega arith) | inr m ↦ inr (ap suc m) ]
 
-pub seats_more : (keys : List ℕ) (seats seats' : List (ℕ × ℕ)) (i key : ℕ) → key ≡ slice_index keys i → seats' ≡ seats ++ (key, i) ∷ [] → Seating keys seats i → Seating keys seats' (i + 1)
-seats_more keys seats seats' i key e p s = record {
-  level = ap length p ∙ length-append seats ((key, i) ∷ []) ∙ ap (λ n. n + 1) s.level;
-  each = λ k d l. ap (λ x. get_or x k d) p ∙ one k d (below_or_at k i l);
+further : (keys : List ℕ) (seats : List (ℕ × ℕ)) (i : ℕ) → All (λ seat. (seat.1 < i) × (slice_index keys seat.1 ≡ seat.0)) seats → All (λ seat. (seat.1 < i + 1) × (slice_index keys seat.1 ≡ seat.0)) seats
+further keys seats i own k d l = let o = own k d l in (let m = o.0 in omega arith, o.1)
+
+pub seats_same : (keys : List ℕ) (seats : List (ℕ × ℕ)) (i : ℕ) → Seating keys seats i → IsOnce keys i → Seating keys seats (i + 1)
+seats_same keys seats i s o = record {
+  own = further keys seats i s.own;
+  every = λ k l. one k (below_or_at k i l);
 }
   where
-    one : (k : ℕ) (d : ℕ × ℕ) → (k < i) ⊎ (k ≡ i) → get_or (seats ++ (key, i) ∷ []) k d ≡ (slice_index keys k, k)
-    one k d (inl m) = let level = s.level in get_front seats (key, i) k d (omega arith) ∙ s.each k d m
-    one k d (inr m) = ap (λ n. get_or (seats ++ (key, i) ∷ []) n d) (m ∙ sym s.level) ∙ get_end seats (key, i) d ∙ ap (λ x. (x, i)) e ∙ ap (λ n. (slice_index keys n, n)) (sym m)
+    one : (k : ℕ) → (k < i) ⊎ (k ≡ i) → Contains seats (slice_index keys k, k) ⊎ IsOnce keys k
+    one k (inl m) = s.every k m
+    one k (inr m) = inr (subst (IsOnce keys) (sym m) o)
+
+pub seats_more : (keys : List ℕ) (seats seats' : List (ℕ × ℕ)) (i key : ℕ) → key ≡ slice_index keys i → seats' ≡ seats ++ (key, i) ∷ [] → Seating keys seats i → Seating keys seats' (i + 1)
+seats_more keys seats seats' i key e p s = record {
+  own = λ k d l. at k d l (below_or_at k (length seats) (let m : length seats' ≡ length seats + 1 = ap length p ∙ length-append seats ((key, i) ∷ []) in omega arith));
+  every = λ k l. one k (below_or_at k i l);
+}
+  where
+    at : (k : ℕ) (d : ℕ × ℕ) → k < length seats' → (k < length seats) ⊎ (k ≡ length seats) → ((get_or seats' k d).1 < i + 1) × (slice_index keys (get_or seats' k d).1 ≡ (get_or seats' k d).0)
+    at k d l (inl m) =
+        let g : get_or seats' k d ≡ get_or seats k d = ap (λ x. get_or x k d) p ∙ get_front seats (key, i) k d m in
+        subst (λ (x : ℕ × ℕ). (x.1 < i + 1) × (slice_index keys x.1 ≡ x.0)) (sym g) (further keys seats i s.own k d m)
+    at k d l (inr m) =
+        let g : get_or seats' k d ≡ (key, i) = ap (λ x. get_or x k d) p ∙ ap (λ n. get_or (seats ++ (key, i) ∷ []) n d) m ∙ get_end seats (key, i) d in
+        subst (λ (x : ℕ × ℕ). (x.1 < i + 1) × (slice_index keys x.1 ≡ x.0)) (sym g) (omega arith, sym e)
+
+    here : Contains seats' (slice_index keys i, i)
+    here = (length seats, (let m : length seats' ≡ length seats + 1 = ap length p ∙ length-append seats ((key, i) ∷ []) in omega arith), ap (λ x. get_or x (length seats) (slice_index keys i, i)) p ∙ get_end seats (key, i) (slice_index keys i, i) ∙ ap (λ x. (x, i)) e)
+
+    there : (x : ℕ × ℕ) → Contains seats x → Contains seats' x
+    there x (j, m, q) = (j, (let n : length seats' ≡ length seats + 1 = ap length p ∙ length-append seats ((key, i) ∷ []) in omega arith), ap (λ y. get_or y j x) p ∙ get_front seats (key, i) j x m ∙ q)
+
+    one : (k : ℕ) → (k < i) ⊎ (k ≡ i) → Contains seats' (slice_index keys k, k) ⊎ IsOnce keys k
+    one k (inl m) = elim (s.every k m) [ inl c ↦ inl (there _ c) | inr o ↦ inr o ]
+    one k (inr m) = inl (subst (λ n. Contains seats' (slice_index keys n, n)) (sym m) here)
 
 pub seated : (keys : List ℕ) (seats seats' : List (ℕ × ℕ)) → Seating keys seats (length keys) → IsPermutation seats seats' → IsSorted (λ x y. ordering_then (nat_cmp x.0 y.0) (nat_cmp x.1 y.1)) seats' → AreSeats keys seats'
 seated keys seats seats' s p r = record {
-  own = All-permutation (λ seat. (seat.1 < length keys) × (slice_index keys seat.1 ≡ seat.0)) seats seats' p own;
-  every = λ k l. Contains-permutation seats seats' (slice_index keys k, k) p (k, (let level = s.level in omega arith), s.each k (slice_index keys k, k) l);
+  own = All-permutation (λ seat. (seat.1 < length keys) × (slice_index keys seat.1 ≡ seat.0)) seats seats' p s.own;
+  every = λ k l. elim (s.every k l) [ inl c ↦ inl (Contains-permutation seats seats' (slice_index keys k, k) p c) | inr o ↦ inr o ];
   rising = r;
 }
-  where
-    own : All (λ seat. (seat.1 < length keys) × (slice_index keys seat.1 ≡ seat.0)) seats
-    own k d l =
-        let e = s.each k d (let level = s.level in omega arith) in
-        let level = s.level in
-        (subst (λ (x : ℕ × ℕ). x.1 < length keys) (sym e) (omega arith), subst (λ (x : ℕ × ℕ). slice_index keys x.1 ≡ x.0) (sym e) refl)
 
 -- one seat does not come after another
 abbrev Before : ℕ × ℕ → ℕ × ℕ → Type 0
@@ -82,7 +106,7 @@ module _ (seats : List (ℕ × ℕ)) (r : IsSorted (λ x y. ordering_then (nat_c
   ordered i j d l m = let n : i + (j - i) ≡ j = omega arith in subst (λ n. Before (get_or seats i d) (get_or seats n d)) n (far i (j - i) d (omega arith))
 
 -- below the length it does not matter what stands for a place beyond it
-default : {X : Type 0} (xs : List X) (k : ℕ) (a b : X) → k < length xs → get_or xs k a ≡ get_or xs k b
+pub default : {X : Type 0} (xs : List X) (k : ℕ) (a b : X) → k < length xs → get_or xs k a ≡ get_or xs k b
 default [] k a b l = absurd (omega arith)
 default (z ∷ xs) zero a b l = refl
 default (z ∷ xs) (suc k) a b l = default xs k a b (omega arith)
@@ -91,16 +115,33 @@ default (z ∷ xs) (suc k) a b l = default xs k a b (omega arith)
 abbrev pub seat_at : List (ℕ × ℕ) → ℕ → ℕ × ℕ
 seat_at seats i = get_or seats i (0, 0)
 
+-- a seat that has not told the first place of its key
+abbrev pub IsWaiting : List ℕ → List (ℕ × ℕ) → ℕ → ℕ → Type 0
+IsWaiting keys seats i k = (j : ℕ) × (i ≤ j) × (j < length seats) × (seat_at seats j ≡ (slice_index keys k, k))
+
 -- how many seats have told the first place of their key, and the first seat of the last one's key
 pub record Filling (keys : List ℕ) (seats : List (ℕ × ℕ)) (firsts : List ℕ) (group : ℕ × ℕ) (i : ℕ) : Type 0 where
   pub seated : AreSeats keys seats
   pub level : length firsts ≡ length keys
-  pub done : (m : ℕ) → m < i → IsFirstOf keys (seat_at seats m).0 (slice_index firsts (seat_at seats m).1)
+  pub done : (k : ℕ) → k < length keys → IsFirstOf keys (slice_index keys k) (slice_index firsts k) ⊎ IsWaiting keys seats i k
   pub head : 0 < i → IsFirstOf keys group.0 group.1
   pub last : 0 < i → (seat_at seats (i - 1)).0 ≡ group.0
 
-pub fills_none : (keys : List ℕ) (seats : List (ℕ × ℕ)) (firsts : List ℕ) (group : ℕ × ℕ) → AreSeats keys seats → length firsts ≡ length keys → Filling keys seats firsts group 0
-fills_none keys seats firsts group s l = record { seated = s; level = l; done = λ m n. absurd (omega arith); head = λ n. absurd (omega arith); last = λ n. absurd (omega arith) }
+pub fills_none : (keys : List ℕ) (seats : List (ℕ × ℕ)) (firsts : List ℕ) (group : ℕ × ℕ) → AreSeats keys seats → AreThemselves (length keys) firsts → Filling keys seats firsts group 0
+fills_none keys seats firsts group s t = record {
+  seated = s;
+  level = t.level;
+  done = λ k l. one k l (s.every k l);
+  head = λ n. absurd (omega arith);
+  last = λ n. absurd (omega arith);
+}
+  where
+    alone : (k : ℕ) → k < length keys → IsOnce keys k → IsFirstOf keys (slice_index keys k) k
+    alone k l o = record { within = l; at = refl; before = λ j m e. absurd (let same = o j (omega arith) e in omega arith) }
+
+    one : (k : ℕ) → k < length keys → Contains seats (slice_index keys k, k) ⊎ IsOnce keys k → IsFirstOf keys (slice_index keys k) (slice_index firsts k) ⊎ IsWaiting keys seats 0 k
+    one k l (inl (j, m, at)) = inr (j, omega arith, m, default seats j (0, 0) (slice_index keys k, k) m ∙ at)
+    one k l (inr o) = inl (subst (IsFirstOf keys (slice_index keys k)) (sym (t.each k l)) (alone k l o))
 
 below_or_from : (a b : ℕ) → (a < b) ⊎ (b ≤ a)
 below_or_from a zero = inr (omega arith)
@@ -142,15 +183,16 @@ module _ (keys : List ℕ) (seats : List (ℕ × ℕ)) (firsts : List ℕ) (grou
           let a = ordered seats f.seated.rising i j (0, 0) o m in
           after (seat_at seats i) (seat_at seats j) a (ap (λ (x : ℕ × ℕ). x.0) at ∙ e) (subst (λ (x : ℕ × ℕ). x.1 < (seat_at seats i).1) (sym at) l)
 
-      earlier : (k : ℕ) → k < (seat_at seats i).1 → slice_index keys k ≡ (seat_at seats i).0 → Contains seats (slice_index keys k, k) → ⊥
-      earlier k l e (j, m, at) = placed k j l e m (default seats j (0, 0) (slice_index keys k, k) m ∙ at) (below_or_from j i) n
+      earlier : (k : ℕ) → k < (seat_at seats i).1 → slice_index keys k ≡ (seat_at seats i).0 → Contains seats (slice_index keys k, k) ⊎ IsOnce keys k → ⊥
+      earlier k l e (inl (j, m, at)) = placed k j l e m (default seats j (0, 0) (slice_index keys k, k) m ∙ at) (below_or_from j i) n
+      earlier k l e (inr o) = let same = o (seat_at seats i).1 (f.seated.own i (0, 0) lt).0 (own ∙ sym e) in omega arith
 
   -- once the first place of the key is written
   told : (group' : ℕ × ℕ) (firsts' : List ℕ) → group'.0 ≡ (seat_at seats i).0 → IsFirstOf keys group'.0 group'.1 → firsts' ≡ slice_set firsts (seat_at seats i).1 group'.1 → Filling keys seats firsts' group' (i + 1)
   told group' firsts' k first set = record {
     seated = f.seated;
     level = ap length set ∙ simp length-set f.level;
-    done = λ m l. one m (below_or_at m i l);
+    done = λ m l. one m (cases_order m (seat_at seats i).1) (f.done m l);
     head = λ _. first;
     last = λ _. let n : i + 1 - 1 ≡ i = omega arith in subst (λ n. (seat_at seats n).0 ≡ group'.0) (sym n) (sym k);
   }
@@ -160,24 +202,24 @@ module _ (keys : List ℕ) (seats : List (ℕ × ℕ)) (firsts : List ℕ) (grou
           let at : slice_index firsts' (seat_at seats i).1 ≡ group'.1 = ap (λ xs. slice_index xs (seat_at seats i).1) set ∙ (let w = within in rw get_or-set_same refl) in
           subst (IsFirstOf keys (seat_at seats i).0) (sym at) (subst (λ x. IsFirstOf keys x group'.1) k first)
 
-      alike : (m : ℕ) → m < i → (seat_at seats m).1 ≡ (seat_at seats i).1 → IsFirstOf keys (seat_at seats m).0 (slice_index firsts' (seat_at seats m).1)
-      alike m l e =
-          let mine = (f.seated.own m (0, 0) (omega arith)).1 in
-          let same : (seat_at seats i).0 ≡ (seat_at seats m).0 = sym own ∙ ap (slice_index keys) (sym e) ∙ mine in
-          subst (λ x. IsFirstOf keys x (slice_index firsts' (seat_at seats m).1)) same (subst (λ x. IsFirstOf keys (seat_at seats i).0 (slice_index firsts' x)) (sym e) here)
+      alike : (m : ℕ) → m ≡ (seat_at seats i).1 → IsFirstOf keys (slice_index keys m) (slice_index firsts' m)
+      alike m e = subst (λ n. IsFirstOf keys (slice_index keys n) (slice_index firsts' n)) (sym e) (subst (λ x. IsFirstOf keys x (slice_index firsts' (seat_at seats i).1)) (sym own) here)
 
-      apart : (m : ℕ) → m < i → (seat_at seats m).1 ≢ (seat_at seats i).1 → IsFirstOf keys (seat_at seats m).0 (slice_index firsts' (seat_at seats m).1)
-      apart m l ne =
-          let at : slice_index firsts' (seat_at seats m).1 ≡ slice_index firsts (seat_at seats m).1 = ap (λ xs. slice_index xs (seat_at seats m).1) set ∙ rw get_or-set_other refl in
-          subst (IsFirstOf keys (seat_at seats m).0) (sym at) (f.done m l)
+      later_still : (m j : ℕ) → i ≤ j → seat_at seats j ≡ (slice_index keys m, m) → m ≢ (seat_at seats i).1 → (i ≡ j) ⊎ ((i < j) ⊎ (j < i)) → i + 1 ≤ j
+      later_still m j from at ne (inl q) = absurd (ne (sym (ap (λ n. (seat_at seats n).1) q ∙ ap (λ (x : ℕ × ℕ). x.1) at)))
+      later_still m j from at ne (inr (inl q)) = omega arith
+      later_still m j from at ne (inr (inr q)) = absurd (omega arith)
 
-      one : (m : ℕ) → (m < i) ⊎ (m ≡ i) → IsFirstOf keys (seat_at seats m).0 (slice_index firsts' (seat_at seats m).1)
-      one m (inr e) = subst (λ n. IsFirstOf keys (seat_at seats n).0 (slice_index firsts' (seat_at seats n).1)) (sym e) here
-      one m (inl l) = elim (cases_order (seat_at seats m).1 (seat_at seats i).1) [
-        | inl q ↦ alike m l q
-        | inr (inl q) ↦ apart m l (λ e. omega arith)
-        | inr (inr q) ↦ apart m l (λ e. omega arith)
-      ]
+      apart : (m : ℕ) → m ≢ (seat_at seats i).1 → IsFirstOf keys (slice_index keys m) (slice_index firsts m) ⊎ IsWaiting keys seats i m → IsFirstOf keys (slice_index keys m) (slice_index firsts' m) ⊎ IsWaiting keys seats (i + 1) m
+      apart m ne (inl d) =
+          let at : slice_index firsts' m ≡ slice_index firsts m = ap (λ xs. slice_index xs m) set ∙ rw get_or-set_other refl in
+          inl (subst (IsFirstOf keys (slice_index keys m)) (sym at) d)
+      apart m ne (inr (j, from, to, at)) = inr (j, later_still m j from at ne (cases_order i j), to, at)
+
+      one : (m : ℕ) → (m ≡ (seat_at seats i).1) ⊎ ((m < (seat_at seats i).1) ⊎ ((seat_at seats i).1 < m)) → IsFirstOf keys (slice_index keys m) (slice_index firsts m) ⊎ IsWaiting keys seats i m → IsFirstOf keys (slice_index keys m) (slice_index firsts' m) ⊎ IsWaiting keys seats (i + 1) m
+      one m (inl q) d = inl (alike m q)
+      one m (inr (inl q)) d = apart m (λ e. omega arith) d
+      one m (inr (inr q)) d = apart m (λ e. omega arith) d
 
   pub goes_on : (firsts' : List ℕ) → firsts' ≡ slice_set firsts (seat_at seats i).1 group.1 → 0 < i → (seat_at seats i).0 ≡ group.0 → Filling keys seats firsts' group (i + 1)
   goes_on firsts' set l e = told group firsts' (sym e) (f.head l) set
@@ -186,7 +228,8 @@ module _ (keys : List ℕ) (seats : List (ℕ × ℕ)) (firsts : List ℕ) (grou
   begins_anew group' firsts' g set n = told group' firsts' (ap (λ (x : ℕ × ℕ). x.0) g) (subst (λ (x : ℕ × ℕ). IsFirstOf keys x.0 x.1) (sym g) (begins n)) set
 
 pub all_told : (keys : List ℕ) (seats : List (ℕ × ℕ)) (firsts : List ℕ) (group : ℕ × ℕ) (i : ℕ) → length seats ≤ i → Filling keys seats firsts group i → AreFirsts keys firsts
-all_told keys seats firsts group i l f = record { level = f.level; each = λ k m. one k (f.seated.every k m) }
+all_told keys seats firsts group i l f = record { level = f.level; each = λ k m. one k (f.done k m) }
   where
-    one : (k : ℕ) → Contains seats (slice_index keys k, k) → IsFirstOf keys (slice_index keys k) (slice_index firsts k)
-    one k (j, m, at) = let e = default seats j (0, 0) (slice_index keys k, k) m ∙ at in subst (λ (x : ℕ × ℕ). IsFirstOf keys x.0 (slice_index firsts x.1)) e (f.done j (omega arith))
+    one : (k : ℕ) → IsFirstOf keys (slice_index keys k) (slice_index firsts k) ⊎ IsWaiting keys seats i k → IsFirstOf keys (slice_index keys k) (slice_index firsts k)
+    one k (inl d) = d
+    one k (inr (j, from, to, at)) = absurd (omega arith)

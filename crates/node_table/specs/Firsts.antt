@@ -1,14 +1,24 @@
 -- Where each number of a list stands first.
-use Rattle.std.specs.Prelude.{◌≡◌, ◌≢◌, ℕ, ◌<◌, List, length, slice_index, All}
+use Rattle.std.specs.Prelude.{◌≡◌, ◌≢◌, ℕ, ◌<◌, ◌⊎◌, List, length, slice_index, All}
 use Rattle.std.specs.List.{Contains}
 use Rattle.std.specs.List.Sorted.{IsSorted}
 use Rattle.std.specs.Ordering.{nat_cmp, ordering_then}
 
--- each key with its place, in the order of keys, and of places where keys are equal
+-- the key at this place stands at no other
+abbrev pub IsOnce : List ℕ → ℕ → Type 0
+IsOnce keys k = (j : ℕ) → j < length keys → slice_index keys j ≡ slice_index keys k → j ≡ k
+
+-- keys with their places, all but some that stand at one place alone, in the order of keys, and of places where keys
+-- are equal
 pub record AreSeats (keys : List ℕ) (seats : List (ℕ × ℕ)) : Type 0 where
   pub own : All (λ seat. (seat.1 < length keys) × (slice_index keys seat.1 ≡ seat.0)) seats
-  pub every : (k : ℕ) → k < length keys → Contains seats (slice_index keys k, k)
+  pub every : (k : ℕ) → k < length keys → Contains seats (slice_index keys k, k) ⊎ IsOnce keys k
   pub rising : IsSorted (λ x y. ordering_then (nat_cmp x.0 y.0) (nat_cmp x.1 y.1)) seats
+
+-- the numbers from 0 on, as many as this
+pub record AreThemselves (len : ℕ) (places : List ℕ) : Type 0 where
+  pub level : length places ≡ len
+  pub each : (k : ℕ) → k < len → slice_index places k ≡ k
 
 -- a key stands at this place, and at none before it
 pub record IsFirstOf (keys : List ℕ) (key place : ℕ) : Type 0 where

@@ -18,7 +18,8 @@
 //! is above. What these parts have to say of the listing is the table's invariant (`specs/Held.antt`).
 //!
 //! A table is made in one walk over the tree, which tells for each branch where the one above stands and how many are
-//! below it. Places are numbered by a sort of them; from then on a branch's number is found by where it stands.
+//! below it. Places that have more paths than one are found by a sort, and all are numbered by their first path; from then
+//! on a branch's number is found by where it stands.
 //!
 //! The crate stands on `layer_tree` for the tree of a stack, on `romfs_image` for its images, on `name_keys` for
 //! look-ups, and on `rayon`.
@@ -28,6 +29,7 @@ mod ahead;
 mod building;
 mod completing;
 mod directory;
+mod fallen;
 mod firsts;
 mod lookup;
 mod node;

@@ -28,7 +28,7 @@ use std::thread::Threads;
 
 /// The nodes of a stack of layers, by number: attributes, rows and data.
 ///
-/// A clause sees the layers and their listing. Each node and row takes at most 104 bytes beside a name of more than 23
+/// A clause sees the layers and their listing. Each node and row takes at most 96 bytes beside a name of more than 22
 /// (16 of them for guesses of where names stand), and a directory 32 more. No reader takes memory, and each answers for
 /// every number: 1 is the root, and a number that is not in use has nothing.
 #[derive(Drop)]
@@ -43,7 +43,7 @@ pub struct Table<A: Allocator> {
 
 const _: () = prove!(size_of::<Node>() <= 40);
 
-const _: () = prove!(size_of::<Node>() + size_of::<Row<Global>>() + size_of::<u64>() <= 88);
+const _: () = prove!(size_of::<Node>() + size_of::<Row<Global>>() + size_of::<u64>() <= 80);
 
 const _: () = prove!(size_of::<Directory>() <= 32);
 

@@ -5,4 +5,4 @@ use Rattle.path_tree.specs.declared.name.Bytes.TheVariants.{Here, There}
 
 abbrev pub bytes_of : {A : Type 0} → Bytes A → List ℕ
 bytes_of (Here short) = short
-bytes_of (There long) = long.items
+bytes_of (There long) = long.value.items

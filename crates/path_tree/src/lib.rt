@@ -4,7 +4,7 @@
 //! rows: the value at each path below it, in the order of paths (`specs/Rows.antt`). So what a function does to a
 //! tree is said by what each path has afterwards.
 //!
-//! A [`Name`] of at most 23 bytes stands in its branch, and a longer one in an allocation. A name is found by halves.
+//! A [`Name`] of at most 22 bytes stands in its branch, and a longer one beside it. A name is found by halves.
 //! No recursion goes deeper than the tree.
 #![tactic(auto)]
 

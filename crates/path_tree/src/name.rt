@@ -2,17 +2,17 @@
 
 ghost use Rattle.std.specs.Prelude.{◌≡◌, ◌≤◌, length, IfOk};
 
-use std::alloc::{AllocError, Allocator};
+use std::alloc::{AllocError, Allocator, Global};
 use std::marker::Model;
 
 /// How many bytes stand in the value itself.
-const MOST: usize = 23;
+const MOST: usize = 22;
 
-/// A name of at most 23 bytes.
+/// A name of at most 22 bytes.
 #[derive(Drop)]
 struct Short {
     len: u8,
-    bytes: [u8; 23],
+    bytes: [u8; 22],
 }
 
 impl Model for Short {
@@ -22,15 +22,15 @@ impl Model for Short {
 
     ghost view = { λ s. take s.len s.bytes };
 
-    ghost invariant = { λ s. s.len ≤ 23 };
+    ghost invariant = { λ s. s.len ≤ 22 };
 }
 
 impl Short {
     fn of(name: &[u8]) -> Short
-        requires { length name.now ≤ 23 }
+        requires { length name.now ≤ 22 }
         ensures { result ≡ name.now }
     {
-        let mut bytes = [0; 23];
+        let mut bytes = [0; 22];
         bytes[..name.len()].copy_from_slice(name);
         Short {
             len: name.len() as u8,
@@ -48,14 +48,16 @@ impl Short {
 #[derive(Drop)]
 enum Bytes<A: Allocator> {
     Here(Short),
-    There(Vec<u8, A>),
+    There(Box<Vec<u8, A>, A>),
 }
 
-/// A name of any length. It takes 32 bytes, and an allocation only where it has more than 23. A clause sees its bytes.
+/// A name of any length. It takes 24 bytes, and allocations only where it has more than 22. A clause sees its bytes.
 #[derive(Drop)]
 pub struct Name<A: Allocator> {
     bytes: Bytes<A>,
 }
+
+const _: () = prove!(size_of::<Name<Global>>() <= 24);
 
 impl<A: Allocator> Model for Name<A> {
     ghost use Rattle.std.specs.Prelude.{List, ℕ};
@@ -66,19 +68,21 @@ impl<A: Allocator> Model for Name<A> {
     ghost view = { λ n. bytes_of n.bytes };
 }
 
-impl<A: Allocator> Name<A> {
-    /// A name of one's own. `AllocError` comes only where memory was refused for a name of more than 23 bytes.
+impl<A: Allocator + Copy> Name<A> {
+    /// A name of one's own. `AllocError` comes only where memory was refused for a name of more than 22 bytes.
     pub fn of(alloc: A, name: &[u8]) -> Result<Name<A>, AllocError>
         ensures { IfOk result (λ own. own ≡ name.now) }
     {
         let bytes = if name.len() <= MOST {
             Bytes::Here(Short::of(name))
         } else {
-            Bytes::There(name.to_vec(alloc)?)
+            Bytes::There(Box::new(alloc, name.to_vec(alloc)?)?)
         };
         Ok(Name { bytes })
     }
+}
 
+impl<A: Allocator> Name<A> {
     /// The bytes of the name.
     pub fn as_slice(&self) -> &[u8]
         ensures { result.now ≡ self.now }

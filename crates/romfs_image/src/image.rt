@@ -1,6 +1,6 @@
 //! Checked images, and what is read from them.
 
-ghost use Rattle.std.specs.Prelude.{◌≡◌, ◌≢◌, ◌⊎◌, [], ◌+◌, ◌<◌, ◌≤◌, ◌^◌, length, Some, IsNone, IfOk, IfErr, All};
+ghost use Rattle.std.specs.Prelude.{◌≡◌, ◌≢◌, ◌⊎◌, [], ◌+◌, ◌<◌, ◌≤◌, ◌^◌, length, Some, IsNone, IfOk, IfErr, All, slice_get};
 ghost use Rattle.romfs_format.specs.Fields.{image, root as root_of, name, word};
 ghost use Rattle.romfs_format.specs.Links.{IsFinal};
 ghost use Rattle.romfs_format.specs.Rules.{IsSound};
@@ -133,9 +133,11 @@ impl<A: Allocator> Image<A> {
         place_at(&self.bytes, self.root, offset)
     }
 
-    /// A byte at an offset, for whoever reads ahead what will be asked for later: no answer follows from it. None
-    /// beyond the image.
-    pub fn glance(&self, offset: u32) -> Option<u8> {
+    /// The byte at an offset in bytes; none beyond the image. It is for whoever reads ahead what will be asked for
+    /// later.
+    pub fn glance(&self, offset: u32) -> Option<u8>
+        ensures { result ≡ slice_get self.now offset }
+    {
         self.bytes.get(offset as usize).copied()
     }
 

@@ -1,16 +1,14 @@
 -- Images that are checked one after another.
-use Rattle.std.proofs.Common.{◌≡◌, ◌∙◌, sym, ap, ℕ, List, [], ◌∷◌, ◌++◌, append_assoc, append-nil, subst, refl, arith, length, map, All}
-use Rattle.std.proofs.lemmas.List.{length-map, map-append}
-use Rattle.std.proofs.lemmas.List.Elements.{All-push}
+use Rattle.std.proofs.Common.{◌≡◌, ◌∙◌, sym, ap, ℕ, ◌+◌, ◌≤◌, take, drop, List, [], ◌∷◌, ◌++◌, append_assoc, append-nil, subst, refl, arith, length, map, All}
+use Rattle.std.proofs.lemmas.List.{length-map, length-append, map-append, take-append-drop, length-take-le}
+use Rattle.std.proofs.lemmas.List.Elements.{All-push, All-append}
 use Rattle.romfs_format.specs.Fields.{image}
 use Rattle.romfs_format.specs.Rules.{IsSoundAs}
 use Rattle.romfs_format.specs.declared.rule.Profile.{Profile}
-use Rattle.serve_core.specs.Preparing.{AreLayers, IsFew}
-
--- these images keep the rules, and these are their accessible bytes
-pub record AreChecked (profile : Profile) (below : List (List ℕ)) (layers : List (List ℕ)) : Type 0 where
-  pub sound : All (IsSoundAs profile) below
-  pub are : layers ≡ map image below
+use Rattle.serve_core.specs.declared.stop.Stop.{Stop}
+use Rattle.serve_core.specs.declared.stop.Stop.TheVariants.{Layer, Layers, BadLength, CutOff, Read, Write, Turns, Memory}
+use Rattle.serve_core.specs.Preparing.{AreLayers, IsFew, IsLowestBroken, AreRefused}
+use Rattle.serve_core.specs.Checking.{AreChecked, IsBroken}
 
 -- an image that keeps the rules goes from what is left to what is checked
 pub one_more : {X : Type 0} (v : X → List ℕ) (profile : Profile) (all below : List (List ℕ)) (left rest : List X) (x : X) (layers more : List (List ℕ)) (checked : List ℕ)
@@ -31,11 +29,87 @@ nothing (x ∷ xs) none = absurd (omega (arith, none))
 
 -- where none is left, all are checked
 pub all_checked : {X : Type 0} (v : X → List ℕ) (profile : Profile) (all : List X) (below : List (List ℕ)) (left : List X) (layers : List (List ℕ))
-    → IsFew (length all) → map v all ≡ below ++ map v left → length left ≡ 0 → AreChecked profile below layers → AreLayers profile (map v all) layers
-all_checked v profile all below left layers few e none checked =
+    → map v all ≡ below ++ map v left → length left ≡ 0 → AreChecked profile below layers → AreChecked profile (map v all) layers
+all_checked v profile all below left layers e none checked =
     let same : map v all ≡ below = e ∙ ap (λ xs. below ++ map v xs) (nothing left none) ∙ append-nil below in
     record {
-      few = subst IsFew (sym (length-map all v)) few;
       sound = subst (All (IsSoundAs profile)) (sym same) checked.sound;
       are = checked.are ∙ ap (map image) (sym same);
     }
+
+-- two halves that keep the rules
+pub whole : (profile : Profile) (lows highs xs ys : List (List ℕ)) → AreChecked profile lows xs → AreChecked profile highs ys → AreChecked profile (lows ++ highs) (xs ++ ys)
+whole profile lows highs xs ys low high = record {
+  sound = All-append (IsSoundAs profile) lows highs low.sound high.sound;
+  are = ap (λ n. n ++ ys) low.are ∙ ap (λ n. map image lows ++ n) high.are ∙ sym (map-append image lows highs);
+}
+
+-- the lower half's broken image is the lowest of both
+pub broken_low : (first : ℕ) (profile : Profile) (lows highs : List (List ℕ)) (stop : Stop) → IsBroken first profile lows stop → IsBroken first profile (lows ++ highs) stop
+broken_low first profile lows highs (Layer layer fault) (n, at, broken) = (
+  n,
+  at,
+  record {
+    below = broken.below;
+    above = broken.above ++ highs;
+    bytes = broken.bytes;
+    images_are = ap (λ xs. xs ++ highs) broken.images_are ∙ append_assoc broken.below (broken.bytes ∷ broken.above) highs;
+    layer_is = broken.layer_is;
+    sound = broken.sound;
+    broken = broken.broken;
+  },
+)
+broken_low first profile lows highs Memory b = tt
+broken_low first profile lows highs (Layers count) b = absurd b
+broken_low first profile lows highs (BadLength at len) b = absurd b
+broken_low first profile lows highs (CutOff at) b = absurd b
+broken_low first profile lows highs Read b = absurd b
+broken_low first profile lows highs Write b = absurd b
+broken_low first profile lows highs Turns b = absurd b
+
+-- the upper half's is, where the lower half keeps the rules
+pub broken_high : (first next : ℕ) (profile : Profile) (lows highs xs : List (List ℕ)) (stop : Stop) → next ≡ first + length lows → AreChecked profile lows xs → IsBroken next profile highs stop → IsBroken first profile (lows ++ highs) stop
+broken_high first next profile lows highs xs (Layer layer fault) up low (n, at, broken) = (
+  length lows + n,
+  omega arith,
+  record {
+    below = lows ++ broken.below;
+    above = broken.above;
+    bytes = broken.bytes;
+    images_are = ap (λ ys. lows ++ ys) broken.images_are ∙ sym (append_assoc lows broken.below (broken.bytes ∷ broken.above));
+    layer_is = ap (λ m. length lows + m) broken.layer_is ∙ sym (length-append lows broken.below);
+    sound = All-append (IsSoundAs profile) lows broken.below low.sound broken.sound;
+    broken = broken.broken;
+  },
+)
+broken_high first next profile lows highs xs Memory up low b = tt
+broken_high first next profile lows highs xs (Layers count) up low b = absurd b
+broken_high first next profile lows highs xs (BadLength at len) up low b = absurd b
+broken_high first next profile lows highs xs (CutOff at) up low b = absurd b
+broken_high first next profile lows highs xs Read up low b = absurd b
+broken_high first next profile lows highs xs Write up low b = absurd b
+broken_high first next profile lows highs xs Turns up low b = absurd b
+
+-- of all images
+pub as_layers : {X : Type 0} (v : X → List ℕ) (profile : Profile) (all : List X) (layers : List (List ℕ)) → IsFew (length all) → AreChecked profile (map v all) layers → AreLayers profile (map v all) layers
+as_layers v profile all layers few checked = record { few = subst IsFew (sym (length-map all v)) few; sound = checked.sound; are = checked.are }
+
+pub as_refused : {X : Type 0} (v : X → List ℕ) (profile : Profile) (all : List X) (stop : Stop) → IsFew (length all) → IsBroken 0 profile (map v all) stop → AreRefused profile (map v all) stop
+as_refused v profile all (Layer layer fault) few (n, at, broken) = (subst IsFew (sym (length-map all v)) few, subst (λ m. IsLowestBroken profile (map v all) m fault) (sym (at ∙ none n)) broken)
+  where
+    none : (m : ℕ) → 0 + m ≡ m
+    none m = omega arith
+as_refused v profile all Memory few b = subst IsFew (sym (length-map all v)) few
+as_refused v profile all (Layers count) few b = absurd b
+as_refused v profile all (BadLength at len) few b = absurd b
+as_refused v profile all (CutOff at) few b = absurd b
+as_refused v profile all Read few b = absurd b
+as_refused v profile all Write few b = absurd b
+as_refused v profile all Turns few b = absurd b
+
+-- a list that is cut in two
+pub halved : {X : Type 0} (v : X → List ℕ) (all lows highs : List X) (half : ℕ) → lows ≡ take half all → highs ≡ drop half all → map v lows ++ map v highs ≡ map v all
+halved v all lows highs half l h = sym (map-append v lows highs) ∙ ap (map v) (ap (λ xs. xs ++ highs) l ∙ ap (λ xs. take half all ++ xs) h ∙ take-append-drop half all)
+
+pub counted : {X : Type 0} (v : X → List ℕ) (all lows : List X) (half first : ℕ) → lows ≡ take half all → half ≤ length all → first + half ≡ first + length (map v lows)
+counted v all lows half first l m = ap (λ n. first + n) (sym (length-take-le half all m) ∙ ap length (sym l) ∙ sym (length-map lows v))

@@ -3,5 +3,6 @@ pub mod Steps
 pub mod Buffers
 pub mod Laws
 pub mod Preparing
+pub mod Checking
 pub mod Headline
 pub mod Examples

@@ -1,16 +1,27 @@
-//! Images, checked one after another.
+//! Images, checked at the same time.
+//!
+//! A list is cut in two, and so on; each half is checked in a call of its own, and what both find is put together: where
+//! both have a broken image the lower half's is told.
 
-ghost use Rattle.std.specs.Prelude.{length, IfOk, IfErr};
+ghost use Rattle.std.specs.Prelude.{◌≡◌, ◌+◌, ◌++◌, ◌≤◌, ℕ, List, length, IfOk, IfErr};
+ghost use Rattle.romfs_format.specs.declared.rule.Profile.{Profile};
 ghost use Rattle.serve_core.specs.Preparing.{contents_of, AreLayers, AreRefused, IsFew};
+ghost use Rattle.serve_core.specs.Checking.{Checks};
+ghost use denote.Param.Send.{IsSync, IsSend, Frees};
 
 use crate::stop::Stop;
 use romfs_format::Profile;
 use romfs_image::{CheckFault, Image};
 use stack_core::{Gate, Work};
 use std::alloc::Allocator;
+use std::thread::{Threads, join};
 
-/// The images, checked from the lowest up. The gate is passed before each check.
-pub(crate) fn check_all<A: Allocator + Copy, G: Gate>(
+/// How many times a list is cut into halves that are checked at the same time.
+const FORKS: u32 = 4;
+
+/// The images, checked. The gate is passed before each check. At most 16 parts of a list are checked at the same time.
+pub(crate) fn check_all<R: Threads + Sync, A: Allocator + Copy + Send + Sync, G: Gate + Sync>(
+    rt: &R,
     alloc: A,
     images: Vec<Vec<u8, A>, A>,
     profile: Profile,
@@ -20,9 +31,83 @@ pub(crate) fn check_all<A: Allocator + Copy, G: Gate>(
     ensures ok { IfOk result (λ checked. AreLayers profile (contents_of images) checked.items) }
     ensures err { IfErr result (λ stop. AreRefused profile (contents_of images) stop) }
 {
+    check_from(rt, alloc, 0, images, profile, gate, FORKS)
+}
+
+/// A run of images, of which the lowest has the number `first`, checked: its halves at the same time, each of which is
+/// cut so once less, or one after another.
+#[cycle(halves)]
+fn check_from<R: Threads + Sync, A: Allocator + Copy + Send + Sync, G: Gate + Sync>(
+    rt: &R,
+    alloc: A,
+    first: u16,
+    mut images: Vec<Vec<u8, A>, A>,
+    profile: Profile,
+    gate: &G,
+    forks: u32,
+) -> Result<Vec<Image<A>, A>, Stop>
+    requires { first + length images.items ≤ 128 }
+    ensures { Checks first profile (contents_of images) result }
+{
+    if forks == 0 || images.len() < 2 {
+        return check_in_turn(alloc, first, images, profile, gate);
+    }
+    let less = forks - 1;
+    let half = images.len() / 2;
+    let highs = images.split_off(half)?;
+    let lows = images;
+    let next = first + half as u16;
+    let (low, high) = join(
+        rt,
+        move || -> Result<Vec<Image<A>, A>, Stop>
+            requires { IsSync R.row × IsSync G.row × IsSync A.row × IsSend A.row
+                × Frees A.Allocator A.dealloc_token × (first + length lows.items ≤ 128) }
+            ensures { Checks first profile (contents_of lows) result }
+        { check_from(rt, alloc, first, lows, profile, gate, less) },
+        move || -> Result<Vec<Image<A>, A>, Stop>
+            requires { IsSync R.row × IsSync G.row × IsSync A.row × IsSend A.row
+                × Frees A.Allocator A.dealloc_token × (next + length highs.items ≤ 128) }
+            ensures { Checks next profile (contents_of highs) result }
+        { check_from(rt, alloc, next, highs, profile, gate, less) },
+    );
+    together(low, high)
+}
+
+/// What two halves of a run come to: want of memory in either, else the lower one's broken image, else the upper one's.
+fn together<A: Allocator>(
+    low: Result<Vec<Image<A>, A>, Stop>,
+    high: Result<Vec<Image<A>, A>, Stop>,
+) -> Result<Vec<Image<A>, A>, Stop>
+    ensures { (first next : ℕ) (profile : Profile) (lows highs : List (List ℕ)) →
+        next ≡ first + length lows →
+        Checks first profile lows low → Checks next profile highs high →
+        Checks first profile (lows ++ highs) result }
+{
+    match (low, high) {
+        (Ok(mut all), Ok(mut rest)) => {
+            all.append(&mut rest)?;
+            Ok(all)
+        }
+        (_, Err(Stop::Memory)) => Err(Stop::Memory),
+        (Err(stop), _) => Err(stop),
+        (Ok(_), Err(stop)) => Err(stop),
+    }
+}
+
+/// A run of images, of which the lowest has the number `first`, checked from the lowest up.
+fn check_in_turn<A: Allocator + Copy, G: Gate>(
+    alloc: A,
+    first: u16,
+    images: Vec<Vec<u8, A>, A>,
+    profile: Profile,
+    gate: &G,
+) -> Result<Vec<Image<A>, A>, Stop>
+    requires { first + length images.items ≤ 128 }
+    ensures { Checks first profile (contents_of images) result }
+{
     let mut checked = Vec::with_capacity(alloc, images.len())?;
     for bytes in images {
-        let layer = checked.len() as u16;
+        let layer = first + checked.len() as u16;
         gate.pass(Work::Check, u32::from(layer));
         match Image::check_as(alloc, bytes, profile) {
             Ok(image) => checked.push(image)?,

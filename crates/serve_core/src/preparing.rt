@@ -42,7 +42,7 @@ pub fn prepare_as<R: Threads + Sync, A: Allocator + Copy + Send + Sync, G: Gate 
     if count == 0 || 128 < count {
         return Err(Stop::Layers { count });
     }
-    let images = check_all(alloc, images, profile, gate)?;
+    let images = check_all(rt, alloc, images, profile, gate)?;
     let tree = stack(rt, alloc, &images, gate)?;
     Ok(Table::of(rt, alloc, tree, images)?)
 }

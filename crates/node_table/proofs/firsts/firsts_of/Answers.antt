@@ -1,7 +1,10 @@
 use Rattle.std.proofs.Common.{arith, refl, ◌<◌, inl, inr, length}
-use Rattle.node_table.proofs.Seating.{goes_on, begins_anew, all_told}
+use Rattle.node_table.proofs.Seating.{fills_none, goes_on, begins_anew, all_told}
 use Rattle.node_table.proofs.firsts.firsts_of.Goals as goal
 use Rattle.node_table.proofs.firsts.firsts_of.Goals.{then-i-eq0, then-i-eq0-via-then-i-eq0, then-i-eq0-via-else-i-eq0+then-seat-group, else-i-eq0+else-seat-group}
+
+pub loop-i-init : goal.loop-i-init
+loop-i-init g c = fills_none _ _ _ _ (rw c.deref-seat-items.ensures.value c.in_ok-seats.ensures) c.in_ok-firsts.ensures
 
 pub loop-i-preserved : goal.loop-i-preserved
 loop-i-preserved g c =

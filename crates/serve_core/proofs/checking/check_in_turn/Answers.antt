@@ -1,7 +1,7 @@
 use Rattle.std.proofs.Common.{◌≡◌, length, arith}
 use Rattle.std.specs.Vec.Iter.{into_iter_items}
 use Rattle.serve_core.proofs.Checked.{all_checked, one_more}
-use Rattle.serve_core.proofs.checking.check_all.Goals as goal
+use Rattle.serve_core.proofs.checking.check_in_turn.Goals as goal
 
 pub loop-bytes-preserved : goal.loop-bytes-preserved
 loop-bytes-preserved g c =
@@ -13,9 +13,11 @@ loop-bytes-preserved g c =
           done.1 c.in-Some.ensures.steps.0 done.2 c.in-Ok.ensures.ok.0 c.in-Ok.ensures.ok.1 c.in_ok-push-in-Ok.ensures.items;
     }
 
-pub returns-clause-ok : goal.returns-clause-ok
-returns-clause-ok g c =
+pub returns : goal.returns
+returns g c =
     let done = c.loop-bytes.invariant.done in
-    let none : length (into_iter_items c.loop-bytes.bytes-iterator) ≡ 0 = omega (arith, c.in-None.ensures.steps.0, c.loop-bytes.bytes-iterator.rest.ok) in
-    all_checked (λ image. image.items) c.args.profile c.args.images.items done.0 (into_iter_items c.loop-bytes.bytes-iterator) c.loop-bytes.checked.items
-    c.requires done.1 none done.2
+    let none : length (into_iter_items c.loop-bytes.bytes-iterator) ≡ 0 = omega (arith, c.in-None.ensures.steps.0, c.loop-bytes.bytes-iterator.rest.ok) in (
+      all_checked (λ image. image.items) c.args.profile c.args.images.items done.0 (into_iter_items c.loop-bytes.bytes-iterator) c.loop-bytes.checked.items
+          done.1 none done.2,
+      tt,
+    )

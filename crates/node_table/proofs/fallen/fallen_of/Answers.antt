@@ -1,0 +1,23 @@
+use Rattle.std.proofs.Common.{◌∙◌, ap, ◌<◌, length, slice_set, arith}
+use Rattle.node_table.specs.declared.fallen.Fallen.TheVariants.{More}
+use Rattle.node_table.specs.Falling.{and_one}
+use Rattle.node_table.proofs.Seating.{default}
+use Rattle.node_table.proofs.Falling.{fell_within, fell_beyond, all_fell}
+use Rattle.node_table.proofs.fallen.fallen_of.Goals as goal
+use Rattle.node_table.proofs.fallen.fallen_of.Goals.{then-slot-slots, else-slot-slots}
+
+pub loop-key-preserved : goal.loop-key-preserved
+loop-key-preserved g c =
+    let slot = c.slot_of-slot.result in
+    let items = c.loop-key.fallen.items in
+    let level = c.loop-key.invariant.level in
+    elim c.if-slot-slots.branch [
+      | then-slot-slots w ↦
+          let within : slot < length items = omega arith in
+          let one = w.and_one.ensures ∙ ap and_one (w.index.ensures ∙ default items slot w.index.result.now More within) in
+          rw w.fallen-is (fell_within c.args.keys.now _ items _ c.loop-key.key-index slot c.loop-key.invariant c.slot_of-slot.ensures (omega arith) (ap (slice_set items slot) one))
+      | else-slot-slots w ↦ rw w.fallen-is (fell_beyond c.args.keys.now _ items c.loop-key.key-index slot c.loop-key.invariant c.slot_of-slot.ensures (omega arith))
+    ]
+
+pub returns : goal.returns
+returns g c = all_fell _ _ _ _ (omega arith) (omega arith) c.loop-key.invariant
