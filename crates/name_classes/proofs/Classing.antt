@@ -1,13 +1,13 @@
--- Classes of names by their names, one after another in the order of names.
-use Rattle.std.proofs.Common.{◌≡◌, ◌≢◌, ◌∙◌, sym, ap, subst, ℕ, ◌+◌, ◌-◌, ◌<◌, ◌≤◌, ◌⊎◌, inl, inr, List, [], ◌∷◌, ◌++◌, length, get_or, set, Option, Some, None, refl, arith, length-append, get_or-set_same, get_or-set_other, length-set, true, false}
+-- Classes of numbers by their names, one after another in the order of names.
+use Rattle.std.proofs.Common.{◌≡◌, ◌≢◌, ◌∙◌, sym, ap, subst, ℕ, zero, suc, ◌+◌, ◌-◌, ◌<◌, ◌≤◌, ◌⊎◌, inl, inr, List, [], ◌∷◌, ◌++◌, length, get_or, set, Option, Some, refl, arith, length-append, get_or-set_same, get_or-set_other, length-set, true, false}
 use Rattle.std.specs.Ordering.{is_eq}
 use Rattle.std.specs.declared.cmp.Ordering.{Ordering}
 use Rattle.std.specs.declared.cmp.Ordering.TheVariants.{Less, Equal, Greater}
 use Rattle.std.proofs.lemmas.Bool.{cases_eq, false≢true}
 use Rattle.std.proofs.lemmas.List.{get_or_at, get_or_append_left, get_or_default}
 use Rattle.name_classes.specs.declared.names.Named.{Named}
-use Rattle.name_classes.specs.Names.{named_cmp, AreInNameOrder, AreNumbersBelow, AreClasses}
-use Rattle.name_classes.proofs.Keyed.{none_some, below_or_at, between, one_name}
+use Rattle.name_classes.specs.Names.{named_cmp, IsItsAlone, AreInNameOrder, AreNumbersBelow, AreClasses}
+use Rattle.name_classes.proofs.Keyed.{below_or_at, between, one_name}
 
 same_some : {X : Type 0} (x y : X) → ◌≡◌ {A = Option X} (Some x) (Some y) → x ≡ y
 same_some x y e = cc
@@ -28,7 +28,7 @@ is_tie Greater e = absurd (false≢true e)
 
 -- what stands for a name where there is none
 abbrev pub nothing : Named
-nothing = record { key = 0; name = record { ref_ptr = (0, 0); now = [] }; number = 0 }
+nothing = record { hash = 0; name = record { ref_ptr = (0, 0); now = [] }; number = 0 }
 
 abbrev pub number_at : List Named → ℕ → ℕ
 number_at hs m = (get_or hs m nothing).number
@@ -44,6 +44,22 @@ pub record IsClassing (name : ℕ → Option (List ℕ)) (n : ℕ) (hs : List Na
       → (get_or class (number_at hs m) 0 < n) × (name (get_or class (number_at hs m) 0) ≡ Some (name_at hs m))
   pub alike : (l m : ℕ) → l < i → m < i → l < length hs → m < length hs → name_at hs l ≡ name_at hs m
       → get_or class (number_at hs l) 0 ≡ get_or class (number_at hs m) 0
+
+seek : (hs : List Named) (k : ℕ)
+    → ((m : ℕ) × (m < length hs) × (number_at hs m ≡ k)) ⊎ ((m : ℕ) → m < length hs → number_at hs m ≢ k)
+seek [] k = inr (λ m l. absurd (omega arith))
+seek (h ∷ hs) k = elim (cases_eq h.number k) [
+  | inl e ↦ inl (0, omega arith, e)
+  | inr d ↦ elim (seek hs k) [
+    | inl x ↦ inl (suc x.0, (let l = x.1 in omega arith), x.2)
+    | inr free ↦ inr (λ m l. past m l d free)
+  ]
+]
+  where
+    past : (m : ℕ) → m < length (h ∷ hs) → h.number ≢ k → ((j : ℕ) → j < length hs → number_at hs j ≢ k)
+        → number_at (h ∷ hs) m ≢ k
+    past zero l d free = d
+    past (suc m) l d free = free m (omega arith)
 
 module _ (name : ℕ → Option (List ℕ)) (n : ℕ) (hs : List Named) (by : AreInNameOrder name n hs) where
   owned : (m : ℕ) → m < length hs → name (number_at hs m) ≡ Some (name_at hs m)
@@ -178,33 +194,28 @@ module _ (name : ℕ → Option (List ℕ)) (n : ℕ) (hs : List Named) (by : Ar
   abbrev Place : ℕ → Type 0
   Place k = (m : ℕ) × (m < length hs) × (number_at hs m ≡ k)
 
-  found : (k : ℕ) (q : List ℕ) → k < n → name k ≡ Some q → Place k
-  found k q l e =
-      let x = by.are.every k q l e in
-      let at = x.1 in
-      (at.0, at.1, ap (λ (h : Named). h.number) (get_or_default hs at.0 nothing x.0 at.1 ∙ at.2) ∙ x.2)
+  -- the place of a number among these, unless none has it
+  placed : (k : ℕ) → Place k ⊎ ((m : ℕ) → m < length hs → number_at hs m ≢ k)
+  placed k = seek hs k
 
-  -- the place of a number among the names, unless none has it
-  placed : (k : ℕ) → k < n + 1 → Place k ⊎ ((m : ℕ) → m < length hs → number_at hs m ≢ k)
-  placed k l = elim (below_or_at k n l) [
-    | inl b ↦ by_its_name k b (name k) refl
-    | inr e ↦ inr (λ m p f. (let b = (by.are.each m nothing p).below in absurd (omega arith)))
+  -- the place of a number with a name, unless it has the name alone
+  found : (k : ℕ) (q : List ℕ) → k < n → name k ≡ Some q → Place k ⊎ IsItsAlone name n k
+  found k q l e = elim (by.are.every k q l e) [
+    | inl x ↦ (
+        let at = x.1 in
+        inl (at.0, at.1, ap (λ (h : Named). h.number) (get_or_default hs at.0 nothing x.0 at.1 ∙ at.2) ∙ x.2))
+    | inr o ↦ inr o
   ]
-    where
-      by_its_name : (k : ℕ) → k < n → (o : Option (List ℕ)) → name k ≡ o
-          → Place k ⊎ ((m : ℕ) → m < length hs → number_at hs m ≢ k)
-      by_its_name k b None e = inr (λ m p f. absurd (none_some _ (sym e ∙ ap name (sym f) ∙ owned m p)))
-      by_its_name k b (Some q) e = inl (found k q b e)
 
   pub all_classed : (class : List ℕ) (i : ℕ) → length hs ≤ i → IsClassing name n hs class i → AreClasses name n class
   all_classed class i le w = record {
     sized = w.sized;
-    below = λ k l. elim (placed k l) [
+    below = λ k l. elim (placed k) [
       | inl x ↦ (let o = (own_of k x).0 in omega arith)
       | inr free ↦ (let e = alone k l free in omega arith)
     ];
-    only = λ k j l p d e. elim (placed k l) [
-      | inl x ↦ elim (placed j p) [
+    only = λ k j l p d e. elim (placed k) [
+      | inl x ↦ elim (placed j) [
         | inl y ↦ (
           number_below k x,
           number_below j y,
@@ -214,20 +225,24 @@ module _ (name : ℕ → Option (List ℕ)) (n : ℕ) (hs : List Named) (by : Ar
             named_of j y ∙ sym (own_of j y).1 ∙ ap name (sym e) ∙ (own_of k x).1,
           ),
         )
-        | inr free ↦ absurd (lone k j l p x free e)
+        | inr free ↦ absurd (lone k j l p x free d e)
       ]
-      | inr free ↦ elim (placed j p) [
-        | inl y ↦ absurd (lone j k p l y free (sym e))
+      | inr free ↦ elim (placed j) [
+        | inl y ↦ absurd (lone j k p l y free (λ f. d (sym f)) (sym e))
         | inr other ↦ absurd (d (sym (alone k l free) ∙ e ∙ alone j p other))
       ]
     ];
-    all = λ k j q l p e f. (
-        let x = found k q l e in
-        let y = found j q p f in
-        ap (λ c. get_or class c 0) (sym x.2)
-        ∙ w.alike x.0 y.0 (let b = x.1 in omega arith) (let b = y.1 in omega arith) x.1 y.1
-        (same_some _ _ (sym (named_of k x) ∙ e ∙ sym f ∙ named_of j y))
-        ∙ ap (λ c. get_or class c 0) y.2);
+    all = λ k j q l p e f. elim (found k q l e) [
+      | inl x ↦ elim (found j q p f) [
+        | inl y ↦
+            ap (λ c. get_or class c 0) (sym x.2)
+            ∙ w.alike x.0 y.0 (let b = x.1 in omega arith) (let b = y.1 in omega arith) x.1 y.1
+            (same_some _ _ (sym (named_of k x) ∙ e ∙ sym f ∙ named_of j y))
+            ∙ ap (λ c. get_or class c 0) y.2
+        | inr o ↦ ap (λ c. get_or class c 0) (o k l (e ∙ sym f))
+      ]
+      | inr o ↦ ap (λ c. get_or class c 0) (sym (o j p (f ∙ sym e)))
+    ];
   }
     where
       number_below : (k : ℕ) → Place k → k < n
@@ -243,13 +258,15 @@ module _ (name : ℕ → Option (List ℕ)) (n : ℕ) (hs : List Named) (by : Ar
       alone : (k : ℕ) → k < n + 1 → ((m : ℕ) → m < length hs → number_at hs m ≢ k) → get_or class k 0 ≡ k
       alone k l free = w.rest k l (λ m _ q. free m q)
 
-      lone : (k j : ℕ) → k < n + 1 → j < n + 1 → Place k → ((m : ℕ) → m < length hs → number_at hs m ≢ j)
+      lone : (k j : ℕ) → k < n + 1 → j < n + 1 → Place k → ((m : ℕ) → m < length hs → number_at hs m ≢ j) → k ≢ j
           → get_or class k 0 ≡ get_or class j 0 → ⊥
-      lone k j l p x free e =
+      lone k j l p x free d e =
           let f : get_or class k 0 ≡ j = e ∙ alone j p free in
           let o = subst (λ c. (c < n) × (name c ≡ Some (name_at hs x.0))) f (own_of k x) in
-          let y = found j _ o.0 o.1 in
-          free y.0 y.1 y.2
+          elim (found j _ o.0 o.1) [
+            | inl y ↦ free y.0 y.1 y.2
+            | inr a ↦ d (a k (number_below k x) (named_of k x ∙ sym o.1))
+          ]
 
 -- the number of a name is one that has a class
 pub number_fits : {n i : ℕ} {hs : List Named} {class : List ℕ} → (name : ℕ → Option (List ℕ)) × AreInNameOrder name n hs

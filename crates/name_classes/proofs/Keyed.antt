@@ -1,5 +1,5 @@
 -- Headers in the order of their names: equal names stand side by side.
-use Rattle.std.proofs.Common.{◌≡◌, ◌∙◌, sym, ap, subst, ℕ, zero, suc, ◌+◌, ◌<◌, ◌≤◌, ◌⊎◌, inl, inr, List, [], ◌∷◌, ◌++◌, length, get_or, false, Option, Some, None, refl, arith}
+use Rattle.std.proofs.Common.{All, Contains, ◌≡◌, ◌∙◌, sym, ap, subst, ℕ, zero, suc, ◌+◌, ◌<◌, ◌≤◌, ◌⊎◌, inl, inr, List, [], ◌∷◌, ◌++◌, length, get_or, false, Option, Some, None, refl, arith}
 use Rattle.std.specs.Cmp.Lexicographic.{slice_cmp}
 use Rattle.std.specs.Ordering.{nat_cmp, is_lt, ordering_reverse}
 use Rattle.std.specs.List.Sorted.{IsSorted, IsPermutation}
@@ -9,9 +9,8 @@ use Rattle.std.proofs.lemmas.Cmp.{nat_list_cmp_total}
 use Rattle.std.proofs.lemmas.Map.Lookups.{exact_bytes}
 use Rattle.std.proofs.lemmas.List.Elements.{All-push, Contains-push, Contains-append_left}
 use Rattle.std.proofs.lemmas.List.Sorted.{ranks_by, sorted_far, All-permutation, Contains-permutation}
-use Rattle.name_keys.specs.Keys.{key as name_key}
 use Rattle.name_classes.specs.declared.names.Named.{Named}
-use Rattle.name_classes.specs.Names.{named_cmp, HasItsName, HaveTheirNames, AreInNameOrder}
+use Rattle.name_classes.specs.Names.{name_hash, named_cmp, HasItsName, IsItsAlone, HoldTheShared, AreInNameOrder}
 
 pub none_some : {X : Type 0} (x : X) → ◌≡◌ {A = Option X} None (Some x) → ⊥
 none_some x e = cc
@@ -23,40 +22,55 @@ below_or_at (suc k) zero l = absurd (omega arith)
 below_or_at (suc k) (suc n) l =
     elim (below_or_at k n (omega arith)) [ inl m ↦ inl (omega arith) | inr m ↦ inr (ap suc m) ]
 
-module _ (name : ℕ → Option (List ℕ)) where
-  pub none_named : HaveTheirNames name 0 []
+-- of the numbers below i those that have a name, but for some that have theirs alone
+pub record Holding (name : ℕ → Option (List ℕ)) (n i : ℕ) (named : List Named) : Type 0 where
+  pub each : All (HasItsName name n) named
+  pub every : (k : ℕ) (q : List ℕ) → k < i → name k ≡ Some q
+      → ((h : Named) × Contains named h × (h.number ≡ k)) ⊎ IsItsAlone name n k
+
+module _ (name : ℕ → Option (List ℕ)) (n : ℕ) where
+  pub none_named : Holding name n 0 []
   none_named = record { each = λ k d l. absurd (omega arith); every = λ k q l. absurd (omega arith) }
 
-  wider : (n : ℕ) (h : Named) → HasItsName name n h → HasItsName name (n + 1) h
-  wider n h w = let l = w.below in record { below = omega arith; own = w.own; keyed = w.keyed }
+  pub all_held : (i : ℕ) (hs : List Named) → i ≡ n → Holding name n i hs → HoldTheShared name n hs
+  all_held i hs e w = record { each = w.each; every = λ k q l. w.every k q (omega arith) }
 
-  pub one_without : (n : ℕ) (hs : List Named) → name n ≡ None → HaveTheirNames name n hs → HaveTheirNames name (n + 1) hs
-  one_without n hs none w = record {
-    each = λ k d l. wider n _ (w.each k d l);
-    every = λ k q l e. elim (below_or_at k n l) [
+  -- a number without a name, or one that has its name alone
+  pub one_without : (i : ℕ) (hs : List Named) → ((q : List ℕ) → name i ≡ Some q → IsItsAlone name n i)
+      → Holding name n i hs → Holding name n (i + 1) hs
+  one_without i hs alone w = record {
+    each = w.each;
+    every = λ k q l e. elim (below_or_at k i l) [
       | inl m ↦ w.every k q m e
-      | inr m ↦ absurd (none_some q (sym none ∙ ap name (sym m) ∙ e))
+      | inr m ↦ inr (subst (IsItsAlone name n) (sym m) (alone q (ap name (sym m) ∙ e)))
     ];
   }
 
-  pub one_named : (n : ℕ) (hs : List Named) (h : Named)
-      → h.number ≡ n → name n ≡ Some h.name.now → h.key ≡ name_key 8 h.name.now
-      → HaveTheirNames name n hs → HaveTheirNames name (n + 1) (hs ++ h ∷ [])
-  one_named n hs h number own keyed w = record {
-    each = All-push (HasItsName name (n + 1)) hs h (λ k d l. wider n _ (w.each k d l))
-        (record { below = omega arith; own = ap name number ∙ own; keyed = keyed });
-    every = λ k q l e. elim (below_or_at k n l) [
-      | inl m ↦ (let x = w.every k q m e in (x.0, Contains-append_left hs (h ∷ []) x.0 x.1, x.2))
-      | inr m ↦ (h, Contains-push hs h, number ∙ sym m)
+  pub one_named : (i : ℕ) (hs : List Named) (h : Named) → i < n
+      → h.number ≡ i → name i ≡ Some h.name.now → h.hash ≡ name_hash h.name.now
+      → Holding name n i hs → Holding name n (i + 1) (hs ++ h ∷ [])
+  one_named i hs h lt number own mixed w = record {
+    each = All-push (HasItsName name n) hs h w.each
+        (record { below = omega arith; own = ap name number ∙ own; mixed = mixed });
+    every = λ k q l e. elim (below_or_at k i l) [
+      | inl m ↦ elim (w.every k q m e) [
+        | inl x ↦ inl (x.0, Contains-append_left hs (h ∷ []) x.0 x.1, x.2)
+        | inr o ↦ inr o
+      ]
+      | inr m ↦ inl (h, Contains-push hs h, number ∙ sym m)
     ];
   }
 
+module _ (name : ℕ → Option (List ℕ)) where
   pub by_name : (n : ℕ) (hs hs' : List Named)
-      → HaveTheirNames name n hs → IsPermutation hs hs' → IsSorted named_cmp hs' → AreInNameOrder name n hs'
+      → HoldTheShared name n hs → IsPermutation hs hs' → IsSorted named_cmp hs' → AreInNameOrder name n hs'
   by_name n hs hs' w p up = record {
     are = record {
       each = All-permutation (HasItsName name n) hs hs' p w.each;
-      every = λ k q l e. (let x = w.every k q l e in (x.0, Contains-permutation hs hs' x.0 p x.1, x.2));
+      every = λ k q l e. elim (w.every k q l e) [
+        | inl x ↦ inl (x.0, Contains-permutation hs hs' x.0 p x.1, x.2)
+        | inr o ↦ inr o
+      ];
     };
     sorted = up;
   }
@@ -65,7 +79,7 @@ tail_same : (a b : ℕ) (xs ys : List ℕ) → a ∷ xs ≡ b ∷ ys → xs ≡ 
 tail_same a b xs ys e = cc
 
 pub one_name : (x y : Named) → named_cmp x y ≡ Equal → x.name.now ≡ y.name.now
-one_name x y e = tail_same x.key y.key _ _ (exact_bytes (x.key ∷ x.name.now) (y.key ∷ y.name.now) e)
+one_name x y e = tail_same x.hash y.hash _ _ (exact_bytes (x.hash ∷ x.name.now) (y.hash ∷ y.name.now) e)
 
 neither_less : (x y : List ℕ) → is_lt (slice_cmp nat_cmp x y) ≡ false → is_lt (slice_cmp nat_cmp y x) ≡ false
     → slice_cmp nat_cmp x y ≡ Equal
@@ -83,16 +97,16 @@ pub between : (name : ℕ → Option (List ℕ)) (n : ℕ) (hs : List Named) →
     → (i j k : ℕ) (d : Named) → i ≤ j → j ≤ k → k < length hs → (get_or hs i d).name.now ≡ (get_or hs k d).name.now
     → named_cmp (get_or hs j d) (get_or hs k d) ≡ Equal
 between name n hs w i j k d l m h e =
-    let o = ranks_by nat_list_cmp_total (λ (x : Named). x.key ∷ x.name.now) in
+    let o = ranks_by nat_list_cmp_total (λ (x : Named). x.hash ∷ x.name.now) in
     let low = sorted_far (λ x y. is_lt (named_cmp x y)) o hs w.sorted i j d l (omega arith) in
     let high = sorted_far (λ x y. is_lt (named_cmp x y)) o hs w.sorted j k d m h in
     neither_less
-    ((get_or hs j d).key ∷ (get_or hs j d).name.now)
-    ((get_or hs k d).key ∷ (get_or hs k d).name.now)
-    (subst (λ t. is_lt (slice_cmp nat_cmp ((get_or hs j d).key ∷ (get_or hs j d).name.now) t) ≡ false) same low) high
+    ((get_or hs j d).hash ∷ (get_or hs j d).name.now)
+    ((get_or hs k d).hash ∷ (get_or hs k d).name.now)
+    (subst (λ t. is_lt (slice_cmp nat_cmp ((get_or hs j d).hash ∷ (get_or hs j d).name.now) t) ≡ false) same low) high
   where
-    keys : (get_or hs i d).key ≡ (get_or hs k d).key
-    keys = (w.are.each i d (omega arith)).keyed ∙ ap (name_key 8) e ∙ sym (w.are.each k d h).keyed
+    hashes : (get_or hs i d).hash ≡ (get_or hs k d).hash
+    hashes = (w.are.each i d (omega arith)).mixed ∙ ap name_hash e ∙ sym (w.are.each k d h).mixed
 
-    same : (get_or hs i d).key ∷ (get_or hs i d).name.now ≡ (get_or hs k d).key ∷ (get_or hs k d).name.now
-    same = ap (λ t. t ∷ (get_or hs i d).name.now) keys ∙ ap (λ t. (get_or hs k d).key ∷ t) e
+    same : (get_or hs i d).hash ∷ (get_or hs i d).name.now ≡ (get_or hs k d).hash ∷ (get_or hs k d).name.now
+    same = ap (λ t. t ∷ (get_or hs i d).name.now) hashes ∙ ap (λ t. (get_or hs k d).hash ∷ t) e

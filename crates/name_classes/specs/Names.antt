@@ -1,32 +1,41 @@
--- Names with numbers, in the order of the names, and classes of the numbers.
-use Rattle.std.specs.Prelude.{◌≡◌, ◌≢◌, ℕ, ◌+◌, ◌<◌, List, ◌∷◌, length, get_or, All, Option, Some}
+-- Names with numbers, in an order in which equal names stand together, and classes of the numbers.
+use Rattle.std.specs.Prelude.{◌≡◌, ◌≢◌, ℕ, ◌+◌, ◌-◌, ◌*◌, ◌%◌, ◌^◌, ◌<◌, ◌⊎◌, List, ◌∷◌, length, drop, get_or, All, Option, Some}
 use Rattle.std.specs.Cmp.Lexicographic.{slice_cmp}
 use Rattle.std.specs.List.{Contains}
 use Rattle.std.specs.List.Sorted.{IsSorted}
 use Rattle.std.specs.Ordering.{nat_cmp}
 use Rattle.std.specs.declared.cmp.Ordering.{Ordering}
-use Rattle.name_keys.specs.Keys.{key as name_key}
+use Rattle.name_keys.specs.Keys.{key}
 use Rattle.name_classes.specs.declared.names.Named.{Named}
 
--- how they stand by their names, each name after its first eight bytes as a number
+-- what the first eight and the last eight bytes of a name are mixed to
+abbrev pub name_hash : List ℕ → ℕ
+name_hash name =
+    ((key 8 name * 0x9e3779b97f4a7c15) % 2 ^ 64 + key 8 (drop (length name - 8) name)) % 2 ^ 64
+
+-- how they stand by their names, each name after its hash
 abbrev pub named_cmp : Named → Named → Ordering
-named_cmp x y = slice_cmp nat_cmp (x.key ∷ x.name.now) (y.key ∷ y.name.now)
+named_cmp x y = slice_cmp nat_cmp (x.hash ∷ x.name.now) (y.hash ∷ y.name.now)
 
 -- a number below n with its own name
 pub record HasItsName (name : ℕ → Option (List ℕ)) (n : ℕ) (h : Named) : Type 0 where
   pub below : h.number < n
   pub own : name h.number ≡ Some h.name.now
-  pub keyed : h.key ≡ name_key 8 h.name.now
+  pub mixed : h.hash ≡ name_hash h.name.now
 
--- those of the numbers below n that have a name, each with it
-pub record HaveTheirNames (name : ℕ → Option (List ℕ)) (n : ℕ) (named : List Named) : Type 0 where
+-- no other number below n has the name of this one
+abbrev pub IsItsAlone : (ℕ → Option (List ℕ)) → ℕ → ℕ → Type 0
+IsItsAlone name n k = (j : ℕ) → j < n → name j ≡ name k → j ≡ k
+
+-- numbers below n, each with its name, and among them all whose name several have
+pub record HoldTheShared (name : ℕ → Option (List ℕ)) (n : ℕ) (named : List Named) : Type 0 where
   pub each : All (HasItsName name n) named
   pub every : (k : ℕ) (q : List ℕ) → k < n → name k ≡ Some q
-      → (h : Named) × Contains named h × (h.number ≡ k)
+      → ((h : Named) × Contains named h × (h.number ≡ k)) ⊎ IsItsAlone name n k
 
--- these in the order of their names
+-- these in an order in which equal names stand together
 pub record AreInNameOrder (name : ℕ → Option (List ℕ)) (n : ℕ) (named : List Named) : Type 0 where
-  pub are : HaveTheirNames name n named
+  pub are : HoldTheShared name n named
   pub sorted : IsSorted named_cmp named
 
 -- the numbers below n

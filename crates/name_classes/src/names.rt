@@ -1,27 +1,37 @@
 //! Names in their order, and the classes of their numbers.
 
 ghost use Rattle.std.specs.Prelude.{◌≡◌, ◌+◌, ◌<◌, ◌≤◌, ◌^◌, ℕ, List, Option, IfOk, length};
-ghost use Rattle.name_classes.specs.Names.{named_cmp, HaveTheirNames, AreInNameOrder, AreNumbersBelow, AreClasses};
+ghost use Rattle.name_classes.specs.Names.{name_hash, named_cmp, HoldTheShared, AreInNameOrder, AreNumbersBelow, AreClasses};
 
+use name_keys::key_of;
 use std::alloc::{AllocError, Allocator};
 use std::cmp::Ordering;
 
 /// A name with the number of what has it.
 #[derive(Clone, Copy)]
 pub struct Named<'a> {
-    /// The name's first eight bytes as a number.
-    pub key: u64,
+    /// What the name's bytes are mixed to ([`hash_of`]).
+    pub hash: u64,
     /// The name.
     pub name: &'a [u8],
     /// The number of what has it.
     pub number: u32,
 }
 
-// How names stand by their keys, and by all their bytes where these are equal.
+/// What the first eight and the last eight bytes of a name are mixed to.
+pub fn hash_of(name: &[u8]) -> u64
+    ensures { result ≡ name_hash name.now }
+{
+    let first = key_of(name);
+    let last = key_of(&name[name.len().saturating_sub(8)..]);
+    first.wrapping_mul(0x9e37_79b9_7f4a_7c15).wrapping_add(last)
+}
+
+// How names stand by their hashes, and by all their bytes where these are equal.
 fn order(x: &Named<'_>, y: &Named<'_>) -> Ordering
     ensures { result ≡ named_cmp x.now y.now }
 {
-    match x.key.cmp(&y.key) {
+    match x.hash.cmp(&y.hash) {
         Ordering::Equal => x.name.cmp(y.name),
         other => other,
     }
@@ -29,7 +39,7 @@ fn order(x: &Named<'_>, y: &Named<'_>) -> Ordering
 
 // Names in their order.
 fn sorted<'a, A: Allocator>(named: Vec<Named<'a>, A>) -> Vec<Named<'a>, A>
-    ensures { (name : ℕ → Option (List ℕ)) (n : ℕ) → HaveTheirNames name n named.entry.items
+    ensures { (name : ℕ → Option (List ℕ)) (n : ℕ) → HoldTheShared name n named.entry.items
         → AreInNameOrder name n result.items }
 {
     let mut named = named;
@@ -71,15 +81,17 @@ fn classes_in_order<A: Allocator + Copy>(
 }
 
 /// The classes of the numbers below this one by their names, each a number, with one more for none.
+///
+/// A name that one number alone has may be left out. `AllocError` comes only where memory was refused.
 pub fn classes<'a, A: Allocator + Copy>(
     alloc: A,
     named: Vec<Named<'a>, A>,
     count: usize,
 ) -> Result<Vec<u32, A>, AllocError>
     requires few { count < 2 ^ 32 }
-    requires named { (name : ℕ → Option (List ℕ)) × HaveTheirNames name count named.items }
+    requires named { (name : ℕ → Option (List ℕ)) × HoldTheShared name count named.items }
     ensures { IfOk result (λ classes. (name : ℕ → Option (List ℕ))
-        → HaveTheirNames name count named.entry.items → AreClasses name count classes.items) }
+        → HoldTheShared name count named.entry.items → AreClasses name count classes.items) }
 {
     let named = sorted(named);
     classes_in_order(alloc, &named, count)

@@ -3,7 +3,6 @@ pub mod Nodes
 pub mod Paths
 pub mod Walking
 pub mod Seating
-pub mod Falling
 pub mod Counting
 pub mod Built
 pub mod Seeded

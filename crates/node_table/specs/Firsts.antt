@@ -3,10 +3,7 @@ use Rattle.std.specs.Prelude.{◌≡◌, ◌≢◌, ℕ, ◌<◌, ◌⊎◌, Lis
 use Rattle.std.specs.List.{Contains}
 use Rattle.std.specs.List.Sorted.{IsSorted}
 use Rattle.std.specs.Ordering.{nat_cmp, ordering_then}
-
--- the key at this place stands at no other
-abbrev pub IsOnce : List ℕ → ℕ → Type 0
-IsOnce keys k = (j : ℕ) → j < length keys → slice_index keys j ≡ slice_index keys k → j ≡ k
+use Rattle.lone_keys.specs.Once.{IsOnce}
 
 -- keys with their places, all but some that stand at one place alone, in the order of keys, and of places where keys
 -- are equal

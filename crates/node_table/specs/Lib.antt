@@ -4,7 +4,6 @@ pub mod Readers
 pub mod Held
 pub mod Walks
 pub mod Firsts
-pub mod Falling
 pub mod Numbering
 pub mod Building
 pub mod Seeds

@@ -13,7 +13,7 @@ use std::alloc::Allocator;
 use std::thread::Threads;
 
 /// Fewer nodes than this are completed by the caller alone, since a thread costs more.
-const MANY: usize = 8192;
+const MANY: usize = 0x2_0000;
 
 // Type and permissions.
 fn mode_of(kind: Kind, exec: bool) -> u32

@@ -5,17 +5,17 @@
 ghost use Rattle.std.specs.Prelude.{IfOk};
 ghost use Rattle.node_table.specs.Firsts.{AreSeats, AreFirsts, AreThemselves};
 
-use crate::fallen::{fallen_of, fell_alone};
+use lone_keys::seen_once;
 use std::alloc::{AllocError, Allocator};
 
 // Keys with their places, all but some that stand once, in the order of keys, and of places where keys are equal.
 fn seats_of<A: Allocator + Copy>(alloc: A, keys: &[u64]) -> Result<Vec<(u64, usize), A>, AllocError>
     ensures { IfOk result (λ seats. AreSeats keys.now seats.items) }
 {
-    let fallen = fallen_of(alloc, keys)?;
+    let once = seen_once(alloc, keys)?;
     let mut seats = Vec::new(alloc);
     for (at, key) in keys.iter().enumerate() {
-        if fell_alone(&fallen, *key) {
+        if once[at] {
             continue;
         }
         seats.push((*key, at))?;

@@ -29,7 +29,6 @@ mod ahead;
 mod building;
 mod completing;
 mod directory;
-mod fallen;
 mod firsts;
 mod lookup;
 mod node;

@@ -18,7 +18,7 @@ use crate::lookup::{attr_of, directory_at, guesses_of, keys_of, node_at, number_
 use crate::node::{Attr, Node};
 use crate::numbering::number_places;
 use crate::row::Row;
-use crate::walk::{Walked, walk};
+use crate::walk::{Walked, count_branches, walk};
 use layer_tree::Tree;
 use name_keys::Guesses;
 use romfs_image::Image;
@@ -103,11 +103,7 @@ fn parts_of<A: Allocator + Copy>(
         made.directories.all.items made.directories.rows.items made.directories.keys.items) }
 {
     let root = tree.root();
-    let mut all = Walked {
-        spots: Vec::new(alloc),
-        above: Vec::new(alloc),
-        sizes: Vec::new(alloc),
-    };
+    let mut all = Walked::with_room(alloc, count_branches(root))?;
     walk(root, root.value(), 0, &mut all)?;
     let numbered = number_places(alloc, &all.spots)?;
     make(alloc, images, &all, &numbered)

@@ -1,6 +1,6 @@
 //! The branches of a tree in the order of their paths.
 
-ghost use Rattle.std.specs.Prelude.{◌≡◌, ◌⊎◌, length, OnOk};
+ghost use Rattle.std.specs.Prelude.{◌≡◌, ◌⊎◌, [], length, IfOk, OnOk};
 ghost use Rattle.node_table.specs.Walks.{AddsWalk, StandsAt};
 
 use path_tree::Branch;
@@ -17,6 +17,29 @@ pub(crate) struct Walked<'t, T: Copy + Drop, A: Allocator> {
     pub(crate) above: Vec<usize, A>,
     /// How many branches each one is with all below it.
     pub(crate) sizes: Vec<usize, A>,
+}
+
+impl<'t, T: Copy + Drop, A: Allocator + Copy> Walked<'t, T, A> {
+    // No branch yet, with room for this many.
+    pub(crate) fn with_room(alloc: A, room: usize) -> Result<Self, AllocError>
+        ensures { IfOk result
+            (λ w. (w.spots.items ≡ []) × (w.above.items ≡ []) × (w.sizes.items ≡ [])) }
+    {
+        Ok(Walked {
+            spots: Vec::with_capacity(alloc, room)?,
+            above: Vec::with_capacity(alloc, room)?,
+            sizes: Vec::with_capacity(alloc, room)?,
+        })
+    }
+}
+
+// How many branches a branch is with all below it. No recursion goes deeper than the tree.
+pub(crate) fn count_branches<T: Copy + Drop, A: Allocator>(branch: &Branch<T, A>) -> usize {
+    let mut count: usize = 1;
+    for child in branch.children() {
+        count = count.saturating_add(count_branches(child));
+    }
+    count
 }
 
 // The branch and all below it. No recursion goes deeper than the tree. The branch above stands at `place`, or is this

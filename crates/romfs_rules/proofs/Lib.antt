@@ -15,3 +15,4 @@ pub mod Judging
 pub mod Verdict
 pub mod SameNaming
 pub mod HeadNumbers
+pub mod NameHashes

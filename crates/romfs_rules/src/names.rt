@@ -1,14 +1,18 @@
 //! Names of headers, as classes of their numbers.
+//!
+//! Most names stand once. So the names of all headers are mixed to numbers first, and those that were seen once among
+//! these are left out of the sort that finds equal ones.
 
 ghost use Rattle.std.specs.Prelude.{◌≡◌, ◌+◌, ◌<◌, ◌≤◌, ◌^◌, ℕ, IfOk, length, get_or};
 ghost use Rattle.std.specs.Option.{option_map};
 ghost use Rattle.romfs_format.specs.declared.limits.TheConstants.{HEAD_SIZE};
-ghost use Rattle.name_classes.specs.Names.{HaveTheirNames};
-ghost use Rattle.romfs_rules.specs.Names.{kept_name, AreClassesOf};
+ghost use Rattle.lone_keys.specs.Once.{AreSeenOnce};
+ghost use Rattle.name_classes.specs.Names.{HoldTheShared};
+ghost use Rattle.romfs_rules.specs.Names.{kept_name, kept_names, AreClassesOf, AreNameHashes, HaveTheirsAlone};
 
 use crate::volume::Volume;
-use name_classes::{Named, classes};
-use name_keys::key_of;
+use lone_keys::seen_once;
+use name_classes::{Named, classes, hash_of};
 use romfs_format::limits::HEAD_SIZE;
 use romfs_format::read::{is_dot_name, text_at};
 use std::alloc::{AllocError, Allocator};
@@ -25,23 +29,51 @@ fn kept_name<'a>(image: &Volume<'a>, at: usize) -> Option<&'a [u8]>
     if is_dot_name(name) { None } else { Some(name) }
 }
 
-// The headers that have a name, each with it.
+// What the name of each header is mixed to, and 0 where it has none.
+fn name_hashes<A: Allocator + Copy>(
+    alloc: A,
+    image: &Volume,
+    heads: &[u32],
+) -> Result<Vec<u64, A>, AllocError>
+    requires inside { (i : ℕ) → i < length heads.now →
+        get_or heads.now i 0 + HEAD_SIZE ≤ length image.now.bytes.now }
+    ensures { IfOk result (λ hashes. AreNameHashes
+        (kept_names image.now.bytes.now heads.now) (length heads.now) hashes.items) }
+{
+    let mut hashes = Vec::with_capacity(alloc, heads.len())?;
+    for at in heads {
+        let hash = match kept_name(image, *at as usize) {
+            Some(name) => hash_of(name),
+            None => 0,
+        };
+        hashes.push(hash)?;
+    }
+    Ok(hashes)
+}
+
+// The headers that have a name, each with it, but those of which it is told that theirs stands once.
 fn named_headers<'a, A: Allocator + Copy>(
     alloc: A,
     image: &Volume<'a>,
     heads: &[u32],
+    once: &[bool],
 ) -> Result<Vec<Named<'a>, A>, AllocError>
     requires few { length heads.now < 2 ^ 32 }
     requires inside { (i : ℕ) → i < length heads.now →
         get_or heads.now i 0 + HEAD_SIZE ≤ length image.now.bytes.now }
-    ensures { IfOk result (λ named. HaveTheirNames
-        (λ i. kept_name image.now.bytes.now (get_or heads.now i 0)) (length heads.now) named.items) }
+    requires sized { length once.now ≡ length heads.now }
+    requires once { HaveTheirsAlone (kept_names image.now.bytes.now heads.now) (length heads.now) once.now }
+    ensures { IfOk result (λ named. HoldTheShared
+        (kept_names image.now.bytes.now heads.now) (length heads.now) named.items) }
 {
-    let mut named = Vec::with_capacity(alloc, heads.len())?;
+    let mut named = Vec::new(alloc);
     for (number, at) in heads.iter().enumerate() {
+        if once[number] {
+            continue;
+        }
         if let Some(name) = kept_name(image, *at as usize) {
             named.push(Named {
-                key: key_of(name),
+                hash: hash_of(name),
                 name,
                 number: number as u32,
             })?;
@@ -61,6 +93,8 @@ pub(crate) fn name_classes_of<A: Allocator + Copy>(
         get_or heads.now i 0 + HEAD_SIZE ≤ length image.now.bytes.now }
     ensures { IfOk result (λ classes. AreClassesOf image.now.bytes.now heads.now classes.items) }
 {
-    let named = named_headers(alloc, image, heads)?;
+    let hashes = name_hashes(alloc, image, heads)?;
+    let once = seen_once(alloc, &hashes)?;
+    let named = named_headers(alloc, image, heads, &once)?;
     classes(alloc, named, heads.len())
 }

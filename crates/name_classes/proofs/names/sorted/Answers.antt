@@ -13,5 +13,5 @@ returns g c = λ name n have.
     c.sort_unstable_by.ensures.permutation
     (c.sort_unstable_by.ensures.sorted
     (λ x y. is_lt (named_cmp x y))
-    (ranks_by nat_list_cmp_total (λ (x : Named). x.key ∷ x.name.now))
+    (ranks_by nat_list_cmp_total (λ (x : Named). x.hash ∷ x.name.now))
     (answers_always _ _ _ (λ f a r g h. search rules)))

@@ -1,14 +1,16 @@
-use Rattle.std.proofs.Common.{subst, arith, refl, ◌≡◌, ◌<◌, length}
-use Rattle.node_table.proofs.Seating.{Seating, seats_more, seats_same, seated}
-use Rattle.std.specs.Prelude.{slice_index}
-use Rattle.node_table.specs.Falling.{FellAlone}
+use Rattle.std.proofs.Common.{◌∙◌, sym, subst, arith, refl, false, ◌≡◌, ◌<◌, length}
+use Rattle.node_table.proofs.Seating.{Seating, default, seats_more, seats_same, seated}
 use Rattle.node_table.proofs.firsts.seats_of.Goals as goal
 
-pub loop-at-preserved-then-fell_alone : goal.loop-at-preserved-then-fell_alone
-loop-at-preserved-then-fell_alone g c =
-    let lt : c.loop-at.at < length c.args.keys.now = omega arith in
-    let alone = c.fell_alone.ensures c.if-fell_alone.true in
-    seats_same _ _ _ c.loop-at.invariant (c.in_ok-fallen.ensures.once c.loop-at.at lt (subst (λ xs. FellAlone xs (slice_index c.args.keys.now c.loop-at.at)) c.deref.ensures.value alone))
+pub loop-at-preserved-then-index : goal.loop-at-preserved-then-index
+loop-at-preserved-then-index g c =
+    let keys = c.args.keys.now in
+    let once = c.in_ok-once.once.items in
+    let at = c.loop-at.at in
+    let lt : at < length keys = omega arith in
+    let level = c.in_ok-once.ensures.level in
+    let told = default once at false c.index.result.now (omega arith) ∙ sym c.index.ensures ∙ c.if-index.true in
+    seats_same keys _ at c.loop-at.invariant (c.in_ok-once.ensures.each at lt told)
 
 pub loop-at-preserved : goal.loop-at-preserved
 loop-at-preserved g c = seats_more _ _ _ _ _ refl c.in_ok-push.ensures.items c.loop-at.invariant

@@ -1,11 +1,20 @@
-use Rattle.std.proofs.Common.{ℕ, List, Option, length, get_or}
+use Rattle.std.proofs.Common.{ℕ, List, Option, length, subst, sym}
 use Rattle.std.proofs.lemmas.Result.{IfOk-weaker}
-use Rattle.name_classes.specs.Names.{HaveTheirNames, AreClasses}
-use Rattle.romfs_rules.specs.Names.{kept_name, AreClassesOf}
+use Rattle.lone_keys.specs.Once.{AreSeenOnce}
+use Rattle.name_classes.specs.Names.{HoldTheShared, AreClasses}
+use Rattle.romfs_rules.specs.Names.{kept_names, HaveTheirsAlone, AreClassesOf}
+use Rattle.romfs_rules.proofs.NameHashes.{told_alone}
 use Rattle.romfs_rules.proofs.names.name_classes_of.Goals as goal
 
+pub named_headers-requires-clause-once : goal.named_headers-requires-clause-once
+named_headers-requires-clause-once g c =
+    let heads = c.args.heads.now in
+    subst (HaveTheirsAlone (kept_names c.args.image.now.bytes.now heads) (length heads)) (sym c.deref-2.ensures.value)
+    (told_alone (kept_names c.args.image.now.bytes.now heads) (length heads) c.in_ok-hashes.hashes.items c.in_ok-once.once.items
+    c.in_ok-hashes.ensures (subst (λ xs. AreSeenOnce xs c.in_ok-once.once.items) c.deref.ensures.value c.in_ok-once.ensures))
+
 pub classes-requires-clause-named : goal.classes-requires-clause-named
-classes-requires-clause-named g c = (λ i. kept_name c.args.image.now.bytes.now (get_or c.args.heads.now i 0), c.in_ok-named.ensures)
+classes-requires-clause-named g c = (kept_names c.args.image.now.bytes.now c.args.heads.now, c.in_ok-named.ensures)
 
 pub returns : goal.returns
 returns g c =
@@ -13,6 +22,6 @@ returns g c =
     let heads = c.args.heads.now in
     let n = length heads in
     IfOk-weaker c.classes.result
-    (λ classes. (name : ℕ → Option (List ℕ)) → HaveTheirNames name n c.in_ok-named.named.items → AreClasses name n classes.items)
+    (λ classes. (name : ℕ → Option (List ℕ)) → HoldTheShared name n c.in_ok-named.named.items → AreClasses name n classes.items)
     (λ classes. AreClassesOf a heads classes.items)
-    (λ classes w. w (λ i. kept_name a (get_or heads i 0)) c.in_ok-named.ensures) c.classes.ensures
+    (λ classes w. w (kept_names a heads) c.in_ok-named.ensures) c.classes.ensures

@@ -1,5 +1,5 @@
-use Rattle.node_table.proofs.Falling.{Fell}
-use Rattle.node_table.proofs.fallen.fallen_of.Given as goal
+use Rattle.lone_keys.proofs.Falling.{Fell}
+use Rattle.lone_keys.proofs.fallen.fallen_of.Given as goal
 
 abbrev pub invariant-loop-key : goal.invariant-loop-key
 invariant-loop-key g l = Fell l.keys l.slots l.fallen.items l.key-index

@@ -1,8 +1,8 @@
 -- Keys that fall into slots.
 use Rattle.std.specs.Prelude.{◌≡◌, ℕ, ◌+◌, ◌*◌, ◌/◌, ◌%◌, ◌^◌, ◌≤◌, ◌<◌, List, length, slice_get, slice_index, Some}
-use Rattle.node_table.specs.declared.fallen.Fallen.{Fallen}
-use Rattle.node_table.specs.declared.fallen.Fallen.TheVariants.{Nothing, One, More}
-use Rattle.node_table.specs.Firsts.{IsOnce}
+use Rattle.lone_keys.specs.declared.fallen.Fallen.{Fallen}
+use Rattle.lone_keys.specs.declared.fallen.Fallen.TheVariants.{Nothing, One, More}
+use Rattle.lone_keys.specs.Once.{IsOnce}
 
 -- where a key falls among this many slots
 abbrev pub slot_of : ℕ → ℕ → ℕ

@@ -1,11 +1,7 @@
-//! Keys that stand in a list once.
-//!
-//! Each key falls into one of some slots, by what it is mixed to, and for each slot it is known whether no key fell
-//! into it, one, or more. A key that fell into its slot alone stands in the list once. It takes two steps a key, and four
-//! bytes for each key while the list is gone over.
+//! What falls into slots.
 
 ghost use Rattle.std.specs.Prelude.{◌≡◌, ◌≤◌, ◌^◌, length, IfOk, IsTrue};
-ghost use Rattle.node_table.specs.Falling.{slot_of, and_one, FellAlone, HaveFallen};
+ghost use Rattle.lone_keys.specs.Falling.{slot_of, and_one, FellAlone, HaveFallen};
 
 use std::alloc::{AllocError, Allocator};
 

@@ -1,10 +1,10 @@
 use Rattle.std.proofs.Common.{◌∙◌, ap, ◌<◌, length, slice_set, arith}
-use Rattle.node_table.specs.declared.fallen.Fallen.TheVariants.{More}
-use Rattle.node_table.specs.Falling.{and_one}
-use Rattle.node_table.proofs.Seating.{default}
-use Rattle.node_table.proofs.Falling.{fell_within, fell_beyond, all_fell}
-use Rattle.node_table.proofs.fallen.fallen_of.Goals as goal
-use Rattle.node_table.proofs.fallen.fallen_of.Goals.{then-slot-slots, else-slot-slots}
+use Rattle.lone_keys.specs.declared.fallen.Fallen.TheVariants.{More}
+use Rattle.lone_keys.specs.Falling.{and_one}
+use Rattle.lone_keys.proofs.Telling.{default}
+use Rattle.lone_keys.proofs.Falling.{fell_within, fell_beyond, all_fell}
+use Rattle.lone_keys.proofs.fallen.fallen_of.Goals as goal
+use Rattle.lone_keys.proofs.fallen.fallen_of.Goals.{then-slot-slots, else-slot-slots}
 
 pub loop-key-preserved : goal.loop-key-preserved
 loop-key-preserved g c =

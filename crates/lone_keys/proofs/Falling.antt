@@ -3,10 +3,10 @@ use Rattle.std.proofs.Common.{◌≡◌, ◌≢◌, ◌∙◌, sym, ap, subst, �
 use Rattle.std.specs.Prelude.{◌^◌}
 use Rattle.std.proofs.lemmas.Bool.{cases_order}
 use Rattle.std.proofs.lemmas.Option.{get_or_from_slice_get}
-use Rattle.node_table.specs.declared.fallen.Fallen.{Fallen}
-use Rattle.node_table.specs.declared.fallen.Fallen.TheVariants.{Nothing, One, More}
-use Rattle.node_table.specs.Falling.{slot_of, and_one, HaveFallen}
-use Rattle.node_table.proofs.Seating.{below_or_at}
+use Rattle.lone_keys.specs.declared.fallen.Fallen.{Fallen}
+use Rattle.lone_keys.specs.declared.fallen.Fallen.TheVariants.{Nothing, One, More}
+use Rattle.lone_keys.specs.Falling.{slot_of, and_one, HaveFallen}
+use Rattle.lone_keys.proofs.Telling.{below_or_at}
 
 abbrev at : List Fallen → ℕ → Fallen
 at fallen s = get_or fallen s More

@@ -1,0 +1,5 @@
+use Rattle.lone_keys.proofs.Telling.{Told}
+use Rattle.lone_keys.proofs.once.seen_once.Given as goal
+
+abbrev pub invariant-loop-key : goal.invariant-loop-key
+invariant-loop-key g l = Told l.keys l.once.items l.key-index

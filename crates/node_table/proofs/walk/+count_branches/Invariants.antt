@@ -1,0 +1,5 @@
+use Rattle.std.proofs.Common.{length}
+use Rattle.node_table.proofs.walk.+count_branches.Given as goal
+
+abbrev pub decreases-count_branches : goal.decreases-count_branches
+decreases-count_branches g l = length l.branch.now.below

@@ -1,0 +1,34 @@
+-- What names are mixed to, and which names stand once.
+use Rattle.std.proofs.Common.{◌≡◌, ◌∙◌, sym, ap, ℕ, ◌+◌, inl, inr, List, [], ◌∷◌, ◌++◌, length, Bool, Option, Some, None, arith, length-append}
+use Rattle.std.specs.Prelude.{slice_index}
+use Rattle.std.proofs.lemmas.List.{get_or_at, get_or_append_left}
+use Rattle.lone_keys.specs.Once.{AreSeenOnce}
+use Rattle.name_classes.specs.Names.{name_hash}
+use Rattle.name_classes.proofs.Keyed.{below_or_at}
+use Rattle.romfs_rules.specs.Names.{AreNameHashes, HaveTheirsAlone}
+
+pub same_some : (x y : List ℕ) → ◌≡◌ {A = Option (List ℕ)} (Some x) (Some y) → x ≡ y
+same_some x y e = cc
+
+pub some_none : (x : List ℕ) → ◌≡◌ {A = Option (List ℕ)} (Some x) None → ⊥
+some_none x e = cc
+
+pub no_hashes : (name : ℕ → Option (List ℕ)) (hashes : List ℕ) → hashes ≡ [] → AreNameHashes name 0 hashes
+no_hashes name hashes e = record { level = ap length e; each = λ k q l. absurd (omega arith) }
+
+pub one_hash : (name : ℕ → Option (List ℕ)) (i h : ℕ) (hashes hashes' : List ℕ)
+    → ((q : List ℕ) → name i ≡ Some q → h ≡ name_hash q) → hashes' ≡ hashes ++ h ∷ []
+    → AreNameHashes name i hashes → AreNameHashes name (i + 1) hashes'
+one_hash name i h hashes hashes' own push w = record {
+  level = ap length push ∙ length-append hashes (h ∷ []) ∙ ap (λ m. m + 1) w.level;
+  each = λ k q l e. ap (λ xs. slice_index xs k) push ∙ elim (below_or_at k i l) [
+    | inl m ↦ get_or_append_left hashes (h ∷ []) 0 k (let s = w.level in omega arith) ∙ w.each k q m e
+    | inr m ↦ ap (λ j. slice_index (hashes ++ h ∷ []) j) m ∙ get_or_at hashes h [] 0 i w.level ∙ own q (ap name (sym m) ∙ e)
+  ];
+}
+
+pub told_alone : (name : ℕ → Option (List ℕ)) (n : ℕ) (hashes : List ℕ) (once : List Bool)
+    → AreNameHashes name n hashes → AreSeenOnce hashes once → HaveTheirsAlone name n once
+told_alone name n hashes once w seen k q l t e j m f =
+    let size = w.level in
+    seen.each k (omega arith) t j (omega arith) (w.each j q m (f ∙ e) ∙ sym (w.each k q l e))
