@@ -62,7 +62,8 @@ fn named_headers<'a, A: Allocator + Copy>(
     requires inside { (i : ℕ) → i < length heads.now →
         get_or heads.now i 0 + HEAD_SIZE ≤ length image.now.bytes.now }
     requires sized { length once.now ≡ length heads.now }
-    requires once { HaveTheirsAlone (kept_names image.now.bytes.now heads.now) (length heads.now) once.now }
+    requires once { HaveTheirsAlone
+        (kept_names image.now.bytes.now heads.now) (length heads.now) once.now }
     ensures { IfOk result (λ named. HoldTheShared
         (kept_names image.now.bytes.now heads.now) (length heads.now) named.items) }
 {
