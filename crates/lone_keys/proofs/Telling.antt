@@ -1,5 +1,6 @@
 -- What is told of each key.
 use Rattle.std.proofs.Common.{◌≡◌, ◌∙◌, sym, ap, subst, ℕ, zero, suc, ◌+◌, ◌<◌, ◌⊎◌, inl, inr, List, [], ◌∷◌, ◌++◌, length, get_or, Bool, true, false, refl, arith, length-append}
+use Rattle.std.proofs.lemmas.List.{get_or_at, get_or_append_left}
 use Rattle.lone_keys.specs.Once.{IsOnce, AreSeenOnce}
 
 pub below_or_at : (k i : ℕ) → k < i + 1 → (k < i) ⊎ (k ≡ i)
@@ -7,12 +8,6 @@ below_or_at zero zero l = inr refl
 below_or_at zero (suc i) l = inl (omega arith)
 below_or_at (suc k) zero l = absurd (omega arith)
 below_or_at (suc k) (suc i) l = elim (below_or_at k i (omega arith)) [ inl m ↦ inl (omega arith) | inr m ↦ inr (ap suc m) ]
-
--- below the length it does not matter what stands for a place beyond it
-pub default : {X : Type 0} (xs : List X) (k : ℕ) (a b : X) → k < length xs → get_or xs k a ≡ get_or xs k b
-default [] k a b l = absurd (omega arith)
-default (z ∷ xs) zero a b l = refl
-default (z ∷ xs) (suc k) a b l = default xs k a b (omega arith)
 
 -- what was told of the first keys
 pub record Told (keys : List ℕ) (once : List Bool) (i : ℕ) : Type 0 where
@@ -22,15 +17,6 @@ pub record Told (keys : List ℕ) (once : List Bool) (i : ℕ) : Type 0 where
 pub told_none : (keys : List ℕ) (once : List Bool) → once ≡ [] → Told keys once 0
 told_none keys once e = record { level = ap length e; each = λ k l. absurd (omega arith) }
 
-front : (xs : List Bool) (y : Bool) (k : ℕ) → k < length xs → get_or (xs ++ y ∷ []) k false ≡ get_or xs k false
-front [] y k l = absurd (omega arith)
-front (x ∷ xs) y zero l = refl
-front (x ∷ xs) y (suc k) l = front xs y k (omega arith)
-
-end : (xs : List Bool) (y : Bool) → get_or (xs ++ y ∷ []) (length xs) false ≡ y
-end [] y = refl
-end (x ∷ xs) y = end xs y
-
 pub told_more : (keys : List ℕ) (once once' : List Bool) (i : ℕ) (is : Bool) → once' ≡ once ++ is ∷ [] → (is ≡ true → IsOnce keys i) → Told keys once i → Told keys once' (i + 1)
 told_more keys once once' i is p own t = record {
   level = ap length p ∙ length-append once (is ∷ []) ∙ ap (λ n. n + 1) t.level;
@@ -38,10 +24,10 @@ told_more keys once once' i is p own t = record {
 }
   where
     one : (k : ℕ) → get_or once' k false ≡ true → (k < i) ⊎ (k ≡ i) → IsOnce keys k
-    one k e (inl m) = t.each k m (sym (front once is k (let n = t.level in omega arith)) ∙ ap (λ xs. get_or xs k false) (sym p) ∙ e)
+    one k e (inl m) = t.each k m (sym (get_or_append_left once (is ∷ []) false k (let n = t.level in omega arith)) ∙ ap (λ xs. get_or xs k false) (sym p) ∙ e)
     one k e (inr m) =
         let at : k ≡ length once = m ∙ sym t.level in
-        subst (IsOnce keys) (sym m) (own (sym (end once is) ∙ ap (λ n. get_or (once ++ is ∷ []) n false) (sym at) ∙ ap (λ xs. get_or xs k false) (sym p) ∙ e))
+        subst (IsOnce keys) (sym m) (own (sym (get_or_at once is [] false (length once) refl) ∙ ap (λ n. get_or (once ++ is ∷ []) n false) (sym at) ∙ ap (λ xs. get_or xs k false) (sym p) ∙ e))
 
 pub all_told : (keys : List ℕ) (once : List Bool) (i : ℕ) → i ≡ length keys → Told keys once i → AreSeenOnce keys once
 all_told keys once i e t = record { level = t.level ∙ e; each = λ k l o. t.each k (let m = e in omega arith) o }

@@ -1,7 +1,7 @@
 use Rattle.std.proofs.Common.{◌∙◌, ap, ◌<◌, length, slice_set, arith}
 use Rattle.lone_keys.specs.declared.fallen.Fallen.TheVariants.{More}
 use Rattle.lone_keys.specs.Falling.{and_one}
-use Rattle.lone_keys.proofs.Telling.{default}
+use Rattle.std.proofs.lemmas.List.{get_or_default}
 use Rattle.lone_keys.proofs.Falling.{fell_within, fell_beyond, all_fell}
 use Rattle.lone_keys.proofs.fallen.fallen_of.Goals as goal
 use Rattle.lone_keys.proofs.fallen.fallen_of.Goals.{then-slot-slots, else-slot-slots}
@@ -14,7 +14,7 @@ loop-key-preserved g c =
     elim c.if-slot-slots.branch [
       | then-slot-slots w ↦
           let within : slot < length items = omega arith in
-          let one = w.and_one.ensures ∙ ap and_one (w.index.ensures ∙ default items slot w.index.result.now More within) in
+          let one = w.and_one.ensures ∙ ap and_one (w.index.ensures ∙ get_or_default items slot w.index.result.now More within) in
           rw w.fallen-is (fell_within c.args.keys.now _ items _ c.loop-key.key-index slot c.loop-key.invariant c.slot_of-slot.ensures (omega arith) (ap (slice_set items slot) one))
       | else-slot-slots w ↦ rw w.fallen-is (fell_beyond c.args.keys.now _ items c.loop-key.key-index slot c.loop-key.invariant c.slot_of-slot.ensures (omega arith))
     ]
