@@ -3,10 +3,10 @@ use Rattle.std.proofs.Common.{◌≡◌, ◌≢◌, ◌∙◌, sym, ap, subst, �
 use Rattle.std.specs.Ordering.{is_eq}
 use Rattle.std.specs.declared.cmp.Ordering.{Ordering}
 use Rattle.std.specs.declared.cmp.Ordering.TheVariants.{Less, Equal, Greater}
-use Rattle.std.proofs.lemmas.Bool.{cases_eq, false≢true}
+use Rattle.std.proofs.lemmas.Bool.{cases_eq, cases_order, false≢true}
 use Rattle.std.proofs.lemmas.List.{get_or_at, get_or_append_left, get_or_default}
 use Rattle.name_classes.specs.declared.names.Named.{Named}
-use Rattle.name_classes.specs.Names.{named_cmp, IsItsAlone, AreInNameOrder, AreNumbersBelow, AreClasses}
+use Rattle.name_classes.specs.Names.{named_cmp, IsItsAlone, AreInNameOrder, AreNumbersBelow, AreClasses, AreApart}
 use Rattle.name_classes.proofs.Keyed.{below_or_at, between, one_name}
 
 same_some : {X : Type 0} (x y : X) → ◌≡◌ {A = Option X} (Some x) (Some y) → x ≡ y
@@ -44,6 +44,28 @@ pub record IsClassing (name : ℕ → Option (List ℕ)) (n : ℕ) (hs : List Na
       → (get_or class (number_at hs m) 0 < n) × (name (get_or class (number_at hs m) 0) ≡ Some (name_at hs m))
   pub alike : (l m : ℕ) → l < i → m < i → l < length hs → m < length hs → name_at hs l ≡ name_at hs m
       → get_or class (number_at hs l) 0 ≡ get_or class (number_at hs m) 0
+
+-- of the names before place i of hs none is that of the one before it
+pub record AreUnlike (hs : List Named) (i : ℕ) : Type 0 where
+  pub each : (m : ℕ) → 0 < m → m < i → m < length hs
+      → named_cmp (get_or hs (m - 1) nothing) (get_or hs m nothing) ≢ Equal
+
+pub none_unlike : (hs : List Named) → AreUnlike hs 1
+none_unlike hs = record { each = λ m p l. absurd (omega arith) }
+
+pub one_unlike : (hs : List Named) (i : ℕ) (o : Ordering)
+    → o ≡ named_cmp (get_or hs (i - 1) nothing) (get_or hs i nothing) → is_eq o ≡ false
+    → AreUnlike hs i → AreUnlike hs (i + 1)
+one_unlike hs i o stand differ w = record {
+  each = λ m p l q. elim (below_or_at m i l) [
+    | inl b ↦ w.each m p b q
+    | inr b ↦ (λ e. absurd (false≢true (sym differ ∙ ap is_eq (stand ∙ here m b ∙ e))))
+  ];
+}
+  where
+    here : (m : ℕ) → m ≡ i → named_cmp (get_or hs (i - 1) nothing) (get_or hs i nothing)
+        ≡ named_cmp (get_or hs (m - 1) nothing) (get_or hs m nothing)
+    here m b = ap (λ k. named_cmp (get_or hs (k - 1) nothing) (get_or hs k nothing)) (sym b)
 
 seek : (hs : List Named) (k : ℕ)
     → ((m : ℕ) × (m < length hs) × (number_at hs m ≡ k)) ⊎ ((m : ℕ) → m < length hs → number_at hs m ≢ k)
@@ -267,6 +289,33 @@ module _ (name : ℕ → Option (List ℕ)) (n : ℕ) (hs : List Named) (by : Ar
             | inl y ↦ free y.0 y.1 y.2
             | inr a ↦ d (a k (number_below k x) (named_of k x ∙ sym o.1))
           ]
+
+  -- where no name is that of the one before it, each number with a name has its name alone
+  pub all_unlike : (i : ℕ) → length hs ≤ i → AreUnlike hs i → AreApart name n
+  all_unlike i le w = record {
+    each = λ k j q l p e f. elim (found k q l e) [
+      | inl x ↦ elim (found j q p f) [
+        | inl y ↦ sym x.2 ∙ ap (number_at hs) (one_place x.0 y.0 x.1 y.1
+            (same_some _ _ (sym (named_of k x) ∙ e ∙ sym f ∙ named_of j y))) ∙ y.2
+        | inr o ↦ o k l (e ∙ sym f)
+      ]
+      | inr o ↦ sym (o j p (f ∙ sym e))
+    ];
+  }
+    where
+      named_of : (k : ℕ) (x : Place k) → name k ≡ Some (name_at hs x.0)
+      named_of k x = ap name (sym x.2) ∙ owned x.0 x.1
+
+      apart : (l m : ℕ) → l < m → m < length hs → name_at hs l ≡ name_at hs m → ⊥
+      apart l m b q e = w.each m (omega arith) (omega arith) q
+          (between name n hs by l (m - 1) m nothing (omega arith) (omega arith) q e)
+
+      one_place : (l m : ℕ) → l < length hs → m < length hs → name_at hs l ≡ name_at hs m → l ≡ m
+      one_place l m p q e = elim (cases_order l m) [
+        | inl b ↦ b
+        | inr (inl b) ↦ absurd (apart l m b q e)
+        | inr (inr b) ↦ absurd (apart m l b p (sym e))
+      ]
 
 -- the number of a name is one that has a class
 pub number_fits : {n i : ℕ} {hs : List Named} {class : List ℕ} → (name : ℕ → Option (List ℕ)) × AreInNameOrder name n hs

@@ -51,3 +51,7 @@ pub record AreClasses (key : ℕ → Option (List ℕ)) (n : ℕ) (class : List 
       → (i < n) × (j < n) × ((q : List ℕ) × (key i ≡ Some q) × (key j ≡ Some q))
   pub all : (i j : ℕ) (q : List ℕ) → i < n → j < n → key i ≡ Some q → key j ≡ Some q
       → get_or class i 0 ≡ get_or class j 0
+
+-- no two numbers below n have one name
+pub record AreApart (name : ℕ → Option (List ℕ)) (n : ℕ) : Type 0 where
+  pub each : (i j : ℕ) (q : List ℕ) → i < n → j < n → name i ≡ Some q → name j ≡ Some q → i ≡ j

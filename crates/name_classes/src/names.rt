@@ -1,7 +1,7 @@
 //! Names in their order, and the classes of their numbers.
 
-ghost use Rattle.std.specs.Prelude.{◌≡◌, ◌+◌, ◌<◌, ◌≤◌, ◌^◌, ℕ, List, Option, IfOk, length};
-ghost use Rattle.name_classes.specs.Names.{name_hash, named_cmp, HoldTheShared, AreInNameOrder, AreNumbersBelow, AreClasses};
+ghost use Rattle.std.specs.Prelude.{◌≡◌, ◌+◌, ◌<◌, ◌≤◌, ◌^◌, ℕ, List, Option, IfOk, MatchOption, false, length};
+ghost use Rattle.name_classes.specs.Names.{name_hash, named_cmp, HoldTheShared, AreInNameOrder, AreNumbersBelow, AreClasses, AreApart};
 
 use name_keys::key_of;
 use std::alloc::{AllocError, Allocator};
@@ -47,6 +47,19 @@ fn sorted<'a, A: Allocator>(named: Vec<Named<'a>, A>) -> Vec<Named<'a>, A>
     named
 }
 
+// Whether two names are the same that stand side by side.
+fn has_alike(named: &[Named<'_>]) -> bool
+    ensures { result ≡ false → (name : ℕ → Option (List ℕ)) (n : ℕ)
+        → AreInNameOrder name n named.now → AreApart name n }
+{
+    for at in 1..named.len() {
+        if order(&named[at - 1], &named[at]).is_eq() {
+            return true;
+        }
+    }
+    false
+}
+
 // The numbers below this one.
 fn numbers_below<A: Allocator>(alloc: A, end: usize) -> Result<Vec<u32, A>, AllocError>
     requires { end ≤ 2 ^ 32 }
@@ -80,19 +93,24 @@ fn classes_in_order<A: Allocator + Copy>(
     Ok(classes)
 }
 
-/// The classes of the numbers below this one by their names, each a number, with one more for none.
+/// The classes of the numbers below this one by their names, each a number, with one more for none; None where no two
+/// of them have one name.
 ///
 /// A name that one number alone has may be left out. `AllocError` comes only where memory was refused.
 pub fn classes<'a, A: Allocator + Copy>(
     alloc: A,
     named: Vec<Named<'a>, A>,
     count: usize,
-) -> Result<Vec<u32, A>, AllocError>
+) -> Result<Option<Vec<u32, A>>, AllocError>
     requires few { count < 2 ^ 32 }
     requires named { (name : ℕ → Option (List ℕ)) × HoldTheShared name count named.items }
     ensures { IfOk result (λ classes. (name : ℕ → Option (List ℕ))
-        → HoldTheShared name count named.entry.items → AreClasses name count classes.items) }
+        → HoldTheShared name count named.entry.items
+        → MatchOption classes (AreApart name count) (λ some. AreClasses name count some.items)) }
 {
     let named = sorted(named);
-    classes_in_order(alloc, &named, count)
+    if !has_alike(&named) {
+        return Ok(None);
+    }
+    Ok(Some(classes_in_order(alloc, &named, count)?))
 }

@@ -1,7 +1,9 @@
 -- What the first zero byte says of the text before it.
-use Rattle.std.proofs.Common.{◌≡◌, ◌≢◌, sym, ℕ, zero, suc, ◌<◌, false, leb, List, [], ◌∷◌, length, take, get_or, Option, Some, None, refl, arith, ◌≤◌}
+use Rattle.std.proofs.Common.{◌≡◌, ◌≢◌, ◌∙◌, sym, ℕ, zero, suc, ◌<◌, false, leb, List, [], ◌∷◌, length, take, get_or, Option, Some, None, IsSome, refl, arith, ◌≤◌}
+use Rattle.std.specs.Prelude.{IfSome}
 use Rattle.std.specs.Option.{option_map}
-use Rattle.std.proofs.lemmas.Bool.{eqb-true, le-leb}
+use Rattle.std.proofs.lemmas.Bool.{eqb-true, le-leb, false≢true}
+use Rattle.std.proofs.lemmas.List.{get_or-take, length-take-le}
 use Rattle.std.proofs.lemmas.Bool.Decides.{nat_tests}
 use Rattle.memchr.specs.Find.{IsFirstByte, is_byte}
 use Rattle.romfs_format.specs.Fields.{ended, name_field, text_at, text_end}
@@ -23,6 +25,18 @@ ended_at (suc x ∷ xs) (suc k) l z h = rw (ended_at xs k (omega arith) z (λ j 
 pub ended_first : (xs : List ℕ) (r : Option ℕ) → IsFirstByte (is_byte 0) xs r → option_map (λ k. take k xs) r ≡ ended xs
 ended_first xs None h = sym (ended_none xs (λ k l e. h k (omega arith) l (rw e refl)))
 ended_first xs (Some k) h = sym (ended_at xs k h.0.high (eqb-true _ _ h.1) (λ j l e. h.0.before j (omega arith) l (rw e refl)))
+
+-- the first zero byte of a front is that of the whole
+pub ended_near : (xs : List ℕ) (n : ℕ) (r : Option ℕ) → n ≤ length xs → IsSome r → IsFirstByte (is_byte 0) (take n xs) r
+    → (option_map (λ k. take k xs) r ≡ ended xs) × IfSome r (λ k. k < length xs)
+ended_near xs n None l s h = absurd (false≢true s)
+ended_near xs n (Some k) l s h =
+    let at : k < n = omega (arith, h.0.high, length-take-le n xs l) in
+    let same : (j : ℕ) → j < n → get_or (take n xs) j 0 ≡ get_or xs j 0 = λ j m. get_or-take n xs j 0 m in (
+      sym (ended_at xs k (omega arith) (sym (same k at) ∙ eqb-true _ _ h.1)
+          (λ j m e. h.0.before j (omega arith) m (rw (same j (omega arith) ∙ e) refl))),
+      (let r : k < length xs = omega arith in r),
+    )
 
 past : (n e : ℕ) → n < e → leb e n ≡ false
 past n e h = grind (arith, nat_tests)

@@ -1,6 +1,6 @@
 //! Fields of an image's bytes.
 
-ghost use Rattle.std.specs.Prelude.{◌≡◌, ◌+◌, ◌<◌, ◌≤◌, ◌%◌, ◌^◌, IfSome, length};
+ghost use Rattle.std.specs.Prelude.{◌≡◌, ◌+◌, ◌<◌, ◌≤◌, ◌%◌, ◌^◌, IfSome, length, take};
 ghost use Rattle.std.specs.Option.{option_map};
 ghost use Rattle.romfs_format.specs.declared.limits.TheConstants.{HEAD_SIZE};
 ghost use Rattle.romfs_format.specs.Fields.{root, word, padded, cleared, text_end, kind_of, text_at};
@@ -11,6 +11,9 @@ use crate::head::{Head, Kind};
 use crate::limits::{HEAD_SIZE, NAME_FIELD_SIZE};
 use byteorder::{BigEndian, ByteOrder};
 use memchr::memchr;
+
+/// Among how many bytes most names end.
+const NEAR: usize = 32;
 
 /// The big-endian word at a place.
 #[tactic(auto, unfolding(crate::specs::Fields::word))]
@@ -53,12 +56,25 @@ pub fn kind_of(word: u32) -> Kind
     }
 }
 
+/// Where the first zero byte stands, if there is one. Most names are short, so the first bytes are looked at alone.
+fn first_zero(field: &[u8]) -> Option<usize>
+    ensures value { option_map (λ end. take end field.now) result ≡ ended field.now }
+    ensures within { IfSome result (λ end. end < length field.now) }
+{
+    if NEAR <= field.len() {
+        let near = memchr(0, &field[..NEAR]);
+        if near.is_some() {
+            return near;
+        }
+    }
+    memchr(0, field)
+}
+
 /// The bytes before the first zero byte, if there is one.
-#[tactic(auto, using(crate::proofs::Text::ended_first))]
 fn ended(field: &[u8]) -> Option<&[u8]>
     ensures { option_map (λ text. text.now) result ≡ ended field.now }
 {
-    match memchr(0, field) {
+    match first_zero(field) {
         Some(end) => Some(&field[..end]),
         None => None,
     }

@@ -1,18 +1,14 @@
 -- What the tests of the rules say of a header.
-use Rattle.std.proofs.Common.{◌≡◌, ◌∙◌, sym, subst, ℕ, zero, suc, ◌+◌, ◌/◌, ◌<◌, ◌↔◌, ◌⊎◌, inl, inr, List, [], ◌∷◌, length, Bool, get_or, true, false, Some, IsTrue, IsSomeAnd, Contains, refl, arith, lit<, lit≤}
+use Rattle.std.proofs.Common.{◌≡◌, ◌∙◌, sym, subst, ℕ, ◌/◌, ◌↔◌, ◌⊎◌, inl, inr, List, Bool, get_or, true, false, Some, IsTrue, IsSomeAnd, Contains, refl}
 use Rattle.std.proofs.lemmas.Bool.{false≢true}
 use Rattle.romfs_format.specs.declared.head.End.{End}
 use Rattle.romfs_format.specs.declared.head.End.TheVariants.{AtDirectory, AtOther, Nowhere}
-use Rattle.romfs_format.specs.declared.rule.Rule.{Rule}
-use Rattle.romfs_format.specs.declared.rule.Profile.{Profile}
 use Rattle.romfs_format.specs.declared.rule.Rule.TheVariants.{DataOutside, Twice, SameName}
-use Rattle.romfs_rules.specs.declared.header.TheConstants.{HEADER_RULES}
 use Rattle.romfs_format.specs.Fields.{root, name}
 use Rattle.romfs_format.specs.Chains.{IsSomeMember}
 use Rattle.romfs_format.specs.Links.{IsHardLink, IsDirectory, IsFinal, stays, follows, EndsAs}
-use Rattle.romfs_format.specs.Rules.{IsRootElsewhere, IsUsed, HasData, EndsOutside, BreaksHeader, rule_number}
+use Rattle.romfs_format.specs.Rules.{IsRootElsewhere, IsUsed, HasData, EndsOutside, BreaksHeader}
 use Rattle.romfs_rules.specs.Marks.{HasSlot, AreMarks, IsListOf, IsElsewhere}
-use Rattle.romfs_rules.specs.Judge.{IsHeaderRule, KeepsBefore}
 use Rattle.romfs_rules.specs.SameNames.{HaveSameNamesIfAlone}
 use Rattle.romfs_rules.proofs.Slots.{marked}
 
@@ -87,24 +83,3 @@ listed_says a h hs b s only t once =
 -- a test that looks a header up in a list
 pub list_says : (a : List ℕ) (P : ℕ → Type 0) (hs : List ℕ) (h : ℕ) (b : Bool) → IsListOf a P hs → HasSlot a h → IsTrue b ↔ Contains hs h → IsTrue b ↔ P h
 list_says a P hs h b l s t = (λ y. l.each h (t.0 y), λ p. t.1 (l.all h p s.inside s.aligned))
-
--- the rules are numbered one after the other from n on
-abbrev AreNumberedFrom : ℕ → List Rule → Type 0
-AreNumberedFrom n [] = Unit {0}
-AreNumberedFrom n (r ∷ rules) = (rule_number r ≡ n) × AreNumberedFrom (suc n) rules
-
-numbered_at : (rules : List Rule) (n i : ℕ) (d : Rule) → AreNumberedFrom n rules → i < length rules → rule_number (get_or rules i d) ≡ n + i
-numbered_at [] n i d x l = absurd (omega arith)
-numbered_at (r ∷ rules) n zero d x l = x.0 ∙ omega arith
-numbered_at (r ∷ rules) n (suc i) d x l = numbered_at rules (suc n) i d x.1 (omega arith) ∙ omega arith
-
--- the rules that are tried have the numbers from 7 on
-pub tried_number : (i : ℕ) (d : Rule) → i < 10 → rule_number (get_or HEADER_RULES i d) ≡ i + 7
-tried_number i d l = numbered_at HEADER_RULES 7 i d (refl, (refl, (refl, (refl, (refl, (refl, (refl, (refl, (refl, (refl, tt)))))))))) l ∙ omega arith
-
-pub header_tried : (i : ℕ) (d : Rule) → i < 10 → IsHeaderRule (get_or HEADER_RULES i d)
-header_tried i d l = let n = tried_number i d l in (omega arith, omega arith)
-
--- a header that keeps the rules before that of equal names is named by no two links
-pub not_twice : (profile : Profile) (a : List ℕ) (h : ℕ) → KeepsBefore profile a h (rule_number SameName) → ¬ BreaksHeader a Twice h
-not_twice profile a h k = k.keeps Twice (lit≤ tt, lit< tt) (lit< tt)

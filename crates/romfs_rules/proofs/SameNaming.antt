@@ -1,5 +1,5 @@
 -- Members of one name, by their numbers: one comes after the other.
-use Rattle.std.proofs.Common.{◌≡◌, ◌≢◌, ◌∙◌, sym, ap, subst, ℕ, zero, suc, ◌*◌, ◌/◌, ◌<◌, ◌⊎◌, inl, inr, List, length, get_or, Bool, true, false, Option, Some, None, IsSome, bytes_eq, codes, if◌then◌else◌, refl, arith}
+use Rattle.std.proofs.Common.{◌≡◌, ◌≢◌, ◌∙◌, sym, ap, subst, ℕ, zero, suc, ◌*◌, ◌/◌, ◌<◌, ◌⊎◌, inl, inr, List, [], length, get_or, Bool, true, false, Option, Some, None, IsSome, bytes_eq, codes, if◌then◌else◌, refl, arith}
 use Rattle.std.proofs.lemmas.Bool.{cases_eq, cases_order, false≢true, eqb-true, eq-eqb}
 use Rattle.std.proofs.lemmas.Slice.Eq.{bytes_eq-Decides}
 use Rattle.std.specs.Prelude.{◌==◌, ◌||◌, Contains}
@@ -7,7 +7,7 @@ use Rattle.romfs_format.specs.Fields.{root, IsInside, name, next, is_dot_name}
 use Rattle.romfs_format.specs.Chains.{IsNext, IsAt, IsInChain, IsPassedOver, IsDotted, IsOpened, IsMember}
 use Rattle.romfs_rules.specs.Marks.{IsElsewhere, HasSameName, AreMarks}
 use Rattle.graph_climb.specs.Climb.{After, one, more, AreNoted}
-use Rattle.name_classes.specs.Names.{AreClasses}
+use Rattle.name_classes.specs.Names.{AreClasses, AreApart}
 use Rattle.romfs_rules.specs.Names.{unless_dotted, kept_name}
 use Rattle.slot_sets.specs.Listed.{AreCollected}
 use Rattle.romfs_rules.specs.SameNames.{IsLinked, AreNumbered, IsNextNumber, AreNextNumbers, AreChosen, HaveSameNames}
@@ -166,6 +166,86 @@ keeps a h q n i d e =
     gives (h == root a) (unless_dotted (name a h)) q (not_equal h (root a) n)
     (names (name a h) q e (λ z. d (i, inl (e ∙ ap (λ y. Some y) z))) (λ z. d (i, inr (e ∙ ap (λ y. Some y) z))))
 
+some_name : (o : Option (List ℕ)) (q : List ℕ) → o ≡ Some q → IsSome o
+some_name o q e = rw e refl
+
+module _ (a heads : List ℕ) (set : List Bool) (n : AreNumbered a heads set) (only : ¬ IsElsewhere a (root a)) where
+  one_number : (i j : ℕ) → i < length heads → j < length heads → get_or heads i 0 ≡ get_or heads j 0 → i ≡ j
+  one_number i j l k e = elim (cases_order i j) [
+    | inl f ↦ f
+    | inr (inl f) ↦ absurd (let r = n.rising i j f k in omega arith)
+    | inr (inr f) ↦ absurd (let r = n.rising j i f l in omega arith)
+  ]
+
+  member_linked : (d h : ℕ) → IsMember a d h → IsInside a h → IsLinked a h
+  member_linked d h k i = record { inside = i; dir = d; stands = record { opened = k.opened; in_chain = k.in_chain } }
+
+  not_root : (d h : ℕ) → IsMember a d h → h ≢ root a
+  not_root d h k e = elim (cases_eq d (root a)) [
+    | inl f ↦ k.kept (inl (f, e))
+    | inr f ↦ only (record { dir = d; other = f; opened = k.opened; in_chain = subst (λ z. IsInChain a d z) e k.in_chain })
+  ]
+
+  its_name : (d h : ℕ) (q : List ℕ) → IsMember a d h → IsInside a h → name a h ≡ Some q → kept_name a h ≡ Some q
+  its_name d h q k i e = keeps a h q (not_root d h k) i (λ x. k.kept (inr x)) e
+
+  -- the numbers of a header and of one of its name at a lower place, which one chain leads on to
+  record Namesakes (h : ℕ) : Type 0 where
+    upper : ℕ
+    lower : ℕ
+    upper_within : upper < length heads
+    lower_within : lower < length heads
+    upper_is : get_or heads upper 0 ≡ h
+    below : lower < upper
+    called : List ℕ
+    upper_named : kept_name a (get_or heads upper 0) ≡ Some called
+    lower_named : kept_name a (get_or heads lower 0) ≡ Some called
+    upper_inside : IsInside a h
+    lower_inside : IsInside a (get_or heads lower 0)
+    along : Follows a h (get_or heads lower 0) ⊎ Follows a (get_or heads lower 0) h
+
+  namesakes : (h : ℕ) → HasSameName a h → Namesakes h
+  namesakes h (g, (b, (d, x, y), u, v, s)) = go (name a h) refl v.1
+    where
+      go : (o : Option (List ℕ)) → name a h ≡ o → IsSome o → Namesakes h
+      go None e f = absurd (false≢true f)
+      go (Some q) e f =
+          let p = n.place h (member_linked d h y v.0) in
+          let r = n.place g (member_linked d g x u.0) in
+          let i = rank set (h / 16) in
+          let j = rank set (g / 16) in
+          record {
+            upper = i;
+            lower = j;
+            upper_within = p.0;
+            lower_within = r.0;
+            upper_is = p.1;
+            below = elim (cases_order i j) [
+              | inl z ↦ absurd (let w = sym p.1 ∙ ap (λ k. get_or heads k 0) z ∙ r.1 in omega arith)
+              | inr (inl z) ↦ absurd (let w = n.rising i j z r.0 in let e = p.1 in let f = r.1 in omega arith)
+              | inr (inr z) ↦ z
+            ];
+            called = q;
+            upper_named = ap (λ z. kept_name a z) p.1 ∙ its_name d h q y v.0 e;
+            lower_named = ap (λ z. kept_name a z) r.1 ∙ its_name d g q x u.0 (s ∙ e);
+            upper_inside = v.0;
+            lower_inside = subst (IsInside a) (sym r.1) u.0;
+            along = subst (λ k. Follows a h k ⊎ Follows a k h) (sym r.1)
+                (one_follows a d h g y.in_chain x.in_chain (λ z. omega arith));
+          }
+
+  -- where no two headers have one name, none has the name of another
+  pub none_alike : AreApart (λ i. kept_name a (get_or heads i 0)) (length heads) → HaveSameNames a []
+  none_alike w = record {
+    each = λ h x. absurd (let l = x.1 in omega arith);
+    all = λ h x. (
+        let p = namesakes h x in
+        let e = w.each p.lower p.upper p.called p.lower_within p.upper_within p.lower_named p.upper_named in
+        let b = p.below in
+        absurd (omega arith));
+    rising = λ i j l k. absurd (omega arith);
+  }
+
 module _ (a heads : List ℕ) (set : List Bool) (next class : List ℕ) (noted : List Bool) (n : AreNumbered a heads set) (t : AreNextNumbers a heads next)
     (c : AreClasses (λ i. kept_name a (get_or heads i 0)) (length heads) class) (m : AreNoted next class noted) (only : ¬ IsElsewhere a (root a)) where
   at_last : {y : ℕ} {x : ℕ} → x ≡ length heads → After next x y → y ≡ length heads
@@ -190,16 +270,6 @@ module _ (a heads : List ℕ) (set : List Bool) (next class : List ℕ) (noted :
       let p = (t.each x l).all w (subst (λ z. IsNext a z w) (sym e) k) (starts_inside a f) in
       let r = back f (get_or next x 0) p.0 p.1 i in
       (r.0, r.1, r.2, more refl r.3)
-
-  one_number : (i j : ℕ) → i < length heads → j < length heads → get_or heads i 0 ≡ get_or heads j 0 → i ≡ j
-  one_number i j l k e = elim (cases_order i j) [
-    | inl f ↦ f
-    | inr (inl f) ↦ absurd (let r = n.rising i j f k in omega arith)
-    | inr (inr f) ↦ absurd (let r = n.rising j i f l in omega arith)
-  ]
-
-  some_name : (o : Option (List ℕ)) (q : List ℕ) → o ≡ Some q → IsSome o
-  some_name o q e = rw e refl
 
   over : (d h : ℕ) (q : List ℕ) → kept_name a h ≡ Some q → ¬ IsPassedOver a d h
   over d h q e (inl x) = (kept a h q e).0 x.1
@@ -236,41 +306,22 @@ module _ (a heads : List ℕ) (set : List Bool) (next class : List ℕ) (noted :
             (n.each y s.0).dir p.opened (in_chain_too a _ p.in_chain (forth s.0 l r)) p.in_chain)
       ]
 
-  member_linked : (d h : ℕ) → IsMember a d h → IsInside a h → IsLinked a h
-  member_linked d h k i = record { inside = i; dir = d; stands = record { opened = k.opened; in_chain = k.in_chain } }
-
-  not_root : (d h : ℕ) → IsMember a d h → h ≢ root a
-  not_root d h k e = elim (cases_eq d (root a)) [
-    | inl f ↦ k.kept (inl (f, e))
-    | inr f ↦ only (record { dir = d; other = f; opened = k.opened; in_chain = subst (λ z. IsInChain a d z) e k.in_chain })
-  ]
-
-  its_name : (d h : ℕ) (q : List ℕ) → IsMember a d h → IsInside a h → name a h ≡ Some q → kept_name a h ≡ Some q
-  its_name d h q k i e = keeps a h q (not_root d h k) i (λ x. k.kept (inr x)) e
-
   pub noted_whole : (h : ℕ) → HasSameName a h → (i : ℕ) × (i < length heads) × (get_or heads i 0 ≡ h) × (get_or noted i false ≡ true)
-  noted_whole h (g, (b, (d, x, y), u, v, s)) = go (name a h) refl v.1
-    where
-      go : (o : Option (List ℕ)) → name a h ≡ o → IsSome o → (i : ℕ) × (i < length heads) × (get_or heads i 0 ≡ h) × (get_or noted i false ≡ true)
-      go None e f = absurd (false≢true f)
-      go (Some q) e f =
-          let p = n.place h (member_linked d h y v.0) in
-          let r = n.place g (member_linked d g x u.0) in
-          let i = rank set (h / 16) in
-          let j = rank set (g / 16) in
-          let k = its_name d h q y v.0 e in
-          let l = its_name d g q x u.0 (s ∙ e) in
-          let w : j < i = elim (cases_order i j) [
-            | inl z ↦ absurd (let w = sym p.1 ∙ ap (λ k. get_or heads k 0) z ∙ r.1 in omega arith)
-            | inr (inl z) ↦ absurd (let w = n.rising i j z r.0 in let e = p.1 in let f = r.1 in omega arith)
-            | inr (inr z) ↦ z
-          ] in
-          let same = c.all j i q r.0 p.0 (ap (λ z. kept_name a z) r.1 ∙ l) (ap (λ z. kept_name a z) p.1 ∙ k) in
-          let along : After next i j ⊎ After next j i = elim (one_follows a d h g y.in_chain x.in_chain (λ z. omega arith)) [
-            | inl z ↦ (let w = back z i p.0 p.1 u.0 in inl (subst (λ k. After next i k) (one_number w.0 j w.1 r.0 (w.2 ∙ sym r.1)) w.3))
-            | inr z ↦ (let w = back z j r.0 r.1 v.0 in inr (subst (λ k. After next j k) (one_number w.0 i w.1 p.0 (w.2 ∙ sym p.1)) w.3))
-          ] in
-          (i, p.0, p.1, m.all i (let z = t.sized in let pp = p.0 in omega arith) (j, record { below = w; same = same; along = along }))
+  noted_whole h x =
+      let p = namesakes a heads set n only h x in
+      let same = c.all p.lower p.upper p.called p.lower_within p.upper_within p.lower_named p.upper_named in
+      let along : After next p.upper p.lower ⊎ After next p.lower p.upper = elim p.along [
+        | inl z ↦ (let w = back z p.upper p.upper_within p.upper_is p.lower_inside in
+            inl (subst (λ k. After next p.upper k) (one_number a heads set n only w.0 p.lower w.1 p.lower_within w.2) w.3))
+        | inr z ↦ (let w = back z p.lower p.lower_within refl p.upper_inside in
+            inr (subst (λ k. After next p.lower k) (one_number a heads set n only w.0 p.upper w.1 p.upper_within (w.2 ∙ sym p.upper_is)) w.3))
+      ] in (
+        p.upper,
+        p.upper_within,
+        p.upper_is,
+        m.all p.upper (let z = t.sized in let l = p.upper_within in omega arith)
+            (p.lower, record { below = p.below; same = same; along = along }),
+      )
 
   pub same_names : (found : List ℕ) → AreChosen heads noted (length heads) found → HaveSameNames a found
   same_names found w = record {

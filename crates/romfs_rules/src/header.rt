@@ -10,7 +10,7 @@ ghost use Rattle.romfs_format.specs.Chains.{IsSomeMember};
 ghost use Rattle.romfs_format.specs.Links.{IsHardLink, EndsAs};
 ghost use Rattle.romfs_format.specs.Rules.{IsUsed, HasData, IsDevice, IsBadName, EndsOutside, HasLongTarget, HasLargeMajor};
 ghost use Rattle.romfs_format.specs.Rules.{HasBadSum, BreaksHeader, BreaksHeaderAs, rule_number};
-ghost use Rattle.romfs_rules.specs.Judge.{IsHeaderRule, KeepsBefore, KeepsHeaderRules, IsFirstRule, IsFirstAt};
+ghost use Rattle.romfs_rules.specs.Judge.{KeepsBefore, KeepsHeaderRules, IsFirstRule, IsFirstBelow, IsFirstAt};
 
 use crate::volume::Volume;
 use romfs_format::head::{End, Kind};
@@ -115,20 +115,6 @@ fn is_sum_bad(image: &Volume, at: usize) -> bool
     }
 }
 
-// The rules of file headers that a header inside the image may break, in the order of their numbers.
-const HEADER_RULES: [Rule; 10] = [
-    Rule::NameOpen,
-    Rule::NameBad,
-    Rule::DataOutside,
-    Rule::TargetLong,
-    Rule::Twice,
-    Rule::SameName,
-    Rule::LinkLoop,
-    Rule::LinkDirectory,
-    Rule::MajorLarge,
-    Rule::HeaderSum,
-];
-
 impl<'h> Header<'h> {
     // Whether its name is not ended.
     fn breaks_name_open(&self) -> bool
@@ -200,25 +186,46 @@ impl<'h> Header<'h> {
         }
     }
 
-    // Whether it breaks a rule of file headers, where it keeps those before that rule.
-    fn breaks(&self, profile: Profile, rule: Rule) -> bool
-        requires rule { IsHeaderRule rule }
-        requires before { KeepsBefore profile self.now.image self.now.at (rule_number rule) }
-        ensures { IsTrue result ↔ BreaksHeaderAs profile self.now.image rule self.now.at }
+    // The first rule of its name and its data that it breaks.
+    fn first_of_bytes(&self) -> Option<Rule>
+        ensures { (profile : Profile)
+            → IsFirstBelow profile self.now.image self.now.at (rule_number Rule.Twice) result }
     {
-        match rule {
-            Rule::NameOpen => self.breaks_name_open(),
-            Rule::NameBad => self.breaks_name_bad(),
-            Rule::DataOutside => self.breaks_data_outside(),
-            Rule::TargetLong => self.breaks_target_long(),
-            Rule::Twice => self.twice,
-            Rule::SameName => self.same_name,
-            Rule::LinkLoop => self.ends_as(End::Nowhere),
-            Rule::LinkDirectory => self.ends_as(End::AtDirectory),
-            Rule::MajorLarge => self.breaks_major_large(),
-            Rule::HeaderSum => self.breaks_header_sum(profile),
-            _ => false,
+        let _ = &self.image;
+        if self.breaks_name_open() {
+            return Some(Rule::NameOpen);
         }
+        if self.breaks_name_bad() {
+            return Some(Rule::NameBad);
+        }
+        if self.breaks_data_outside() {
+            return Some(Rule::DataOutside);
+        }
+        if self.breaks_target_long() {
+            return Some(Rule::TargetLong);
+        }
+        None
+    }
+
+    // The first rule of links and of names in a directory that it breaks, where it keeps those before these.
+    fn first_of_links(&self) -> Option<Rule>
+        ensures { (profile : Profile)
+            → KeepsBefore profile self.now.image self.now.at (rule_number Rule.Twice)
+            → IsFirstBelow profile self.now.image self.now.at (rule_number Rule.MajorLarge) result }
+    {
+        if self.twice {
+            return Some(Rule::Twice);
+        }
+        if self.same_name {
+            return Some(Rule::SameName);
+        }
+        if self.ends_as(End::Nowhere) {
+            return Some(Rule::LinkLoop);
+        }
+        if self.ends_as(End::AtDirectory) {
+            return Some(Rule::LinkDirectory);
+        }
+        None
     }
 
     // The first rule of file headers that it breaks.
@@ -226,12 +233,17 @@ impl<'h> Header<'h> {
         ensures { MatchOption result (KeepsHeaderRules profile self.now.image self.now.at)
             (IsFirstRule profile self.now.image self.now.at) }
     {
-        let _ = &self.image;
-        for number in 0..HEADER_RULES.len() {
-            let rule = HEADER_RULES[number];
-            if self.breaks(profile, rule) {
-                return Some(rule);
-            }
+        if let Some(rule) = self.first_of_bytes() {
+            return Some(rule);
+        }
+        if let Some(rule) = self.first_of_links() {
+            return Some(rule);
+        }
+        if self.breaks_major_large() {
+            return Some(Rule::MajorLarge);
+        }
+        if self.breaks_header_sum(profile) {
+            return Some(Rule::HeaderSum);
         }
         None
     }

@@ -13,6 +13,7 @@ use romfs_format::read::{cleared, kind_of, word};
 
 /// The header after a header in its chain.
 #[tactic(auto, using(crate::proofs::Leads::next_none, crate::proofs::Leads::next_some))]
+#[inline(always)]
 pub(crate) fn next_of(image: &Volume, at: usize) -> Option<u32>
     requires inside { IsInside image.now.bytes.now at }
     ensures { IsTheOne (IsNext image.now.bytes.now at) result }
@@ -23,6 +24,7 @@ pub(crate) fn next_of(image: &Volume, at: usize) -> Option<u32>
 
 /// The first header of a directory.
 #[tactic(auto, using(crate::proofs::Leads::first_none, crate::proofs::Leads::first_own, crate::proofs::Leads::first_some))]
+#[inline(always)]
 pub(crate) fn first_of(image: &Volume, at: usize) -> Option<u32>
     requires inside { IsInside image.now.bytes.now at }
     ensures { IsTheOne (IsFirst image.now.bytes.now at) result }
@@ -40,6 +42,7 @@ pub(crate) fn first_of(image: &Volume, at: usize) -> Option<u32>
 
 /// The first header of a header that opens as a directory, unless it is the root's.
 #[tactic(auto, using(crate::proofs::Leads::down_root, crate::proofs::Leads::down_shut, crate::proofs::Leads::down_open))]
+#[inline(always)]
 pub(crate) fn first_below(image: &Volume, at: usize) -> Option<u32>
     requires inside { IsInside image.now.bytes.now at }
     ensures { IsTheOne (IsFirstBelow image.now.bytes.now at) result }

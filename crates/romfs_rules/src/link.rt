@@ -14,6 +14,7 @@ use std::alloc::Allocator;
 
 /// The header that next names, of a header in a chain.
 #[tactic(auto, using(crate::proofs::Links::no_next))]
+#[inline(always)]
 pub(crate) fn next_link<A: Allocator>(image: &Volume, at: usize, chains: &Chains<A>) -> Option<u32>
     requires slot { HasSlot image.now.bytes.now at }
     requires chains { AreChains image.now.bytes.now chains.now }
@@ -28,6 +29,7 @@ pub(crate) fn next_link<A: Allocator>(image: &Volume, at: usize, chains: &Chains
 
 /// The first header of an opened directory.
 #[tactic(auto, using(crate::proofs::Links::first_named, crate::proofs::Links::no_first))]
+#[inline(always)]
 pub(crate) fn first_link<A: Allocator>(image: &Volume, at: usize, chains: &Chains<A>) -> Option<u32>
     requires slot { HasSlot image.now.bytes.now at }
     requires chains { AreChains image.now.bytes.now chains.now }

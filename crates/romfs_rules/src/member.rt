@@ -38,6 +38,7 @@ pub(crate) fn is_dotted(image: &Volume, at: usize) -> bool
 }
 
 /// Whether a header opens as a directory wherever it is a member.
+#[inline(always)]
 pub(crate) fn opens(image: &Volume, at: usize) -> bool
     requires inside { IsInside image.now.bytes.now at }
     ensures { IsTrue result ↔ Opens image.now.bytes.now at }
@@ -55,6 +56,7 @@ pub(crate) fn is_in_chain<A: Allocator>(image: &Volume, at: usize, chains: &Chai
 }
 
 /// Whether a header is a directory that is opened.
+#[inline(always)]
 pub(crate) fn is_opened<A: Allocator>(image: &Volume, at: usize, chains: &Chains<A>) -> bool
     requires slot { HasSlot image.now.bytes.now at }
     requires chains { AreChains image.now.bytes.now chains.now }

@@ -3,12 +3,12 @@
 //! Most names stand once. So the names of all headers are mixed to numbers first, and those that were seen once among
 //! these are left out of the sort that finds equal ones.
 
-ghost use Rattle.std.specs.Prelude.{◌≡◌, ◌+◌, ◌<◌, ◌≤◌, ◌^◌, ℕ, IfOk, length, get_or};
+ghost use Rattle.std.specs.Prelude.{◌≡◌, ◌+◌, ◌<◌, ◌≤◌, ◌^◌, ℕ, IfOk, MatchOption, length, get_or};
 ghost use Rattle.std.specs.Option.{option_map};
 ghost use Rattle.romfs_format.specs.declared.limits.TheConstants.{HEAD_SIZE};
 ghost use Rattle.lone_keys.specs.Once.{AreSeenOnce};
 ghost use Rattle.name_classes.specs.Names.{HoldTheShared};
-ghost use Rattle.romfs_rules.specs.Names.{kept_name, kept_names, AreClassesOf, AreNameHashes, HaveTheirsAlone};
+ghost use Rattle.romfs_rules.specs.Names.{kept_name, kept_names, AreClassesOf, AreNameHashes, HaveNamesApart, HaveTheirsAlone};
 
 use crate::volume::Volume;
 use lone_keys::seen_once;
@@ -83,16 +83,18 @@ fn named_headers<'a, A: Allocator + Copy>(
     Ok(named)
 }
 
-/// The classes of headers by their names, each a number of a header, with one more for none.
+/// The classes of headers by their names, each a number of a header, with one more for none; None where no two headers
+/// have one name.
 pub(crate) fn name_classes_of<A: Allocator + Copy>(
     alloc: A,
     image: &Volume,
     heads: &[u32],
-) -> Result<Vec<u32, A>, AllocError>
+) -> Result<Option<Vec<u32, A>>, AllocError>
     requires few { length heads.now < 2 ^ 32 }
     requires inside { (i : ℕ) → i < length heads.now →
         get_or heads.now i 0 + HEAD_SIZE ≤ length image.now.bytes.now }
-    ensures { IfOk result (λ classes. AreClassesOf image.now.bytes.now heads.now classes.items) }
+    ensures { IfOk result (λ classes. MatchOption classes (HaveNamesApart image.now.bytes.now heads.now)
+        (λ some. AreClassesOf image.now.bytes.now heads.now some.items)) }
 {
     let hashes = name_hashes(alloc, image, heads)?;
     let once = seen_once(alloc, &hashes)?;

@@ -44,6 +44,7 @@ fn is_asked<A: Allocator>(
 }
 
 // The destination of a hard link that is a member, or that a member's hard link leads over.
+#[inline(always)]
 fn named_destination<A: Allocator>(
     image: &Volume,
     at: usize,
@@ -77,6 +78,7 @@ fn lesser(found: Option<u32>, word: u32) -> u32
 
 // What is found with one header more, if there is one.
 #[tactic(auto, using(crate::proofs::Reach::unnamed, crate::proofs::Reach::noted, crate::proofs::Reach::unnoted))]
+#[inline(always)]
 fn note(found: Outside, image: &Volume, word: Option<u32>) -> Outside
     ensures below { Notes (λ h. word ≡ Some h) (IsBelow image.now.bytes.now)
         found.below result.below }
@@ -103,6 +105,7 @@ fn note(found: Outside, image: &Volume, word: Option<u32>) -> Outside
 }
 
 // What is found with the headers more that a header leads to.
+#[inline(always)]
 fn note_named<A: Allocator>(
     found: Outside,
     image: &Volume,

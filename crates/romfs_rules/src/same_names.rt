@@ -3,12 +3,14 @@
 //! Chains may merge and go round, so that a header may stand in the chains of many directories, and to compare the
 //! names of each chain on its own would be quadratic. But each header leads on to one, in whatever chain. So the
 //! headers are numbered, equal names are one class (`name_classes`), and `graph_climb` notes the numbers with a lower
-//! one of their class on their way or before them.
+//! one of their class on their way or before them. Where no two names are equal, there is nothing to be climbed.
 
 ghost use Rattle.std.specs.Prelude.{◌+◌, ◌/◌, ◌^◌, ◌<◌, ◌≤◌, ℕ, IfOk, length, get_or};
 ghost use Rattle.romfs_rules.specs.Marks.{HasRootElsewhere};
 ghost use Rattle.romfs_rules.specs.InChains.{AreChains};
+ghost use Rattle.romfs_rules.specs.Names.{AreClassesOf};
 ghost use Rattle.romfs_rules.specs.SameNames.{IsLinked, AreNumbered, IsNextNumber, AreNextNumbers, AreChosen, HaveSameNames};
+ghost use Rattle.slot_sets.specs.Listed.{AreCollected};
 
 use crate::chains::Chains;
 use crate::names::name_classes_of;
@@ -74,6 +76,27 @@ fn chosen<A: Allocator>(alloc: A, heads: &[u32], noted: &[bool]) -> Result<Vec<u
     Ok(found)
 }
 
+// Those of these headers that have the name of another member of their directory at a lower place, by their classes.
+fn same_names_by<A: Allocator + Copy>(
+    alloc: A,
+    image: &Volume,
+    chains: &Chains<A>,
+    heads: &[u32],
+    class: Vec<u32, A>,
+) -> Result<Vec<u32, A>, AllocError>
+    requires chains { AreChains image.now.bytes.now chains.now }
+    requires alone { ¬ HasRootElsewhere image.now.bytes.now }
+    requires heads { AreCollected chains.now.headers (length chains.now.headers) heads.now }
+    requires class { AreClassesOf image.now.bytes.now heads.now class.items }
+    ensures { IfOk result (λ found. HaveSameNames image.now.bytes.now found.items) }
+{
+    let numbers = SlotNumbers::of(alloc, &chains.headers)?;
+    let next = next_numbers(alloc, image, heads, &numbers)?;
+    drop(numbers);
+    let noted = note_higher(alloc, next, class)?;
+    chosen(alloc, heads, &noted)
+}
+
 /// The members that have the name of another member of their directory that stands at a lower
 /// place, in the order of their places.
 pub(crate) fn find_same_names<A: Allocator + Copy>(
@@ -86,10 +109,8 @@ pub(crate) fn find_same_names<A: Allocator + Copy>(
     ensures { IfOk result (λ found. HaveSameNames image.now.bytes.now found.items) }
 {
     let heads = places_of(alloc, &chains.headers)?;
-    let numbers = SlotNumbers::of(alloc, &chains.headers)?;
-    let next = next_numbers(alloc, image, &heads, &numbers)?;
-    drop(numbers);
-    let class = name_classes_of(alloc, image, &heads)?;
-    let noted = note_higher(alloc, next, class)?;
-    chosen(alloc, &heads, &noted)
+    match name_classes_of(alloc, image, &heads)? {
+        None => Ok(Vec::new(alloc)),
+        Some(class) => same_names_by(alloc, image, chains, &heads, class),
+    }
 }

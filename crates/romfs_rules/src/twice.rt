@@ -14,6 +14,7 @@ use slot_sets::{SlotSet, places_of};
 use std::alloc::{AllocError, Allocator};
 
 // Counts a link to a header, if it lies in the image.
+#[inline(always)]
 fn count_link<A: Allocator>(
     image: &Volume,
     to: Option<u32>,
@@ -39,6 +40,7 @@ fn count_link<A: Allocator>(
 }
 
 // Counts the links of a header's fields.
+#[inline(always)]
 fn count_links<A: Allocator>(
     image: &Volume,
     at: usize,

@@ -1,0 +1,5 @@
+use Rattle.name_classes.proofs.Classing.{AreUnlike}
+use Rattle.name_classes.proofs.names.has_alike.Given as goal
+
+abbrev pub invariant-loop-at : goal.invariant-loop-at
+invariant-loop-at l = AreUnlike l.named l.at

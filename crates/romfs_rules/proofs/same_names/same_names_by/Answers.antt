@@ -1,0 +1,37 @@
+use Rattle.std.proofs.Common.{arith, length}
+use Rattle.std.proofs.lemmas.Result.{IfOk-weaker}
+use Rattle.romfs_rules.specs.SameNames.{AreChosen, HaveSameNames}
+use Rattle.romfs_rules.proofs.HeadNumbers.{class_below, next_below}
+use Rattle.romfs_rules.proofs.SameNaming.{numbered, same_names}
+use Rattle.romfs_rules.proofs.same_names.same_names_by.Goals as goal
+
+pub next_numbers-requires-clause-numbered : goal.next_numbers-requires-clause-numbered
+next_numbers-requires-clause-numbered g c = rw c.in_ok-numbers.ensures (numbered _ _ _ c.requires.chains.headers c.requires.heads)
+
+pub chosen-requires-clause-rising : goal.chosen-requires-clause-rising
+chosen-requires-clause-rising g c = c.requires.heads.rising
+
+pub returns : goal.returns
+returns g c =
+    let a = c.args.image.now.bytes.now in
+    let heads = c.args.heads.now in
+    let n = numbered a _ heads c.requires.chains.headers c.requires.heads in
+    IfOk-weaker c.chosen.result (λ found. AreChosen heads c.in_ok-noted.noted.items (length heads) found.items) (λ found. HaveSameNames a found.items)
+    (λ found w. same_names a heads c.args.chains.now.headers c.in_ok-next.next.items c.args.class.items
+    c.in_ok-noted.noted.items n c.in_ok-next.ensures c.requires.class
+    c.in_ok-noted.ensures c.requires.alone found.items w)
+    (rw c.deref.ensures.value at c.chosen.ensures)
+
+pub note_higher-requires-clause-few : goal.note_higher-requires-clause-few
+note_higher-requires-clause-few g c =
+    let few = c.requires.heads.few in
+    let sized = c.requires.chains.headers.sized in
+    let small = c.args.image.now.keeps.small in
+    let next = c.in_ok-next.ensures.sized in
+    omega arith
+
+pub note_higher-requires-clause-leads : goal.note_higher-requires-clause-leads
+note_higher-requires-clause-leads g c = next_below c.in_ok-next.ensures
+
+pub note_higher-requires-clause-classes : goal.note_higher-requires-clause-classes
+note_higher-requires-clause-classes g c = class_below c.in_ok-next.ensures c.requires.class
