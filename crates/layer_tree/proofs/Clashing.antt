@@ -170,53 +170,35 @@ pub record IsClashing {T : Type 0} (m : T → Mark) (files left others rest : Li
   pub same : AllByRecursion (λ f. named f.name rest ≡ named f.name others) left
   pub smaller : length (spread left) ≤ length (spread files)
 
-every_same : {T : Type 0} (ls others : List (Shoot T)) → AllByRecursion (λ f. named f.name others ≡ named f.name others) ls
-every_same [] others = tt
-every_same (l ∷ ls) others = (refl, every_same ls others)
-
-pub clashing_begun : {T : Type 0} (m : T → Mark) (files others : List (Shoot T)) → NamesRise files → NamesRise others → IsClashing m files files others others []
-clashing_begun m files others r s = record {
-  clashing = λ more c. c;
-  names = r;
-  rest_names = s;
-  same = every_same files others;
-  smaller = omega arith;
-}
-
-module _ {T : Type 0} (m : T → Mark) (files left later others rest rest' : List (Shoot T)) (marks : List (Shoot Mark)) (f : Shoot T)
-    (inv : IsClashing m files left others rest marks) (e : left ≡ f ∷ later) (from : IsFrom f.name rest rest') where
-  rises : NamesRise (f ∷ later)
-  rises = subst NamesRise e inv.names
-
-  all_same : AllByRecursion (λ x. named x.name rest ≡ named x.name others) (f ∷ later)
-  all_same = subst (λ ls. AllByRecursion (λ x. named x.name rest ≡ named x.name others) ls) e inv.same
-
+-- of what is left, f is the first branch
+module _ {T : Type 0} (m : T → Mark) (files later others rest rest' : List (Shoot T)) (marks : List (Shoot Mark)) (f : Shoot T)
+    (inv : IsClashing m files (f ∷ later) others rest marks) (from : IsFrom f.name rest rest') where
   pub at_other : named f.name rest' ≡ named f.name others
-  at_other = from.same f.name (not_below_itself f.name) ∙ all_same.0
+  at_other = from.same f.name (not_below_itself f.name) ∙ inv.same.0
 
   on : (marks' : List (Shoot Mark)) → ((more : List (Shoot Mark)) → Clashing m others later more → Clashing m others files (marks' ++ more))
       → IsClashing m files later others rest' marks'
   on marks' c = record {
     clashing = c;
-    names = rises.1;
+    names = inv.names.1;
     rest_names = from.names;
-    same = still_same f.name rest rest' others from later rises.0 all_same.1;
-    smaller = let s = rw e at inv.smaller in omega (arith, grown f later, s);
+    same = still_same f.name rest rest' others from later inv.names.0 inv.same.1;
+    smaller = omega (arith, grown f later, inv.smaller);
   }
 
   pub nothing_there : named f.name rest' ≡ None → IsClashing m files later others rest' marks
-  nothing_there n = on marks (λ more c. inv.clashing more (rw e (apart f later more (rw (sym at_other ∙ n) (no_others (marked m (whole f)))) c)))
+  nothing_there n = on marks (λ more c. inv.clashing more (apart f later more (rw (sym at_other ∙ n) (no_others (marked m (whole f)))) c))
 
   pub no_clash : (o : Shoot T) → named f.name rest' ≡ Some o → Clash (marked m (whole f)) (marked m (whole o)) (λ q. None) → IsClashing m files later others rest' marks
-  no_clash o n w = on marks (λ more c. inv.clashing more (rw e (apart f later more (rw (sym at_other ∙ n) w) c)))
+  no_clash o n w = on marks (λ more c. inv.clashing more (apart f later more (rw (sym at_other ∙ n) w) c))
 
-  pub one_clash : (o : Shoot T) (k : Shoot Mark) (marks' : List (Shoot Mark)) → named f.name rest' ≡ Some o
-      → IsClashMark m f o k → marks' ≡ marks ++ k ∷ [] → IsClashing m files later others rest' marks'
-  one_clash o k marks' n w g = on marks' (λ more c. rw (g, append_assoc)
-      (inv.clashing (k ∷ more) (rw e (together f later k more w.name w.rising (rw (sym at_other ∙ n) w.at) c))))
+  pub one_clash : (o : Shoot T) (k : Shoot Mark) → named f.name rest' ≡ Some o → IsClashMark m f o k
+      → IsClashing m files later others rest' (marks ++ k ∷ [])
+  one_clash o k n w = on (marks ++ k ∷ []) (λ more c. rw append_assoc
+      (inv.clashing (k ∷ more) (together f later k more w.name w.rising (rw (sym at_other ∙ n) w.at) c)))
 
   pub deeper_measure : 2 * length f.below + 1 < 2 * length (spread files)
-  deeper_measure = let s = rw e at inv.smaller in omega (arith, grown f later, s)
+  deeper_measure = omega (arith, grown f later, inv.smaller)
 
 pub clashing_ended : {T : Type 0} (m : T → Mark) (files left others rest : List (Shoot T)) (marks : List (Shoot Mark))
     → IsClashing m files left others rest marks → left ≡ [] → NamesRise files → NamesRise others → AreClashes m files others marks

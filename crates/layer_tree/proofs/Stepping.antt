@@ -1,20 +1,19 @@
 -- Branches and marks in step, in the order of names.
-use Rattle.std.proofs.Common.{◌≡◌, ◌≢◌, ◌∙◌, sym, ap, subst, ℕ, ◌+◌, ◌*◌, ◌<◌, ◌≤◌, inl, inr, List, [], ◌∷◌, ◌++◌, length, reverse, refl, arith, append_assoc, Option, Some, None, Bool, true, false}
+use Rattle.std.proofs.Common.{◌≡◌, ◌≢◌, ◌∙◌, sym, ap, subst, ℕ, ◌+◌, ◌*◌, ◌<◌, ◌≤◌, inl, inr, List, [], ◌∷◌, ◌++◌, length, refl, arith, append_assoc, Option, Some, None, Bool, true, false}
 use Rattle.std.proofs.lemmas.List.{append-nil}
 use Rattle.std.proofs.lemmas.Cmp.{nat_list_cmp_total}
-use Rattle.std.specs.declared.cmp.Ordering.{Ordering}
 use Rattle.std.specs.declared.cmp.Ordering.TheVariants.{Less, Equal, Greater}
 use Rattle.std.specs.List.{AllByRecursion}
 use Rattle.path_tree.specs.Rows.{Shoot, name_cmp, named, NamesRise, IsRising, IsForest, at_path, spread, whole}
 use Rattle.path_tree.proofs.Names.{same_or_not, not_below_itself, named_below, all_above, above_of}
 use Rattle.path_tree.proofs.Spread.{through, at_spread}
 use Rattle.path_tree.proofs.Rising.{branch_rises}
-use Rattle.path_tree.proofs.Merging.{snoc, grown}
+use Rattle.path_tree.proofs.Merging.{grown}
 use Rattle.std.proofs.lemmas.Map.Lookups.{exact_bytes}
 use Rattle.stack_model.specs.Stack.{Path}
 use Rattle.layer_tree.specs.declared.place.Mark.{Mark}
 use Rattle.layer_tree.specs.Marks.{cut_by}
-use Rattle.layer_tree.specs.Laying.{unless, AreKept, IsLeftOut, IsKept, NoneBefore, IsFrom}
+use Rattle.layer_tree.specs.Laying.{unless, AreKept, IsLeftOut, IsKept, IsFrom}
 use Rattle.layer_tree.proofs.Cutting.{nothing_cut, cut_same, cut_through, by_name}
 
 -- some branches were passed over, all with names before this one
@@ -22,52 +21,32 @@ pub record IsPassed {T : Type 0} (name : List ℕ) (branches rest : List (Shoot 
   pub names : NamesRise rest
   pub same : (n : List ℕ) → name_cmp n name ≢ Less → named n rest ≡ named n branches
 
-greater : (a b : List ℕ) → name_cmp a b ≢ Less → a ≢ b → name_cmp b a ≡ Less
-greater a b f g = by (name_cmp a b) refl
-  where
-    by : (o : Ordering) → name_cmp a b ≡ o → name_cmp b a ≡ Less
-    by Less e = absurd (f e)
-    by Equal e = absurd (g (exact_bytes a b e))
-    by Greater e = above_of a b e
+-- of what is left, s is the first branch
+module _ {T : Type 0} (name : List ℕ) (branches rest later : List (Shoot T)) (s : Shoot T)
+    (inv : IsPassed name branches rest) (e : rest ≡ s ∷ later) where
+  rises : NamesRise (s ∷ later)
+  rises = subst NamesRise e inv.names
 
-module _ {T : Type 0} where
-  pub pass_one : (name : List ℕ) (branches rest later : List (Shoot T)) (s : Shoot T)
-      → IsPassed name branches rest → rest ≡ s ∷ later → name_cmp s.name name ≡ Less
-      → IsPassed name branches later
-  pass_one name branches rest later s w e l =
-      let r : NamesRise (s ∷ later) = subst NamesRise e w.names in
-      record {
-        names = r.1;
-        same = λ n f. elim (same_or_not s.name n) [
-          | inl x ↦ absurd (f (subst (λ m. name_cmp m name ≡ Less) x.0 l))
-          | inr x ↦ (let k : named n (s ∷ later) ≡ named n later = rw x.1 refl in sym k ∙ ap (named n) (sym e) ∙ w.same n f)
-        ];
-      }
-
-  pub passed_all : (name : List ℕ) (branches rest : List (Shoot T)) → IsPassed name branches rest → NoneBefore name rest → IsFrom name branches rest
-  passed_all name branches rest w n = record { none = n; names = w.names; same = w.same }
-
-  pub none_named : (name : List ℕ) (s : Shoot T) (later : List (Shoot T)) → NamesRise (s ∷ later)
-      → name_cmp s.name name ≢ Less → s.name ≢ name → named name (s ∷ later) ≡ None
-  none_named name s later r f g = let l = greater s.name name f g in named_below name (s ∷ later) (l, all_above name s.name later l r.0)
-
-  -- the first of these branches has another name, so none has this one
-  pub other_first : (name : List ℕ) (branches later : List (Shoot T)) (s : Shoot T) → NoneBefore name branches
-      → NamesRise branches → branches ≡ s ∷ later → s.name ≢ name → named name branches ≡ None
-  other_first name branches later s f r e g = ap (named name) e ∙ none_named name s later (subst NamesRise e r) (subst (NoneBefore name) e f) g
+  pub pass_one : name_cmp s.name name ≡ Less → IsPassed name branches later
+  pass_one l = record {
+    names = rises.1;
+    same = λ n f. elim (same_or_not s.name n) [
+      | inl x ↦ absurd (f (subst (λ m. name_cmp m name ≡ Less) x.0 l))
+      | inr x ↦ (let k : named n (s ∷ later) ≡ named n later = rw x.1 refl in sym k ∙ ap (named n) (sym e) ∙ inv.same n f)
+    ];
+  }
 
   -- the walk stops at the first name that does not come before
-  pub stop_at : (name : List ℕ) (branches rest later : List (Shoot T)) (s : Shoot T)
-      → IsPassed name branches rest → rest ≡ s ∷ later → name_cmp s.name name ≢ Less
-      → IsFrom name branches rest
-  stop_at name branches rest later s w e f = passed_all name branches rest w (subst (NoneBefore name) (sym e) f)
+  pub from_here : name_cmp s.name name ≢ Less → IsFrom name branches rest
+  from_here f = record { none = rw e f; names = inv.names; same = inv.same }
 
-  pub stop_empty : (name : List ℕ) (branches rest : List (Shoot T)) → IsPassed name branches rest → length rest ≡ 0 → IsFrom name branches rest
-  stop_empty name branches [] w e = passed_all name branches [] w tt
-  stop_empty name branches (s ∷ rest) w e = absurd (omega arith)
+  pub first_named : name_cmp s.name name ≡ Equal → named name rest ≡ Some s
+  first_named q = elim (same_or_not s.name name) [ inl x ↦ rw (e, x.1) | inr x ↦ absurd (x.0 (exact_bytes s.name name q)) ]
 
-  pub is_named : (name : List ℕ) (s : Shoot T) (later : List (Shoot T)) → s.name ≡ name → named name (s ∷ later) ≡ Some s
-  is_named name s later e = elim (same_or_not s.name name) [ inl x ↦ rw x.1 refl | inr x ↦ absurd (x.0 e) ]
+  pub none_named : name_cmp s.name name ≡ Greater → named name rest ≡ None
+  none_named g =
+      let l = above_of s.name name g in
+      ap (named name) e ∙ named_below name (s ∷ later) (l, all_above name s.name later l rises.0)
 
 -- what is left of branches, one by one
 pub data Keeps {T : Type 0} (marks : List (Shoot Mark)) : List (Shoot T) → List (Shoot T) → Type 0 where
@@ -162,66 +141,51 @@ all_same : {T : Type 0} (ls : List (Shoot T)) (marks : List (Shoot Mark)) → Al
 all_same [] marks = tt
 all_same (l ∷ ls) marks = (refl, all_same ls marks)
 
-pub keeping_begun : {T : Type 0} (lows L : List (Shoot T)) (marks : List (Shoot Mark)) → IsForest lows
-    → NamesRise marks → L ≡ reverse lows → reverse (reverse lows) ≡ lows
-    → Keeping lows (reverse L) [] marks marks
-keeping_begun lows L marks f r e g = rw (e, g) (record {
+pub keeping_begun : {T : Type 0} (lows : List (Shoot T)) (marks : List (Shoot Mark)) → IsForest lows
+    → NamesRise marks → Keeping lows lows [] marks marks
+keeping_begun lows marks f r = record {
   kept = λ more k. k;
   names = f.names;
   rest_names = r;
   same = all_same lows marks;
   smaller = omega arith;
-})
+}
 
-module _ {T : Type 0} (lows L L' out : List (Shoot T)) (marks rest rest' : List (Shoot Mark)) (l : Shoot T)
-    (inv : Keeping lows (reverse L) out marks rest) (e : L ≡ L' ++ l ∷ []) (from : IsFrom l.name rest rest')
+-- of what is left, l is the first branch
+module _ {T : Type 0} (lows ls out : List (Shoot T)) (marks rest rest' : List (Shoot Mark)) (l : Shoot T)
+    (inv : Keeping lows (l ∷ ls) out marks rest) (from : IsFrom l.name rest rest')
   where
-    turned : reverse L ≡ l ∷ reverse L'
-    turned = snoc L L' l e
-
-    rises : NamesRise (l ∷ reverse L')
-    rises = subst NamesRise turned inv.names
-
     pub at_mark : named l.name rest' ≡ named l.name marks
-    at_mark =
-        let s : AllByRecursion (λ k. named k.name rest ≡ named k.name marks) (l ∷ reverse L') = subst
-        (λ ls. AllByRecursion (λ k. named k.name rest ≡ named k.name marks) ls) turned inv.same in
-        from.same l.name (not_below_itself l.name) ∙ s.0
-
-    all_later : AllByRecursion (λ k. named k.name rest' ≡ named k.name marks) (reverse L')
-    all_later =
-        let s : AllByRecursion (λ k. named k.name rest ≡ named k.name marks) (l ∷ reverse L') = subst
-        (λ ls. AllByRecursion (λ k. named k.name rest ≡ named k.name marks) ls) turned inv.same in
-        still_same l.name rest rest' marks from (reverse L') rises.0 s.1
-
-    shorter : length (spread (reverse L')) ≤ length (spread lows)
-    shorter = let s = rw turned at inv.smaller in omega (arith, grown l (reverse L'), s)
+    at_mark = from.same l.name (not_below_itself l.name) ∙ inv.same.0
 
     on : (out' : List (Shoot T))
-        → ((more : List (Shoot T)) → Keeps marks (reverse L') more → Keeps marks lows (out' ++ more))
-        → Keeping lows (reverse L') out' marks rest'
-    on out' k = record { kept = k; names = rises.1; rest_names = from.names; same = all_later; smaller = shorter }
+        → ((more : List (Shoot T)) → Keeps marks ls more → Keeps marks lows (out' ++ more))
+        → Keeping lows ls out' marks rest'
+    on out' k = record {
+      kept = k;
+      names = inv.names.1;
+      rest_names = from.names;
+      same = still_same l.name rest rest' marks from ls inv.names.0 inv.same.1;
+      smaller = omega (arith, grown l ls, inv.smaller);
+    }
 
-    one_more : (x : Shoot T) (more out' : List (Shoot T)) → out' ≡ out ++ x ∷ [] → Keeps marks lows (out ++ (x ∷ more)) → Keeps marks lows (out' ++ more)
-    one_more x more out' o k = rw (o, append_assoc) k
+    pub untouched : named l.name rest' ≡ None → Keeping lows ls (out ++ l ∷ []) marks rest'
+    untouched n = on (out ++ l ∷ []) (λ more k. rw append_assoc (inv.kept (l ∷ more) (Untouched l ls more (sym at_mark ∙ n) k)))
 
-    pub untouched : (out' : List (Shoot T)) → named l.name rest' ≡ None → out' ≡ out ++ l ∷ [] → Keeping lows (reverse L') out' marks rest'
-    untouched out' n o = on out' (λ more k. one_more l more out' o (inv.kept (l ∷ more) (rw turned (Untouched l (reverse L') more (sym at_mark ∙ n) k))))
+    pub left_out : (m : Shoot Mark) → named l.name rest' ≡ Some m → IsLeftOut m → Keeping lows ls out marks rest'
+    left_out m n c = on out (λ more k. inv.kept more (Left_out l ls more m (sym at_mark ∙ n) c k))
 
-    pub left_out : (m : Shoot Mark) → named l.name rest' ≡ Some m → IsLeftOut m → Keeping lows (reverse L') out marks rest'
-    left_out m n c = on out (λ more k. inv.kept more (rw turned (Left_out l (reverse L') more m (sym at_mark ∙ n) c k)))
-
-    pub kept_one : (m : Shoot Mark) (b : Shoot T) (out' : List (Shoot T)) → named l.name rest' ≡ Some m
-        → IsKept l m b → out' ≡ out ++ b ∷ [] → Keeping lows (reverse L') out' marks rest'
-    kept_one m b out' n c o = on out' (λ more k. one_more b more out' o (inv.kept (b ∷ more) (rw turned (Kept l b (reverse L') more m (sym at_mark ∙ n) c k))))
+    pub kept_one : (m : Shoot Mark) (b : Shoot T) → named l.name rest' ≡ Some m → IsKept l m b
+        → Keeping lows ls (out ++ b ∷ []) marks rest'
+    kept_one m b n c = on (out ++ b ∷ []) (λ more k. rw append_assoc (inv.kept (b ∷ more) (Kept l b ls more m (sym at_mark ∙ n) c k)))
 
     pub below_measure : 3 * length l.below + 2 < 3 * length (spread lows)
-    below_measure = let s = rw turned at inv.smaller in omega (arith, grown l (reverse L'), s)
+    below_measure = omega (arith, grown l ls, inv.smaller)
 
-pub keeping_ended : {T : Type 0} (lows L out : List (Shoot T)) (marks rest : List (Shoot Mark))
-    → Keeping lows (reverse L) out marks rest → L ≡ [] → IsForest lows → NamesRise marks
+pub keeping_ended : {T : Type 0} (lows ls out : List (Shoot T)) (marks rest : List (Shoot Mark))
+    → Keeping lows ls out marks rest → ls ≡ [] → IsForest lows → NamesRise marks
     → AreKept lows marks out
-keeping_ended lows L out marks rest inv e f r = are_kept marks (subst (Keeps marks lows) (append-nil out) (inv.kept [] (rw e None_left))) f r
+keeping_ended lows ls out marks rest inv e f r = are_kept marks (subst (Keeps marks lows) (append-nil out) (inv.kept [] (rw e None_left))) f r
 
 -- a mark that cuts its branch leaves nothing
 pub all_cut : (mark : Shoot Mark) → mark.value.cut ≡ true → IsLeftOut mark

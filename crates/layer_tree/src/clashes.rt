@@ -7,7 +7,7 @@ ghost use Rattle.std.specs.Prelude.{◌≡◌, true, false, IfOk, IsTrue};
 ghost use Rattle.path_tree.specs.Rows.{IsForest};
 ghost use Rattle.layer_tree.specs.Laying.{AreClashes, HasClash, AreRootClashes, IsBare};
 
-use crate::laying::{first_named, from_name};
+use crate::laying::seek;
 use crate::place::{Cuts, Mark};
 use crate::reading::{CUT, UNCUT, leaf};
 use path_tree::{Branch, Name};
@@ -43,8 +43,9 @@ fn clashes_below<T: Cuts, A: Allocator + Copy>(
     let mut left = files;
     let mut rest = others;
     while let Some((file, later)) = left.split_first() {
-        rest = from_name(rest, file.name());
-        if let Some(other) = first_named(rest, file.name()) {
+        let (ahead, found) = seek(rest, file.name());
+        rest = ahead;
+        if let Some(other) = found {
             if let Some(mark) = clash_of(alloc, file, other)? {
                 marks.push(mark)?;
             }

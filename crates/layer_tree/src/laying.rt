@@ -7,7 +7,7 @@
 ghost use Rattle.std.specs.Prelude.{◌≡◌, ◌+◌, ◌++◌, ℕ, List, length, IfOk, false};
 ghost use Rattle.path_tree.specs.Rows.{NamesRise, IsForest, IsFirstNamed};
 ghost use Rattle.layer_tree.specs.Trees.{IsTreeOf};
-ghost use Rattle.layer_tree.specs.Laying.{AreKept, IsKept, IsLeft, IsFrom, NoneBefore, Lays};
+ghost use Rattle.layer_tree.specs.Laying.{AreKept, IsKept, IsLeft, IsFrom, Lays};
 
 use crate::clashes::clashes;
 use crate::place::{Entry, Mark};
@@ -15,6 +15,7 @@ use crate::tree::Tree;
 use path_tree::{Branch, Lay, cover};
 use std::alloc::{AllocError, Allocator};
 use std::cmp::Ordering;
+use std::collections::VecDeque;
 
 /// The upper entry replaces the lower one.
 impl Lay for Entry {
@@ -41,39 +42,24 @@ impl Lay for Mark {
     }
 }
 
-/// The branches of which the first's name is the first that does not come before a name.
-pub(crate) fn from_name<'a, T: Copy + Drop, A: Allocator>(
+/// What is left of branches from a name on, and the first of it if it has the name.
+pub(crate) fn seek<'a, T: Copy + Drop, A: Allocator>(
     branches: &'a [Branch<T, A>],
     name: &[u8],
-) -> &'a [Branch<T, A>]
+) -> (&'a [Branch<T, A>], Option<&'a Branch<T, A>>)
     requires { NamesRise branches.now }
-    ensures { IsFrom name.now branches.now result.now }
+    ensures rest { IsFrom name.now branches.now result.0.now }
+    ensures first { IsFirstNamed name.now result.0.now result.1 }
 {
     let mut rest = branches;
     while let Some((first, later)) = rest.split_first() {
-        if first.name().cmp(name) != Ordering::Less {
-            return rest;
+        match first.name().cmp(name) {
+            Ordering::Less => rest = later,
+            Ordering::Equal => return (rest, Some(first)),
+            Ordering::Greater => return (rest, None),
         }
-        rest = later;
     }
-    rest
-}
-
-/// The first branch, if it has the name.
-pub(crate) fn first_named<'a, T: Copy + Drop, A: Allocator>(
-    branches: &'a [Branch<T, A>],
-    name: &[u8],
-) -> Option<&'a Branch<T, A>>
-    requires none { NoneBefore name.now branches.now }
-    requires names { NamesRise branches.now }
-    ensures { IsFirstNamed name.now branches.now result }
-{
-    let (first, _) = branches.split_first()?;
-    if first.name() == name {
-        Some(first)
-    } else {
-        None
-    }
+    (rest, None)
 }
 
 /// What marks leave of the branches of a directory: both are gone through in step, in the order of names. With no
@@ -81,7 +67,7 @@ pub(crate) fn first_named<'a, T: Copy + Drop, A: Allocator>(
 #[cycle(keeping)]
 fn kept_below<T: Copy + Drop, A: Allocator + Copy>(
     alloc: A,
-    mut lows: Vec<Branch<T, A>, A>,
+    lows: Vec<Branch<T, A>, A>,
     marks: &[Branch<Mark, A>],
 ) -> Result<Vec<Branch<T, A>, A>, AllocError>
     requires lows { IsForest lows.items }
@@ -91,12 +77,13 @@ fn kept_below<T: Copy + Drop, A: Allocator + Copy>(
     if marks.is_empty() {
         return Ok(lows);
     }
-    lows.reverse();
-    let mut rest = marks;
     let mut kept = Vec::with_capacity(alloc, lows.len())?;
-    while let Some(low) = lows.pop() {
-        rest = from_name(rest, low.name());
-        match first_named(rest, low.name()) {
+    let mut lows = VecDeque::from(lows);
+    let mut rest = marks;
+    while let Some(low) = lows.pop_front() {
+        let (ahead, found) = seek(rest, low.name());
+        rest = ahead;
+        match found {
             None => kept.push(low)?,
             Some(mark) => {
                 if let Some(low) = kept_of(alloc, low, mark)? {

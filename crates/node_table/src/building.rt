@@ -16,7 +16,6 @@ use crate::row::Row;
 use crate::walk::{Spot, Walked};
 use layer_tree::{Child, Entry};
 use name_keys::add_keys;
-use path_tree::Name;
 use romfs_image::{Head, Image, Kind};
 use std::alloc::{AllocError, Allocator};
 
@@ -59,7 +58,7 @@ fn add_rows<A: Allocator + Copy>(
         let entry = child.value();
         let number = numbers[at];
         let size = walk.sizes[at];
-        let name = Name::of(alloc, child.name())?;
+        let name = child.copy_name(alloc)?;
         rows.push(Row { number, name })?;
         match entry.kind {
             Kind::Directory => directories += 1,

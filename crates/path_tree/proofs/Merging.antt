@@ -1,19 +1,21 @@
 -- The branches of two directories, laid one on another.
-use Rattle.std.proofs.Common.{◌≡◌, ◌∙◌, sym, ap, subst, ℕ, ◌+◌, ◌*◌, ◌<◌, ◌≤◌, inl, inr, List, [], ◌∷◌, ◌++◌, length, reverse, refl, arith, append_assoc, length-append, Option, Some, None}
-use Rattle.std.proofs.lemmas.List.{reverse-append, append-nil}
-use Rattle.std.specs.declared.cmp.Ordering.TheVariants.{Less}
+use Rattle.std.proofs.Common.{◌≡◌, sym, subst, ℕ, ◌+◌, ◌*◌, ◌<◌, ◌≤◌, inl, inr, List, [], ◌∷◌, ◌++◌, length, drop, refl, arith, append_assoc, length-append, Option, Some, None}
+use Rattle.std.proofs.lemmas.List.{append-nil}
+use Rattle.std.proofs.lemmas.Map.Lookups.{exact_bytes}
+use Rattle.std.specs.declared.cmp.Ordering.TheVariants.{Less, Equal, Greater}
 use Rattle.std.specs.List.{AllByRecursion}
+use Rattle.std.specs.Slice.{IsItemAt}
+use Rattle.std.specs.Borrow.{Bor}
 use Rattle.path_tree.specs.Rows.{Shoot, name_cmp, named, NamesRise, IsRising, IsForest, at_path, spread, whole, prefixed, length_prefixed}
 use Rattle.path_tree.specs.Laying.{laid_at, IsLaid, AreLaid}
-use Rattle.path_tree.proofs.Names.{same_or_not, named_below, all_above}
+use Rattle.path_tree.proofs.Names.{same_or_not, named_below, all_above, above_of}
 use Rattle.path_tree.proofs.Spread.{through, at_spread}
 use Rattle.path_tree.proofs.Rising.{branch_rises}
 
 -- which branches come of both
 pub data Merges {T : Type 0} (f : T → T → T) : List (Shoot T) → List (Shoot T) → List (Shoot T) → Type 0 where
-  None_left : Merges f [] [] []
-  Low_alone : (l : Shoot T) (ls out : List (Shoot T)) → Merges f ls [] out → Merges f (l ∷ ls) [] (l ∷ out)
-  High_alone : (h : Shoot T) (hs out : List (Shoot T)) → Merges f [] hs out → Merges f [] (h ∷ hs) (h ∷ out)
+  Lows_left : (ls : List (Shoot T)) → Merges f ls [] ls
+  Highs_left : (hs : List (Shoot T)) → Merges f [] hs hs
   Low : (l h : Shoot T) (ls hs out : List (Shoot T)) → name_cmp l.name h.name ≡ Less → Merges f ls (h ∷ hs) out → Merges f (l ∷ ls) (h ∷ hs) (l ∷ out)
   High : (l h : Shoot T) (ls hs out : List (Shoot T)) → name_cmp h.name l.name ≡ Less → Merges f (l ∷ ls) hs out → Merges f (l ∷ ls) (h ∷ hs) (h ∷ out)
   Both : (l h b : Shoot T) (ls hs out : List (Shoot T)) → l.name ≡ h.name → IsLaid f l h b → Merges f ls hs out → Merges f (l ∷ ls) (h ∷ hs) (b ∷ out)
@@ -26,12 +28,8 @@ module _ {T : Type 0} (f : T → T → T) where
   found : {ls hs out : List (Shoot T)} → Merges f ls hs out → NamesRise ls → NamesRise hs
       → (n : List ℕ) (p : List (List ℕ))
       → through (named n out) p ≡ laid_at f (through (named n ls) p) (through (named n hs) p)
-  found None_left r s n p = refl
-  found (Low_alone l ls out m) r s n p = elim (same_or_not l.name n) [ inl x ↦ rw x.1 | inr x ↦ rw x.1 (found m r.1 s n p) ]
-  found (High_alone h hs out m) r s n p = elim (same_or_not h.name n) [
-    | inl x ↦ rw x.1 (sym (laid_none f (at_path (whole h) p)))
-    | inr x ↦ rw x.1 (found m r s.1 n p)
-  ]
+  found (Lows_left ls) r s n p = refl
+  found (Highs_left hs) r s n p = sym (laid_none f (through (named n hs) p))
   found (Low l h ls hs out lt m) r s n p = elim (same_or_not l.name n) [
     | inl x ↦ rw (
       named_below n (h ∷ hs) (subst (λ a. AllByRecursion (λ t. name_cmp a t.name ≡ Less) (h ∷ hs))
@@ -56,17 +54,15 @@ module _ {T : Type 0} (f : T → T → T) where
   above : {ls hs out : List (Shoot T)} → Merges f ls hs out → (n : List ℕ)
       → AllByRecursion (λ t. name_cmp n t.name ≡ Less) ls → AllByRecursion (λ t. name_cmp n t.name ≡ Less) hs
       → AllByRecursion (λ t. name_cmp n t.name ≡ Less) out
-  above None_left n a b = tt
-  above (Low_alone l ls out m) n a b = (a.0, above m n a.1 b)
-  above (High_alone h hs out m) n a b = (b.0, above m n a b.1)
+  above (Lows_left ls) n a b = a
+  above (Highs_left hs) n a b = b
   above (Low l h ls hs out lt m) n a b = (a.0, above m n a.1 b)
   above (High l h ls hs out lt m) n a b = (b.0, above m n a b.1)
   above (Both l h x ls hs out e c m) n a b = (rw c.name b.0, above m n a.1 b.1)
 
   rise : {ls hs out : List (Shoot T)} → Merges f ls hs out → NamesRise ls → NamesRise hs → NamesRise out
-  rise None_left r s = tt
-  rise (Low_alone l ls out m) r s = (above m l.name r.0 tt, rise m r.1 s)
-  rise (High_alone h hs out m) r s = (above m h.name tt s.0, rise m r s.1)
+  rise (Lows_left ls) r s = r
+  rise (Highs_left hs) r s = s
   rise (Low l h ls hs out lt m) r s = (above m l.name r.0 (lt, all_above l.name h.name hs lt s.0), rise m r.1 s)
   rise (High l h ls hs out lt m) r s = (above m h.name (lt, all_above h.name l.name ls lt r.0) s.0, rise m r s.1)
   rise (Both l h b ls hs out e c m) r s = (
@@ -77,9 +73,8 @@ module _ {T : Type 0} (f : T → T → T) where
   )
 
   each : {ls hs out : List (Shoot T)} → Merges f ls hs out → AllByRecursion IsRising ls → AllByRecursion IsRising hs → AllByRecursion IsRising out
-  each None_left r s = tt
-  each (Low_alone l ls out m) r s = (r.0, each m r.1 s)
-  each (High_alone h hs out m) r s = (s.0, each m r s.1)
+  each (Lows_left ls) r s = r
+  each (Highs_left hs) r s = s
   each (Low l h ls hs out lt m) r s = (r.0, each m r.1 s)
   each (High l h ls hs out lt m) r s = (s.0, each m r s.1)
   each (Both l h b ls hs out e c m) r s = (c.rising, each m r.1 s.1)
@@ -91,12 +86,6 @@ module _ {T : Type 0} (f : T → T → T) where
         forest = record { names = names; each = each m r.each s.each };
         at = λ n p. rw (at_spread out names n p, at_spread hs s.names n p, at_spread ls r.names n p) (found m r.names s.names n p);
       }
-
-  pub low_empty : (hs : List (Shoot T)) → IsForest hs → AreLaid f [] hs hs
-  low_empty hs s = record { forest = s; at = λ n p. sym (laid_none f (at_path (spread hs) (n ∷ p))) }
-
-  pub high_empty : (ls : List (Shoot T)) → IsForest ls → AreLaid f ls [] ls
-  high_empty ls r = record { forest = r; at = λ n p. refl }
 
   -- a branch over the laid children
   pub branch_laid : (low high : Shoot T) (ls hs out : List (Shoot T)) → low.below ≡ spread ls
@@ -115,69 +104,46 @@ pub record Merging {T : Type 0} (f : T → T → T) (ls0 hs0 ls hs out : List (S
   pub merged : (more : List (Shoot T)) → Merges f ls hs more → Merges f ls0 hs0 (out ++ more)
   pub smaller : length (spread ls) + length (spread hs) ≤ length (spread ls0) + length (spread hs0)
 
-pub snoc : {X : Type 0} (xs ys : List X) (x : X) → xs ≡ ys ++ x ∷ [] → reverse xs ≡ x ∷ reverse ys
-snoc xs ys x e = ap reverse e ∙ reverse-append ys (x ∷ [])
-
 pub grown : {T : Type 0} (s : Shoot T) (ss : List (Shoot T)) → length (spread (s ∷ ss)) ≡ length s.below + length (spread ss) + 1
 grown s ss = omega (arith, length-append (prefixed s.name s.below) (spread ss), length_prefixed s.name s.below)
 
-module _ {T : Type 0} (f : T → T → T) (ls0 hs0 L H out : List (Shoot T)) (inv : Merging f ls0 hs0 (reverse L) (reverse H) out) where
-  pushed : (x : Shoot T) (more out' : List (Shoot T)) → out' ≡ out ++ x ∷ [] → Merges f ls0 hs0 (out ++ (x ∷ more)) → Merges f ls0 hs0 (out' ++ more)
-  pushed x more out' e m = rw (e, append_assoc) m
-
-  pub low_alone : (L' H' out' : List (Shoot T)) (l : Shoot T) → L ≡ L' ++ l ∷ [] → H ≡ [] → H' ≡ []
-      → out' ≡ out ++ l ∷ [] → Merging f ls0 hs0 (reverse L') (reverse H') out'
-  low_alone L' H' out' l e g g' o = record {
-    merged = λ more m. pushed l more out' o (inv.merged (l ∷ more) (rw (snoc L L' l e, g) (Low_alone l (reverse L') more (rw g' at m))));
-    smaller = let s = rw (snoc L L' l e, g) at inv.smaller in rw g' (omega (arith, grown l (reverse L'), s));
+-- of what is left, l and h are the first branches
+module _ {T : Type 0} (f : T → T → T) (ls0 hs0 ls hs out : List (Shoot T)) (l h : Shoot T)
+    (inv : Merging f ls0 hs0 (l ∷ ls) (h ∷ hs) out) where
+  pub low_first : name_cmp l.name h.name ≡ Less → Merging f ls0 hs0 ls (h ∷ hs) (out ++ l ∷ [])
+  low_first lt = record {
+    merged = λ more m. rw append_assoc (inv.merged (l ∷ more) (Low l h ls hs more lt m));
+    smaller = omega (arith, grown l ls, inv.smaller);
   }
 
-  pub high_alone : (L' H' out' : List (Shoot T)) (h : Shoot T) → H ≡ H' ++ h ∷ [] → L ≡ [] → L' ≡ []
-      → out' ≡ out ++ h ∷ [] → Merging f ls0 hs0 (reverse L') (reverse H') out'
-  high_alone L' H' out' h e g g' o = record {
-    merged = λ more m. pushed h more out' o (inv.merged (h ∷ more) (rw (snoc H H' h e, g) (High_alone h (reverse H') more (rw g' at m))));
-    smaller = let s = rw (snoc H H' h e, g) at inv.smaller in rw g' (omega (arith, grown h (reverse H'), s));
+  pub high_first : name_cmp l.name h.name ≡ Greater → Merging f ls0 hs0 (l ∷ ls) hs (out ++ h ∷ [])
+  high_first gt = record {
+    merged = λ more m. rw append_assoc (inv.merged (h ∷ more) (High l h ls hs more (above_of l.name h.name gt) m));
+    smaller = omega (arith, grown h hs, inv.smaller);
   }
 
-  pub low_first : (L' H' H'' out' : List (Shoot T)) (l h : Shoot T) → L ≡ L' ++ l ∷ [] → H ≡ H' ++ h ∷ []
-      → H'' ≡ H' ++ h ∷ [] → name_cmp l.name h.name ≡ Less → out' ≡ out ++ l ∷ []
-      → Merging f ls0 hs0 (reverse L') (reverse H'') out'
-  low_first L' H' H'' out' l h e g g' lt o = record {
-    merged = λ more m. pushed l more out' o (inv.merged (l ∷ more)
-        (rw (snoc L L' l e, snoc H H' h g) (Low l h (reverse L') (reverse H') more lt
-        (rw (snoc H'' H' h g') at m))));
-    smaller = let s = rw (snoc L L' l e, snoc H H' h g) at inv.smaller in rw (snoc H'' H' h g') (omega (arith, grown l (reverse L'), s));
+  pub both_first : (b : Shoot T) → name_cmp l.name h.name ≡ Equal → IsLaid f l h b → Merging f ls0 hs0 ls hs (out ++ b ∷ [])
+  both_first b e c = record {
+    merged = λ more m. rw append_assoc (inv.merged (b ∷ more) (Both l h b ls hs more (exact_bytes l.name h.name e) c m));
+    smaller = omega (arith, grown l ls, grown h hs, inv.smaller);
   }
 
-  pub high_first : (L' L'' H' out' : List (Shoot T)) (l h : Shoot T) → L ≡ L' ++ l ∷ [] → H ≡ H' ++ h ∷ []
-      → L'' ≡ L' ++ l ∷ [] → name_cmp h.name l.name ≡ Less → out' ≡ out ++ h ∷ []
-      → Merging f ls0 hs0 (reverse L'') (reverse H') out'
-  high_first L' L'' H' out' l h e g g' lt o = record {
-    merged = λ more m. pushed h more out' o (inv.merged (h ∷ more)
-        (rw (snoc L L' l e, snoc H H' h g) (High l h (reverse L') (reverse H') more lt
-        (rw (snoc L'' L' l g') at m))));
-    smaller = let s = rw (snoc L L' l e, snoc H H' h g) at inv.smaller in rw (snoc L'' L' l g') (omega (arith, grown h (reverse H'), s));
-  }
+  pub below_measure : 2 * (length l.below + length h.below) + 1 < 2 * (length (spread ls0) + length (spread hs0))
+  below_measure = omega (arith, grown l ls, grown h hs, inv.smaller)
 
-  pub both_first : (L' H' out' : List (Shoot T)) (l h b : Shoot T) → L ≡ L' ++ l ∷ [] → H ≡ H' ++ h ∷ []
-      → l.name ≡ h.name → IsLaid f l h b → out' ≡ out ++ b ∷ []
-      → Merging f ls0 hs0 (reverse L') (reverse H') out'
-  both_first L' H' out' l h b e g n c o = record {
-    merged = λ more m. pushed b more out' o (inv.merged (b ∷ more) (rw (snoc L L' l e, snoc H H' h g) (Both l h b (reverse L') (reverse H') more n c m)));
-    smaller = let s = rw (snoc L L' l e, snoc H H' h g) at inv.smaller in omega (arith, grown h (reverse H'), grown l (reverse L'), s);
-  }
+-- one side alone is left
+module _ {T : Type 0} (f : T → T → T) (ls0 hs0 ls hs out : List (Shoot T)) (inv : Merging f ls0 hs0 ls hs out) where
+  pub lows_left : hs ≡ [] → Merges f ls0 hs0 ((out ++ ls) ++ hs)
+  lows_left e = rw (e, append-nil) (inv.merged ls (rw e (Lows_left ls)))
 
-  pub below_measure : (L' H' : List (Shoot T)) (l h : Shoot T) → L ≡ L' ++ l ∷ [] → H ≡ H' ++ h ∷ []
-      → 2 * (length l.below + length h.below) + 1 < 2 * (length (spread ls0) + length (spread hs0))
-  below_measure L' H' l h e g = let s = rw (snoc L L' l e, snoc H H' h g) at inv.smaller in omega (arith, grown h (reverse H'), grown l (reverse L'), s)
+  pub highs_left : ls ≡ [] → Merges f ls0 hs0 ((out ++ ls) ++ hs)
+  highs_left e = rw (e, append-nil) (inv.merged hs (rw e (Highs_left hs)))
 
-  pub ended : L ≡ [] → H ≡ [] → Merges f ls0 hs0 out
-  ended e g = subst (Merges f ls0 hs0) (append-nil out) (inv.merged [] (rw (e, g) None_left))
+-- what a queue shows at its front is its first element; where it shows nothing, it is empty
+pub shown : {X : Type 0} (xs : List X) (x : Bor X) → IsItemAt xs 0 (Some x) → xs ≡ x.now ∷ drop 1 xs
+shown [] x e = absurd (let n = e.0 in cc)
+shown (y ∷ ys) x e = let n : x.now ≡ y = e.1 in cc
 
-pub begun : {T : Type 0} (f : T → T → T) (ls0 hs0 L H : List (Shoot T)) → L ≡ reverse ls0 → H ≡ reverse hs0
-    → reverse (reverse ls0) ≡ ls0 → reverse (reverse hs0) ≡ hs0 → Merging f ls0 hs0 (reverse L) (reverse H) []
-begun f ls0 hs0 L H e g r s = rw (e, g, r, s) (record { merged = λ more m. m; smaller = omega arith })
-
-pub empty : {X : Type 0} (xs : List X) → length xs ≡ 0 → xs ≡ []
-empty [] e = refl
-empty (s ∷ ss) e = absurd (omega arith)
+pub nothing_shown : {X : Type 0} (xs : List X) → IsItemAt xs 0 None → xs ≡ []
+nothing_shown [] e = refl
+nothing_shown (y ∷ ys) e = absurd (let n = e.2 (omega arith) in cc)

@@ -1,10 +1,10 @@
 //! A branch of a tree, and what is found below it.
 
-ghost use Rattle.std.specs.Prelude.{◌≡◌, [], map, MatchOption};
+ghost use Rattle.std.specs.Prelude.{◌≡◌, [], map, IfOk, MatchOption};
 ghost use Rattle.path_tree.specs.Rows.{spread, whole, name_cmp, NamesRise, IsForest, IsFirstNamed, IsUnder};
 
 use crate::name::Name;
-use std::alloc::Allocator;
+use std::alloc::{AllocError, Allocator};
 use std::cmp::Ordering;
 use std::marker::Model;
 
@@ -91,6 +91,15 @@ impl<T: Copy + Drop, A: Allocator> Branch<T, A> {
             }
         }
         Some(here)
+    }
+}
+
+impl<T: Copy + Drop, A: Allocator + Copy> Branch<T, A> {
+    /// The branch's name once more. `AllocError` comes only where memory was refused for a name of more than 22 bytes.
+    pub fn copy_name(&self, alloc: A) -> Result<Name<A>, AllocError>
+        ensures { IfOk result (λ name. name ≡ self.now.name) }
+    {
+        self.name.copied(alloc)
     }
 }
 

@@ -7,6 +7,7 @@ ghost use Rattle.path_tree.specs.Laying.{IsLaid, AreLaid};
 use crate::branch::Branch;
 use std::alloc::{AllocError, Allocator};
 use std::cmp::Ordering;
+use std::collections::VecDeque;
 
 /// Values of which one can be laid on another.
 pub trait Lay: Copy + Drop {
@@ -46,8 +47,8 @@ fn order<T: Copy + Drop, A: Allocator>(low: &Branch<T, A>, high: &Branch<T, A>) 
 #[cycle(laying)]
 pub fn merge<T: Lay, A: Allocator + Copy>(
     alloc: A,
-    mut lows: Vec<Branch<T, A>, A>,
-    mut highs: Vec<Branch<T, A>, A>,
+    lows: Vec<Branch<T, A>, A>,
+    highs: Vec<Branch<T, A>, A>,
 ) -> Result<Vec<Branch<T, A>, A>, AllocError>
     requires low { IsForest lows.items }
     requires high { IsForest highs.items }
@@ -59,26 +60,21 @@ pub fn merge<T: Lay, A: Allocator + Copy>(
     if highs.is_empty() {
         return Ok(lows);
     }
-    lows.reverse();
-    highs.reverse();
     let mut out = Vec::with_capacity(alloc, lows.len().max(highs.len()))?;
-    loop {
-        match (lows.pop(), highs.pop()) {
-            (None, None) => break,
-            (Some(low), None) => out.push(low)?,
-            (None, Some(high)) => out.push(high)?,
-            (Some(low), Some(high)) => match order(&low, &high) {
-                Ordering::Less => {
-                    out.push(low)?;
-                    highs.push(high)?;
-                }
-                Ordering::Greater => {
-                    out.push(high)?;
-                    lows.push(low)?;
-                }
-                Ordering::Equal => out.push(cover(alloc, low, high)?)?,
-            },
+    let mut lows = VecDeque::from(lows);
+    let mut highs = VecDeque::from(highs);
+    while let (Some(low), Some(high)) = (lows.front(), highs.front()) {
+        match order(low, high) {
+            Ordering::Less => out.push(lows.pop_front().unwrap())?,
+            Ordering::Greater => out.push(highs.pop_front().unwrap())?,
+            Ordering::Equal => {
+                let (low, high) = (lows.pop_front().unwrap(), highs.pop_front().unwrap());
+                out.push(cover(alloc, low, high)?)?;
+            }
         }
     }
+    // one of the two is empty now
+    out.append(&mut Vec::from(lows))?;
+    out.append(&mut Vec::from(highs))?;
     Ok(out)
 }

@@ -43,6 +43,15 @@ impl Short {
     {
         &self.bytes[..self.len as usize]
     }
+
+    fn copied(&self) -> Short
+        ensures { result ≡ self.now }
+    {
+        Short {
+            len: self.len,
+            bytes: self.bytes,
+        }
+    }
 }
 
 #[derive(Drop)]
@@ -77,6 +86,17 @@ impl<A: Allocator + Copy> Name<A> {
             Bytes::Here(Short::of(name))
         } else {
             Bytes::There(Box::new(alloc, name.to_vec(alloc)?)?)
+        };
+        Ok(Name { bytes })
+    }
+
+    /// The same name once more. `AllocError` comes only where memory was refused for a name of more than 22 bytes.
+    pub fn copied(&self, alloc: A) -> Result<Name<A>, AllocError>
+        ensures { IfOk result (λ own. own ≡ self.now) }
+    {
+        let bytes = match &self.bytes {
+            Bytes::Here(short) => Bytes::Here(short.copied()),
+            Bytes::There(long) => Bytes::There(Box::new(alloc, long.to_vec(alloc)?)?),
         };
         Ok(Name { bytes })
     }

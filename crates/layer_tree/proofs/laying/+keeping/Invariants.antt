@@ -1,4 +1,4 @@
-use Rattle.std.proofs.Common.{reverse, length, ◌+◌, ◌*◌}
+use Rattle.std.proofs.Common.{length, ◌+◌, ◌*◌}
 use Rattle.path_tree.specs.Rows.{spread}
 use Rattle.layer_tree.proofs.Stepping.{Keeping}
 use Rattle.layer_tree.proofs.laying.+keeping.Given as goal
@@ -13,7 +13,7 @@ abbrev pub decreases-kept_below : goal.decreases-kept_below
 decreases-kept_below g l = 3 * length (spread l.lows.items)
 
 abbrev pub invariant-kept_below-loop-low : goal.invariant-kept_below-loop-low
-invariant-kept_below-loop-low g l = Keeping l.fn.lows.items (reverse l.lows.items) l.kept.items l.fn.marks l.rest
+invariant-kept_below-loop-low g l = Keeping l.fn.lows.items l.lows.items l.kept.items l.fn.marks l.rest
 
 abbrev pub decreases-kept_below-loop-low : goal.decreases-kept_below-loop-low
 decreases-kept_below-loop-low g l = length l.lows.items

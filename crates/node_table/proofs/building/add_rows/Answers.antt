@@ -12,7 +12,7 @@ pub loop-child-preserved : goal.loop-child-preserved
 loop-child-preserved g c =
     let tell = number_among c.args.walk.now.spots.items in
     let lt : c.loop-child.child-index < length c.args.children.now = omega arith in
-    let nm : c.in_ok-name.name ≡ c.child-item.result.name = c.in_ok-name.ensures ∙ c.name.ensures in
+    let nm : c.in_ok-name.name ≡ c.child-item.result.name = c.in_ok-name.ensures in
     let f = follows tell c.args.numbers.now c.args.walk.now.sizes.items c.loop-child.at c.args.children.now c.loop-child.child-index c.child-item.result lt c.child-item.is c.loop-child.invariant.1 in
     let number : ℕ = slice_index c.args.numbers.now c.loop-child.at in
     let line : Line = record { number = number; name = c.in_ok-name.name } in

@@ -1,6 +1,6 @@
 use Rattle.std.proofs.Common.{length}
 use Rattle.layer_tree.proofs.Stepping.{IsPassed}
-use Rattle.layer_tree.proofs.laying.from_name.Given as goal
+use Rattle.layer_tree.proofs.laying.seek.Given as goal
 
 abbrev pub invariant-loop-first : goal.invariant-loop-first
 invariant-loop-first g l = IsPassed l.name l.branches l.rest
