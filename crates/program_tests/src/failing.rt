@@ -58,7 +58,11 @@ fn is_told<R: Files + Threads + Sync, I: Read + Drop, O: Write + Drop>(
     input: I,
     output: O,
     line: &[u8],
-) -> bool {
+) -> bool
+where
+    R::File: Send,
+    R::Dir: Send,
+{
     let mut faults = Vec::new(alloc);
     let status = command(
         rt,

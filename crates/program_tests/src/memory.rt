@@ -17,7 +17,11 @@ fn run_in<R: Files + Threads + Sync, A: Allocator + Copy + Send + Sync>(
     global: Global,
     alloc: A,
     words: &[&str],
-) -> (u8, Vec<u8>, Vec<u8>) {
+) -> (u8, Vec<u8>, Vec<u8>)
+where
+    R::File: Send,
+    R::Dir: Send,
+{
     let mut output = Vec::new(global);
     let mut faults = Vec::new(global);
     let status = command(
@@ -39,7 +43,11 @@ fn told_refusals<R: Files + Threads + Sync>(
     global: Global,
     words: &[&str],
     whole: &[u8],
-) -> Result<u64, Fail> {
+) -> Result<u64, Fail>
+where
+    R::File: Send,
+    R::Dir: Send,
+{
     refuse_each(global, |refusing, refuse_at| {
         let (status, output, faults) = run_in(rt, global, refusing, words);
         let is_right = if refusing.refused() {

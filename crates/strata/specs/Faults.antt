@@ -1,5 +1,5 @@
 -- What the program ends with, and for what.
-use Rattle.std.specs.Prelude.{◌≡◌, ℕ, ◌⊎◌, List, ◌∷◌, ◌++◌, length, map, All}
+use Rattle.std.specs.Prelude.{◌≡◌, ℕ, ◌+◌, ◌<◌, ◌≤◌, ◌⊎◌, List, ◌∷◌, ◌++◌, length, map, All}
 use Rattle.romfs_format.specs.declared.rule.Profile.{Profile}
 use Rattle.romfs_format.specs.declared.rule.ImageFault.{ImageFault}
 use Rattle.romfs_format.specs.Fields.{image}
@@ -49,6 +49,12 @@ line_told_of line.Memory = out_of_memory
 abbrev pub list_told_of : ListFault → Fault
 list_told_of list.Write = write_failed
 list_told_of list.Memory = out_of_memory
+
+-- one of so many images from number first on could not be read, or memory ran out
+abbrev pub IsUnread : ℕ → ℕ → Fault → Type 0
+IsUnread first count fault =
+    (fault ≡ out_of_memory)
+    ⊎ ((image : ℕ) × (first ≤ image) × (image < first + count) × (fault ≡ ImageFile image))
 
 -- the bytes of this image break a rule of the profile, or memory ran out
 abbrev pub IsImageFault : Profile → ℕ → List ℕ → Fault → Type 0

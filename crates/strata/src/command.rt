@@ -48,6 +48,9 @@ pub fn command<
     output: &mut K,
     faults: &mut E,
 ) -> u8
+where
+    R::File: Send,
+    R::Dir: Send,
     requires first_pull { T.counts input.old ≡ no_pulls }
     requires first_push { K.counts output.old ≡ no_pushes }
     ensures done { result ≡ 0 → IsDone A (map S.text words.now)
@@ -76,6 +79,9 @@ fn run<R: Files + Threads + Sync, A: Allocator + Copy + Send + Sync, S: AsStr, T
     input: &mut T,
     output: &mut K,
 ) -> Result<(), Fault>
+where
+    R::File: Send,
+    R::Dir: Send,
     requires first_pull { T.counts input.old ≡ no_pulls }
     requires first_push { K.counts output.old ≡ no_pushes }
     ensures done { OnOk result (IsDone A (map S.text words.now)
