@@ -93,10 +93,11 @@ fn classes_in_order<A: Allocator + Copy>(
     Ok(classes)
 }
 
-/// The classes of the numbers below this one by their names, each a number, with one more for none; None where no two
-/// of them have one name.
+/// The classes of the numbers below this one by their names, each a number, with one more for none; None only where no
+/// two of them have one name.
 ///
-/// A name that one number alone has may be left out. `AllocError` comes only where memory was refused.
+/// A name that one number alone has may be left out, and a number may be given twice: then there may be classes though
+/// all names differ. `AllocError` comes only where memory was refused.
 pub fn classes<'a, A: Allocator + Copy>(
     alloc: A,
     named: Vec<Named<'a>, A>,

@@ -83,8 +83,8 @@ fn named_headers<'a, A: Allocator + Copy>(
     Ok(named)
 }
 
-/// The classes of headers by their names, each a number of a header, with one more for none; None where no two headers
-/// have one name.
+/// The classes of headers by their names, each a number of a header, with one more for none; None only where no two
+/// headers have one name.
 pub(crate) fn name_classes_of<A: Allocator + Copy>(
     alloc: A,
     image: &Volume,
