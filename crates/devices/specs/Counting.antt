@@ -1,5 +1,5 @@
 -- read(2), write(2): what calls of a device change in its counts.
-use Rattle.std.specs.Prelude.{◌≡◌, ℕ, ◌+◌, ◌-◌, ◌≤◌, ◌^◌, ◌==◌, min, Result, Ok, Err, Some, None, if◌then◌else◌}
+use Rattle.std.specs.Prelude.{ℕ, ◌+◌, ◌-◌, ◌^◌, ◌==◌, min, Result, Ok, Err, Some, None, if◌then◌else◌}
 use Rattle.devices.specs.declared.failed.Failed.{Failed}
 use Rattle.devices.specs.declared.counts.LastPull.TheVariants.{Bytes, End, Failure}
 use Rattle.devices.specs.declared.counts.Pulls.{Pulls}
@@ -52,8 +52,3 @@ abbrev pub flushed : Pushes → Result (Unit {0}) Failed → Pushes
 flushed p (Ok u) = record { flushes = up p.flushes; failures = p.failures; unflushed = 0 }
 flushed p (Err e) =
     record { flushes = up p.flushes; failures = up p.failures; unflushed = p.unflushed }
-
--- a call counts its failure: where it succeeds none more, and no byte more waits for a flush; where it fails one more
-abbrev pub Settles : {X E : Type 0} → Result X E → Pushes → Pushes → Type 0
-Settles (Ok x) before after = (after.failures ≡ before.failures) × (after.unflushed ≤ before.unflushed)
-Settles (Err e) before after = after.failures ≡ before.failures + 1

@@ -8,7 +8,7 @@ pub record SourceState : Type 0 where
   pub left : Option (List ℕ)
   pub counts : Pulls
 
--- of a sink: the bytes that it took, where they are known, and its counts
+-- of a sink: the bytes that it holds, where they are known, and its counts
 pub record SinkState : Type 0 where
   pub held : Option (List ℕ)
   pub counts : Pushes
@@ -18,3 +18,11 @@ source_state left counts = record { left = left; counts = counts }
 
 abbrev pub sink_state : Option (List ℕ) → Pushes → SinkState
 sink_state held counts = record { held = held; counts = counts }
+
+-- a source and a sink, as a call between them sees them
+pub record Devices : Type 0 where
+  pub source : SourceState
+  pub sink : SinkState
+
+abbrev pub devices : SourceState → SinkState → Devices
+devices source sink = record { source = source; sink = sink }

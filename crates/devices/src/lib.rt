@@ -1,12 +1,13 @@
 //! Sources and sinks of bytes that count their calls.
 //!
-//! - A [`Source`] gives bytes, a [`Sink`] takes bytes. Both tell contracts their bytes, where these are known, and keep
-//!   counts of their calls, ends and failures, so that a promise can say of a failure that it was the device's.
+//! - A [`Source`] gives bytes, a [`Sink`] takes bytes. Both tell contracts their bytes, where these
+//!   are known, and keep counts of their calls, ends and failures, so that a promise can say of a
+//!   failure that it was the device's.
 //! - [`Tap`] is a source over any reader of std, [`Spout`] a sink over any writer.
 //! - [`hand_on`] pushes all of some bytes to a sink, and then flushes it.
 //!
-//! What a call changes is said in `specs/Counting`, one function a call: a count stays at 2^64 - 1. No call takes
-//! memory beyond what the reader or writer takes. The crate stands on std alone.
+//! What a call changes is said in `specs/Counting`, one function a call: a count stays at 2^64 - 1.
+//! No call takes memory beyond what the reader or writer takes. The crate stands on std alone.
 #![tactic(auto)]
 
 pub mod counts;

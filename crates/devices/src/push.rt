@@ -1,21 +1,19 @@
 //! Bytes to a sink, all of them.
 
-ghost use Rattle.std.specs.Prelude.{◌<◌, ◌^◌, ℕ, List};
-ghost use Rattle.devices.specs.Pushing.{PutsFront, IsPushed, IsHandedOn};
+ghost use Rattle.std.specs.Prelude.{◌<◌, ◌^◌};
+ghost use Rattle.devices.specs.Pushing.{PushesAll, HandsOn};
 
 use crate::failed::Failed;
 use crate::sink::Sink;
 
-/// Pushes all of the bytes, whatever number of them each push takes, and then flushes once, if there were any.
+/// Pushes all of the bytes, whatever number of them each push takes, and then flushes once, if
+/// there were any.
 ///
-/// `Failed` comes where a push or the flush failed, or a push took none of some bytes. The sink has then taken some
-/// of the first bytes, each once, and is not called again.
+/// `Failed` comes where a push or the flush failed, or a push took none of some bytes. The sink has
+/// then taken some of the first bytes, each once, and is not called again.
 pub fn hand_on<K: Sink>(sink: &mut K, bytes: &[u8]) -> Result<(), Failed>
-    requires { (K.counts sink.old).failures < 2 ^ 63 }
-    ensures { (put : List ℕ)
-        × PutsFront bytes.now put (K.held sink.old) (K.held sink.new)
-        (K.counts sink.old) (K.counts sink.new)
-        × IsHandedOn bytes.now put (K.counts sink.old) (K.counts sink.new) result }
+    requires { (K.state sink.old).counts.failures < 2 ^ 63 }
+    ensures { HandsOn bytes.now (K.state sink.old) (K.state sink.new) result }
 {
     if bytes.is_empty() {
         return Ok(());
@@ -26,11 +24,8 @@ pub fn hand_on<K: Sink>(sink: &mut K, bytes: &[u8]) -> Result<(), Failed>
 
 // Pushes all of the bytes.
 fn push_all<K: Sink>(sink: &mut K, bytes: &[u8]) -> Result<(), Failed>
-    requires { (K.counts sink.old).failures < 2 ^ 63 }
-    ensures { (put : List ℕ)
-        × PutsFront bytes.now put (K.held sink.old) (K.held sink.new)
-        (K.counts sink.old) (K.counts sink.new)
-        × IsPushed bytes.now put (K.counts sink.old) (K.counts sink.new) result }
+    requires { (K.state sink.old).counts.failures < 2 ^ 63 }
+    ensures { PushesAll bytes.now (K.state sink.old) (K.state sink.new) result }
 {
     let mut rest = bytes;
     while !rest.is_empty() {

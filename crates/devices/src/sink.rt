@@ -1,30 +1,30 @@
 //! Sinks of bytes.
 
-ghost use Rattle.std.specs.Prelude.{◌≡◌, ◌≤◌, ℕ, List, length, IfOk, Option};
+ghost use Rattle.std.specs.Prelude.{◌≡◌, ◌≤◌, length, IfOk};
 ghost use Rattle.std.specs.Io.KnownBytes.{Keeps, WriteAppends};
 ghost use Rattle.devices.specs.Counting.{no_pushes, pushed, flushed};
-ghost use Rattle.devices.specs.declared.counts.Pushes.{Pushes};
+ghost use Rattle.devices.specs.States.{SinkState, sink_state};
 
 use crate::counts::Pushes;
 use crate::failed::Failed;
 use std::io::Write;
 
-/// What takes bytes.
+/// What takes bytes. A contract sees the bytes that it holds, and its counts.
 pub trait Sink {
-    ghost held: { Self → Option (List ℕ) };
+    ghost state: { Self → SinkState };
 
-    ghost counts: { Self → Pushes };
-
-    /// Takes the first of the bytes, and says how many. A push that failed took none. Each failure is counted.
+    /// Takes the first of the bytes, and says how many. A push that failed took none. Each failure
+    /// is counted.
     fn push(&mut self, bytes: &[u8]) -> Result<usize, Failed>
         ensures bound { IfOk result (λ n. n ≤ length bytes.now) }
-        ensures bytes { WriteAppends (held self.old) (held self.new) result bytes.now }
-        ensures counts { counts self.new ≡ pushed (counts self.old) (length bytes.now) result };
+        ensures bytes { WriteAppends (state self.old).held (state self.new).held result bytes.now }
+        ensures counts { (state self.new).counts
+            ≡ pushed (state self.old).counts (length bytes.now) result };
 
     /// Hands on what was taken. Each flush and each failure is counted.
     fn flush(&mut self) -> Result<(), Failed>
-        ensures bytes { Keeps (held self.old) (held self.new) }
-        ensures counts { counts self.new ≡ flushed (counts self.old) result };
+        ensures bytes { Keeps (state self.old).held (state self.new).held }
+        ensures counts { (state self.new).counts ≡ flushed (state self.old).counts result };
 }
 
 /// A sink over a writer. Any error of a write or flush is a failure, an interrupted one too.
@@ -37,8 +37,7 @@ pub struct Spout<W> {
 impl<W: Write> Spout<W> {
     /// A sink with the bytes that the writer holds, to which nothing was pushed so far.
     pub fn new(writer: W) -> Spout<W>
-        ensures held { ⟦<Spout<W> as Sink>⟧.held result ≡ W.contents writer }
-        ensures counts { ⟦<Spout<W> as Sink>⟧.counts result ≡ no_pushes }
+        ensures { ⟦<Spout<W> as Sink>⟧.state result ≡ sink_state (W.contents writer) no_pushes }
     {
         Spout {
             writer,
@@ -48,9 +47,7 @@ impl<W: Write> Spout<W> {
 }
 
 impl<W: Write> Sink for Spout<W> {
-    ghost held = { λ spout. W.contents spout.writer };
-
-    ghost counts = { λ spout. spout.counts };
+    ghost state = { λ spout. sink_state (W.contents spout.writer) spout.counts };
 
     fn push(&mut self, bytes: &[u8]) -> Result<usize, Failed> {
         let taken = match self.writer.write(bytes) {

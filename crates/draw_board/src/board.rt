@@ -25,10 +25,12 @@ impl<A: Allocator> Board<A> {
     ghost use Rattle.draw_board.specs.Positions.{Unites, numbers};
     ghost use Rattle.draw_board.specs.Hands.{total_of, misses_of, draws, left, positions, seen_below, share, IsBoard, IsFirstHand, IsHandOf, KeepsShare, MovesMisses, SpendsMissAtNone, TakesDraw, TakesIn, TakesNumber};
 
-    /// Starts a board with the numbers below `total`, and its first hand with all of its `misses`. A board of no
-    /// numbers is fine; a hand with no miss could never be told that all numbers are drawn.
+    /// Starts a board with the numbers below `total`, and its first hand with all of its `misses`.
+    /// A board of no numbers is fine; a hand with no miss could never be told that all numbers are
+    /// drawn.
     ///
-    /// `AllocError` where there is no memory for the word; no other call on a board asks for memory.
+    /// `AllocError` where there is no memory for the word; no other call on a board asks for
+    /// memory.
     pub fn start(alloc: A, total: u32, misses: u32) -> Result<(Board<A>, Hand), AllocError>
         requires { 1 ≤ misses }
         ensures board { IfOk result (λ made. IsBoard made.0 total misses) }
@@ -38,11 +40,12 @@ impl<A: Allocator> Board<A> {
         Ok((Board { table, total }, Hand { seat, misses }))
     }
 
-    /// Draws the next number, in one atomic step. `None` where all numbers are drawn already, which costs the hand
-    /// one miss; a hand that has no miss left answers it without a step, and stays as it is.
+    /// Draws the next number, in one atomic step. `None` where all numbers are drawn already, which
+    /// costs the hand one miss; a hand that has no miss left answers it without a step, and stays
+    /// as it is.
     ///
-    /// It takes no lock and no memory, and waits for nobody. Many threads may draw at a time, each with a hand of
-    /// its own.
+    /// It takes no lock and no memory, and waits for nobody. Many threads may draw at a time, each
+    /// with a hand of its own.
     pub fn draw(&self, hand: &mut Hand) -> Option<u32>
         requires { IsHandOf self.now hand.old }
 
@@ -68,7 +71,8 @@ impl<A: Allocator> Board<A> {
         }
     }
 
-    /// Gives so many of the hand's misses to a new hand, which has drawn nothing, and has seen what the giver has.
+    /// Gives so many of the hand's misses to a new hand, which has drawn nothing, and has seen what
+    /// the giver has.
     ///
     /// [`Few`] where `misses` is 0, or where the giver would keep none; the hand is then as before.
     pub fn split(&self, hand: &mut Hand, misses: u32) -> Result<Hand, Few>
@@ -100,8 +104,9 @@ impl<A: Allocator> Board<A> {
         hand.misses += misses;
     }
 
-    /// Ends the board, and gives the number of draws that took a step, over all hands. It asks for the hand that all
-    /// others were rejoined into, which is the one whose share is all of the board's misses.
+    /// Ends the board, and gives the number of draws that took a step, over all hands. It asks for
+    /// the hand that all others were rejoined into, which is the one whose share is all of the
+    /// board's misses.
     pub fn close(self, hand: Hand) -> u64
         requires { IsHandOf self hand × (share hand ≡ misses_of self) }
 

@@ -3,8 +3,8 @@
 use crate::view::View;
 use atomic_table::Seat;
 
-/// The right to draw from one board, for one thread at a time: the draws that it made, in proofs alone, and the number
-/// of misses that it has left.
+/// The right to draw from one board, for one thread at a time: the draws that it made, in proofs
+/// alone, and the number of misses that it has left.
 #[derive(Drop)]
 pub struct Hand {
     pub(crate) seat: Seat<(), View>,

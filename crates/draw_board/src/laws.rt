@@ -1,4 +1,5 @@
-//! What holds of the counter that a board is, and of the numbers among positions, by the definitions alone.
+//! What holds of the counter that a board is, and of the numbers among positions, by the
+//! definitions alone.
 
 ghost use Rattle.std.specs.Prelude.{◌≡◌, ◌+◌, ◌≤◌, ◌++◌, ◌∷◌, [], ℕ, List};
 ghost use Rattle.std.specs.List.{range_with_len};

@@ -1,4 +1,5 @@
-//! The tests of `draw_board`: threads that draw at a time, and that a board can be started. No contract can say these.
+//! The tests of `draw_board`: threads that draw at a time, and that a board can be started. No
+//! contract can say these.
 //!
 //! They stand in a crate of their own, since only they start threads and wait for them.
 //!

@@ -134,8 +134,8 @@ fn draw_in<R: Threads + Wait + Sync>(
     )
 }
 
-/// Lets so many threads draw, each with so many misses. Says whether they drew each number once, and took a step for
-/// each number and each miss.
+/// Lets so many threads draw, each with so many misses. Says whether they drew each number once,
+/// and took a step for each number and each miss.
 fn draws_each_once<R: Threads + Wait + Sync>(
     rt: &R,
     alloc: Global,

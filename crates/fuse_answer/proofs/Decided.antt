@@ -1,15 +1,17 @@
 -- What READDIR and READDIRPLUS are answered, or why they are refused.
-use Rattle.std.proofs.Common.{◌≡◌, ◌∙◌, sym, ap, ℕ, ◌^◌, ◌≤◌, [], ◌∷◌, length, Bool, true, false, Option, Some, None, Result, Ok, Err, MatchOption, MatchResult, refl, arith}
+use Rattle.std.proofs.Common.{◌≡◌, ◌∙◌, sym, ap, ℕ, ◌≤◌, [], ◌∷◌, length, Bool, true, false, Option, Some, None, Result, Ok, Err, MatchOption, MatchResult, refl, arith}
 use Rattle.std.specs.Prelude.{nat_lt, not, ◌||◌}
 use Rattle.std.proofs.lemmas.Bool.{le-ltb}
 use Rattle.romfs_format.specs.declared.head.Kind.{Kind}
 use Rattle.romfs_format.specs.declared.head.Kind.TheVariants.{Directory}
 use Rattle.fuse_wire.specs.declared.errno.Errno.{Errno}
 use Rattle.fuse_wire.specs.declared.errno.Errno.TheVariants.{EINVAL, ENOTDIR, ESTALE}
+use Rattle.fuse_wire.specs.declared.limits.TheConstants.{MAX_DATA_SIZE}
 use Rattle.stack_model.specs.Attributes.{is_directory, is_directory_at, kind_at}
 use Rattle.stack_model.specs.Numbers.{Place, node_of}
 use Rattle.node_table.specs.Stacked.{Stacked}
-use Rattle.reply_model.specs.Refusals.{first_refusal, refuse_if, refused_at}
+use Rattle.reply_model.specs.Services.{refuse_if}
+use Rattle.reply_model.specs.Refusals.{first_refusal, refused_at}
 use Rattle.reply_model.specs.Rows.{is_too_small, rows_after, dirent_of, direntplus_of}
 use Rattle.fuse_answer.specs.declared.listing.Listing.{Listing}
 use Rattle.fuse_answer.specs.declared.content.Answer.{Answer}
@@ -35,7 +37,7 @@ cut directory large small d s = rw (d, s) (either large)
     either false = refl
 
 module _ {A : Type 0} (stack : Stacked) (export : Bool) (n offset size : ℕ) where
-  whole : (plus : Bool) (l : Listing A) → AreListed stack n offset size plus l → size ≤ 2 ^ 20 → l.size ≡ length (listed_data stack l) → IsWhole stack l
+  whole : (plus : Bool) (l : Listing A) → AreListed stack n offset size plus l → size ≤ MAX_DATA_SIZE → l.size ≡ length (listed_data stack l) → IsWhole stack l
   whole plus l listed small same = record {
     in_order = (let e = listed.fits.until_is in omega arith);
     within = listed.fits.within;
@@ -44,14 +46,14 @@ module _ {A : Type 0} (stack : Stacked) (export : Bool) (n offset size : ℕ) wh
   }
 
   rows_at_place : (plus : Bool) (l : Listing A) (p : Place) → node_of stack.entries n ≡ Some p → is_directory_at stack.layers p ≡ true
-      → nat_lt 1048576 size ≡ false → size ≤ 2 ^ 20 → AreListed stack n offset size plus l → is_cut_short l ≡ false
+      → nat_lt MAX_DATA_SIZE size ≡ false → size ≤ MAX_DATA_SIZE → AreListed stack n offset size plus l → is_cut_short l ≡ false
       → IsAnswerAt stack export (listing_op plus offset size) p (Rows l)
   rows_at_place false l p is directory large small listed whole_rows =
       let form = dirent_of stack.layers stack.entries in
       let good = plain stack in
       let bytes = data_same stack false form good n offset size p is directory l listed in
       record {
-        taken = free (is_directory_at stack.layers p) (nat_lt 1048576 size) (is_too_small form size (rows_after stack.entries p offset)) directory large (sym (cut_same stack false form good n offset size p is directory l listed) ∙ whole_rows);
+        taken = free (is_directory_at stack.layers p) (nat_lt MAX_DATA_SIZE size) (is_too_small form size (rows_after stack.entries p offset)) directory large (sym (cut_same stack false form good n offset size p is directory l listed) ∙ whole_rows);
         data_is = bytes;
         moves_are = rw listed.entries_are refl;
         sized = whole false l listed small (size_same stack false form good n offset size p is directory l listed);
@@ -61,7 +63,7 @@ module _ {A : Type 0} (stack : Stacked) (export : Bool) (n offset size : ℕ) wh
       let good = with_entries stack in
       let bytes = data_same stack true form good n offset size p is directory l listed in
       record {
-        taken = free (is_directory_at stack.layers p) (nat_lt 1048576 size) (is_too_small form size (rows_after stack.entries p offset)) directory large (sym (cut_same stack true form good n offset size p is directory l listed) ∙ whole_rows);
+        taken = free (is_directory_at stack.layers p) (nat_lt MAX_DATA_SIZE size) (is_too_small form size (rows_after stack.entries p offset)) directory large (sym (cut_same stack true form good n offset size p is directory l listed) ∙ whole_rows);
         data_is = bytes;
         moves_are = rw listed.entries_are (moves_same stack true form good n offset size p is directory l listed);
         sized = whole true l listed small (size_same stack true form good n offset size p is directory l listed);
@@ -72,11 +74,11 @@ module _ {A : Type 0} (stack : Stacked) (export : Bool) (n offset size : ℕ) wh
       → refused_at stack.layers stack.entries export (listing_op plus offset size) p ≡ Some EINVAL
   cut_at_place false l p is directory listed short =
       let form = dirent_of stack.layers stack.entries in
-      cut (is_directory_at stack.layers p) (nat_lt 1048576 size) (is_too_small form size (rows_after stack.entries p offset)) directory
+      cut (is_directory_at stack.layers p) (nat_lt MAX_DATA_SIZE size) (is_too_small form size (rows_after stack.entries p offset)) directory
       (sym (cut_same stack false form (plain stack) n offset size p is directory l listed) ∙ short)
   cut_at_place true l p is directory listed short =
       let form = direntplus_of stack.layers stack.entries in
-      cut (is_directory_at stack.layers p) (nat_lt 1048576 size) (is_too_small form size (rows_after stack.entries p offset)) directory
+      cut (is_directory_at stack.layers p) (nat_lt MAX_DATA_SIZE size) (is_too_small form size (rows_after stack.entries p offset)) directory
       (sym (cut_same stack true form (with_entries stack) n offset size p is directory l listed) ∙ short)
 
   -- what is decided at a directory
@@ -92,12 +94,12 @@ module _ {A : Type 0} (stack : Stacked) (export : Bool) (n offset size : ℕ) wh
       go None is kind = absurd (cc)
       go (Some p) is kind = let kind_is : kind_at stack.layers p ≡ Directory = cc in each p is (ap is_directory kind_is)
 
-  pub rows_decided : (plus : Bool) (l : Listing A) → TellsKind stack n (told_kind Directory) → size ≤ 1048576
+  pub rows_decided : (plus : Bool) (l : Listing A) → TellsKind stack n (told_kind Directory) → size ≤ MAX_DATA_SIZE
       → AreListed stack n offset size plus l → is_cut_short l ≡ false
       → DecidesAt stack export n (listing_op plus offset size) (Ok (Rows l))
   rows_decided plus l kind small listed whole_rows =
       at_directory plus (Ok (Rows l)) kind
-      (λ p is directory. rows_at_place plus l p is directory (le-ltb 1048576 size small) small listed whole_rows)
+      (λ p is directory. rows_at_place plus l p is directory (le-ltb MAX_DATA_SIZE size small) small listed whole_rows)
 
   pub cut_decided : (plus : Bool) (l : Listing A) → TellsKind stack n (told_kind Directory)
       → AreListed stack n offset size plus l → is_cut_short l ≡ true

@@ -16,7 +16,7 @@ use Rattle.node_table.specs.Rows.{Line}
 use Rattle.node_table.specs.Stacked.{Stacked}
 use Rattle.node_table.specs.Readers.{attr_of, parent_at, rows_at}
 use Rattle.reply_model.specs.declared.moves.Move.{Move}
-use Rattle.reply_model.specs.Moves.{give}
+use Rattle.reply_model.specs.Services.{give}
 use Rattle.reply_model.specs.Rows.{Row, fitting, is_child, is_too_small, rows, rows_after, dirent_of, direntplus_of}
 use Rattle.fuse_answer.specs.declared.listing.Listing.{Listing}
 use Rattle.fuse_answer.specs.Listings.{AreListed, NumberedLine, fit_count, fit_size, is_child_line, is_cut_short, line_bytes, lines_answered, lines_of, listed_data, row_size, row_sizes, wired}

@@ -6,13 +6,15 @@ use Rattle.romfs_format.specs.declared.head.Kind.TheVariants.{Directory}
 use Rattle.fuse_wire.specs.declared.errno.Errno.{Errno}
 use Rattle.fuse_wire.specs.declared.errno.Errno.TheVariants.{ENAMETOOLONG, ENOENT, ESTALE}
 use Rattle.fuse_wire.specs.declared.reply.Attr.{Attr}
+use Rattle.fuse_wire.specs.declared.limits.TheConstants.{MAX_NAME_SIZE}
 use Rattle.fuse_wire.specs.Requests.{lookup}
 use Rattle.stack_model.specs.Attributes.{is_directory, is_directory_at, kind_at}
 use Rattle.stack_model.specs.Numbers.{Place, number, node_of, parent, child}
 use Rattle.node_table.specs.Stacked.{Stacked}
 use Rattle.node_table.specs.Readers.{attr_of}
 use Rattle.reply_model.specs.Lookups.{is_itself, is_parent, looked_up}
-use Rattle.reply_model.specs.Refusals.{first_refusal, refuse_if, refused_at, unless_directory}
+use Rattle.reply_model.specs.Services.{refuse_if, unless_directory}
+use Rattle.reply_model.specs.Refusals.{first_refusal, refused_at}
 use Rattle.fuse_answer.specs.declared.content.Answer.{Answer}
 use Rattle.fuse_answer.specs.declared.content.Answer.TheVariants.{Entry}
 use Rattle.fuse_answer.specs.Answers.{DecidesAt, FindsBelow, IsAnswerAt, TellsEntry, TellsKind}
@@ -40,16 +42,16 @@ free k itself long o c kind short found = rw (kind, short, found) (either itself
     either false = refl
 
 module _ {A : Type 0} (stack : Stacked) (export : Bool) (n : ℕ) (name : List ℕ) (f : ℕ) (r : Result (Answer A) Errno) where
-  entry_at : (p c : Place) → kind_at stack.layers p ≡ Directory → is_itself export name ≡ false → nat_lt 255 (length name) ≡ false
+  entry_at : (p c : Place) → kind_at stack.layers p ≡ Directory → is_itself export name ≡ false → nat_lt MAX_NAME_SIZE (length name) ≡ false
       → looked_up stack.entries export p name ≡ Some c → IsAnswerAt {A = A} stack export (lookup name) p (Entry (wired (attr_of stack.layers stack.entries c)))
   entry_at p c kind other short found = record {
-    taken = free (kind_at stack.layers p) (is_itself export name) (nat_lt 255 (length name)) (looked_up stack.entries export p name) c kind short found;
+    taken = free (kind_at stack.layers p) (is_itself export name) (nat_lt MAX_NAME_SIZE (length name)) (looked_up stack.entries export p name) c kind short found;
     data_is = rw found refl;
     sized = tt;
     moves_are = rw found refl;
   }
 
-  pub found_below : TellsKind stack n (Ok Directory) → is_itself export name ≡ false → nat_lt 255 (length name) ≡ false
+  pub found_below : TellsKind stack n (Ok Directory) → is_itself export name ≡ false → nat_lt MAX_NAME_SIZE (length name) ≡ false
       → FindsBelow stack export n name (Some f) → TellsEntry stack f r → DecidesAt stack export n (lookup name) r
   found_below kind other short finds entry = go (node_of stack.entries n) refl kind finds
     where

@@ -8,12 +8,13 @@ use Rattle.std.proofs.lemmas.List.{get_or-drop, length-drop, take_more, take-app
 use Rattle.std.proofs.lemmas.List.FromFn.{length-enumerate_from}
 use Rattle.std.proofs.lemmas.Option.{slice_get-get_or}
 use Rattle.fuse_wire.specs.declared.forget.Forget.{Forget}
+use Rattle.fuse_wire.specs.declared.limits.TheConstants.{MAX_FORGETS}
 use Rattle.stack_model.specs.Numbers.{Place, node_of}
 use Rattle.node_table.specs.Stacked.{Stacked}
 use Rattle.reply_model.specs.declared.moves.Move.{Move}
 use Rattle.reply_model.specs.Moves.{take_back}
-use Rattle.rounds.specs.Moves.{AreWithin, IsMoved, weight}
-use Rattle.rounds.proofs.Sums.{moved_on, none_moved, within_less, within_moved}
+use Rattle.lookup_balances.specs.Balances.{AreWithin, IsMoved, weight}
+use Rattle.lookup_balances.proofs.Sums.{moved_on, none_moved, within_less, within_moved}
 use Rattle.fuse_answer.specs.declared.listing.Listing.{Listing}
 use Rattle.fuse_answer.specs.Answers.{taken_back}
 use Rattle.fuse_answer.specs.Listings.{NumberedLine, is_child_line, lines_given, lines_of, row_given}
@@ -150,7 +151,7 @@ none_left stack all rest count old new none so_far =
     let same : so_far.done ≡ all = sym (append-nil so_far.done) ∙ ap (λ t. so_far.done ++ t) (sym none) ∙ so_far.split in
     subst (λ fs. IsMoved (taken_back stack fs) old new) same so_far.moved
 
-pub room_left : (count most : ℕ) (now : List ℤ) → count < most → most ≤ 65789 → AreWithin (2 ^ 123 + 2 ^ 64 * count) now → AreWithin (2 ^ 124) now
+pub room_left : (count most : ℕ) (now : List ℤ) → count < most → most ≤ MAX_FORGETS → AreWithin (2 ^ 123 + 2 ^ 64 * count) now → AreWithin (2 ^ 124) now
 room_left count most now less few within = within_less (2 ^ 123 + 2 ^ 64 * count) (2 ^ 124) now (omega arith) within
 
 -- where all were taken back, none is left

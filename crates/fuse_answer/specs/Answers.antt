@@ -5,7 +5,7 @@ use Rattle.std.specs.Option.{option_map}
 use Rattle.fuse_wire.specs.declared.errno.Errno.{Errno}
 use Rattle.fuse_wire.specs.declared.errno.Errno.TheVariants.{ENOENT, ESTALE}
 use Rattle.fuse_wire.specs.declared.forget.Forget.{Forget}
-use Rattle.fuse_wire.specs.Requests.{Op, Asked}
+use Rattle.fuse_wire.specs.Requests.{NodeOp, Asked}
 use Rattle.fuse_wire.specs.Reads.{items_of}
 use Rattle.fuse_wire.specs.Structures.{init_out, entry_out, attr_out, open_out, statfs_out}
 use Rattle.romfs_format.specs.declared.head.Kind.{Kind}
@@ -52,7 +52,8 @@ answer_moves stack _ = []
 -- the kind of the node with this number, or that it is not in use
 abbrev pub TellsKind : Stacked → ℕ → Result Kind Errno → Type 0
 TellsKind stack node result =
-    MatchOption (node_of stack.entries node) (result ≡ Err ESTALE) (λ p. result ≡ Ok (kind_at stack.layers p))
+    MatchOption (node_of stack.entries node) (result ≡ Err ESTALE)
+    (λ p. result ≡ Ok (kind_at stack.layers p))
 
 -- the number that a name other than the node's own finds below a directory
 abbrev pub FindsBelow : Stacked → Bool → ℕ → List ℕ → Option ℕ → Type 0
@@ -73,25 +74,30 @@ IsSized stack (Rows listing) = IsWhole stack listing
 IsSized stack _ = Unit {0}
 
 -- the answer to a request about the node at a place
-pub record IsAnswerAt {A : Type 0} (stack : Stacked) (export : Bool) (op : Op) (p : Place) (a : Answer A) : Type 0 where
+pub record IsAnswerAt {A : Type 0} (stack : Stacked) (export : Bool) (op : NodeOp) (p : Place)
+    (a : Answer A) : Type 0 where
   pub taken : refused_at stack.layers stack.entries export op p ≡ None
   pub data_is : answer_data stack a ≡ answer_at stack.layers stack.entries export op p
   pub sized : IsSized stack a
   pub moves_are : answer_moves stack a ≡ gives_at stack.layers stack.entries export op p
 
 -- what is decided about a request at the node with this number: it is answered, or refused
-abbrev pub DecidesAt : {A : Type 0} → Stacked → Bool → ℕ → Op → Result (Answer A) Errno → Type 0
+abbrev pub DecidesAt : {A : Type 0} → Stacked → Bool → ℕ → NodeOp → Result (Answer A) Errno → Type 0
 DecidesAt stack export node op result =
     MatchOption (node_of stack.entries node) (result ≡ Err ESTALE)
-    (λ p. MatchResult result (IsAnswerAt stack export op p) (λ errno. refused_at stack.layers stack.entries export op p ≡ Some errno))
+    (λ p. MatchResult result (IsAnswerAt stack export op p)
+    (λ errno. refused_at stack.layers stack.entries export op p ≡ Some errno))
 
 -- the answer to a request that is not refused
-pub record IsAnswer {A : Type 0} (stack : Stacked) (s : Session) (q : Asked) (a : Answer A) : Type 0 where
+pub record IsAnswer {A : Type 0} (stack : Stacked) (s : Session) (q : Asked)
+    (a : Answer A) : Type 0 where
   pub taken : refusal stack.layers stack.entries s q.node q.op ≡ None
   pub data_is : answer_data stack a ≡ answer stack.layers stack.entries (is_exported s) q.node q.op
   pub sized : IsSized stack a
-  pub moves_are : answer_moves stack a ≡ moved stack.layers stack.entries (is_exported s) q.node q.op
+  pub moves_are : answer_moves stack a ≡ moved stack.layers stack.entries
+      (is_exported s) q.node q.op
 
 abbrev pub Decides : {A : Type 0} → Stacked → Session → Asked → Result (Answer A) Errno → Type 0
 Decides stack s q result =
-    MatchResult result (IsAnswer stack s q) (λ errno. refusal stack.layers stack.entries s q.node q.op ≡ Some errno)
+    MatchResult result (IsAnswer stack s q)
+    (λ errno. refusal stack.layers stack.entries s q.node q.op ≡ Some errno)

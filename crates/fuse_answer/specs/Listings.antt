@@ -2,9 +2,10 @@
 use Rattle.std.specs.Prelude.{◌≡◌, ℕ, ◌+◌, ◌-◌, ◌/◌, ◌^◌, ◌≤◌, ◌<◌, ◌==◌, ◌&&◌, min, MatchOption, length, List, [], ◌∷◌, map, take, drop, filter, Bool, nat_lt, nat_le, slice_get, Option, Some, None, pos, codes, if◌then◌else◌}
 use Rattle.std.specs.List.{enumerate_from, flat_map}
 use Rattle.std.specs.Option.{option_map, option_map_or}
+use Rattle.fuse_wire.specs.declared.limits.TheConstants.{MAX_DATA_SIZE}
 use Rattle.fuse_wire.specs.declared.reply.Attr.{Attr}
 use Rattle.fuse_wire.specs.Structures.{dirent, direntplus, dirent_size}
-use Rattle.fuse_wire.specs.Requests.{Op, readdir, readdirplus}
+use Rattle.fuse_wire.specs.Requests.{NodeOp, readdir, readdirplus}
 use Rattle.node_table.specs.declared.node.Attr.{Attr as Held}
 use Rattle.node_table.specs.Rows.{Line}
 use Rattle.node_table.specs.Stacked.{Stacked}
@@ -18,7 +19,16 @@ NumberedLine = ℕ × Line
 
 -- the attributes of a table as a reply has them
 abbrev pub wired : Held → Attr
-wired a = record { ino = a.ino; size = a.size; blocks = a.blocks; mode = a.mode; nlink = a.nlink; rdev = a.rdev }
+wired a =
+    record {
+      ino = a.ino;
+      size = a.size;
+      blocks = a.blocks;
+      mode = a.mode;
+      nlink = a.nlink;
+      rdev =
+          a.rdev;
+    }
 
 abbrev pub wired_at : Stacked → ℕ → Option Attr
 wired_at stack n = option_map wired (attr_at stack n)
@@ -30,11 +40,16 @@ type_at stack n = option_map_or (λ a. a.mode / 2 ^ 12) (attr_at stack n) 0
 -- all rows of the directory of a listing
 abbrev pub lines_of : {A : Type 0} → Listing A → List NumberedLine
 lines_of l =
-    enumerate_from 1 (record { number = l.number; name = codes "." } ∷ record { number = l.parent; name = codes ".." } ∷ l.children.now)
+    enumerate_from 1 (record { number = l.number; name = codes "." } ∷ record {
+      number =
+          l.parent;
+      name = codes "..";
+    } ∷ l.children.now)
 
 -- the row with an index has this number and this name
 abbrev pub IsLineAt : {A : Type 0} → Listing A → ℕ → ℕ → List ℕ → Type 0
-IsLineAt l index number name = slice_get (lines_of l) index ≡ Some (index + 1, record { number = number; name = name })
+IsLineAt l index number name =
+    slice_get (lines_of l) index ≡ Some (index + 1, record { number = number; name = name })
 
 -- those that it answers
 abbrev pub lines_answered : {A : Type 0} → Listing A → List NumberedLine
@@ -48,12 +63,14 @@ is_child_line r = nat_lt 2 r.0
 abbrev pub line_bytes : Stacked → Bool → NumberedLine → List ℕ
 line_bytes stack plus r =
     if plus
-    then direntplus (if is_child_line r then wired_at stack r.1.number else None) r.1.number r.0 (type_at stack r.1.number) r.1.name
+    then direntplus (if is_child_line r then wired_at stack r.1.number else None) r.1.number r.0
+    (type_at stack r.1.number) r.1.name
     else dirent r.1.number r.0 (type_at stack r.1.number) r.1.name
 
 -- what rows give: one lookup of each node, but for . and ..
 abbrev pub lines_given : List NumberedLine → List Move
-lines_given lines = map (λ r. record { node = r.1.number; amount = pos 1 }) (filter is_child_line lines)
+lines_given lines =
+    map (λ r. record { node = r.1.number; amount = pos 1 }) (filter is_child_line lines)
 
 -- what the row with an index gives
 abbrev pub row_given : {A : Type 0} → Listing A → ℕ → List Move
@@ -61,7 +78,8 @@ row_given l index = option_map_or (λ r. lines_given (r ∷ [])) (slice_get (lin
 
 -- the bytes of the row with an index
 abbrev pub row_bytes_at : {A : Type 0} → Stacked → Listing A → ℕ → List ℕ
-row_bytes_at stack l index = option_map_or (line_bytes stack l.with_entries) (slice_get (lines_of l) index) []
+row_bytes_at stack l index =
+    option_map_or (line_bytes stack l.with_entries) (slice_get (lines_of l) index) []
 
 -- the bytes of the rows that a listing answers, and what they give
 abbrev pub listed_data : {A : Type 0} → Stacked → Listing A → List ℕ
@@ -71,14 +89,16 @@ abbrev pub listed_moves : {A : Type 0} → Listing A → List Move
 listed_moves l = if l.with_entries then lines_given (lines_answered l) else []
 
 -- READDIRPLUS, or READDIR
-abbrev pub listing_op : Bool → ℕ → ℕ → Op
-listing_op with_entries offset size = if with_entries then readdirplus offset size else readdir offset size
+abbrev pub listing_op : Bool → ℕ → ℕ → NodeOp
+listing_op with_entries offset size =
+    if with_entries then readdirplus offset size else readdir offset size
 
 -- the bytes of a row whose name has n bytes
 abbrev pub row_size : Bool → ℕ → ℕ
 row_size with_entries n = dirent_size n + (if with_entries then 128 else 0)
 
--- how many pieces of these sizes fit whole in the room, one after another, and how many bytes they take
+-- how many pieces of these sizes fit whole in the room, one after another, and how many bytes they
+-- take
 abbrev pub fit_count : ℕ → List ℕ → ℕ
 fit_count room [] = 0
 fit_count room (n ∷ sizes) = if nat_le n room then 1 + fit_count (room - n) sizes else 0
@@ -97,10 +117,12 @@ row_sizes with_entries children = map (row_size with_entries) (name_lengths chil
 -- the bytes of a row, if there is room for them
 abbrev pub RowSize : Bool → ℕ → ℕ → Option ℕ → Type 0
 RowSize with_entries name room result =
-    MatchOption result (room < row_size with_entries name) (λ n. (n ≡ row_size with_entries name) × (n ≤ room))
+    MatchOption result (room < row_size with_entries name) (λ n. (n ≡ row_size with_entries name)
+    × (n ≤ room))
 
 -- the rows from an index on that fit in a size: up to this index, and with so many bytes
-pub record Fits (with_entries : Bool) (children : List Line) (from size until bytes : ℕ) : Type 0 where
+pub record Fits (with_entries : Bool) (children : List Line)
+    (from size until bytes : ℕ) : Type 0 where
   pub until_is : until ≡ from + fit_count size (drop from (row_sizes with_entries children))
   pub bytes_are : bytes ≡ fit_size size (drop from (row_sizes with_entries children))
   pub within : until ≤ 2 + length children
@@ -111,7 +133,8 @@ abbrev pub is_cut_short : {A : Type 0} → Listing A → Bool
 is_cut_short l = l.until == l.from && nat_lt l.from (2 + length l.children.now)
 
 -- the rows of the directory with this number after the first offset ones that fit in a size
-pub record AreListed {A : Type 0} (stack : Stacked) (node offset size : ℕ) (with_entries : Bool) (l : Listing A) : Type 0 where
+pub record AreListed {A : Type 0} (stack : Stacked) (node offset size : ℕ) (with_entries : Bool)
+    (l : Listing A) : Type 0 where
   pub entries_are : l.with_entries ≡ with_entries
   pub node_is : l.number ≡ node
   pub parent_is : parent_at stack node ≡ Some l.parent
@@ -129,4 +152,4 @@ pub record IsWhole {A : Type 0} (stack : Stacked) (l : Listing A) : Type 0 where
   pub in_order : l.from ≤ l.until
   pub within : l.until ≤ 2 + length l.children.now
   pub size_is : l.size ≡ length (listed_data stack l)
-  pub small : l.size ≤ 2 ^ 20
+  pub small : l.size ≤ MAX_DATA_SIZE

@@ -8,7 +8,7 @@ use Rattle.reply_model.specs.declared.moves.Move.{Move}
 use Rattle.reply_model.specs.declared.session.Session.{Session}
 use Rattle.reply_model.specs.Replies.{reply}
 use Rattle.reply_model.specs.Moves.{moves}
-use Rattle.rounds.specs.Moves.{IsMoved}
+use Rattle.lookup_balances.specs.Balances.{IsMoved}
 
 -- the call appends exactly these; or, where the vector has no room for them and gets none, nothing
 abbrev pub Puts : {X A E : Type 0} → Result (Unit {0}) E → Vec X A → Vec X A → List X → Type 0
@@ -18,7 +18,8 @@ Puts result before after appended =
     × OnErr result (vec_capacity before < vec_len before + length appended)
     × (vec_capacity before ≤ vec_capacity after)
 
--- the call appends exactly these; or, where the vector has no room for them and gets none, something
+-- the call appends exactly these; or, where the vector has no room for them and gets none,
+-- something
 abbrev pub Grows : {X A E : Type 0} → Result (Unit {0}) E → Vec X A → Vec X A → List X → Type 0
 Grows {X = X} result before after appended =
     OnOk result (after.items ≡ before.items ++ appended)
@@ -31,14 +32,21 @@ abbrev pub AreSmall : List Move → Type 0
 AreSmall moves = All (λ m. unsigned_abs m.amount ≤ 2 ^ 64) moves
 
 -- the reply to a request over a stack is appended; or, where there is no room for it, nothing
-abbrev pub PutsReply : {A E : Type 0} → Stacked → Session → Asked → Result (Unit {0}) E → Vec ℕ A → Vec ℕ A → Type 0
-PutsReply stack s q result before after = Puts result before after (reply stack.layers stack.entries s q)
+abbrev pub PutsReply : {A E : Type 0} → Stacked → Session → Asked → Result (Unit {0}) E → Vec ℕ A
+    → Vec ℕ A → Type 0
+PutsReply stack s q result before after =
+    Puts result before after (reply stack.layers stack.entries s q)
 
 -- what a request over a stack moves is appended; or, where there is no room for it, nothing
-abbrev pub PutsMoves : {A E : Type 0} → Stacked → Session → Asked → Result (Unit {0}) E → Vec Move A → Vec Move A → Type 0
-PutsMoves stack s q result before after = Puts result before after (moves stack.layers stack.entries s q)
+abbrev pub PutsMoves : {A E : Type 0} → Stacked → Session → Asked → Result (Unit {0}) E → Vec Move A
+    → Vec Move A → Type 0
+PutsMoves stack s q result before after =
+    Puts result before after (moves stack.layers stack.entries s q)
 
--- the balances rise by what a request over a stack moves; or, where memory is refused, they are as before
-abbrev pub AddsMoves : {E : Type 0} → Stacked → Session → Asked → Result (Unit {0}) E → List ℤ → List ℤ → Type 0
+-- the balances rise by what a request over a stack moves; or, where memory is refused, they are as
+-- before
+abbrev pub AddsMoves : {E : Type 0} → Stacked → Session → Asked → Result (Unit {0}) E → List ℤ
+    → List ℤ → Type 0
 AddsMoves stack s q result before after =
-    OnOk result (IsMoved (moves stack.layers stack.entries s q) before after) × OnErr result (after ≡ before)
+    OnOk result (IsMoved (moves stack.layers stack.entries s q) before after)
+    × OnErr result (after ≡ before)

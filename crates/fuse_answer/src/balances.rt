@@ -2,7 +2,7 @@
 
 ghost use Rattle.std.specs.Prelude.{◌≡◌, ◌≤◌, ◌<◌, ◌+◌, ◌^◌, ◌∷◌, [], length};
 ghost use Rattle.fuse_wire.specs.Reads.{items_of};
-ghost use Rattle.rounds.specs.Moves.{AreWithin, IsMoved};
+ghost use Rattle.lookup_balances.specs.Balances.{AreWithin, IsMoved};
 ghost use Rattle.fuse_answer.specs.Answers.{IsSized, answer_moves, taken_back};
 ghost use Rattle.fuse_answer.specs.Listings.{lines_answered, lines_given, row_given};
 
@@ -10,8 +10,8 @@ use crate::content::Answer;
 use crate::listing::Listing;
 use crate::rows::line_at;
 use fuse_wire::forget::{Forget, Forgets};
+use lookup_balances::add_move;
 use node_table::Table;
-use rounds::add_move;
 use std::alloc::Allocator;
 
 /// Adds what an answer gives and takes to the balances, in which node n has the place n - 1.

@@ -16,12 +16,12 @@ use node_table::Table;
 use reply_model::{Move, Session};
 use std::alloc::{AllocError, Allocator};
 
-/// Appends what a request gives and takes, in order: one lookup for the entry of a LOOKUP and for each row of a
-/// READDIRPLUS but `.` and `..`, and what FORGET and BATCH_FORGET take back. Numbers that are not in use, and requests
-/// that are refused, change nothing.
+/// Appends what a request gives and takes, in order: one lookup for the entry of a LOOKUP and for
+/// each row of a READDIRPLUS but `.` and `..`, and what FORGET and BATCH_FORGET take back. Numbers
+/// that are not in use, and requests that are refused, change nothing.
 ///
-/// The session is the one before the request. `AllocError` comes only where the vector had no room for the moves and
-/// got none; it is then as before. No amount is of more than 64 bits.
+/// The session is the one before the request. `AllocError` comes only where the vector had no room
+/// for the moves and got none; it is then as before. No amount is of more than 64 bits.
 pub fn moves<A: Allocator, M: Allocator>(
     table: &Table<A>,
     session: Session,
@@ -96,7 +96,8 @@ fn grow_rows<A: Allocator, M: Allocator>(
     Ok(())
 }
 
-// Appends what a row gives: a lookup of its node. The first two, which are `.` and `..`, give nothing.
+// Appends what a row gives: a lookup of its node. The first two, which are `.` and `..`, give
+// nothing.
 fn put_given<A: Allocator, M: Allocator>(
     rows: &Listing<'_, A>,
     index: usize,

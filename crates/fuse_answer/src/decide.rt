@@ -1,4 +1,5 @@
-//! Which answer a request has, or which refusal: the first that fits, in the order of the protocol's layers.
+//! Which answer a request has, or which refusal: the first that fits, in the order of the
+//! protocol's layers.
 
 ghost use Rattle.std.specs.Prelude.{◌≡◌};
 ghost use Rattle.fuse_wire.specs.Reads.{asked_of};

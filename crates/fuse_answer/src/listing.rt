@@ -1,9 +1,11 @@
 //! The rows of a directory that READDIR and READDIRPLUS are answered.
 //!
-//! Rows have indices from 0 on: `.`, `..`, and then the children. The rows that a request is answered are those from
-//! its offset on that fit whole in its size, so an answer is two indices, and no row before the offset is looked at.
+//! Rows have indices from 0 on: `.`, `..`, and then the children. The rows that a request is
+//! answered are those from its offset on that fit whole in its size, so an answer is two indices,
+//! and no row before the offset is looked at.
 
-ghost use Rattle.std.specs.Prelude.{◌≡◌, ◌≤◌, ◌<◌, ◌+◌, ◌^◌, length, min, slice_index};
+ghost use Rattle.std.specs.Prelude.{◌≡◌, ◌≤◌, ◌<◌, ◌+◌, length, min, slice_index};
+ghost use Rattle.fuse_wire.specs.declared.limits.TheConstants.{MAX_DATA_SIZE};
 ghost use Rattle.fuse_answer.specs.Answers.{DecidesAt};
 ghost use Rattle.fuse_answer.specs.Listings.{listing_op, is_cut_short, ListsRows, Fits, RowSize, name_lengths};
 
@@ -18,8 +20,8 @@ use std::alloc::Allocator;
 /// The bytes of a `struct fuse_entry_out`, which stands before each row of READDIRPLUS.
 const ENTRY_SIZE: usize = 128;
 
-/// Which rows of a directory a request is answered: those from the index `from` on, up to `until`, which take `size`
-/// bytes.
+/// Which rows of a directory a request is answered: those from the index `from` on, up to `until`,
+/// which take `size` bytes.
 #[derive(Drop)]
 pub(crate) struct Listing<'a, A: Allocator> {
     pub(crate) with_entries: bool,
@@ -31,8 +33,8 @@ pub(crate) struct Listing<'a, A: Allocator> {
     pub(crate) size: usize,
 }
 
-/// What READDIR is answered, or READDIRPLUS, where rows come with entries: the rows after the first `offset` ones,
-/// as many as fit whole in the size.
+/// What READDIR is answered, or READDIRPLUS, where rows come with entries: the rows after the first
+/// `offset` ones, as many as fit whole in the size.
 pub(crate) fn list<'a, A: Allocator>(
     table: &'a Table<A>,
     export: bool,
@@ -56,7 +58,8 @@ pub(crate) fn list<'a, A: Allocator>(
     }
 }
 
-// The rows after the first `offset` ones that fit in the size; none where the number is no directory.
+// The rows after the first `offset` ones that fit in the size; none where the number is no
+// directory.
 fn listed<'a, A: Allocator>(
     table: &'a Table<A>,
     number: u64,
@@ -64,7 +67,7 @@ fn listed<'a, A: Allocator>(
     size: usize,
     with_entries: bool,
 ) -> Option<Listing<'a, A>>
-    requires { size ≤ 2 ^ 20 }
+    requires { size ≤ MAX_DATA_SIZE }
     ensures { ListsRows table.now number offset size with_entries result }
 {
     let parent = table.parent(number)?;
@@ -125,7 +128,7 @@ fn name_length<A: Allocator>(children: &[Row<A>], index: usize) -> usize
 
 // The bytes of a row whose name has so many, if there is room for them.
 fn row_size(with_entries: bool, name_length: usize, room: usize) -> Option<usize>
-    requires { room ≤ 2 ^ 20 }
+    requires { room ≤ MAX_DATA_SIZE }
     ensures { RowSize with_entries name_length room result }
 {
     if room < name_length {
@@ -144,7 +147,7 @@ fn fit<A: Allocator>(
     size: usize,
 ) -> (usize, usize)
     requires from { from ≤ 2 + length children.now }
-    requires size { size ≤ 2 ^ 20 }
+    requires size { size ≤ MAX_DATA_SIZE }
     ensures { Fits with_entries children.now from size result.0 result.1 }
 {
     let rows = count(children);

@@ -13,8 +13,8 @@ use node_table::Table;
 use romfs_format::Kind;
 use std::alloc::Allocator;
 
-/// What LOOKUP is answered. In a session with `FUSE_EXPORT_SUPPORT` the name `.` finds the node itself, of any
-/// kind, and `..` the directory above.
+/// What LOOKUP is answered. In a session with `FUSE_EXPORT_SUPPORT` the name `.` finds the node
+/// itself, of any kind, and `..` the directory above.
 pub(crate) fn look_up<'a, A: Allocator>(
     table: &'a Table<A>,
     export: bool,

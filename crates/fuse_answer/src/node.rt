@@ -72,7 +72,8 @@ pub(crate) fn open_directory<'a, A: Allocator>(
     }
 }
 
-/// What READ is answered: the bytes from the offset on, at most as many as the size, up to the file's end.
+/// What READ is answered: the bytes from the offset on, at most as many as the size, up to the
+/// file's end.
 pub(crate) fn read<'a, A: Allocator>(
     table: &'a Table<A>,
     export: bool,

@@ -4,7 +4,7 @@ ghost use Rattle.fuse_wire.specs.Reads.{asked_of, op_said};
 ghost use Rattle.reply_model.specs.Replies.{is_silent};
 ghost use Rattle.fuse_answer.specs.Answers.{Decides};
 ghost use Rattle.std.specs.Prelude.{◌≡◌, ◌^◌};
-ghost use Rattle.rounds.specs.Moves.{AreWithin};
+ghost use Rattle.lookup_balances.specs.Balances.{AreWithin};
 ghost use Rattle.fuse_answer.specs.Puts.{PutsReply, AddsMoves};
 
 use crate::balances::add_moves;
@@ -16,11 +16,11 @@ use node_table::Table;
 use reply_model::Session;
 use std::alloc::{AllocError, Allocator};
 
-/// Appends the reply to a request: nothing for FORGET, BATCH_FORGET and INTERRUPT, else a header with the data of the
-/// answer, or with the error that refuses the request.
+/// Appends the reply to a request: nothing for FORGET, BATCH_FORGET and INTERRUPT, else a header
+/// with the data of the answer, or with the error that refuses the request.
 ///
-/// The session is the one before the request ([`after`](crate::after) says the next). `AllocError` comes only where
-/// the vector had no room for the reply and got none; it is then as before.
+/// The session is the one before the request ([`after`](crate::after) says the next). `AllocError`
+/// comes only where the vector had no room for the reply and got none; it is then as before.
 pub fn answer<A: Allocator, O: Allocator>(
     table: &Table<A>,
     session: Session,
@@ -38,11 +38,11 @@ pub fn answer<A: Allocator, O: Allocator>(
     )
 }
 
-/// Appends the reply to a request, as [`answer`] does, and adds what the request gives and takes to the balances of the
-/// nodes, in which node n has the place n - 1. It looks the request up once.
+/// Appends the reply to a request, as [`answer`] does, and adds what the request gives and takes to
+/// the balances of the nodes, in which node n has the place n - 1. It looks the request up once.
 ///
-/// `AllocError` comes only where the vector had no room for the reply and got none; it and the balances are then as
-/// before.
+/// `AllocError` comes only where the vector had no room for the reply and got none; it and the
+/// balances are then as before.
 pub fn answer_and_move<A: Allocator, O: Allocator>(
     table: &Table<A>,
     session: Session,

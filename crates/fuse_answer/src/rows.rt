@@ -8,14 +8,13 @@ ghost use Rattle.fuse_answer.specs.Puts.{Puts};
 
 use crate::listing::Listing;
 use crate::node::wired;
+use fuse_wire::limits::OUT_HEADER_SIZE;
 use fuse_wire::{Attr, Dirent, put_data_head, put_dirent, put_direntplus};
 use node_table::Table;
 use std::alloc::{AllocError, Allocator};
 
-/// The bytes of a `struct fuse_out_header`.
-const HEADER_SIZE: usize = 16;
-
-/// Appends the reply with a directory's rows, in one growth: once there is room for it, nothing fails.
+/// Appends the reply with a directory's rows, in one growth: once there is room for it, nothing
+/// fails.
 pub(crate) fn put_rows<A: Allocator, O: Allocator>(
     table: &Table<A>,
     unique: u64,
@@ -25,7 +24,7 @@ pub(crate) fn put_rows<A: Allocator, O: Allocator>(
     requires { IsWhole table.now rows.now }
     ensures { Puts result out.old out.new (reply_with unique (listed_data table.now rows.now)) }
 {
-    out.reserve(HEADER_SIZE + rows.size)?;
+    out.reserve(OUT_HEADER_SIZE + rows.size)?;
     put_data_head(out, unique, rows.size)?;
     for index in rows.from..rows.until {
         put_row(table, rows, index, out)?;

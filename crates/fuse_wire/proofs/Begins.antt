@@ -4,6 +4,7 @@ use Rattle.std.proofs.lemmas.List.{take-append-drop, length-take-le, take_at}
 use Rattle.fuse_wire.specs.declared.framing.Framed.{Framed}
 use Rattle.fuse_wire.specs.declared.framing.Framed.TheVariants.{More, Bad, Whole}
 use Rattle.fuse_wire.specs.Frames.{Frames}
+use Rattle.fuse_wire.specs.declared.limits.TheConstants.{HEADER_SIZE, MAX_MESSAGE_SIZE}
 use Rattle.fuse_wire.specs.Stream.{said_length, IsGoodLength, IsMessage, IsBad, IsOpen, IsRest, IsSplit, BeginsMessage}
 use Rattle.fuse_wire.proofs.Splits.{said_more, said_front, no_rest}
 
@@ -13,16 +14,16 @@ open_short [] short = inl refl
 open_short (b ∷ bytes) short = inr (omega arith, inl short)
 
 -- fewer than they say
-pub open_unfinished : (bytes : List ℕ) → 4 ≤ length bytes → 40 ≤ said_length bytes → said_length bytes ≤ 1052672 → length bytes < said_length bytes → IsOpen bytes
+pub open_unfinished : (bytes : List ℕ) → 4 ≤ length bytes → HEADER_SIZE ≤ said_length bytes → said_length bytes ≤ MAX_MESSAGE_SIZE → length bytes < said_length bytes → IsOpen bytes
 open_unfinished bytes long low high fewer = inr (omega arith, inr ((low, high), fewer))
 
-pub bad_low : (bytes : List ℕ) → 4 ≤ length bytes → said_length bytes < 40 → IsBad bytes (said_length bytes)
+pub bad_low : (bytes : List ℕ) → 4 ≤ length bytes → said_length bytes < HEADER_SIZE → IsBad bytes (said_length bytes)
 bad_low bytes long low = record { long = long; says = refl; bad = λ g. let g0 = g.0 in omega arith }
 
-pub bad_high : (bytes : List ℕ) → 4 ≤ length bytes → 1052672 < said_length bytes → IsBad bytes (said_length bytes)
+pub bad_high : (bytes : List ℕ) → 4 ≤ length bytes → MAX_MESSAGE_SIZE < said_length bytes → IsBad bytes (said_length bytes)
 bad_high bytes long high = record { long = long; says = refl; bad = λ g. let g1 = g.1 in omega arith }
 
-pub begins : (bytes : List ℕ) → 40 ≤ said_length bytes → said_length bytes ≤ 1052672 → said_length bytes ≤ length bytes → BeginsMessage bytes (said_length bytes)
+pub begins : (bytes : List ℕ) → HEADER_SIZE ≤ said_length bytes → said_length bytes ≤ MAX_MESSAGE_SIZE → said_length bytes ≤ length bytes → BeginsMessage bytes (said_length bytes)
 begins bytes low high enough =
     let n = said_length bytes in
     let t : length (take n bytes) ≡ n = length-take-le n bytes enough in
@@ -37,7 +38,7 @@ begins bytes low high enough =
 pub ruleset framed = (open_short, open_unfinished, bad_low, bad_high, begins)
 
 -- what begins with a message says its length
-says_whole : (bytes : List ℕ) (n : ℕ) → BeginsMessage bytes n → (40 ≤ n) × (said_length bytes ≡ n)
+says_whole : (bytes : List ℕ) (n : ℕ) → BeginsMessage bytes n → (HEADER_SIZE ≤ n) × (said_length bytes ≡ n)
 says_whole bytes n b =
     let g = b.whole.good.0 in
     let s = b.sized in

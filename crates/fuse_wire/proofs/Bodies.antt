@@ -1,9 +1,10 @@
 -- Which bodies are too short, and how long replies are.
-use Rattle.std.proofs.Common.{◌≡◌, ◌≢◌, ◌∙◌, sym, ap, ℕ, ◌/◌, ◌≤◌, List, length, drop, min, Bool, true, false, cond, refl, arith, length-drop}
+use Rattle.std.proofs.Common.{◌≡◌, ◌≢◌, ◌∙◌, sym, ap, ℕ, ◌+◌, ◌/◌, ◌≤◌, List, length, drop, min, Bool, true, false, cond, refl, arith, length-drop}
 use Rattle.std.specs.Prelude.{nat_lt}
 use Rattle.std.proofs.lemmas.Bool.{lt-ltb, le-ltb}
+use Rattle.fuse_wire.specs.declared.limits.TheConstants.{HEADER_SIZE, MAX_MESSAGE_SIZE, MAX_FORGETS}
 use Rattle.fuse_wire.specs.Stream.{field}
-use Rattle.fuse_wire.specs.Requests.{Op, forget, getattr, open_file, read, init, opendir, readdir, readdirplus, batch_forget, malformed, forgets_of, op_of}
+use Rattle.fuse_wire.specs.Requests.{Op, init, at_node, getattr, open_file, read, opendir, readdir, readdirplus, silent, forget, batch_forget, malformed, forgets_of, op_of}
 use Rattle.fuse_wire.specs.Laws.{Needs, BodySizes, ReplySizes, RowSizes}
 use Rattle.fuse_wire.proofs.Items.{counted}
 use Rattle.fuse_wire.proofs.Sizes.{length-version, length-terms, length-entry_out, length-attr_out, length-open_out, length-statfs_out, length-dirent, length-direntplus}
@@ -22,15 +23,15 @@ needs opcode n op is good = record {
 pub body_sizes : BodySizes
 unfolding op_of
 body_sizes = record {
-  forget = needs 2 8 (λ body. forget (field 8 0 body)) (λ body. refl) (λ body e. absurd (cc));
-  getattr = needs 3 16 (λ body. getattr) (λ body. refl) (λ body e. absurd (cc));
-  open_file = needs 14 8 (λ body. open_file (field 4 0 body)) (λ body. refl) (λ body e. absurd (cc));
-  read = needs 15 40 (λ body. read (field 8 8 body) (field 4 16 body)) (λ body. refl) (λ body e. absurd (cc));
+  forget = needs 2 8 (λ body. silent (forget (field 8 0 body))) (λ body. refl) (λ body e. absurd (cc));
+  getattr = needs 3 16 (λ body. at_node getattr) (λ body. refl) (λ body e. absurd (cc));
+  open_file = needs 14 8 (λ body. at_node (open_file (field 4 0 body))) (λ body. refl) (λ body e. absurd (cc));
+  read = needs 15 40 (λ body. at_node (read (field 8 8 body) (field 4 16 body))) (λ body. refl) (λ body e. absurd (cc));
   init = needs 26 16 (λ body. init (field 4 0 body) (field 4 4 body) (field 4 8 body) (field 4 12 body)) (λ body. refl) (λ body e. absurd (cc));
-  opendir = needs 27 8 (λ body. opendir) (λ body. refl) (λ body e. absurd (cc));
-  readdir = needs 28 40 (λ body. readdir (field 8 8 body) (field 4 16 body)) (λ body. refl) (λ body e. absurd (cc));
-  batch_forget = needs 42 8 (λ body. batch_forget (forgets_of body)) (λ body. refl) (λ body e. absurd (cc));
-  readdirplus = needs 44 40 (λ body. readdirplus (field 8 8 body) (field 4 16 body)) (λ body. refl) (λ body e. absurd (cc));
+  opendir = needs 27 8 (λ body. at_node opendir) (λ body. refl) (λ body e. absurd (cc));
+  readdir = needs 28 40 (λ body. at_node (readdir (field 8 8 body) (field 4 16 body))) (λ body. refl) (λ body e. absurd (cc));
+  batch_forget = needs 42 8 (λ body. silent (batch_forget (forgets_of body))) (λ body. refl) (λ body e. absurd (cc));
+  readdirplus = needs 44 40 (λ body. at_node (readdirplus (field 8 8 body) (field 4 16 body))) (λ body. refl) (λ body e. absurd (cc));
 }
 
 pub reply_sizes : ReplySizes
@@ -46,7 +47,7 @@ row_sizes = record {
 }
 
 -- the items of a BATCH_FORGET are no more than its body has room for
-pub few_forgets : (body : List ℕ) → length body ≤ 1052632 → length (forgets_of body) ≤ 65789
+pub few_forgets : (body : List ℕ) → HEADER_SIZE + length body ≤ MAX_MESSAGE_SIZE → length (forgets_of body) ≤ MAX_FORGETS
 unfolding forgets_of
 few_forgets body l =
     let n = counted (min (field 4 0 body) (length (drop 8 body) / 16)) (drop 8 body) in

@@ -5,6 +5,7 @@ use Rattle.std.specs.List.{flat_map, AllByRecursion}
 use Rattle.std.proofs.lemmas.Grind.{flat_map-append}
 use Rattle.std.proofs.lemmas.List.{take-append-drop, length-take-le}
 use Rattle.std.proofs.lemmas.Bool.{cases_lt}
+use Rattle.fuse_wire.specs.declared.limits.TheConstants.{HEADER_SIZE, MAX_MESSAGE_SIZE}
 use Rattle.fuse_wire.specs.Stream.{said_length, IsGoodLength, IsMessage, IsBad, IsOpen, IsRest, IsSplit}
 
 pub said_more : (xs ys : List ℕ) → 4 ≤ length xs → said_length (xs ++ ys) ≡ said_length xs
@@ -48,9 +49,9 @@ said_front xs n f l =
 pub first_cut : (xs : List ℕ) → IsRest xs ⊎ ((m y : List ℕ) × (xs ≡ m ++ y) × IsMessage m)
 first_cut xs = elim (cases_lt (length xs) 4) [
   | inl short ↦ inl (inl (begun xs short))
-  | inr long ↦ elim (cases_lt (said_length xs) 40) [
+  | inr long ↦ elim (cases_lt (said_length xs) HEADER_SIZE) [
     | inl low ↦ inl (inr (said_length xs, record { long = long; says = refl; bad = λ g. let g0 = g.0 in omega arith }))
-    | inr at_least ↦ elim (cases_lt 1052672 (said_length xs)) [
+    | inr at_least ↦ elim (cases_lt MAX_MESSAGE_SIZE (said_length xs)) [
       | inl high ↦ inl (inr (said_length xs, record { long = long; says = refl; bad = λ g. let g1 = g.1 in omega arith }))
       | inr at_most ↦ elim (cases_lt (length xs) (said_length xs)) [
         | inl fewer ↦ inl (inl (inr (omega arith, inr ((at_least, at_most), fewer))))
@@ -64,7 +65,7 @@ first_cut xs = elim (cases_lt (length xs) 4) [
     begun [] l = inl refl
     begun (b ∷ bs) l = inr (omega arith, inl l)
 
-    whole : 40 ≤ said_length xs → said_length xs ≤ 1052672 → said_length xs ≤ length xs → (m y : List ℕ) × (xs ≡ m ++ y) × IsMessage m
+    whole : HEADER_SIZE ≤ said_length xs → said_length xs ≤ MAX_MESSAGE_SIZE → said_length xs ≤ length xs → (m y : List ℕ) × (xs ≡ m ++ y) × IsMessage m
     whole low high enough =
         let n = said_length xs in
         let t : length (take n xs) ≡ n = length-take-le n xs enough in

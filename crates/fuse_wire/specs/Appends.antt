@@ -2,7 +2,8 @@
 use Rattle.std.specs.Prelude.{◌≡◌, ℕ, ◌+◌, ◌<◌, ◌≤◌, List, ◌++◌, length, Result, OnOk, OnErr, vec_len, vec_capacity}
 use Rattle.std.specs.declared.vec.Vec.{Vec}
 
--- the call appends exactly these bytes; or, where the vector has no room for them and gets none, nothing
+-- the call appends exactly these bytes; or, where the vector has no room for them and gets none,
+-- nothing
 abbrev pub Appends : {A E : Type 0} → Result (Unit {0}) E → Vec ℕ A → Vec ℕ A → List ℕ → Type 0
 Appends result before after bytes =
     OnOk result (after.items ≡ before.items ++ bytes)

@@ -1,66 +1,82 @@
 -- Worked examples: what each opcode asks, and rows of directories as bytes.
 use Rattle.std.specs.Prelude.{◌≡◌, ℕ, ◌^◌, List, [], ◌∷◌, ◌++◌, map, replicate, codes}
 use Rattle.fuse_wire.specs.declared.flags.TheConstants.{ASYNC_READ, EXPORT_SUPPORT, DO_READDIRPLUS, READDIRPLUS_AUTO, PARALLEL_DIROPS, MAX_PAGES, FOPEN_KEEP_CACHE}
-use Rattle.fuse_wire.specs.Requests.{lookup, forget, getattr, readlink, open_file, read, statfs, release, fsync, flush, init, opendir, readdir, releasedir, fsyncdir, interrupt, destroy, batch_forget, readdirplus, modify, other, malformed, op_of, asked}
+use Rattle.fuse_wire.specs.Requests.{init, at_node, lookup, getattr, readlink, open_file, read, opendir, readdir, readdirplus, statfs, done, release, fsync, flush, releasedir, fsyncdir, destroy, silent, forget, batch_forget, interrupt, modify, other, malformed, op_of, asked}
 use Rattle.fuse_wire.specs.Structures.{u32, u64, zeros, dirent}
 
--- a body of 56 bytes: the numbers 2, 1, 9 and 7 of 64 bits, and zeros. As items of a BATCH_FORGET it has three whole
--- ones behind the first 8 bytes, and the count says two
+-- a body of 56 bytes: the numbers 2, 1, 9 and 7 of 64 bits, and zeros. As items of a BATCH_FORGET
+-- it has three whole ones behind the first 8 bytes, and the count says two
 abbrev pub some_body : List ℕ
 some_body = u64 2 ++ u64 1 ++ u64 9 ++ u64 7 ++ zeros 24
 
 -- each opcode by its number, and what it asks with that body
 pub record OpcodeExamples : Type 0 where
-  pub lookup_1 : op_of 1 (codes "name" ++ zeros 1) ≡ lookup (codes "name")
-  pub forget_2 : op_of 2 some_body ≡ forget 2
-  pub getattr_3 : op_of 3 some_body ≡ getattr
-  pub readlink_5 : op_of 5 some_body ≡ readlink
-  pub open_14 : op_of 14 some_body ≡ open_file 2
-  pub read_15 : op_of 15 some_body ≡ read 1 9
+  pub lookup_1 : op_of 1 (codes "name" ++ zeros 1) ≡ at_node (lookup (codes "name"))
+  pub forget_2 : op_of 2 some_body ≡ silent (forget 2)
+  pub getattr_3 : op_of 3 some_body ≡ at_node getattr
+  pub readlink_5 : op_of 5 some_body ≡ at_node readlink
+  pub open_14 : op_of 14 some_body ≡ at_node (open_file 2)
+  pub read_15 : op_of 15 some_body ≡ at_node (read 1 9)
   pub statfs_17 : op_of 17 some_body ≡ statfs
-  pub release_18 : op_of 18 some_body ≡ release
-  pub fsync_20 : op_of 20 some_body ≡ fsync
-  pub flush_25 : op_of 25 some_body ≡ flush
+  pub release_18 : op_of 18 some_body ≡ done release
+  pub fsync_20 : op_of 20 some_body ≡ done fsync
+  pub flush_25 : op_of 25 some_body ≡ done flush
   pub init_26 : op_of 26 some_body ≡ init 2 0 1 0
-  pub opendir_27 : op_of 27 some_body ≡ opendir
-  pub readdir_28 : op_of 28 some_body ≡ readdir 1 9
-  pub releasedir_29 : op_of 29 some_body ≡ releasedir
-  pub fsyncdir_30 : op_of 30 some_body ≡ fsyncdir
-  pub interrupt_36 : op_of 36 some_body ≡ interrupt
-  pub destroy_38 : op_of 38 some_body ≡ destroy
+  pub opendir_27 : op_of 27 some_body ≡ at_node opendir
+  pub readdir_28 : op_of 28 some_body ≡ at_node (readdir 1 9)
+  pub releasedir_29 : op_of 29 some_body ≡ done releasedir
+  pub fsyncdir_30 : op_of 30 some_body ≡ done fsyncdir
+  pub interrupt_36 : op_of 36 some_body ≡ silent interrupt
+  pub destroy_38 : op_of 38 some_body ≡ done destroy
   pub batch_forget_42 :
-      op_of 42 some_body ≡ batch_forget (record { node = 1; nlookup = 9 } ∷ record { node = 7; nlookup = 0 } ∷ [])
-  pub readdirplus_44 : op_of 44 some_body ≡ readdirplus 1 9
-  -- SETATTR, SYMLINK, MKNOD, MKDIR, UNLINK, RMDIR, RENAME, LINK, WRITE, SETXATTR, REMOVEXATTR, CREATE, FALLOCATE, RENAME2,
-  -- COPY_FILE_RANGE
+      op_of 42 some_body ≡ silent (batch_forget (record { node = 1; nlookup = 9 } ∷ record {
+        node =
+            7;
+        nlookup = 0;
+      } ∷ []))
+  pub readdirplus_44 : op_of 44 some_body ≡ at_node (readdirplus 1 9)
+  -- SETATTR, SYMLINK, MKNOD, MKDIR, UNLINK, RMDIR, RENAME, LINK, WRITE, SETXATTR, REMOVEXATTR,
+  -- CREATE, FALLOCATE, RENAME2, COPY_FILE_RANGE
   pub modifying :
-      map (λ opcode. op_of opcode some_body) (4 ∷ 6 ∷ 8 ∷ 9 ∷ 10 ∷ 11 ∷ 12 ∷ 13 ∷ 16 ∷ 21 ∷ 24 ∷ 35 ∷ 43 ∷ 45 ∷ 47 ∷ [])
+      map (λ opcode. op_of opcode some_body)
+      (4 ∷ 6 ∷ 8 ∷ 9 ∷ 10 ∷ 11 ∷ 12 ∷ 13 ∷ 16 ∷ 21 ∷ 24 ∷ 35 ∷ 43 ∷ 45 ∷ 47 ∷ [])
       ≡ replicate 15 modify
-  -- every other number up to 60, among them GETXATTR 22, LISTXATTR 23, ACCESS 34 and LSEEK 46, and one far beyond
+  -- every other number up to 60, among them GETXATTR 22, LISTXATTR 23, ACCESS 34 and LSEEK 46, and
+  -- one far beyond
   pub others :
       map (λ opcode. op_of opcode some_body)
-      (0 ∷ 7 ∷ 19 ∷ 22 ∷ 23 ∷ 31 ∷ 32 ∷ 33 ∷ 34 ∷ 37 ∷ 39 ∷ 40 ∷ 41 ∷ 46 ∷ 48 ∷ 49 ∷ 50 ∷ 51 ∷ 52 ∷ 53 ∷ 54 ∷ 55 ∷ 56 ∷ 57
+      (0 ∷ 7 ∷ 19 ∷ 22 ∷ 23 ∷ 31 ∷ 32 ∷ 33 ∷ 34 ∷ 37 ∷ 39 ∷ 40 ∷ 41 ∷ 46 ∷ 48 ∷ 49 ∷ 50 ∷ 51 ∷ 52 ∷
+      53 ∷ 54 ∷ 55 ∷ 56 ∷ 57
       ∷ 58 ∷ 59 ∷ 60 ∷ 4096 ∷ [])
       ≡ replicate 28 other
 
 -- a message's unique and node lie before its body, in this order
 pub record MessageExamples : Type 0 where
   pub header :
-      asked (u32 56 ++ u32 3 ++ u64 5 ++ u64 9 ++ zeros 16 ++ zeros 16) ≡ record { unique = 5; node = 9; op = getattr }
+      asked (u32 56 ++ u32 3 ++ u64 5 ++ u64 9 ++ zeros 16 ++ zeros 16) ≡ record {
+        unique =
+            5;
+        node = 9;
+        op = at_node getattr;
+      }
 
 -- the items of a BATCH_FORGET: no more than the count says, and whole ones alone
 pub record ForgetExamples : Type 0 where
-  pub no_items : op_of 42 (u32 0xffffffff ++ zeros 4) ≡ batch_forget []
-  pub count_zero : op_of 42 (zeros 24) ≡ batch_forget []
-  pub half_an_item : op_of 42 (u32 2 ++ zeros 4 ++ u64 3 ++ u64 4 ++ zeros 15) ≡ batch_forget (record { node = 3; nlookup = 4 } ∷ [])
+  pub no_items : op_of 42 (u32 0xffffffff ++ zeros 4) ≡ silent (batch_forget [])
+  pub count_zero : op_of 42 (zeros 24) ≡ silent (batch_forget [])
+  pub half_an_item : op_of 42 (u32 2 ++ zeros 4 ++ u64 3 ++ u64 4 ++ zeros 15) ≡ silent
+      (batch_forget (record { node = 3; nlookup = 4 } ∷ []))
   pub short : op_of 42 (zeros 7) ≡ malformed 42
 
 -- names and their zeros fill whole 8 bytes
 pub record DirentExamples : Type 0 where
   pub one_byte : dirent 1 2 4 (codes "n") ≡ u64 1 ++ u64 2 ++ u32 1 ++ u32 4 ++ codes "n" ++ zeros 7
-  pub seven_bytes : dirent 1 2 4 (codes "nnnnnnn") ≡ u64 1 ++ u64 2 ++ u32 7 ++ u32 4 ++ codes "nnnnnnn" ++ zeros 1
-  pub eight_bytes : dirent 1 2 4 (codes "nnnnnnnn") ≡ u64 1 ++ u64 2 ++ u32 8 ++ u32 4 ++ codes "nnnnnnnn"
-  pub nine_bytes : dirent 1 2 4 (codes "nnnnnnnnn") ≡ u64 1 ++ u64 2 ++ u32 9 ++ u32 4 ++ codes "nnnnnnnnn" ++ zeros 7
+  pub seven_bytes : dirent 1 2 4 (codes "nnnnnnn") ≡ u64 1 ++ u64 2 ++ u32 7 ++ u32 4
+      ++ codes "nnnnnnn" ++ zeros 1
+  pub eight_bytes : dirent 1 2 4 (codes "nnnnnnnn") ≡ u64 1 ++ u64 2 ++ u32 8 ++ u32 4
+      ++ codes "nnnnnnnn"
+  pub nine_bytes : dirent 1 2 4 (codes "nnnnnnnnn") ≡ u64 1 ++ u64 2 ++ u32 9 ++ u32 4
+      ++ codes "nnnnnnnnn" ++ zeros 7
 
 -- the flags of INIT and of the reply to OPEN, by the places of their bits
 pub record FlagExamples : Type 0 where

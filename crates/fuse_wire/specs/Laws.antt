@@ -25,7 +25,8 @@ pub record BodySizes : Type 0 where
 -- the structures of replies
 pub record ReplySizes : Type 0 where
   pub version : length (init_out Version) ≡ 64
-  pub terms : (minor readahead flags : ℕ) → length (init_out (Terms minor readahead flags)) ≡ (if nat_lt minor 23 then 24 else 64)
+  pub terms : (minor readahead flags : ℕ)
+      → length (init_out (Terms minor readahead flags)) ≡ (if nat_lt minor 23 then 24 else 64)
   pub entry : (a : Attr) → length (entry_out a) ≡ 128
   pub attr : (a : Attr) → length (attr_out a) ≡ 104
   pub open_file : (flags : ℕ) → length (open_out flags) ≡ 16
@@ -33,7 +34,8 @@ pub record ReplySizes : Type 0 where
 
 -- rows fill whole 8 bytes, and are no longer than they need be
 pub record RowSizes : Type 0 where
-  pub dirent : (ino off file_type : ℕ) (name : List ℕ) → length (dirent ino off file_type name) ≡ dirent_size (length name)
+  pub dirent : (ino off file_type : ℕ) (name : List ℕ)
+      → length (dirent ino off file_type name) ≡ dirent_size (length name)
   pub plus :
       (entry : Option Attr) (ino off file_type : ℕ) (name : List ℕ) →
       length (direntplus entry ino off file_type name) ≡ 128 + dirent_size (length name)

@@ -7,28 +7,41 @@ use Rattle.fuse_wire.specs.declared.forget.Forget.{Forget}
 use Rattle.fuse_wire.specs.declared.opcode.TheConstants.{LOOKUP, FORGET, GETATTR, SETATTR, READLINK, SYMLINK, MKNOD, MKDIR, UNLINK, RMDIR, RENAME, LINK, OPEN, READ, WRITE, STATFS, RELEASE, FSYNC, SETXATTR, REMOVEXATTR, FLUSH, INIT, OPENDIR, READDIR, RELEASEDIR, FSYNCDIR, CREATE, INTERRUPT, DESTROY, BATCH_FORGET, FALLOCATE, READDIRPLUS, RENAME2, COPY_FILE_RANGE}
 use Rattle.fuse_wire.specs.Stream.{field}
 
--- what is asked, with the fields that answers use. A malformed request is one of a served opcode whose body is
--- shorter than its structure, or whose name is none
+-- what is asked about a node, with the fields that answers use
+pub data NodeOp : Type 0 where
+  lookup : (name : List ℕ) → NodeOp
+  getattr readlink : NodeOp
+  open_file : (flags : ℕ) → NodeOp
+  read : (offset size : ℕ) → NodeOp
+  opendir : NodeOp
+  readdir readdirplus : (offset size : ℕ) → NodeOp
+
+-- what is answered without data, whatever the node
+pub data DoneOp : Type 0 where
+  release fsync flush releasedir fsyncdir destroy : DoneOp
+
+-- what has no reply
+pub data SilentOp : Type 0 where
+  forget : (nlookup : ℕ) → SilentOp
+  batch_forget : (items : List Forget) → SilentOp
+  interrupt : SilentOp
+
+-- what is asked. A malformed request is one of a served opcode whose body is shorter than its
+-- structure, or whose name is none
 pub data Op : Type 0 where
-  lookup : (name : List ℕ) → Op
-  forget : (nlookup : ℕ) → Op
-  getattr readlink : Op
-  open_file : (flags : ℕ) → Op
-  read : (offset size : ℕ) → Op
-  statfs release fsync flush : Op
   init : (major minor readahead flags : ℕ) → Op
-  opendir : Op
-  readdir : (offset size : ℕ) → Op
-  releasedir fsyncdir interrupt destroy : Op
-  batch_forget : (items : List Forget) → Op
-  readdirplus : (offset size : ℕ) → Op
+  at_node : (op : NodeOp) → Op
+  statfs : Op
+  done : (op : DoneOp) → Op
+  silent : (op : SilentOp) → Op
   modify other : Op
   malformed : (opcode : ℕ) → Op
 
 -- the bytes before the first zero byte, and those after it
 abbrev pub cut_at_zero : List ℕ → Option (List ℕ × List ℕ)
 cut_at_zero [] = None
-cut_at_zero (b ∷ bytes) = if b == 0 then Some ([], bytes) else option_map (λ cut. (b ∷ cut.0, cut.1)) (cut_at_zero bytes)
+cut_at_zero (b ∷ bytes) =
+    if b == 0 then Some ([], bytes) else option_map (λ cut. (b ∷ cut.0, cut.1)) (cut_at_zero bytes)
 
 -- a name is not empty, and its zero byte is the last of the body
 abbrev pub body_name : Option (List ℕ × List ℕ) → Option (List ℕ)
@@ -36,15 +49,16 @@ body_name (Some (b ∷ name, [])) = Some (b ∷ name)
 body_name _ = None
 
 abbrev pub lookup_of : List ℕ → Op
-lookup_of body = option_map_or lookup (body_name (cut_at_zero body)) (malformed LOOKUP)
+lookup_of body =
+    option_map_or (λ name. at_node (lookup name)) (body_name (cut_at_zero body)) (malformed LOOKUP)
 
 -- a body that holds a structure of n bytes; what follows it is ignored
 abbrev pub sized : ℕ → ℕ → (List ℕ → Op) → List ℕ → Op
 sized opcode n op body = if nat_lt (length body) n then malformed opcode else op body
 
 -- read_in: offset and size
-abbrev pub read_of : ℕ → (ℕ → ℕ → Op) → List ℕ → Op
-read_of opcode op = sized opcode 40 (λ body. op (field 8 8 body) (field 4 16 body))
+abbrev pub read_of : ℕ → (ℕ → ℕ → NodeOp) → List ℕ → Op
+read_of opcode op = sized opcode 40 (λ body. at_node (op (field 8 8 body) (field 4 16 body)))
 
 -- forget_one: nodeid and nlookup
 abbrev pub forget_one : List ℕ → Forget
@@ -55,7 +69,8 @@ abbrev pub forgets_in : ℕ → List ℕ → List Forget
 forgets_in zero bytes = []
 forgets_in (suc n) bytes = forget_one bytes ∷ forgets_in n (drop 16 bytes)
 
--- batch_forget_in: count and dummy, and then as many items as the count says and are whole in the body
+-- batch_forget_in: count and dummy, and then as many items as the count says and are whole in the
+-- body
 unfoldable pub forgets_of : List ℕ → List Forget
 forgets_of body = forgets_in (min (field 4 0 body) (length (drop 8 body) / 16)) (drop 8 body)
 
@@ -63,30 +78,35 @@ forgets_of body = forgets_in (min (field 4 0 body) (length (drop 8 body) / 16)) 
 abbrev pub served : List (ℕ × (List ℕ → Op))
 served =
     (LOOKUP, lookup_of)
-    ∷ (FORGET, sized FORGET 8 (λ body. forget (field 8 0 body)))
-    ∷ (GETATTR, sized GETATTR 16 (λ _. getattr))
-    ∷ (READLINK, λ _. readlink)
-    ∷ (OPEN, sized OPEN 8 (λ body. open_file (field 4 0 body)))
+    ∷ (FORGET, sized FORGET 8 (λ body. silent (forget (field 8 0 body))))
+    ∷ (GETATTR, sized GETATTR 16 (λ _. at_node getattr))
+    ∷ (READLINK, λ _. at_node readlink)
+    ∷ (OPEN, sized OPEN 8 (λ body. at_node (open_file (field 4 0 body))))
     ∷ (READ, read_of READ read)
     ∷ (STATFS, λ _. statfs)
-    ∷ (RELEASE, λ _. release)
-    ∷ (FSYNC, λ _. fsync)
-    ∷ (FLUSH, λ _. flush)
-    ∷ (INIT, sized INIT 16 (λ body. init (field 4 0 body) (field 4 4 body) (field 4 8 body) (field 4 12 body)))
-    ∷ (OPENDIR, sized OPENDIR 8 (λ _. opendir))
+    ∷ (RELEASE, λ _. done release)
+    ∷ (FSYNC, λ _. done fsync)
+    ∷ (FLUSH, λ _. done flush)
+    ∷ (
+      INIT,
+      sized INIT 16 (λ body. init (field 4 0 body) (field 4 4 body) (field 4 8 body)
+          (field 4 12 body)),
+    )
+    ∷ (OPENDIR, sized OPENDIR 8 (λ _. at_node opendir))
     ∷ (READDIR, read_of READDIR readdir)
-    ∷ (RELEASEDIR, λ _. releasedir)
-    ∷ (FSYNCDIR, λ _. fsyncdir)
-    ∷ (INTERRUPT, λ _. interrupt)
-    ∷ (DESTROY, λ _. destroy)
-    ∷ (BATCH_FORGET, sized BATCH_FORGET 8 (λ body. batch_forget (forgets_of body)))
+    ∷ (RELEASEDIR, λ _. done releasedir)
+    ∷ (FSYNCDIR, λ _. done fsyncdir)
+    ∷ (INTERRUPT, λ _. silent interrupt)
+    ∷ (DESTROY, λ _. done destroy)
+    ∷ (BATCH_FORGET, sized BATCH_FORGET 8 (λ body. silent (batch_forget (forgets_of body))))
     ∷ (READDIRPLUS, read_of READDIRPLUS readdirplus)
     ∷ []
 
 -- the opcodes that would change the tree
 abbrev pub modifying : List ℕ
 modifying =
-    SETATTR ∷ SYMLINK ∷ MKNOD ∷ MKDIR ∷ UNLINK ∷ RMDIR ∷ RENAME ∷ LINK ∷ WRITE ∷ SETXATTR ∷ REMOVEXATTR
+    SETATTR ∷ SYMLINK ∷ MKNOD ∷ MKDIR ∷ UNLINK ∷ RMDIR ∷ RENAME ∷ LINK ∷ WRITE ∷ SETXATTR ∷
+    REMOVEXATTR
     ∷ CREATE ∷ FALLOCATE ∷ RENAME2 ∷ COPY_FILE_RANGE ∷ []
 
 abbrev pub is_in : ℕ → List ℕ → Bool
@@ -105,4 +125,10 @@ pub record Asked : Type 0 where
 
 -- the reading of a message: fuse_in_header has len, opcode, unique, nodeid, and 16 bytes more
 abbrev pub asked : List ℕ → Asked
-asked m = record { unique = field 8 8 m; node = field 8 16 m; op = op_of (field 4 4 m) (drop HEADER_SIZE m) }
+asked m =
+    record {
+      unique = field 8 8 m;
+      node = field 8 16 m;
+      op =
+          op_of (field 4 4 m) (drop HEADER_SIZE m);
+    }

@@ -24,7 +24,8 @@ pub record IsMessage (m : List ℕ) : Type 0 where
 -- a message that has begun, and lacks some bytes
 abbrev pub IsUnfinished : List ℕ → Type 0
 IsUnfinished rest =
-    (0 < length rest) × ((length rest < 4) ⊎ (IsGoodLength (said_length rest) × (length rest < said_length rest)))
+    (0 < length rest) × ((length rest < 4)
+    ⊎ (IsGoodLength (said_length rest) × (length rest < said_length rest)))
 
 -- nothing, or an unfinished message
 abbrev pub IsOpen : List ℕ → Type 0

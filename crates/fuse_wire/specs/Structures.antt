@@ -1,10 +1,11 @@
--- linux/fuse.h, the structures of replies, field by field, in their order. Numbers are little-endian, without gaps.
+-- linux/fuse.h, the structures of replies, field by field, in their order. Numbers are
+-- little-endian, without gaps.
 use Rattle.std.specs.Prelude.{ℕ, ◌+◌, ◌-◌, ◌*◌, ◌/◌, ◌%◌, ◌^◌, List, ◌++◌, length, min, replicate, Bool, bit_and, ◌==◌, nat_lt, Option, if◌then◌else◌}
 use Rattle.std.specs.Option.{option_map_or}
 use Rattle.byteorder.specs.Endian.{little_bytes}
 use Rattle.fuse_wire.specs.declared.errno.Errno.{Errno}
 use Rattle.fuse_wire.specs.declared.errno.Errno.TheVariants.{ENOENT, EIO, ENOTDIR, EISDIR, EINVAL, EROFS, ENAMETOOLONG, ENOSYS, EPROTO, ESTALE}
-use Rattle.fuse_wire.specs.declared.limits.TheConstants.{MAX_DATA_SIZE, MAX_NAME_SIZE}
+use Rattle.fuse_wire.specs.declared.limits.TheConstants.{MAX_READAHEAD, MAX_WRITE, MAX_NAME_SIZE}
 use Rattle.fuse_wire.specs.declared.reply.Attr.{Attr}
 use Rattle.fuse_wire.specs.declared.reply.Dirent.{Dirent}
 use Rattle.fuse_wire.specs.declared.reply.InitOut.{InitOut}
@@ -46,14 +47,15 @@ has_export flags = has_bit 4 flags
 abbrev pub max_pages : ℕ → ℕ
 max_pages flags = if has_bit 22 flags then 32 else 0
 
--- init_out up to max_write, which is all that clients of minor versions below 23 know. The flags are ASYNC_READ (bit 0),
--- EXPORT_SUPPORT (4), DO_READDIRPLUS (13), READDIRPLUS_AUTO (14), PARALLEL_DIROPS (18) and MAX_PAGES (22)
+-- init_out up to max_write, which is all that clients of minor versions below 23 know. The flags
+-- are ASYNC_READ (bit 0), EXPORT_SUPPORT (4), DO_READDIRPLUS (13), READDIRPLUS_AUTO (14),
+-- PARALLEL_DIROPS (18) and MAX_PAGES (22)
 unfoldable pub init_out_22 : ℕ → ℕ → List ℕ
 init_out_22 readahead flags =
     -- major, minor, max_readahead, flags
-    u32 7 ++ u32 31 ++ u32 (min readahead MAX_DATA_SIZE) ++ u32 (bit_and flags 0x00446011)
+    u32 7 ++ u32 31 ++ u32 (min readahead MAX_READAHEAD) ++ u32 (bit_and flags 0x00446011)
     -- max_background, congestion_threshold, max_write
-    ++ u16 12 ++ u16 9 ++ u32 131072
+    ++ u16 12 ++ u16 9 ++ u32 MAX_WRITE
 
 -- init_out from there on: time_gran, max_pages, map_alignment, unused
 unfoldable pub init_out_rest : ℕ → List ℕ
@@ -116,7 +118,8 @@ dirent ino off file_type name = dirent_front ino off file_type name ++ name ++ p
 
 -- direntplus: an entry_out, which is all zeros where the row has no entry, and the dirent
 unfoldable pub direntplus : Option Attr → ℕ → ℕ → ℕ → List ℕ → List ℕ
-direntplus entry ino off file_type name = option_map_or entry_out entry (zeros 128) ++ dirent ino off file_type name
+direntplus entry ino off file_type name =
+    option_map_or entry_out entry (zeros 128) ++ dirent ino off file_type name
 
 -- the same of a row as the code has it: its front, READDIR's, and READDIRPLUS's
 abbrev pub row_front : Dirent → List ℕ

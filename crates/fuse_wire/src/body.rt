@@ -1,5 +1,5 @@
-//! What an opcode asks with the bytes after a message's header. Bytes after a structure are ignored: later clients
-//! append fields.
+//! What an opcode asks with the bytes after a message's header. Bytes after a structure are
+//! ignored: later clients append fields.
 
 ghost use Rattle.std.specs.Prelude.{◌≡◌, ◌+◌, ◌≤◌, length, drop};
 ghost use Rattle.std.specs.Option.{option_map};
@@ -139,8 +139,8 @@ fn read_lookup<'a>(message: &[u8], body: &'a [u8]) -> Op<'a>
 
 // The name in a body, whose last byte is its only zero byte. A name is not empty.
 //
-// The search for another one begins behind the name, and may end in the message's header. So there are 32 bytes to look
-// at at once, and few names are longer.
+// The search for another one begins behind the name, and may end in the message's header. So there
+// are 32 bytes to look at at once, and few names are longer.
 #[tactic(auto, using(crate::proofs::Names::named))]
 fn read_name<'a>(message: &[u8], body: &'a [u8]) -> Option<&'a [u8]>
     requires { body.now ≡ drop HEADER_SIZE message.now }

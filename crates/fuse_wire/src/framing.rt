@@ -19,8 +19,9 @@ pub enum Framed {
     Whole(usize),
 }
 
-/// Says what the bytes of a stream begin with, from a message's first byte on. The length that a message says
-/// (linux/fuse.h, `fuse_in_header.len`) counts its header, and is judged as soon as its four bytes are there.
+/// Says what the bytes of a stream begin with, from a message's first byte on. The length that a
+/// message says (linux/fuse.h, `fuse_in_header.len`) counts its header, and is judged as soon as
+/// its four bytes are there.
 #[tactic(auto, using(crate::proofs::Begins::framed))]
 pub fn frame(bytes: &[u8]) -> Framed
     ensures { Frames bytes.now result }

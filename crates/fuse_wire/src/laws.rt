@@ -17,8 +17,9 @@ pub fn one_split()
         IsSplit stream ms r → IsSplit stream ns q → (ms ≡ ns) × (r ≡ q) }
 {}
 
-/// A stream may be cut piece by piece: what a piece leaves over goes before the next one, and a bad length stays bad.
-#[tactic(auto, using(crate::proofs::Splits::split_goes_on, crate::proofs::Splits::bad_stays, crate::proofs::Begins::whole_stays))]
+/// A stream may be cut piece by piece: what a piece leaves over goes before the next one, and a bad
+/// length stays bad.
+#[tactic(auto, using(crate::proofs::Splits::split_goes_on, crate::proofs::Splits::bad_stays, crate::proofs::Begins::whole_stays,))]
 pub fn pieces_do_not_matter()
     ensures goes_on { (x y rest end : List ℕ) (ms ns : List (List ℕ)) →
         IsSplit x ms rest → IsSplit (rest ++ y) ns end → IsSplit (x ++ y) (ms ++ ns) end }
@@ -28,7 +29,7 @@ pub fn pieces_do_not_matter()
 {}
 
 /// Bytes frame in one way, and the frames of a stream, one after another, are its split.
-#[tactic(auto, using(crate::proofs::Begins::one_frame, crate::proofs::Begins::split_first, crate::proofs::Begins::split_none))]
+#[tactic(auto, using(crate::proofs::Begins::one_frame, crate::proofs::Begins::split_first, crate::proofs::Begins::split_none,))]
 pub fn frames_make_the_split()
     ensures once { (bytes : List ℕ) (f g : Framed) → Frames bytes f → Frames bytes g → f ≡ g }
     ensures first { (bytes rest : List ℕ) (n : ℕ) (ms : List (List ℕ)) →
@@ -37,7 +38,8 @@ pub fn frames_make_the_split()
     ensures last { (bytes : List ℕ) → IsRest bytes → IsSplit bytes [] bytes }
 {}
 
-/// Bodies of requests: shorter than their structure they are malformed, and else never, whatever follows it.
+/// Bodies of requests: shorter than their structure they are malformed, and else never, whatever
+/// follows it.
 #[tactic(auto, using(crate::proofs::Bodies::body_sizes))]
 pub fn bodies_hold_their_structures()
     ensures { BodySizes }

@@ -1,16 +1,50 @@
-//! The limits of messages and replies, each under the one name that code and definitions use.
+//! The limits of messages, replies and rounds, each said once: code reads the constants, and
+//! definitions, clauses and proofs name the same ones. Where Linux gives a limit, its name there
+//! stands beside it; the others are this project's.
 
-/// The size of a `struct fuse_in_header`, in bytes: no message is shorter.
+/// The size of a `struct fuse_in_header` (linux/fuse.h), in bytes: no message is shorter.
 pub const HEADER_SIZE: usize = 40;
 
-/// The most bytes of a message: 4,096 for its header and what stands beside data, and 1 MiB of data.
-pub const MAX_MESSAGE_SIZE: usize = 1_052_672;
+/// The size of a `struct fuse_out_header` (linux/fuse.h), in bytes: no reply is shorter.
+pub const OUT_HEADER_SIZE: usize = 16;
 
-/// The most bytes of data that one request may ask for, and that a client may read ahead: 1 MiB.
+/// The most bytes that one READ, READDIR or READDIRPLUS may ask for, so the most data of one reply:
+/// 1 MiB. This project's; Linux asks for no more than 256 pages (its `FUSE_MAX_MAX_PAGES`), which
+/// are as many bytes where a page has 4,096.
 pub const MAX_DATA_SIZE: u32 = 1_048_576;
 
-/// The most bytes of a name (`NAME_MAX` of linux/limits.h).
+/// The most bytes that a client may read ahead (`max_readahead` of linux/fuse.h, `struct
+/// fuse_init_out`): as many as one READ may ask for. This project's.
+pub const MAX_READAHEAD: u32 = MAX_DATA_SIZE;
+
+/// The most bytes that a client may send with one WRITE (`max_write` of linux/fuse.h, `struct
+/// fuse_init_out`): 32 pages of 4,096 bytes. This project's; no WRITE is served.
+pub const MAX_WRITE: u32 = 131_072;
+
+/// The most bytes of a message: 4,096 for its header and what stands beside data, and as many of
+/// data as a reply may have. This project's.
+pub const MAX_MESSAGE_SIZE: usize = 4_096 + MAX_DATA_SIZE as usize;
+
+/// The most bytes of a reply: its header and the most data.
+pub const MAX_REPLY_SIZE: usize = OUT_HEADER_SIZE + MAX_DATA_SIZE as usize;
+
+/// The most bytes of a name (`NAME_MAX` of linux/limits.h), which STATFS tells as `namelen`
+/// (linux/fuse.h, `struct fuse_kstatfs`). Targets of links are bounded by the rules of images.
 pub const MAX_NAME_SIZE: u32 = 255;
 
-/// The most nodes that one message forgets: as many items of 16 bytes as the longest `FUSE_BATCH_FORGET` has room for.
-pub const MAX_FORGETS: usize = 65_789;
+/// The most nodes that one message forgets: as many items of 16 bytes as the longest
+/// `FUSE_BATCH_FORGET` has room for behind 8 bytes of its own.
+pub const MAX_FORGETS: usize = (MAX_MESSAGE_SIZE - HEADER_SIZE - 8) / 16;
+
+/// The most messages that one round answers. This project's.
+pub const MAX_ROUND_MESSAGES: usize = 256;
+
+/// How many bytes of replies end a round, which then has fewer than these and one reply more:
+/// 256 KiB. This project's.
+pub const ENOUGH_REPLIES: usize = 262_144;
+
+/// The most bytes of one pull from a source: 64 KiB. This project's.
+pub const PULL_SIZE: usize = 65_536;
+
+/// The most pulls of one run, so that all bytes of a stream are counted in 64 bits. This project's.
+pub const MAX_TURNS: u64 = 1 << 40;

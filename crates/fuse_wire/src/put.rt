@@ -1,5 +1,5 @@
-//! Replies and rows as bytes. Each writer appends exactly its bytes; where the vector has no room for them and gets
-//! none, it is as before.
+//! Replies and rows as bytes. Each writer appends exactly its bytes; where the vector has no room
+//! for them and gets none, it is as before.
 
 ghost use Rattle.std.specs.Prelude.{◌≡◌, ◌++◌, ◌<◌, ◌≤◌, ◌+◌, ◌-◌, ◌^◌, [], None, length, vec_len, vec_capacity};
 ghost use Rattle.std.specs.Option.{option_copied};
@@ -31,8 +31,8 @@ pub fn put_head<A: Allocator>(out: &mut Vec<u8, A>, unique: u64) -> Result<(), A
     put_data_head(out, unique, 0)
 }
 
-/// Appends the header of a reply with `size` bytes of data, which are to follow: a `struct fuse_out_header` of 16
-/// bytes, with no error.
+/// Appends the header of a reply with `size` bytes of data, which are to follow: a
+/// `struct fuse_out_header` of 16 bytes, with no error.
 #[tactic(auto, using(crate::proofs::Sizes::sizes))]
 pub fn put_data_head<A: Allocator>(
     out: &mut Vec<u8, A>,
@@ -47,7 +47,8 @@ pub fn put_data_head<A: Allocator>(
     out.extend_from_slice(reply.as_slice())
 }
 
-/// Appends the reply of an error: a `struct fuse_out_header` of 16 bytes alone, with the negated number.
+/// Appends the reply of an error: a `struct fuse_out_header` of 16 bytes alone, with the negated
+/// number.
 #[tactic(auto, using(crate::proofs::Sizes::sizes))]
 pub fn put_error<A: Allocator>(
     out: &mut Vec<u8, A>,
@@ -76,8 +77,8 @@ pub fn put_data<A: Allocator>(
     put_three(out, reply.as_slice(), bytes, &[])
 }
 
-/// Appends the reply to an INIT that is not refused (`struct fuse_init_out`): 80 bytes, or 40 where the client speaks
-/// a minor version below 23.
+/// Appends the reply to an INIT that is not refused (`struct fuse_init_out`): 80 bytes, or 40 where
+/// the client speaks a minor version below 23.
 #[tactic(auto, unfolding(crate::specs::Replies::reply_with), using(crate::proofs::Sizes::sizes))]
 pub fn put_init<A: Allocator>(
     out: &mut Vec<u8, A>,
@@ -134,8 +135,8 @@ pub fn put_attr<A: Allocator>(
     out.extend_from_slice(reply.as_slice())
 }
 
-/// Appends the reply to an OPEN or OPENDIR, of 32 bytes (`struct fuse_open_out`), with handle 0 and these flags
-/// ([`FOPEN_KEEP_CACHE`](crate::flags::FOPEN_KEEP_CACHE) or none).
+/// Appends the reply to an OPEN or OPENDIR, of 32 bytes (`struct fuse_open_out`), with handle 0 and
+/// these flags ([`FOPEN_KEEP_CACHE`](crate::flags::FOPEN_KEEP_CACHE) or none).
 #[tactic(auto, unfolding(crate::specs::Replies::reply_with), using(crate::proofs::Sizes::sizes))]
 pub fn put_open<A: Allocator>(
     out: &mut Vec<u8, A>,
@@ -150,8 +151,8 @@ pub fn put_open<A: Allocator>(
     out.extend_from_slice(reply.as_slice())
 }
 
-/// Appends the reply to a STATFS, of 96 bytes (`struct fuse_statfs_out`): all blocks of 512 bytes, none free, and the
-/// number of nodes.
+/// Appends the reply to a STATFS, of 96 bytes (`struct fuse_statfs_out`): all blocks of 512 bytes,
+/// none free, and the number of nodes.
 #[tactic(auto, unfolding(crate::specs::Replies::reply_with), using(crate::proofs::Sizes::sizes))]
 pub fn put_statfs<A: Allocator>(
     out: &mut Vec<u8, A>,
@@ -167,8 +168,8 @@ pub fn put_statfs<A: Allocator>(
     out.extend_from_slice(reply.as_slice())
 }
 
-/// The bytes of a row of READDIR whose name has this many bytes (`FUSE_DIRENT_SIZE`), a multiple of 8. A row of
-/// READDIRPLUS has 128 more.
+/// The bytes of a row of READDIR whose name has this many bytes (`FUSE_DIRENT_SIZE`), a multiple of
+/// 8. A row of READDIRPLUS has 128 more.
 #[inline(always)]
 pub fn dirent_size(name_len: usize) -> usize
     requires { name_len < 2 ^ 32 }
@@ -177,7 +178,8 @@ pub fn dirent_size(name_len: usize) -> usize
     (DIRENT_FRONT_SIZE + name_len + 7) / 8 * 8
 }
 
-/// Appends a row of READDIR (`struct fuse_dirent`): 24 bytes, the name, and zeros up to a multiple of 8.
+/// Appends a row of READDIR (`struct fuse_dirent`): 24 bytes, the name, and zeros up to a multiple
+/// of 8.
 #[tactic(auto, unfolding(crate::specs::Structures::dirent), using(crate::proofs::Sizes::sizes))]
 #[inline(always)]
 pub fn put_dirent<A: Allocator>(out: &mut Vec<u8, A>, row: &Dirent<'_>) -> Result<(), AllocError>
@@ -189,8 +191,8 @@ pub fn put_dirent<A: Allocator>(out: &mut Vec<u8, A>, row: &Dirent<'_>) -> Resul
     put_row(out, &front, row.name)
 }
 
-/// Appends a row of READDIRPLUS (`struct fuse_direntplus`): the node's entry, or 128 zeros for `.` and `..`, which
-/// have none, and the row of READDIR.
+/// Appends a row of READDIRPLUS (`struct fuse_direntplus`): the node's entry, or 128 zeros for `.`
+/// and `..`, which have none, and the row of READDIR.
 #[tactic(auto, unfolding(crate::specs::Structures::direntplus, crate::specs::Structures::dirent), using(crate::proofs::Sizes::sizes))]
 #[inline(always)]
 pub fn put_direntplus<A: Allocator>(
@@ -210,7 +212,8 @@ pub fn put_direntplus<A: Allocator>(
     put_row(out, &front, row.name)
 }
 
-// Appends a row of READDIRPLUS that has no entry. Few have none, so this stands apart from the loop over rows.
+// Appends a row of READDIRPLUS that has no entry. Few have none, so this stands apart from the loop
+// over rows.
 #[tactic(auto, unfolding(crate::specs::Structures::direntplus, crate::specs::Structures::dirent), using(crate::proofs::Sizes::sizes))]
 #[inline(never)]
 fn put_bare<A: Allocator>(out: &mut Vec<u8, A>, row: Dirent<'_>) -> Result<(), AllocError>
@@ -243,7 +246,8 @@ fn put_row<A: Allocator>(
     Ok(())
 }
 
-// The same, where there is room for more zeros than are wanted: eight are written at once, and cut to these.
+// The same, where there is room for more zeros than are wanted: eight are written at once, and cut
+// to these.
 #[tactic(auto, using(crate::proofs::Padding::cut_to))]
 #[inline(always)]
 fn put_in_room<A: Allocator>(out: &mut Vec<u8, A>, front: &[u8], name: &[u8], padding: usize)

@@ -120,7 +120,8 @@ pub enum Op<'a> {
 }
 
 impl<'a> Request<'a> {
-    /// Reads a whole message, as [`frame`](crate::frame) found it. Names and items are borrowed from it.
+    /// Reads a whole message, as [`frame`](crate::frame) found it. Names and items are borrowed
+    /// from it.
     pub fn read(message: &'a [u8]) -> Self
         requires { IsGoodLength (length message.now) }
         ensures { asked_of result ≡ asked message.now }
@@ -137,8 +138,8 @@ impl<'a> Request<'a> {
     }
 }
 
-/// The node and the name of a LOOKUP at a glance, for whoever reads ahead: no answer follows from it. None of any other
-/// message. The name is not looked at but for its length.
+/// The node and the name of a LOOKUP at a glance, for whoever reads ahead: no answer follows from
+/// it. None of any other message. The name is not looked at but for its length.
 pub fn glance(message: &[u8]) -> Option<(u64, &[u8])> {
     if message.len() < HEADER_SIZE + 2 || LittleEndian::read_u32(&message[OPCODE..]) != LOOKUP {
         return None;

@@ -1,4 +1,5 @@
-//! A structure that is put together field by field, in the order of its declaration. Numbers are little-endian.
+//! A structure that is put together field by field, in the order of its declaration. Numbers are
+//! little-endian.
 
 ghost use Rattle.std.specs.Prelude.{◌≡◌, ◌+◌, ◌≤◌, ◌++◌, [], ℕ, List, length, take};
 ghost use Rattle.fuse_wire.specs.declared.structure.TheConstants.{ROOM};
@@ -6,7 +7,8 @@ ghost use Rattle.fuse_wire.specs.Structures.{u16, u32, u64, zeros};
 
 use std::marker::Model;
 
-/// The most bytes that stand together: a `struct fuse_entry_out` with a `struct fuse_dirent` up to its name.
+/// The most bytes that stand together: a `struct fuse_entry_out` with a `struct fuse_dirent` up to
+/// its name.
 pub const ROOM: usize = 152;
 
 /// The fields so far, side by side: to a contract their bytes.

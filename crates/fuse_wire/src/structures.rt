@@ -1,21 +1,20 @@
-//! The structures of replies (linux/fuse.h), each put behind the fields that stand already, field by field in its order.
+//! The structures of replies (linux/fuse.h), each put behind the fields that stand already, field
+//! by field in its order.
 
 ghost use Rattle.std.specs.Prelude.{◌≡◌, ◌++◌, ◌<◌, ◌≤◌, ◌+◌, ◌^◌, length};
 ghost use Rattle.fuse_wire.specs.declared.structure.TheConstants.{ROOM};
 ghost use Rattle.fuse_wire.specs.Structures.{init_out, init_out_22, init_out_rest, max_pages, attr, entry_out, attr_out, open_out, statfs_out, row_front};
 ghost use Rattle.fuse_wire.specs.Replies.{reply_head, error_reply};
 
-use crate::limits::{MAX_DATA_SIZE, MAX_NAME_SIZE};
+use crate::limits::{MAX_NAME_SIZE, MAX_READAHEAD, MAX_WRITE, OUT_HEADER_SIZE};
 use crate::structure::Structure;
 use crate::{Attr, Dirent, Errno, InitOut, flags};
-
-/// The size of a `struct fuse_out_header`.
-pub const OUT_HEADER_SIZE: usize = 16;
 
 /// The size of a `struct fuse_init_out`.
 pub const INIT_OUT_SIZE: usize = 64;
 
-/// The size of its front that clients of minor versions below 23 know (`FUSE_COMPAT_22_INIT_OUT_SIZE`).
+/// The size of its front that clients of minor versions below 23 know
+/// (`FUSE_COMPAT_22_INIT_OUT_SIZE`).
 pub const COMPAT_22_INIT_OUT_SIZE: usize = 24;
 
 /// The size of a `struct fuse_entry_out`.
@@ -44,9 +43,6 @@ const MAX_BACKGROUND: u16 = 12;
 
 /// From how many requests in the background on the client slows down.
 const CONGESTION_THRESHOLD: u16 = 9;
-
-/// The most bytes of a write.
-const MAX_WRITE: u32 = 131_072;
 
 /// The step of times, in nanoseconds.
 const TIME_GRANULARITY: u32 = 1;
@@ -121,7 +117,7 @@ fn init_out_22(fields: &mut Structure, max_readahead: u32, flags: u32)
 {
     fields.u32(MAJOR);
     fields.u32(MINOR);
-    fields.u32(max_readahead.min(MAX_DATA_SIZE));
+    fields.u32(max_readahead.min(MAX_READAHEAD));
     fields.u32(flags & SERVED_FLAGS);
     fields.u16(MAX_BACKGROUND);
     fields.u16(CONGESTION_THRESHOLD);

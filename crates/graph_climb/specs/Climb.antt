@@ -1,4 +1,5 @@
--- Numbered points, each of which leads on to one, and those of which one of the same class comes along the way.
+-- Numbered points, each of which leads on to one, and those of which one of the same class comes
+-- along the way.
 use Rattle.std.specs.Prelude.{◌≡◌, ◌≢◌, ℕ, ◌^◌, ◌<◌, ◌≤◌, ◌⊎◌, List, ◌∷◌, length, max, get_or, reverse, Bool, true, false}
 
 -- y comes after x
@@ -95,7 +96,8 @@ pub record IsCycle (next cycle : List ℕ) : Type 0 where
   pub round : (x : ℕ) → On cycle x → On cycle (get_or next x 0)
   pub tied : (x y : ℕ) → On cycle x → On cycle y → After next x y
 
--- what has been found where the path holds a cycle, and what leads to the points that wait is still to be entered
+-- what has been found where the path holds a cycle, and what leads to the points that wait is still
+-- to be entered
 pub record IsFound (next class cycle waits : List ℕ) (entered noted : List Bool)
     (low : List ℕ) : Type 0 where
   pub lowest : IsLow class low cycle
@@ -119,7 +121,8 @@ pub record IsClosed (next : List ℕ) (entered : List Bool) : Type 0 where
   pub each : (x : ℕ) → x < length next → get_or entered (get_or next x 0) false ≡ true
       → get_or entered x false ≡ true
 
--- a walk from one point to another, over points that were not entered before; `visited` marks those that it has left
+-- a walk from one point to another, over points that were not entered before; `visited` marks those
+-- that it has left
 pub record IsFreshWalk (next : List ℕ) (entered visited : List Bool) (from to : ℕ) : Type 0 where
   pub fresh : get_or entered to false ≡ false
   pub leads : (to ≡ from) ⊎ After next from to

@@ -219,8 +219,8 @@ fn note_all<A: Allocator + Copy>(alloc: A, graph: &Graph<A>) -> Result<Vec<bool,
     Ok(noted)
 }
 
-/// Notes the points of which a lower one of the same class comes before or after: `next` is the point that each leads
-/// on to, and `class` the class of each.
+/// Notes the points of which a lower one of the same class comes before or after: `next` is the
+/// point that each leads on to, and `class` the class of each.
 pub fn note_higher<A: Allocator + Copy>(
     alloc: A,
     next: Vec<u32, A>,

@@ -1,5 +1,6 @@
--- A tree laid on a tree: the upper one leaves out entries of the lower one, its entries cover what is left, and the
--- marks are united, with marks for what the upper one's directories cover of the lower one's files.
+-- A tree laid on a tree: the upper one leaves out entries of the lower one, its entries cover what
+-- is left, and the marks are united, with marks for what the upper one's directories cover of the
+-- lower one's files.
 use Rattle.std.specs.Prelude.{◌≡◌, ◌≢◌, ℕ, ◌⊎◌, List, [], ◌∷◌, ◌++◌, Bool, true, false, not, ◌||◌, Option, Some, None, MatchOption, if◌then◌else◌}
 use Rattle.path_tree.specs.Rows.{Shoot, name_cmp, named, NamesRise, spread, whole, at_path, IsRising, IsForest, PathsRise}
 use Rattle.std.specs.declared.cmp.Ordering.TheVariants.{Less}
@@ -70,8 +71,9 @@ pub record IsLeafAt (others : Path → Option Mark) (path : Path) : Type 0 where
   pub itself : is_uncut (others path) ≡ false
   pub below : (n : List ℕ) (q : Path) → others (path ++ n ∷ q) ≡ None
 
--- marks of the paths at which the first of two trees cuts itself, and the other does not or has something below: they
--- cut nothing but what the first cuts, and all of it where the other has more than leaves
+-- marks of the paths at which the first of two trees cuts itself, and the other does not or has
+-- something below: they cut nothing but what the first cuts, and all of it where the other has more
+-- than leaves
 pub record Clash (files others marks : Path → Option Mark) : Type 0 where
   pub sound : (path : Path) → cut_by marks path ≡ true → cut_by files path ≡ true
   pub whole : (path : Path) → cuts_itself (files path) ≡ true

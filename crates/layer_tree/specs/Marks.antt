@@ -1,4 +1,5 @@
--- OCI image specification, layer chapter, "Whiteouts" and "Opaque Whiteout": what marks at paths cut.
+-- OCI image specification, layer chapter, "Whiteouts" and "Opaque Whiteout": what marks at paths
+-- cut.
 use Rattle.std.specs.Prelude.{ℕ, List, [], ◌∷◌, Bool, false, ◌||◌, not, Option, Some, None, option_map, nat_eq}
 use Rattle.std.specs.List.{list_all, starts_with}
 use Rattle.stack_model.specs.Stack.{marker}

@@ -4,8 +4,8 @@ use Rattle.stack_model.specs.Stack.{Path, IsIn, HasOther}
 use Rattle.path_tree.specs.Rows.{Shoot}
 use Rattle.layer_tree.specs.declared.place.Entry.{Entry}
 
--- on the whole way along the path the layer has no marker for the next name, no marker of the whole directory, and no
--- entry that is no directory
+-- on the whole way along the path the layer has no marker for the next name, no marker of the whole
+-- directory, and no entry that is no directory
 pub record IsUnremoved (a : List ℕ) (path : Path) : Type 0 where
   pub nowhere : (q : Path) (y : List ℕ) (rest : Path) → path ≡ q ++ y ∷ rest
       → (¬ IsIn a (q ++ (codes ".wh." ++ y) ∷ [])) × (¬ IsIn a (q ++ codes ".wh..wh..opq" ∷ []))

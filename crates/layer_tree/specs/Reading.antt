@@ -48,8 +48,8 @@ rest_of_opaque = codes ".wh..opq"
 abbrev pub HasNamed : List ℕ → ℕ → List ℕ → Type 0
 HasNamed a d n = (c : ℕ) × IsMember a d c × (name a c ≡ Some n)
 
--- the layer cuts a path from the directory d: by a marker for its first name, by an opaque marker, by an entry that
--- is no directory, or deeper
+-- the layer cuts a path from the directory d: by a marker for its first name, by an opaque marker,
+-- by an entry that is no directory, or deeper
 abbrev pub CutsFrom : List ℕ → ℕ → Path → Type 0
 CutsFrom a d [] = ⊥
 CutsFrom a d (n ∷ path) =

@@ -1,4 +1,5 @@
--- What a tree says of a run of layers: the entry at each path that the run shows, and which paths the run cuts.
+-- What a tree says of a run of layers: the entry at each path that the run shows, and which paths
+-- the run cuts.
 use Rattle.std.specs.Prelude.{◌≡◌, ℕ, ◌+◌, ◌↔◌, List, ◌∷◌, ◌++◌, map, Bool, ◌&&◌, Option, Some, slice_get, IsTrue, IsSomeAnd}
 use Rattle.romfs_format.specs.Fields.{kind}
 use Rattle.romfs_format.specs.Links.{IsFinal}
@@ -18,7 +19,8 @@ pub record TreeRows : Type 0 where
 abbrev pub entry_at : TreeRows → Path → Option Entry
 entry_at t path = at_path t.entries path
 
--- whether marks of the tree, or entries that are no directories, remove the path from what lies below
+-- whether marks of the tree, or entries that are no directories, remove the path from what lies
+-- below
 abbrev pub removes : TreeRows → Path → Bool
 removes t path = removed_by (at_path t.marks) (at_path t.entries) path
 
@@ -32,15 +34,15 @@ pub record AreChildren (t : TreeRows) (path : Path) (children : List (Shoot Entr
   pub at : (name : List ℕ) (q : Path)
       → entry_at t (path ++ name ∷ q) ≡ at_path (spread children) (name ∷ q)
 
--- the entry is that of the header h in layer i of a run whose lowest layer is the first: it has the place and the
--- kind of the header where hard links from h end
+-- the entry is that of the header h in layer i of a run whose lowest layer is the first: it has the
+-- place and the kind of the header where hard links from h end
 pub record IsEntryOf (first : ℕ) (layers : List (List ℕ)) (i h : ℕ) (entry : Entry) : Type 0 where
   pub layer : entry.place.layer ≡ first + i
   pub end : (a : List ℕ) × (slice_get layers i ≡ Some a) × IsFinal a h entry.place.header
       × (entry.kind ≡ kind a entry.place.header)
 
--- the tree is that of the run of layers whose lowest has the number first: it has an entry exactly at each path
--- that the run shows, and it cuts exactly what the run cuts
+-- the tree is that of the run of layers whose lowest has the number first: it has an entry exactly
+-- at each path that the run shows, and it cuts exactly what the run cuts
 pub record IsTreeOf (first : ℕ) (layers : List (List ℕ)) (t : TreeRows) : Type 0 where
   pub rising : PathsRise t.entries
   pub shown : (path : Path) (i h : ℕ) → Shows layers path i h

@@ -1,8 +1,9 @@
 //! Names that will be read, read ahead.
 //!
-//! Members in the order of their names stand anywhere in the image, which is larger than the processor's caches. One
-//! after another the read of each name would be waited for. Here some dozens are read together, before their branches
-//! are made, and none of these reads waits for another. No branch follows from what is read here.
+//! Members in the order of their names stand anywhere in the image, which is larger than the
+//! processor's caches. One after another the read of each name would be waited for. Here some
+//! dozens are read together, before their branches are made, and none of these reads waits for
+//! another. No branch follows from what is read here.
 
 use crate::members::Named;
 

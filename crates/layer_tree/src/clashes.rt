@@ -1,7 +1,8 @@
 //! Where one tree has a file, and another one a directory or something below.
 //!
-//! Both trees are gone through in step, in the order of names, and only as far down as both have directories. Most
-//! trees that are laid on one another have no such path, and then there is no mark but that of the root.
+//! Both trees are gone through in step, in the order of names, and only as far down as both have
+//! directories. Most trees that are laid on one another have no such path, and then there is no
+//! mark but that of the root.
 
 ghost use Rattle.std.specs.Prelude.{◌≡◌, true, false, IfOk, IsTrue};
 ghost use Rattle.path_tree.specs.Rows.{IsForest};
@@ -13,8 +14,8 @@ use crate::reading::{CUT, UNCUT, leaf};
 use path_tree::{Branch, Name};
 use std::alloc::{AllocError, Allocator};
 
-/// The marks of all paths at which a tree has a file, and another one a directory or something below. Both roots are
-/// directories.
+/// The marks of all paths at which a tree has a file, and another one a directory or something
+/// below. Both roots are directories.
 pub(crate) fn clashes<T: Cuts, A: Allocator + Copy>(
     alloc: A,
     files: &Branch<T, A>,

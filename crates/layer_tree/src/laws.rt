@@ -12,23 +12,23 @@ ghost use Rattle.layer_tree.specs.declared.place.Entry.{Entry};
 ghost use Rattle.layer_tree.specs.Merging.{IsUnremoved, value_of};
 ghost use Rattle.layer_tree.specs.Trees.{TreeRows, entry_at, cuts_at, AreChildren, IsTreeOf, listing};
 
-/// The entries of a tree whose layers are numbered from 0, in the order of their paths, are the listing of these
-/// layers.
+/// The entries of a tree whose layers are numbered from 0, in the order of their paths, are the
+/// listing of these layers.
 pub fn entries_are_the_listing()
     ensures { (layers : List (List ℕ)) (t : TreeRows) →
         IsTreeOf 0 layers t → IsListing layers (listing t) }
 {}
 
-/// Layers that are the accessible bytes of sound images have a listing, whether or not memory is enough to make a tree
-/// of them.
+/// Layers that are the accessible bytes of sound images have a listing, whether or not memory is
+/// enough to make a tree of them.
 #[tactic(auto, using(crate::proofs::Existing::some_listing))]
 pub fn sound_layers_have_a_listing()
     ensures { (layers : List (List ℕ)) → AllByRecursion IsImage layers →
         (entries : List Listed) × IsListing layers entries }
 {}
 
-/// Trees of one run of layers have the same entries, cut the same paths and have the same children, with the same
-/// entries below them. So every bracketing of a list of layers gives one answer.
+/// Trees of one run of layers have the same entries, cut the same paths and have the same children,
+/// with the same entries below them. So every bracketing of a list of layers gives one answer.
 pub fn one_tree()
     ensures entries { (first : ℕ) (layers : List (List ℕ)) (s t : TreeRows) →
         IsTreeOf first layers s → IsTreeOf first layers t →
@@ -50,9 +50,9 @@ pub fn children_are_one_name_below()
         (name : List ℕ) → value_of (named name children) ≡ entry_at t (path ++ name ∷ []) }
 {}
 
-/// Directories of two layers are merged: all of the upper layer is shown, and of the lower one each path that the
-/// upper one has not, unless on the way to it the upper one has a marker for a name, a marker of a whole directory,
-/// or an entry that is no directory. Nothing else is removed.
+/// Directories of two layers are merged: all of the upper layer is shown, and of the lower one each
+/// path that the upper one has not, unless on the way to it the upper one has a marker for a name,
+/// a marker of a whole directory, or an entry that is no directory. Nothing else is removed.
 pub fn directories_merge()
     ensures upper { (low high : List ℕ) (path : Path) (h : ℕ) →
         IsPlain path → Has high path h → Shows (low ∷ high ∷ []) path 1 h }
@@ -61,8 +61,8 @@ pub fn directories_merge()
         Shows (low ∷ high ∷ []) path 0 h }
 {}
 
-/// What stands one name below a path stands in a directory: where a path is no directory, or is not shown, it has no
-/// children.
+/// What stands one name below a path stands in a directory: where a path is no directory, or is not
+/// shown, it has no children.
 pub fn children_stand_in_directories()
     ensures { (first : ℕ) (layers : List (List ℕ)) → AllByRecursion IsImage layers →
         (t : TreeRows) → IsTreeOf first layers t → (path : Path) (name : List ℕ) (e : Entry) →

@@ -1,8 +1,9 @@
 //! A tree laid on a tree.
 //!
-//! What the upper tree removes is left out of the lower one's entries: what its marks cut, and what lies below its
-//! files. Its entries cover what is left. The marks of both are united, with a mark for each file of the lower tree on
-//! which the upper one lays a directory (`clashes`), since what that file cuts is cut by the run of both.
+//! What the upper tree removes is left out of the lower one's entries: what its marks cut, and what
+//! lies below its files. Its entries cover what is left. The marks of both are united, with a mark
+//! for each file of the lower tree on which the upper one lays a directory (`clashes`), since what
+//! that file cuts is cut by the run of both.
 
 ghost use Rattle.std.specs.Prelude.{◌≡◌, ◌+◌, ◌++◌, ℕ, List, length, IfOk, false};
 ghost use Rattle.path_tree.specs.Rows.{NamesRise, IsForest, IsFirstNamed};
@@ -62,8 +63,8 @@ pub(crate) fn seek<'a, T: Copy + Drop, A: Allocator>(
     (rest, None)
 }
 
-/// What marks leave of the branches of a directory: both are gone through in step, in the order of names. With no
-/// marks nothing is looked into.
+/// What marks leave of the branches of a directory: both are gone through in step, in the order of
+/// names. With no marks nothing is looked into.
 #[cycle(keeping)]
 fn kept_below<T: Copy + Drop, A: Allocator + Copy>(
     alloc: A,
@@ -145,8 +146,8 @@ fn laid<A: Allocator + Copy>(alloc: A, low: Tree<A>, high: Tree<A>) -> Result<Tr
 
 /// Lays the tree of a run of layers on that of the run just below it: the tree of both together.
 ///
-/// Directories that both have are merged child by child; what one alone has is moved and not looked into.
-/// `AllocError` comes only where memory was refused; both trees are then lost.
+/// Directories that both have are merged child by child; what one alone has is moved and not looked
+/// into. `AllocError` comes only where memory was refused; both trees are then lost.
 pub fn lay<A: Allocator + Copy>(
     alloc: A,
     low: Tree<A>,

@@ -22,7 +22,8 @@ const MARKER: &[u8; 4] = b".wh.";
 /// A member with its name.
 #[derive(Clone, Copy)]
 pub(crate) struct Named<'a> {
-    /// The name's first eight bytes as a number, so that two names are mostly told apart without a look at them.
+    /// The name's first eight bytes as a number, so that two names are mostly told apart without a
+    /// look at them.
     pub key: u64,
     pub name: &'a [u8],
     pub head: Head,

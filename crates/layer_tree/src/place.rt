@@ -5,8 +5,8 @@ ghost use Rattle.stack_model.specs.Attributes.{is_directory};
 
 use romfs_format::Kind;
 
-/// Where an entry stands: a layer, counted from 0, the lowest, and the offset of a header in its image, after hard
-/// links.
+/// Where an entry stands: a layer, counted from 0, the lowest, and the offset of a header in its
+/// image, after hard links.
 #[derive(Clone, Copy, Debug, PartialEq, Eq, Drop)]
 pub struct Place {
     pub layer: u16,

@@ -1,11 +1,12 @@
 //! One layer read as a tree.
 //!
-//! A directory's members are sorted by name once. Those that are no markers become branches of entries. Markers
-//! become marks of what their names say, and these are laid on those of the directories below. A marker of the whole
-//! directory makes its own mark opaque. A directory with no marker at all has no mark, but for the root.
+//! A directory's members are sorted by name once. Those that are no markers become branches of
+//! entries. Markers become marks of what their names say, and these are laid on those of the
+//! directories below. A marker of the whole directory makes its own mark opaque. A directory with
+//! no marker at all has no mark, but for the root.
 //!
-//! It takes n log n steps in the members of the layer and the hard links that they lead to: ends of hard links
-//! that were found are kept while the tree is made.
+//! It takes n log n steps in the members of the layer and the hard links that they lead to: ends of
+//! hard links that were found are kept while the tree is made.
 
 ghost use Rattle.std.specs.Prelude.{◌≡◌, ◌≢◌, [], ◌∷◌, IfOk, IsTrue, MatchOption, is_some};
 ghost use Rattle.romfs_image.specs.Images.{IsImage};
@@ -48,9 +49,9 @@ struct Branches<A: Allocator> {
 impl<A: Allocator + Copy> Tree<A> {
     /// The tree of one layer, which has this number among the layers.
     ///
-    /// A marker is a mark and no entry, with all below it; a marker that ends after `.wh.` marks the empty name. A
-    /// hard link has the kind and the place of the header where it ends. `AllocError` comes only where memory was
-    /// refused.
+    /// A marker is a mark and no entry, with all below it; a marker that ends after `.wh.` marks
+    /// the empty name. A hard link has the kind and the place of the header where it ends.
+    /// `AllocError` comes only where memory was refused.
     pub fn of(alloc: A, image: &Image<A>, layer: u16) -> Result<Tree<A>, AllocError>
         ensures { IfOk result (λ tree. IsTreeOf layer (image.now ∷ []) tree) }
     {
@@ -68,8 +69,8 @@ impl<A: Allocator + Copy> Tree<A> {
     }
 }
 
-/// What stands at a header and below it, and what is cut there, under a name; no mark where none is needed. A path to
-/// the header has `left` names less than [`MAX_NAMES`].
+/// What stands at a header and below it, and what is cut there, under a name; no mark where none is
+/// needed. A path to the header has `left` names less than [`MAX_NAMES`].
 #[cycle(reading)]
 fn branches_of<A: Allocator + Copy>(
     alloc: A,

@@ -56,7 +56,8 @@ impl<A: Allocator> Tree<A> {
         }
     }
 
-    /// The entries in a directory, in the order of their names; none where the path is no directory.
+    /// The entries in a directory, in the order of their names; none where the path is no
+    /// directory.
     pub fn children(&self, path: &[&[u8]]) -> &[Child<A>]
         ensures { AreChildren self.now (map (λ name. name.now) path.now) result.now }
     {
@@ -66,8 +67,8 @@ impl<A: Allocator> Tree<A> {
         }
     }
 
-    /// Whether the run removes a path from what lies below it. It never removes the root, nor a path with
-    /// a marker's name.
+    /// Whether the run removes a path from what lies below it. It never removes the root, nor a
+    /// path with a marker's name.
     pub fn cuts(&self, path: &[&[u8]]) -> bool
         ensures { result ≡ cuts_at self.now (map (λ name. name.now) path.now) }
     {

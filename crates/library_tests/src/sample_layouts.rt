@@ -6,7 +6,8 @@ use std::test::Fail;
 use test_kit::bytes::{bytes_of, put_words};
 use test_kit::sample_images::{empty, image, mixed, sample};
 
-/// What the sample has before the data of its file `big`: 5,000 bytes, each of them its place modulo 251.
+/// What the sample has before the data of its file `big`: 5,000 bytes, each of them its place
+/// modulo 251.
 const SAMPLE_HEAD: [u32; 32] = [
     0x2d726f6d, 0x3166732d, 0x000014f0, 0x1eba3c6c, 0x76000000, 0x00000000, 0x00000000, 0x00000000,
     0x00000049, 0x00000020, 0x00000000, 0xd1ffff97, 0x2e000000, 0x00000000, 0x00000000, 0x00000000,
@@ -14,7 +15,8 @@ const SAMPLE_HEAD: [u32; 32] = [
     0x00001412, 0x00000000, 0x00001388, 0x9d967166, 0x62696700, 0x00000000, 0x00000000, 0x00000000,
 ];
 
-/// What it has after them: the directory `d` with the file `x`, the symbolic link `l` and the device `null`.
+/// What it has after them: the directory `d` with the file `x`, the symbolic link `l` and the
+/// device `null`.
 const SAMPLE_TAIL: [u32; 56] = [
     0x000014a9, 0x00001430, 0x00000000, 0x9bffd727, 0x64000000, 0x00000000, 0x00000000, 0x00000000,
     0x00001450, 0x00001410, 0x00000000, 0xd1ffd7a0, 0x2e000000, 0x00000000, 0x00000000, 0x00000000,
@@ -25,9 +27,9 @@ const SAMPLE_TAIL: [u32; 56] = [
     0x00000005, 0x00010003, 0x00000000, 0x9189938c, 0x6e756c6c, 0x00000000, 0x00000000, 0x00000000,
 ];
 
-/// The image with hard links, a device, and a directory in a directory: its headers stand at 0x20, `.`; 0x40, `..`;
-/// 0x60, `a`; 0x80, `b`; 0xa0, `d`; 0xc0 and 0xe0, its own two; 0x100, `e`; 0x120, `f`; 0x140 and 0x160, its own two;
-/// 0x180, `g`; and 0x1a0, `h`.
+/// The image with hard links, a device, and a directory in a directory: its headers stand at 0x20,
+/// `.`; 0x40, `..`; 0x60, `a`; 0x80, `b`; 0xa0, `d`; 0xc0 and 0xe0, its own two; 0x100, `e`; 0x120,
+/// `f`; 0x140 and 0x160, its own two; 0x180, `g`; and 0x1a0, `h`.
 const MIXED: [u32; 112] = [
     0x2d726f6d, 0x3166732d, 0x000001c0, 0x2b271ba6, 0x76000000, 0x00000000, 0x00000000, 0x00000000,
     0x00000049, 0x00000020, 0x00000000, 0xd1ffff97, 0x2e000000, 0x00000000, 0x00000000, 0x00000000,

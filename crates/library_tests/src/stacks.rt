@@ -33,8 +33,8 @@ fn next_tree<A: Allocator + Copy>(
     }
 }
 
-/// Layers laid in an order: a digit stands for the tree of the layer with this number, and `+` lays the last tree on
-/// the one before it.
+/// Layers laid in an order: a digit stands for the tree of the layer with this number, and `+` lays
+/// the last tree on the one before it.
 fn laid<A: Allocator + Copy>(
     alloc: A,
     images: &[Image<A>],

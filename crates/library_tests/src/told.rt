@@ -1,8 +1,8 @@
 //! What a tree says, in words.
 //!
-//! A word has `no`, or the layer and `d` or `f` for a directory or a file; then `!` where the tree cuts the path, or
-//! `.`; then, of some directories, the names in it, a letter each; and then the path, with a `/` before each name.
-//! `==/m/k` says that the names `m` and `k` have one entry.
+//! A word has `no`, or the layer and `d` or `f` for a directory or a file; then `!` where the tree
+//! cuts the path, or `.`; then, of some directories, the names in it, a letter each; and then the
+//! path, with a `/` before each name. `==/m/k` says that the names `m` and `k` have one entry.
 
 use layer_tree::{Child, Tree};
 use romfs_image::Kind;
@@ -35,7 +35,8 @@ fn signs<A: Allocator>(tree: &Tree<A>, path: &[&[u8]]) -> (u8, u8) {
     }
 }
 
-/// Whether a tree says this of a path; also, of a path that is no directory, that it has no children.
+/// Whether a tree says this of a path; also, of a path that is no directory, that it has no
+/// children.
 fn is_told<A: Allocator>(tree: &Tree<A>, path: &[&[u8]], told: &str) -> bool {
     let [layer, kind, cut, names @ ..] = told.as_bytes() else {
         return false;

@@ -6,8 +6,8 @@ ghost use Rattle.lone_keys.specs.Once.{AreSeenOnce};
 use crate::fallen::{fallen_of, fell_alone};
 use std::alloc::{AllocError, Allocator};
 
-/// For each of these keys whether it was seen that no other place of the list has the same key. Where it was not seen,
-/// it may be so all the same.
+/// For each of these keys whether it was seen that no other place of the list has the same key.
+/// Where it was not seen, it may be so all the same.
 ///
 /// `AllocError` comes only where memory was refused.
 pub fn seen_once<A: Allocator + Copy>(alloc: A, keys: &[u64]) -> Result<Vec<bool, A>, AllocError>

@@ -1,17 +1,24 @@
 -- Names with numbers, in an order in which equal names stand together, and classes of the numbers.
-use Rattle.std.specs.Prelude.{◌≡◌, ◌≢◌, ℕ, ◌+◌, ◌-◌, ◌*◌, ◌%◌, ◌^◌, ◌<◌, ◌⊎◌, List, ◌∷◌, length, drop, get_or, All, Option, Some}
+use Rattle.std.specs.Prelude.{◌≡◌, ◌≢◌, ℕ, ◌+◌, ◌-◌, ◌*◌, ◌%◌, ◌^◌, ◌<◌, ◌⊎◌, min, List, ◌∷◌, length, drop, get_or, All, Option, Some}
 use Rattle.std.specs.Cmp.Lexicographic.{slice_cmp}
 use Rattle.std.specs.List.{Contains}
 use Rattle.std.specs.List.Sorted.{IsSorted}
 use Rattle.std.specs.Ordering.{nat_cmp}
 use Rattle.std.specs.declared.cmp.Ordering.{Ordering}
-use Rattle.name_keys.specs.Keys.{key}
+use Rattle.byteorder.specs.Endian.{big_number}
 use Rattle.name_classes.specs.declared.names.Named.{Named}
 
--- what the first eight and the last eight bytes of a name are mixed to
+-- two numbers of 64 bits, mixed to one
+abbrev pub mixed : ℕ → ℕ → ℕ
+mixed a b = ((a * 0x9e3779b97f4a7c15) % 2 ^ 64 + b) % 2 ^ 64
+
+-- the first and the last n bytes of a name, mixed
+abbrev pub ends_mixed : ℕ → List ℕ → ℕ
+ends_mixed n name = mixed (big_number n name) (big_number n (drop (length name - n) name))
+
+-- what the first eight and the last eight bytes of a name are mixed to, or those of a shorter name
 abbrev pub name_hash : List ℕ → ℕ
-name_hash name =
-    ((key 8 name * 0x9e3779b97f4a7c15) % 2 ^ 64 + key 8 (drop (length name - 8) name)) % 2 ^ 64
+name_hash name = ends_mixed (min (length name) 8) name
 
 -- how they stand by their names, each name after its hash
 abbrev pub named_cmp : Named → Named → Ordering

@@ -1,9 +1,9 @@
 //! Names in their order, and the classes of their numbers.
 
 ghost use Rattle.std.specs.Prelude.{◌≡◌, ◌+◌, ◌<◌, ◌≤◌, ◌^◌, ℕ, List, Option, IfOk, MatchOption, false, length};
-ghost use Rattle.name_classes.specs.Names.{name_hash, named_cmp, HoldTheShared, AreInNameOrder, AreNumbersBelow, AreClasses, AreApart};
+ghost use Rattle.name_classes.specs.Names.{mixed, name_hash, named_cmp, HoldTheShared, AreInNameOrder, AreNumbersBelow, AreClasses, AreApart};
 
-use name_keys::key_of;
+use byteorder::{BigEndian, ByteOrder};
 use std::alloc::{AllocError, Allocator};
 use std::cmp::Ordering;
 
@@ -18,12 +18,29 @@ pub struct Named<'a> {
     pub number: u32,
 }
 
-/// What the first eight and the last eight bytes of a name are mixed to.
+/// What the first eight and the last eight bytes of a name are mixed to, or those of a shorter
+/// name.
 pub fn hash_of(name: &[u8]) -> u64
     ensures { result ≡ name_hash name.now }
 {
-    let first = key_of(name);
-    let last = key_of(&name[name.len().saturating_sub(8)..]);
+    let len = name.len();
+    if 8 <= len {
+        mix(
+            BigEndian::read_u64(name),
+            BigEndian::read_u64(&name[len - 8..]),
+        )
+    } else if 0 < len {
+        let all = BigEndian::read_uint(name, len);
+        mix(all, all)
+    } else {
+        0
+    }
+}
+
+// Two numbers, mixed to one.
+fn mix(first: u64, last: u64) -> u64
+    ensures { result ≡ mixed first last }
+{
     first.wrapping_mul(0x9e37_79b9_7f4a_7c15).wrapping_add(last)
 }
 
@@ -93,11 +110,11 @@ fn classes_in_order<A: Allocator + Copy>(
     Ok(classes)
 }
 
-/// The classes of the numbers below this one by their names, each a number, with one more for none; None only where no
-/// two of them have one name.
+/// The classes of the numbers below this one by their names, each a number, with one more for none;
+/// None only where no two of them have one name.
 ///
-/// A name that one number alone has may be left out, and a number may be given twice: then there may be classes though
-/// all names differ. `AllocError` comes only where memory was refused.
+/// A name that one number alone has may be left out, and a number may be given twice: then there
+/// may be classes though all names differ. `AllocError` comes only where memory was refused.
 pub fn classes<'a, A: Allocator + Copy>(
     alloc: A,
     named: Vec<Named<'a>, A>,

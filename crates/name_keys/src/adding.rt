@@ -9,8 +9,8 @@ use crate::key::key_of;
 use crate::named::Named;
 use std::alloc::{AllocError, Allocator};
 
-/// Adds the keys of rows that come in the order of their names, each name once, and says how many bytes at their
-/// fronts all names share. The names may be any bytes, of any number.
+/// Adds the keys of rows that come in the order of their names, each name once, and says how many
+/// bytes at their fronts all names share. The names may be any bytes, of any number.
 ///
 /// Where memory is refused, some of the keys may stand at the end.
 pub fn add_keys<T: Named, A: Allocator>(
@@ -37,7 +37,8 @@ fn key_past(name: &[u8], shared: usize) -> u64
     key_of(&name[shared..])
 }
 
-/// How many bytes at their fronts names in order share: those that the first and the last one share.
+/// How many bytes at their fronts names in order share: those that the first and the last one
+/// share.
 fn shared_by_all<T: Named>(rows: &[T]) -> usize
     requires { Rise (map T.name rows.now) }
     ensures { ShareFront result (map T.name rows.now) }

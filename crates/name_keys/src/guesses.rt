@@ -13,12 +13,14 @@ const PROBES: usize = 4;
 /// What stands where no row was noted.
 const NOWHERE: u32 = u32::MAX;
 
-/// Guesses of where the rows of directories stand among all rows, by what a directory's number and a name are mixed to.
+/// Guesses of where the rows of directories stand among all rows, by what a directory's number and
+/// a name are mixed to.
 ///
-/// The lower bits of a slot tell a row's place, as many of them as the last row takes; in the others stand bits of what
-/// its directory and name are mixed to, so that a slot that is another name's is mostly seen without a look at that row.
-/// Whoever is told a place looks whether the row there has the name, so a guess that is wrong, or one that is not there,
-/// costs a search and nothing else. No more than 2^31 rows are noted.
+/// The lower bits of a slot tell a row's place, as many of them as the last row takes; in the
+/// others stand bits of what its directory and name are mixed to, so that a slot that is another
+/// name's is mostly seen without a look at that row. Whoever is told a place looks whether the row
+/// there has the name, so a guess that is wrong, or one that is not there, costs a search and
+/// nothing else. No more than 2^31 rows are noted.
 #[derive(Drop)]
 pub struct Guesses<A: Allocator> {
     slots: Vec<u32, A>,
@@ -63,8 +65,8 @@ impl<A: Allocator> Guesses<A> {
         }
     }
 
-    /// The place of the row with this name among the rows of a directory, which stand from `start` on among all rows,
-    /// where it was noted. None says nothing.
+    /// The place of the row with this name among the rows of a directory, which stand from `start`
+    /// on among all rows, where it was noted. None says nothing.
     pub fn find<T: Named>(
         &self,
         directory: u64,
@@ -91,8 +93,8 @@ impl<A: Allocator> Guesses<A> {
         None
     }
 
-    /// The first place that is looked at for this name of a directory, among all rows; none where no row was noted for
-    /// it.
+    /// The first place that is looked at for this name of a directory, among all rows; none where
+    /// no row was noted for it.
     pub fn first(&self, directory: u64, name: &[u8]) -> Option<usize> {
         let mixed = mixed(directory, name);
         for step in 0..PROBES {
@@ -135,16 +137,16 @@ fn bits_for(rows: usize) -> u32
     31
 }
 
-/// What a directory and a name are mixed to: where their first slot stands, before the number of slots is known, and the
-/// bits that may stand in it beside a place.
+/// What a directory and a name are mixed to: where their first slot stands, before the number of
+/// slots is known, and the bits that may stand in it beside a place.
 #[derive(Clone, Copy)]
 struct Mix {
     first: usize,
     tag: u32,
 }
 
-/// What a directory and a name are mixed to. Names of up to 24 bytes are mixed as a whole, of others the first, the
-/// middle and the last eight bytes.
+/// What a directory and a name are mixed to. Names of up to 24 bytes are mixed as a whole, of
+/// others the first, the middle and the last eight bytes.
 fn mixed(directory: u64, name: &[u8]) -> Mix {
     let len = name.len();
     let begun = directory

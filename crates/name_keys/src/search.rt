@@ -9,8 +9,8 @@ use crate::named::Named;
 use crate::run::run_of;
 use std::cmp::Ordering;
 
-/// The place of the row with this name, counted from 0: by key to the rows whose keys are equal, and among these by
-/// name; None where no row has the name, which may be any bytes, of any number.
+/// The place of the row with this name, counted from 0: by key to the rows whose keys are equal,
+/// and among these by name; None where no row has the name, which may be any bytes, of any number.
 ///
 /// `keys` and `shared` are what [`add_keys`] made of these rows.
 ///

@@ -21,12 +21,14 @@ abbrev pub directories : List (Shoot Entry) → ℕ
 directories cs = count_by (λ c. is_directory c.value.kind) cs
 
 -- the rows of children are added at the end, and the directories among these counted
-pub record AddsRows (tell : Place → ℕ) (cs : List (Shoot Entry)) (old new : List Line) (n : ℕ) : Type 0 where
+pub record AddsRows (tell : Place → ℕ) (cs : List (Shoot Entry)) (old new : List Line)
+    (n : ℕ) : Type 0 where
   pub rows_are : new ≡ old ++ map (line_in tell) cs
   pub count_is : n ≡ directories cs
 
 -- a branch's number and size stand at this place
-pub record IsPosted (tell : Place → ℕ) (numbers sizes : List ℕ) (at : ℕ) (c : Shoot Entry) : Type 0 where
+pub record IsPosted (tell : Place → ℕ) (numbers sizes : List ℕ) (at : ℕ)
+    (c : Shoot Entry) : Type 0 where
   pub within : at < length numbers
   pub sized : at < length sizes
   pub number_is : slice_index numbers at ≡ tell c.value.place
@@ -36,25 +38,33 @@ pub record IsPosted (tell : Place → ℕ) (numbers sizes : List ℕ) (at : ℕ)
 -- branches stand from this place on, each after the one before it and all below that
 abbrev pub AreFollowing : (Place → ℕ) → List ℕ → List ℕ → ℕ → List (Shoot Entry) → Type 0
 AreFollowing tell numbers sizes at [] = ⊤
-AreFollowing tell numbers sizes at (c ∷ cs) = IsPosted tell numbers sizes at c × AreFollowing tell numbers sizes (at + length (whole c)) cs
+AreFollowing tell numbers sizes at (c ∷ cs) =
+    IsPosted tell numbers sizes at c × AreFollowing tell numbers sizes (at + length (whole c)) cs
 
 -- the children of a spot stand after it
-pub record AreChildPosts (tell : Place → ℕ) (numbers sizes : List ℕ) (at : ℕ) (spot : Spot Entry) : Type 0 where
+pub record AreChildPosts (tell : Place → ℕ) (numbers sizes : List ℕ) (at : ℕ)
+    (spot : Spot Entry) : Type 0 where
   pub within : at < length numbers
-  pub each : (cs : List (Shoot Entry)) → spot.0.now.below ≡ spread cs → IsForest cs → AreFollowing tell numbers sizes (at + 1) cs
+  pub each : (cs : List (Shoot Entry)) → spot.0.now.below ≡ spread cs → IsForest cs
+      → AreFollowing tell numbers sizes (at + 1) cs
 
 -- the number of the branch above a spot stands at the place that is held for it
-pub record IsAbove (tell : Place → ℕ) (numbers places : List ℕ) (at : ℕ) (spot : Spot Entry) : Type 0 where
+pub record IsAbove (tell : Place → ℕ) (numbers places : List ℕ) (at : ℕ)
+    (spot : Spot Entry) : Type 0 where
   pub placed : at < length places
   pub within : slice_index places at < length numbers
   pub number_is : slice_index numbers (slice_index places at) ≡ tell spot.1.place
 
 -- these spots stand at these places
-pub record ArePosts (tell : Place → ℕ) (spots : List (Spot Entry)) (numbers places sizes : List ℕ) (first : List (Spot Entry)) (starts : List ℕ) : Type 0 where
+pub record ArePosts (tell : Place → ℕ) (spots : List (Spot Entry)) (numbers places sizes : List ℕ)
+    (first : List (Spot Entry)) (starts : List ℕ) : Type 0 where
   pub level : length starts ≡ length first
-  pub there : (k : ℕ) (spot : Spot Entry) → slice_get first k ≡ Some spot → slice_get spots (slice_index starts k) ≡ Some spot
-  pub above : (k : ℕ) (spot : Spot Entry) → slice_get first k ≡ Some spot → IsAbove tell numbers places (slice_index starts k) spot
-  pub children : (k : ℕ) (spot : Spot Entry) → slice_get first k ≡ Some spot → AreChildPosts tell numbers sizes (slice_index starts k) spot
+  pub there : (k : ℕ) (spot : Spot Entry) → slice_get first k ≡ Some spot
+      → slice_get spots (slice_index starts k) ≡ Some spot
+  pub above : (k : ℕ) (spot : Spot Entry) → slice_get first k ≡ Some spot
+      → IsAbove tell numbers places (slice_index starts k) spot
+  pub children : (k : ℕ) (spot : Spot Entry) → slice_get first k ≡ Some spot
+      → AreChildPosts tell numbers sizes (slice_index starts k) spot
 
 -- the header at a branch's place is one that the place's image gives
 pub record IsSeat (layers : List (List ℕ)) (branch : Shoot Entry) : Type 0 where
@@ -78,7 +88,8 @@ pub record IsMade (tell : Place → ℕ) (spot : Spot Entry) (cs : List (Shoot E
   pub keys_are : AddsKeys directory.shared (names (map (line_in tell) cs)) keys keys'
 
 -- a branch's directory is added, and the directories in it are counted
-pub record AddsDirectory (tell : Place → ℕ) (spot : Spot Entry) (held held' : List Directory) (old new : List Line) (keys keys' : List ℕ) (n : ℕ) : Type 0 where
+pub record AddsDirectory (tell : Place → ℕ) (spot : Spot Entry) (held held' : List Directory)
+    (old new : List Line) (keys keys' : List ℕ) (n : ℕ) : Type 0 where
   pub children : List (Shoot Entry)
   pub below : spot.0.now.below ≡ spread children
   pub forest : IsForest children
@@ -88,32 +99,40 @@ pub record AddsDirectory (tell : Place → ℕ) (spot : Spot Entry) (held held' 
   pub count_is : n ≡ directories children
 
 -- a directory is added, which is linked by its name, its own dot and the directories in it
-pub record AddsLinked (tell : Place → ℕ) (spot : Spot Entry) (nlink : ℕ) (held held' : List Directory)
+pub record AddsLinked (tell : Place → ℕ) (spot : Spot Entry) (nlink : ℕ)
+    (held held' : List Directory)
     (old new : List Line) (keys keys' : List ℕ) : Type 0 where
   pub count : ℕ
   pub added : AddsDirectory tell spot held held' old new keys keys' count
   pub nlink_is : nlink ≡ min (2 + count) (2 ^ 32 - 1)
 
 -- nothing is added, and the node is linked by its paths
-pub record AddsNothing (paths nlink : ℕ) (held held' : List Directory) (old new : List Line) (keys keys' : List ℕ) : Type 0 where
+pub record AddsNothing (paths nlink : ℕ) (held held' : List Directory) (old new : List Line)
+    (keys keys' : List ℕ) : Type 0 where
   pub held_are : held' ≡ held
   pub rows_are : new ≡ old
   pub keys_are : keys' ≡ keys
   pub nlink_is : nlink ≡ paths
 
 -- what is added for a node that is a directory, or is none
-abbrev pub AddsByKind : (Place → ℕ) → Spot Entry → ℕ → Bool → ℕ → List Directory → List Directory → List Line → List Line → List ℕ → List ℕ → Type 0
-AddsByKind tell spot paths true nlink held held' old new keys keys' = AddsLinked tell spot nlink held held' old new keys keys'
-AddsByKind tell spot paths false nlink held held' old new keys keys' = AddsNothing paths nlink held held' old new keys keys'
+abbrev pub AddsByKind : (Place → ℕ) → Spot Entry → ℕ → Bool → ℕ → List Directory → List Directory
+    → List Line → List Line → List ℕ → List ℕ → Type 0
+AddsByKind tell spot paths true nlink held held' old new keys keys' =
+    AddsLinked tell spot nlink held held' old new keys keys'
+AddsByKind tell spot paths false nlink held held' old new keys keys' =
+    AddsNothing paths nlink held held' old new keys keys'
 
 -- the node of a branch, before it is completed
 pub record AddsNode (layers : List (List ℕ)) (tell : Place → ℕ) (spot : Spot Entry) (paths : ℕ)
-    (held held' : List Directory) (old new : List Line) (keys keys' : List ℕ) (node : Node) : Type 0 where
+    (held held' : List Directory) (old new : List Line) (keys keys' : List ℕ)
+    (node : Node) : Type 0 where
   pub kind_is : node.kind ≡ spot.0.now.value.kind
   pub place_is : node.place ≡ spot.0.now.value.place
-  pub read : (image : List ℕ) → slice_get layers node.place.layer ≡ Some image → IsReadFrom image node.place.header node
+  pub read : (image : List ℕ) → slice_get layers node.place.layer ≡ Some image
+      → IsReadFrom image node.place.header node
   pub directory_is : node.directory ≡ length held
-  pub adds : AddsByKind tell spot paths (is_directory node.kind) node.nlink held held' old new keys keys'
+  pub adds : AddsByKind tell spot paths
+      (is_directory node.kind) node.nlink held held' old new keys keys'
 
 -- the node with what its kind makes of that
 abbrev pub completed : Node → Node

@@ -5,8 +5,8 @@ use Rattle.std.specs.List.Sorted.{IsSorted}
 use Rattle.std.specs.Ordering.{nat_cmp, ordering_then}
 use Rattle.lone_keys.specs.Once.{IsOnce}
 
--- keys with their places, all but some that stand at one place alone, in the order of keys, and of places where keys
--- are equal
+-- keys with their places, all but some that stand at one place alone, in the order of keys, and of
+-- places where keys are equal
 pub record AreSeats (keys : List ℕ) (seats : List (ℕ × ℕ)) : Type 0 where
   pub own : All (λ seat. (seat.1 < length keys) × (slice_index keys seat.1 ≡ seat.0)) seats
   pub every : (k : ℕ) → k < length keys → Contains seats (slice_index keys k, k) ⊎ IsOnce keys k

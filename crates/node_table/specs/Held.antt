@@ -19,7 +19,8 @@ held_at held (suc k) = slice_get held k
 
 -- what is held of a node that is a directory
 abbrev pub kept_of : List Directory → Node → Option Directory
-kept_of directories node = if is_directory node.kind then slice_get directories node.directory else None
+kept_of directories node =
+    if is_directory node.kind then slice_get directories node.directory else None
 
 -- the directory of a number
 abbrev pub directory_held : List Node → List Directory → ℕ → Option Directory
@@ -44,7 +45,8 @@ pub record HoldsData (layers : List (List ℕ)) (layer : ℕ) (node : Node) (p :
   pub data_is : bytes_at image node.part.start node.part.len ≡ data_of layers p
 
 -- a directory holds the number of the one above, and its rows with their keys
-pub record IsHeldDirectory (layers : List (List ℕ)) (entries : List Entry) (rows : List Line) (keys : List ℕ) (directory : Directory) (p : Place) : Type 0 where
+pub record IsHeldDirectory (layers : List (List ℕ)) (entries : List Entry) (rows : List Line)
+    (keys : List ℕ) (directory : Directory) (p : Place) : Type 0 where
   pub parent_is : directory.parent ≡ number entries (parent entries p)
   pub start : directory.rows_start ≤ directory.rows_end
   pub end : directory.rows_end ≤ length rows
@@ -53,7 +55,8 @@ pub record IsHeldDirectory (layers : List (List ℕ)) (entries : List Entry) (ro
       (names (slice_range rows directory.rows_start directory.rows_end))
 
 -- the directory of this node is held, and is the place's
-pub record HoldsDirectory (layers : List (List ℕ)) (entries : List Entry) (directories : List Directory)
+pub record HoldsDirectory (layers : List (List ℕ)) (entries : List Entry)
+    (directories : List Directory)
     (rows : List Line) (keys : List ℕ) (node : Node) (p : Place) : Type 0 where
   pub directory : Directory
   pub is : slice_get directories node.directory ≡ Some directory
@@ -69,14 +72,17 @@ pub record IsNode (layers : List (List ℕ)) (entries : List Entry) (directories
   pub mode_is : node.mode ≡ mode layers p
   pub nlink_is : node.nlink ≡ nlink layers entries p
   pub rdev_is : node.rdev ≡ rdev layers p
-  pub directory_is : is_directory node.kind ≡ true → HoldsDirectory layers entries directories rows keys node p
+  pub directory_is : is_directory node.kind ≡ true
+      → HoldsDirectory layers entries directories rows keys node p
 
--- the nodes in the order of their numbers, what is held of the directories, and a key beside each row
+-- the nodes in the order of their numbers, what is held of the directories, and a key beside each
+-- row
 pub record AreNodes (layers : List (List ℕ)) (entries : List Entry) (held : List Node)
     (directories : List Directory) (rows : List Line) (keys : List ℕ) : Type 0 where
   pub level : length held ≡ length (nodes entries)
   pub keys_level : length keys ≡ length rows
-  pub each : (k : ℕ) (node : Node) (p : Place) → slice_get held k ≡ Some node → slice_get (nodes entries) k ≡ Some p
+  pub each : (k : ℕ) (node : Node) (p : Place) → slice_get held k ≡ Some node
+      → slice_get (nodes entries) k ≡ Some p
       → IsNode layers entries directories rows keys node p
 
 -- a table of these layers and their listing
@@ -87,5 +93,7 @@ pub record IsTable (layers : List (List ℕ)) (entries : List Entry) (held : Lis
   pub blocks_are : blocks ≡ blocks_all layers
 
 -- some listing of the layers makes it a table
-abbrev pub IsSomeTable : List (List ℕ) → List Node → List Directory → List Line → List ℕ → ℕ → Type 0
-IsSomeTable layers held directories rows keys blocks = (entries : List Entry) × IsTable layers entries held directories rows keys blocks
+abbrev pub IsSomeTable : List (List ℕ) → List Node → List Directory → List Line → List ℕ → ℕ
+    → Type 0
+IsSomeTable layers held directories rows keys blocks =
+    (entries : List Entry) × IsTable layers entries held directories rows keys blocks

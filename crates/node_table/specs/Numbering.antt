@@ -25,7 +25,13 @@ spot_place spot = placed spot.0.now.value.place
 
 -- an entry with the branch's place
 abbrev pub bare : Spot Entry → Listed
-bare spot = record { path = []; layer = spot.0.now.value.place.layer; header = spot.0.now.value.place.header }
+bare spot =
+    record {
+      path = [];
+      layer = spot.0.now.value.place.layer;
+      header =
+          spot.0.now.value.place.header;
+    }
 
 -- as many of the first spots as entries
 abbrev pub seen : List (Spot Entry) → ℕ → List Listed
@@ -47,15 +53,19 @@ pub record AreKeys (spots : List (Spot Entry)) (keys : List ℕ) : Type 0 where
   pub small : All (λ (spot : Spot Entry). spot.0.now.value.place.header < 2 ^ 32) spots
 
 -- the first i places are numbered
-pub record IsNumbered (spots : List (Spot Entry)) (i : ℕ) (first : List (Spot Entry)) (starts paths numbers : List ℕ) : Type 0 where
+pub record IsNumbered (spots : List (Spot Entry)) (i : ℕ) (first : List (Spot Entry))
+    (starts paths numbers : List ℕ) : Type 0 where
   pub places : map spot_place first ≡ nodes (seen spots i)
   pub each : (k : ℕ) (spot : Spot Entry) → slice_get first k ≡ Some spot → IsFirstSpot spots spot
   pub starts_level : length starts ≡ length first
-  pub starts_are : (k : ℕ) (spot : Spot Entry) → slice_get first k ≡ Some spot → slice_get spots (slice_index starts k) ≡ Some spot
+  pub starts_are : (k : ℕ) (spot : Spot Entry) → slice_get first k ≡ Some spot
+      → slice_get spots (slice_index starts k) ≡ Some spot
   pub level : length paths ≡ length first
-  pub counted : (k : ℕ) (spot : Spot Entry) → slice_get first k ≡ Some spot → slice_index paths k ≡ min (paths_of (seen spots i) (spot_place spot)) (2 ^ 32 - 1)
+  pub counted : (k : ℕ) (spot : Spot Entry) → slice_get first k ≡ Some spot
+      → slice_index paths k ≡ min (paths_of (seen spots i) (spot_place spot)) (2 ^ 32 - 1)
   pub numbers_level : length numbers ≡ i
-  pub known : (k : ℕ) (spot : Spot Entry) → k < i → slice_get spots k ≡ Some spot → number_of (seen spots i) (spot_place spot) ≡ Some (slice_index numbers k)
+  pub known : (k : ℕ) (spot : Spot Entry) → k < i → slice_get spots k ≡ Some spot
+      → number_of (seen spots i) (spot_place spot) ≡ Some (slice_index numbers k)
 
 -- all places are numbered, by what some branches are the first of
 abbrev pub AreNumbered : List (Spot Entry) → List ℕ → List ℕ → List ℕ → Type 0

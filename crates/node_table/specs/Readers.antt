@@ -33,7 +33,8 @@ module _ (layers : List (List ℕ)) (entries : List Entry) where
 
   -- the number of the shown child with a name; none where the place is no directory
   abbrev pub child_of : ModelPlace → List ℕ → Option ℕ
-  child_of p name = if is_directory_at layers p then option_map (number entries) (child entries p name) else None
+  child_of p name =
+      if is_directory_at layers p then option_map (number entries) (child entries p name) else None
 
   -- the shown children of a place, in the order of their names; empty where it is no directory
   abbrev pub rows_of : ModelPlace → List Line
@@ -49,7 +50,8 @@ pub record IsNodeOf (stack : Stacked) (number : ℕ) (node : Node) : Type 0 wher
 
 -- the node of a number; none where the number is not in use
 abbrev pub TellsNode : Stacked → ℕ → Option (Bor Node) → Type 0
-TellsNode stack n found = MatchOption found (node_of stack.entries n ≡ None) (λ node. IsNodeOf stack n node.now)
+TellsNode stack n found =
+    MatchOption found (node_of stack.entries n ≡ None) (λ node. IsNodeOf stack n node.now)
 
 -- the attributes of a number
 abbrev pub attr_at : Stacked → ℕ → Option Attr
@@ -61,7 +63,8 @@ parent_at stack n = option_and_then (parent_of stack.layers stack.entries) (node
 
 -- the number of the child with a name
 abbrev pub child_at : Stacked → ℕ → List ℕ → Option ℕ
-child_at stack n name = option_and_then (λ p. child_of stack.layers stack.entries p name) (node_of stack.entries n)
+child_at stack n name =
+    option_and_then (λ p. child_of stack.layers stack.entries p name) (node_of stack.entries n)
 
 -- the rows of a directory, without . and ..
 abbrev pub rows_at : Stacked → ℕ → List Line

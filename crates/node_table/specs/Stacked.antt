@@ -24,11 +24,14 @@ Listed layers = (entries : List Entry) × ∥ IsListing layers entries ∥₁
 abbrev entry_code : Coded Entry
 entry_code =
     code_by (List (List ℕ) × (ℕ × ℕ))
-    (coded× {A = List (List ℕ)} {B = ℕ × ℕ} (coded_list (coded_list coded_ℕ)) (coded× coded_ℕ coded_ℕ))
-    (λ e. (e.path, (e.layer, e.header))) (λ p. record { path = p.0; layer = p.1.0; header = p.1.1 }) (λ _. refl)
+    (coded× {A = List (List ℕ)} {B =
+    ℕ × ℕ} (coded_list (coded_list coded_ℕ)) (coded× coded_ℕ coded_ℕ))
+    (λ e. (e.path, (e.layer, e.header))) (λ p. record { path = p.0; layer = p.1.0; header = p.1.1 })
+    (λ _. refl)
 
 -- there is only one
 pub listed_once : (layers : List (List ℕ)) → IsProp (Listed layers)
 listed_once layers x y =
     let same = Coded-set (coded_list entry_code) x.0 y.0 in
-    Σ_prop_path (λ _. ∥∥₁_prop) (∥∥₁_elim x.1 same (λ p. ∥∥₁_elim y.1 same (λ q. one_listing layers x.0 y.0 p q)))
+    Σ_prop_path (λ _. ∥∥₁_prop) (∥∥₁_elim x.1 same
+    (λ p. ∥∥₁_elim y.1 same (λ q. one_listing layers x.0 y.0 p q)))

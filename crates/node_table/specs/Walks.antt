@@ -25,8 +25,10 @@ extends (n ∷ top) (m ∷ path) = same_name n m && extends top path
 abbrev pub AreApart : {T : Type 0} → Path → Rows T → Type 0
 AreApart top rows = AllByRecursion (λ row. extends top row.0 ≡ false) rows
 
--- the rows of a branch stand among the rows from j on, below some path, and no other row is below that path
-pub record IsLocated {T : Type 0} (rows : Rows T) (j : ℕ) (branch : Shoot T) (above : T) : Type 0 where
+-- the rows of a branch stand among the rows from j on, below some path, and no other row is below
+-- that path
+pub record IsLocated {T : Type 0} (rows : Rows T) (j : ℕ) (branch : Shoot T)
+    (above : T) : Type 0 where
   pub top : Path
   pub before : Rows T
   pub after : Rows T
@@ -34,10 +36,12 @@ pub record IsLocated {T : Type 0} (rows : Rows T) (j : ℕ) (branch : Shoot T) (
   pub at : length before ≡ j
   pub apart_before : AreApart top before
   pub apart_after : AreApart top after
-  pub above_is : option_map (λ row. row.1) (find (λ row. same_path (take (length top - 1) top) row.0) rows) ≡ Some above
+  pub above_is : option_map (λ row. row.1)
+      (find (λ row. same_path (take (length top - 1) top) row.0) rows) ≡ Some above
 
 -- the spots are the branch and all below it, in the order of their rows
-pub record AreWalked {T : Type 0} (branch : Shoot T) (above : T) (spots : List (Spot T)) : Type 0 where
+pub record AreWalked {T : Type 0} (branch : Shoot T) (above : T)
+    (spots : List (Spot T)) : Type 0 where
   pub level : length spots ≡ length (whole branch)
   pub each : (rows : Rows T) (j : ℕ) → IsLocated rows j branch above → (k : ℕ) (spot : Spot T)
       → slice_get spots k ≡ Some spot → IsLocated rows (j + k) spot.0.now spot.1
@@ -55,10 +59,12 @@ pub record StandsAt {T : Type 0} (spots : List (Spot T)) (place : ℕ) (value : 
 -- the branch above each spot stands at its place
 pub record AreAbove {T : Type 0} (all spots : List (Spot T)) (places : List ℕ) : Type 0 where
   pub level : length places ≡ length spots
-  pub each : (k : ℕ) (spot : Spot T) → slice_get spots k ≡ Some spot → StandsAt all (slice_index places k) spot.1
+  pub each : (k : ℕ) (spot : Spot T) → slice_get spots k ≡ Some spot
+      → StandsAt all (slice_index places k) spot.1
 
 -- these are added at the end, with the places of those above them and their sizes
-pub record AddsWalk {T : Type 0} (branch : Shoot T) (above : T) (old new : List (Spot T)) (places places' sizes sizes' : List ℕ) : Type 0 where
+pub record AddsWalk {T : Type 0} (branch : Shoot T) (above : T) (old new : List (Spot T))
+    (places places' sizes sizes' : List ℕ) : Type 0 where
   pub spots : List (Spot T)
   pub is : new ≡ old ++ spots
   pub walked : AreWalked branch above spots

@@ -1,8 +1,9 @@
 //! Headers that will be read, read ahead.
 //!
-//! Places in the order of their numbers stand anywhere in their images, which are larger than the processor's caches.
-//! One after another the read of each header would be waited for. Here a byte of some dozens is read together, before
-//! their nodes are made, and none of these reads waits for another. No node follows from what is read here.
+//! Places in the order of their numbers stand anywhere in their images, which are larger than the
+//! processor's caches. One after another the read of each header would be waited for. Here a byte
+//! of some dozens is read together, before their nodes are made, and none of these reads waits for
+//! another. No node follows from what is read here.
 
 use crate::walk::Walked;
 use layer_tree::Entry;
@@ -55,7 +56,8 @@ impl Ahead {
     }
 }
 
-// What stands in the first and the last byte of the header of the branch at a place, and of a short name.
+// What stands in the first and the last byte of the header of the branch at a place, and of a short
+// name.
 fn byte_at<A: Allocator>(
     images: &[Image<A>],
     walk: &Walked<'_, Entry, A>,

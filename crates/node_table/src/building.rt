@@ -38,7 +38,8 @@ fn header_in<A: Allocator>(image: &Image<A>, header: u32) -> Head
     }
 }
 
-// Adds the rows of children, and counts the directories among them. The children stand at `start` and after it.
+// Adds the rows of children, and counts the directories among them. The children stand at `start`
+// and after it.
 fn add_rows<A: Allocator + Copy>(
     alloc: A,
     walk: &Walked<'_, Entry, A>,
@@ -69,7 +70,8 @@ fn add_rows<A: Allocator + Copy>(
     Ok(directories)
 }
 
-// Adds the directory that the branch at `start` is, its rows and their keys, and counts the directories in it.
+// Adds the directory that the branch at `start` is, its rows and their keys, and counts the
+// directories in it.
 fn add_directory<A: Allocator + Copy>(
     alloc: A,
     walk: &Walked<'_, Entry, A>,
@@ -101,7 +103,8 @@ fn add_directory<A: Allocator + Copy>(
     Ok(directories)
 }
 
-// Makes the node of the branch at `start` but for what its header says, and adds what is to be held of a directory.
+// Makes the node of the branch at `start` but for what its header says, and adds what is to be held
+// of a directory.
 pub(crate) fn add_node<A: Allocator + Copy>(
     alloc: A,
     images: &[Image<A>],

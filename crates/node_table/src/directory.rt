@@ -3,8 +3,8 @@
 use crate::row::Row;
 use std::alloc::Allocator;
 
-/// What a table holds of a directory: the number of the one above, where its rows stand among all rows, and how many
-/// bytes their names share at the front.
+/// What a table holds of a directory: the number of the one above, where its rows stand among all
+/// rows, and how many bytes their names share at the front.
 #[derive(Clone, Copy, Debug)]
 pub(crate) struct Directory {
     pub(crate) parent: u64,

@@ -8,7 +8,8 @@ ghost use Rattle.node_table.specs.Firsts.{AreSeats, AreFirsts, AreThemselves};
 use lone_keys::seen_once;
 use std::alloc::{AllocError, Allocator};
 
-// Keys with their places, all but some that stand once, in the order of keys, and of places where keys are equal.
+// Keys with their places, all but some that stand once, in the order of keys, and of places where
+// keys are equal.
 fn seats_of<A: Allocator + Copy>(alloc: A, keys: &[u64]) -> Result<Vec<(u64, usize), A>, AllocError>
     ensures { IfOk result (λ seats. AreSeats keys.now seats.items) }
 {

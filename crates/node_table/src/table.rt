@@ -28,9 +28,10 @@ use std::thread::Threads;
 
 /// The nodes of a stack of layers, by number: attributes, rows and data.
 ///
-/// A clause sees the layers and their listing. Each node and row takes at most 96 bytes beside a name of more than 22
-/// (16 of them for guesses of where names stand), and a directory 32 more. No reader takes memory, and each answers for
-/// every number: 1 is the root, and a number that is not in use has nothing.
+/// A clause sees the layers and their listing. Each node and row takes at most 96 bytes beside a
+/// name of more than 22 (16 of them for guesses of where names stand), and a directory 32 more. No
+/// reader takes memory, and each answers for every number: 1 is the root, and a number that is not
+/// in use has nothing.
 #[derive(Drop)]
 pub struct Table<A: Allocator> {
     images: Vec<Image<A>, A>,
@@ -56,14 +57,15 @@ impl<A: Allocator> Model for Table<A> {
     ghost view = { λ held. record { layers = held.images.items; entries = held.listing.0 } };
 
     ghost invariant = { λ held. IsTable held.images.items held.listing.0 held.nodes.items
-        held.directories.all.items held.directories.rows.items held.directories.keys.items held.blocks };
+        held.directories.all.items held.directories.rows.items held.directories.keys.items
+        held.blocks };
 }
 
 impl<A: Allocator + Copy> Table<A> {
     /// The table of a stack of images, from its tree. The images are the layers, the lowest first.
     ///
-    /// It takes n log n steps in the paths that the stack shows. Attributes are worked out in several threads where
-    /// there are many. An error comes only where memory was refused.
+    /// It takes n log n steps in the paths that the stack shows. Attributes are worked out in
+    /// several threads where there are many. An error comes only where memory was refused.
     pub fn of<R: Threads + Sync>(
         rt: &R,
         alloc: A,
@@ -132,12 +134,12 @@ impl<A: Allocator> Table<A> {
         node_at(&self.nodes, number)
     }
 
-    /// The number of the child with this name in a directory; none where the number is no directory that shows
-    /// such a child. Names compare byte by byte, and neither `.` nor `..` is a child.
+    /// The number of the child with this name in a directory; none where the number is no directory
+    /// that shows such a child. Names compare byte by byte, and neither `.` nor `..` is a child.
     ///
-    /// Where the row is guessed it looks at one row, or at few. Else it takes as many steps over the keys of the
-    /// directory's rows as their number has binary digits, and where many names have one key at most as many over these
-    /// names again.
+    /// Where the row is guessed it looks at one row, or at few. Else it takes as many steps over
+    /// the keys of the directory's rows as their number has binary digits, and where many names
+    /// have one key at most as many over these names again.
     pub fn child(&self, number: u64, name: &[u8]) -> Option<u64>
         ensures { result ≡ child_at self.now number name.now }
     {
@@ -147,8 +149,8 @@ impl<A: Allocator> Table<A> {
         number_named(rows, keys, &self.guesses, number, directory, name)
     }
 
-    /// Where the row of a directory's child may stand among all rows. It is a guess, for whoever reads ahead: no answer
-    /// follows from it.
+    /// Where the row of a directory's child may stand among all rows. It is a guess, for whoever
+    /// reads ahead: no answer follows from it.
     pub fn guess(&self, number: u64, name: &[u8]) -> Option<usize> {
         let place = self.guesses.first(number, name)?;
         let directory = directory_at(&self.nodes, &self.directories.all, number)?;
@@ -164,8 +166,8 @@ impl<A: Allocator> Table<A> {
         self.directories.rows.get(place)
     }
 
-    /// The children of a directory in the order of their names, without `.` and `..`; empty where the number is no
-    /// directory.
+    /// The children of a directory in the order of their names, without `.` and `..`; empty where
+    /// the number is no directory.
     pub fn rows(&self, number: u64) -> &[Row<A>]
         ensures { result.now ≡ rows_at self.now number }
     {
@@ -175,8 +177,8 @@ impl<A: Allocator> Table<A> {
         }
     }
 
-    /// The number of the directory above a directory, that of the root being the root's; none where the number is no
-    /// directory.
+    /// The number of the directory above a directory, that of the root being the root's; none where
+    /// the number is no directory.
     pub fn parent(&self, number: u64) -> Option<u64>
         ensures { result ≡ parent_at self.now number }
     {
@@ -192,8 +194,8 @@ impl<A: Allocator> Table<A> {
         Some(attr_of(number, node))
     }
 
-    /// The data of a regular file, or the target of a symbolic link; empty where the number is neither. A reply's
-    /// header can say how many they are.
+    /// The data of a regular file, or the target of a symbolic link; empty where the number is
+    /// neither. A reply's header can say how many they are.
     pub fn bytes(&self, number: u64) -> &[u8]
         ensures value { result.now ≡ data_of_number self.now number }
         ensures short { 16 + length result.now < 2 ^ 32 }

@@ -42,8 +42,8 @@ pub(crate) fn count_branches<T: Copy + Drop, A: Allocator>(branch: &Branch<T, A>
     count
 }
 
-// The branch and all below it. No recursion goes deeper than the tree. The branch above stands at `place`, or is this
-// one.
+// The branch and all below it. No recursion goes deeper than the tree. The branch above stands at
+// `place`, or is this one.
 pub(crate) fn walk<'t, T: Copy + Drop, A: Allocator>(
     branch: &'t Branch<T, A>,
     above: T,

@@ -6,15 +6,16 @@ use Rattle.std.proofs.KnownBytes.{Appends-nil, Appends-trans}
 use Rattle.std.proofs.lemmas.List.Concat.{flat_map-append}
 use Rattle.stack_model.specs.Stack.{Path}
 use Rattle.path_list.specs.Lines.{escaped, name_text, names_text, path_text}
+use Rattle.devices.specs.States.{SinkState}
 use Rattle.path_list.specs.Walks.{Gains}
 
-pub gains_none : (w : Option (List ℕ)) (r : List ℕ) → Gains w r w r []
-gains_none w r = record { gained = Appends-nil (append_known w r) }
+pub gains_none : (w : SinkState) (r : List ℕ) → Gains w r w r []
+gains_none w r = record { gained = Appends-nil (append_known w.held r) }
 
-pub gains_more : {u v w : Option (List ℕ)} {r s t xs ys : List ℕ} → Gains u r v s xs → Gains v s w t ys → Gains u r w t (xs ++ ys)
-gains_more {u} {v} {w} {r} {s} {t} {xs} {ys} x y = record { gained = Appends-trans (append_known u r) (append_known v s) (append_known w t) xs ys x.gained y.gained }
+pub gains_more : {u v w : SinkState} {r s t xs ys : List ℕ} → Gains u r v s xs → Gains v s w t ys → Gains u r w t (xs ++ ys)
+gains_more {u} {v} {w} {r} {s} {t} {xs} {ys} x y = record { gained = Appends-trans (append_known u.held r) (append_known v.held s) (append_known w.held t) xs ys x.gained y.gained }
 
-pub gains_same : {u w : Option (List ℕ)} {r t xs ys : List ℕ} → xs ≡ ys → Gains u r w t xs → Gains u r w t ys
+pub gains_same : {u w : SinkState} {r t xs ys : List ℕ} → xs ≡ ys → Gains u r w t xs → Gains u r w t ys
 gains_same e x = rw (sym e) x
 
 pub one_more : {X : Type 0} (f : X → List ℕ) (xs : List X) (i : ℕ) (d : X) → i < length xs → flat_map f (take (i + 1) xs) ≡ flat_map f (take i xs) ++ f (get_or xs i d)
@@ -35,6 +36,6 @@ path_more [] n = way_more [] n
 path_more (m ∷ path) n = way_more (m ∷ path) n
 
 -- a text that is put where a call succeeds
-pub gains_on : {A E : Type 0} (r : Result A E) {u v : Option (List ℕ)} {a b xs : List ℕ} (w : Option (List ℕ)) (c ys zs : List ℕ) → Gains u a v b xs → OnOk r (Gains v b w c ys) → xs ++ ys ≡ zs → OnOk r (Gains u a w c zs)
+pub gains_on : {A E : Type 0} (r : Result A E) {u v : SinkState} {a b xs : List ℕ} (w : SinkState) (c ys zs : List ℕ) → Gains u a v b xs → OnOk r (Gains v b w c ys) → xs ++ ys ≡ zs → OnOk r (Gains u a w c zs)
 gains_on (Ok x) w c ys zs p q e = gains_same e (gains_more p q)
 gains_on (Err x) w c ys zs p q e = tt

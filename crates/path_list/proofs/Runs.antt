@@ -4,6 +4,7 @@ use Rattle.std.proofs.lemmas.List.{take_more}
 use Rattle.std.specs.List.{IsFirstAndRest}
 use Rattle.std.proofs.lemmas.List.Concat.{flat_map-append}
 use Rattle.path_list.specs.Lines.{is_unescaped, escaped, name_text}
+use Rattle.devices.specs.States.{SinkState}
 use Rattle.path_list.specs.Walks.{Gains, GainsAllBut}
 use Rattle.path_list.proofs.Gaining.{gains_none, gains_more, gains_same, name_more}
 
@@ -52,10 +53,10 @@ byte_then name run others rest byte i r p q f =
     append_assoc run (escaped byte) (name_text rest) ∙ ap (λ t. run ++ t) (sym (text_first byte rest) ∙ ap name_text (sym f.0))
     ∙ run_then name run others i r p q
 
-pub all_left : (w : Option (List ℕ)) (r name : List ℕ) → GainsAllBut w r w r name name
+pub all_left : (w : SinkState) (r name : List ℕ) → GainsAllBut w r w r name name
 all_left w r name = record { text = []; gains = gains_none w r; whole = refl }
 
-pub less_left : {u v w : Option (List ℕ)} {r s t name rest others : List ℕ}
+pub less_left : {u v w : SinkState} {r s t name rest others : List ℕ}
     → GainsAllBut u r v s name rest → GainsAllBut v s w t rest others → GainsAllBut u r w t name others
 less_left {others = others} g h = record {
   text = g.text ++ h.text;
@@ -68,5 +69,5 @@ unfolding name_text
 none_text [] z = refl
 none_text (byte ∷ rest) z = absurd (omega (arith, z))
 
-pub none_left : {u w : Option (List ℕ)} {r t name rest : List ℕ} → length rest ≡ 0 → GainsAllBut u r w t name rest → Gains u r w t (name_text name)
+pub none_left : {u w : SinkState} {r t name rest : List ℕ} → length rest ≡ 0 → GainsAllBut u r w t name rest → Gains u r w t (name_text name)
 none_left {rest = rest} z g = gains_same (sym (append-nil g.text) ∙ ap (λ t. g.text ++ t) (sym (none_text rest z)) ∙ g.whole) g.gains

@@ -36,5 +36,7 @@ IsShownDirectory layers entries path =
 -- the shown paths make a tree: each lies in shown directories, and a directory has one path
 pub record AreTree (layers : List (List ℕ)) (entries : List Entry) : Type 0 where
   pub rising : Rises entries
-  pub above : (e : Entry) (top path : Path) (n : List ℕ) → IsAmong e entries → e.path ≡ top ++ n ∷ path → IsShownDirectory layers entries top
-  pub once : (d e : Entry) → IsAmong d entries → IsAmong e entries → place d ≡ place e → is_directory_at layers (place d) ≡ true → d.path ≡ e.path
+  pub above : (e : Entry) (top path : Path) (n : List ℕ) → IsAmong e entries
+      → e.path ≡ top ++ n ∷ path → IsShownDirectory layers entries top
+  pub once : (d e : Entry) → IsAmong d entries → IsAmong e entries → place d ≡ place e
+      → is_directory_at layers (place d) ≡ true → d.path ≡ e.path

@@ -16,7 +16,8 @@ is_unescaped byte = nat_le 0x21 byte && nat_le byte 0x7e && not (byte == 92)
 
 -- a byte of a name as it is printed: itself, or else `\` and two hexadecimal digits
 abbrev pub escaped : ℕ → List ℕ
-escaped byte = if is_unescaped byte then byte ∷ [] else 92 ∷ hex_digit (byte / 16) ∷ hex_digit (byte % 16) ∷ []
+escaped byte =
+    if is_unescaped byte then byte ∷ [] else 92 ∷ hex_digit (byte / 16) ∷ hex_digit (byte % 16) ∷ []
 
 -- a name as it is printed
 unfoldable pub name_text : List ℕ → List ℕ
@@ -38,7 +39,8 @@ octal_digit n = 48 + n % 8
 -- a mode in six octal digits
 abbrev pub mode_text : ℕ → List ℕ
 mode_text n =
-    octal_digit (n / 8 ^ 5) ∷ octal_digit (n / 8 ^ 4) ∷ octal_digit (n / 8 ^ 3) ∷ octal_digit (n / 8 ^ 2) ∷ octal_digit (n / 8) ∷ octal_digit n ∷ []
+    octal_digit (n / 8 ^ 5) ∷ octal_digit (n / 8 ^ 4) ∷ octal_digit (n / 8 ^ 3) ∷ octal_digit
+    (n / 8 ^ 2) ∷ octal_digit (n / 8) ∷ octal_digit n ∷ []
 
 -- a text with a space behind it
 abbrev pub spaced : List ℕ → List ℕ
@@ -48,7 +50,8 @@ module _ (layers : List (List ℕ)) (entries : List Entry) where
   -- number, mode, nlink, size and layer of the place, and the path
   unfoldable pub line_of : Place → Path → List ℕ
   line_of p path =
-      spaced (decimal (number entries p)) ++ spaced (mode_text (mode layers p)) ++ spaced (decimal (nlink layers entries p))
+      spaced (decimal (number entries p)) ++ spaced (mode_text (mode layers p))
+      ++ spaced (decimal (nlink layers entries p))
       ++ spaced (decimal (size_at layers p)) ++ spaced (decimal p.0) ++ path_text path ++ 10 ∷ []
 
   -- the line of a shown path

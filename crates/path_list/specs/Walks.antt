@@ -3,6 +3,7 @@ use Rattle.std.specs.Prelude.{◌≡◌, ℕ, List, [], ◌∷◌, ◌++◌, Opt
 use Rattle.std.specs.Borrow.{Bor}
 use Rattle.std.specs.Option.{option_map_or}
 use Rattle.std.specs.Io.KnownBytes.{Appends, append_known}
+use Rattle.devices.specs.States.{SinkState}
 use Rattle.stack_model.specs.Stack.{Path}
 use Rattle.stack_model.specs.Listing.{Entry, IsAmong}
 use Rattle.stack_model.specs.Numbers.{place, number, node_of}
@@ -12,14 +13,15 @@ use Rattle.path_list.specs.Lines.{name_text, line_of, line}
 use Rattle.path_list.specs.Below.{below, AreTree}
 
 -- what a sink holds together with the bytes on their way to it grew by these bytes
-pub record Gains (old_held : Option (List ℕ)) (old_room : List ℕ) (new_held : Option (List ℕ)) (new_room : List ℕ) (bytes : List ℕ) : Type 0 where
-  pub gained : Appends (append_known old_held old_room) (append_known new_held new_room) bytes
+pub record Gains (old : SinkState) (old_room : List ℕ) (new : SinkState) (new_room : List ℕ)
+    (bytes : List ℕ) : Type 0 where
+  pub gained : Appends (append_known old.held old_room) (append_known new.held new_room) bytes
 
 -- what they gained is the text of a name but for that of this rest of it
-pub record GainsAllBut (old_held : Option (List ℕ)) (old_room : List ℕ)
-    (new_held : Option (List ℕ)) (new_room : List ℕ) (name rest : List ℕ) : Type 0 where
+pub record GainsAllBut (old : SinkState) (old_room : List ℕ) (new : SinkState)
+    (new_room : List ℕ) (name rest : List ℕ) : Type 0 where
   pub text : List ℕ
-  pub gains : Gains old_held old_room new_held new_room text
+  pub gains : Gains old old_room new new_room text
   pub whole : text ++ name_text rest ≡ name_text name
 
 -- the names from the root
@@ -28,7 +30,8 @@ way trail = option_map_or (λ names. names.now) trail []
 
 -- the line of a number at a path
 abbrev pub line_at : Stacked → ℕ → Path → List ℕ
-line_at stack n path = option_map_or (λ p. line_of stack.layers stack.entries p path) (node_of stack.entries n) []
+line_at stack n path =
+    option_map_or (λ p. line_of stack.layers stack.entries p path) (node_of stack.entries n) []
 
 -- the lines of all paths below a path
 abbrev pub lines_below : Stacked → Path → List ℕ
@@ -36,7 +39,8 @@ lines_below stack path = flat_map (line stack.layers stack.entries) (below stack
 
 -- the line of a child of the directory at a path, and those of all below it
 abbrev pub piece_at : Stacked → Path → Line → List ℕ
-piece_at stack top row = line_at stack row.number (top ++ row.name ∷ []) ++ lines_below stack (top ++ row.name ∷ [])
+piece_at stack top row =
+    line_at stack row.number (top ++ row.name ∷ []) ++ lines_below stack (top ++ row.name ∷ [])
 
 -- the shown paths make a tree, and the number is that of the path
 pub record IsVisited (stack : Stacked) (n : ℕ) (path : Path) : Type 0 where

@@ -8,9 +8,10 @@
 //! 3 100644 1 1 0 /a/y
 //! ```
 //!
-//! It goes down from the root by the rows of directories, and the lines go out in pieces, so the memory that it takes
-//! does not grow with their number. That these are all shown paths, each once, stands on what the layers are: nothing
-//! is shown below what is no directory, and a directory has one path (`laws`).
+//! It goes down from the root by the rows of directories, and the lines go out in pieces, so the
+//! memory that it takes does not grow with their number. That these are all shown paths, each once,
+//! stands on what the layers are: nothing is shown below what is no directory, and a directory has
+//! one path (`laws`).
 //!
 //! The crate stands on `node_table`, and on `devices` for its sink.
 #![tactic(auto)]

@@ -2,7 +2,7 @@
 
 ghost use Rattle.std.specs.Prelude.{◌≡◌, ◌≤◌, ◌<◌, ◌+◌, ◌^◌, [], ◌∷◌, ◌++◌, length, OnOk, vec_len, vec_capacity};
 ghost use Rattle.std.specs.Io.KnownBytes.{Appends};
-ghost use Rattle.devices.specs.Counting.{Settles};
+ghost use Rattle.devices.specs.Pushing.{Settles};
 ghost use Rattle.path_list.specs.Walks.{Gains};
 
 use devices::{Failed, Sink, hand_on};
@@ -33,27 +33,29 @@ pub(crate) fn drain<K: Sink, A: Allocator>(
     sink: &mut K,
     room: &mut Vec<u8, A>,
 ) -> Result<(), Failed>
-    requires { (K.counts sink.old).failures < 2 ^ 63 }
-    ensures put { OnOk result (Appends (K.held sink.old) (K.held sink.new) room.old.items) }
+    requires { (K.state sink.old).counts.failures < 2 ^ 63 }
+    ensures put { OnOk result (Appends (K.state sink.old).held (K.state sink.new).held
+        room.old.items) }
     ensures items { OnOk result (room.new.items ≡ []) }
     ensures length { OnOk result (vec_len room.new ≡ 0) }
-    ensures counted { Settles result (K.counts sink.old) (K.counts sink.new) }
+    ensures counted { Settles result (K.state sink.old) (K.state sink.new) }
 {
     hand_on(sink, room.as_slice())?;
     room.clear();
     Ok(())
 }
 
-// Puts bytes behind those that wait, and hands these on first where there is no room. It takes no memory.
+// Puts bytes behind those that wait, and hands these on first where there is no room. It takes no
+// memory.
 pub(crate) fn put<K: Sink, A: Allocator>(
     sink: &mut K,
     room: &mut Vec<u8, A>,
     bytes: &[u8],
 ) -> Result<(), Failed>
-    requires { (K.counts sink.old).failures < 2 ^ 63 }
-    ensures gained { OnOk result (Gains (K.held sink.old) room.old.items
-        (K.held sink.new) room.new.items bytes.now) }
-    ensures counted { Settles result (K.counts sink.old) (K.counts sink.new) }
+    requires { (K.state sink.old).counts.failures < 2 ^ 63 }
+    ensures gained { OnOk result (Gains (K.state sink.old) room.old.items
+        (K.state sink.new) room.new.items bytes.now) }
+    ensures counted { Settles result (K.state sink.old) (K.state sink.new) }
 {
     if bytes.len() <= room.capacity() - room.len() {
         append(room, bytes);
@@ -73,10 +75,10 @@ pub(crate) fn put_byte<K: Sink, A: Allocator>(
     room: &mut Vec<u8, A>,
     byte: u8,
 ) -> Result<(), Failed>
-    requires { (K.counts sink.old).failures < 2 ^ 63 }
-    ensures gained { OnOk result (Gains (K.held sink.old) room.old.items
-        (K.held sink.new) room.new.items (byte ∷ [])) }
-    ensures counted { Settles result (K.counts sink.old) (K.counts sink.new) }
+    requires { (K.state sink.old).counts.failures < 2 ^ 63 }
+    ensures gained { OnOk result (Gains (K.state sink.old) room.old.items
+        (K.state sink.new) room.new.items (byte ∷ [])) }
+    ensures counted { Settles result (K.state sink.old) (K.state sink.new) }
 {
     if room.len() < room.capacity() {
         append_byte(room, byte);

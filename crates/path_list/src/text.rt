@@ -2,7 +2,7 @@
 
 ghost use Rattle.std.specs.Prelude.{◌≡◌, ◌<◌, ◌≤◌, ◌^◌, ◌++◌, ◌∷◌, [], length, take, OnOk, IfOk};
 ghost use Rattle.std.specs.Fmt.{decimal};
-ghost use Rattle.devices.specs.Counting.{Settles};
+ghost use Rattle.devices.specs.Pushing.{Settles};
 ghost use Rattle.path_list.specs.Lines.{hex_digit, escaped, name_text, names_text, path_text, octal_digit, mode_text, is_unescaped, spaced};
 ghost use Rattle.path_list.specs.Walks.{Gains, GainsAllBut, way};
 
@@ -53,10 +53,10 @@ fn put_escaped<K: Sink, A: Allocator>(
     room: &mut Vec<u8, A>,
     byte: u8,
 ) -> Result<(), Failed>
-    requires { (K.counts sink.old).failures < 2 ^ 63 }
-    ensures gained { OnOk result (Gains (K.held sink.old) room.old.items
-        (K.held sink.new) room.new.items (escaped byte)) }
-    ensures counted { Settles result (K.counts sink.old) (K.counts sink.new) }
+    requires { (K.state sink.old).counts.failures < 2 ^ 63 }
+    ensures gained { OnOk result (Gains (K.state sink.old) room.old.items
+        (K.state sink.new) room.new.items (escaped byte)) }
+    ensures counted { Settles result (K.state sink.old) (K.state sink.new) }
 {
     if is_unescaped(byte) {
         put_byte(sink, room, byte)
@@ -89,11 +89,11 @@ fn put_run<'a, K: Sink, A: Allocator>(
     name: &'a [u8],
 ) -> Result<&'a [u8], Failed>
     requires some { 0 < length name.now }
-    requires counts { (K.counts sink.old).failures < 2 ^ 63 }
-    ensures gained { IfOk result (λ rest. GainsAllBut (K.held sink.old) room.old.items
-        (K.held sink.new) room.new.items name.now rest.now) }
+    requires counts { (K.state sink.old).counts.failures < 2 ^ 63 }
+    ensures gained { IfOk result (λ rest. GainsAllBut (K.state sink.old) room.old.items
+        (K.state sink.new) room.new.items name.now rest.now) }
     ensures shorter { IfOk result (λ rest. length rest.now < length name.now) }
-    ensures counted { Settles result (K.counts sink.old) (K.counts sink.new) }
+    ensures counted { Settles result (K.state sink.old) (K.state sink.new) }
 {
     let (run, others) = name.split_at(count_unescaped(name));
     put(sink, room, run)?;
@@ -112,10 +112,10 @@ fn put_name<K: Sink, A: Allocator>(
     room: &mut Vec<u8, A>,
     name: &[u8],
 ) -> Result<(), Failed>
-    requires { (K.counts sink.old).failures < 2 ^ 63 }
-    ensures gained { OnOk result (Gains (K.held sink.old) room.old.items
-        (K.held sink.new) room.new.items (name_text name.now)) }
-    ensures counted { Settles result (K.counts sink.old) (K.counts sink.new) }
+    requires { (K.state sink.old).counts.failures < 2 ^ 63 }
+    ensures gained { OnOk result (Gains (K.state sink.old) room.old.items
+        (K.state sink.new) room.new.items (name_text name.now)) }
+    ensures counted { Settles result (K.state sink.old) (K.state sink.new) }
 {
     let mut rest = name;
     while !rest.is_empty() {
@@ -130,10 +130,10 @@ fn put_step<K: Sink, A: Allocator>(
     room: &mut Vec<u8, A>,
     name: &[u8],
 ) -> Result<(), Failed>
-    requires { (K.counts sink.old).failures < 2 ^ 63 }
-    ensures gained { OnOk result (Gains (K.held sink.old) room.old.items
-        (K.held sink.new) room.new.items (47 ∷ name_text name.now)) }
-    ensures counted { Settles result (K.counts sink.old) (K.counts sink.new) }
+    requires { (K.state sink.old).counts.failures < 2 ^ 63 }
+    ensures gained { OnOk result (Gains (K.state sink.old) room.old.items
+        (K.state sink.new) room.new.items (47 ∷ name_text name.now)) }
+    ensures counted { Settles result (K.state sink.old) (K.state sink.new) }
 {
     put_byte(sink, room, b'/')?;
     put_name(sink, room, name)
@@ -145,10 +145,10 @@ fn put_names<K: Sink, A: Allocator>(
     room: &mut Vec<u8, A>,
     trail: Option<&Trail<'_>>,
 ) -> Result<(), Failed>
-    requires { (K.counts sink.old).failures < 2 ^ 63 }
-    ensures gained { OnOk result (Gains (K.held sink.old) room.old.items
-        (K.held sink.new) room.new.items (names_text (way trail.entry))) }
-    ensures counted { Settles result (K.counts sink.old) (K.counts sink.new) }
+    requires { (K.state sink.old).counts.failures < 2 ^ 63 }
+    ensures gained { OnOk result (Gains (K.state sink.old) room.old.items
+        (K.state sink.new) room.new.items (names_text (way trail.entry))) }
+    ensures counted { Settles result (K.state sink.old) (K.state sink.new) }
 {
     match trail {
         None => Ok(()),
@@ -165,10 +165,10 @@ pub(crate) fn put_path<K: Sink, A: Allocator>(
     room: &mut Vec<u8, A>,
     trail: Option<&Trail<'_>>,
 ) -> Result<(), Failed>
-    requires { (K.counts sink.old).failures < 2 ^ 63 }
-    ensures gained { OnOk result (Gains (K.held sink.old) room.old.items
-        (K.held sink.new) room.new.items (path_text (way trail.entry))) }
-    ensures counted { Settles result (K.counts sink.old) (K.counts sink.new) }
+    requires { (K.state sink.old).counts.failures < 2 ^ 63 }
+    ensures gained { OnOk result (Gains (K.state sink.old) room.old.items
+        (K.state sink.new) room.new.items (path_text (way trail.entry))) }
+    ensures counted { Settles result (K.state sink.old) (K.state sink.new) }
 {
     match trail {
         None => put_byte(sink, room, b'/'),
@@ -185,10 +185,10 @@ pub(crate) fn put_number<K: Sink, A: Allocator>(
     room: &mut Vec<u8, A>,
     number: u64,
 ) -> Result<(), Failed>
-    requires { (K.counts sink.old).failures < 2 ^ 63 }
-    ensures gained { OnOk result (Gains (K.held sink.old) room.old.items
-        (K.held sink.new) room.new.items (spaced (decimal number))) }
-    ensures counted { Settles result (K.counts sink.old) (K.counts sink.new) }
+    requires { (K.state sink.old).counts.failures < 2 ^ 63 }
+    ensures gained { OnOk result (Gains (K.state sink.old) room.old.items
+        (K.state sink.new) room.new.items (spaced (decimal number))) }
+    ensures counted { Settles result (K.state sink.old) (K.state sink.new) }
 {
     let mut digits = Buffer::new();
     put(sink, room, digits.format(number).as_bytes())?;
@@ -201,10 +201,10 @@ pub(crate) fn put_mode<K: Sink, A: Allocator>(
     room: &mut Vec<u8, A>,
     mode: u32,
 ) -> Result<(), Failed>
-    requires { (K.counts sink.old).failures < 2 ^ 63 }
-    ensures gained { OnOk result (Gains (K.held sink.old) room.old.items
-        (K.held sink.new) room.new.items (spaced (mode_text mode))) }
-    ensures counted { Settles result (K.counts sink.old) (K.counts sink.new) }
+    requires { (K.state sink.old).counts.failures < 2 ^ 63 }
+    ensures gained { OnOk result (Gains (K.state sink.old) room.old.items
+        (K.state sink.new) room.new.items (spaced (mode_text mode))) }
+    ensures counted { Settles result (K.state sink.old) (K.state sink.new) }
 {
     put(sink, room, &spaced_mode(mode))
 }

@@ -1,8 +1,7 @@
 //! The walk over all paths of a table.
 
 ghost use Rattle.std.specs.Prelude.{◌≡◌, ◌<◌, ◌≤◌, ◌^◌, OnOk, IfErr};
-ghost use Rattle.devices.specs.Counting.{Settles};
-ghost use Rattle.devices.specs.States.{sink_state};
+ghost use Rattle.devices.specs.Pushing.{Settles};
 ghost use Rattle.path_list.specs.Below.{AreImages};
 ghost use Rattle.path_list.specs.Lines.{lines};
 ghost use Rattle.path_list.specs.Faults.{Lists, IsBrokenOff};
@@ -56,10 +55,10 @@ fn put_line<K: Sink, A: Allocator, B: Allocator>(
     number: u64,
     trail: Option<&Trail<'_>>,
 ) -> Result<(), Failed>
-    requires { (K.counts sink.old).failures < 2 ^ 63 }
-    ensures gained { OnOk result (Gains (K.held sink.old) room.old.items
-        (K.held sink.new) room.new.items (line_at table.now number (way trail.entry))) }
-    ensures counted { Settles result (K.counts sink.old) (K.counts sink.new) }
+    requires { (K.state sink.old).counts.failures < 2 ^ 63 }
+    ensures gained { OnOk result (Gains (K.state sink.old) room.old.items
+        (K.state sink.new) room.new.items (line_at table.now number (way trail.entry))) }
+    ensures counted { Settles result (K.state sink.old) (K.state sink.new) }
 {
     let Some(node) = table.node(number) else {
         return Ok(());
@@ -76,7 +75,8 @@ fn put_line<K: Sink, A: Allocator, B: Allocator>(
     put_byte(sink, room, b'\n')
 }
 
-// Puts the lines of all paths below that of a number. No recursion goes deeper than the paths are long.
+// Puts the lines of all paths below that of a number. No recursion goes deeper than the paths are
+// long.
 fn put_below<K: Sink, A: Allocator, B: Allocator>(
     sink: &mut K,
     room: &mut Vec<u8, A>,
@@ -85,10 +85,10 @@ fn put_below<K: Sink, A: Allocator, B: Allocator>(
     trail: Option<&Trail<'_>>,
 ) -> Result<(), Failed>
     requires visited { IsVisited table.now number (way trail) }
-    requires counts { (K.counts sink.old).failures < 2 ^ 63 }
-    ensures gained { OnOk result (Gains (K.held sink.old) room.old.items
-        (K.held sink.new) room.new.items (lines_below table.now (way trail.entry))) }
-    ensures counted { Settles result (K.counts sink.old) (K.counts sink.new) }
+    requires counts { (K.state sink.old).counts.failures < 2 ^ 63 }
+    ensures gained { OnOk result (Gains (K.state sink.old) room.old.items
+        (K.state sink.new) room.new.items (lines_below table.now (way trail.entry))) }
+    ensures counted { Settles result (K.state sink.old) (K.state sink.new) }
 {
     for row in table.rows(number) {
         let below = Trail {
@@ -116,10 +116,10 @@ fn put_all<K: Sink, A: Allocator, B: Allocator>(
     room: &mut Vec<u8, A>,
     table: &Table<B>,
 ) -> Result<(), Failed>
-    requires { (K.counts sink.old).failures < 2 ^ 63 }
-    ensures gained { OnOk result (Gains (K.held sink.old) room.old.items
-        (K.held sink.new) room.new.items (lines table.now.layers table.now.entries)) }
-    ensures counted { Settles result (K.counts sink.old) (K.counts sink.new) }
+    requires { (K.state sink.old).counts.failures < 2 ^ 63 }
+    ensures gained { OnOk result (Gains (K.state sink.old) room.old.items
+        (K.state sink.new) room.new.items (lines table.now.layers table.now.entries)) }
+    ensures counted { Settles result (K.state sink.old) (K.state sink.new) }
 {
     are_images(table.images());
     if table.len() == 0 {
@@ -131,24 +131,22 @@ fn put_all<K: Sink, A: Allocator, B: Allocator>(
 
 /// Puts a line for each shown path of the table's layers to a sink, in the order of the paths.
 ///
-/// A line is `<number> <mode> <nlink> <size> <layer> <path>`: the mode in six octal digits, the layer that of the
-/// node's place, and the path after `/`, which alone is the root. A byte of a name outside 0x21 to 0x7e, and that of
-/// `\`, is printed as `\` and two lower hexadecimal digits.
+/// A line is `<number> <mode> <nlink> <size> <layer> <path>`: the mode in six octal digits, the
+/// layer that of the node's place, and the path after `/`, which alone is the root. A byte of a
+/// name outside 0x21 to 0x7e, and that of `\`, is printed as `\` and two lower hexadecimal digits.
 ///
-/// The lines go out in pieces of about 64 KiB, each of which is flushed. Memory for one is taken first: at `Memory` the
-/// sink is as before. `Write` comes only where the sink failed in this call, once; nothing is said of what it then
-/// holds. Besides, it takes as much of the stack as the deepest path has names, and a time that grows with the length
-/// of the lines.
+/// The lines go out in pieces of about 64 KiB, each of which is flushed. Memory for one is taken
+/// first: at `Memory` the sink is as before. `Write` comes only where the sink failed in this call,
+/// once; nothing is said of what it then holds. Besides, it takes as much of the stack as the
+/// deepest path has names, and a time that grows with the length of the lines.
 pub fn write_list<A: Allocator, B: Allocator, K: Sink>(
     alloc: A,
     table: &Table<B>,
     sink: &mut K,
 ) -> Result<(), ListFault>
-    requires { (K.counts sink.old).failures < 2 ^ 63 }
-    ensures ok { OnOk result (Lists table.now (K.held sink.old) (K.held sink.new)) }
-    ensures flushed { OnOk result ((K.counts sink.new).unflushed ≤ (K.counts sink.old).unflushed) }
-    ensures err { IfErr result (IsBrokenOff (sink_state (K.held sink.old) (K.counts sink.old))
-        (sink_state (K.held sink.new) (K.counts sink.new))) }
+    requires { (K.state sink.old).counts.failures < 2 ^ 63 }
+    ensures ok { OnOk result (Lists table.now (K.state sink.old) (K.state sink.new)) }
+    ensures err { IfErr result (IsBrokenOff (K.state sink.old) (K.state sink.new)) }
 {
     let mut room = Vec::with_capacity(alloc, PIECE)?;
     put_all(sink, &mut room, table)?;

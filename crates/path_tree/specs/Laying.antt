@@ -2,7 +2,8 @@
 use Rattle.std.specs.Prelude.{◌≡◌, ℕ, List, ◌∷◌, Option, Some, None}
 use Rattle.path_tree.specs.Rows.{Shoot, spread, whole, at_path, IsRising, IsForest}
 
--- what is at a path where one tree lies on another: f of both values where both have one, else that of the one that has
+-- what is at a path where one tree lies on another: f of both values where both have one, else that
+-- of the one that has
 abbrev pub laid_at : {T : Type 0} → (T → T → T) → Option T → Option T → Option T
 laid_at f low None = low
 laid_at f None (Some h) = Some h

@@ -1,4 +1,5 @@
--- Trees seen as rows: a value at each path. Names are lists of bytes, and a path is the list of names from the root.
+-- Trees seen as rows: a value at each path. Names are lists of bytes, and a path is the list of
+-- names from the root.
 use Rattle.std.specs.Prelude.{◌≡◌, ℕ, ◌+◌, ◌≤◌, List, [], ◌∷◌, ◌++◌, length, max, Bool, Option, Some, None, MatchOption, nat_eq, if◌then◌else◌}
 use Rattle.std.specs.Borrow.{Bor}
 use Rattle.std.specs.Cmp.Lexicographic.{slice_cmp, pointwise}

@@ -95,7 +95,8 @@ impl<T: Copy + Drop, A: Allocator> Branch<T, A> {
 }
 
 impl<T: Copy + Drop, A: Allocator + Copy> Branch<T, A> {
-    /// The branch's name once more. `AllocError` comes only where memory was refused for a name of more than 22 bytes.
+    /// The branch's name once more. `AllocError` comes only where memory was refused for a name of
+    /// more than 22 bytes.
     pub fn copy_name(&self, alloc: A) -> Result<Name<A>, AllocError>
         ensures { IfOk result (λ name. name ≡ self.now.name) }
     {

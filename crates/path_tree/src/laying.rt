@@ -18,8 +18,8 @@ pub trait Lay: Copy + Drop {
         ensures { result ≡ laid low high };
 }
 
-/// A tree laid on another one. At each path it has the values of both, one laid on the other; where one alone has a
-/// value, that one. The name is that of the upper tree.
+/// A tree laid on another one. At each path it has the values of both, one laid on the other; where
+/// one alone has a value, that one. The name is that of the upper tree.
 ///
 /// Directories of both are merged child by child; what one alone has is moved and not looked into.
 #[cycle(laying)]

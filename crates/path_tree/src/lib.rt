@@ -1,11 +1,11 @@
 //! Trees of values by path: look-ups along a path.
 //!
-//! A [`Branch`] is a name with a value and branches below it, in the order of their names. A clause sees it as
-//! rows: the value at each path below it, in the order of paths (`specs/Rows.antt`). So what a function does to a
-//! tree is said by what each path has afterwards.
+//! A [`Branch`] is a name with a value and branches below it, in the order of their names. A clause
+//! sees it as rows: the value at each path below it, in the order of paths (`specs/Rows.antt`). So
+//! what a function does to a tree is said by what each path has afterwards.
 //!
-//! A [`Name`] of at most 22 bytes stands in its branch, and a longer one beside it. A name is found by halves.
-//! No recursion goes deeper than the tree.
+//! A [`Name`] of at most 22 bytes stands in its branch, and a longer one beside it. A name is found
+//! by halves. No recursion goes deeper than the tree.
 #![tactic(auto)]
 
 mod branch;

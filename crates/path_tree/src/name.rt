@@ -60,7 +60,8 @@ enum Bytes<A: Allocator> {
     There(Box<Vec<u8, A>, A>),
 }
 
-/// A name of any length. It takes 24 bytes, and allocations only where it has more than 22. A clause sees its bytes.
+/// A name of any length. It takes 24 bytes, and allocations only where it has more than 22. A
+/// clause sees its bytes.
 #[derive(Drop)]
 pub struct Name<A: Allocator> {
     bytes: Bytes<A>,
@@ -78,7 +79,8 @@ impl<A: Allocator> Model for Name<A> {
 }
 
 impl<A: Allocator + Copy> Name<A> {
-    /// A name of one's own. `AllocError` comes only where memory was refused for a name of more than 22 bytes.
+    /// A name of one's own. `AllocError` comes only where memory was refused for a name of more
+    /// than 22 bytes.
     pub fn of(alloc: A, name: &[u8]) -> Result<Name<A>, AllocError>
         ensures { IfOk result (λ own. own ≡ name.now) }
     {
@@ -90,7 +92,8 @@ impl<A: Allocator + Copy> Name<A> {
         Ok(Name { bytes })
     }
 
-    /// The same name once more. `AllocError` comes only where memory was refused for a name of more than 22 bytes.
+    /// The same name once more. `AllocError` comes only where memory was refused for a name of more
+    /// than 22 bytes.
     pub fn copied(&self, alloc: A) -> Result<Name<A>, AllocError>
         ensures { IfOk result (λ own. own ≡ self.now) }
     {

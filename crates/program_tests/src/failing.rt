@@ -7,7 +7,7 @@ use std::fs::{self, Files};
 use std::io::{self, Error, ErrorKind, Read, Write};
 use std::test::Fail;
 use std::thread::Threads;
-use strata::command::command;
+use strata::command;
 use test_kit::messages::{REPLIES, REQUESTS};
 
 /// A reader that gives its bytes, and then fails.

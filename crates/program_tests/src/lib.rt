@@ -1,4 +1,5 @@
-//! The tests of the program over devices that fail and memory that is refused, which no command line can bring about.
+//! The tests of the program over devices that fail and memory that is refused, which no command
+//! line can bring about.
 //!
 //! - `failing`: readers and writers that fail.
 //! - `memory`: each request for memory is refused in turn.

@@ -6,12 +6,12 @@ use std::alloc::{Allocator, Global};
 use std::fs::{self, Files};
 use std::test::Fail;
 use std::thread::Threads;
-use strata::command::command;
+use strata::command;
 use test_kit::messages::{REPLIES, REQUESTS};
 use test_kit::refusing::refuse_each;
 
-/// The status of the program over two requests, in memory of `alloc`, and what it wrote to its output and to standard
-/// error.
+/// The status of the program over two requests, in memory of `alloc`, and what it wrote to its
+/// output and to standard error.
 fn run_in<R: Files + Threads + Sync, A: Allocator + Copy + Send + Sync>(
     rt: &R,
     global: Global,
@@ -36,8 +36,8 @@ where
     (status, output, faults)
 }
 
-/// How many requests for memory a run makes, each of which is refused once and told, with some of the first bytes of
-/// the output written.
+/// How many requests for memory a run makes, each of which is refused once and told, with some of
+/// the first bytes of the output written.
 fn told_refusals<R: Files + Threads + Sync>(
     rt: &R,
     global: Global,

@@ -3,7 +3,7 @@ use Rattle.std.proofs.Common.{◌≡◌, ◌∙◌, ap, ℕ, inl, inr, List, [],
 use Rattle.std.specs.Prelude.{is_some}
 use Rattle.std.specs.Option.{option_map_or}
 use Rattle.fuse_wire.specs.declared.errno.Errno.{Errno}
-use Rattle.fuse_wire.specs.Requests.{Op, Asked, lookup, forget, batch_forget, readdirplus, destroy}
+use Rattle.fuse_wire.specs.Requests.{Op, Asked, at_node, lookup, readdirplus, done, destroy, silent, forget, batch_forget}
 use Rattle.stack_model.specs.Listing.{Entry}
 use Rattle.stack_model.specs.Numbers.{Place, node_of}
 use Rattle.reply_model.specs.declared.session.Session.{Session}
@@ -22,24 +22,24 @@ use Rattle.reply_model.proofs.Refused.{lookup_finds, rows_found}
 
 module _ (layers : List (List ℕ)) (entries : List Entry) where
   abbrev looking : ℕ → ℕ → List ℕ → Asked
-  looking unique node name = record { unique = unique; node = node; op = lookup name }
+  looking unique node name = record { unique = unique; node = node; op = at_node (lookup name) }
 
   abbrev listing : ℕ → ℕ → ℕ → ℕ → Asked
-  listing unique node offset size = record { unique = unique; node = node; op = readdirplus offset size }
+  listing unique node offset size = record { unique = unique; node = node; op = at_node (readdirplus offset size) }
 
   pub lookup_gives : (s : Session) (unique node : ℕ) (name : List ℕ) → GivesEntry layers entries s (looking unique node name)
-  lookup_gives s unique node name = go (refusal layers entries s node (lookup name)) refl
+  lookup_gives s unique node name = go (refusal layers entries s node (at_node (lookup name))) refl
     where
-      go : (o : Option Errno) → refusal layers entries s node (lookup name) ≡ o → GivesEntry layers entries s (looking unique node name)
+      go : (o : Option Errno) → refusal layers entries s node (at_node (lookup name)) ≡ o → GivesEntry layers entries s (looking unique node name)
       go (Some errno) e = inl ((errno, rw (e) refl), rw (e) refl)
       go None e =
           let f = lookup_finds layers entries s node name e in
           inr (f.1, rw (e, f.2, f.3) refl, rw (e, f.2, f.3) refl)
 
   pub readdirplus_gives : (s : Session) (unique node offset size : ℕ) → GivesRows layers entries s (listing unique node offset size)
-  readdirplus_gives s unique node offset size = go (refusal layers entries s node (readdirplus offset size)) refl
+  readdirplus_gives s unique node offset size = go (refusal layers entries s node (at_node (readdirplus offset size))) refl
     where
-      go : (o : Option Errno) → refusal layers entries s node (readdirplus offset size) ≡ o → GivesRows layers entries s (listing unique node offset size)
+      go : (o : Option Errno) → refusal layers entries s node (at_node (readdirplus offset size)) ≡ o → GivesRows layers entries s (listing unique node offset size)
       go (Some errno) e = inl ((errno, rw (e) refl), rw (e) refl)
       go None e =
           let f = rows_found layers entries s node offset size e in
@@ -58,11 +58,12 @@ module _ (layers : List (List ℕ)) (entries : List Entry) where
   unless false ms e = e
 
   moved_nothing : (x : Bool) (node : ℕ) (op : Op) → is_moving op ≡ false → moved layers entries x node op ≡ []
-  moved_nothing x node (lookup name) e = absurd (cc)
-  moved_nothing x node (forget nlookup) e = absurd (cc)
-  moved_nothing x node (batch_forget items) e = absurd (cc)
-  moved_nothing x node (readdirplus offset size) e = absurd (cc)
-  moved_nothing x node _ e = nowhere (node_of entries node)
+  moved_nothing x node (at_node (lookup name)) e = absurd (cc)
+  moved_nothing x node (at_node (readdirplus offset size)) e = absurd (cc)
+  moved_nothing x node (at_node _) e = nowhere (node_of entries node)
+  moved_nothing x node (silent (forget nlookup)) e = absurd (cc)
+  moved_nothing x node (silent (batch_forget items)) e = absurd (cc)
+  moved_nothing x node _ e = refl
 
   -- the other requests move nothing, DESTROY among them
   pub others_move_nothing : (s : Session) (q : Asked) → is_moving q.op ≡ false → moves layers entries s q ≡ []
@@ -71,10 +72,8 @@ module _ (layers : List (List ℕ)) (entries : List Entry) where
 
   -- nor does any request in a fresh session
   fresh_op : (unique node : ℕ) (op : Op) → moves layers entries Fresh (record { unique = unique; node = node; op = op }) ≡ []
-  fresh_op unique node (lookup name) = refl
-  fresh_op unique node (forget nlookup) = refl
-  fresh_op unique node (batch_forget items) = refl
-  fresh_op unique node (readdirplus offset size) = refl
+  fresh_op unique node (at_node op) = refl
+  fresh_op unique node (silent op) = refl
   fresh_op unique node op = others_move_nothing Fresh (record { unique = unique; node = node; op = op }) refl
 
   pub fresh_moves_nothing : (q : Asked) → moves layers entries Fresh q ≡ []
@@ -90,8 +89,8 @@ module _ (layers : List (List ℕ)) (entries : List Entry) where
 
   pub destroy_leaves : (s : Session) (qs : List Asked) (unique node n : ℕ)
       → balance n (moves_by (moves layers entries) s
-      (qs ++ record { unique = unique; node = node; op = destroy } ∷ [])) ≡ balance n
+      (qs ++ record { unique = unique; node = node; op = done destroy } ∷ [])) ≡ balance n
       (moves_by (moves layers entries) s qs)
-  destroy_leaves s qs unique node n = balances_stay s qs (record { unique = unique; node = node; op = destroy }) n refl
+  destroy_leaves s qs unique node n = balances_stay s qs (record { unique = unique; node = node; op = done destroy }) n refl
 
 pub ruleset given = (lookup_gives, readdirplus_gives, others_move_nothing, fresh_moves_nothing)

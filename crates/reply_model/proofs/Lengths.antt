@@ -10,6 +10,7 @@ use Rattle.std.proofs.lemmas.Option.{get_or_from_slice_get}
 use Rattle.byteorder.specs.Numbers.{little_number-reads_back}
 use Rattle.romfs_format.specs.declared.head.Kind.{Kind}
 use Rattle.romfs_format.specs.declared.head.Kind.TheVariants.{SymLink}
+use Rattle.romfs_format.specs.declared.limits.TheConstants.{MAX_TARGET_SIZE}
 use Rattle.romfs_format.specs.Fields.{image, kind, size, name, data_at}
 use Rattle.romfs_format.specs.Chains.{Has}
 use Rattle.romfs_format.specs.Links.{IsFinal}
@@ -19,8 +20,9 @@ use Rattle.fuse_wire.specs.declared.errno.Errno.{Errno}
 use Rattle.fuse_wire.specs.declared.errno.Errno.TheVariants.{ESTALE}
 use Rattle.fuse_wire.specs.declared.reply.InitOut.{InitOut}
 use Rattle.fuse_wire.specs.declared.reply.InitOut.TheVariants.{Version, Terms}
+use Rattle.fuse_wire.specs.declared.limits.TheConstants.{MAX_DATA_SIZE, MAX_REPLY_SIZE}
 use Rattle.fuse_wire.specs.Stream.{said_length}
-use Rattle.fuse_wire.specs.Requests.{Op, Asked, lookup, getattr, readlink, open_file, read, statfs, init, opendir, readdir, readdirplus}
+use Rattle.fuse_wire.specs.Requests.{NodeOp, Op, Asked, init, at_node, lookup, getattr, readlink, open_file, read, opendir, readdir, readdirplus, statfs}
 use Rattle.fuse_wire.specs.Structures.{u32, u64, init_out, entry_out}
 use Rattle.fuse_wire.specs.Replies.{reply_with, error_reply}
 use Rattle.stack_model.specs.Listing.{Entry, IsListing}
@@ -32,11 +34,12 @@ use Rattle.reply_model.specs.declared.session.Session.{Session}
 use Rattle.reply_model.specs.Sessions.{is_exported}
 use Rattle.reply_model.specs.Lookups.{looked_up}
 use Rattle.reply_model.specs.Rows.{Row, reply_attr, dirent_of, direntplus_of, fitting}
-use Rattle.reply_model.specs.Refusals.{refused_by_session, refused_by_itself, asks_node, unless_link, refused_by_kind, is_too_large, refused_rows, refused_by_arguments, refused_at, refused_at_node, refusal}
+use Rattle.reply_model.specs.Services.{unless_link, is_too_large, refused_rows, service}
+use Rattle.reply_model.specs.Refusals.{refused_by_itself, refused_at, refusal}
 use Rattle.reply_model.specs.Replies.{is_silent, answer_at, answer, reply}
 use Rattle.fuse_wire.proofs.Sizes.{length-error_reply, length-reply_with, length-version, length-terms, length-entry_out, length-attr_out, length-open_out, length-statfs_out}
 use Rattle.reply_model.proofs.Fronts.{front}
-use Rattle.reply_model.proofs.Refused.{first_none, both_none, if_none}
+use Rattle.reply_model.proofs.Refused.{both_none, if_none, not_by_itself}
 use Rattle.reply_model.proofs.Headers.{headed}
 
 -- INIT is answered 64 bytes at most
@@ -53,8 +56,8 @@ length-front : (n : ℕ) (xs : List ℕ) → length (take n xs) ≤ n
 length-front n xs = let e = length-take n xs in omega arith
 
 -- a size that is not too large
-not_large : (n : ℕ) → is_too_large n ≡ false → n ≤ 1048576
-not_large n e = ltb-false 1048576 n e
+not_large : (n : ℕ) → is_too_large n ≡ false → n ≤ MAX_DATA_SIZE
+not_large n e = ltb-false MAX_DATA_SIZE n e
 
 -- READLINK is answered for symbolic links alone
 is_link : (k : Kind) → unless_link k ≡ None → k ≡ SymLink
@@ -86,7 +89,7 @@ module _ (bs : List (List ℕ)) (entries : List Entry) (sound : All IsSound bs) 
   layers = map image bs
 
   -- a symbolic link with a number has a short target
-  short_link : (node : ℕ) (p : Place) → node_of entries node ≡ Some p → kind_at layers p ≡ SymLink → length (data_of layers p) ≤ 4095
+  short_link : (node : ℕ) (p : Place) → node_of entries node ≡ Some p → kind_at layers p ≡ SymLink → length (data_of layers p) ≤ MAX_TARGET_SIZE
   short_link node p e k =
       let m = number_listed entries node p e in
       let t = subst (λ q. IsLedTo layers q.0 q.1) m.2 (led_to layers entries m.0 l m.1) in
@@ -95,26 +98,25 @@ module _ (bs : List (List ℕ)) (entries : List Entry) (sound : All IsSound bs) 
       let has = subst (λ a. Has a t.path t.first) s.2 t.has in
       let ends = subst (λ a. IsFinal a t.first p.1) s.2 t.ends in
       let short = short_target s.0 s.1 t.path t.first p.1 has ends (subst (λ a. kind a p.1 ≡ SymLink) here k) in
-      link_data layers p 4095 k (subst (λ a. size a p.1 ≤ 4095) (sym here) short)
+      link_data layers p MAX_TARGET_SIZE k (subst (λ a. size a p.1 ≤ MAX_TARGET_SIZE) (sym here) short)
 
   -- what is not refused at a node is refused neither by its kind nor by the arguments
-  by_kind : (x : Bool) (op : Op) (p : Place) → refused_at layers entries x op p ≡ None → refused_by_kind x op (kind_at layers p) ≡ None
-  by_kind x op p r = (both_none (refused_by_kind x op (kind_at layers p)) (refused_by_arguments layers entries x op p) r).0
+  by_kind : (x : Bool) (op : NodeOp) (p : Place) → refused_at layers entries x op p ≡ None → (service layers entries x op).by_kind (kind_at layers p) ≡ None
+  by_kind x op p r = let asked = service layers entries x op in (both_none (asked.by_kind (kind_at layers p)) (asked.by_arguments p) r).0
 
-  by_arguments : (x : Bool) (op : Op) (p : Place) → refused_at layers entries x op p ≡ None → refused_by_arguments layers entries x op p ≡ None
-  by_arguments x op p r = (both_none (refused_by_kind x op (kind_at layers p)) (refused_by_arguments layers entries x op p) r).1
+  by_arguments : (x : Bool) (op : NodeOp) (p : Place) → refused_at layers entries x op p ≡ None → (service layers entries x op).by_arguments p ≡ None
+  by_arguments x op p r = let asked = service layers entries x op in (both_none (asked.by_kind (kind_at layers p)) (asked.by_arguments p) r).1
 
   -- rows that are answered fit in 1 MiB
-  short_rows : (form : Row → List ℕ) (rows : List Row) (n : ℕ) → refused_rows form n rows ≡ None → length (flat_map form (fitting form n rows)) ≤ 1048576
+  short_rows : (form : Row → List ℕ) (rows : List Row) (n : ℕ) → refused_rows form n rows ≡ None → length (flat_map form (fitting form n rows)) ≤ MAX_DATA_SIZE
   short_rows form rows n r = let a = not_large n (or_parts _ _ (if_none _ _ r)).0 in let f = (front form n rows).fits in omega arith
 
   -- the answer at a place that has a number
-  short_at : (x : Bool) (node : ℕ) (op : Op) (p : Place) → node_of entries node ≡ Some p
-      → cond (asks_node op) (refused_at layers entries x op p) None ≡ None
-      → length (answer_at layers entries x op p) ≤ 1048576
+  short_at : (x : Bool) (node : ℕ) (op : NodeOp) (p : Place) → node_of entries node ≡ Some p → refused_at layers entries x op p ≡ None
+      → length (answer_at layers entries x op p) ≤ MAX_DATA_SIZE
   short_at x node (lookup name) p e r = found (looked_up entries x p name)
     where
-      found : (o : Option Place) → length (option_map_or (λ c. entry_out (reply_attr layers entries c)) o []) ≤ 1048576
+      found : (o : Option Place) → length (option_map_or (λ c. entry_out (reply_attr layers entries c)) o []) ≤ MAX_DATA_SIZE
       found None = lit≤ tt
       found (Some c) = let l = length-entry_out (reply_attr layers entries c) in omega arith
   short_at x node getattr p e r = let l = length-attr_out (reply_attr layers entries p) in omega arith
@@ -127,40 +129,38 @@ module _ (bs : List (List ℕ)) (entries : List Entry) (sound : All IsSound bs) 
       omega arith
   short_at x node (readdir offset n) p e r = short_rows (dirent_of layers entries) _ n (by_arguments x (readdir offset n) p r)
   short_at x node (readdirplus offset n) p e r = short_rows (direntplus_of layers entries) _ n (by_arguments x (readdirplus offset n) p r)
-  short_at x node _ p e r = lit≤ tt
 
   -- the answer to a request about a node
-  short_node : (x : Bool) (node : ℕ) (op : Op) (o : Option Place) → node_of entries node ≡ o
-      → cond (asks_node op) (option_map_or (refused_at layers entries x op) o (Some ESTALE)) None ≡ None
-      → length (option_map_or (answer_at layers entries x op) o []) ≤ 1048576
+  short_node : (x : Bool) (node : ℕ) (op : NodeOp) (o : Option Place) → node_of entries node ≡ o
+      → option_map_or (refused_at layers entries x op) o (Some ESTALE) ≡ None
+      → length (option_map_or (answer_at layers entries x op) o []) ≤ MAX_DATA_SIZE
   short_node x node op None e r = lit≤ tt
   short_node x node op (Some p) e r = short_at x node op p e r
 
   -- the answer to a request that is not refused
-  short_answer : (x : Bool) (node : ℕ) (op : Op) → refused_at_node layers entries x node op ≡ None → length (answer layers entries x node op) ≤ 1048576
+  short_answer : (x : Bool) (node : ℕ) (op : Op) → refused_by_itself layers entries x node op ≡ None → length (answer layers entries x node op) ≤ MAX_DATA_SIZE
   short_answer x node (init major minor readahead flags) r = let l = short_init (cond (nat_lt 7 major) Version (Terms minor readahead flags)) in omega arith
+  short_answer x node (at_node op) r = short_node x node op (node_of entries node) refl r
   short_answer x node statfs r = let l = length-statfs_out (blocks_all layers) (length (nodes entries)) in omega arith
-  short_answer x node op r = short_node x node op (node_of entries node) refl r
+  short_answer x node _ r = lit≤ tt
 
   -- a reply is a header of 16 bytes and an answer
-  pub short : (s : Session) (q : Asked) → length (reply layers entries s q) ≤ 1048592
+  pub short : (s : Session) (q : Asked) → length (reply layers entries s q) ≤ MAX_REPLY_SIZE
   short s q = silent (is_silent q.op)
     where
       replied : (o : Option Errno) → refusal layers entries s q.node q.op ≡ o
           → length (option_map_or (error_reply q.unique) o (reply_with q.unique (answer layers entries (is_exported s) q.node q.op)))
-          ≤ 1048592
+          ≤ MAX_REPLY_SIZE
       replied (Some errno) e = let x = length-error_reply q.unique errno in omega arith
       replied None e =
-          let there = refused_at_node layers entries (is_exported s) q.node q.op in
-          let r = (first_none (refused_by_session s q.op) (refused_by_itself q.op ∷ there ∷ []) e).1 in
-          let a = short_answer (is_exported s) q.node q.op (both_none (refused_by_itself q.op) there r).1 in
+          let a = short_answer (is_exported s) q.node q.op (not_by_itself layers entries s q.node q.op e) in
           let x = length-reply_with q.unique (answer layers entries (is_exported s) q.node q.op) in
           omega arith
 
       silent : (b : Bool)
           → length (cond b [] (option_map_or (error_reply q.unique) (refusal layers entries s q.node q.op)
           (reply_with q.unique (answer layers entries (is_exported s) q.node q.op))))
-          ≤ 1048592
+          ≤ MAX_REPLY_SIZE
       silent true = lit≤ tt
       silent false = replied (refusal layers entries s q.node q.op) refl
 

@@ -4,14 +4,16 @@ use Rattle.std.specs.Prelude.{nat_lt, is_none}
 use Rattle.std.specs.Option.{option_map_or}
 use Rattle.fuse_wire.specs.declared.errno.Errno.{Errno}
 use Rattle.fuse_wire.specs.declared.errno.Errno.TheVariants.{ENOENT, ENAMETOOLONG, ESTALE}
-use Rattle.fuse_wire.specs.Requests.{Op, lookup, readdirplus}
+use Rattle.fuse_wire.specs.declared.limits.TheConstants.{MAX_NAME_SIZE}
+use Rattle.fuse_wire.specs.Requests.{NodeOp, Op, at_node, lookup, readdirplus}
 use Rattle.stack_model.specs.Listing.{Entry}
 use Rattle.stack_model.specs.Numbers.{Place, node_of}
 use Rattle.reply_model.specs.declared.session.Session.{Session}
 use Rattle.reply_model.specs.Sessions.{is_exported}
 use Rattle.reply_model.specs.Lookups.{looked_up}
 use Rattle.stack_model.specs.Attributes.{kind_at}
-use Rattle.reply_model.specs.Refusals.{first_refusal, refuse_if, refused_by_session, refused_by_itself, refused_by_kind, refused_by_arguments, refused_at, refused_at_node, refusal}
+use Rattle.reply_model.specs.Services.{refuse_if, service}
+use Rattle.reply_model.specs.Refusals.{first_refusal, refused_by_session, refused_by_itself, refused_at, refusal}
 
 -- where nothing refuses, the first does not
 pub first_none : (o : Option Errno) (os : List (Option Errno)) → first_refusal (o ∷ os) ≡ None → (o ≡ None) × (first_refusal os ≡ None)
@@ -28,14 +30,12 @@ if_none true errno e = absurd (cc)
 if_none false errno e = refl
 
 module _ (layers : List (List ℕ)) (entries : List Entry) where
-  -- a request that nothing refuses is not refused at its node
-  pub not_at_node : (s : Session) (node : ℕ) (op : Op) → refusal layers entries s node op ≡ None → refused_at_node layers entries (is_exported s) node op ≡ None
-  not_at_node s node op e =
-      let there = refused_at_node layers entries (is_exported s) node op in
-      (both_none (refused_by_itself op) there (first_none (refused_by_session s op) (refused_by_itself op ∷ there ∷ []) e).1).1
+  -- a request that nothing refuses is not refused by itself
+  pub not_by_itself : (s : Session) (node : ℕ) (op : Op) → refusal layers entries s node op ≡ None → refused_by_itself layers entries (is_exported s) node op ≡ None
+  not_by_itself s node op e = (both_none (refused_by_session s op) (refused_by_itself layers entries (is_exported s) node op) e).1
 
   -- so one about a node has a node
-  has_node : (x : Bool) (op : Op) (o : Option Place)
+  has_node : (x : Bool) (op : NodeOp) (o : Option Place)
       → option_map_or (refused_at layers entries x op) o (Some ESTALE) ≡ None
       → (p : Place) × (o ≡ Some p) × (refused_at layers entries x op p ≡ None)
   has_node x op None e = absurd (cc)
@@ -48,19 +48,20 @@ module _ (layers : List (List ℕ)) (entries : List Entry) where
   finds name false (Some c) e = (c, refl)
 
   pub lookup_finds : (s : Session) (node : ℕ) (name : List ℕ)
-      → refusal layers entries s node (lookup name) ≡ None
+      → refusal layers entries s node (at_node (lookup name)) ≡ None
       → (p : Place) × (c : Place) × (node_of entries node ≡ Some p)
       × (looked_up entries (is_exported s) p name ≡ Some c)
   lookup_finds s node name e =
       let x = is_exported s in
-      let n = has_node x (lookup name) (node_of entries node) (not_at_node s node (lookup name) e) in
-      let a = (both_none (refused_by_kind x (lookup name) (kind_at layers n.0)) (refused_by_arguments layers entries x (lookup name) n.0) n.2).1 in
-      let f = finds name (nat_lt 255 (length name)) (looked_up entries x n.0 name) a in
+      let n = has_node x (lookup name) (node_of entries node) (not_by_itself s node (at_node (lookup name)) e) in
+      let asked = service layers entries x (lookup name) in
+      let a = (both_none (asked.by_kind (kind_at layers n.0)) (asked.by_arguments n.0) n.2).1 in
+      let f = finds name (nat_lt MAX_NAME_SIZE (length name)) (looked_up entries x n.0 name) a in
       (n.0, f.0, n.1, f.1)
 
   pub rows_found : (s : Session) (node offset size : ℕ)
-      → refusal layers entries s node (readdirplus offset size) ≡ None
+      → refusal layers entries s node (at_node (readdirplus offset size)) ≡ None
       → (p : Place) × (node_of entries node ≡ Some p)
   rows_found s node offset size e =
-      let n = has_node (is_exported s) (readdirplus offset size) (node_of entries node) (not_at_node s node (readdirplus offset size) e) in
+      let n = has_node (is_exported s) (readdirplus offset size) (node_of entries node) (not_by_itself s node (at_node (readdirplus offset size)) e) in
       (n.0, n.1)

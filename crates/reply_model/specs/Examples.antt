@@ -6,7 +6,8 @@ use Rattle.romfs_format.specs.declared.head.Kind.TheVariants.{HardLink, Director
 use Rattle.romfs_format.specs.declared.rule.Rule.TheVariants.{Short, Magic, FullSize, NoRoot, Outside, NameBad, DataOutside, Twice, SameName, MajorLarge, Deep}
 use Rattle.romfs_format.specs.Rules.{IsNamedBefore, IsFault}
 use Rattle.romfs_format.specs.Fields.{padded, image, root, kind, exec, next, spec, size, name}
-use Rattle.fuse_wire.specs.Requests.{init, destroy, asked}
+use Rattle.fuse_wire.specs.declared.limits.TheConstants.{HEADER_SIZE, MAX_DATA_SIZE, MAX_MESSAGE_SIZE}
+use Rattle.fuse_wire.specs.Requests.{init, done, destroy, asked}
 use Rattle.fuse_wire.specs.Stream.{IsMessage, IsUnfinished, IsBad}
 use Rattle.fuse_wire.specs.Structures.{u32, u64, zeros}
 use Rattle.stack_model.specs.Listing.{Entry}
@@ -25,31 +26,45 @@ dump words = flat_map (λ word. big_bytes 4 word) words
 -- the empty image: a root that holds . and .. alone
 unfoldable pub empty_image : List ℕ
 empty_image = dump (
-    0x2d726f6d ∷ 0x3166732d ∷ 0x00000060 ∷ 0x2b271d06 ∷ 0x76000000 ∷ 0x00000000 ∷ 0x00000000 ∷ 0x00000000
-    ∷ 0x00000049 ∷ 0x00000020 ∷ 0x00000000 ∷ 0xd1ffff97 ∷ 0x2e000000 ∷ 0x00000000 ∷ 0x00000000 ∷ 0x00000000
-    ∷ 0x00000000 ∷ 0x00000020 ∷ 0x00000000 ∷ 0xd1d1ffe0 ∷ 0x2e2e0000 ∷ 0x00000000 ∷ 0x00000000 ∷ 0x00000000 ∷ [])
+    0x2d726f6d ∷ 0x3166732d ∷ 0x00000060 ∷ 0x2b271d06 ∷ 0x76000000 ∷ 0x00000000 ∷ 0x00000000 ∷
+    0x00000000
+    ∷ 0x00000049 ∷ 0x00000020 ∷ 0x00000000 ∷ 0xd1ffff97 ∷ 0x2e000000 ∷ 0x00000000 ∷ 0x00000000 ∷
+    0x00000000
+    ∷ 0x00000000 ∷ 0x00000020 ∷ 0x00000000 ∷ 0xd1d1ffe0 ∷ 0x2e2e0000 ∷ 0x00000000 ∷ 0x00000000 ∷
+    0x00000000 ∷ [])
 
 -- the numbers from i on modulo 251
 abbrev pub counted : ℕ → ℕ → List ℕ
 counted zero i = []
 counted (suc n) i = i % 251 ∷ counted n (i + 1)
 
--- the sample image: a file big of 5,000 bytes, a directory d with a file x that holds hi, a symbolic link l to d/x,
--- and a character device null with major 1 and minor 3
+-- the sample image: a file big of 5,000 bytes, a directory d with a file x that holds hi, a
+-- symbolic link l to d/x, and a character device null with major 1 and minor 3
 unfoldable pub sample_image : List ℕ
 sample_image = dump (
-    0x2d726f6d ∷ 0x3166732d ∷ 0x000014f0 ∷ 0x1eba3c6c ∷ 0x76000000 ∷ 0x00000000 ∷ 0x00000000 ∷ 0x00000000
-    ∷ 0x00000049 ∷ 0x00000020 ∷ 0x00000000 ∷ 0xd1ffff97 ∷ 0x2e000000 ∷ 0x00000000 ∷ 0x00000000 ∷ 0x00000000
-    ∷ 0x00000060 ∷ 0x00000020 ∷ 0x00000000 ∷ 0xd1d1ff80 ∷ 0x2e2e0000 ∷ 0x00000000 ∷ 0x00000000 ∷ 0x00000000
-    ∷ 0x00001412 ∷ 0x00000000 ∷ 0x00001388 ∷ 0x9d967166 ∷ 0x62696700 ∷ 0x00000000 ∷ 0x00000000 ∷ 0x00000000 ∷ [])
+    0x2d726f6d ∷ 0x3166732d ∷ 0x000014f0 ∷ 0x1eba3c6c ∷ 0x76000000 ∷ 0x00000000 ∷ 0x00000000 ∷
+    0x00000000
+    ∷ 0x00000049 ∷ 0x00000020 ∷ 0x00000000 ∷ 0xd1ffff97 ∷ 0x2e000000 ∷ 0x00000000 ∷ 0x00000000 ∷
+    0x00000000
+    ∷ 0x00000060 ∷ 0x00000020 ∷ 0x00000000 ∷ 0xd1d1ff80 ∷ 0x2e2e0000 ∷ 0x00000000 ∷ 0x00000000 ∷
+    0x00000000
+    ∷ 0x00001412 ∷ 0x00000000 ∷ 0x00001388 ∷ 0x9d967166 ∷ 0x62696700 ∷ 0x00000000 ∷ 0x00000000 ∷
+    0x00000000 ∷ [])
     ++ counted 5000 0 ++ replicate 8 0 ++ dump (
-    0x000014a9 ∷ 0x00001430 ∷ 0x00000000 ∷ 0x9bffd727 ∷ 0x64000000 ∷ 0x00000000 ∷ 0x00000000 ∷ 0x00000000
-    ∷ 0x00001450 ∷ 0x00001410 ∷ 0x00000000 ∷ 0xd1ffd7a0 ∷ 0x2e000000 ∷ 0x00000000 ∷ 0x00000000 ∷ 0x00000000
-    ∷ 0x00001470 ∷ 0x00000020 ∷ 0x00000000 ∷ 0xd1d1eb70 ∷ 0x2e2e0000 ∷ 0x00000000 ∷ 0x00000000 ∷ 0x00000000
-    ∷ 0x00000002 ∷ 0x00000000 ∷ 0x00000002 ∷ 0x87fffffc ∷ 0x78000000 ∷ 0x00000000 ∷ 0x00000000 ∷ 0x00000000
-    ∷ 0x68690000 ∷ 0x00000000 ∷ 0x00000000 ∷ 0x00000000 ∷ 0x000014d3 ∷ 0x00000000 ∷ 0x00000003 ∷ 0x93ffeb2a
-    ∷ 0x6c000000 ∷ 0x00000000 ∷ 0x00000000 ∷ 0x00000000 ∷ 0x642f7800 ∷ 0x00000000 ∷ 0x00000000 ∷ 0x00000000
-    ∷ 0x00000005 ∷ 0x00010003 ∷ 0x00000000 ∷ 0x9189938c ∷ 0x6e756c6c ∷ 0x00000000 ∷ 0x00000000 ∷ 0x00000000 ∷ [])
+    0x000014a9 ∷ 0x00001430 ∷ 0x00000000 ∷ 0x9bffd727 ∷ 0x64000000 ∷ 0x00000000 ∷ 0x00000000 ∷
+    0x00000000
+    ∷ 0x00001450 ∷ 0x00001410 ∷ 0x00000000 ∷ 0xd1ffd7a0 ∷ 0x2e000000 ∷ 0x00000000 ∷ 0x00000000 ∷
+    0x00000000
+    ∷ 0x00001470 ∷ 0x00000020 ∷ 0x00000000 ∷ 0xd1d1eb70 ∷ 0x2e2e0000 ∷ 0x00000000 ∷ 0x00000000 ∷
+    0x00000000
+    ∷ 0x00000002 ∷ 0x00000000 ∷ 0x00000002 ∷ 0x87fffffc ∷ 0x78000000 ∷ 0x00000000 ∷ 0x00000000 ∷
+    0x00000000
+    ∷ 0x68690000 ∷ 0x00000000 ∷ 0x00000000 ∷ 0x00000000 ∷ 0x000014d3 ∷ 0x00000000 ∷ 0x00000003 ∷
+    0x93ffeb2a
+    ∷ 0x6c000000 ∷ 0x00000000 ∷ 0x00000000 ∷ 0x00000000 ∷ 0x642f7800 ∷ 0x00000000 ∷ 0x00000000 ∷
+    0x00000000
+    ∷ 0x00000005 ∷ 0x00010003 ∷ 0x00000000 ∷ 0x9189938c ∷ 0x6e756c6c ∷ 0x00000000 ∷ 0x00000000 ∷
+    0x00000000 ∷ [])
 
 -- what each of them shows
 unfoldable pub empty_entries : List Entry
@@ -68,7 +83,7 @@ sample_entries =
 -- a message: opcode, unique, node, body; the sender is 0
 abbrev pub request : ℕ → ℕ → ℕ → List ℕ → List ℕ
 request opcode unique node body =
-    u32 (40 + length body) ++ u32 opcode ++ u64 unique ++ u64 node ++ zeros 16 ++ body
+    u32 (HEADER_SIZE + length body) ++ u32 opcode ++ u64 unique ++ u64 node ++ zeros 16 ++ body
 
 -- init_in
 abbrev pub init_in : ℕ → ℕ → ℕ → ℕ → List ℕ
@@ -131,25 +146,28 @@ pub record StreamExamples : Type 0 where
   pub shortest : IsMessage (request 38 1 0 [])
   pub too_short : IsBad (dump (0x27000000 ∷ [])) 39
   pub longest : IsUnfinished (dump (0x00101000 ∷ []))
-  pub too_long : IsBad (dump (0x01101000 ∷ [])) 1052673
+  pub too_long : IsBad (dump (0x01101000 ∷ [])) (MAX_MESSAGE_SIZE + 1)
   pub three_bytes : IsUnfinished (replicate 3 0)
   pub nothing : ¬ IsUnfinished []
 
 -- INIT 7.31 with max_readahead 131,072 and flags 0x6001
 abbrev pub init_request : List ℕ
 init_request = dump (
-    0x38000000 ∷ 0x1a000000 ∷ 0x01000000 ∷ 0x00000000 ∷ 0x00000000 ∷ 0x00000000 ∷ 0x00000000 ∷ 0x00000000
+    0x38000000 ∷ 0x1a000000 ∷ 0x01000000 ∷ 0x00000000 ∷ 0x00000000 ∷ 0x00000000 ∷ 0x00000000 ∷
+    0x00000000
     ∷ 0x00000000 ∷ 0x00000000 ∷ 0x07000000 ∷ 0x1f000000 ∷ 0x00000200 ∷ 0x01600000 ∷ [])
 
 abbrev pub init_reply : List ℕ
 init_reply = dump (
-    0x50000000 ∷ 0x00000000 ∷ 0x01000000 ∷ 0x00000000 ∷ 0x07000000 ∷ 0x1f000000 ∷ 0x00000200 ∷ 0x01600000
+    0x50000000 ∷ 0x00000000 ∷ 0x01000000 ∷ 0x00000000 ∷ 0x07000000 ∷ 0x1f000000 ∷ 0x00000200 ∷
+    0x01600000
     ∷ 0x0c000900 ∷ 0x00000200 ∷ 0x01000000 ∷ 0x00000000 ∷ []) ++ replicate 32 0
 
 -- INIT 7.39 with a longer body, all flags, and a max_readahead above the limit
 abbrev pub newer_init_reply : List ℕ
 newer_init_reply = dump (
-    0x50000000 ∷ 0x00000000 ∷ 0x01000000 ∷ 0x00000000 ∷ 0x07000000 ∷ 0x1f000000 ∷ 0x00001000 ∷ 0x11604400
+    0x50000000 ∷ 0x00000000 ∷ 0x01000000 ∷ 0x00000000 ∷ 0x07000000 ∷ 0x1f000000 ∷ 0x00001000 ∷
+    0x11604400
     ∷ 0x0c000900 ∷ 0x00000200 ∷ 0x01000000 ∷ 0x20000000 ∷ []) ++ replicate 32 0
 
 -- a client of major version 8 is told the version
@@ -161,7 +179,8 @@ version_reply =
 -- a client of minor version 22 is told the first 24 bytes alone, and still minor version 31
 abbrev pub older_init_reply : List ℕ
 older_init_reply = dump (
-    0x28000000 ∷ 0x00000000 ∷ 0x01000000 ∷ 0x00000000 ∷ 0x07000000 ∷ 0x1f000000 ∷ 0x00000200 ∷ 0x01000000
+    0x28000000 ∷ 0x00000000 ∷ 0x01000000 ∷ 0x00000000 ∷ 0x07000000 ∷ 0x1f000000 ∷ 0x00000200 ∷
+    0x01000000
     ∷ 0x0c000900 ∷ 0x00000200 ∷ [])
 
 pub record InitExamples : Type 0 where
@@ -201,9 +220,9 @@ pub record SessionExamples : Type 0 where
   pub other_flags : session_after Fresh (init 7 31 0 0xffffffef) ≡ Ready false
   pub minor_11 : session_after Fresh (init 7 11 0 0x10) ≡ Fresh
   pub major_8 : session_after Fresh (init 8 31 0 0x10) ≡ Fresh
-  pub destroyed_fresh : session_after Fresh destroy ≡ Fresh
+  pub destroyed_fresh : session_after Fresh (done destroy) ≡ Fresh
   pub init_again : session_after (Ready true) (init 7 31 0 0) ≡ Ready true
-  pub destroyed : session_after (Ready true) destroy ≡ Fresh
+  pub destroyed : session_after (Ready true) (done destroy) ≡ Fresh
   pub ended :
       replies (empty_image ∷ []) empty_entries (Ready false)
       (request 38 1 0 [] ∷ request 3 2 1 (zeros 16) ∷ request 38 3 0 [] ∷ [])
@@ -242,7 +261,7 @@ pub record ReaddirExamples : Type 0 where
   pub one : over_empty (Ready false) (request 28 2 1 (read_in 0 63)) ≡ headed 2 48 ++ own_row
   pub too_small : over_empty (Ready false) (request 28 2 1 (read_in 0 31)) ≡ refused 2 0xffffffea
   pub no_room : over_empty (Ready false) (request 28 2 1 (read_in 0 0)) ≡ refused 2 0xffffffea
-  pub too_large : over_empty (Ready false) (request 28 2 1 (read_in 0 1048577))
+  pub too_large : over_empty (Ready false) (request 28 2 1 (read_in 0 (MAX_DATA_SIZE + 1)))
       ≡ refused 2 0xffffffea
   pub at_end : over_empty (Ready false) (request 28 2 1 (read_in 2 0)) ≡ headed 2 16
 
@@ -256,13 +275,15 @@ pub record ReaddirplusExamples : Type 0 where
 
 -- 5,000 bytes are 4,096 and 904
 pub record ReadExamples : Type 0 where
-  pub whole : over_sample (request 15 2 2 (read_in 0 1048576)) ≡ headed 2 5016 ++ counted 5000 0
+  pub whole : over_sample (request 15 2 2 (read_in 0 MAX_DATA_SIZE)) ≡ headed 2 5016
+      ++ counted 5000 0
   pub rest : over_sample (request 15 2 2 (read_in 4096 4096))
       ≡ headed 2 920 ++ drop 4096 (counted 5000 0)
   pub past_end : over_sample (request 15 2 2 (read_in 5000 4096)) ≡ headed 2 16
   pub far_past_end : over_sample (request 15 2 2 (read_in (2 ^ 64 - 1) 4096)) ≡ headed 2 16
   pub nothing : over_sample (request 15 2 2 (read_in 0 0)) ≡ headed 2 16
-  pub too_large : over_sample (request 15 2 2 (read_in 0 1048577)) ≡ refused 2 0xffffffea
+  pub too_large : over_sample (request 15 2 2 (read_in 0 (MAX_DATA_SIZE + 1))) ≡ refused 2
+      0xffffffea
   pub directory : over_sample (request 15 2 3 (read_in 0 1)) ≡ refused 2 0xffffffeb
   pub link : over_sample (request 15 2 5 (read_in 0 1)) ≡ refused 2 0xffffffea
   pub stale : over_sample (request 15 2 7 (read_in 0 1)) ≡ refused 2 0xffffff8c
@@ -273,7 +294,8 @@ x_entry_reply = dump (
     0x90000000 ∷ 0x00000000 ∷ 0x0a000000 ∷ 0x00000000
     ∷ 0x04000000 ∷ 0x00000000 ∷ 0x00000000 ∷ 0x00000000
     ∷ 0x100e0000 ∷ 0x00000000 ∷ 0x100e0000 ∷ 0x00000000 ∷ 0x00000000 ∷ 0x00000000
-    ∷ 0x04000000 ∷ 0x00000000 ∷ 0x02000000 ∷ 0x00000000 ∷ 0x01000000 ∷ 0x00000000 ∷ []) ++ replicate 24 0 ++ dump (
+    ∷ 0x04000000 ∷ 0x00000000 ∷ 0x02000000 ∷ 0x00000000 ∷ 0x01000000 ∷ 0x00000000 ∷ [])
+    ++ replicate 24 0 ++ dump (
     0x00000000 ∷ 0x00000000 ∷ 0x00000000 ∷ 0xa4810000 ∷ 0x01000000
     ∷ 0x00000000 ∷ 0x00000000 ∷ 0x00000000 ∷ 0x00100000 ∷ 0x00000000 ∷ [])
 
@@ -290,7 +312,8 @@ pub record LookupExamples : Type 0 where
   pub upper : over_sample (request 1 2 1 (codes ".." ++ zeros 1)) ≡ refused 2 0xfffffffe
   pub in_file : over_sample (request 1 2 2 (replicate 256 0x71 ++ zeros 1)) ≡ refused 2 0xffffffec
 
--- with EXPORT_SUPPORT the name . finds the node itself, whatever its kind, and .. the directory above it
+-- with EXPORT_SUPPORT the name . finds the node itself, whatever its kind, and .. the directory
+-- above it
 abbrev pub over_exported : List ℕ → List ℕ
 over_exported m = reply (sample_image ∷ []) sample_entries (Ready true) (asked m)
 
@@ -331,8 +354,9 @@ pub record RefusalOrder : Type 0 where
   pub init_again_short : over_sample (request 26 2 0 []) ≡ refused 2 0xfffffffb
   pub modify_before_body : over_sample (request 16 2 99 []) ≡ refused 2 0xffffffe2
   pub body_before_node : over_sample (request 14 2 99 (zeros 7)) ≡ refused 2 0xffffffea
-  pub node_before_kind : over_sample (request 15 2 99 (read_in 0 1048577)) ≡ refused 2 0xffffff8c
-  pub kind_before_arguments : over_sample (request 15 2 3 (read_in 0 1048577))
+  pub node_before_kind : over_sample
+      (request 15 2 99 (read_in 0 (MAX_DATA_SIZE + 1))) ≡ refused 2 0xffffff8c
+  pub kind_before_arguments : over_sample (request 15 2 3 (read_in 0 (MAX_DATA_SIZE + 1)))
       ≡ refused 2 0xffffffeb
   pub kind_before_access : over_sample (request 14 2 3 (u32 2 ++ zeros 4)) ≡ refused 2 0xffffffeb
   pub kind_before_rows : over_sample (request 28 2 2 (read_in 0 0)) ≡ refused 2 0xffffffec
@@ -362,7 +386,8 @@ pub record NodeExamples : Type 0 where
   pub write : over_sample (request 16 2 2 (zeros 40)) ≡ refused 2 0xffffffe2
   pub unserved : over_sample (request 99 2 2 []) ≡ refused 2 0xffffffda
 
--- OPEN answers open_flags FOPEN_KEEP_CACHE, which is 2, and refuses each access mode but O_RDONLY; OPENDIR answers none
+-- OPEN answers open_flags FOPEN_KEEP_CACHE, which is 2, and refuses each access mode but O_RDONLY;
+-- OPENDIR answers none
 pub record OpenExamples : Type 0 where
   pub open_file : over_sample (request 14 2 2 (zeros 8))
       ≡ headed 2 32 ++ zeros 8 ++ u32 2 ++ zeros 4
@@ -417,8 +442,9 @@ pub record TwelveRequests : Type 0 where
       ++ refused 12 0xfffffffb
   pub sized : length (replies (sample_image ∷ []) sample_entries Fresh twelve_requests) ≡ 1531
 
--- a session with EXPORT_SUPPORT that looks up, lists and forgets. Of the items of the BATCH_FORGET the count says
--- three, two are there, and one of these is of no node; the last FORGET has no whole body
+-- a session with EXPORT_SUPPORT that looks up, lists and forgets. Of the items of the BATCH_FORGET
+-- the count says three, two are there, and one of these is of no node; the last FORGET has no whole
+-- body
 abbrev pub looking_up : List (List ℕ)
 looking_up =
     request 26 1 0 (init_in 7 31 131072 0x10)
@@ -457,6 +483,7 @@ pub record BalanceExamples : Type 0 where
   pub forgotten : moved_over_sample (Ready false) (request 2 7 4 (u64 3))
       ≡ record { node = 4; amount = negsuc 2 } ∷ []
   pub counted_items :
-      moved_over_sample (Ready false) (request 42 8 0 (u32 1 ++ u32 0 ++ u64 2 ++ u64 2 ++ u64 3 ++ u64 1))
+      moved_over_sample (Ready false)
+      (request 42 8 0 (u32 1 ++ u32 0 ++ u64 2 ++ u64 2 ++ u64 3 ++ u64 1))
       ≡ record { node = 2; amount = negsuc 1 } ∷ []
   pub fresh : moved_over_sample Fresh (request 2 7 4 (u64 3)) ≡ []

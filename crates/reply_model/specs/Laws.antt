@@ -3,7 +3,7 @@ use Rattle.std.specs.Prelude.{◌≡◌, ℕ, ◌⊎◌, ◌+◌, ◌<◌, ◌�
 use Rattle.std.specs.List.{flat_map}
 use Rattle.fuse_wire.specs.declared.errno.Errno.{Errno}
 use Rattle.fuse_wire.specs.declared.reply.Attr.{Attr}
-use Rattle.fuse_wire.specs.Requests.{Op, Asked, lookup, forget, batch_forget, readdirplus}
+use Rattle.fuse_wire.specs.Requests.{Op, Asked, at_node, lookup, readdirplus, silent, forget, batch_forget}
 use Rattle.fuse_wire.specs.Structures.{u32, u64, entry_out}
 use Rattle.fuse_wire.specs.Replies.{reply_with, error_reply}
 use Rattle.stack_model.specs.Listing.{Entry}
@@ -11,7 +11,8 @@ use Rattle.stack_model.specs.Numbers.{Place}
 use Rattle.reply_model.specs.declared.session.Session.{Session}
 use Rattle.reply_model.specs.Rows.{Row, is_child, reply_attr, direntplus_of}
 use Rattle.reply_model.specs.Replies.{reply}
-use Rattle.reply_model.specs.Moves.{give, moves}
+use Rattle.reply_model.specs.Services.{give}
+use Rattle.reply_model.specs.Moves.{moves}
 
 -- the bytes begin with how many they are, as 32 bits, an error, and the request's unique
 pub record IsReplyTo (unique : ℕ) (bytes : List ℕ) : Type 0 where
@@ -42,7 +43,8 @@ module _ (layers : List (List ℕ)) (entries : List Entry) where
       × (reply layers entries s q ≡ reply_with q.unique (entry_out (reply_attr layers entries p)))
       × (moves layers entries s q ≡ give layers entries p ∷ []))
 
-  -- a READDIRPLUS gives one lookup of the node of each row that it is answered but . and .., or nothing
+  -- a READDIRPLUS gives one lookup of the node of each row that it is answered but . and .., or
+  -- nothing
   abbrev pub GivesRows : Session → Asked → Type 0
   GivesRows s q =
       GivesNothing s q
@@ -54,10 +56,10 @@ module _ (layers : List (List ℕ)) (entries : List Entry) where
 
 -- the requests that give or take
 abbrev pub is_moving : Op → Bool
-is_moving (lookup name) = true
-is_moving (forget nlookup) = true
-is_moving (batch_forget items) = true
-is_moving (readdirplus offset size) = true
+is_moving (at_node (lookup name)) = true
+is_moving (silent (forget nlookup)) = true
+is_moving (silent (batch_forget items)) = true
+is_moving (at_node (readdirplus offset size)) = true
 is_moving _ = false
 
 -- each layer is a list of bytes

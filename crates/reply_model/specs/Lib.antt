@@ -1,6 +1,7 @@
 pub mod Sessions
 pub mod Lookups
 pub mod Rows
+pub mod Services
 pub mod Refusals
 pub mod Replies
 pub mod Moves

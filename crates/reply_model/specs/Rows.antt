@@ -1,4 +1,5 @@
--- Attributes as linux/fuse.h has them, and the rows of directories (readdir(3): . and .. come first).
+-- Attributes as linux/fuse.h has them, and the rows of directories (readdir(3): . and .. come
+-- first).
 use Rattle.std.specs.Prelude.{ℕ, ◌-◌, ◌/◌, ◌^◌, List, [], ◌∷◌, length, drop, Bool, false, nat_lt, nat_le, Some, None, if◌then◌else◌, codes}
 use Rattle.std.specs.List.{enumerate_from}
 use Rattle.fuse_wire.specs.declared.reply.Attr.{Attr}

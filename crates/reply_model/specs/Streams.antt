@@ -27,7 +27,8 @@ moves_by moved s (q ∷ qs) = moved s q ++ moves_by moved (session_after s q.op)
 abbrev pub replies : List (List ℕ) → List Entry → Session → List (List ℕ) → List ℕ
 replies layers entries s messages = replies_by (reply layers entries) s (map asked messages)
 
--- the lookups of a node that the client holds after these messages, from a fresh session on; it may be below 0
+-- the lookups of a node that the client holds after these messages, from a fresh session on; it may
+-- be below 0
 abbrev pub balance_after : List (List ℕ) → List Entry → List (List ℕ) → ℕ → ℤ
 balance_after layers entries messages node =
     balance node (moves_by (moves layers entries) Fresh (map asked messages))

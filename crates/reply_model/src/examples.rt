@@ -1,4 +1,5 @@
-//! Worked examples: over the empty image and the sample image, what requests are answered, by computation.
+//! Worked examples: over the empty image and the sample image, what requests are answered, by
+//! computation.
 
 ghost use Rattle.reply_model.specs.Examples.{StreamExamples, FaultOrder, FaultExamples, EmptyImageFields, InitExamples, GetattrExamples, ReaddirExamples, ReaddirplusExamples, ReadExamples, LookupExamples, NodeExamples, OpenExamples, SessionExamples, ExportExamples, SilentExamples, RefusalOrder, TwelveRequests, BalanceExamples};
 

@@ -3,7 +3,8 @@
 ghost use Rattle.std.specs.Prelude.{◌≡◌, ◌⊎◌, ◌≤◌, [], ◌∷◌, ◌++◌, ℕ, List, length, map, All, false, ◌+ℤ◌};
 ghost use Rattle.romfs_format.specs.Fields.{image};
 ghost use Rattle.romfs_format.specs.Rules.{IsSound};
-ghost use Rattle.fuse_wire.specs.Requests.{Asked, lookup, readdirplus, destroy};
+ghost use Rattle.fuse_wire.specs.Requests.{Asked, at_node, lookup, readdirplus, done, destroy};
+ghost use Rattle.fuse_wire.specs.declared.limits.TheConstants.{MAX_REPLY_SIZE};
 ghost use Rattle.fuse_wire.specs.Stream.{said_length};
 ghost use Rattle.stack_model.specs.Listing.{Entry, IsListing};
 ghost use Rattle.reply_model.specs.declared.session.Session.{Session};
@@ -16,20 +17,21 @@ ghost use Rattle.reply_model.specs.Laws.{IsReplyTo, AreFirstThatFit, GivesEntry,
 ghost use Rattle.stack_model.specs.Numbers.{Place, nodes, number};
 ghost use Rattle.reply_model.specs.Rows.{Row, fitting, reply_attr};
 
-/// A reply is empty, or it begins with its own length, as a word of 32 bits, and carries its request's unique.
+/// A reply is empty, or it begins with its own length, as a word of 32 bits, and carries its
+/// request's unique.
 #[tactic(auto, using(crate::proofs::Headers::headed))]
 pub fn replies_are_headed()
     ensures { (layers : List (List ℕ)) (entries : List Entry) (s : Session) (q : Asked) →
         (reply layers entries s q ≡ []) ⊎ IsReplyTo q.unique (reply layers entries s q) }
 {}
 
-/// Over sound images a reply has at most 1 MiB of data behind its header of 16 bytes. So the length that a reply
-/// begins with is its length itself, whole in its 32 bits.
+/// Over sound images a reply has at most 1 MiB of data behind its header of 16 bytes. So the length
+/// that a reply begins with is its length itself, whole in its 32 bits.
 #[tactic(auto, using(crate::proofs::Lengths::short, crate::proofs::Lengths::said))]
 pub fn replies_are_short()
     ensures short { (bs : List (List ℕ)) (entries : List Entry) → All IsSound bs →
         IsListing (map image bs) entries →
-        (s : Session) (q : Asked) → length (reply (map image bs) entries s q) ≤ 1048592 }
+        (s : Session) (q : Asked) → length (reply (map image bs) entries s q) ≤ MAX_REPLY_SIZE }
     ensures said { (bs : List (List ℕ)) (entries : List Entry) → All IsSound bs →
         IsListing (map image bs) entries →
         (s : Session) (q : Asked) → (reply (map image bs) entries s q ≡ [])
@@ -44,25 +46,27 @@ pub fn fitting_rows_are_the_first()
         AreFirstThatFit form room rows (fitting form room rows) }
 {}
 
-/// A lookup is given exactly where an entry is answered: LOOKUP gives one of the node whose entry its reply holds, and
-/// READDIRPLUS one of the node of each row in its reply but `.` and `..`; where they are answered an error, nothing.
+/// A lookup is given exactly where an entry is answered: LOOKUP gives one of the node whose entry
+/// its reply holds, and READDIRPLUS one of the node of each row in its reply but `.` and `..`;
+/// where they are answered an error, nothing.
 #[tactic(auto, using(crate::proofs::Given::given))]
 pub fn entries_are_given()
     ensures lookup { (layers : List (List ℕ)) (entries : List Entry) (s : Session)
         (unique node : ℕ) (name : List ℕ) →
-        GivesEntry layers entries s (record { unique = unique; node = node; op = lookup name }) }
+        GivesEntry layers entries s
+        (record { unique = unique; node = node; op = at_node (lookup name) }) }
     ensures readdirplus { (layers : List (List ℕ)) (entries : List Entry) (s : Session)
         (unique node offset size : ℕ) →
         GivesRows layers entries s
-        (record { unique = unique; node = node; op = readdirplus offset size }) }
+        (record { unique = unique; node = node; op = at_node (readdirplus offset size) }) }
     ensures others { (layers : List (List ℕ)) (entries : List Entry) (s : Session) (q : Asked) →
         is_moving q.op ≡ false → moves layers entries s q ≡ [] }
     ensures fresh { (layers : List (List ℕ)) (entries : List Entry) (q : Asked) →
         moves layers entries Fresh q ≡ [] }
 {}
 
-/// Requests may be taken in parts: their replies and moves are those of the parts, the session carried along, and a
-/// balance is the sum of the parts' balances.
+/// Requests may be taken in parts: their replies and moves are those of the parts, the session
+/// carried along, and a balance is the sum of the parts' balances.
 #[tactic(auto, using(crate::proofs::Balances::parts))]
 pub fn parts_of_a_stream_add_up()
     ensures replies { (answered : Session → Asked → List ℕ) (s : Session) (qs rs : List Asked) →
@@ -80,7 +84,7 @@ pub fn destroy_leaves_balances()
     ensures { (layers : List (List ℕ)) (entries : List Entry) (s : Session)
         (qs : List Asked) (unique node n : ℕ) →
         balance n (moves_by (moves layers entries) s
-        (qs ++ record { unique = unique; node = node; op = destroy } ∷ []))
+        (qs ++ record { unique = unique; node = node; op = done destroy } ∷ []))
         ≡ balance n (moves_by (moves layers entries) s qs) }
 {}
 

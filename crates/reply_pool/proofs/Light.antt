@@ -7,8 +7,9 @@ use Rattle.std.proofs.lemmas.Bool.{leb-true}
 use Rattle.std.proofs.lemmas.Int.{ints}
 use Rattle.std.proofs.lemmas.List.{get_or-drop, length-drop}
 use Rattle.fuse_wire.specs.declared.forget.Forget.{Forget}
+use Rattle.fuse_wire.specs.declared.limits.TheConstants.{HEADER_SIZE}
 use Rattle.fuse_wire.specs.declared.opcode.TheConstants.{FORGET, GETATTR, OPEN, READ, INIT, OPENDIR, READDIR, BATCH_FORGET, READDIRPLUS}
-use Rattle.fuse_wire.specs.Requests.{Op, lookup, forget, getattr, readlink, open_file, read, statfs, release, fsync, flush, init, opendir, readdir, releasedir, fsyncdir, interrupt, destroy, batch_forget, readdirplus, modify, other, malformed, asked, forgets_in, forgets_of, op_of, served, sized, modifying, is_in}
+use Rattle.fuse_wire.specs.Requests.{Op, init, at_node, lookup, getattr, open_file, read, opendir, readdir, readdirplus, silent, forget, batch_forget, modify, other, malformed, asked, forgets_in, forgets_of, op_of, served, sized, modifying, is_in}
 use Rattle.fuse_wire.specs.Stream.{IsMessage, field}
 use Rattle.fuse_wire.proofs.Sizes.{length-direntplus}
 use Rattle.stack_model.specs.Listing.{Entry}
@@ -20,8 +21,9 @@ use Rattle.reply_model.specs.Sessions.{is_exported}
 use Rattle.reply_model.specs.Lookups.{looked_up}
 use Rattle.reply_model.specs.Refusals.{refusal}
 use Rattle.reply_model.specs.Rows.{Row, is_child, reply_attr, fitting, direntplus_of, rows_after}
-use Rattle.reply_model.specs.Moves.{give, take_back, gives_at, moved, moves}
-use Rattle.rounds.specs.Moves.{IsLight, weight}
+use Rattle.reply_model.specs.Services.{give}
+use Rattle.reply_model.specs.Moves.{take_back, gives_at, moved, moves}
+use Rattle.lookup_balances.specs.Balances.{IsLight, weight}
 
 -- all are bytes
 abbrev AreBytes : List ℕ → Type 0
@@ -51,9 +53,9 @@ AreSmall (f ∷ items) = (f.nlookup < 2 ^ 64) × AreSmall items
 
 -- the numbers in a request have 64 bits, and its items are no more than so many bytes
 abbrev IsModest : ℕ → Op → Type 0
-IsModest bytes (forget nlookup) = nlookup < 2 ^ 64
-IsModest bytes (batch_forget items) = AreSmall items × (length items ≤ bytes)
-IsModest bytes (readdirplus offset size) = size < 2 ^ 64
+IsModest bytes (silent (forget nlookup)) = nlookup < 2 ^ 64
+IsModest bytes (silent (batch_forget items)) = AreSmall items × (length items ≤ bytes)
+IsModest bytes (at_node (readdirplus offset size)) = size < 2 ^ 64
 IsModest bytes _ = Unit {0}
 
 items_small : (n : ℕ) (bytes : List ℕ) → AreBytes bytes → AreSmall (forgets_in n bytes)
@@ -68,7 +70,7 @@ module _ (body : List ℕ) (b : AreBytes body) where
   abbrev Modest : Op → Type 0
   Modest = IsModest (length body)
 
-  name_modest : (o : Option (List ℕ)) (n : ℕ) → Modest (option_map_or lookup o (malformed n))
+  name_modest : (o : Option (List ℕ)) (n : ℕ) → Modest (option_map_or (λ name. at_node (lookup name)) o (malformed n))
   name_modest None n = tt
   name_modest (Some name) n = tt
 
@@ -79,7 +81,7 @@ module _ (body : List ℕ) (b : AreBytes body) where
       go true = tt
       go false = m
 
-  batch_modest : Modest (batch_forget (forgets_of body))
+  batch_modest : Modest (silent (batch_forget (forgets_of body)))
   unfolding forgets_of
   batch_modest =
       let n = min (field 4 0 body) (length (drop 8 body) / 16) in
@@ -102,15 +104,15 @@ module _ (body : List ℕ) (b : AreBytes body) where
   served_modest = (
     name_modest _ _,
     (
-      sized_modest FORGET 8 (λ body. forget (field 8 0 body)) (wide 0 body b),
+      sized_modest FORGET 8 (λ body. silent (forget (field 8 0 body))) (wide 0 body b),
       (
-        sized_modest GETATTR 16 (λ _. getattr) tt,
+        sized_modest GETATTR 16 (λ _. at_node getattr) tt,
         (
           tt,
           (
-            sized_modest OPEN 8 (λ body. open_file (field 4 0 body)) tt,
+            sized_modest OPEN 8 (λ body. at_node (open_file (field 4 0 body))) tt,
             (
-              sized_modest READ 40 (λ body. read (field 8 8 body) (field 4 16 body)) tt,
+              sized_modest READ 40 (λ body. at_node (read (field 8 8 body) (field 4 16 body))) tt,
               (
                 tt,
                 (
@@ -122,9 +124,9 @@ module _ (body : List ℕ) (b : AreBytes body) where
                       (
                         sized_modest INIT 16 (λ body. init (field 4 0 body) (field 4 4 body) (field 4 8 body) (field 4 12 body)) tt,
                         (
-                          sized_modest OPENDIR 8 (λ _. opendir) tt,
+                          sized_modest OPENDIR 8 (λ _. at_node opendir) tt,
                           (
-                            sized_modest READDIR 40 (λ body. readdir (field 8 8 body) (field 4 16 body)) tt,
+                            sized_modest READDIR 40 (λ body. at_node (readdir (field 8 8 body) (field 4 16 body))) tt,
                             (
                               tt,
                               (
@@ -134,9 +136,9 @@ module _ (body : List ℕ) (b : AreBytes body) where
                                   (
                                     tt,
                                     (
-                                      sized_modest BATCH_FORGET 8 (λ body. batch_forget (forgets_of body)) batch_modest,
+                                      sized_modest BATCH_FORGET 8 (λ body. silent (batch_forget (forgets_of body))) batch_modest,
                                       (
-                                        sized_modest READDIRPLUS 40 (λ body. readdirplus (field 8 8 body) (field 4 16 body)) (narrow 16 body b),
+                                        sized_modest READDIRPLUS 40 (λ body. at_node (readdirplus (field 8 8 body) (field 4 16 body))) (narrow 16 body b),
                                         tt,
                                       ),
                                     ),
@@ -167,7 +169,7 @@ module _ (body : List ℕ) (b : AreBytes body) where
       go false = found_modest opcode served served_modest
 
 -- as many rows as are answered are no more than the size
-fitting_few : (form : Row → List ℕ) → ((r : Row) → 1 ≤ length (form r)) → (room : ℕ) (rows : List Row) → length (fitting form room rows) ≤ room
+pub fitting_few : (form : Row → List ℕ) → ((r : Row) → 1 ≤ length (form r)) → (room : ℕ) (rows : List Row) → length (fitting form room rows) ≤ room
 fitting_few form some room [] = omega arith
 fitting_few form some room (r ∷ rows) = go (nat_le (length (form r)) room) refl (fitting_few form some (room - length (form r)) rows)
   where
@@ -186,7 +188,7 @@ module _ (layers : List (List ℕ)) (entries : List Entry) where
       go true l = omega (arith, ints)
       go false l = omega arith
 
-  row_some : (r : Row) → 1 ≤ length (direntplus_of layers entries r)
+  pub row_some : (r : Row) → 1 ≤ length (direntplus_of layers entries r)
   unfolding direntplus_of
   row_some r =
       let entry = if is_child r then Some (reply_attr layers entries r.1.place) else None in
@@ -234,48 +236,32 @@ module _ (layers : List (List ℕ)) (entries : List Entry) where
         omega arith
 
     moved_light : (op : Op) → IsModest bytes op → weight (moved layers entries export node op) ≤ 2 ^ 64 * bytes
-    moved_light (lookup name) m = lookup_given name (node_of entries node)
-    moved_light (forget nlookup) m = let w = weight_taken (record { node = node; nlookup = nlookup }) [] m in omega arith
-    moved_light (batch_forget items) m = let w = weight_items items m.0 in let n = m.1 in omega arith
-    moved_light (readdirplus offset size) m = rows_given offset size m (node_of entries node)
-    moved_light getattr m = nothing_given (node_of entries node)
-    moved_light readlink m = nothing_given (node_of entries node)
-    moved_light (open_file flags) m = nothing_given (node_of entries node)
-    moved_light (read offset size) m = nothing_given (node_of entries node)
-    moved_light statfs m = nothing_given (node_of entries node)
-    moved_light release m = nothing_given (node_of entries node)
-    moved_light fsync m = nothing_given (node_of entries node)
-    moved_light flush m = nothing_given (node_of entries node)
-    moved_light (init major minor readahead flags) m = nothing_given (node_of entries node)
-    moved_light opendir m = nothing_given (node_of entries node)
-    moved_light (readdir offset size) m = nothing_given (node_of entries node)
-    moved_light releasedir m = nothing_given (node_of entries node)
-    moved_light fsyncdir m = nothing_given (node_of entries node)
-    moved_light interrupt m = nothing_given (node_of entries node)
-    moved_light destroy m = nothing_given (node_of entries node)
-    moved_light modify m = nothing_given (node_of entries node)
-    moved_light other m = nothing_given (node_of entries node)
-    moved_light (malformed opcode) m = nothing_given (node_of entries node)
+    moved_light (at_node (lookup name)) m = lookup_given name (node_of entries node)
+    moved_light (at_node (readdirplus offset size)) m = rows_given offset size m (node_of entries node)
+    moved_light (at_node _) m = nothing_given (node_of entries node)
+    moved_light (silent (forget nlookup)) m = let w = weight_taken (record { node = node; nlookup = nlookup }) [] m in omega arith
+    moved_light (silent (batch_forget items)) m = let w = weight_items items m.0 in let n = m.1 in omega arith
+    moved_light _ m = omega arith
 
   -- what a message moves is light
   pub message_light : (s : Session) (m : List ℕ) → IsMessage m → AreBytes m → IsLight (moves layers entries s (asked m)) (length m)
   message_light s m is b = go (is_some (refusal layers entries s (asked m).node (asked m).op))
     where
-      long : 40 ≤ length m
+      long : HEADER_SIZE ≤ length m
       long = is.good.0
 
       body : List ℕ
-      body = drop 40 m
+      body = drop HEADER_SIZE m
 
       modest : IsModest (length body) (asked m).op
-      modest = op_modest body (bytes_after 40 m b) (field 4 4 m)
+      modest = op_modest body (bytes_after HEADER_SIZE m b) (field 4 4 m)
 
       go : (refused : Bool) → weight (cond refused [] (moved layers entries (is_exported s) (asked m).node (asked m).op)) ≤ 2 ^ 64 * length m
       go true = omega arith
       go false = moved_light (length m) (omega arith) (is_exported s) (asked m).node (asked m).op (larger (asked m).op modest)
         where
           larger : (op : Op) → IsModest (length body) op → IsModest (length m) op
-          larger (batch_forget items) h = (h.0, let l = length-drop 40 m in let n = h.1 in omega arith)
-          larger (forget nlookup) h = h
-          larger (readdirplus offset size) h = h
+          larger (silent (batch_forget items)) h = (h.0, let l = length-drop HEADER_SIZE m in let n = h.1 in omega arith)
+          larger (silent (forget nlookup)) h = h
+          larger (at_node (readdirplus offset size)) h = h
           larger _ h = tt

@@ -1,20 +1,46 @@
 -- Moves joined from the front on, where their nodes do not fall.
-use Rattle.std.proofs.Common.{◌≡◌, ◌≢◌, ◌∙◌, sym, ap, subst, ℕ, ◌+◌, ◌*◌, ◌<◌, ◌≤◌, ◌^◌, ◌==◌, inl, inr, ℤ, pos, negsuc, neg_ℤ, ◌+ℤ◌, unsigned_abs, List, [], ◌∷◌, ◌++◌, length, get_or, take, Bool, true, false, cond, refl, arith, length-append, length-take, to_z, of_z}
+use Rattle.std.proofs.Common.{◌≡◌, ◌≢◌, ◌∙◌, sym, ap, subst, ℕ, ◌+◌, ◌<◌, ◌≤◌, ◌^◌, ◌==◌, inl, inr, ℤ, pos, negsuc, neg_ℤ, ◌+ℤ◌, unsigned_abs, List, [], ◌∷◌, ◌++◌, length, get_or, take, drop, Bool, true, false, cond, refl, arith, to_z, of_z}
 use Rattle.std.specs.List.{AllByRecursion}
 use Rattle.std.specs.List.Sorted.{IsPermutation}
 use Rattle.std.specs.Prelude.{sum_by}
 use Rattle.std.specs.Int.{w128}
 use Rattle.std.proofs.lemmas.Int.{ints, fits_signed_from_abs, to_z-of_z}
-use Rattle.std.proofs.lemmas.List.{take_more}
+use Rattle.std.proofs.lemmas.List.{take_more, take-append-drop}
+use Rattle.std.proofs.lemmas.List.Recursion.{is_sum_by}
 use Rattle.std.proofs.lemmas.List.Sums.{sum_by-cons}
 use Rattle.std.proofs.lemmas.List.Sorted.{sum_by-IsPermutation}
 use Rattle.reply_model.specs.declared.moves.Move.{Move}
 use Rattle.reply_model.specs.Moves.{balance}
+use Rattle.lookup_balances.specs.Balances.{weight}
 use Rattle.reply_pool.specs.Sums.{AreAscending, AreSums, PutsSum}
 
-balance_append : (node : ℕ) (xs ys : List Move) → balance node (xs ++ ys) ≡ balance node xs +ℤ balance node ys
+pub balance_append : (node : ℕ) (xs ys : List Move) → balance node (xs ++ ys) ≡ balance node xs +ℤ balance node ys
 balance_append node [] ys = omega (arith, ints)
 balance_append node (x ∷ xs) ys = let e = balance_append node xs ys in omega (arith, ints)
+
+-- a sum of nothing
+abbrev pub nothing : Move
+nothing = record { node = 0; amount = pos 0 }
+
+pub weight_append : (xs ys : List Move) → weight (xs ++ ys) ≡ weight xs + weight ys
+weight_append [] ys = omega arith
+weight_append (x ∷ xs) ys = let e = weight_append xs ys in omega arith
+
+-- the weight of the moves before an index, and of the one there
+pub weight_within : (xs : List Move) (i : ℕ) → i < length xs → weight (take i xs) + unsigned_abs (get_or xs i nothing).amount ≤ weight xs
+weight_within xs i there =
+    let e = ap weight (take_more xs i nothing there) in
+    let f = weight_append (take i xs) (get_or xs i nothing ∷ []) in
+    let g = weight_append (take (i + 1) xs) (drop (i + 1) xs) in
+    let h = ap weight (take-append-drop (i + 1) xs) in
+    omega arith
+
+weight_sum : (xs : List Move) → weight xs ≡ sum_by (λ (m : Move). unsigned_abs m.amount) xs
+weight_sum xs = is_sum_by weight (λ (m : Move). unsigned_abs m.amount) refl (λ x xs. refl) xs
+
+-- moves in another order weigh as much
+pub weight_permuted : (xs ys : List Move) → IsPermutation xs ys → weight ys ≡ weight xs
+weight_permuted xs ys p = weight_sum ys ∙ sum_by-IsPermutation (λ (m : Move). unsigned_abs m.amount) xs ys p ∙ sym (weight_sum xs)
 
 all_push : (P : Move → Type 0) (xs : List Move) (b : Move) → AllByRecursion P xs → P b → AllByRecursion P (xs ++ b ∷ [])
 all_push P [] b all last = (last, tt)
@@ -53,22 +79,18 @@ pub record IsJoined (done sums : List Move) (sum : Move) : Type 0 where
   pub each : (node : ℕ) → balance node (sums ++ sum ∷ []) ≡ balance node done
   pub ascending : AreAscending (sums ++ sum ∷ [])
   pub none_zero : AllByRecursion (λ m. m.amount ≢ pos 0) sums
-  pub small : unsigned_abs sum.amount ≤ 2 ^ 64 * length done
+  pub light : weight sums + unsigned_abs sum.amount ≤ weight done
 
 none_of : (b : Bool) (a : ℤ) → a ≡ pos 0 → cond b a (pos 0) ≡ pos 0
 none_of true a is = is
 none_of false a is = refl
-
--- a sum of nothing
-abbrev pub nothing : Move
-nothing = record { node = 0; amount = pos 0 }
 
 pub none_joined : (sum : Move) → sum.amount ≡ pos 0 → IsJoined [] [] sum
 none_joined sum zero = record {
   each = λ node. (let e = none_of (sum.node == node) sum.amount zero in omega (arith, ints));
   ascending = (tt, tt);
   none_zero = tt;
-  small = (let e = ap unsigned_abs zero in omega arith);
+  light = (let e = ap unsigned_abs zero in omega arith);
 }
 
 added : (b : Bool) (x y z : ℤ) → z ≡ x +ℤ y → cond b z (pos 0) ≡ cond b x (pos 0) +ℤ cond b y (pos 0)
@@ -77,8 +99,8 @@ added false x y z is = omega (arith, ints)
 
 -- a move of the last node is added to it
 pub one_added : (done sums : List Move) (sum m next : Move) → IsJoined done sums sum → m.node ≡ sum.node → next.node ≡ sum.node
-    → next.amount ≡ sum.amount +ℤ m.amount → unsigned_abs m.amount ≤ 2 ^ 64 → IsJoined (done ++ m ∷ []) sums next
-one_added done sums sum m next so_far same kept is small = record {
+    → next.amount ≡ sum.amount +ℤ m.amount → IsJoined (done ++ m ∷ []) sums next
+one_added done sums sum m next so_far same kept is = record {
   each = λ node. (
       let e = so_far.each node in
       let f = balance_append node done (m ∷ []) in
@@ -91,9 +113,9 @@ one_added done sums sum m next so_far same kept is small = record {
       omega (arith, ints));
   ascending = ascending_higher sums sum next (omega arith) so_far.ascending;
   none_zero = so_far.none_zero;
-  small = (
-      let l = length-append done (m ∷ []) in
-      let s = so_far.small in
+  light = (
+      let l = weight_append done (m ∷ []) in
+      let s = so_far.light in
       let a : unsigned_abs next.amount ≤ unsigned_abs sum.amount + unsigned_abs m.amount = omega (arith, ints) in
       omega arith);
 }
@@ -105,44 +127,46 @@ held z = to_z w128 (of_z w128 z)
 as_held : (z : ℤ) → unsigned_abs z < 2 ^ 127 → held z ≡ z
 as_held z h = to_z-of_z w128 z (fits_signed_from_abs w128 z h)
 
+-- amounts that 128 bits hold together are held as they are
+pub fits_both : (a b : ℤ) → unsigned_abs a + unsigned_abs b < 2 ^ 127 → unsigned_abs (held a) + unsigned_abs (held b) < 2 ^ 127
+fits_both a b h = let e = ap unsigned_abs (as_held a (omega arith)) in let f = ap unsigned_abs (as_held b (omega arith)) in omega arith
+
 -- the move at an index is added
-pub move_added : (xs sums : List Move) (i : ℕ) (sum : Move) (total : ℤ) → i < length xs → length xs < 2 ^ 63
-    → unsigned_abs (get_or xs i nothing).amount ≤ 2 ^ 64 → IsJoined (take i xs) sums sum → (get_or xs i nothing).node ≡ sum.node
-    → total ≡ held sum.amount +ℤ held (get_or xs i nothing).amount
+pub move_added : (xs sums : List Move) (i : ℕ) (sum : Move) (total : ℤ) → i < length xs → weight xs < 2 ^ 127
+    → IsJoined (take i xs) sums sum → (get_or xs i nothing).node ≡ sum.node → total ≡ held sum.amount +ℤ held (get_or xs i nothing).amount
     → IsJoined (take (i + 1) xs) sums (record { node = sum.node; amount = held total })
-move_added xs sums i sum total there few small so_far same is =
+move_added xs sums i sum total there light so_far same is =
     let m = get_or xs i nothing in
-    let len = length-take i xs in
-    let s = so_far.small in
-    let light : unsigned_abs sum.amount < 2 ^ 127 = omega arith in
-    let e : total ≡ sum.amount +ℤ m.amount = is ∙ ap (λ z. z +ℤ held m.amount) (as_held sum.amount light)
+    let w = weight_within xs i there in
+    let s = so_far.light in
+    let e : total ≡ sum.amount +ℤ m.amount = is ∙ ap (λ z. z +ℤ held m.amount) (as_held sum.amount (omega arith))
     ∙ ap (λ z. sum.amount +ℤ z) (as_held m.amount (omega arith)) in
     let a : unsigned_abs (sum.amount +ℤ m.amount) ≤ unsigned_abs sum.amount + unsigned_abs m.amount = omega (arith, ints) in
     let b = ap unsigned_abs e in
     let h : held total ≡ total = as_held total (omega arith) in
     subst (λ ms. IsJoined ms sums (record { node = sum.node; amount = held total })) (sym (take_more xs i nothing there))
-    (one_added (take i xs) sums sum m (record { node = sum.node; amount = held total }) so_far same refl (h ∙ e) small)
+    (one_added (take i xs) sums sum m (record { node = sum.node; amount = held total }) so_far same refl (h ∙ e))
 
 -- the sum of the last node is put, and a higher node begins
 pub next_begun : (done sums put : List Move) (sum next : Move) → IsJoined done sums sum → PutsSum sums put sum → sum.node < next.node
     → next.amount ≡ pos 0 → IsJoined done put next
 next_begun done sums put sum next so_far told higher zero = elim told [ inl t ↦ dropped t.0 t.1 | inr t ↦ kept t.0 t.1 ]
   where
-    small : unsigned_abs next.amount ≤ 2 ^ 64 * length done
-    small = let e = ap unsigned_abs zero in omega arith
+    none : unsigned_abs next.amount ≡ 0
+    none = let e = ap unsigned_abs zero in omega arith
 
     dropped : sum.amount ≡ pos 0 → put ≡ sums → IsJoined done put next
-    dropped none same = subst (λ xs. IsJoined done xs next) (sym same) (record {
+    dropped is same = subst (λ xs. IsJoined done xs next) (sym same) (record {
       each = λ node. (
           let e = so_far.each node in
           let g = balance_append node sums (sum ∷ []) in
           let h = balance_append node sums (next ∷ []) in
-          let i = none_of (sum.node == node) sum.amount none in
+          let i = none_of (sum.node == node) sum.amount is in
           let j = none_of (next.node == node) next.amount zero in
           omega (arith, ints));
       ascending = ascending_higher sums sum next (omega arith) so_far.ascending;
       none_zero = so_far.none_zero;
-      small = small;
+      light = (let s = so_far.light in omega (arith, none));
     })
 
     kept : sum.amount ≢ pos 0 → put ≡ sums ++ sum ∷ [] → IsJoined done put next
@@ -154,7 +178,7 @@ next_begun done sums put sum next so_far told higher zero = elim told [ inl t �
           omega (arith, ints));
       ascending = ascending_on sums sum next higher so_far.ascending;
       none_zero = all_push (λ m. m.amount ≢ pos 0) sums sum so_far.none_zero some;
-      small = small;
+      light = (let s = so_far.light in omega (arith, none, weight_append sums (sum ∷ [])));
     })
 
 -- the last sum is put
@@ -178,6 +202,13 @@ all_joined done sums put sum so_far told = elim told [ inl t ↦ dropped t.0 t.1
       each = so_far.each;
       none_zero = all_push (λ m. m.amount ≢ pos 0) sums sum so_far.none_zero some;
     })
+
+-- the sums weigh no more than what they are sums of
+pub sums_light : (done sums put : List Move) (sum : Move) → IsJoined done sums sum → PutsSum sums put sum → weight put ≤ weight done
+sums_light done sums put sum so_far told = let s = so_far.light in elim told [
+  | inl t ↦ (let e = ap weight t.1 in omega arith)
+  | inr t ↦ (let e = ap weight t.1 in let f = weight_append sums (sum ∷ []) in omega arith)
+]
 
 -- what an amount gives, and what it takes
 abbrev gain : ℤ → ℕ

@@ -2,7 +2,7 @@
 use Rattle.node_table.specs.Stacked.{Stacked}
 use Rattle.reply_model.specs.Replies.{reply}
 use Rattle.reply_model.specs.Moves.{moves}
-use Rattle.rounds.specs.Rounds.{Answering}
+use Rattle.serve_loop.specs.Rounds.{Answering}
 
 -- requests are replied to, and move lookups, as FUSE has it over the stack's layers and shown paths
 abbrev pub answering : Stacked → Answering

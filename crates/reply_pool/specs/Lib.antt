@@ -1,4 +1,6 @@
-pub mod Plans
-pub mod Answers
 pub mod Sums
+pub mod Plans
 pub mod Jobs
+pub mod Batches
+pub mod Workers
+pub mod Answers

@@ -1,23 +1,24 @@
 //! What the LOOKUPs of a round will read, read ahead.
 //!
-//! A LOOKUP follows numbers through a table that is larger than the processor's caches: from the directory to a guess,
-//! to the row, to the node and to its balance. One after another each of these reads would be waited for, request by
-//! request. Here the guesses of all LOOKUPs of a round are read first, and then what they point to. None of these reads
-//! waits for that of another request, so they overlap.
+//! A LOOKUP follows numbers through a table that is larger than the processor's caches: from the
+//! directory to a guess, to the row, to the node and to its balance. One after another each of
+//! these reads would be waited for, request by request. Here the guesses of all LOOKUPs of a round
+//! are read first, and then what they point to. None of these reads waits for that of another
+//! request, so they overlap.
 //!
-//! No answer follows from what is read here. It takes a few steps for each message of the round, as long as every
-//! fourth is a LOOKUP, and no memory.
+//! No answer follows from what is read here. It takes a few steps for each message of the round, as
+//! long as every fourth is a LOOKUP, and no memory.
 
+use fuse_wire::limits::MAX_ROUND_MESSAGES;
 use fuse_wire::{Framed, frame, glance};
 use node_table::{Row, Table};
-use rounds::MOST_MESSAGES;
 use std::alloc::Allocator;
 
 /// What was read ahead.
 #[derive(Drop)]
 pub(crate) struct Ahead {
     // Where the rows of LOOKUPs may stand, and how many these are.
-    places: [usize; MOST_MESSAGES],
+    places: [usize; MAX_ROUND_MESSAGES],
     len: usize,
     // A sum of all that was read, so that no compiler leaves the reading out.
     sum: u64,
@@ -27,7 +28,7 @@ impl Ahead {
     // Nothing yet.
     pub(crate) fn new() -> Self {
         Ahead {
-            places: [0; MOST_MESSAGES],
+            places: [0; MAX_ROUND_MESSAGES],
             len: 0,
             sum: 0,
         }
@@ -53,12 +54,12 @@ impl Ahead {
     // Guesses where the rows of these LOOKUPs stand.
     fn guess_all<A: Allocator>(&mut self, table: &Table<A>, stream: &[u8]) {
         let mut rest = stream;
-        for message in 0..MOST_MESSAGES {
+        for message in 0..MAX_ROUND_MESSAGES {
             let Framed::Whole(len) = frame(rest) else {
                 return;
             };
             match guess(table, &rest[..len]) {
-                Some(place) if self.len < MOST_MESSAGES => {
+                Some(place) if self.len < MAX_ROUND_MESSAGES => {
                     self.places[self.len] = place;
                     self.len += 1;
                 }

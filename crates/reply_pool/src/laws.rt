@@ -1,11 +1,40 @@
-//! What sums of moves mean.
+//! What sums of moves mean, and what callers' own workers come to.
 
-ghost use Rattle.std.specs.Prelude.{◌≡◌, List};
+ghost use Rattle.std.specs.Prelude.{◌≡◌, ◌<◌, ◌≤◌, ℕ, List, length};
+ghost use Rattle.draw_board.specs.Hands.{total_of};
 ghost use Rattle.reply_model.specs.declared.moves.Move.{Move};
+ghost use Rattle.reply_pool.specs.Batches.{batches};
 ghost use Rattle.reply_pool.specs.Sums.{AreSums};
+ghost use Rattle.reply_pool.specs.Workers.{AreWhole, IsLast, WorksAlone};
+
+use crate::pieces::Piece;
+use draw_board::{Board, Hand};
+use fuse_wire::Request;
+use node_table::Table;
+use reply_model::Session;
+use std::alloc::Allocator;
 
 /// Moves have one list of sums.
 #[tactic(auto, using(crate::proofs::Ordered::one_form))]
 pub fn sums_are_one()
     ensures { (moves xs ys : List Move) → AreSums moves xs → AreSums moves ys → xs ≡ ys }
+{}
+
+/// Hands that share a board with one table, the same jobs and one size of batches, and that draw by
+/// [`work`](crate::work) alone, at least once, and never without memory: when they are rejoined
+/// into the last hand, with which the board is closed, their pieces are each batch once, and none
+/// is left out. In the order of their numbers they have the bytes of [`round`](crate::round).
+pub fn each_batch_once<A: Allocator, B: Allocator, C: Allocator>(
+    table: &Table<A>,
+    jobs: &[(Session, Request<'_>)],
+    size: u32,
+    board: &Board<B>,
+    hand: &Hand,
+    pieces: &[Piece<C>],
+)
+    requires some { 1 ≤ size }
+    requires total { total_of board.now ≡ batches size (length jobs.now) }
+    ensures { (calls draws : ℕ) →
+        WorksAlone table.now jobs.now size board.now hand.now pieces.now calls →
+        0 < calls → IsLast hand.now draws → AreWhole table.now jobs.now size pieces.now }
 {}

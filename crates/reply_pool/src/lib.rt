@@ -1,22 +1,43 @@
 //! Requests, answered over a table in batches.
 //!
-//! - [`Plan`] says how many workers answer, and how many requests a batch has.
-//! - [`Pool`] answers the rounds of a serving loop over a table. It appends to the loop's own buffer and adds what is
-//!   moved to its balances, so that a message takes no memory of its own.
-//! - [`round`] answers requests that were read before, and gives their replies and the sums of what they move, which
-//!   have one form ([`laws`]).
+//! - [`Plan`] says how many workers answer at most, and how many requests a batch has.
+//! - [`round`] answers requests that were read before. Its workers draw the batches from one
+//!   `draw_board::Board` as they come free, and the pieces that they give back are put in the order
+//!   of their numbers.
+//! - [`work`] is one such worker, which callers' own threads may run on a board that they share.
+//!   [`laws`] says what their pieces come to: each batch once, and none left out.
+//! - [`Pool`] answers the rounds of a serving loop over a table. It appends to the loop's own
+//!   buffer and adds what is moved to its balances, so that a message takes no memory of its own.
 //!
-//! What they give are the replies that `reply_model` defines, and its moves, for every plan. The requests are answered
-//! on the caller's thread, batch after batch.
+//! What they give are the replies that `reply_model` defines, and the sums of its moves, which have
+//! one form ([`laws`]), for every plan.
+//!
+//! A round of jobs takes these steps, each in a module of its own:
+//!
+//! ```text
+//! jobs     -> batches        batches: number k holds the jobs from k times the size on
+//! batches  -> pieces         worker:  draw a number, answer its batch (jobs), until none is left
+//!                            workers: a hand for each of the threads, rejoined after them
+//! pieces   -> one Rounded    pieces:  sorted by number, bytes joined, moves summed (sums)
+//! ```
+//!
+//! `Pool` answers its rounds on the caller's thread, batch after batch.
 #![tactic(auto)]
 
 mod ahead;
+mod batches;
 mod jobs;
 pub mod laws;
+mod pieces;
 mod plan;
 mod pool;
 mod sums;
+mod worker;
+mod workers;
 
-pub use jobs::{Rounded, round};
+pub use jobs::Rounded;
+pub use pieces::Piece;
 pub use plan::Plan;
 pub use pool::Pool;
+pub use worker::work;
+pub use workers::round;

@@ -2,7 +2,7 @@
 
 ghost use Rattle.std.specs.Prelude.{◌≡◌, ◌≤◌};
 
-use stack_core::{Gate, Work};
+use work_gate::{Gate, Work};
 
 /// The most workers of a plan.
 pub const MAX_WORKERS: u32 = 64;

@@ -2,8 +2,8 @@
 
 ghost use Rattle.std.specs.Prelude.{◌≡◌, ◌≤◌, ◌^◌, length, IfOk};
 ghost use Rattle.stack_model.specs.Numbers.{nodes};
-ghost use Rattle.rounds.specs.Moves.{AreWithin};
-ghost use Rattle.rounds.specs.Rounds.{change, AppendsAnswer};
+ghost use Rattle.lookup_balances.specs.Balances.{AreWithin};
+ghost use Rattle.serve_loop.specs.Rounds.{change, AppendsAnswer};
 ghost use Rattle.reply_pool.specs.Answers.{answering};
 
 use crate::ahead::Ahead;
@@ -12,19 +12,21 @@ use fuse_answer::{after, answer_and_move};
 use fuse_wire::Request;
 use node_table::Table;
 use reply_model::Session;
-use rounds::{Answers, Round, Rounds, walk};
-use stack_core::Gate;
+use serve_loop::{Answers, Round, Rounds, walk};
 use std::alloc::{AllocError, Allocator};
+use std::thread::Threads;
+use work_gate::Gate;
 
-/// What answers requests over a table by a plan. A gate is passed before the first request of each batch.
+/// What answers requests over a table by a plan. A gate is passed before the first request of each
+/// batch.
 #[derive(Drop)]
-pub struct Pool<'a, A: Allocator, G: Gate> {
+pub struct Pool<'a, A: Allocator + Copy + Send + Sync, G: Gate + Sync> {
     table: &'a Table<A>,
     plan: Plan,
     gate: &'a G,
 }
 
-impl<'a, A: Allocator, G: Gate> Pool<'a, A, G> {
+impl<'a, A: Allocator + Copy + Send + Sync, G: Gate + Sync> Pool<'a, A, G> {
     /// Answers over this table, by this plan.
     pub fn new(table: &'a Table<A>, plan: Plan, gate: &'a G) -> Self
         ensures table { result.table.now ≡ table.now }
@@ -34,7 +36,7 @@ impl<'a, A: Allocator, G: Gate> Pool<'a, A, G> {
     }
 }
 
-impl<'a, A: Allocator, G: Gate> Answers for Pool<'a, A, G> {
+impl<'a, A: Allocator + Copy + Send + Sync, G: Gate + Sync> Answers for Pool<'a, A, G> {
     ghost answering = { λ pool. answering pool.table.now };
 
     ghost nodes = { λ pool. length (nodes pool.table.now.entries) };
@@ -58,7 +60,7 @@ impl<'a, A: Allocator, G: Gate> Answers for Pool<'a, A, G> {
     }
 }
 
-impl<'a, A: Allocator, G: Gate> Rounds for Pool<'a, A, G> {
+impl<'a, A: Allocator + Copy + Send + Sync, G: Gate + Sync> Rounds for Pool<'a, A, G> {
     ghost answering = { λ pool. answering pool.table.now };
 
     ghost nodes = { λ pool. length (nodes pool.table.now.entries) };
@@ -67,8 +69,10 @@ impl<'a, A: Allocator, G: Gate> Rounds for Pool<'a, A, G> {
         self.table.len()
     }
 
-    fn answer_round<B: Allocator>(
+    fn answer_round<R: Threads + Sync, B: Allocator + Copy + Send + Sync>(
         &self,
+        _rt: &R,
+        _alloc: B,
         stream: &[u8],
         session: Session,
         replies: &mut Vec<u8, B>,

@@ -1,23 +1,26 @@
 //! Moves, summed by node.
 //!
-//! The moves are sorted by their nodes, so that those of one node stand side by side, and joined from the front on. So
-//! the steps go by the number of moves (times its logarithm), and not by that of the nodes.
+//! The moves are sorted by their nodes, so that those of one node stand side by side, and joined
+//! from the front on. So the steps go by the number of moves (times its logarithm), and not by that
+//! of the nodes.
 
-ghost use Rattle.std.specs.Prelude.{◌≡◌, ◌<◌, ◌+◌, ◌^◌, ◌+ℤ◌, unsigned_abs, length, IfOk, OnOk};
+ghost use Rattle.std.specs.Prelude.{◌≡◌, ◌<◌, ◌+◌, ◌^◌, ◌+ℤ◌, ◌≤◌, unsigned_abs, IfOk, OnOk};
 ghost use Rattle.std.specs.List.Sorted.{IsNonDecreasingBy};
-ghost use Rattle.fuse_answer.specs.Puts.{AreSmall};
+ghost use Rattle.lookup_balances.specs.Balances.{weight};
 ghost use Rattle.reply_pool.specs.Sums.{AreSums, PutsSum};
 
 use reply_model::Move;
 use std::alloc::{AllocError, Allocator};
 
-/// The sums of moves by node, in ascending order: each node once with its sum, and none whose sum is 0.
+/// The sums of moves by node, in ascending order: each node once with its sum, and none whose sum
+/// is 0.
 pub(crate) fn sums<A: Allocator + Copy>(
     alloc: A,
     mut moves: Vec<Move, A>,
 ) -> Result<Vec<Move, A>, AllocError>
-    requires { AreSmall moves.items }
-    ensures { IfOk result (λ sums. AreSums moves.items sums.items) }
+    requires { weight moves.items < 2 ^ 127 }
+    ensures sums { IfOk result (λ sums. AreSums moves.items sums.items) }
+    ensures light { IfOk result (λ sums. weight sums.items ≤ weight moves.items) }
 {
     moves.sort_unstable_by_key(|m| m.node);
     join(alloc, &moves)
@@ -26,9 +29,9 @@ pub(crate) fn sums<A: Allocator + Copy>(
 // The sums of moves whose nodes do not fall.
 fn join<A: Allocator>(alloc: A, moves: &[Move]) -> Result<Vec<Move, A>, AllocError>
     requires sorted { IsNonDecreasingBy (λ m. m.node) moves.now }
-    requires small { AreSmall moves.now }
-    requires few { length moves.now < 2 ^ 63 }
-    ensures { IfOk result (λ sums. AreSums moves.now sums.items) }
+    requires light { weight moves.now < 2 ^ 127 }
+    ensures sums { IfOk result (λ sums. AreSums moves.now sums.items) }
+    ensures light { IfOk result (λ sums. weight sums.items ≤ weight moves.now) }
 {
     let mut sums = Vec::new(alloc);
     let mut sum = Move { node: 0, amount: 0 };

@@ -3,7 +3,8 @@ use Rattle.std.specs.Prelude.{◌≡◌, ◌≢◌, ℕ, zero, suc, ◌⊎◌, L
 use Rattle.romfs_format.specs.declared.head.Kind.TheVariants.{Directory}
 use Rattle.romfs_format.specs.Fields.{root, IsInside, kind, next, spec, cleared, name}
 
--- h is the first header of the directory d: none where its spec.info is 0, or names d itself, unless d is the root
+-- h is the first header of the directory d: none where its spec.info is 0, or names d itself,
+-- unless d is the root
 abbrev pub IsFirst : List ℕ → ℕ → ℕ → Type 0
 IsFirst a d h = (h ≡ cleared (spec a d)) × (h ≢ 0) × ((h ≡ d) → d ≡ root a)
 
@@ -24,11 +25,13 @@ IsInChain a d h = (n : ℕ) × IsAt a d n h
 abbrev pub IsDotted : List ℕ → ℕ → Type 0
 IsDotted a h = IsInside a h × ((name a h ≡ Some (codes ".")) ⊎ (name a h ≡ Some (codes "..")))
 
--- of such a header in the chain of d only next is used: the root's own in its own chain, and each . and ..
+-- of such a header in the chain of d only next is used: the root's own in its own chain, and each .
+-- and ..
 abbrev pub IsPassedOver : List ℕ → ℕ → ℕ → Type 0
 IsPassedOver a d h = ((d ≡ root a) × (h ≡ root a)) ⊎ IsDotted a h
 
--- the directories that are opened: the root, and each member of kind directory of one that is opened
+-- the directories that are opened: the root, and each member of kind directory of one that is
+-- opened
 pub data IsOpened (a : List ℕ) : ℕ → Type 0 where
   at_root : {d : ℕ} → d ≡ root a → IsOpened a d
   below : {d h : ℕ} → IsOpened a d → IsInChain a d h → ¬ IsPassedOver a d h

@@ -6,8 +6,8 @@ use Rattle.romfs_format.specs.declared.limits.TheConstants.{HEAD_SIZE, NAME_FIEL
 use Rattle.romfs_format.specs.declared.head.Kind.{Kind}
 use Rattle.romfs_format.specs.declared.head.Kind.TheVariants.{HardLink, Directory, Regular, SymLink, Block, Character, Socket, Fifo}
 
--- A list of bytes is a list of numbers; p is a place in it, counted from 0. From `root` on, a is the list of
--- accessible bytes of an image, and h a header, named by its place.
+-- A list of bytes is a list of numbers; p is a place in it, counted from 0. From `root` on, a is
+-- the list of accessible bytes of an image, and h a header, named by its place.
 
 -- the big-endian word at p
 unfoldable pub word : List ℕ → ℕ → ℕ
@@ -57,7 +57,8 @@ abbrev pub if_within : ℕ → ℕ → Option (List ℕ) → Option (List ℕ)
 if_within n p None = None
 if_within n p (Some text) = if nat_le (text_end p text) n then Some text else None
 
--- the name that begins at p, up to its first zero byte; none where it or its padding does not end in time
+-- the name that begins at p, up to its first zero byte; none where it or its padding does not end
+-- in time
 abbrev pub text_at : List ℕ → ℕ → Option (List ℕ)
 text_at a p = if_within (length a) p (ended (name_field a p))
 

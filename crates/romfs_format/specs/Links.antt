@@ -45,6 +45,7 @@ EndsAs a h Nowhere = (e : ℕ) → ¬ IsFinal a h e
 abbrev pub IsTarget : List ℕ → ℕ → Type 0
 IsTarget a g = (d h : ℕ) × IsMember a d h × IsDestination a h g
 
--- the headers that the rules speak of: the root, each that a link names, and each on a member's destination chain
+-- the headers that the rules speak of: the root, each that a link names, and each on a member's
+-- destination chain
 abbrev pub IsReached : List ℕ → ℕ → Type 0
 IsReached a h = (h ≡ root a) ⊎ ((f : Field) × IsLink a f h) ⊎ IsTarget a h

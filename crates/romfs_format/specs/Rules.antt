@@ -1,4 +1,5 @@
--- The rules of an image, each with the place that it is named at, and the one fault of an image that breaks some.
+-- The rules of an image, each with the place that it is named at, and the one fault of an image
+-- that breaks some.
 use Rattle.std.specs.Prelude.{Option, MatchOption, ◌≡◌, ◌≢◌, ℕ, ◌+◌, ◌/◌, ◌%◌, ◌^◌, ◌<◌, ◌⊎◌, List, [], ◌++◌, length, nat_lt, if◌then◌else◌, IsSome, IsSomeAnd, IsNone, Contains, codes}
 use Rattle.romfs_format.specs.declared.head.Kind.TheVariants.{Directory, Regular, SymLink, Block, Character}
 use Rattle.romfs_format.specs.declared.head.End.TheVariants.{AtDirectory, Nowhere}
@@ -23,7 +24,8 @@ magic = codes "-rom1fs-"
 abbrev pub IsNamed : List ℕ → ℕ → Type 0
 IsNamed a h = IsInside a h × IsSome (name a h)
 
--- the headers whose contents have rules: members and what their hard links lead over, inside the image
+-- the headers whose contents have rules: members and what their hard links lead over, inside the
+-- image
 abbrev pub IsUsed : List ℕ → ℕ → Type 0
 IsUsed a h = IsInside a h × (IsSomeMember a h ⊎ IsTarget a h)
 
@@ -63,8 +65,8 @@ IsNamesake a g h =
     (g < h) × ((d : ℕ) × IsMember a d g × IsMember a d h) × IsNamed a g × IsNamed a h
     × (name a g ≡ name a h)
 
--- the words of the header at h, of its name and of the padding do not sum to 0; a name that is not ended stands for
--- no sum, and of such headers only the root's is asked for one
+-- the words of the header at h, of its name and of the padding do not sum to 0; a name that is not
+-- ended stands for no sum, and of such headers only the root's is asked for one
 abbrev pub HasBadSum : List ℕ → ℕ → Type 0
 HasBadSum a h =
     MatchOption (name a h) (h ≡ root a) (λ n. word_sum (header_bytes a h n) % 2 ^ 32 ≢ 0)
@@ -132,14 +134,17 @@ rule_number MajorLarge = 15
 rule_number HeaderSum = 16
 rule_number Deep = 17
 
--- the rules of the volume header one by one, then all rules of file headers together, then the depth
+-- the rules of the volume header one by one, then all rules of file headers together, then the
+-- depth
 abbrev pub stage : Rule → ℕ
-stage r = if nat_lt (rule_number r) 6 then rule_number r else (if nat_lt (rule_number r) 17 then 6 else 7)
+stage r =
+    if nat_lt (rule_number r) 6 then rule_number r else (if nat_lt (rule_number r) 17 then 6 else 7)
 
 -- breaking r at p is named before breaking s at q: by stage, then by place, then by number
 abbrev pub IsNamedBefore : Rule → ℕ → Rule → ℕ → Type 0
 IsNamedBefore r p s q =
-    (stage r < stage s) ⊎ ((stage r ≡ stage s) × ((p < q) ⊎ ((p ≡ q) × (rule_number r < rule_number s))))
+    (stage r < stage s) ⊎ ((stage r ≡ stage s)
+    × ((p < q) ⊎ ((p ≡ q) × (rule_number r < rule_number s))))
 
 -- the image breaks r at p, and nothing that is named before it, under the profile
 pub record IsFaultAs (profile : Profile) (b : List ℕ) (r : Rule) (p : ℕ) : Type 0 where

@@ -9,7 +9,8 @@ pub const NAME_FIELD_SIZE: usize = 256;
 /// The bytes that the checksum of the volume goes over: so many, or all where there are fewer.
 pub const SUMMED_SIZE: usize = 512;
 
-/// The most bytes of the target of a symbolic link (`PATH_MAX` of linux/limits.h, without a zero byte).
+/// The most bytes of the target of a symbolic link (`PATH_MAX` of linux/limits.h, without a zero
+/// byte).
 pub const MAX_TARGET_SIZE: u32 = 4_095;
 
 /// The greatest major number of a device (Linux keeps 12 bits of it).

@@ -56,7 +56,8 @@ pub fn kind_of(word: u32) -> Kind
     }
 }
 
-/// Where the first zero byte stands, if there is one. Most names are short, so the first bytes are looked at alone.
+/// Where the first zero byte stands, if there is one. Most names are short, so the first bytes are
+/// looked at alone.
 fn first_zero(field: &[u8]) -> Option<usize>
     ensures value { option_map (λ end. take end field.now) result ≡ ended field.now }
     ensures within { IfSome result (λ end. end < length field.now) }

@@ -1,4 +1,5 @@
--- Walks along chains and hard links, counted by steps: no list of headers is longer than there are places for headers.
+-- Walks along chains and hard links, counted by steps: no list of headers is longer than there are
+-- places for headers.
 use Rattle.std.specs.Prelude.{◌≡◌, ◌≢◌, ℕ, zero, suc, ◌/◌, ◌^◌, ◌<◌, ◌==◌, ◌⊎◌, List, [], ◌∷◌, length, Option, MatchOption, if◌then◌else◌}
 use Rattle.romfs_format.specs.declared.head.Head.{Head}
 use Rattle.romfs_format.specs.Fields.{root as root_of, IsInside, next}

@@ -1,8 +1,9 @@
 //! Where many hard links end.
 //!
-//! Hard links may lead to one another in chains that many share. So each header that a search passes is noted with
-//! the end that was found, and a later search stops at the first that is noted. A link that leads to the end itself is
-//! noted only where a search came to it from another link:
+//! Hard links may lead to one another in chains that many share. So each header that a search
+//! passes is noted with the end that was found, and a later search stops at the first that is
+//! noted. A link that leads to the end itself is noted only where a search came to it from another
+//! link:
 //!
 //! ```text
 //! link -> link -> link -> file
@@ -56,7 +57,8 @@ impl<'a, A: Allocator + Copy> Ends<'a, A> {
     /// The header that a hard link leads to, after any further hard links (romfs.rst, "spec.info").
     /// Any other header is given back. `AllocError` comes only where memory was refused.
     ///
-    /// It takes some bytes for each hard link that it passes on the way to another one, and passes none of these twice.
+    /// It takes some bytes for each hard link that it passes on the way to another one, and passes
+    /// none of these twice.
     pub fn target(&mut self, head: &Head) -> Result<Head, AllocError>
         requires { IsGiven self.old head.now }
         ensures end { IfOk result (λ end. IsFinal self.old head.now.offset end.offset) }

@@ -22,9 +22,9 @@ use std::marker::Model;
 
 /// The accessible bytes of an image that keeps every rule. A clause sees these bytes.
 ///
-/// `members`, `target`, `name`, `body` and `data_part` ask for a header that this image gave, by `root`, `members`
-/// or `target`; by `head` a caller comes back to such a header from its offset. No reader takes
-/// memory.
+/// `members`, `target`, `name`, `body` and `data_part` ask for a header that this image gave, by
+/// `root`, `members` or `target`; by `head` a caller comes back to such a header from its offset.
+/// No reader takes memory.
 #[derive(Drop)]
 pub struct Image<A: Allocator> {
     bytes: Vec<u8, A>,
@@ -58,16 +58,16 @@ fn accessible<A: Allocator>(mut bytes: Vec<u8, A>) -> Vec<u8, A>
 }
 
 impl<A: Allocator + Copy> Image<A> {
-    /// Checks that bytes are an image by the usual profile, and keeps the accessible ones: as many as
-    /// the full size says (romfs.rst, the volume header). Bytes after them are not looked at.
+    /// Checks that bytes are an image by the usual profile, and keeps the accessible ones: as many
+    /// as the full size says (romfs.rst, the volume header). Bytes after them are not looked at.
     ///
-    /// `Broken` names the image's fault: the first broken rule of the volume header; else, of all broken
-    /// rules of file headers, that at the least place, and there the first; else a path that is too deep.
-    /// `Memory` comes only where memory was refused.
+    /// `Broken` names the image's fault: the first broken rule of the volume header; else, of all
+    /// broken rules of file headers, that at the least place, and there the first; else a path that
+    /// is too deep. `Memory` comes only where memory was refused.
     ///
-    /// It takes n log n steps in headers, whatever the image: chains may merge, loop and lead anywhere.
-    /// Beside the image it takes at most a byte for each 40 of its bytes and 64 for each header that is
-    /// reached, and keeps none of it.
+    /// It takes n log n steps in headers, whatever the image: chains may merge, loop and lead
+    /// anywhere. Beside the image it takes at most a byte for each 40 of its bytes and 64 for each
+    /// header that is reached, and keeps none of it.
     pub fn check(alloc: A, bytes: Vec<u8, A>) -> Result<Image<A>, CheckFault>
         ensures ok { IfOk result (IsChecked bytes.items) }
         ensures err { IfErr result (IsRefusal bytes.items) }
@@ -75,9 +75,9 @@ impl<A: Allocator + Copy> Image<A> {
         Image::check_as(alloc, bytes, Profile::Usual)
     }
 
-    /// Checks that bytes are an image as `check` does, by the rules of a profile: the strict one also
-    /// asks that the words of each header, its name and the padding sum to 0 (romfs.rst, "checksum").
-    /// It costs one more pass over headers and names.
+    /// Checks that bytes are an image as `check` does, by the rules of a profile: the strict one
+    /// also asks that the words of each header, its name and the padding sum to 0 (romfs.rst,
+    /// "checksum"). It costs one more pass over headers and names.
     #[tactic(auto, using(romfs_format::proofs::Faults::profile_sound))]
     pub fn check_as(alloc: A, bytes: Vec<u8, A>, profile: Profile) -> Result<Image<A>, CheckFault>
         ensures ok { IfOk result (IsCheckedAs profile bytes.items) }
@@ -120,11 +120,11 @@ impl<A: Allocator> Image<A> {
         head_at(&self.bytes, self.root)
     }
 
-    /// The header at an offset in bytes; none where the offset is no multiple of 16, or the header does
-    /// not lie in the image, or its name has no end.
+    /// The header at an offset in bytes; none where the offset is no multiple of 16, or the header
+    /// does not lie in the image, or its name has no end.
     ///
-    /// At the offset of a header that this image gave it is that header, and none only for a root whose
-    /// name has no end.
+    /// At the offset of a header that this image gave it is that header, and none only for a root
+    /// whose name has no end.
     pub fn head(&self, offset: u32) -> Option<Head>
         ensures value { IsHeadAt self.now offset result }
         ensures given { (g : Head) → IsGiven self.now g → g.offset ≡ offset →
@@ -133,17 +133,17 @@ impl<A: Allocator> Image<A> {
         place_at(&self.bytes, self.root, offset)
     }
 
-    /// The byte at an offset in bytes; none beyond the image. It is for whoever reads ahead what will be asked for
-    /// later.
+    /// The byte at an offset in bytes; none beyond the image. It is for whoever reads ahead what
+    /// will be asked for later.
     pub fn glance(&self, offset: u32) -> Option<u8>
         ensures { result ≡ slice_get self.now offset }
     {
         self.bytes.get(offset as usize).copied()
     }
 
-    /// The members of a directory, each once, in the order of its chain (romfs.rst, "next filehdr" and
-    /// "spec.info"). Headers named `.` or `..` are passed over, and so is the root's in its own chain.
-    /// A header of another kind has none.
+    /// The members of a directory, each once, in the order of its chain (romfs.rst, "next filehdr"
+    /// and "spec.info"). Headers named `.` or `..` are passed over, and so is the root's in its own
+    /// chain. A header of another kind has none.
     ///
     /// Each header of the chain is read once as the iterator goes on.
     pub fn members(&self, directory: &Head) -> Members<'_>
@@ -168,7 +168,8 @@ impl<A: Allocator> Image<A> {
         end_of(&self.bytes, head)
     }
 
-    /// Finds what `target` finds, for many headers: it keeps the ends of the hard links that it passed.
+    /// Finds what `target` finds, for many headers: it keeps the ends of the hard links that it
+    /// passed.
     pub fn ends(&self, alloc: A) -> Ends<'_, A>
     where
         A: Copy,
@@ -186,8 +187,8 @@ impl<A: Allocator> Image<A> {
         name_in(&self.bytes, head)
     }
 
-    /// The data of a regular file, or the target of a symbolic link: as many bytes as its size, from
-    /// the padded end of its name on. It is empty for headers of other kinds.
+    /// The data of a regular file, or the target of a symbolic link: as many bytes as its size,
+    /// from the padded end of its name on. It is empty for headers of other kinds.
     #[tactic(auto, using(crate::proofs::Short::short_data))]
     pub fn body(&self, head: &Head) -> &[u8]
         requires { IsGiven self.now head.now }
@@ -197,8 +198,8 @@ impl<A: Allocator> Image<A> {
         data_in(&self.bytes, head)
     }
 
-    /// Where the data of a header lie that `body` gives: a part of no bytes for headers of kinds that have none. Who
-    /// keeps it comes back to the data by `part` and reads no header again.
+    /// Where the data of a header lie that `body` gives: a part of no bytes for headers of kinds
+    /// that have none. Who keeps it comes back to the data by `part` and reads no header again.
     pub fn data_part(&self, head: &Head) -> Part
         requires { IsGiven self.now head.now }
         ensures { IsDataPart self.now head.now.offset result }

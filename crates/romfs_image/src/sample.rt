@@ -48,8 +48,8 @@ pub enum What<A: Allocator> {
 /// Why an image cannot be built.
 #[derive(Clone, Copy, Debug, PartialEq, Eq)]
 pub enum BuildFault {
-    /// A depth is 0, or exceeds the one before it by more than one; or an item lies below no directory;
-    /// or a name or the volume name holds a zero byte; or a hard link leads to no item.
+    /// A depth is 0, or exceeds the one before it by more than one; or an item lies below no
+    /// directory; or a name or the volume name holds a zero byte; or a hard link leads to no item.
     Listing,
     /// The image would have more than 2^32 - 1 bytes.
     Size,
@@ -90,12 +90,12 @@ impl<T: Drop> From<AllocFailed<T>> for BuildFault {
     }
 }
 
-/// Lays out an image: the volume header, the root's `.` and `..`, then the items in order. A directory
-/// is followed by its own `.` and `..`, hard links to it and to the directory above, and a file by its
-/// data. Header sums and the volume sum are set, and the full size is the length.
+/// Lays out an image: the volume header, the root's `.` and `..`, then the items in order. A
+/// directory is followed by its own `.` and `..`, hard links to it and to the directory above, and
+/// a file by its data. Header sums and the volume sum are set, and the full size is the length.
 ///
-/// `Listing` is looked at first, then `Size`. Faults that break other rules of an image can be built,
-/// such as a bad name, a loop of hard links or a path that is too deep.
+/// `Listing` is looked at first, then `Size`. Faults that break other rules of an image can be
+/// built, such as a bad name, a loop of hard links or a path that is too deep.
 pub fn build<A: Allocator + Copy>(
     alloc: A,
     volume: &[u8],

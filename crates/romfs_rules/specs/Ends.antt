@@ -6,7 +6,8 @@ use Rattle.romfs_format.specs.Links.{IsHardLink, IsTarget, EndsAs}
 use Rattle.romfs_rules.specs.Marks.{AreMarks}
 use Rattle.slot_sets.specs.Words.{Words}
 
--- by slot, walks has the number of the walk that passed there, or 0; by walk, from 1, ends has where its chain ends
+-- by slot, walks has the number of the walk that passed there, or 0; by walk, from 1, ends has
+-- where its chain ends
 pub record HasEnds (a walks : List ℕ) (ends : List End) : Type 0 where
   pub each : (k n : ℕ) → get_or walks k 0 ≡ suc n
       → (n < length ends) × EndsAs a (k * 16) (get_or ends n AtDirectory)
@@ -32,7 +33,8 @@ IsUnpassed a walks slot = IsHardLink a (slot * 16) × (get_or walks slot 0 ≡ 0
 abbrev pub IsUnpassedTarget : List ℕ → List ℕ → ℕ → Type 0
 IsUnpassedTarget a walks slot = IsTarget a (slot * 16) × IsUnpassed a walks slot
 
--- what the marks are after a walk, from what they were before: none is lost, and the header it began at has one
+-- what the marks are after a walk, from what they were before: none is lost, and the header it
+-- began at has one
 pub record Passes (from : ℕ) (before after : List ℕ) : Type 0 where
   pub sized : length after ≡ length before
   pub kept : (k : ℕ) → get_or before k 0 ≢ 0 → get_or after k 0 ≢ 0

@@ -1,4 +1,5 @@
--- Which header leads to which: by next, as a directory by its first file, as a hard link by its destination.
+-- Which header leads to which: by next, as a directory by its first file, as a hard link by its
+-- destination.
 use Rattle.std.specs.Prelude.{◌≡◌, ◌≢◌, ℕ, ◌⊎◌, ◌↔◌, List, ◌++◌, length, ◌≤◌, Option, Some, Contains}
 use Rattle.romfs_format.specs.Fields.{root}
 use Rattle.romfs_format.specs.Chains.{IsFirst, IsNext}

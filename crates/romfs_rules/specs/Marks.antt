@@ -1,4 +1,5 @@
--- Sets of headers of an image, as marks by slot: a slot is 16 bytes, and each header inside the image has one.
+-- Sets of headers of an image, as marks by slot: a slot is 16 bytes, and each header inside the
+-- image has one.
 use Rattle.std.specs.Prelude.{◌≡◌, ◌≢◌, ℕ, ◌+◌, ◌*◌, ◌/◌, ◌^◌, ◌<◌, ◌≤◌, List, length, Bool, true, false, get_or, Contains}
 use Rattle.romfs_format.specs.declared.head.Kind.TheVariants.{Directory}
 use Rattle.romfs_format.specs.declared.limits.TheConstants.{HEAD_SIZE}
@@ -6,7 +7,8 @@ use Rattle.romfs_format.specs.Fields.{root, IsInside, kind, cleared}
 use Rattle.romfs_format.specs.Chains.{IsInChain, IsDotted, IsOpened}
 use Rattle.romfs_format.specs.Rules.{IsNamesake}
 
--- the accessible bytes of an image that keeps the volume rules: the root's header lies in them, behind the volume header
+-- the accessible bytes of an image that keeps the volume rules: the root's header lies in them,
+-- behind the volume header
 pub record IsVolumeImage (a : List ℕ) : Type 0 where
   pub small : length a < 2 ^ 32
   pub behind : 2 * HEAD_SIZE ≤ root a

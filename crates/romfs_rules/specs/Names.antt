@@ -23,7 +23,9 @@ pub record AreNameHashes (name : ℕ → Option (List ℕ)) (n : ℕ) (hashes : 
 
 -- whoever is told, if it has a name, has it alone
 abbrev pub HaveTheirsAlone : (ℕ → Option (List ℕ)) → ℕ → List Bool → Type 0
-HaveTheirsAlone name n told = (k : ℕ) (q : List ℕ) → k < n → get_or told k false ≡ true → name k ≡ Some q → IsItsAlone name n k
+HaveTheirsAlone name n told =
+    (k : ℕ) (q : List ℕ) → k < n → get_or told k false ≡ true → name k ≡ Some q
+    → IsItsAlone name n k
 
 -- the classes of headers by their names
 abbrev pub AreClassesOf : List ℕ → List ℕ → List ℕ → Type 0

@@ -26,7 +26,8 @@ IsBelow a h = h < root a
 abbrev pub IsPastEnd : List ℕ → ℕ → Type 0
 IsPastEnd a h = (root a ≤ h) × (length a < h + HEAD_SIZE)
 
--- the least reached header before the root's, and the least from there on that is not whole in the image
+-- the least reached header before the root's, and the least from there on that is not whole in the
+-- image
 abbrev pub IsLeastBelow : List ℕ → Option ℕ → Type 0
 IsLeastBelow a least = IsLeast (λ h. IsReached a h × IsBelow a h) least
 

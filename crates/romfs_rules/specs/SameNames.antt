@@ -5,7 +5,8 @@ use Rattle.romfs_format.specs.Chains.{IsNext, Stands}
 use Rattle.romfs_rules.specs.Marks.{HasSameName, IsElsewhere}
 use Rattle.slot_sets.specs.Sets.{rank}
 
--- exactly the headers with the name of a member of their directory at a lower place, rising and each once
+-- exactly the headers with the name of a member of their directory at a lower place, rising and
+-- each once
 pub record HaveSameNames (a found : List ℕ) : Type 0 where
   pub each : (h : ℕ) → Contains found h → HasSameName a h
   pub all : (h : ℕ) → HasSameName a h → Contains found h

@@ -14,7 +14,8 @@ AreTwice a found = IsListOf a (IsLinkedTwice a) found
 abbrev pub IsSlotOf : List ℕ → Option ℕ → ℕ → Type 0
 IsSlotOf a to k = (h : ℕ) × (to ≡ Some h) × IsInside a h × (k ≡ h / 16)
 
--- one more link, to the header to: once marks the slots that some link names, twice those that two name
+-- one more link, to the header to: once marks the slots that some link names, twice those that two
+-- name
 pub record Counts (a : List ℕ) (to : Option ℕ)
     (once twice once_after twice_after : List Bool) : Type 0 where
   pub once_sized : length once_after ≡ length once

@@ -6,7 +6,8 @@ use Rattle.romfs_format.specs.declared.rule.Profile.{Profile}
 use Rattle.romfs_format.specs.Fields.{image, root, word}
 use Rattle.romfs_format.specs.Rules.{IsFaultAs, IsVolume}
 
--- the fault of b under every profile, which is of its volume header; none where that keeps its rules
+-- the fault of b under every profile, which is of its volume header; none where that keeps its
+-- rules
 abbrev pub IsVolumeFault : List ℕ → Option ImageFault → Type 0
 IsVolumeFault b fault =
     MatchOption fault (IsVolume b) (λ f. (profile : Profile) → IsFaultAs profile b f.rule f.place)

@@ -14,8 +14,8 @@ use romfs_format::read::{cleared, word};
 use slot_sets::SlotSet;
 use std::alloc::{AllocError, Allocator};
 
-/// The headers in chains. Which of them stand in the root's and which elsewhere matters for the root's own
-/// header alone.
+/// The headers in chains. Which of them stand in the root's and which elsewhere matters for the
+/// root's own header alone.
 #[derive(Drop)]
 pub(crate) struct Chains<A: Allocator> {
     /// The headers in the chain of some opened directory.

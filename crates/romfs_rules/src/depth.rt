@@ -80,7 +80,8 @@ fn note(image: &Volume, deep: Option<u32>, at: Waiting) -> Option<u32>
     }
 }
 
-/// The least header whose path has more than [`MAX_NAMES`] names, in an image that breaks no other rule.
+/// The least header whose path has more than [`MAX_NAMES`] names, in an image that breaks no other
+/// rule.
 pub(crate) fn find_deep<A: Allocator + Copy>(
     alloc: A,
     image: &Volume,

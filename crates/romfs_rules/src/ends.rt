@@ -1,7 +1,8 @@
 //! Where the hard links of an image end.
 //!
-//! Hard links may lead to one another in chains that many share. So each walk along a chain leaves its number at the
-//! headers that it passes, and a walk that comes to another's number ends as that one did:
+//! Hard links may lead to one another in chains that many share. So each walk along a chain leaves
+//! its number at the headers that it passes, and a walk that comes to another's number ends as that
+//! one did:
 //!
 //! ```text
 //! 3 -> 3 -> 1 -> 1 -> file      the third walk stops at the first 1, and ends at a file
@@ -127,7 +128,8 @@ pub(crate) fn find_ends<'s, A: Allocator + Copy>(
     targets: &'s SlotSet<A>,
 ) -> Result<Ends<'s, A>, AllocError>
     requires targets { AreTargets image.now.bytes.now targets.now }
-    ensures { IfOk result (λ found. AreWalkedEnds image.now.bytes.now found.walks found.ends.items) }
+    ensures { IfOk result (λ found.
+        AreWalkedEnds image.now.bytes.now found.walks found.ends.items) }
 {
     let mut walks = SlotWords::new(alloc, targets)?;
     let mut ends = Vec::new(alloc);

@@ -21,8 +21,8 @@ use romfs_format::read::{root_of, word};
 use romfs_format::{ImageFault, Profile};
 use std::alloc::{AllocError, Allocator};
 
-// The headers of which a member of the same directory has the name at a lower place; none where the root stands in
-// another chain than its own, since then no fault of a name is the first.
+// The headers of which a member of the same directory has the name at a lower place; none where the
+// root stands in another chain than its own, since then no fault of a name is the first.
 fn same_names_below<A: Allocator + Copy>(
     alloc: A,
     image: &Volume,
@@ -63,8 +63,8 @@ fn header_fault_in<A: Allocator + Copy>(
     Ok(sets.header_fault(profile))
 }
 
-// The fault of an image that keeps the rules of the volume header, by its accessible bytes; none where
-// it is sound.
+// The fault of an image that keeps the rules of the volume header, by its accessible bytes; none
+// where it is sound.
 fn fault_in<A: Allocator + Copy>(
     alloc: A,
     volume: &Volume,
@@ -83,12 +83,13 @@ fn fault_in<A: Allocator + Copy>(
 
 /// The fault of some bytes as an image, under a profile; none where they break no rule of it.
 ///
-/// That is the first broken rule of the volume header; else, of all broken rules of file headers, the one at
-/// the least place, and there the first; else a path of too many names, at the least such header. The
-/// error comes only where memory was refused.
+/// That is the first broken rule of the volume header; else, of all broken rules of file headers,
+/// the one at the least place, and there the first; else a path of too many names, at the least
+/// such header. The error comes only where memory was refused.
 ///
-/// It takes n log n steps in headers and one pass over the bytes of the image, whatever they are. Beside them
-/// it takes at most a byte for each 40 of the image and 64 for each header that is reached, and keeps nothing.
+/// It takes n log n steps in headers and one pass over the bytes of the image, whatever they are.
+/// Beside them it takes at most a byte for each 40 of the image and 64 for each header that is
+/// reached, and keeps nothing.
 pub fn first_fault<A: Allocator + Copy>(
     alloc: A,
     bytes: &[u8],

@@ -1,7 +1,7 @@
 //! The first rule of file headers that an image breaks, from sets of its headers.
 //!
-//! The headers that are reached are gone over once, upward. Each is made a `Header`, for which all sets are asked; the
-//! scan ends at the first that breaks a rule.
+//! The headers that are reached are gone over once, upward. Each is made a `Header`, for which all
+//! sets are asked; the scan ends at the first that breaks a rule.
 
 ghost use Rattle.std.specs.Prelude.{◌≡◌, ℕ, List, ◌*◌, ◌<◌, ◌↔◌, ◌/◌, length, IsTrue, MatchOption};
 ghost use Rattle.romfs_format.specs.Fields.{image};
@@ -36,8 +36,8 @@ pub(crate) struct Sets<'s, A: Allocator> {
     pub(crate) targets: &'s SlotSet<A>,
     /// Those that two links name, rising.
     pub(crate) twice: &'s [u32],
-    /// Those whose name a member of the same directory has at a lower place, rising. It may be empty
-    /// where the root's header stands in the chain of another directory.
+    /// Those whose name a member of the same directory has at a lower place, rising. It may be
+    /// empty where the root's header stands in the chain of another directory.
     pub(crate) same_names: &'s [u32],
     /// Where the hard links of members end.
     pub(crate) ends: &'s Ends<'s, A>,

@@ -1,7 +1,7 @@
 //! Names of headers, as classes of their numbers.
 //!
-//! Most names stand once. So the names of all headers are mixed to numbers first, and those that were seen once among
-//! these are left out of the sort that finds equal ones.
+//! Most names stand once. So the names of all headers are mixed to numbers first, and those that
+//! were seen once among these are left out of the sort that finds equal ones.
 
 ghost use Rattle.std.specs.Prelude.{◌≡◌, ◌+◌, ◌<◌, ◌≤◌, ◌^◌, ℕ, IfOk, MatchOption, length, get_or};
 ghost use Rattle.std.specs.Option.{option_map};
@@ -51,7 +51,8 @@ fn name_hashes<A: Allocator + Copy>(
     Ok(hashes)
 }
 
-// The headers that have a name, each with it, but those of which it is told that theirs stands once.
+// The headers that have a name, each with it, but those of which it is told that theirs stands
+// once.
 fn named_headers<'a, A: Allocator + Copy>(
     alloc: A,
     image: &Volume<'a>,
@@ -83,8 +84,8 @@ fn named_headers<'a, A: Allocator + Copy>(
     Ok(named)
 }
 
-/// The classes of headers by their names, each a number of a header, with one more for none; None only where no two
-/// headers have one name.
+/// The classes of headers by their names, each a number of a header, with one more for none; None
+/// only where no two headers have one name.
 pub(crate) fn name_classes_of<A: Allocator + Copy>(
     alloc: A,
     image: &Volume,
@@ -93,7 +94,8 @@ pub(crate) fn name_classes_of<A: Allocator + Copy>(
     requires few { length heads.now < 2 ^ 32 }
     requires inside { (i : ℕ) → i < length heads.now →
         get_or heads.now i 0 + HEAD_SIZE ≤ length image.now.bytes.now }
-    ensures { IfOk result (λ classes. MatchOption classes (HaveNamesApart image.now.bytes.now heads.now)
+    ensures { IfOk result (λ classes. MatchOption classes
+        (HaveNamesApart image.now.bytes.now heads.now)
         (λ some. AreClassesOf image.now.bytes.now heads.now some.items)) }
 {
     let hashes = name_hashes(alloc, image, heads)?;

@@ -38,7 +38,8 @@ fn is_asked<A: Allocator>(
     requires slot { HasSlot image.now.bytes.now at }
     requires chains { AreChains image.now.bytes.now chains.now }
     requires targets { AreTargets image.now.bytes.now targets.now }
-    ensures { IsTrue result ↔ (IsSomeMember image.now.bytes.now at ⊎ IsTarget image.now.bytes.now at) }
+    ensures { IsTrue result ↔
+        (IsSomeMember image.now.bytes.now at ⊎ IsTarget image.now.bytes.now at) }
 {
     targets.contains(at / 16) || is_some_member(image, at, chains)
 }
@@ -77,7 +78,7 @@ fn lesser(found: Option<u32>, word: u32) -> u32
 }
 
 // What is found with one header more, if there is one.
-#[tactic(auto, using(crate::proofs::Reach::unnamed, crate::proofs::Reach::noted, crate::proofs::Reach::unnoted))]
+#[tactic(auto, using(crate::proofs::Reach::unnamed, crate::proofs::Reach::noted, crate::proofs::Reach::unnoted,))]
 #[inline(always)]
 fn note(found: Outside, image: &Volume, word: Option<u32>) -> Outside
     ensures below { Notes (λ h. word ≡ Some h) (IsBelow image.now.bytes.now)

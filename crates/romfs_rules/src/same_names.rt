@@ -1,9 +1,10 @@
 //! Members of a directory that have the name of another.
 //!
-//! Chains may merge and go round, so that a header may stand in the chains of many directories, and to compare the
-//! names of each chain on its own would be quadratic. But each header leads on to one, in whatever chain. So the
-//! headers are numbered, equal names are one class (`name_classes`), and `graph_climb` notes the numbers with a lower
-//! one of their class on their way or before them. Where no two names are equal, there is nothing to be climbed.
+//! Chains may merge and go round, so that a header may stand in the chains of many directories, and
+//! to compare the names of each chain on its own would be quadratic. But each header leads on to
+//! one, in whatever chain. So the headers are numbered, equal names are one class (`name_classes`),
+//! and `graph_climb` notes the numbers with a lower one of their class on their way or before them.
+//! Where no two names are equal, there is nothing to be climbed.
 
 ghost use Rattle.std.specs.Prelude.{◌+◌, ◌/◌, ◌^◌, ◌<◌, ◌≤◌, ℕ, IfOk, length, get_or};
 ghost use Rattle.romfs_rules.specs.Marks.{HasRootElsewhere};
@@ -76,7 +77,8 @@ fn chosen<A: Allocator>(alloc: A, heads: &[u32], noted: &[bool]) -> Result<Vec<u
     Ok(found)
 }
 
-// Those of these headers that have the name of another member of their directory at a lower place, by their classes.
+// Those of these headers that have the name of another member of their directory at a lower place,
+// by their classes.
 fn same_names_by<A: Allocator + Copy>(
     alloc: A,
     image: &Volume,

@@ -67,7 +67,8 @@ fn mark_twice<A: Allocator + Copy>(
     chains: &Chains<A>,
 ) -> Result<SlotSet<A>, AllocError>
     requires chains { AreChains image.now.bytes.now chains.now }
-    ensures { IfOk result (λ marks. AreMarks image.now.bytes.now (IsLinkedTwice image.now.bytes.now) marks) }
+    ensures { IfOk result (λ marks.
+        AreMarks image.now.bytes.now (IsLinkedTwice image.now.bytes.now) marks) }
 {
     let mut once = SlotSet::new(alloc, image.bytes.len() / 16)?;
     let mut twice = SlotSet::new(alloc, image.bytes.len() / 16)?;

@@ -5,8 +5,8 @@ use Rattle.std.proofs.lemmas.List.Elements.{All-push, All-append}
 use Rattle.romfs_format.specs.Fields.{image}
 use Rattle.romfs_format.specs.Rules.{IsSoundAs}
 use Rattle.romfs_format.specs.declared.rule.Profile.{Profile}
-use Rattle.serve_core.specs.declared.stop.Stop.{Stop}
-use Rattle.serve_core.specs.declared.stop.Stop.TheVariants.{Layer, Layers, BadLength, CutOff, Read, Write, Turns, Memory}
+use Rattle.serve_loop.specs.declared.stop.Stop.{Stop}
+use Rattle.serve_loop.specs.declared.stop.Stop.TheVariants.{Layer, Layers, BadLength, CutOff, Read, Write, Turns, Memory}
 use Rattle.serve_core.specs.Preparing.{AreLayers, IsFew, IsLowestBroken, AreRefused}
 use Rattle.serve_core.specs.Checking.{AreChecked, IsBroken}
 

@@ -2,15 +2,15 @@
 use Rattle.std.proofs.Common.{◌≡◌, ap, sym, subst, List, length, ℕ, inl, inr, Result, Ok, Err, IsErrAnd}
 use Rattle.romfs_format.specs.declared.rule.Profile.{Profile}
 use Rattle.romfs_format.specs.declared.rule.ImageFault.{ImageFault}
-use Rattle.serve_core.specs.declared.stop.Stop.{Stop}
-use Rattle.serve_core.specs.declared.stop.Stop.TheVariants.{Layer, Layers}
+use Rattle.serve_loop.specs.declared.stop.Stop.{Stop}
+use Rattle.serve_loop.specs.declared.stop.Stop.TheVariants.{Layer, Layers}
 use Rattle.stack_model.specs.Numbers.{nodes}
 use Rattle.reply_pool.specs.Answers.{answering}
-use Rattle.serve_core.specs.declared.done.Done.{Done}
+use Rattle.serve_loop.specs.declared.done.Done.{Done}
 use Rattle.serve_core.specs.Preparing.{AreRefused}
-use Rattle.serve_core.specs.Serving.{Trace}
+use Rattle.serve_loop.specs.Serving.{Trace}
 use Rattle.serve_core.specs.Headline.{IsUntouched, IsNotBegun, Serves, HasServedAll, IsRefusedFor}
-use Rattle.serve_core.proofs.Ends.{served}
+use Rattle.serve_loop.proofs.Ends.{served}
 
 pub not_begun : {A : Type 0} (profile : Profile) (images : List (List ℕ)) (t : Trace) (result : Result (Done A) Stop) (stop : Stop)
     → IsErrAnd result (λ told. told ≡ stop) → AreRefused profile images stop → IsUntouched t → IsNotBegun profile images t result

@@ -1,9 +1,3 @@
-pub mod Parts
-pub mod Rounding
-pub mod Traces
-pub mod Runs
-pub mod Ends
 pub mod Checked
 pub mod Headline
 pub mod Refusals
-pub mod Worked

@@ -1,17 +1,14 @@
--- Images are refused for one reason, and moves come to one list of balances.
-use Rattle.std.proofs.Common.{◌≡◌, ◌∙◌, sym, ap, subst, ℕ, suc, ◌<◌, ◌⊎◌, inl, inr, ℤ, pos, List, [], ◌∷◌, ◌++◌, length, All, refl, arith}
-use Rattle.std.proofs.lemmas.List.{ext_get_or}
+-- Images are refused for one reason.
+use Rattle.std.proofs.Common.{◌≡◌, ◌∙◌, sym, ap, subst, ℕ, suc, ◌<◌, ◌⊎◌, inl, inr, List, [], ◌∷◌, ◌++◌, length, All, refl, arith}
 use Rattle.std.proofs.lemmas.List.Elements.{All-head, All-tail}
 use Rattle.romfs_format.specs.declared.rule.Profile.{Profile}
 use Rattle.romfs_format.specs.declared.rule.Rule.{Rule}
 use Rattle.romfs_format.specs.declared.rule.ImageFault.{ImageFault}
 use Rattle.romfs_format.specs.Rules.{IsFaultAs, IsSoundAs}
 use Rattle.romfs_format.proofs.Faults.{one_fault, no_fault}
-use Rattle.reply_model.specs.declared.moves.Move.{Move}
-use Rattle.serve_core.specs.declared.stop.Stop.{Stop}
-use Rattle.serve_core.specs.declared.stop.Stop.TheVariants.{Layer, Layers, BadLength, CutOff, Read, Write, Turns, Memory}
+use Rattle.serve_loop.specs.declared.stop.Stop.{Stop}
+use Rattle.serve_loop.specs.declared.stop.Stop.TheVariants.{Layer, Layers, BadLength, CutOff, Read, Write, Turns, Memory}
 use Rattle.serve_core.specs.Preparing.{IsFew, AreLayers, IsLowestBroken, AreRefused}
-use Rattle.serve_core.specs.Serving.{AreBalances}
 
 -- of images that keep the rules up to one that does not, there is one number
 module _ (profile : Profile) (r s : Rule) (p q : ℕ) where
@@ -85,6 +82,3 @@ module _ (profile : Profile) (images : List (List ℕ)) where
         | inr (inl a) ↦ absurd (not_few a.0 a.2 good.few)
         | inr (inr a) ↦ let b = a.3.1 in absurd (none_broken profile b.below b.above b.bytes a.1.rule a.1.place (subst (All (IsSoundAs profile)) b.images_are good.sound) b.broken)
       ]
-
-pub one_balances : (moves : List Move) (nodes : ℕ) (xs ys : List ℤ) → AreBalances moves nodes xs → AreBalances moves nodes ys → xs ≡ ys
-one_balances moves nodes xs ys x y = ext_get_or (pos 0) xs ys (x.same ∙ sym y.same) (λ i l. x.each i (subst (λ n. i < n) x.same l) ∙ sym (y.each i (subst (λ n. i < n) x.same l)))

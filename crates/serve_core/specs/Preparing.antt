@@ -7,8 +7,8 @@ use Rattle.romfs_format.specs.declared.rule.Profile.{Profile}
 use Rattle.romfs_format.specs.declared.rule.ImageFault.{ImageFault}
 use Rattle.stack_model.specs.Listing.{IsListing}
 use Rattle.node_table.specs.Stacked.{Stacked}
-use Rattle.serve_core.specs.declared.stop.Stop.{Stop}
-use Rattle.serve_core.specs.declared.stop.Stop.TheVariants.{Layer, Layers, Memory}
+use Rattle.serve_loop.specs.declared.stop.Stop.{Stop}
+use Rattle.serve_loop.specs.declared.stop.Stop.TheVariants.{Layer, Layers, Memory}
 
 -- the bytes of images
 abbrev pub contents_of : {A B : Type 0} → Vec (Vec ℕ A) B → List (List ℕ)
@@ -30,7 +30,8 @@ pub record AreStacked (profile : Profile) (images : List (List ℕ)) (stack : St
   pub listing : IsListing stack.layers stack.entries
 
 -- the image with this number is the lowest that breaks a rule of the profile, and this is its fault
-pub record IsLowestBroken (profile : Profile) (images : List (List ℕ)) (layer : ℕ) (fault : ImageFault) : Type 0 where
+pub record IsLowestBroken (profile : Profile) (images : List (List ℕ)) (layer : ℕ)
+    (fault : ImageFault) : Type 0 where
   pub below : List (List ℕ)
   pub above : List (List ℕ)
   pub bytes : List ℕ
@@ -39,9 +40,11 @@ pub record IsLowestBroken (profile : Profile) (images : List (List ℕ)) (layer 
   pub sound : All (IsSoundAs profile) below
   pub broken : IsFaultAs profile bytes fault.rule fault.place
 
--- why images can't be served: there are none or too many; or the lowest that is broken; or memory ran out
+-- why images can't be served: there are none or too many; or the lowest that is broken; or memory
+-- ran out
 abbrev pub AreRefused : Profile → List (List ℕ) → Stop → Type 0
 AreRefused profile images (Layers count) = (count ≡ length images) × ((count ≡ 0) ⊎ (128 < count))
-AreRefused profile images (Layer layer fault) = IsFew (length images) × IsLowestBroken profile images layer fault
+AreRefused profile images (Layer layer fault) =
+    IsFew (length images) × IsLowestBroken profile images layer fault
 AreRefused profile images Memory = IsFew (length images)
 AreRefused profile images _ = ⊥

@@ -1,7 +1,7 @@
 //! Images, checked at the same time.
 //!
-//! A list is cut in two, and so on; each half is checked in a call of its own, and what both find is put together: where
-//! both have a broken image the lower half's is told.
+//! A list is cut in two, and so on; each half is checked in a call of its own, and what both find
+//! is put together: where both have a broken image the lower half's is told.
 
 ghost use Rattle.std.specs.Prelude.{◌≡◌, ◌+◌, ◌++◌, ◌≤◌, ℕ, List, length, IfOk, IfErr};
 ghost use Rattle.romfs_format.specs.declared.rule.Profile.{Profile};
@@ -9,17 +9,18 @@ ghost use Rattle.serve_core.specs.Preparing.{contents_of, AreLayers, AreRefused,
 ghost use Rattle.serve_core.specs.Checking.{Checks};
 ghost use denote.Param.Send.{IsSync, IsSend, Frees};
 
-use crate::stop::Stop;
 use romfs_format::Profile;
 use romfs_image::{CheckFault, Image};
-use stack_core::{Gate, Work};
+use serve_loop::Stop;
 use std::alloc::Allocator;
 use std::thread::{Threads, join};
+use work_gate::{Gate, Work};
 
 /// How many times a list is cut into halves that are checked at the same time.
 const FORKS: u32 = 4;
 
-/// The images, checked. The gate is passed before each check. At most 16 parts of a list are checked at the same time.
+/// The images, checked. The gate is passed before each check. At most 16 parts of a list are
+/// checked at the same time.
 pub(crate) fn check_all<R: Threads + Sync, A: Allocator + Copy + Send + Sync, G: Gate + Sync>(
     rt: &R,
     alloc: A,
@@ -34,8 +35,8 @@ pub(crate) fn check_all<R: Threads + Sync, A: Allocator + Copy + Send + Sync, G:
     check_from(rt, alloc, 0, images, profile, gate, FORKS)
 }
 
-/// A run of images, of which the lowest has the number `first`, checked: its halves at the same time, each of which is
-/// cut so once less, or one after another.
+/// A run of images, of which the lowest has the number `first`, checked: its halves at the same
+/// time, each of which is cut so once less, or one after another.
 #[cycle(halves)]
 fn check_from<R: Threads + Sync, A: Allocator + Copy + Send + Sync, G: Gate + Sync>(
     rt: &R,
@@ -73,7 +74,8 @@ fn check_from<R: Threads + Sync, A: Allocator + Copy + Send + Sync, G: Gate + Sy
     together(low, high)
 }
 
-/// What two halves of a run come to: want of memory in either, else the lower one's broken image, else the upper one's.
+/// What two halves of a run come to: want of memory in either, else the lower one's broken image,
+/// else the upper one's.
 fn together<A: Allocator>(
     low: Result<Vec<Image<A>, A>, Stop>,
     high: Result<Vec<Image<A>, A>, Stop>,

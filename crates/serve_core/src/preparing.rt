@@ -4,17 +4,20 @@ ghost use Rattle.std.specs.Prelude.{IfOk, IfErr};
 ghost use Rattle.serve_core.specs.Preparing.{contents_of, AreStacked, AreRefused};
 
 use crate::checking::check_all;
-use crate::stop::Stop;
 use node_table::Table;
 use romfs_format::Profile;
-use stack_core::{Gate, stack};
+use serve_loop::Stop;
+use stack_core::stack;
 use std::alloc::Allocator;
 use std::thread::Threads;
+use work_gate::Gate;
 
-/// Checks images by the usual profile's rules and stacks them, the lowest layer first, into one table.
+/// Checks images by the usual profile's rules and stacks them, the lowest layer first, into one
+/// table.
 ///
-/// `Layers` comes exactly where there are none or more than 128, before anything else is done; else `Layer` names the
-/// lowest image that breaks a rule, and its fault. The gate is passed before each check and each tree.
+/// `Layers` comes exactly where there are none or more than 128, before anything else is done; else
+/// `Layer` names the lowest image that breaks a rule, and its fault. The gate is passed before each
+/// check and each tree.
 pub fn prepare<R: Threads + Sync, A: Allocator + Copy + Send + Sync, G: Gate + Sync>(
     rt: &R,
     alloc: A,

@@ -2,34 +2,43 @@
 
 ghost use Rattle.std.specs.Prelude.{◌≡◌, Err, OnOk};
 ghost use Rattle.std.specs.Io.KnownBytes.{IsAtEnd};
+ghost use Rattle.devices.specs.States.{devices};
 ghost use Rattle.serve_core.specs.Preparing.{contents_of};
-ghost use Rattle.serve_core.specs.declared.stop.Stop.TheVariants.{Turns};
-ghost use Rattle.serve_core.specs.Serving.{devices, AreReady, Does};
+ghost use Rattle.serve_loop.specs.declared.stop.Stop.TheVariants.{Turns};
+ghost use Rattle.serve_loop.specs.Serving.{AreReady, Does};
 ghost use Rattle.serve_core.specs.Headline.{IsRunOver, Serves};
 
-use crate::done::Done;
 use crate::preparing::prepare_as;
-use crate::running::run_by;
-use crate::stop::Stop;
 use devices::{Sink, Source};
 use node_table::Table;
 use reply_pool::{Plan, Pool};
 use romfs_format::Profile;
-use stack_core::Gate;
+use serve_loop::{Done, Stop, run_by};
 use std::alloc::Allocator;
 use std::thread::Threads;
+use work_gate::Gate;
 
-/// Serves the source's stream of requests over a table into the sink, in at most `turns` pulls of at most 65,536 bytes
-/// each. The bytes put are the replies to the stream, for every plan and however it is cut into pulls.
+/// Serves the source's stream of requests over a table into the sink, in at most `turns` pulls of
+/// at most 65,536 bytes each. The bytes put are the replies to the stream, for every plan and
+/// however it is cut into pulls.
 ///
-/// - `Ok`: the stream came to its end between two messages: nothing is left of it, and all replies are written and flushed.
-/// - `BadLength`, `CutOff`, `Read` and `Turns`: all replies to the whole messages that came are written and flushed.
+/// - `Ok`: the stream came to its end between two messages: nothing is left of it, and all replies
+///   are written and flushed.
+/// - `BadLength`, `CutOff`, `Read` and `Turns`: all replies to the whole messages that came are
+///   written and flushed.
 /// - `Write` and `Memory`: some of the first replies are written.
 ///
-/// `Read` and `Write` come exactly where the source's or the sink's count of failures rose in this call. A fault of an
-/// image is never told. No pull follows an end, a bad length or a failure, and no device is called after memory was
-/// refused. With no turns it answers `Turns` at once.
-pub fn run<A: Allocator + Copy, S: Source, K: Sink, G: Gate>(
+/// `Read` and `Write` come exactly where the source's or the sink's count of failures rose in this
+/// call. A fault of an image is never told. No pull follows an end, a bad length or a failure, and
+/// no device is called after memory was refused. With no turns it answers `Turns` at once.
+pub fn run<
+    R: Threads + Sync,
+    A: Allocator + Copy + Send + Sync,
+    S: Source,
+    K: Sink,
+    G: Gate + Sync,
+>(
+    rt: &R,
     alloc: A,
     table: &Table<A>,
     source: &mut S,
@@ -38,22 +47,23 @@ pub fn run<A: Allocator + Copy, S: Source, K: Sink, G: Gate>(
     turns: u64,
     gate: &G,
 ) -> Result<Done<A>, Stop>
-    requires { AreReady turns
-        (devices (S.left source.old) (S.counts source.old) (K.held sink.old) (K.counts sink.old)) }
+    requires { AreReady turns (devices (S.state source.old) (K.state sink.old)) }
     ensures run { Does (λ t. IsRunOver table.now turns t result)
-        (devices (S.left source.old) (S.counts source.old) (K.held sink.old) (K.counts sink.old))
-        (devices (S.left source.new) (S.counts source.new) (K.held sink.new) (K.counts sink.new)) }
-    ensures end { OnOk result (IsAtEnd (S.left source.new)) }
+        (devices (S.state source.old) (K.state sink.old))
+        (devices (S.state source.new) (K.state sink.new)) }
+    ensures end { OnOk result (IsAtEnd (S.state source.new).left) }
     ensures at_once { turns ≡ 0 → result ≡ Err Turns }
 {
-    run_by(alloc, &Pool::new(table, plan, gate), source, sink, turns)
+    let pool = Pool::new(table, plan, gate);
+    run_by(rt, alloc, &pool, source, sink, turns)
 }
 
-/// Checks images by the usual profile's rules, stacks them, the lowest layer first, and serves the source's stream over
-/// them, as [`run`] does.
+/// Checks images by the usual profile's rules, stacks them, the lowest layer first, and serves the
+/// source's stream over them, as [`run`] does.
 ///
-/// `Layers` comes exactly where there are no images or more than 128, and `Layer` names the lowest broken image and its
-/// fault. Then, and where memory runs out before the table stands, no device is touched.
+/// `Layers` comes exactly where there are no images or more than 128, and `Layer` names the lowest
+/// broken image and its fault. Then, and where memory runs out before the table stands, no device
+/// is touched.
 pub fn serve<
     R: Threads + Sync,
     A: Allocator + Copy + Send + Sync,
@@ -70,13 +80,11 @@ pub fn serve<
     turns: u64,
     gate: &G,
 ) -> Result<Done<A>, Stop>
-    requires { AreReady turns
-        (devices (S.left source.old) (S.counts source.old) (K.held sink.old) (K.counts sink.old)) }
-    ensures run { Does
-        (λ t. Serves Profile.Usual (contents_of images) turns t result)
-        (devices (S.left source.old) (S.counts source.old) (K.held sink.old) (K.counts sink.old))
-        (devices (S.left source.new) (S.counts source.new) (K.held sink.new) (K.counts sink.new)) }
-    ensures end { OnOk result (IsAtEnd (S.left source.new)) }
+    requires { AreReady turns (devices (S.state source.old) (K.state sink.old)) }
+    ensures run { Does (λ t. Serves Profile.Usual (contents_of images) turns t result)
+        (devices (S.state source.old) (K.state sink.old))
+        (devices (S.state source.new) (K.state sink.new)) }
+    ensures end { OnOk result (IsAtEnd (S.state source.new).left) }
 {
     serve_as(
         rt,
@@ -109,14 +117,12 @@ pub fn serve_as<
     turns: u64,
     gate: &G,
 ) -> Result<Done<A>, Stop>
-    requires { AreReady turns
-        (devices (S.left source.old) (S.counts source.old) (K.held sink.old) (K.counts sink.old)) }
-    ensures run { Does
-        (λ t. Serves profile (contents_of images) turns t result)
-        (devices (S.left source.old) (S.counts source.old) (K.held sink.old) (K.counts sink.old))
-        (devices (S.left source.new) (S.counts source.new) (K.held sink.new) (K.counts sink.new)) }
-    ensures end { OnOk result (IsAtEnd (S.left source.new)) }
+    requires { AreReady turns (devices (S.state source.old) (K.state sink.old)) }
+    ensures run { Does (λ t. Serves profile (contents_of images) turns t result)
+        (devices (S.state source.old) (K.state sink.old))
+        (devices (S.state source.new) (K.state sink.new)) }
+    ensures end { OnOk result (IsAtEnd (S.state source.new).left) }
 {
     let table = prepare_as(rt, alloc, images, profile, gate)?;
-    run(alloc, &table, source, sink, plan, turns, gate)
+    run(rt, alloc, &table, source, sink, plan, turns, gate)
 }

@@ -26,7 +26,8 @@ fn bad_sum(alloc: Global) -> Result<Vec<u8>, AllocError> {
     Ok(image)
 }
 
-/// The empty image with the checksum 0 of the root's header, and a checksum of the volume that goes with it.
+/// The empty image with the checksum 0 of the root's header, and a checksum of the volume that goes
+/// with it.
 fn bad_header(alloc: Global) -> Result<Vec<u8>, AllocError> {
     let mut image = empty(alloc)?;
     for place in 44..48 {

@@ -1,24 +1,18 @@
-//! The tests of `serve_core` over devices of their own: pieces of every size, devices that fail, too few turns, and
-//! memory that is refused. No command shows how often a device is called, or that it is not called. The tests of
-//! rounds, of single answers and of the writers of `fuse_wire` stand here too.
+//! The tests of `serve_core` over devices of their own: pieces of every size, devices that fail,
+//! too few turns, and memory that is refused. No command shows how often a device is called, or
+//! that it is not called. The tests of the writers of `fuse_wire` stand here too.
 //!
 //! - `streams`: one stream, however it is cut, answered and taken; how often each device is called.
 //! - `memory`: each request for memory of a call is refused in turn.
-//! - `batches`: rounds of jobs by any plan.
-//! - `answers`: single answers and their moves.
+//! - `gates`: the lowest image's check waits until the next one's was begun.
 //! - `layers`: images that are refused, with no call of a device; the strict profile.
 //! - `writers`: each writer with its request for memory refused.
 //!
-//! What they share: `reader` and `writer`, the two devices; `runs`, what a run came to; `script`, the streams and the
-//! replies to one; `jobs`, the requests of a stream.
+//! What they share: `reader` and `writer`, the two devices; `runs`, what a run came to.
 #![tactic(auto)]
 
 #[cfg(test)]
-mod answers;
-#[cfg(test)]
-mod batches;
-#[cfg(test)]
-mod jobs;
+mod gates;
 #[cfg(test)]
 mod layers;
 #[cfg(test)]
@@ -27,8 +21,6 @@ mod memory;
 mod reader;
 #[cfg(test)]
 mod runs;
-#[cfg(test)]
-mod script;
 #[cfg(test)]
 mod streams;
 #[cfg(test)]

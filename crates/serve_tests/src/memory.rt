@@ -1,12 +1,10 @@
 //! Each request for memory of a call is refused in turn.
 
-use crate::answers::{Left, appended};
-use crate::batches::{Jobs, round_of};
 use crate::runs::{Run, Seen, Stream, WHOLE, run_of, serve_of};
 use romfs_format::Profile;
 use serve_core::{Stop, prepare};
 use stack_core::FreePass;
-use std::alloc::{AllocError, Allocator, Global};
+use std::alloc::Global;
 use std::test::Fail;
 use std::thread::Threads;
 use test_kit::refusing::{Refusing, refuse_each};
@@ -15,13 +13,9 @@ use test_kit::sample_images::{alone, sample};
 #[derive(Clone, Copy, Debug)]
 enum Call {
     Prepare,
-    Round,
     Run,
     /// With so many requests for memory to prepare the image.
     Serve(u64),
-    /// The answer to the request with this index, or what it moves.
-    Answer(usize),
-    Moves(usize),
 }
 
 /// How many nodes the sample image has over itself.
@@ -65,7 +59,8 @@ fn requests_of_preparing<R: Threads + Sync>(rt: &R, global: Global) -> Option<u6
     table.is_ok().then_some(requests)
 }
 
-/// Whether a run tells that memory was refused, with some of the first replies put; or else went through.
+/// Whether a run tells that memory was refused, with some of the first replies put; or else went
+/// through.
 fn is_run(seen: &Option<Seen>, refused: bool) -> bool {
     let end = if refused {
         Err(Stop::Memory)
@@ -73,15 +68,6 @@ fn is_run(seen: &Option<Seen>, refused: bool) -> bool {
         Ok((13, 1547))
     };
     seen.is_some_and(|seen| seen.end == end && seen.put.is_some())
-}
-
-/// Whether a call appended all, or nothing where memory was refused. The first request is for what stands before.
-fn is_left(left: Option<Left>, refuse_at: u64, refused: bool, whole: Option<Left>) -> bool {
-    match left {
-        None => refuse_at == 1,
-        Some((true, _)) => !refused && left == whole,
-        Some((false, appended)) => refused && appended == 0,
-    }
 }
 
 /// Whether a run was refused after preparing, or has called no device.
@@ -104,25 +90,10 @@ fn is_told<'a, R: Threads + Sync>(
             Some(Err(stop)) => alloc.refused() && stop == Stop::Memory,
             None => false,
         },
-        Call::Round => match round_of(rt, global, plain, alloc, Jobs::Lookups, (2, 3)) {
-            Some(Ok((is_right, _))) => !alloc.refused() && is_right,
-            Some(Err(AllocError)) => alloc.refused(),
-            None => false,
-        },
         Call::Run => is_run(&run_of(rt, global, plain, alloc, LONG), alloc.refused()),
         Call::Serve(preparing) => {
             let seen = serve_in(rt, global, plain, alloc);
             is_run(&seen, alloc.refused()) && is_untouched(&seen, refuse_at, preparing)
-        }
-        Call::Answer(index) => {
-            let whole = appended(rt, global, plain, plain, index, false);
-            let left = appended(rt, global, plain, alloc, index, false);
-            is_left(left, refuse_at, alloc.refused(), whole)
-        }
-        Call::Moves(index) => {
-            let whole = appended(rt, global, plain, plain, index, true);
-            let left = appended(rt, global, plain, alloc, index, true);
-            is_left(left, refuse_at, alloc.refused(), whole)
         }
     }
 }
@@ -140,26 +111,10 @@ fn requests_of<R: Threads + Sync>(rt: &R, global: Global, call: Call) -> Result<
 }
 
 #[test]
-fn preparing_rounds_and_runs_are_refused(rt: HostRuntime) -> Result<(), Fail> {
+fn preparing_and_runs_are_refused(rt: HostRuntime) -> Result<(), Fail> {
     assert!(rt; 50 < requests_of(&rt, rt.alloc(), Call::Prepare)?);
-    assert!(rt; 5 < requests_of(&rt, rt.alloc(), Call::Round)?);
     // Balances, replies, the buffer, and its growth.
     assert!(rt; requests_of(&rt, rt.alloc(), Call::Run)? == 4);
-    Ok(())
-}
-
-#[test]
-fn answers_and_moves_are_refused(rt: HostRuntime) -> Result<(), Fail> {
-    let alloc = rt.alloc();
-    let mut all = (0usize, 0usize);
-    for index in 0..10 {
-        requests_of(&rt, alloc, Call::Answer(index))?;
-        requests_of(&rt, alloc, Call::Moves(index))?;
-        let (_, bytes) = appended(&rt, alloc, alloc, alloc, index, false).ok_or("an answer")?;
-        let (_, moves) = appended(&rt, alloc, alloc, alloc, index, true).ok_or("the moves")?;
-        all = (all.0.saturating_add(bytes), all.1.saturating_add(moves));
-    }
-    assert!(rt; all == (1648, 10));
     Ok(())
 }
 
@@ -168,7 +123,8 @@ fn serving_is_refused(rt: HostRuntime) -> Result<(), Fail> {
     let preparing = requests_of_preparing(&rt, rt.alloc()).ok_or("the sample image")?;
     let requests = requests_of(&rt, rt.alloc(), Call::Serve(preparing))?;
     assert!(rt; 20 < preparing && preparing < requests);
-    // The last request is for room behind the beginning of the WRITE: all replies before it are put.
+    // The last request is for room behind the beginning of the WRITE: all replies before it are
+    // put.
     let plain = Refusing::new(rt.alloc(), 0);
     let last = Refusing::new(rt.alloc(), requests);
     let seen = serve_in(&rt, rt.alloc(), &plain, &last);

@@ -2,7 +2,8 @@
 
 use std::io::{self, Error, ErrorKind, Read};
 
-/// A reader that gives its bytes in pieces of at most so many, and then ends or fails. It counts its calls.
+/// A reader that gives its bytes in pieces of at most so many, and then ends or fails. It counts
+/// its calls.
 #[derive(Drop)]
 pub struct Pieces<'a> {
     pub rest: &'a [u8],

@@ -1,7 +1,6 @@
 //! Runs over the sample image, and what they came to.
 
 use crate::reader::Pieces;
-use crate::script::{bad_stream, forgets, long_replies, long_stream, script};
 use crate::writer::Taker;
 use devices::{Spout, Tap};
 use node_table::Table;
@@ -12,6 +11,7 @@ use stack_core::FreePass;
 use std::alloc::{AllocError, Allocator, Global};
 use std::thread::Threads;
 use test_kit::sample_images::{alone, sample};
+use test_kit::script::{bad_stream, forgets, long_replies, long_stream, script};
 
 /// More pulls than any of the streams has.
 pub const TURNS: u32 = 1 << 20;
@@ -40,14 +40,16 @@ fn stream_of(alloc: Global, stream: Stream) -> Result<Vec<u8>, AllocError> {
 #[derive(Clone, Copy, Debug)]
 pub struct Run {
     pub stream: Stream,
-    /// How many first bytes of it are given, in pieces of so many, and whether the read after them fails.
+    /// How many first bytes of it are given, in pieces of so many, and whether the read after them
+    /// fails.
     pub given: usize,
     pub piece: usize,
     pub breaks: bool,
     pub turns: u32,
     /// Workers, and messages of a batch.
     pub plan: (u32, u32),
-    /// How many bytes are taken in all, and at once; whether the write after them fails, or takes none.
+    /// How many bytes are taken in all, and at once; whether the write after them fails, or takes
+    /// none.
     pub room: usize,
     pub most: usize,
     pub fails: bool,
@@ -103,7 +105,8 @@ pub struct Seen {
     pub writes: u64,
 }
 
-/// How a run ends; how many bytes of the first replies are put, and how many reads, and writes and flushes, are made.
+/// How a run ends; how many bytes of the first replies are put, and how many reads, and writes and
+/// flushes, are made.
 pub type Outcome = (End, usize, u64, u64);
 
 impl Seen {
@@ -156,6 +159,7 @@ pub fn run_of<R: Threads + Sync, A: Allocator + Copy + Send + Sync>(
     let mut pieces = pieces_of(&stream, row);
     let mut taker = taker_of(global, row);
     let done = run(
+        rt,
         alloc,
         &table,
         &mut Tap::new(&mut pieces),

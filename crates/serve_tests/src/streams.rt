@@ -1,4 +1,5 @@
-//! The twelve-request script over the sample image, however it comes and goes, and a long stream without a reply.
+//! The twelve-request script over the sample image, however it comes and goes, and a long stream
+//! without a reply.
 
 use crate::runs::{Outcome, Run, Seen, Stream, TURNS, WHOLE, run_of};
 use serve_core::Stop;
@@ -21,7 +22,8 @@ fn every_way_gives_the_same_bytes(rt: HostRuntime) -> Result<(), Fail> {
     Ok(())
 }
 
-/// How many first bytes of the stream are given, in pieces of so many; whether the read after them fails; the turns.
+/// How many first bytes of the stream are given, in pieces of so many; whether the read after them
+/// fails; the turns.
 type Source = (usize, usize, bool, u32);
 
 const CUT_OFF: Stop = Stop::CutOff { at: 100 };
@@ -41,8 +43,8 @@ const SOURCES: [(Source, Outcome); 10] = [
     ((105, 1, false, 100), (Err(Stop::Turns), 224, 100, 4)),
 ];
 
-/// The script in pieces of so many bytes; how many bytes are taken in all and at once; whether the write after them
-/// fails, or takes none; how many flushes succeed.
+/// The script in pieces of so many bytes; how many bytes are taken in all and at once; whether the
+/// write after them fails, or takes none; how many flushes succeed.
 type Sink = (usize, usize, usize, bool, u64);
 
 const ALL: usize = usize::MAX;

@@ -2,8 +2,8 @@
 
 use std::io::{self, Error, ErrorKind, Write};
 
-/// A writer that takes so many bytes in all, and at most so many at once; then each write fails, or takes none.
-/// So many of its flushes succeed. It counts its calls.
+/// A writer that takes so many bytes in all, and at most so many at once; then each write fails, or
+/// takes none. So many of its flushes succeed. It counts its calls.
 #[derive(Drop)]
 pub struct Taker {
     pub taken: Vec<u8>,

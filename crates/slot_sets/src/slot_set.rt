@@ -1,7 +1,7 @@
 //! Sets of slots.
 //!
-//! A set has a bit for each slot, 64 a word, so that it takes an eighth of a byte for the 16 bytes of a slot. To go
-//! over its slots upward skips a word that has none in one step.
+//! A set has a bit for each slot, 64 a word, so that it takes an eighth of a byte for the 16 bytes
+//! of a slot. To go over its slots upward skips a word that has none in one step.
 
 ghost use Rattle.std.specs.Prelude.{◌≡◌, ◌+◌, ◌*◌, ◌/◌, ◌<◌, ◌≤◌, ◌^◌, false, true, length, get_or, set, replicate, IfOk};
 ghost use Rattle.slot_sets.specs.Sets.{IsNextSlot, IsNextOfEither, IsUnion, rank};

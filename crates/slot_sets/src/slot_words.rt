@@ -8,8 +8,8 @@ use crate::slot_set::SlotSet;
 use std::alloc::{AllocError, Allocator};
 use std::marker::Model;
 
-/// A number for each slot of a set. A clause sees the set, and the numbers by slot: 0 for a slot that is not in the
-/// set. It takes 4 bytes for each slot of the set.
+/// A number for each slot of a set. A clause sees the set, and the numbers by slot: 0 for a slot
+/// that is not in the set. It takes 4 bytes for each slot of the set.
 #[derive(Drop)]
 pub struct SlotWords<'s, A: Allocator> {
     numbers: SlotNumbers<'s, A>,

@@ -3,10 +3,10 @@
 ghost use Rattle.std.specs.Prelude.{◌+◌, ◌≤◌, ◌∷◌, [], length, IfOk};
 ghost use Rattle.layer_tree.specs.Trees.{IsTreeOf};
 
-use crate::gate::{Gate, Work};
 use layer_tree::{Tree, lay};
 use romfs_image::Image;
 use std::alloc::{AllocError, Allocator};
+use work_gate::{Gate, Work};
 
 /// The tree of one layer.
 pub(crate) fn tree_of<A: Allocator + Copy, G: Gate>(
@@ -21,7 +21,8 @@ pub(crate) fn tree_of<A: Allocator + Copy, G: Gate>(
     Tree::of(alloc, image, layer)
 }
 
-/// The tree of a run of layers, of which the lowest has the number `first`, made by the caller alone.
+/// The tree of a run of layers, of which the lowest has the number `first`, made by the caller
+/// alone.
 pub(crate) fn stack_alone<A: Allocator + Copy, G: Gate>(
     alloc: A,
     first: u16,

@@ -7,20 +7,21 @@ ghost use denote.Param.Send.{IsSend, Frees};
 ghost use Rattle.layer_tree.specs.Trees.{IsTreeOf, entry_at};
 
 use crate::alone::{stack_alone, tree_of};
-use crate::gate::Gate;
 use layer_tree::{Place, Tree, lay};
 use romfs_image::Image;
 use std::alloc::{AllocError, Allocator};
 use std::thread::{Threads, join};
+use work_gate::Gate;
 
 /// How many times a list is cut into halves that are stacked at the same time.
 const FORKS: u32 = 4;
 
 /// The tree of a list of layers, the lowest first.
 ///
-/// The list is cut in two, and so on, and at most 16 parts are stacked at the same time. The gate is passed with
-/// `Work::Tree` and the layer's number before its tree is made. Images are only read. A path of n layers that meets in
-/// every layer is gone over log n times. `AllocError` comes only where memory was refused, in whichever thread.
+/// The list is cut in two, and so on, and at most 16 parts are stacked at the same time. The gate
+/// is passed with `Work::Tree` and the layer's number before its tree is made. Images are only
+/// read. A path of n layers that meets in every layer is gone over log n times. `AllocError` comes
+/// only where memory was refused, in whichever thread.
 pub fn stack<R: Threads + Sync, A: Allocator + Copy + Send + Sync, G: Gate + Sync>(
     rt: &R,
     alloc: A,
@@ -34,8 +35,8 @@ pub fn stack<R: Threads + Sync, A: Allocator + Copy + Send + Sync, G: Gate + Syn
     stack_from(rt, alloc, 0, images, gate, FORKS)
 }
 
-/// The tree of a run of layers, of which the lowest has the number `first`: of its halves at the same time, each of which
-/// is cut so once less, or made by the caller alone.
+/// The tree of a run of layers, of which the lowest has the number `first`: of its halves at the
+/// same time, each of which is cut so once less, or made by the caller alone.
 #[cycle(halves)]
 fn stack_from<R: Threads + Sync, A: Allocator + Copy + Send + Sync, G: Gate + Sync>(
     rt: &R,

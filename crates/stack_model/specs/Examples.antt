@@ -1,4 +1,5 @@
--- Worked examples: modes of each kind, the numbers of devices, sizes, the paths of two layers, and nested directories.
+-- Worked examples: modes of each kind, the numbers of devices, sizes, the paths of two layers, and
+-- nested directories.
 use Rattle.std.specs.Prelude.{◌≡◌, ℕ, false, true, List, [], ◌∷◌, map, Some, None, codes}
 use Rattle.std.specs.declared.cmp.Ordering.TheVariants.{Less}
 use Rattle.stack_model.specs.Listing.{Entry, path_cmp}
@@ -36,7 +37,8 @@ pub record DeviceExamples : Type 0 where
   pub link : rdev_of SymLink 0x00010003 ≡ 0
   pub directory : rdev_of Directory 0x00010003 ≡ 0
 
--- sizes are those of files and targets alone; blocks are rounded up, those of each layer by themselves
+-- sizes are those of files and targets alone; blocks are rounded up, those of each layer by
+-- themselves
 pub record SizeExamples : Type 0 where
   pub regular : size_of Regular 5 ≡ 5
   pub link : size_of SymLink 5 ≡ 5
@@ -50,7 +52,8 @@ pub record SizeExamples : Type 0 where
   pub two_blocks : blocks_of 513 ≡ 2
   pub two_layers : blocks_all ((0 ∷ []) ∷ (0 ∷ []) ∷ []) ≡ 2
 
--- paths of two layers: d/x and z are one file of the lower layer, and its header has the number of that of d in the upper
+-- paths of two layers: d/x and z are one file of the lower layer, and its header has the number of
+-- that of d in the upper
 abbrev pub two_layers : List Entry
 two_layers =
     record { path = []; layer = 1; header = 0x20 }
@@ -72,7 +75,8 @@ pub record LayerExamples : Type 0 where
   pub names_of_a_file : links [] two_layers (0, 0x60) ≡ 2
   pub order : path_cmp (codes "a" ∷ codes "b" ∷ []) (codes "a!" ∷ []) ≡ Less
 
--- a layer of five first words of headers: of four directories with the executable bit, and of a file
+-- a layer of five first words of headers: of four directories with the executable bit, and of a
+-- file
 abbrev pub five_headers : List ℕ
 five_headers = 0 ∷ 0 ∷ 0 ∷ 9 ∷ 0 ∷ 0 ∷ 0 ∷ 9 ∷ 0 ∷ 0 ∷ 0 ∷ 9 ∷ 0 ∷ 0 ∷ 0 ∷ 9 ∷ 0 ∷ 0 ∷ 0 ∷ 2 ∷ []
 
@@ -86,7 +90,8 @@ nested =
     ∷ record { path = codes "c" ∷ codes "f" ∷ []; layer = 0; header = 16 }
     ∷ []
 
--- what lies in one directory lies in no other one, and not in those above it; directories have no data
+-- what lies in one directory lies in no other one, and not in those above it; directories have no
+-- data
 pub record NestedExamples : Type 0 where
   pub of_root : map (λ c. c.place) (children nested (0, 0)) ≡ (0, 4) ∷ (0, 12) ∷ []
   pub of_c : map (λ c. c.place) (children nested (0, 12)) ≡ (0, 16) ∷ []

@@ -1,4 +1,5 @@
--- The shown paths of a stack in order, each with its place: all that the stack's numbers are counted on.
+-- The shown paths of a stack in order, each with its place: all that the stack's numbers are
+-- counted on.
 use Rattle.std.specs.Prelude.{◌≡◌, ℕ, ◌⊎◌, List, [], ◌∷◌, slice_get, Some}
 use Rattle.std.specs.declared.cmp.Ordering.{Ordering}
 use Rattle.std.specs.declared.cmp.Ordering.TheVariants.{Less}

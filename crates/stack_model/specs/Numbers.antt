@@ -1,4 +1,5 @@
--- Node numbers, which FUSE calls nodeid and ino: places in the order of their first path, counted from 1.
+-- Node numbers, which FUSE calls nodeid and ino: places in the order of their first path, counted
+-- from 1.
 use Rattle.std.specs.Prelude.{ℕ, zero, suc, ◌-◌, List, [], ◌∷◌, ◌++◌, length, map, fold, take, Bool, ◌&&◌, ◌==◌, Option, Some, None, slice_get, nat_eq, find, unwrap_or, if◌then◌else◌}
 use Rattle.std.specs.List.{list_any, filter_map, position_from}
 use Rattle.std.specs.Option.{option_map, option_map_or}
@@ -47,7 +48,8 @@ node_of entries (suc n) = slice_get (nodes entries) n
 abbrev pub path_of : List Entry → Place → Path
 path_of entries p = option_map_or (λ e. e.path) (find (λ e. same_place p (place e)) entries) []
 
--- the place of the directory above: that of the path without its last name. Above the root is the root
+-- the place of the directory above: that of the path without its last name. Above the root is the
+-- root
 unfoldable pub parent : List Entry → Place → Place
 parent entries p =
     let path = path_of entries p in

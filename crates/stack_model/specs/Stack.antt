@@ -1,4 +1,5 @@
--- OCI image specification, layer chapter, "Whiteouts" and "Opaque Whiteout": what layers laid one on another show.
+-- OCI image specification, layer chapter, "Whiteouts" and "Opaque Whiteout": what layers laid one
+-- on another show.
 use Rattle.std.specs.Prelude.{◌≡◌, ◌≢◌, ℕ, zero, suc, ◌⊎◌, List, [], ◌∷◌, ◌++◌, IsTrue, nat_eq, codes}
 use Rattle.std.specs.List.{AllByRecursion, starts_with}
 use Rattle.romfs_format.specs.declared.head.Kind.TheVariants.{Directory}
@@ -34,8 +35,8 @@ HasDirectory a path = (h : ℕ) × Has a path h × (kind a h ≡ Directory)
 abbrev pub HasOther : List ℕ → Path → Type 0
 HasOther a path = (h : ℕ) × Has a path h × (kind a h ≢ Directory)
 
--- of the directory q the layer a removes what lower layers have at y and below: it holds a marker for y, a marker
--- for all of q, or y itself as no directory
+-- of the directory q the layer a removes what lower layers have at y and below: it holds a marker
+-- for y, a marker for all of q, or y itself as no directory
 abbrev pub CutsIn : List ℕ → Path → List ℕ → Type 0
 CutsIn a q y =
     HasDirectory a q

@@ -14,16 +14,17 @@ pub fn one_listing()
         IsListing layers xs → IsListing layers ys → xs ≡ ys }
 {}
 
-/// One layer shows exactly the paths that it has and that name no marker: its own markers cut nothing of its own.
+/// One layer shows exactly the paths that it has and that name no marker: its own markers cut
+/// nothing of its own.
 #[tactic(auto, using(crate::proofs::Joined::alone))]
 pub fn one_layer_shows_its_own()
     ensures { (a : List ℕ) (path : Path) (i h : ℕ) →
         Shows (a ∷ []) path i h ↔ (IsPlain path × (i ≡ 0) × Has a path h) }
 {}
 
-/// A run of layers laid on another one: the joined run shows what the upper run shows, and what the lower
-/// run shows where the upper one neither has nor cuts it; and it cuts what either cuts.
-#[tactic(auto, using(crate::proofs::Joined::shows_joined, crate::proofs::Joined::cuts_joined, crate::proofs::Joined::free_is))]
+/// A run of layers laid on another one: the joined run shows what the upper run shows, and what the
+/// lower run shows where the upper one neither has nor cuts it; and it cuts what either cuts.
+#[tactic(auto, using(crate::proofs::Joined::shows_joined, crate::proofs::Joined::cuts_joined, crate::proofs::Joined::free_is,))]
 pub fn laid_is_joined()
     ensures free { (layers : List (List ℕ)) (path : Path) →
         IsFree layers path ↔ (AllByRecursion (λ a. ¬ IsIn a path) layers × ¬ IsCut layers path) }
@@ -35,8 +36,9 @@ pub fn laid_is_joined()
         IsCut (low ++ high) path ↔ (IsCut low path ⊎ IsCut high path) }
 {}
 
-/// Whiteouts: in a directory of a layer a marker for y cuts y and all below it, an opaque marker cuts all that is
-/// in the directory, and so does an entry that is no directory with what is at its place. The root is never cut.
+/// Whiteouts: in a directory of a layer a marker for y cuts y and all below it, an opaque marker
+/// cuts all that is in the directory, and so does an entry that is no directory with what is at its
+/// place. The root is never cut.
 #[tactic(auto, using(crate::proofs::Joined::cuts_of_a_layer))]
 pub fn whiteouts_cut()
     ensures marker { (a : List ℕ) (q rest : Path) (y : List ℕ) →
@@ -51,9 +53,9 @@ pub fn whiteouts_cut()
     ensures root { (a : List ℕ) → ¬ Cuts a [] }
 {}
 
-/// Numbers: the root has 1 where it is listed; each number from 1 to the number of nodes is that of exactly
-/// one place, that of some entry, and no other number is used; two entries have one number exactly where they have
-/// one place.
+/// Numbers: the root has 1 where it is listed; each number from 1 to the number of nodes is that of
+/// exactly one place, that of some entry, and no other number is used; two entries have one number
+/// exactly where they have one place.
 #[tactic(auto, using(crate::proofs::Numbering::numbering))]
 pub fn numbers_are_places()
     ensures root { (layers : List (List ℕ)) (entries : List Entry) (e : Entry) →

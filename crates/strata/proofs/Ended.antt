@@ -1,12 +1,12 @@
 -- How a command ends, by how its last step ended.
 use Rattle.std.proofs.Common.{◌≡◌, ◌≢◌, ◌<◌, ◌∙◌, sym, subst, refl, ℕ, ◌⊎◌, inl, inr, List, Result, Ok, Err, OnOk, IfErr, IsErrAnd, arith, length, map, vec_len, Vec}
 use Rattle.std.proofs.lemmas.List.{length-map}
-use Rattle.serve_core.specs.declared.stop.Stop.{Stop}
-use Rattle.serve_core.specs.declared.stop.Stop.TheVariants as stops
+use Rattle.serve_loop.specs.declared.stop.Stop.{Stop}
+use Rattle.serve_loop.specs.declared.stop.Stop.TheVariants as stops
 use Rattle.command_line.specs.declared.options.Line.{Line}
 use Rattle.command_line.specs.declared.options.Verb.{Verb}
 use Rattle.command_line.specs.CommandLine.{IsLineOf}
-use Rattle.serve_core.specs.Serving.{Devices}
+use Rattle.devices.specs.States.{Devices}
 use Rattle.strata.specs.declared.faults.Fault.{Fault}
 use Rattle.strata.specs.declared.faults.Fault.TheVariants.{Usage, ImageFile, RequestsFile, RepliesFile, BalancesFile, Broken, Stopped}
 use Rattle.strata.specs.Faults.{status_of, stop_status, out_of_memory}

@@ -1,10 +1,10 @@
 -- What serving left, by the devices that it was between.
 use Rattle.std.proofs.Common.{◌≡◌, ◌∙◌, sym, ap, refl, subst, ℕ, ◌⊎◌, inl, inr, List, Option, None, Some, is_some, true, false, true≢false, Result, Ok, Err, OnOk, IfErr, IsErrAnd}
-use Rattle.devices.specs.States.{SourceState, SinkState}
 use Rattle.command_line.specs.declared.options.Line.{Line}
-use Rattle.serve_core.specs.declared.stop.Stop.{Stop}
-use Rattle.serve_core.specs.declared.done.Done.{Done}
-use Rattle.serve_core.specs.Serving.{Devices, Trace}
+use Rattle.serve_loop.specs.declared.stop.Stop.{Stop}
+use Rattle.serve_loop.specs.declared.done.Done.{Done}
+use Rattle.devices.specs.States.{Devices, SourceState, SinkState}
+use Rattle.serve_loop.specs.Serving.{Trace}
 use Rattle.strata.specs.declared.faults.Fault.{Fault}
 use Rattle.strata.specs.declared.faults.Fault.TheVariants.{Stopped}
 use Rattle.strata.specs.Faults.{out_of_memory, write_failed}

@@ -1,9 +1,9 @@
 -- What the exit statuses of the program mean.
-use Rattle.std.proofs.Common.{◌≡◌, ◌≢◌, ◌∙◌, sym, ap, subst, ℕ, ◌≤◌, ◌⊎◌, inl, inr, List, All, Err, arith}
+use Rattle.std.proofs.Common.{◌≡◌, ◌≢◌, ◌∙◌, sym, ap, subst, ℕ, ◌≤◌, ◌⊎◌, inl, inr, List, All, Err, refl, arith}
 use Rattle.romfs_format.specs.declared.rule.Profile.{Profile}
 use Rattle.romfs_format.specs.Rules.{IsSoundAs}
-use Rattle.serve_core.specs.declared.stop.Stop.{Stop}
-use Rattle.serve_core.specs.declared.stop.Stop.TheVariants as stops
+use Rattle.serve_loop.specs.declared.stop.Stop.{Stop}
+use Rattle.serve_loop.specs.declared.stop.Stop.TheVariants as stops
 use Rattle.command_line.specs.declared.options.Line.{Line}
 use Rattle.command_line.specs.declared.options.LineFault.{LineFault}
 use Rattle.command_line.specs.declared.options.LineFault.TheVariants as lines
@@ -11,15 +11,17 @@ use Rattle.command_line.specs.declared.options.Verb.{Verb}
 use Rattle.command_line.specs.declared.options.Verb.TheVariants as verbs
 use Rattle.command_line.specs.CommandLine.{IsTaken, IsMisnumbered, IsLineFault}
 use Rattle.serve_core.specs.Preparing.{AreRefused}
-use Rattle.serve_core.specs.Serving.{Devices, Trace}
+use Rattle.devices.specs.States.{Devices}
+use Rattle.serve_loop.specs.Serving.{Trace}
 use Rattle.serve_core.specs.Headline.{Serves}
 use Rattle.serve_core.proofs.Headline.{many_refused, broken_refused}
 use Rattle.serve_core.proofs.Refusals.{not_few, none_broken}
 use Rattle.strata.specs.declared.faults.Fault.{Fault}
 use Rattle.strata.specs.declared.faults.Fault.TheVariants.{Usage, ImageFile, RequestsFile, RepliesFile, BalancesFile, Broken, Stopped}
 use Rattle.strata.specs.Faults.{status_of, stop_status, out_of_memory, line_told_of}
-use Rattle.strata.specs.Ending.{profile_of, IsStoppedOver, EndsWith}
+use Rattle.strata.specs.Ending.{profile_of, IsStoppedOver, IsDone, EndsInFault, EndsWith, IsRunOf}
 use Rattle.strata.specs.Laws.{AreBad, AreToBlame}
+use Rattle.strata.proofs.Ended.{fault_status}
 
 IsStatus : ℕ → Type 0
 IsStatus n = (1 ≤ n) × (n ≤ 5)
@@ -65,6 +67,9 @@ told_as fault other f n e = n (sym (ap status_of f) ∙ e)
 
 one_is_other : ◌≢◌ {A = ℕ} 1 2
 one_is_other e = absurd (omega arith)
+
+zero_is_other : ◌≢◌ {A = ℕ} 0 2
+zero_is_other e = absurd (omega arith)
 
 three_is_other : ◌≢◌ {A = ℕ} 3 2
 three_is_other e = absurd (omega arith)
@@ -210,3 +215,17 @@ ends_for_images A words old new e =
         bad = work_bad A off.line.verb off.line off.images e.fault old new off.stopped three;
       }
     ]
+
+-- ---- a whole run
+
+pub has_done : (A : Type 0) (words : List (List ℕ)) (old new : Devices) → IsDone A words old new → IsRunOf A words 0 old new
+has_done A words old new d = record { done = λ _. d; stopped = λ n. absurd (n refl); untouched = λ e. absurd (zero_is_other e) }
+
+pub has_stopped : (A : Type 0) (words : List (List ℕ)) (status : ℕ) (fault : Fault) (old new : Devices) → EndsInFault A words fault old new → status ≡ status_of fault → IsRunOf A words status old new
+has_stopped A words status fault old new s e =
+    let ends : EndsWith A words status old new = record { fault = fault; status_is = e; stopped = s } in
+    record {
+      done = λ z. absurd (fault_status fault (sym e ∙ z));
+      stopped = λ _. ends;
+      untouched = λ two. (ends_for_words A words old new (subst (λ n. EndsWith A words n old new) two ends)).1;
+    }

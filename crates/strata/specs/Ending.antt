@@ -1,18 +1,19 @@
 -- What a command leaves behind: its status, and what its output gained.
-use Rattle.std.specs.Prelude.{◌≡◌, ◌<◌, ◌≤◌, ◌+◌, ◌^◌, ◌⊎◌, ℕ, List, true, Option, None, is_some, length, vec_len, Result, Ok, Err, OnOk, if◌then◌else◌}
+use Rattle.std.specs.Prelude.{◌≡◌, ◌≢◌, ◌<◌, ◌≤◌, ◌+◌, ◌^◌, ◌⊎◌, ℕ, List, true, Option, None, is_some, length, vec_len, Result, Ok, Err, OnOk, if◌then◌else◌}
 use Rattle.std.specs.Io.KnownBytes.{Appends, Consumes, IsAtEnd}
 use Rattle.romfs_format.specs.declared.rule.Profile.{Profile}
 use Rattle.romfs_format.specs.declared.rule.Profile.TheVariants.{Usual, Strict}
 use Rattle.devices.specs.Counting.{no_pulls, no_pushes}
 use Rattle.devices.specs.Pushing.{HasFlushed}
-use Rattle.devices.specs.States.{SourceState, SinkState}
+use Rattle.devices.specs.States.{SourceState, SinkState, Devices}
+use Rattle.fuse_wire.specs.declared.limits.TheConstants.{MAX_TURNS}
 use Rattle.node_table.specs.Stacked.{Stacked}
-use Rattle.serve_core.specs.declared.stop.Stop.{Stop}
-use Rattle.serve_core.specs.declared.done.Done.{Done}
+use Rattle.serve_loop.specs.declared.stop.Stop.{Stop}
+use Rattle.serve_loop.specs.declared.done.Done.{Done}
 use Rattle.serve_core.specs.Preparing.{AreStacked, AreRefused}
-use Rattle.serve_core.specs.Serving.{Devices, Trace}
+use Rattle.serve_loop.specs.Serving.{Trace}
 use Rattle.serve_core.specs.Headline.{Serves}
-use Rattle.path_list.specs.Lines.{lines}
+use Rattle.path_list.specs.Faults.{Lists}
 use Rattle.command_line.specs.declared.options.Line.{Line}
 use Rattle.command_line.specs.declared.options.LineFault.{LineFault}
 use Rattle.command_line.specs.declared.options.Verb.{Verb}
@@ -31,6 +32,16 @@ profile_of line = if line.strict then Strict else Usual
 abbrev pub NamesAsMany : Line → List (List ℕ) → Type 0
 NamesAsMany line images = length images ≡ vec_len line.images
 
+-- the devices that a command is run between were not used before
+pub record AreNew (devices : Devices) : Type 0 where
+  pub pulls : devices.source.counts ≡ no_pulls
+  pub pushes : devices.sink.counts ≡ no_pushes
+
+-- lines were put to a sink and flushed
+pub record ArePut (lines : List ℕ) (old new : SinkState) : Type 0 where
+  pub written : Appends old.held new.held lines
+  pub flushed : HasFlushed lines old.counts new.counts
+
 -- a fault of the output is told, and the output failed once more
 pub record IsLost (fault : Fault) (old new : SinkState) : Type 0 where
   pub told : fault ≡ write_failed
@@ -46,24 +57,27 @@ AreNotPut old new fault = IsLost fault old new ⊎ ((fault ≡ out_of_memory) ×
 pub record AreGood (profile : Profile) (images : List (List ℕ)) (old new : SinkState) : Type 0 where
   pub sizes : List ℕ
   pub sizes_are : AreSizes profile images sizes
-  pub written : Appends old.held new.held (size_lines 0 sizes)
-  pub flushed : HasFlushed (size_lines 0 sizes) old.counts new.counts
+  pub put : ArePut (size_lines 0 sizes) old new
 
--- a check stopped: one of the images is to blame or memory ran out, and the output is as it was; or the output failed
+-- a check stopped: one of the images is to blame or memory ran out, and the output is as it was; or
+-- the output failed
 abbrev pub AreNotGood : Profile → List (List ℕ) → Fault → SinkState → SinkState → Type 0
-AreNotGood profile images fault old new = (IsFirstFault profile images fault × (new ≡ old)) ⊎ IsLost fault old new
+AreNotGood profile images fault old new =
+    (IsFirstFault profile images fault × (new ≡ old)) ⊎ IsLost fault old new
 
 -- ---- list
 
--- the images are good, and the output gained a line for each path that their stack shows; none waits for a flush
-pub record IsStackListed (profile : Profile) (images : List (List ℕ)) (old new : SinkState) : Type 0 where
+-- the images are good, and the output gained a line for each path that their stack shows; none
+-- waits for a flush
+pub record IsStackListed (profile : Profile) (images : List (List ℕ))
+    (old new : SinkState) : Type 0 where
   pub stack : Stacked
   pub stacked : AreStacked profile images stack
-  pub written : Appends old.held new.held (lines stack.layers stack.entries)
-  pub flushed : new.counts.unflushed ≤ old.counts.unflushed
+  pub listed : Lists stack old new
 
 -- the images were not stacked, or memory ran out, and the output is as it was
-pub record IsRefused (profile : Profile) (images : List (List ℕ)) (fault : Fault) (old new : SinkState) : Type 0 where
+pub record IsRefused (profile : Profile) (images : List (List ℕ)) (fault : Fault)
+    (old new : SinkState) : Type 0 where
   pub stop : Stop
   pub told : fault ≡ Stopped stop
   pub refused : AreRefused profile images stop
@@ -71,12 +85,14 @@ pub record IsRefused (profile : Profile) (images : List (List ℕ)) (fault : Fau
 
 -- a list stopped so; or the output failed
 abbrev pub IsNotListed : Profile → List (List ℕ) → Fault → SinkState → SinkState → Type 0
-IsNotListed profile images fault old new = IsRefused profile images fault old new ⊎ IsLost fault old new
+IsNotListed profile images fault old new = IsRefused profile images fault old new
+    ⊎ IsLost fault old new
 
 -- ---- serve
 
 -- a call took off a source what the trace got, and all that was left where it ended well
-pub record Gave {X E : Type 0} (t : Trace) (result : Result X E) (old new : SourceState) : Type 0 where
+pub record Gave {X E : Type 0} (t : Trace) (result : Result X E)
+    (old new : SourceState) : Type 0 where
   pub got : Consumes old.left new.left t.got
   pub counts : new.counts ≡ t.source
   pub all : OnOk result (IsAtEnd new.left)
@@ -87,29 +103,35 @@ pub record Took (t : Trace) (old new : SinkState) : Type 0 where
   pub counts : new.counts ≡ t.sink
 
 -- the requests came from the input; or there is a file for them, and the input was not touched
-pub record Asks {F X E : Type 0} (file : Option F) (t : Trace) (result : Result X E) (old new : SourceState) : Type 0 where
+pub record Asks {F X E : Type 0} (file : Option F) (t : Trace) (result : Result X E)
+    (old new : SourceState) : Type 0 where
   pub gave : file ≡ None → Gave t result old new
   pub kept : is_some file ≡ true → new ≡ old
 
 -- the replies went to the output; or there is a file for them, and the output was not touched
-pub record GetsReplies {F : Type 0} (file : Option F) (t : Trace) (old new : SinkState) : Type 0 where
+pub record GetsReplies {F : Type 0} (file : Option F) (t : Trace)
+    (old new : SinkState) : Type 0 where
   pub took : file ≡ None → Took t old new
   pub kept : is_some file ≡ true → new ≡ old
 
 -- a stream was served over the images, or refused for them, between devices that were new
-pub record IsServingBy {A : Type 0} (line : Line) (images : List (List ℕ)) (t : Trace) (result : Result (Done A) Stop) : Type 0 where
-  pub serves : Serves (profile_of line) images (2 ^ 40) t result
+pub record IsServingBy {A : Type 0} (line : Line) (images : List (List ℕ)) (t : Trace)
+    (result : Result (Done A) Stop) : Type 0 where
+  pub serves : Serves (profile_of line) images MAX_TURNS t result
   pub first_pull : t.source_before ≡ no_pulls
   pub first_push : t.sink_before ≡ no_pushes
 
--- it came from the input and its replies went to the output, but where the line names a file in place of one of them
-pub record IsServing {A : Type 0} (line : Line) (images : List (List ℕ)) (t : Trace) (result : Result (Done A) Stop) (old new : Devices) : Type 0 where
+-- it came from the input and its replies went to the output, but where the line names a file in
+-- place of one of them
+pub record IsServing {A : Type 0} (line : Line) (images : List (List ℕ)) (t : Trace)
+    (result : Result (Done A) Stop) (old new : Devices) : Type 0 where
   pub by : IsServingBy line images t result
   pub asks : Asks line.requests t result old.source new.source
   pub gains : GetsReplies line.replies t old.sink new.sink
 
 -- it was served to its end
-pub record IsServedWhole (A : Type 0) (line : Line) (images : List (List ℕ)) (old new : Devices) : Type 0 where
+pub record IsServedWhole (A : Type 0) (line : Line) (images : List (List ℕ))
+    (old new : Devices) : Type 0 where
   pub trace : Trace
   pub done : Done A
   pub serving : IsServing line images trace (Ok done) old new
@@ -119,37 +141,47 @@ pub record IsFileFault (line : Line) (fault : Fault) (old new : Devices) : Type 
   pub kept : new ≡ old
   pub which :
       ((fault ≡ RequestsFile) × (is_some line.requests ≡ true))
-      ⊎ (((fault ≡ RepliesFile) × (is_some line.replies ≡ true)) ⊎ ((fault ≡ BalancesFile) × (is_some line.balances ≡ true)))
+      ⊎ (((fault ≡ RepliesFile) × (is_some line.replies ≡ true))
+      ⊎ ((fault ≡ BalancesFile) × (is_some line.balances ≡ true)))
 
 -- serving stopped, and the fault says where
-pub record IsServedInPart (A : Type 0) (line : Line) (images : List (List ℕ)) (fault : Fault) (old new : Devices) : Type 0 where
+pub record IsServedInPart (A : Type 0) (line : Line) (images : List (List ℕ)) (fault : Fault)
+    (old new : Devices) : Type 0 where
   pub trace : Trace
   pub stop : Stop
   pub told : fault ≡ Stopped stop
   pub serving : IsServing {A = A} line images trace (Err stop) old new
 
 -- the stream was served to its end, but the balances could not be written to their file
-pub record AreBalancesLost (A : Type 0) (line : Line) (images : List (List ℕ)) (fault : Fault) (old new : Devices) : Type 0 where
+pub record AreBalancesLost (A : Type 0) (line : Line) (images : List (List ℕ)) (fault : Fault)
+    (old new : Devices) : Type 0 where
   pub named : is_some line.balances ≡ true
   pub told : (fault ≡ write_failed) ⊎ (fault ≡ out_of_memory)
   pub served : IsServedWhole A line images old new
 
 abbrev pub IsNotServed : (A : Type 0) → Line → List (List ℕ) → Fault → Devices → Devices → Type 0
 IsNotServed A line images fault old new =
-    IsFileFault line fault old new ⊎ (IsServedInPart A line images fault old new ⊎ AreBalancesLost A line images fault old new)
+    IsFileFault line fault old new
+    ⊎ (IsServedInPart A line images fault old new ⊎ AreBalancesLost A line images fault old new)
 
 -- ---- all three
 
--- the work of a command over the images that were read: done, and stopped with a fault. Only serve touches the input
+-- the work of a command over the images that were read: done, and stopped with a fault. Only serve
+-- touches the input
 abbrev pub IsDoneOver : (A : Type 0) → Verb → Line → List (List ℕ) → Devices → Devices → Type 0
 IsDoneOver A verbs.Serve line images old new = IsServedWhole A line images old new
-IsDoneOver A verbs.Check line images old new = (new.source ≡ old.source) × AreGood (profile_of line) images old.sink new.sink
-IsDoneOver A verbs.List line images old new = (new.source ≡ old.source) × IsStackListed (profile_of line) images old.sink new.sink
+IsDoneOver A verbs.Check line images old new =
+    (new.source ≡ old.source) × AreGood (profile_of line) images old.sink new.sink
+IsDoneOver A verbs.List line images old new =
+    (new.source ≡ old.source) × IsStackListed (profile_of line) images old.sink new.sink
 
-abbrev pub IsStoppedOver : (A : Type 0) → Verb → Line → List (List ℕ) → Fault → Devices → Devices → Type 0
+abbrev pub IsStoppedOver : (A : Type 0) → Verb → Line → List (List ℕ) → Fault → Devices → Devices
+    → Type 0
 IsStoppedOver A verbs.Serve line images fault old new = IsNotServed A line images fault old new
-IsStoppedOver A verbs.Check line images fault old new = (new.source ≡ old.source) × AreNotGood (profile_of line) images fault old.sink new.sink
-IsStoppedOver A verbs.List line images fault old new = (new.source ≡ old.source) × IsNotListed (profile_of line) images fault old.sink new.sink
+IsStoppedOver A verbs.Check line images fault old new =
+    (new.source ≡ old.source) × AreNotGood (profile_of line) images fault old.sink new.sink
+IsStoppedOver A verbs.List line images fault old new =
+    (new.source ≡ old.source) × IsNotListed (profile_of line) images fault old.sink new.sink
 
 -- the program did what its words say
 pub record IsDone (A : Type 0) (words : List (List ℕ)) (old new : Devices) : Type 0 where
@@ -160,7 +192,8 @@ pub record IsDone (A : Type 0) (words : List (List ℕ)) (old new : Devices) : T
   pub done : IsDoneOver A line.verb line images old new
 
 -- the program began what its words say, and stopped with a fault
-pub record IsDoneInPart (A : Type 0) (words : List (List ℕ)) (fault : Fault) (old new : Devices) : Type 0 where
+pub record IsDoneInPart (A : Type 0) (words : List (List ℕ)) (fault : Fault)
+    (old new : Devices) : Type 0 where
   pub line : Line
   pub images : List (List ℕ)
   pub line_is : IsLineOf words line
@@ -181,7 +214,8 @@ pub record AreNotTaken (words : List (List ℕ)) (fault : Fault) : Type 0 where
   pub is : IsLineFault words line
   pub told : fault ≡ line_told_of line
 
--- the program stopped before its work: for its words, an image's file or memory; and no device was touched
+-- the program stopped before its work: for its words, an image's file or memory; and no device was
+-- touched
 pub record IsEarly (words : List (List ℕ)) (fault : Fault) (old new : Devices) : Type 0 where
   pub kept : new ≡ old
   pub which : AreNotTaken words fault ⊎ (IsUnread words fault ⊎ (fault ≡ out_of_memory))
@@ -191,7 +225,16 @@ abbrev pub EndsInFault : (A : Type 0) → List (List ℕ) → Fault → Devices 
 EndsInFault A words fault old new = IsEarly words fault old new ⊎ IsDoneInPart A words fault old new
 
 -- the program stopped with this status
-pub record EndsWith (A : Type 0) (words : List (List ℕ)) (status : ℕ) (old new : Devices) : Type 0 where
+pub record EndsWith (A : Type 0) (words : List (List ℕ)) (status : ℕ)
+    (old new : Devices) : Type 0 where
   pub fault : Fault
   pub status_is : status ≡ status_of fault
   pub stopped : EndsInFault A words fault old new
+
+-- what a run of the program leaves by its status: with 0 it did what its words say; with another it
+-- stopped with a fault; and with 2, for its words, no device was touched
+pub record IsRunOf (A : Type 0) (words : List (List ℕ)) (status : ℕ)
+    (old new : Devices) : Type 0 where
+  pub done : status ≡ 0 → IsDone A words old new
+  pub stopped : status ≢ 0 → EndsWith A words status old new
+  pub untouched : status ≡ 2 → new ≡ old

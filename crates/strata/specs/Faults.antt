@@ -4,8 +4,8 @@ use Rattle.romfs_format.specs.declared.rule.Profile.{Profile}
 use Rattle.romfs_format.specs.declared.rule.ImageFault.{ImageFault}
 use Rattle.romfs_format.specs.Fields.{image}
 use Rattle.romfs_format.specs.Rules.{IsFaultAs, IsSoundAs}
-use Rattle.serve_core.specs.declared.stop.Stop.{Stop}
-use Rattle.serve_core.specs.declared.stop.Stop.TheVariants as stops
+use Rattle.serve_loop.specs.declared.stop.Stop.{Stop}
+use Rattle.serve_loop.specs.declared.stop.Stop.TheVariants as stops
 use Rattle.command_line.specs.declared.options.LineFault.{LineFault}
 use Rattle.command_line.specs.declared.options.LineFault.TheVariants as line
 use Rattle.path_list.specs.declared.walk.ListFault.{ListFault}
@@ -59,7 +59,8 @@ IsUnread first count fault =
 -- the bytes of this image break a rule of the profile, or memory ran out
 abbrev pub IsImageFault : Profile → ℕ → List ℕ → Fault → Type 0
 IsImageFault profile n b fault =
-    ((f : ImageFault) × (fault ≡ Broken n f) × IsFaultAs profile b f.rule f.place) ⊎ (fault ≡ out_of_memory)
+    ((f : ImageFault) × (fault ≡ Broken n f) × IsFaultAs profile b f.rule f.place)
+    ⊎ (fault ≡ out_of_memory)
 
 -- these images all keep the rules of the profile, and these are their sizes
 pub record AreSizes (profile : Profile) (images : List (List ℕ)) (sizes : List ℕ) : Type 0 where
@@ -67,7 +68,8 @@ pub record AreSizes (profile : Profile) (images : List (List ℕ)) (sizes : List
   pub sizes_are : sizes ≡ map (λ b. length (image b)) images
 
 -- the images before this one are good, and why it was refused
-pub record IsFirstRefused (profile : Profile) (images : List (List ℕ)) (fault : Fault) : Type 0 where
+pub record IsFirstRefused (profile : Profile) (images : List (List ℕ))
+    (fault : Fault) : Type 0 where
   pub before : List (List ℕ)
   pub after : List (List ℕ)
   pub bytes : List ℕ

@@ -3,8 +3,8 @@ use Rattle.std.specs.Prelude.{ℕ, ◌+◌, ◌-◌, ℤ, List, [], ◌∷◌, �
 use Rattle.std.specs.Fmt.{decimal, digits, signed_decimal}
 use Rattle.romfs_format.specs.declared.rule.ImageFault.{ImageFault}
 use Rattle.romfs_format.specs.Texts.{text_of}
-use Rattle.serve_core.specs.declared.stop.Stop.{Stop}
-use Rattle.serve_core.specs.declared.stop.Stop.TheVariants.{Layer, Layers, BadLength, CutOff, Read, Write, Turns, Memory}
+use Rattle.serve_loop.specs.declared.stop.Stop.{Stop}
+use Rattle.serve_loop.specs.declared.stop.Stop.TheVariants.{Layer, Layers, BadLength, CutOff, Read, Write, Turns, Memory}
 use Rattle.strata.specs.declared.faults.Fault.{Fault}
 use Rattle.strata.specs.declared.faults.Fault.TheVariants.{Usage, ImageFile, RequestsFile, RepliesFile, BalancesFile, Broken, Stopped}
 
@@ -15,13 +15,15 @@ place_text place = replicate (8 - length (digits 16 false place)) 48 ++ digits 1
 -- the line of an image that breaks a rule, by its number, without its end
 abbrev pub broken_text : ℕ → ImageFault → List ℕ
 broken_text image fault =
-    codes "layer " ++ (decimal image ++ (codes " at " ++ (place_text fault.place ++ (codes ": " ++ text_of fault.rule))))
+    codes "layer " ++ (decimal image
+    ++ (codes " at " ++ (place_text fault.place ++ (codes ": " ++ text_of fault.rule))))
 
 -- the line that says why serving stopped, without its end
 abbrev pub stop_text : Stop → List ℕ
 stop_text (Layer layer fault) = broken_text layer fault
 stop_text (Layers count) = codes "layers: " ++ (decimal count ++ codes ", allowed 1 to 128")
-stop_text (BadLength at len) = codes "request at " ++ (decimal at ++ (codes ": bad length " ++ decimal len))
+stop_text (BadLength at len) =
+    codes "request at " ++ (decimal at ++ (codes ": bad length " ++ decimal len))
 stop_text (CutOff at) = codes "request at " ++ (decimal at ++ codes ": cut off")
 stop_text Read = codes "read fault"
 stop_text Write = codes "write fault"
@@ -40,7 +42,8 @@ fault_text (Stopped stop) = stop_text stop
 
 -- the line of an image that was checked, by its number and its size in bytes
 abbrev pub size_line : ℕ → ℕ → List ℕ
-size_line layer size = codes "layer " ++ (decimal layer ++ (codes ": " ++ (decimal size ++ codes " bytes\n")))
+size_line layer size =
+    codes "layer " ++ (decimal layer ++ (codes ": " ++ (decimal size ++ codes " bytes\n")))
 
 -- the lines of images that were checked, numbered from this one on
 unfoldable pub size_lines : ℕ → List ℕ → List ℕ
@@ -54,4 +57,5 @@ balance_line node balance = decimal node ++ (codes " " ++ (signed_decimal balanc
 -- the lines of balances, of nodes numbered from this one on
 unfoldable pub balance_lines : ℕ → List ℤ → List ℕ
 balance_lines node [] = []
-balance_lines node (balance ∷ balances) = balance_line node balance ++ balance_lines (node + 1) balances
+balance_lines node (balance ∷ balances) =
+    balance_line node balance ++ balance_lines (node + 1) balances

@@ -1,11 +1,8 @@
 //! The balances of the nodes, as lines of a file.
 
 ghost use Rattle.std.specs.Prelude.{◌≡◌, ◌<◌, ◌^◌, ◌⊎◌, is_some, true, string_bytes, IfOk, IfErr, OnOk};
-ghost use Rattle.std.specs.Io.KnownBytes.{Appends};
-ghost use Rattle.devices.specs.Pushing.{HasFlushed};
-ghost use Rattle.devices.specs.States.{sink_state};
 ghost use Rattle.strata.specs.Faults.{out_of_memory, write_failed};
-ghost use Rattle.strata.specs.Ending.{AreNotPut};
+ghost use Rattle.strata.specs.Ending.{ArePut, AreNotPut};
 ghost use Rattle.strata.specs.Texts.{balance_lines};
 
 use crate::faults::Fault;
@@ -14,7 +11,8 @@ use devices::{Sink, Spout};
 use std::alloc::{AllocError, Allocator};
 use std::io::Write;
 
-/// Writes a line for each balance to the file, if there is one: `<number> <balance>`, in the order of the nodes.
+/// Writes a line for each balance to the file, if there is one: `<number> <balance>`, in the order
+/// of the nodes.
 pub fn tell_balances<F: Write + Drop, A: Allocator>(
     alloc: A,
     file: Option<F>,
@@ -35,14 +33,10 @@ fn put_balances<K: Sink, A: Allocator>(
     sink: &mut K,
     balances: &[i128],
 ) -> Result<(), Fault>
-    requires { (K.counts sink.old).failures < 2 ^ 63 }
-    ensures ok { OnOk result (Appends (K.held sink.old) (K.held sink.new)
-        (balance_lines 1 balances.now)) }
-    ensures flushed { OnOk result (HasFlushed (balance_lines 1 balances.now)
-        (K.counts sink.old) (K.counts sink.new)) }
-    ensures err { IfErr result (AreNotPut
-        (sink_state (K.held sink.old) (K.counts sink.old))
-        (sink_state (K.held sink.new) (K.counts sink.new))) }
+    requires { (K.state sink.old).counts.failures < 2 ^ 63 }
+    ensures ok { OnOk result (ArePut (balance_lines 1 balances.now)
+        (K.state sink.old) (K.state sink.new)) }
+    ensures err { IfErr result (AreNotPut (K.state sink.old) (K.state sink.new)) }
 {
     let lines = lines_of(alloc, balances)?;
     put_lines(sink, lines.as_bytes())

@@ -1,7 +1,6 @@
 //! The command `check`.
 
 ghost use Rattle.std.specs.Prelude.{◌≡◌, ◌<◌, ◌^◌, length, string_bytes, OnOk, IfOk, IfErr};
-ghost use Rattle.devices.specs.States.{sink_state};
 ghost use Rattle.romfs_format.specs.Fields.{image};
 ghost use Rattle.romfs_format.specs.Rules.{IsSoundAs};
 ghost use Rattle.serve_core.specs.Preparing.{contents_of};
@@ -12,8 +11,7 @@ ghost use Rattle.strata.specs.Ending.{AreGood, AreNotGood};
 use crate::faults::Fault;
 use crate::streams::put_lines;
 use devices::Sink;
-use romfs_format::Profile;
-use romfs_image::{CheckFault, Image};
+use romfs_image::{CheckFault, Image, Profile};
 use serve_core::Stop;
 use std::alloc::{AllocError, Allocator};
 use std::io::Write;
@@ -25,13 +23,11 @@ pub fn check<A: Allocator + Copy, K: Sink>(
     profile: Profile,
     output: &mut K,
 ) -> Result<(), Fault>
-    requires { (K.counts output.old).failures < 2 ^ 63 }
+    requires { (K.state output.old).counts.failures < 2 ^ 63 }
     ensures done { OnOk result (AreGood profile (contents_of images)
-        (sink_state (K.held output.old) (K.counts output.old))
-        (sink_state (K.held output.new) (K.counts output.new))) }
+        (K.state output.old) (K.state output.new)) }
     ensures stopped { IfErr result (λ fault. AreNotGood profile (contents_of images) fault
-        (sink_state (K.held output.old) (K.counts output.old))
-        (sink_state (K.held output.new) (K.counts output.new))) }
+        (K.state output.old) (K.state output.new)) }
 {
     let sizes = checked_sizes(alloc, images, profile)?;
     let lines = lines_of(alloc, sizes.as_slice())?;
@@ -49,7 +45,8 @@ fn lines_of<A: Allocator>(alloc: A, sizes: &[u32]) -> Result<String<A>, AllocErr
     Ok(lines)
 }
 
-// How many bytes of each image are accessible, if all are good. Else it names the fault of the first that is not.
+// How many bytes of each image are accessible, if all are good. Else it names the fault of the
+// first that is not.
 fn checked_sizes<A: Allocator + Copy>(
     alloc: A,
     images: Vec<Vec<u8, A>, A>,

@@ -28,8 +28,8 @@ pub enum Fault {
     BalancesFile,
     /// This image, counted from 0, breaks a rule, as a check of images by themselves has found.
     Broken { image: u64, fault: ImageFault },
-    /// A stream was not served to its end, the images could not be stacked, a write of the program's own lines failed,
-    /// or memory ran out.
+    /// A stream was not served to its end, the images could not be stacked, a write of the
+    /// program's own lines failed, or memory ran out.
     Stopped(Stop),
 }
 

@@ -15,11 +15,12 @@ use std::thread::{Threads, join};
 /// How many times a list is cut into halves that are read at the same time.
 const FORKS: u32 = 2;
 
-/// A list of fewer files is read by its caller alone: to start a thread takes about as long as to read a small file.
+/// A list of fewer files is read by its caller alone: to start a thread takes about as long as to
+/// read a small file.
 const MANY: usize = 8;
 
-/// The bytes of the images at these paths. Of a long list at most four parts are read at the same time; of several
-/// files that cannot be read the lowest is told.
+/// The bytes of the images at these paths. Of a long list at most four parts are read at the same
+/// time; of several files that cannot be read the lowest is told.
 pub fn read_images<R: Files + Threads + Sync, A: Allocator + Copy + Send + Sync>(
     rt: &R,
     alloc: A,
@@ -35,8 +36,8 @@ where
     read_from(rt, alloc, 0, paths, FORKS)
 }
 
-/// The bytes of a run of images, of which the lowest has the number `first`: of its halves at the same time, each of
-/// which is cut so once less, or of one after another.
+/// The bytes of a run of images, of which the lowest has the number `first`: of its halves at the
+/// same time, each of which is cut so once less, or of one after another.
 #[cycle(halves)]
 fn read_from<R: Files + Threads + Sync, A: Allocator + Copy + Send + Sync>(
     rt: &R,
@@ -79,7 +80,8 @@ where
     Ok(images)
 }
 
-/// The bytes of a run of images, of which the lowest has the number `first`, read from the lowest up.
+/// The bytes of a run of images, of which the lowest has the number `first`, read from the lowest
+/// up.
 fn read_in_turn<R: Files, A: Allocator + Copy>(
     rt: &R,
     alloc: A,

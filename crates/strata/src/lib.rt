@@ -1,22 +1,25 @@
 //! The program `strata`: FUSE requests answered over a stack of romfs images.
 //!
-//! [`command::command`] is the whole program over the words of its command line and its three standard streams. It
-//! stands on `command_line`, which reads the words, on `serve_core`, which checks images, stacks them and serves a
-//! stream of requests over them, and on `path_list`, which writes the paths that a stack shows.
+//! [`command`] is the whole program over the words of its command line and its three standard
+//! streams. It stands on `command_line`, which reads the words, on `serve_core`, which checks
+//! images, stacks them and serves a stream of requests over them, and on `path_list`, which writes
+//! the paths that a stack shows.
 //!
-//! The private parts: `checking`, `listing` and `serving` are the three commands, `balances` writes what a client still
-//! holds, `files` opens the files that a line names, and `streams` reads files and writes lines. [`faults`] has a line and
-//! an exit status for each thing that can go wrong.
+//! The private parts: `checking`, `listing` and `serving` are the three commands, `balances` writes
+//! what a client still holds, `files` opens the files that a line names, and `streams` reads files
+//! and writes lines. [`faults`] has a line and an exit status for each thing that can go wrong.
 #![tactic(auto)]
 
 mod balances;
 mod checking;
-pub mod command;
 pub mod faults;
 mod files;
 pub mod laws;
 mod listing;
+mod program;
 mod serving;
 mod streams;
 
+pub use command_line::{Line, LineFault, line};
 pub use faults::Fault;
+pub use program::command;

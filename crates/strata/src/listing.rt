@@ -1,21 +1,18 @@
 //! The command `list`.
 
 ghost use Rattle.std.specs.Prelude.{◌<◌, ◌^◌, OnOk, IfErr};
-ghost use Rattle.devices.specs.States.{sink_state};
 ghost use Rattle.serve_core.specs.Preparing.{contents_of};
 ghost use Rattle.strata.specs.Ending.{IsStackListed, IsNotListed};
 
 use crate::faults::Fault;
 use devices::Sink;
 use path_list::write_list;
-use romfs_format::Profile;
-use serve_core::prepare_as;
-use stack_core::FreePass;
+use serve_core::{FreePass, Profile, prepare_as};
 use std::alloc::Allocator;
 use std::thread::Threads;
 
-/// Checks the images, stacks them, and puts a line for each path that the stack shows. Where an image is broken nothing
-/// is put.
+/// Checks the images, stacks them, and puts a line for each path that the stack shows. Where an
+/// image is broken nothing is put.
 pub fn list<R: Threads + Sync, A: Allocator + Copy + Send + Sync, K: Sink>(
     rt: &R,
     alloc: A,
@@ -23,13 +20,11 @@ pub fn list<R: Threads + Sync, A: Allocator + Copy + Send + Sync, K: Sink>(
     profile: Profile,
     output: &mut K,
 ) -> Result<(), Fault>
-    requires { (K.counts output.old).failures < 2 ^ 63 }
+    requires { (K.state output.old).counts.failures < 2 ^ 63 }
     ensures done { OnOk result (IsStackListed profile (contents_of images)
-        (sink_state (K.held output.old) (K.counts output.old))
-        (sink_state (K.held output.new) (K.counts output.new))) }
+        (K.state output.old) (K.state output.new)) }
     ensures stopped { IfErr result (λ fault. IsNotListed profile (contents_of images) fault
-        (sink_state (K.held output.old) (K.counts output.old))
-        (sink_state (K.held output.new) (K.counts output.new))) }
+        (K.state output.old) (K.state output.new)) }
 {
     let table = prepare_as(rt, alloc, images, profile, &FreePass)?;
     write_list(alloc, &table, output)?;

@@ -1,11 +1,9 @@
 //! Open files that are read whole, and lines that are put whole.
 
 ghost use Rattle.std.specs.Prelude.{◌≡◌, ◌<◌, ◌^◌, ◌++◌, IfSome, OnOk, IfOk, IfErr};
-ghost use Rattle.std.specs.Io.KnownBytes.{Appends, IsAtEnd};
-ghost use Rattle.devices.specs.Pushing.{HasFlushed};
-ghost use Rattle.devices.specs.States.{sink_state};
+ghost use Rattle.std.specs.Io.KnownBytes.{IsAtEnd};
 ghost use Rattle.strata.specs.declared.streams.ReadFault.TheVariants.{Memory};
-ghost use Rattle.strata.specs.Ending.{IsLost};
+ghost use Rattle.strata.specs.Ending.{ArePut, IsLost};
 
 use crate::faults::Fault;
 use devices::{Sink, hand_on};
@@ -53,12 +51,9 @@ pub fn read_file<F: Read + OpenFile, A: Allocator>(
 
 /// Puts lines to a sink, and flushes it where there are any.
 pub fn put_lines<K: Sink>(sink: &mut K, lines: &[u8]) -> Result<(), Fault>
-    requires { (K.counts sink.old).failures < 2 ^ 63 }
-    ensures ok { OnOk result (Appends (K.held sink.old) (K.held sink.new) lines.now) }
-    ensures flushed { OnOk result (HasFlushed lines.now (K.counts sink.old) (K.counts sink.new)) }
-    ensures err { IfErr result (λ fault. IsLost fault
-        (sink_state (K.held sink.old) (K.counts sink.old))
-        (sink_state (K.held sink.new) (K.counts sink.new))) }
+    requires { (K.state sink.old).counts.failures < 2 ^ 63 }
+    ensures ok { OnOk result (ArePut lines.now (K.state sink.old) (K.state sink.new)) }
+    ensures err { IfErr result (λ fault. IsLost fault (K.state sink.old) (K.state sink.new)) }
 {
     hand_on(sink, lines).map_err(|_| Fault::Stopped(Stop::Write))
 }

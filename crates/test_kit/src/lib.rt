@@ -1,12 +1,15 @@
 //! What the crates of tests share.
 //!
-//! - `refusing`: an allocator that refuses one request for memory, and the refusing of each request of a call in turn.
+//! - `refusing`: an allocator that refuses one request for memory, and the refusing of each request
+//!   of a call in turn.
 //! - `bytes`: bytes as a dump prints them.
 //! - `messages`: requests, and the replies to some of them, as bytes.
 //! - `sample_images`: small images.
+//! - `script`: streams of requests to the sample image, and the replies to one.
 #![tactic(auto)]
 
 pub mod bytes;
 pub mod messages;
 pub mod refusing;
 pub mod sample_images;
+pub mod script;

@@ -1,6 +1,7 @@
 //! An allocator for tests that refuses one request for memory and counts all of them.
 //!
-//! A test runs a call with each of its requests refused in turn, and looks at what the call answers:
+//! A test runs a call with each of its requests refused in turn, and looks at what the call
+//! answers:
 //!
 //! ```text
 //! for refuse_at in 1..=MOST {
@@ -14,21 +15,24 @@
 //!
 //! A `&Refusing<A>` is an allocator that is copied, and threads share it where they may share `A`.
 //!
-//! Proved: each block that is handed out is one of the inner allocator's, `new` keeps what it is given, requests are
-//! numbered from 1, and no count wraps. The count lies in a word that threads share, of which no contract can say what
-//! it holds. So that the request with the given number is refused, and no other, is only tested.
+//! Proved: each block that is handed out is one of the inner allocator's, `new` keeps what it is
+//! given, requests are numbered from 1, and no count wraps. The count lies in a word that threads
+//! share, of which no contract can say what it holds. So that the request with the given number is
+//! refused, and no other, is only tested.
 //!
-//! It stands on the inner allocator's contract and on std's atomic words. The proofs by hand are those of `allocate` and
-//! `deallocate`, since they pass on the ownership of memory.
+//! It stands on the inner allocator's contract and on std's atomic words. The proofs by hand are
+//! those of `allocate` and `deallocate`, since they pass on the ownership of memory.
 ghost use Rattle.std.specs.Prelude.{◌≡◌, ◌≤◌, IfSome, IsTrue, IsFalse, ◌↔◌};
 
 use std::alloc::{AllocError, Allocator, Global};
 use std::sync::atomic::{AtomicU64, Ordering};
 use std::test::Fail;
 
-/// An allocator that passes each request for memory on to an inner one, except for one, which it refuses.
+/// An allocator that passes each request for memory on to an inner one, except for one, which it
+/// refuses.
 ///
-/// A block that grows or shrinks is a request for a new block: where it is refused, the old one stays as it was.
+/// A block that grows or shrinks is a request for a new block: where it is refused, the old one
+/// stays as it was.
 #[derive(Drop)]
 pub struct Refusing<A> {
     inner: A,
@@ -36,8 +40,8 @@ pub struct Refusing<A> {
 }
 
 impl<A> Refusing<A> {
-    /// Refuses the request with the number `refuse_at`, counted from 1 over all threads, or none at 0.
-    /// All others reach `inner`.
+    /// Refuses the request with the number `refuse_at`, counted from 1 over all threads, or none at
+    /// 0. All others reach `inner`.
     pub fn new(inner: A, refuse_at: u64) -> Self
         ensures inner { result.inner ≡ inner }
         ensures refuse_at { result.tally.refuse_at ≡ refuse_at }
@@ -49,7 +53,8 @@ impl<A> Refusing<A> {
     }
 
     /// How many requests came up to now, the refused one and those that failed in `inner` included.
-    /// The count stays at `u64::MAX` once it is there, and requests after that have no number and are never refused.
+    /// The count stays at `u64::MAX` once it is there, and requests after that have no number and
+    /// are never refused.
     pub fn requests(&self) -> u64 {
         self.tally.count()
     }
@@ -138,8 +143,9 @@ impl Tally {
     }
 }
 
-/// Makes a call with the first request for memory refused, then with the second, and so on, until it
-/// makes fewer requests than that. Gives how many it makes. The call is told which one is refused.
+/// Makes a call with the first request for memory refused, then with the second, and so on, until
+/// it makes fewer requests than that. Gives how many it makes. The call is told which one is
+/// refused.
 pub fn refuse_each<F: FnMut(&Refusing<Global>, u64) -> Result<(), Fail>>(
     alloc: Global,
     mut call: F,

@@ -71,9 +71,10 @@ fn items_of<A: Allocator + Copy>(alloc: A, words: &str) -> Result<Vec<Item<A>, A
 
 /// An image with an item for each word, in walk order: a digit for the depth, a sign, and the name.
 ///
-/// The sign is `/` for a directory and `*` for an executable one, `-` for a file of the bytes `hi` and `#` for one of
-/// 5,000 bytes, `@` for a symbolic link to `d/x`, `%` for an executable block device, `$` for a character device, `=`
-/// for a socket and `|` for a fifo; and for a hard link a digit, the index of the word that it leads to.
+/// The sign is `/` for a directory and `*` for an executable one, `-` for a file of the bytes `hi`
+/// and `#` for one of 5,000 bytes, `@` for a symbolic link to `d/x`, `%` for an executable block
+/// device, `$` for a character device, `=` for a socket and `|` for a fifo; and for a hard link a
+/// digit, the index of the word that it leads to.
 pub fn image<A: Allocator + Copy>(
     alloc: A,
     volume: &[u8],
@@ -83,15 +84,16 @@ pub fn image<A: Allocator + Copy>(
     build(alloc, volume, &items)
 }
 
-/// `big` of 5,000 bytes, an executable directory `d` with a file `x`, a link `l` to `d/x`, and the device `null`.
+/// `big` of 5,000 bytes, an executable directory `d` with a file `x`, a link `l` to `d/x`, and the
+/// device `null`.
 pub const SAMPLE: &str = "1#big 1*d 2-x 1@l 1$null";
 
 pub fn sample<A: Allocator + Copy>(alloc: A) -> Result<Vec<u8, A>, BuildFault> {
     image(alloc, b"v", SAMPLE)
 }
 
-/// An image with hard links `a`, to the later `d/e`, and `d/h`, to `a`; an executable device `b`; and
-/// a directory in a directory, `d/f`, that holds `g`.
+/// An image with hard links `a`, to the later `d/e`, and `d/h`, to `a`; an executable device `b`;
+/// and a directory in a directory, `d/f`, that holds `g`.
 pub fn mixed(alloc: Global) -> Result<Vec<u8>, BuildFault> {
     image(alloc, b"v", "13a 1%b 1/d 2|e 2/f 3=g 20h")
 }

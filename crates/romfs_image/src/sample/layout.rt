@@ -133,8 +133,8 @@ impl<A: Allocator + Copy> Layout<A> {
         Ok(())
     }
 
-    /// Finds what comes after each item in its directory, and each directory's first member. It goes
-    /// backwards, and keeps for each depth the header that was met last in the open directory.
+    /// Finds what comes after each item in its directory, and each directory's first member. It
+    /// goes backwards, and keeps for each depth the header that was met last in the open directory.
     fn chain(&mut self, alloc: A, items: &[Item<A>]) -> Result<(), AllocError> {
         let mut later = Vec::new(alloc);
         for (spot, item) in self.spots.iter_mut().zip(items).rev() {
@@ -160,8 +160,8 @@ impl<A: Allocator> Layout<A> {
     }
 }
 
-/// Where the next header stands after the one at `at` with this name and data. A volume header is as
-/// long as a header with its name.
+/// Where the next header stands after the one at `at` with this name and data. A volume header is
+/// as long as a header with its name.
 fn after(at: u32, name: &[u8], body: &[u8]) -> Result<u32, BuildFault>
     ensures ok { IfOk result (λ next. next ≡ data_at at name.now + padded (length body.now)) }
     ensures err { IfErr result (λ fault. (fault ≡ BuildFault.Size)

@@ -6,8 +6,7 @@ use Rattle.devices.proofs.push.push_all.Given as goal
 abbrev pub invariant-loop-rest : goal.invariant-loop-rest
 invariant-loop-rest g l =
     (done : List ℕ)
-    × IsUnderWay l.initial.rest l.rest done (g.K.Sink.held l.initial.sink) (g.K.Sink.held l.sink)
-    (g.K.Sink.counts l.initial.sink) (g.K.Sink.counts l.sink)
+    × IsUnderWay l.initial.rest l.rest done (g.K.Sink.state l.initial.sink) (g.K.Sink.state l.sink)
 
 abbrev pub decreases-loop-rest : goal.decreases-loop-rest
 decreases-loop-rest g l = length l.rest

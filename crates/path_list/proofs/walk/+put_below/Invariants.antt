@@ -10,7 +10,7 @@ decreases-put_below g l = length (below l.table.now.entries (way l.trail))
 -- the lines of the children so far, each with those below it, no failure, and no byte more that waits for a flush
 abbrev pub invariant-loop-row : goal.invariant-loop-row
 invariant-loop-row g l =
-    Gains (g.K.Sink.held l.fn.sink) l.fn.room.items (g.K.Sink.held l.sink) l.room.items
+    Gains (g.K.Sink.state l.fn.sink) l.fn.room.items (g.K.Sink.state l.sink) l.room.items
     (flat_map (piece_at l.table (way l.trail)) (take l.row-index l.row-items))
-    × ((g.K.Sink.counts l.sink).failures ≡ (g.K.Sink.counts l.fn.sink).failures)
-    × ((g.K.Sink.counts l.sink).unflushed ≤ (g.K.Sink.counts l.fn.sink).unflushed)
+    × ((g.K.Sink.state l.sink).counts.failures ≡ (g.K.Sink.state l.fn.sink).counts.failures)
+    × ((g.K.Sink.state l.sink).counts.unflushed ≤ (g.K.Sink.state l.fn.sink).counts.unflushed)

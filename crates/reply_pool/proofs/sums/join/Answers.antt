@@ -1,17 +1,28 @@
-use Rattle.std.proofs.Common.{◌≡◌, ◌<◌, List, pos, take, subst, ap, arith, take_all, sym, ◌∙◌, get_or}
+use Rattle.std.proofs.Common.{◌≡◌, ◌<◌, List, unsigned_abs, pos, take, subst, ap, arith, take_all, sym, ◌∙◌, get_or}
 use Rattle.std.specs.Vec.{vec_items}
 use Rattle.reply_model.specs.declared.moves.Move.{Move}
 use Rattle.reply_pool.specs.Sums.{PutsSum}
-use Rattle.reply_pool.proofs.Summing.{IsJoined, all_joined, move_added, next_begun, nothing}
+use Rattle.reply_pool.proofs.Summing.{IsJoined, all_joined, move_added, next_begun, nothing, fits_both, sums_light, weight_within}
 use Rattle.reply_pool.proofs.sums.join.Goals as goal
 use Rattle.reply_pool.proofs.sums.join.Goals.{then-m-sum+in_ok-put, else-m-sum}
+
+pub plus-requires : goal.plus-requires
+plus-requires g c =
+    let xs = c.args.moves.now in
+    let i = c.loop-m.m-index in
+    let within = weight_within xs i c.loop-m-test.true in
+    let was = c.loop-m.invariant.joined.light in
+    let light = c.requires.light in
+    fits_both c.if-m-sum.sum.amount (get_or xs i nothing).amount (elim c.if-m-sum.branch [
+      | then-m-sum+in_ok-put w ↦ (let zero = ap (λ (m : Move). unsigned_abs m.amount) w.sum-is in omega arith)
+      | else-m-sum w ↦ (let same = ap (λ (m : Move). unsigned_abs m.amount) w.sum-is in omega arith)
+    ])
 
 pub loop-m-preserved : goal.loop-m-preserved
 loop-m-preserved g c =
     let xs = c.args.moves.now in
     let i = c.loop-m.m-index in
     let there = c.loop-m-test.true in
-    let small = c.requires.small i nothing there in
     let was = c.loop-m.invariant in
     elim c.if-m-sum.branch [
       | then-m-sum+in_ok-put w ↦
@@ -25,7 +36,7 @@ loop-m-preserved g c =
           w.in_ok-put.ensures in
           let begun = next_begun (take i xs) c.loop-m.sums.items c.if-m-sum.sums.items c.loop-m.sum c.if-m-sum.sum was.joined put higher zero in
           record {
-            joined = move_added xs c.if-m-sum.sums.items i c.if-m-sum.sum c.plus.result there c.requires.few small begun (sym own) c.plus.ensures;
+            joined = move_added xs c.if-m-sum.sums.items i c.if-m-sum.sum c.plus.result there c.requires.light begun (sym own) c.plus.ensures;
             above = λ k le lt. (let s = c.requires.sorted i k nothing (omega arith) lt in omega arith);
           })
       | else-m-sum w ↦
@@ -35,15 +46,23 @@ loop-m-preserved g c =
           (subst (λ (ys : List Move). IsJoined (take i xs) ys c.loop-m.sum) (sym (ap vec_items w.sums-is))
           was.joined) in
           record {
-            joined = move_added xs c.if-m-sum.sums.items i c.if-m-sum.sum c.plus.result there c.requires.few small joined (same ∙ sym own) c.plus.ensures;
+            joined = move_added xs c.if-m-sum.sums.items i c.if-m-sum.sum c.plus.result there c.requires.light joined (same ∙ sym own) c.plus.ensures;
             above = λ k le lt. (let s = was.above k (omega arith) lt in omega arith);
           })
     ]
 
-pub returns : goal.returns
-returns g c =
+pub returns-clause-sums : goal.returns-clause-sums
+returns-clause-sums g c =
     let n = c.loop-m.m-index in
     let xs = c.args.moves.now in
     let all : take n xs ≡ xs = take_all n xs (omega arith) in
     let joined : IsJoined xs c.loop-m.sums.items c.loop-m.sum = subst (λ ms. IsJoined ms c.loop-m.sums.items c.loop-m.sum) all c.loop-m.invariant.joined in
     all_joined xs c.loop-m.sums.items c.put-2.new.sums.items c.loop-m.sum joined c.in_ok-put-2.ensures
+
+pub returns-clause-light : goal.returns-clause-light
+returns-clause-light g c =
+    let n = c.loop-m.m-index in
+    let xs = c.args.moves.now in
+    let all : take n xs ≡ xs = take_all n xs (omega arith) in
+    let joined : IsJoined xs c.loop-m.sums.items c.loop-m.sum = subst (λ ms. IsJoined ms c.loop-m.sums.items c.loop-m.sum) all c.loop-m.invariant.joined in
+    sums_light xs c.loop-m.sums.items c.put-2.new.sums.items c.loop-m.sum joined c.in_ok-put-2.ensures

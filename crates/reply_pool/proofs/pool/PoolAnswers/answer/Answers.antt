@@ -5,7 +5,7 @@ use Rattle.fuse_wire.specs.Requests.{Asked}
 use Rattle.reply_model.specs.Moves.{moves}
 use Rattle.reply_model.specs.Replies.{reply}
 use Rattle.reply_model.specs.Sessions.{session_after}
-use Rattle.rounds.specs.Moves.{IsMoved}
+use Rattle.lookup_balances.specs.Balances.{IsMoved}
 use Rattle.reply_pool.proofs.Light.{message_light}
 use Rattle.reply_pool.proofs.pool.PoolAnswers.answer.Goals as goal
 

@@ -1,0 +1,49 @@
+//! `fuse_wire` and `fuse_answer`: messages, requests, replies. `draw_board` and `reply_pool`:
+//! batches.
+
+pub use draw_board::{Board, Few, Hand};
+pub use fuse_answer::{Move, Session, after, answer, moves};
+pub use fuse_wire::{
+    Framed, Op, Request, frame, put_attr, put_data, put_dirent, put_direntplus, put_entry,
+    put_error, put_head, put_init, put_open, put_statfs,
+};
+use node_table::Table;
+pub use reply_pool::{Piece, Plan, Rounded, round, work};
+use std::alloc::{AllocError, Allocator};
+
+/// Answers the message at the front of some bytes, if one is whole, and says the session after it.
+pub fn answered<A: Allocator>(
+    table: &Table<A>,
+    session: Session,
+    bytes: &[u8],
+    replies: &mut Vec<u8, A>,
+) -> Result<Session, AllocError> {
+    let Framed::Whole(len) = frame(bytes) else {
+        return Ok(session);
+    };
+    let request = Request::read(&bytes[..len]);
+    answer(table, session, &request, replies)?;
+    Ok(after(session, &request))
+}
+
+/// Appends what a request gives and takes.
+pub fn moved<A: Allocator>(
+    table: &Table<A>,
+    session: Session,
+    request: &Request<'_>,
+    into: &mut Vec<Move, A>,
+) -> Result<(), AllocError> {
+    moves(table, session, request, into)
+}
+
+/// A plan of so many workers, and batches of so many requests.
+pub fn planned(workers: u32, batch: u32) -> Option<Plan> {
+    Plan::new(workers, batch)
+}
+
+/// A board of one number, from which the first hand draws; how many draws there were.
+pub fn drawn<A: Allocator>(alloc: A) -> Result<(Option<u32>, u64), AllocError> {
+    let (board, mut hand) = Board::start(alloc, 1, 1)?;
+    let number = board.draw(&mut hand);
+    Ok((number, board.close(hand)))
+}

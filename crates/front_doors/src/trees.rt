@@ -1,0 +1,63 @@
+//! `layer_tree`, `stack_core` and `node_table`: layers, their stack, and its nodes by number.
+
+ghost use Rattle.std.specs.Prelude.{◌≤◌, length};
+
+pub use layer_tree::{Child, Entry, Place, Tree, lay};
+pub use node_table::{Attr, Node, Row, Table};
+use romfs_image::Image;
+pub use stack_core::{FreePass, Gate, Work, shown, stack};
+use std::alloc::{AllocError, Allocator};
+use std::thread::Threads;
+
+/// The tree of one layer.
+pub fn tree_of<A: Allocator + Copy>(
+    alloc: A,
+    image: &Image<A>,
+    layer: u16,
+) -> Result<Tree<A>, AllocError> {
+    Tree::of(alloc, image, layer)
+}
+
+/// The tree of a list of layers.
+pub fn stacked<R: Threads + Sync, A: Allocator + Copy + Send + Sync>(
+    rt: &R,
+    alloc: A,
+    images: &[Image<A>],
+) -> Result<Tree<A>, AllocError>
+    requires some { 1 ≤ length images.now }
+    requires few { length images.now ≤ 128 }
+{
+    stack(rt, alloc, images, &FreePass)
+}
+
+/// What a tree tells of a path.
+pub fn told<'a, A: Allocator>(
+    tree: &'a Tree<A>,
+    path: &[&[u8]],
+) -> (Option<Entry>, Option<Place>, bool, &'a [Child<A>]) {
+    (
+        tree.entry(path),
+        shown(tree, path),
+        tree.cuts(path),
+        tree.children(path),
+    )
+}
+
+/// What a table tells of a number.
+pub fn numbered<A: Allocator>(
+    table: &Table<A>,
+    number: u64,
+) -> (Option<&Node>, Option<Attr>, Option<u64>, &[Row<A>], &[u8]) {
+    (
+        table.node(number),
+        table.attr(number),
+        table.parent(number),
+        table.rows(number),
+        table.bytes(number),
+    )
+}
+
+/// The child of a number by its name, how many nodes there are, and the blocks of all layers.
+pub fn found<A: Allocator>(table: &Table<A>, number: u64, name: &[u8]) -> (Option<u64>, u64, u64) {
+    (table.child(number, name), table.len(), table.blocks_all())
+}

@@ -1,0 +1,4 @@
+pub mod FirstReply
+pub mod Spouts
+pub mod Taps
+pub mod Troubles

@@ -1,0 +1,31 @@
+-- errno(3), fuse(4): what an error number of /dev/fuse says, where an error has one.
+use Rattle.std.specs.Prelude.{ℕ, ℤ, pos, negsuc, Bool, true, Option, Some, None, Result, Ok, Err, if◌then◌else◌, ◌==◌}
+use Rattle.fuse_device.specs.declared.trouble.Trouble.{Trouble}
+use Rattle.fuse_device.specs.declared.trouble.Trouble.TheVariants.{Again, Gone, Fault}
+
+-- EINTR, EAGAIN and ENOENT are tried again, and ENODEV comes once the mount was taken away
+abbrev pub read_number : ℤ → Trouble
+read_number (pos n) =
+    if n == 2 then Again else (if n == 4 then Again else
+    (if n == 11 then Again else (if n == 19 then Gone else Fault)))
+read_number (negsuc n) = Fault
+
+abbrev pub read_trouble : Option ℤ → Trouble
+read_trouble (Some number) = read_number number
+read_trouble None = Fault
+
+-- at ENOENT nobody waits for a reply, and ENODEV comes once the mount was taken away
+abbrev pub write_number : ℤ → Trouble
+write_number (pos n) = if n == 2 then Gone else (if n == 19 then Gone else Fault)
+write_number (negsuc n) = Fault
+
+abbrev pub write_trouble : Option ℤ → Trouble
+write_trouble (Some number) = write_number number
+write_trouble None = Fault
+
+-- whether a device is gone after a call, by whether it was and what the call came to
+abbrev pub gone_after : Bool → Result ℕ Trouble → Bool
+gone_after gone (Ok n) = gone
+gone_after gone (Err Again) = gone
+gone_after gone (Err Gone) = true
+gone_after gone (Err Fault) = gone

@@ -1,0 +1,119 @@
+//! The sink of replies.
+
+ghost use Rattle.std.specs.Prelude.{◌≡◌, ◌<◌, ◌≤◌, length, false, IfOk, OnOk, IsTrue, MatchOption};
+ghost use Rattle.std.specs.Io.KnownBytes.{WriteAppends};
+ghost use Rattle.devices.specs.Counting.{no_pushes, pushed};
+ghost use Rattle.devices.specs.States.{sink_state};
+ghost use Rattle.fuse_device.specs.FirstReply.{BeginsReply, BeginsNone, IsWithinFirst};
+
+use crate::trouble::{Trouble, note_gone, trouble_of_write};
+use byteorder::{ByteOrder, LittleEndian};
+use devices::{Failed, Pushes, Sink};
+use std::io::Write;
+
+/// A reply's header.
+const HEADER_SIZE: usize = 16;
+
+/// A sink over a writer that takes one whole reply a write.
+///
+/// A push takes the first whole reply of its bytes, by the length in the first four of them, in one
+/// write, and no more. Where the writer takes less of it, the push says how much. Bytes that begin
+/// with no whole reply fail, and so does any error of a write, an interrupted one too: nothing was
+/// taken then. There is no buffer and no copy.
+#[derive(Drop)]
+pub struct ReplySpout<W> {
+    writer: W,
+    gone: bool,
+    counts: Pushes,
+    ghost gone_by_failure: { IsTrue gone → 0 < counts.failures },
+}
+
+impl<W: Write> ReplySpout<W> {
+    ghost use Rattle.fuse_device.specs.Spouts.{spout_gone};
+
+    /// A sink with the bytes that the writer holds, to which nothing was pushed so far.
+    pub fn new(writer: W) -> ReplySpout<W>
+        ensures state { ⟦<ReplySpout<W> as Sink>⟧.state result
+            ≡ sink_state (W.contents writer) no_pushes }
+        ensures there { spout_gone result ≡ false }
+    {
+        ReplySpout {
+            writer,
+            gone: false,
+            counts: Pushes::none(),
+        }
+    }
+
+    /// Whether a push failed since nobody waits for its reply any more, or since the mount was
+    /// taken away: a write answered ENOENT or ENODEV. It stays so.
+    pub fn is_gone(&self) -> bool
+        ensures gone { result ≡ spout_gone self.now }
+        ensures failed { IsTrue result
+            → 0 < (⟦<ReplySpout<W> as Sink>⟧.state self.now).counts.failures }
+    {
+        self.gone
+    }
+}
+
+impl<W: Write> Sink for ReplySpout<W> {
+    ghost use Rattle.fuse_device.specs.Spouts.{spout_gone};
+
+    ghost state = { λ spout. sink_state (W.contents spout.writer) spout.counts };
+
+    fn push(&mut self, bytes: &[u8]) -> Result<usize, Failed>
+        ensures bound { IfOk result (λ n. n ≤ length bytes.now) }
+        ensures bytes { WriteAppends (⟦<ReplySpout<W> as Sink>⟧.state self.old).held
+            (⟦<ReplySpout<W> as Sink>⟧.state self.new).held result bytes.now }
+        ensures counts { (⟦<ReplySpout<W> as Sink>⟧.state self.new).counts
+            ≡ pushed (⟦<ReplySpout<W> as Sink>⟧.state self.old).counts (length bytes.now) result }
+        ensures first { IfOk result (IsWithinFirst bytes.now) }
+        ensures stays { IsTrue (spout_gone self.old) → IsTrue (spout_gone self.new) }
+        ensures there { OnOk result (spout_gone self.new ≡ spout_gone self.old) }
+    {
+        let outcome = write_first(&mut self.writer, bytes);
+        note_gone(&mut self.gone, &outcome);
+        let taken = match outcome {
+            Ok(n) => Ok(n),
+            Err(_) => Err(Failed),
+        };
+        self.counts.note_push(bytes.len(), &taken);
+        taken
+    }
+
+    fn flush(&mut self) -> Result<(), Failed> {
+        let done = match self.writer.flush() {
+            Ok(_) => Ok(()),
+            Err(_) => Err(Failed),
+        };
+        self.counts.note_flush(&done);
+        done
+    }
+}
+
+// Writes the first reply of the bytes, once.
+fn write_first<W: Write>(writer: &mut W, bytes: &[u8]) -> Result<usize, Trouble>
+    ensures first { IfOk result (IsWithinFirst bytes.now) }
+    ensures bytes { WriteAppends (W.contents writer.old) (W.contents writer.new) result bytes.now }
+{
+    match first_reply(bytes) {
+        Some(len) => match writer.write(&bytes[..len]) {
+            Ok(n) => Ok(n),
+            Err(error) => Err(trouble_of_write(&error)),
+        },
+        None => Err(Trouble::Fault),
+    }
+}
+
+// How long the reply is that the bytes begin with, where it is whole.
+fn first_reply(bytes: &[u8]) -> Option<usize>
+    ensures { MatchOption result (BeginsNone bytes.now) (BeginsReply bytes.now) }
+{
+    if bytes.len() < HEADER_SIZE {
+        return None;
+    }
+    let len = LittleEndian::read_u32(bytes) as usize;
+    if len < HEADER_SIZE || bytes.len() < len {
+        return None;
+    }
+    Some(len)
+}

@@ -1,0 +1,103 @@
+-- linux/fuse.h, enum fuse_opcode: the requests about a node, a row each.
+use Rattle.std.specs.Prelude.{ℕ, ◌%◌, List, [], length, map, filter, take, drop, Bool, not, ◌||◌, ◌==◌, nat_lt, Option, Some, None, is_none, pos, if◌then◌else◌}
+use Rattle.std.specs.List.{flat_map}
+use Rattle.std.specs.Option.{option_map_or, option_to_list}
+use Rattle.romfs_format.specs.declared.head.Kind.{Kind}
+use Rattle.romfs_format.specs.declared.head.Kind.TheVariants.{Directory, Regular, SymLink}
+use Rattle.fuse_wire.specs.declared.errno.Errno.{Errno}
+use Rattle.fuse_wire.specs.declared.errno.Errno.TheVariants.{ENOENT, ENOTDIR, EISDIR, EINVAL, EROFS, ENAMETOOLONG}
+use Rattle.fuse_wire.specs.declared.flags.TheConstants.{FOPEN_KEEP_CACHE}
+use Rattle.fuse_wire.specs.declared.limits.TheConstants.{MAX_DATA_SIZE, MAX_NAME_SIZE}
+use Rattle.fuse_wire.specs.Requests.{NodeOp, lookup, getattr, readlink, open_file, read, opendir, readdir, readdirplus}
+use Rattle.fuse_wire.specs.Structures.{entry_out, attr_out, open_out}
+use Rattle.stack_model.specs.Listing.{Entry}
+use Rattle.stack_model.specs.Numbers.{Place, number}
+use Rattle.stack_model.specs.Attributes.{is_directory, data_of}
+use Rattle.reply_model.specs.declared.moves.Move.{Move}
+use Rattle.reply_model.specs.Lookups.{is_itself, looked_up}
+use Rattle.reply_model.specs.Rows.{Row, is_child, reply_attr, is_too_small, rows_after, rows_answered, dirent_of, direntplus_of}
+
+abbrev pub refuse_if : Bool → Errno → Option Errno
+refuse_if wrong errno = if wrong then Some errno else None
+
+-- what refuses a request by the kind of its node
+abbrev pub unless_directory : Kind → Option Errno
+unless_directory k = refuse_if (not (is_directory k)) ENOTDIR
+
+abbrev pub unless_regular : Kind → Option Errno
+unless_regular Regular = None
+unless_regular Directory = Some EISDIR
+unless_regular _ = Some EINVAL
+
+abbrev pub unless_link : Kind → Option Errno
+unless_link SymLink = None
+unless_link _ = Some EINVAL
+
+abbrev pub of_any_kind : Kind → Option Errno
+of_any_kind k = None
+
+-- more bytes than a READ, READDIR or READDIRPLUS may ask for
+abbrev pub is_too_large : ℕ → Bool
+is_too_large size = nat_lt MAX_DATA_SIZE size
+
+-- a size that is too large, or too small for the next row
+abbrev pub refused_rows : (Row → List ℕ) → ℕ → List Row → Option Errno
+refused_rows form size rows = refuse_if (is_too_large size || is_too_small form size rows) EINVAL
+
+-- what is done for a request about a node: it is refused by the node's kind, or by its arguments
+-- there, or else it is answered these bytes and gives these lookups
+pub record Service : Type 0 where
+  pub by_kind : Kind → Option Errno
+  pub by_arguments : Place → Option Errno
+  pub answer : Place → List ℕ
+  pub gives : Place → List Move
+
+-- one whose arguments are never refused, and that gives nothing
+abbrev pub tells : (Kind → Option Errno) → (Place → List ℕ) → Service
+tells by_kind answer =
+    record { by_kind = by_kind; by_arguments = λ p. None; answer = answer; gives = λ p. [] }
+
+module _ (layers : List (List ℕ)) (entries : List Entry) where
+  -- an entry that is answered gives one lookup of its node
+  abbrev pub give : Place → Move
+  give p = record { node = number entries p; amount = pos 1 }
+
+  -- the rows of a directory, in this form
+  abbrev pub lists : (Row → List ℕ) → ℕ → ℕ → Service
+  lists form offset size =
+      let answered = λ (p : Place). flat_map form (rows_answered entries form p offset size) in
+      record (tells unless_directory answered) {
+        by_arguments = λ p. refused_rows form size (rows_after entries p offset);
+      }
+
+  -- each of them. With EXPORT_SUPPORT the name . finds a node of any kind; an access mode other
+  -- than 0 is not O_RDONLY; READDIRPLUS gives the nodes of its rows but . and ..
+  abbrev pub service : Bool → NodeOp → Service
+  service export (lookup name) = record {
+    by_kind = λ k. if is_itself export name then None else unless_directory k;
+    by_arguments = λ p.
+        if nat_lt MAX_NAME_SIZE (length name) then Some ENAMETOOLONG
+        else refuse_if (is_none (looked_up entries export p name)) ENOENT;
+    answer = λ p.
+        option_map_or (λ c. entry_out (reply_attr layers entries c))
+        (looked_up entries export p name) [];
+    gives = λ p. map give (option_to_list (looked_up entries export p name));
+  }
+  service export getattr = tells of_any_kind (λ p. attr_out (reply_attr layers entries p))
+  service export readlink = tells unless_link (λ p. data_of layers p)
+  service export (open_file flags) =
+      record (tells unless_regular (λ p. open_out FOPEN_KEEP_CACHE)) {
+        by_arguments = λ p. refuse_if (not (flags % 4 == 0)) EROFS;
+      }
+  service export (read offset size) =
+      record (tells unless_regular (λ p. take size (drop offset (data_of layers p)))) {
+        by_arguments = λ p. refuse_if (is_too_large size) EINVAL;
+      }
+  service export opendir = tells unless_directory (λ p. open_out 0)
+  service export (readdir offset size) = lists (dirent_of layers entries) offset size
+  service export (readdirplus offset size) =
+      record (lists (direntplus_of layers entries) offset size) {
+        gives = λ p.
+            map (λ r. give r.1.place)
+            (filter is_child (rows_answered entries (direntplus_of layers entries) p offset size));
+      }

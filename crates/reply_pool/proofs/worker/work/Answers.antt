@@ -1,0 +1,74 @@
+use Rattle.std.proofs.Common.{◌≤◌, ◌∙◌, ℕ, ◌^◌, List, [], ◌∷◌, ◌++◌, ap, arith, refl, sym, subst, append-nil, append_assoc}
+use mathlib.Core.Logic.{dite}
+use native.Mathlib.Decide.{ℕ_discrete}
+use Rattle.std.specs.List.{All}
+use Rattle.std.proofs.lemmas.List.Elements.{All-nil, All-push}
+use Rattle.draw_board.specs.Hands.{left, positions, seen_below, total_of}
+use Rattle.lookup_balances.specs.Balances.{weight}
+use Rattle.reply_pool.specs.declared.pieces.Piece.{Piece}
+use Rattle.reply_pool.specs.Batches.{AreLight, IsPiece, numbers_of}
+use Rattle.reply_pool.proofs.Hands.{numbers_miss, piece_of, told_more, unanswered}
+use Rattle.reply_pool.proofs.worker.work.Goals as goal
+
+pub loop-number-init : goal.loop-number-init
+loop-number-init g c = let none = c.new-pieces.ensures.items in record {
+  share = (c.requires.hand, refl);
+  added = [];
+  drawn = sym (append-nil (positions c.args.hand.now));
+  told = ap numbers_of none;
+  answered = subst (All (IsPiece c.args.table.now c.args.jobs.now c.args.size)) (sym none) (All-nil _);
+  light = subst AreLight (sym none) (All-nil _);
+}
+
+pub loop-number-preserved : goal.loop-number-preserved
+loop-number-preserved g c =
+    let inv = c.loop-number.invariant in
+    let d = c.in-Some.ensures in
+    let n = c.in-Some.number in
+    let rounded = c.in_ok-bytes.field-0 in
+    let piece : Piece g.row.B.Denot = record { number = n; bytes = rounded.bytes; moves = rounded.moves } in
+    let more = c.in_ok-push.ensures.items in
+    let Right : Piece g.row.B.Denot → Type 0 = IsPiece c.args.table.now c.args.jobs.now c.args.size in
+    let right : Right piece = piece_of c.args.table.now c.args.jobs.now c.args.size rounded piece c.batch.result.now c.in_ok-bytes.ensures.rounded c.batch.ensures.jobs refl refl in
+    let Small : Piece g.row.B.Denot → Type 0 = λ p. weight p.moves.items ≤ 2 ^ 104 in
+    record {
+      share = (d.hand.0, d.hand.1 ∙ inv.share.1);
+      added = inv.added ++ n ∷ [];
+      drawn = d.number.1 ∙ ap (λ (ps : List ℕ). ps ++ n ∷ []) inv.drawn ∙ append_assoc (positions c.args.hand.now) inv.added (n ∷ []);
+      told = told_more (total_of c.args.board.now) inv.added c.loop-number.pieces.items c.push.new.self.items piece d.number.0 more inv.told;
+      answered = subst (All Right) (sym more) (All-push Right c.loop-number.pieces.items piece inv.answered right);
+      light = subst (All Small) (sym more) (All-push Small c.loop-number.pieces.items piece inv.light c.in_ok-bytes.ensures.light);
+    }
+
+pub returns-in_err-push-clause-hand : goal.returns-in_err-push-clause-hand
+returns-in_err-push-clause-hand g c =
+    let inv = c.loop-number.invariant in
+    let d = c.in-Some.ensures in
+    let n = c.in-Some.number in
+    record {
+      share = (d.hand.0, d.hand.1 ∙ inv.share.1);
+      added = inv.added ++ n ∷ [];
+      kept = d.number.1 ∙ ap (λ (ps : List ℕ). ps ++ n ∷ []) inv.drawn ∙ append_assoc (positions c.args.hand.now) inv.added (n ∷ []);
+    }
+
+pub returns-clause-pieces : goal.returns-clause-pieces
+returns-clause-pieces g c =
+    let inv = c.loop-number.invariant in
+    let total : ℕ = total_of c.args.board.now in
+    let every : total ≤ seen_below c.draw.new.hand = c.in_default.ensures.drawn in
+    dite (ℕ_discrete (left c.loop-number.hand) 0)
+    (λ none. let same = (c.draw.ensures.no_miss none).1 in record {
+      added = inv.added;
+      drawn = ap positions same ∙ inv.drawn;
+      told = inv.told;
+      answered = inv.answered;
+      every = every;
+    })
+    (λ some. let t = c.draw.ensures.step (omega arith) in
+    let miss = unanswered total t.position c.draw.result c.in_default.is t.answered in record {
+      added = inv.added ++ t.position ∷ [];
+      drawn = t.added ∙ ap (λ (ps : List ℕ). ps ++ t.position ∷ []) inv.drawn ∙ append_assoc (positions c.args.hand.now) inv.added (t.position ∷ []);
+      told = inv.told ∙ sym (numbers_miss total t.position inv.added miss);
+      answered = inv.answered;
+      every = every;
+    })

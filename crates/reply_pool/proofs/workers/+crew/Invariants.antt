@@ -1,0 +1,11 @@
+use Rattle.std.proofs.Common.{◌*◌, ◌+◌}
+use Rattle.reply_pool.proofs.workers.+crew.Given as goal
+
+abbrev pub decreases-draw_all : goal.decreases-draw_all
+decreases-draw_all g l = 2 * l.workers
+
+abbrev pub decreases-join+arg2 : goal.decreases-join+arg2
+decreases-join+arg2 g l = 2 * l.low + 1
+
+abbrev pub decreases-join+arg3 : goal.decreases-join+arg3
+decreases-join+arg3 g l = 2 * l.high + 1

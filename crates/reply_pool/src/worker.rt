@@ -1,0 +1,56 @@
+//! One worker.
+
+ghost use Rattle.std.specs.Prelude.{◌≡◌, ◌≤◌, length, IfOk};
+ghost use Rattle.draw_board.specs.Hands.{IsHandOf, total_of};
+ghost use Rattle.reply_pool.specs.Batches.{AreLight, batches};
+ghost use Rattle.reply_pool.specs.Workers.{HasWorked, KeepsHand};
+
+use crate::batches::batch;
+use crate::jobs::{Rounded, answer_jobs};
+use crate::pieces::Piece;
+use draw_board::{Board, Hand};
+use fuse_wire::Request;
+use node_table::Table;
+use reply_model::Session;
+use std::alloc::{AllocError, Allocator};
+use std::thread::Threads;
+use work_gate::{Gate, Work};
+
+/// Draws batches from a board until none is left, and answers those drawn, in that order. The gate
+/// is passed before the first answer of each.
+///
+/// The jobs are requests, each with the session before it: at most 256, in batches of 1 to 256, of
+/// which number k has those from k times `size` on. The board's total is the number of batches.
+/// Threads may share one board, each with a hand of its own. `AllocError` comes only where memory
+/// was refused; what was drawn until then stays the hand's, and no other worker answers it.
+pub fn work<R: Threads + Sync, A: Allocator, B: Allocator + Copy, C: Allocator, G: Gate>(
+    _rt: &R,
+    alloc: B,
+    table: &Table<A>,
+    jobs: &[(Session, Request<'_>)],
+    size: u32,
+    board: &Board<C>,
+    hand: &mut Hand,
+    gate: &G,
+) -> Result<Vec<Piece<B>, B>, AllocError>
+    requires few { length jobs.now ≤ 256 }
+    requires size { (1 ≤ size) × (size ≤ 256) }
+    requires total { total_of board.now ≡ batches size (length jobs.now) }
+    requires hand { IsHandOf board.now hand.old }
+    ensures hand { KeepsHand board.now hand.old hand.new }
+    ensures pieces { IfOk result
+        (λ pieces. HasWorked table.now jobs.now size board.now hand.old hand.new pieces.items) }
+    ensures light { IfOk result (λ pieces. AreLight pieces.items) }
+{
+    let mut pieces = Vec::new(alloc);
+    while let Some(number) = board.draw(hand) {
+        gate.pass(Work::Batch, number);
+        let Rounded { bytes, moves } = answer_jobs(alloc, table, batch(jobs, size, number))?;
+        pieces.push(Piece {
+            number,
+            bytes,
+            moves,
+        })?;
+    }
+    Ok(pieces)
+}

@@ -1,0 +1,141 @@
+//! Rounds of jobs, answered by several workers.
+
+ghost use Rattle.std.specs.Prelude.{◌≡◌, ◌≤◌, length, IfOk};
+ghost use Rattle.std.specs.Thread.{IsSync};
+ghost use denote.Param.Send.{IsSend, Frees};
+ghost use Rattle.draw_board.specs.Hands.{KeepsShare};
+ghost use Rattle.reply_pool.specs.Batches.{AreLight};
+ghost use Rattle.reply_pool.specs.Jobs.{IsRounded};
+ghost use Rattle.reply_pool.specs.Workers.{AreBoth, CanDraw, HasAll};
+
+use crate::batches::count_batches;
+use crate::jobs::Rounded;
+use crate::pieces::{Piece, in_order};
+use crate::plan::Plan;
+use crate::worker::work;
+use draw_board::{Board, Hand};
+use fuse_wire::Request;
+use node_table::Table;
+use reply_model::Session;
+use std::alloc::{AllocError, Allocator};
+use std::thread::{Threads, join};
+use work_gate::Gate;
+
+/// Answers jobs, which are requests, each with the session before it: at most 256 of them.
+///
+/// Batch k holds the jobs from k times the plan's batch on; the gate is passed before its first
+/// answer. As many workers as the plan has, but no more than there are batches, draw the batches as
+/// they come free; a worker that cannot be started is done by its caller. For every plan the result
+/// is the same. `AllocError` comes only where memory was refused, in whichever thread.
+pub fn round<R: Threads + Sync, A: Allocator + Copy + Send + Sync, G: Gate + Sync>(
+    rt: &R,
+    alloc: A,
+    table: &Table<A>,
+    jobs: &[(Session, Request<'_>)],
+    plan: Plan,
+    gate: &G,
+) -> Result<Rounded<A>, AllocError>
+    requires { length jobs.now ≤ 256 }
+    ensures { IfOk result (λ rounded. IsRounded table.now jobs.now rounded) }
+{
+    let size = plan.batch();
+    let total = count_batches(jobs.len(), size);
+    if total == 0 {
+        return Ok(Rounded {
+            bytes: Vec::new(alloc),
+            moves: Vec::new(alloc),
+        });
+    }
+    let workers = plan.workers().min(total);
+    let (board, first) = Board::start(alloc, total, workers)?;
+    let (pieces, hand) = draw_all(rt, alloc, table, jobs, size, &board, first, gate, workers);
+    board.close(hand);
+    in_order(alloc, pieces?)
+}
+
+/// Draws in so many workers at the same time until nothing is left, each with a hand of its own,
+/// and gives their pieces and the hand that all hands were rejoined into.
+#[cycle(crew)]
+fn draw_all<R: Threads + Sync, A: Allocator + Copy + Send + Sync, G: Gate + Sync>(
+    rt: &R,
+    alloc: A,
+    table: &Table<A>,
+    jobs: &[(Session, Request<'_>)],
+    size: u32,
+    board: &Board<A>,
+    mut hand: Hand,
+    gate: &G,
+    workers: u32,
+) -> (Result<Vec<Piece<A>, A>, AllocError>, Hand)
+    requires { CanDraw jobs.now size board.now hand workers }
+    ensures hand { KeepsShare board.now hand result.1 }
+    ensures pieces { IfOk result.0
+        (λ pieces. HasAll table.now jobs.now size board.now result.1 pieces.items) }
+    ensures light { IfOk result.0 (λ pieces. AreLight pieces.items) }
+{
+    if workers <= 1 {
+        return draw_alone(rt, alloc, table, jobs, size, board, hand, gate);
+    }
+    let low = workers / 2;
+    let high = workers - low;
+    let Ok(other) = board.split(&mut hand, high) else {
+        unreachable!()
+    };
+    let (mine, others) = join(
+        rt,
+        move || -> (Result<Vec<Piece<A>, A>, AllocError>, Hand)
+            requires { IsSync R.row × IsSync G.row × IsSync A.row × IsSend A.row
+                × Frees A.Allocator A.dealloc_token × CanDraw jobs.now size board.now hand low }
+            ensures hand { KeepsShare board.entry.now hand result.1 }
+            ensures pieces { IfOk result.0 (λ pieces.
+                HasAll table.entry.now jobs.entry.now size board.entry.now result.1 pieces.items) }
+            ensures light { IfOk result.0 (λ pieces. AreLight pieces.items) }
+        { draw_all(rt, alloc, table, jobs, size, board, hand, gate, low) },
+        move || -> (Result<Vec<Piece<A>, A>, AllocError>, Hand)
+            requires { IsSync R.row × IsSync G.row × IsSync A.row × IsSend A.row
+                × Frees A.Allocator A.dealloc_token × CanDraw jobs.now size board.now other high }
+            ensures hand { KeepsShare board.entry.now other result.1 }
+            ensures pieces { IfOk result.0 (λ pieces.
+                HasAll table.entry.now jobs.entry.now size board.entry.now result.1 pieces.items) }
+            ensures light { IfOk result.0 (λ pieces. AreLight pieces.items) }
+        { draw_all(rt, alloc, table, jobs, size, board, other, gate, high) },
+    );
+    let (pieces, mut hand) = mine;
+    let (more, other) = others;
+    board.rejoin(&mut hand, other);
+    (both(pieces, more), hand)
+}
+
+// One worker, with a hand that has drawn nothing.
+fn draw_alone<R: Threads + Sync, A: Allocator + Copy + Send + Sync, G: Gate + Sync>(
+    rt: &R,
+    alloc: A,
+    table: &Table<A>,
+    jobs: &[(Session, Request<'_>)],
+    size: u32,
+    board: &Board<A>,
+    mut hand: Hand,
+    gate: &G,
+) -> (Result<Vec<Piece<A>, A>, AllocError>, Hand)
+    requires { CanDraw jobs.now size board.now hand 0 }
+    ensures hand { KeepsShare board.now hand result.1 }
+    ensures pieces { IfOk result.0
+        (λ pieces. HasAll table.now jobs.now size board.now result.1 pieces.items) }
+    ensures light { IfOk result.0 (λ pieces. AreLight pieces.items) }
+{
+    let pieces = work(rt, alloc, table, jobs, size, board, &mut hand, gate);
+    (pieces, hand)
+}
+
+// The pieces of two hands, where neither wanted memory.
+fn both<A: Allocator>(
+    pieces: Result<Vec<Piece<A>, A>, AllocError>,
+    more: Result<Vec<Piece<A>, A>, AllocError>,
+) -> Result<Vec<Piece<A>, A>, AllocError>
+    ensures { IfOk result (λ all. AreBoth pieces more all.items) }
+{
+    let mut all = pieces?;
+    let mut rest = more?;
+    all.append(&mut rest)?;
+    Ok(all)
+}

@@ -1,9 +1,0 @@
--- The worked examples, by computation.
-use Rattle.std.proofs.Common.{refl}
-use Rattle.serve_core.specs.Examples.{PullExamples, PushExamples}
-
-pub pulls : PullExamples
-pulls = record { three_and_two = refl; five_at_once = refl; the_end = refl; failure = λ e. refl }
-
-pub pushes : PushExamples
-pushes = record { no_flush = refl; two_pushes = refl; failed_flush = λ e. refl; one_more = refl; all = refl }

@@ -1,0 +1,34 @@
+-- Worked examples: what was got before the last pull, and what was put and has been flushed since.
+use Rattle.std.specs.Prelude.{◌≡◌, [], ◌∷◌, Ok, Err}
+use Rattle.devices.specs.declared.failed.Failed.{Failed}
+use Rattle.devices.specs.declared.counts.Pulls.{Pulls}
+use Rattle.devices.specs.declared.counts.Pushes.{Pushes}
+use Rattle.devices.specs.Counting.{no_pulls, no_pushes, pulled, pushed, flushed}
+use Rattle.serve_loop.specs.Serving.{Trace, trace, before, flushed_bytes}
+
+-- five bytes were got and three put, by a source and a sink with these counts
+abbrev pub some_trace : Pulls → Pushes → Trace
+some_trace source sink =
+    trace (1 ∷ 2 ∷ 3 ∷ 4 ∷ 5 ∷ []) (7 ∷ 8 ∷ 9 ∷ []) no_pulls source no_pushes sink
+
+-- a pull that gave bytes is left out; one that met the end or failed gave none
+pub record PullExamples : Type 0 where
+  pub three_and_two : before (some_trace (pulled (pulled no_pulls (Ok 3)) (Ok 2)) no_pushes) ≡ 1 ∷
+      2 ∷ 3 ∷ []
+  pub five_at_once : before (some_trace (pulled no_pulls (Ok 5)) no_pushes) ≡ []
+  pub the_end : before (some_trace (pulled (pulled no_pulls (Ok 5)) (Ok 0)) no_pushes) ≡ 1 ∷ 2 ∷ 3 ∷
+      4 ∷ 5 ∷ []
+  pub failure : (e : Failed) → before
+      (some_trace (pulled (pulled no_pulls (Ok 5)) (Err e)) no_pushes) ≡ 1 ∷ 2 ∷ 3 ∷ 4 ∷ 5 ∷ []
+
+-- what was pushed since the last flush that succeeded is left out
+pub record PushExamples : Type 0 where
+  pub no_flush : flushed_bytes (some_trace no_pulls (pushed no_pushes 3 (Ok 3))) ≡ []
+  pub two_pushes : flushed_bytes
+      (some_trace no_pulls (pushed (pushed no_pushes 3 (Ok 2)) 1 (Ok 1))) ≡ []
+  pub failed_flush : (e : Failed)
+      → flushed_bytes (some_trace no_pulls (flushed (pushed no_pushes 3 (Ok 3)) (Err e))) ≡ []
+  pub one_more : flushed_bytes (some_trace no_pulls
+      (pushed (flushed (pushed no_pushes 2 (Ok 2)) (Ok tt)) 1 (Ok 1))) ≡ 7 ∷ 8 ∷ []
+  pub all : flushed_bytes (some_trace no_pulls
+      (flushed (pushed (pushed no_pushes 3 (Ok 2)) 1 (Ok 1)) (Ok tt))) ≡ 7 ∷ 8 ∷ 9 ∷ []

@@ -1,0 +1,6 @@
+pub mod Rounds
+pub mod Serving
+pub mod Steps
+pub mod Buffers
+pub mod Laws
+pub mod Examples

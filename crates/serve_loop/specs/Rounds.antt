@@ -1,0 +1,73 @@
+-- A round: some of the first messages of a stream, answered one after another.
+use Rattle.std.specs.Prelude.{◌≡◌, ℕ, ◌<◌, ◌⊎◌, ℤ, List, ◌++◌, length, map, drop}
+use Rattle.std.specs.List.{AllByRecursion, flat_map}
+use Rattle.fuse_wire.specs.Stream.{IsMessage, IsRest}
+use Rattle.fuse_wire.specs.Requests.{Asked, asked}
+use Rattle.reply_model.specs.declared.session.Session.{Session}
+use Rattle.reply_model.specs.Sessions.{session_after}
+use Rattle.reply_model.specs.Streams.{replies_by, session_at}
+use Rattle.serve_loop.specs.declared.round.Round.{Round}
+use Rattle.lookup_balances.specs.Balances.{IsLight, IsMoved}
+use Rattle.reply_model.specs.declared.moves.Move.{Move}
+use Rattle.reply_model.specs.Streams.{moves_by}
+
+-- the bytes of messages one after another
+abbrev pub joined : List (List ℕ) → List ℕ
+joined messages = flat_map (λ m. m) messages
+
+-- what answers requests: the reply to one, and the moves of one, in a session
+pub record Answering : Type 0 where
+  pub reply : Session → Asked → List ℕ
+  pub moved : Session → Asked → List Move
+
+-- the balances as they were and are
+pub record Balances : Type 0 where
+  pub old : List ℤ
+  pub new : List ℤ
+
+-- how balances changed
+abbrev pub change : List ℤ → List ℤ → Balances
+change old new = record { old = old; new = new }
+
+-- one message is answered with these bytes, and leaves this session
+pub record IsAnswered (by : Answering) (s : Session) (m : List ℕ) (after : Session) (put : List ℕ)
+    (b : Balances) : Type 0 where
+  pub session : after ≡ session_after s (asked m).op
+  pub told : put ≡ by.reply s (asked m)
+  pub moves : IsMoved (by.moved s (asked m)) b.old b.new
+  pub light : IsLight (by.moved s (asked m)) (length m)
+
+-- these are the first messages of a stream, with so many bytes
+pub record AreFirst (stream : List ℕ) (messages : List (List ℕ)) (used : ℕ) : Type 0 where
+  pub whole : stream ≡ joined messages ++ drop used stream
+  pub each : AllByRecursion IsMessage messages
+  pub size : used ≡ length (joined messages)
+
+-- these messages are answered with these bytes, and leave this session
+pub record AreAnswered (by : Answering) (s : Session) (messages : List (List ℕ)) (after : Session)
+    (put : List ℕ) (b : Balances) : Type 0 where
+  pub session : after ≡ session_at s (map asked messages)
+  pub told : put ≡ replies_by by.reply s (map asked messages)
+  pub moves : IsMoved (moves_by by.moved s (map asked messages)) b.old b.new
+  pub light : IsLight (moves_by by.moved s (map asked messages)) (length (joined messages))
+
+-- a round answered the first messages of a stream with these bytes: at least one, if one is whole
+pub record IsRound (by : Answering) (s : Session) (stream : List ℕ) (round : Round) (put : List ℕ)
+    (b : Balances) : Type 0 where
+  pub messages : List (List ℕ)
+  pub first : AreFirst stream messages round.used
+  pub count : round.messages ≡ length messages
+  pub answered : AreAnswered by s messages round.session put b
+  pub some : (0 < length messages) ⊎ IsRest (drop round.used stream)
+
+-- the reply to a message was appended to what there was before, and what it moves added to the
+-- balances
+abbrev pub AppendsAnswer : Answering → Session → List ℕ → Session → List ℕ → List ℕ → Balances
+    → Type 0
+AppendsAnswer by s m after old new b =
+    (put : List ℕ) × (new ≡ old ++ put) × IsAnswered by s m after put b
+
+-- the same for the messages of a round
+abbrev pub AppendsRound : Answering → Session → List ℕ → Round → List ℕ → List ℕ → Balances → Type 0
+AppendsRound by s stream round old new b =
+    (put : List ℕ) × (new ≡ old ++ put) × IsRound by s stream round put b

@@ -1,0 +1,174 @@
+-- What serving a stream promises, whatever answers its requests.
+use Rattle.std.specs.Prelude.{◌≡◌, ℕ, ◌+◌, ◌-◌, ◌*◌, ◌<◌, ◌≤◌, ◌^◌, List, [], ◌++◌, length, take, map, ℤ, Option, Some, Result, Ok, Err}
+use Rattle.std.specs.Io.KnownBytes.{Appends, Consumes}
+use Rattle.fuse_wire.specs.declared.limits.TheConstants.{MAX_TURNS, PULL_SIZE}
+use Rattle.fuse_wire.specs.Stream.{IsUnfinished, IsBad, IsOpen, IsSplit}
+use Rattle.fuse_wire.specs.Requests.{asked}
+use Rattle.reply_model.specs.declared.session.Session.TheVariants.{Fresh}
+use Rattle.reply_model.specs.Streams.{replies_by}
+use Rattle.devices.specs.declared.counts.LastPull.{LastPull}
+use Rattle.devices.specs.declared.counts.LastPull.TheVariants.{Bytes, End, Failure}
+use Rattle.devices.specs.declared.counts.Pulls.{Pulls}
+use Rattle.devices.specs.declared.counts.Pushes.{Pushes}
+use Rattle.devices.specs.States.{Devices}
+use Rattle.lookup_balances.specs.Balances.{balance_at}
+use Rattle.reply_model.specs.declared.moves.Move.{Move}
+use Rattle.reply_model.specs.Moves.{balance}
+use Rattle.reply_model.specs.Streams.{moves_by}
+use Rattle.serve_loop.specs.Rounds.{Answering, joined}
+use Rattle.serve_loop.specs.declared.stop.Stop.{Stop}
+use Rattle.serve_loop.specs.declared.stop.Stop.TheVariants.{Layer, Layers, BadLength, CutOff, Read, Write, Turns, Memory}
+use Rattle.serve_loop.specs.declared.done.Done.{Done}
+
+-- no count of the devices can overflow in this many turns
+pub record AreReady (turns : ℕ) (old : Devices) : Type 0 where
+  pub few : turns ≤ MAX_TURNS
+  pub pulls : old.source.counts.pulls < 2 ^ 63
+  pub ends : old.source.counts.ends < 2 ^ 63
+  pub source_failures : old.source.counts.failures < 2 ^ 63
+  pub sink_failures : old.sink.counts.failures < 2 ^ 63
+
+-- what one call did: the bytes taken off the source, those put to the sink, and the counts of both
+-- as they were and are
+pub record Trace : Type 0 where
+  pub got : List ℕ
+  pub put : List ℕ
+  pub source_before : Pulls
+  pub source : Pulls
+  pub sink_before : Pushes
+  pub sink : Pushes
+
+-- the same, of its parts
+abbrev pub trace : List ℕ → List ℕ → Pulls → Pulls → Pushes → Pushes → Trace
+trace got put source_before source sink_before sink = record {
+  got = got;
+  put = put;
+  source_before = source_before;
+  source = source;
+  sink_before = sink_before;
+  sink = sink;
+}
+
+-- a call took bytes off the source and put bytes to the sink, and what it did is so
+abbrev pub Does : (Trace → Type 0) → Devices → Devices → Type 0
+Does is old new =
+    (got : List ℕ) × (put : List ℕ)
+    × Consumes old.source.left new.source.left got
+    × Appends old.sink.held new.sink.held put
+    × is (trace got put old.source.counts new.source.counts old.sink.counts new.sink.counts)
+
+-- all but the last n bytes
+abbrev pub all_but : ℕ → List ℕ → List ℕ
+all_but n bytes = take (length bytes - n) bytes
+
+-- how many bytes a pull gave
+abbrev pub last_size : Option LastPull → ℕ
+last_size (Some (Bytes n)) = n
+last_size _ = 0
+
+-- what was got before the last pull
+abbrev pub before : Trace → List ℕ
+before t = all_but (last_size t.source.last) t.got
+
+-- what was put, and has been flushed since
+abbrev pub flushed_bytes : Trace → List ℕ
+flushed_bytes t = all_but t.sink.unflushed t.put
+
+-- whole begins with part
+pub record Begins (part whole : List ℕ) : Type 0 where
+  pub more : List ℕ
+  pub is : whole ≡ part ++ more
+
+-- the replies to the messages of a stream
+abbrev pub replies_to : Answering → List (List ℕ) → List ℕ
+replies_to by messages = replies_by by.reply Fresh (map asked messages)
+
+-- what the messages of a stream move
+abbrev pub moves_of : Answering → List (List ℕ) → List Move
+moves_of by messages = moves_by by.moved Fresh (map asked messages)
+
+-- all replies were put, and flushed
+pub record IsAllTold (by : Answering) (t : Trace) (messages : List (List ℕ)) : Type 0 where
+  pub put : t.put ≡ replies_to by messages
+  pub flushed_all : flushed_bytes t ≡ t.put
+
+-- each node has what the moves give it, less what they take; node n has the place n - 1
+pub record AreBalances (moves : List Move) (nodes : ℕ) (balances : List ℤ) : Type 0 where
+  pub same : length balances ≡ nodes
+  pub each : (i : ℕ) → i < nodes → balance_at balances i ≡ balance (i + 1) moves
+
+-- the stream was served to its end
+pub record IsServed {A : Type 0} (by : Answering) (nodes : ℕ) (t : Trace) (messages : List (List ℕ))
+    (rest : List ℕ) (done : Done A) : Type 0 where
+  pub ended : t.source.last ≡ Some End
+  pub all_read : rest ≡ []
+  pub told : IsAllTold by t messages
+  pub counted : done.messages ≡ length messages
+  pub written : done.written ≡ length t.put
+  pub balanced : AreBalances (moves_of by messages) nodes done.balances.items
+
+-- why serving stopped, and where
+abbrev pub IsStopped : Answering → ℕ → Trace → List (List ℕ) → List ℕ → Stop → Type 0
+IsStopped by turns t messages rest (BadLength at len) =
+    IsBad rest len × (at ≡ length (joined messages)) × IsAllTold by t messages
+IsStopped by turns t messages rest (CutOff at) =
+    (t.source.last ≡ Some End) × IsUnfinished rest × (at ≡ length (joined messages))
+    × IsAllTold by t messages
+IsStopped by turns t messages rest Read = (t.source.last ≡ Some Failure) × IsAllTold by t messages
+IsStopped by turns t messages rest Turns =
+    (t.source.pulls ≡ t.source_before.pulls + turns) × IsOpen rest × IsAllTold by t messages
+IsStopped by turns t messages rest Write = Unit {0}
+IsStopped by turns t messages rest Memory = Unit {0}
+IsStopped by turns t messages rest (Layer layer fault) = ⊥
+IsStopped by turns t messages rest (Layers count) = ⊥
+
+abbrev pub IsOutcome : {A : Type 0} → Answering → ℕ → ℕ → Trace → List (List ℕ) → List ℕ
+    → Result (Done A) Stop → Type 0
+IsOutcome by nodes turns t messages rest (Ok done) = IsServed by nodes t messages rest done
+IsOutcome by nodes turns t messages rest (Err stop) = IsStopped by turns t messages rest stop
+
+-- how often the source met its end
+abbrev pub ends_met : {A : Type 0} → Result (Done A) Stop → ℕ
+ends_met (Ok done) = 1
+ends_met (Err (CutOff at)) = 1
+ends_met (Err _) = 0
+
+-- how often the source failed
+abbrev pub read_failures : {A : Type 0} → Result (Done A) Stop → ℕ
+read_failures (Err Read) = 1
+read_failures _ = 0
+
+-- how often the sink failed
+abbrev pub write_failures : {A : Type 0} → Result (Done A) Stop → ℕ
+write_failures (Err Write) = 1
+write_failures _ = 0
+
+-- each fault is told where its device met it, and nowhere else; no more pulls than turns, no more
+-- bytes than pulls
+pub record IsCounted {A : Type 0} (turns : ℕ) (t : Trace)
+    (result : Result (Done A) Stop) : Type 0 where
+  pub pulls : t.source.pulls ≤ t.source_before.pulls + turns
+  pub size : length t.got ≤ PULL_SIZE * (t.source.pulls - t.source_before.pulls)
+  pub ends : t.source.ends ≡ t.source_before.ends + ends_met result
+  pub read : t.source.failures ≡ t.source_before.failures + read_failures result
+  pub write : t.sink.failures ≡ t.sink_before.failures + write_failures result
+
+-- all replies to what was got before the last pull were flushed, and no bad length stood in it
+pub record IsPrompt (by : Answering) (t : Trace) : Type 0 where
+  pub messages : List (List ℕ)
+  pub rest : List ℕ
+  pub split : IsSplit (before t) messages rest
+  pub good : IsOpen rest
+  pub told : Begins (replies_to by messages) (flushed_bytes t)
+
+-- a stream was served: what was put is the beginning of the replies, at every end, and all of them
+-- where nothing stood in the way
+pub record IsRun {A : Type 0} (by : Answering) (nodes turns : ℕ) (t : Trace)
+    (result : Result (Done A) Stop) : Type 0 where
+  pub messages : List (List ℕ)
+  pub rest : List ℕ
+  pub split : IsSplit t.got messages rest
+  pub begun : Begins t.put (replies_to by messages)
+  pub end : IsOutcome by nodes turns t messages rest result
+  pub prompt : IsPrompt by t
+  pub counted : IsCounted turns t result

@@ -1,0 +1,113 @@
+-- What the steps of serving a stream do.
+use Rattle.std.specs.Prelude.{◌≡◌, ℕ, ◌+◌, ◌*◌, ◌^◌, ◌<◌, ◌≤◌, Bool, true, false, ℤ, pos, List, [], ◌++◌, length, map, replicate}
+use Rattle.std.specs.List.{AllByRecursion}
+use Rattle.fuse_wire.specs.Stream.{IsMessage, IsRest}
+use Rattle.fuse_wire.specs.Requests.{asked}
+use Rattle.reply_model.specs.declared.session.Session.{Session}
+use Rattle.reply_model.specs.declared.session.Session.TheVariants.{Fresh}
+use Rattle.reply_model.specs.Streams.{replies_by}
+use Rattle.std.specs.Io.KnownBytes.{Appends}
+use Rattle.devices.specs.declared.counts.Pushes.{Pushes}
+use Rattle.devices.specs.Pushing.{HasFlushed}
+use Rattle.devices.specs.States.{SinkState}
+use Rattle.lookup_balances.specs.Balances.{AreWithin}
+use Rattle.serve_loop.specs.Rounds.{Answering, joined, AreAnswered}
+use Rattle.serve_loop.specs.declared.stop.Stop.{Stop}
+use Rattle.serve_loop.specs.declared.stop.Stop.TheVariants.{Write, Memory}
+use Rattle.serve_loop.specs.declared.progress.Progress.{Progress}
+use Rattle.serve_loop.specs.Buffers.{held_in}
+use Rattle.serve_loop.specs.Serving.{Begins}
+
+-- how far a stream is answered: the bytes not answered yet, the session, the place, the counts, the
+-- balances
+pub record ServingState : Type 0 where
+  pub rest : List ℕ
+  pub session : Session
+  pub at : ℕ
+  pub messages : ℕ
+  pub written : ℕ
+  pub balances : List ℤ
+
+abbrev pub serving_state : {A : Type 0} → Progress A → ServingState
+serving_state p = record {
+  rest = held_in p.buffer;
+  session = p.session;
+  at = p.at;
+  messages = p.messages;
+  written = p.written;
+  balances = p.balances.items;
+}
+
+-- nothing is answered yet of a stream to so many nodes
+abbrev pub beginning : ℕ → ServingState
+beginning nodes = record {
+  rest = [];
+  session = Fresh;
+  at = 0;
+  messages = 0;
+  written = 0;
+  balances = replicate nodes (pos 0);
+}
+
+-- the counts stay far below their types' limits: a stream has less than 2^57 bytes
+pub record IsSmall (nodes : ℕ) (v : ServingState) : Type 0 where
+  pub place : v.at + length v.rest ≤ 2 ^ 57
+  pub count : v.messages ≤ v.at
+  pub bytes : v.written ≤ 2 ^ 64 * v.at
+  pub nodes_are : length v.balances ≡ nodes
+  pub balanced : AreWithin (2 ^ 64 * v.at) v.balances
+
+-- these messages were answered with these bytes
+pub record Goes (by : Answering) (from to : ServingState) (messages : List (List ℕ))
+    (put : List ℕ) : Type 0 where
+  pub taken : from.rest ≡ joined messages ++ to.rest
+  pub each : AllByRecursion IsMessage messages
+  pub answered : AreAnswered by from.session messages to.session put
+      (record { old = from.balances; new = to.balances })
+  pub place : to.at ≡ from.at + length (joined messages)
+  pub count : to.messages ≡ from.messages + length messages
+  pub written : to.written ≡ from.written + length put
+
+-- a round takes bytes away, or no message is whole
+abbrev pub GoesOn : Bool → ServingState → ServingState → Type 0
+GoesOn true from to = length to.rest < length from.rest
+GoesOn false from to = IsRest to.rest
+
+-- the sink failed, or memory was refused
+abbrev pub sink_failures : Stop → ℕ
+sink_failures Write = 1
+sink_failures _ = 0
+
+abbrev pub IsHalt : Stop → Type 0
+IsHalt Write = Unit {0}
+IsHalt Memory = Unit {0}
+IsHalt _ = ⊥
+
+-- answering stopped with a part of the replies put
+pub record Halts (by : Answering) (from : ServingState) (before after : Pushes) (stop : Stop)
+    (messages : List (List ℕ)) (put rest : List ℕ) : Type 0 where
+  pub halt : IsHalt stop
+  pub taken : from.rest ≡ joined messages ++ rest
+  pub each : AllByRecursion IsMessage messages
+  pub told : Begins put (replies_by by.reply from.session (map asked messages))
+  pub failures : after.failures ≡ before.failures + sink_failures stop
+  pub late : after.unflushed ≤ before.unflushed + length put
+
+-- one round was answered and its replies handed on, or no message was whole
+abbrev pub Advances : Answering → ServingState → ServingState → SinkState → SinkState → Bool
+    → Type 0
+Advances by from to old new on =
+    (ms : List (List ℕ)) × (put : List ℕ) × Goes by from to ms put × Appends old.held new.held put
+    × HasFlushed put old.counts new.counts × GoesOn on from to
+
+-- all that is whole was answered, and the replies handed on
+abbrev pub AdvancesToRest : Answering → ServingState → ServingState → SinkState → SinkState → Type 0
+AdvancesToRest by from to old new =
+    (ms : List (List ℕ)) × (put : List ℕ) × Goes by from to ms put × Appends old.held new.held put
+    × HasFlushed put old.counts new.counts × IsRest to.rest
+
+-- answering stopped, and the sink took a part of the replies
+abbrev pub StopsShort : Answering → ServingState → SinkState → SinkState → Stop → Type 0
+StopsShort by from old new stop =
+    (ms : List (List ℕ)) × (put : List ℕ) × (rest : List ℕ) × Appends old.held new.held put
+    × Halts by from old.counts new.counts stop ms put rest

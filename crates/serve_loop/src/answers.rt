@@ -1,0 +1,40 @@
+//! One message, whoever answers it.
+
+ghost use Rattle.std.specs.Prelude.{◌≡◌, ◌^◌, ◌++◌, ℕ, List, length, IfOk};
+ghost use Rattle.fuse_wire.specs.Stream.{IsMessage};
+ghost use Rattle.reply_model.specs.declared.session.Session.{Session};
+ghost use Rattle.lookup_balances.specs.Balances.{AreWithin};
+ghost use Rattle.serve_loop.specs.Rounds.{Answering, change, AppendsAnswer};
+
+use reply_model::Session;
+use std::alloc::{AllocError, Allocator};
+
+/// What answers messages one at a time.
+pub trait Answers {
+    ghost answering: { Self → Answering };
+
+    ghost nodes: { Self → ℕ };
+
+    /// How many nodes there are. They are numbered from 1 on.
+    fn nodes(&self) -> u64
+        ensures { result ≡ nodes self.now };
+
+    /// Answers the message that has this number in its round, from 0 on, and says the session after
+    /// it. Appends the reply, and adds what the message moves to the balances, in which node n has
+    /// the place n - 1.
+    ///
+    /// Where memory is refused, the replies and the balances may hold a part of the answer.
+    fn answer<A: Allocator>(
+        &self,
+        number: u32,
+        session: Session,
+        message: &[u8],
+        replies: &mut Vec<u8, A>,
+        balances: &mut [i128],
+    ) -> Result<Session, AllocError>
+        requires message { IsMessage message.now }
+        requires nodes { length balances.old ≡ nodes self.now }
+        requires within { AreWithin (2 ^ 123) balances.old }
+        ensures { IfOk result (λ after. AppendsAnswer (answering self.now) session message.now after
+            replies.old.items replies.new.items (change balances.old balances.new)) };
+}

@@ -1,0 +1,131 @@
+//! What was pulled and is not answered yet.
+//!
+//! The bytes stand from `start` up to `end` in a vector that keeps its length, so that no pull
+//! clears memory. They are moved to the front when room is made for a pull, and only then. As the
+//! bytes that are left were all pulled last, or all belong to one message that is not whole, no
+//! byte is moved more than a few times, whatever the pulls' sizes.
+
+ghost use Rattle.std.specs.Prelude.{◌≡◌, ◌+◌, ◌-◌, ◌<◌, ◌≤◌, length, take, drop, [], OnOk, IfOk, MatchResult};
+ghost use Rattle.std.specs.Io.KnownBytes.{Consumes, IsAtEnd, Keeps};
+ghost use Rattle.devices.specs.Counting.{pulled};
+ghost use Rattle.fuse_wire.specs.declared.limits.TheConstants.{PULL_SIZE};
+ghost use Rattle.serve_loop.specs.Buffers.{part, held_in, IsWithinBytes, HasRoom, Fills};
+
+use devices::{Failed, Source};
+use fuse_wire::limits::PULL_SIZE;
+use std::alloc::{AllocError, Allocator};
+
+/// Bytes that were pulled and are not answered yet.
+#[derive(Drop)]
+pub(crate) struct Buffer<A: Allocator> {
+    pub bytes: Vec<u8, A>,
+    pub start: usize,
+    pub end: usize,
+}
+
+impl<A: Allocator> Buffer<A> {
+    // An empty buffer. It takes no memory.
+    pub(crate) fn new(alloc: A) -> Buffer<A>
+        ensures empty { held_in result ≡ [] }
+        ensures range { IsWithinBytes result }
+    {
+        Buffer {
+            bytes: Vec::new(alloc),
+            start: 0,
+            end: 0,
+        }
+    }
+
+    // The bytes that it holds.
+    pub(crate) fn rest(&self) -> &[u8]
+        requires { IsWithinBytes self.now }
+        ensures { result.now ≡ held_in self.now }
+    {
+        &self.bytes[self.start..self.end]
+    }
+
+    // Lets go of the first bytes.
+    pub(crate) fn pass(&mut self, used: usize)
+        requires range { IsWithinBytes self.old }
+        requires used { used ≤ length (held_in self.old) }
+        ensures range { IsWithinBytes self.new }
+        ensures rest { held_in self.new ≡ drop used (held_in self.old) }
+    {
+        self.start += used;
+    }
+
+    // Makes room for a pull behind what it holds, which then stands at the front. Where memory is
+    // refused there is none, and it holds what it held.
+    pub(crate) fn make_room(&mut self) -> Result<(), AllocError>
+        requires { IsWithinBytes self.old }
+        ensures range { IsWithinBytes self.new }
+        ensures rest { held_in self.new ≡ held_in self.old }
+        ensures front { self.new.start ≡ 0 }
+        ensures room { OnOk result (HasRoom self.new) }
+    {
+        if self.start != 0 {
+            to_front(&mut self.bytes, self.start, self.end);
+            self.end -= self.start;
+            self.start = 0;
+        }
+        grow(&mut self.bytes, self.end)
+    }
+
+    // Pulls once into the room behind what it holds.
+    pub(crate) fn pull<S: Source>(&mut self, source: &mut S) -> Result<usize, Failed>
+        requires range { IsWithinBytes self.old }
+        requires room { HasRoom self.old }
+        ensures range { IsWithinBytes self.new }
+        ensures pull { Fills (S.state source.old) (S.state source.new)
+            (held_in self.old) (held_in self.new) result }
+        ensures end { IfOk result (λ n. n ≡ 0 → IsAtEnd (S.state source.new).left) }
+    {
+        match pull_at(source, self.bytes.as_mut_slice(), self.end) {
+            Ok(got) => {
+                self.end += got;
+                Ok(got)
+            }
+            Err(failed) => Err(failed),
+        }
+    }
+}
+
+// Moves the bytes from start up to end to the front.
+fn to_front<A: Allocator>(bytes: &mut Vec<u8, A>, start: usize, end: usize)
+    requires ordered { start ≤ end }
+    requires within { end ≤ length bytes.old.items }
+    ensures same { length bytes.new.items ≡ length bytes.old.items }
+    ensures moved { part bytes.new.items 0 (end - start) ≡ part bytes.old.items start end }
+{
+    bytes.copy_within(start..end, 0);
+}
+
+// Makes the vector long enough for a pull behind the first `filled` bytes, and then for one more.
+fn grow<A: Allocator>(bytes: &mut Vec<u8, A>, filled: usize) -> Result<(), AllocError>
+    requires { filled ≤ length bytes.old.items }
+    ensures same { take filled bytes.new.items ≡ take filled bytes.old.items }
+    ensures within { filled ≤ length bytes.new.items }
+    ensures room { OnOk result (filled + PULL_SIZE ≤ length bytes.new.items) }
+{
+    let len = bytes.len();
+    if len - filled < PULL_SIZE {
+        bytes.reserve_exact(filled + 2 * PULL_SIZE - len)?;
+        bytes.resize(filled + 2 * PULL_SIZE, 0)?;
+    }
+    Ok(())
+}
+
+// Pulls once into the room of one pull that begins at this place.
+fn pull_at<S: Source>(source: &mut S, bytes: &mut [u8], at: usize) -> Result<usize, Failed>
+    requires { at + PULL_SIZE ≤ length bytes.old }
+    ensures front { take at bytes.new ≡ take at bytes.old }
+    ensures same { length bytes.new ≡ length bytes.old }
+    ensures gives { MatchResult result
+        (λ n. (n ≤ PULL_SIZE)
+        × Consumes (S.state source.old).left (S.state source.new).left (take n (drop at bytes.new)))
+        (λ _. Keeps (S.state source.old).left (S.state source.new).left) }
+    ensures counts { (S.state source.new).counts ≡ pulled (S.state source.old).counts result }
+    ensures end { IfOk result (λ n. n ≡ 0 → IsAtEnd (S.state source.new).left) }
+{
+    source.pull(&mut bytes[at..at + PULL_SIZE])
+}

@@ -1,0 +1,15 @@
+//! What a served stream came to.
+
+use std::alloc::Allocator;
+
+/// What a stream came to that was served to its end.
+#[derive(Drop)]
+pub struct Done<A: Allocator> {
+    /// How many messages there were.
+    pub messages: u64,
+    /// How many bytes of replies were written.
+    pub written: u128,
+    /// How many lookups of each node the client still holds; node n at the place n - 1. It may be
+    /// below 0.
+    pub balances: Vec<i128, A>,
+}

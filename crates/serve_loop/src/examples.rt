@@ -1,0 +1,10 @@
+//! Worked examples, by computation.
+
+ghost use Rattle.serve_loop.specs.Examples.{PullExamples, PushExamples};
+
+/// What was got before the last pull, and what of the replies was flushed.
+#[tactic(auto, using(crate::proofs::Worked::pulls, crate::proofs::Worked::pushes))]
+pub fn traces_example()
+    ensures pulls { PullExamples }
+    ensures pushes { PushExamples }
+{}

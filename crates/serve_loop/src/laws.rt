@@ -1,0 +1,55 @@
+//! What a served stream means, end by end: each law follows from what [`crate::run_by`] promises.
+
+ghost use Rattle.std.specs.Prelude.{◌≡◌, ◌↔◌, ◌+◌, ℕ, ℤ, List, Result, Ok, Err};
+ghost use Rattle.reply_model.specs.declared.moves.Move.{Move};
+ghost use Rattle.serve_loop.specs.Rounds.{Answering};
+ghost use Rattle.serve_loop.specs.declared.done.Done.{Done};
+ghost use Rattle.serve_loop.specs.declared.stop.Stop.{Stop};
+ghost use Rattle.serve_loop.specs.declared.stop.Stop.TheVariants.{BadLength, CutOff, Read, Write, Turns};
+ghost use Rattle.serve_loop.specs.Serving.{Trace, AreBalances, IsRun, IsPrompt};
+ghost use Rattle.serve_loop.specs.Laws.{HasServed, HasBadLength, IsCutOff, HasFailed, HasUsedTurns, IsFront};
+
+use std::alloc::Allocator;
+
+/// `Ok`, `BadLength`, `CutOff`, `Read` and `Turns` tell how the stream ended, and all replies are
+/// written and flushed.
+#[tactic(auto, using(crate::proofs::Ends::ends))]
+pub fn ends_are_told<A: Allocator>()
+    ensures served { (by : Answering) (n turns : ℕ) (t : Trace) (done : Done A) →
+        IsRun by n turns t (Ok done) → HasServed by n t done }
+    ensures bad { (by : Answering) (n turns : ℕ) (t : Trace) (at len : ℕ) →
+        IsRun {A = A} by n turns t (Err (BadLength at len)) → HasBadLength by t at len }
+    ensures cut { (by : Answering) (n turns : ℕ) (t : Trace) (at : ℕ) →
+        IsRun {A = A} by n turns t (Err (CutOff at)) → IsCutOff by t at }
+    ensures read { (by : Answering) (n turns : ℕ) (t : Trace) →
+        IsRun {A = A} by n turns t (Err Read) → HasFailed by t }
+    ensures turns { (by : Answering) (n turns : ℕ) (t : Trace) →
+        IsRun {A = A} by n turns t (Err Turns) → HasUsedTurns by turns t }
+{}
+
+/// `Read` comes exactly where the source failed in the call, and `Write` exactly where the sink
+/// did, and each failed once.
+#[tactic(auto, using(crate::proofs::Ends::faults))]
+pub fn faults_are_the_devices<A: Allocator>()
+    ensures read { (by : Answering) (n turns : ℕ) (t : Trace) (r : Result (Done A) Stop) →
+        IsRun by n turns t r →
+        ((r ≡ Err Read) ↔ (t.source.failures ≡ t.source_before.failures + 1)) }
+    ensures write { (by : Answering) (n turns : ℕ) (t : Trace) (r : Result (Done A) Stop) →
+        IsRun by n turns t r → ((r ≡ Err Write) ↔ (t.sink.failures ≡ t.sink_before.failures + 1)) }
+{}
+
+/// At every end what was written is the beginning of the replies, and all replies to what was got
+/// before the last pull were flushed, in which no bad length stood.
+#[tactic(auto, using(crate::proofs::Ends::always))]
+pub fn replies_come_in_order<A: Allocator>()
+    ensures front { (by : Answering) (n turns : ℕ) (t : Trace) (r : Result (Done A) Stop) →
+        IsRun by n turns t r → IsFront by t }
+    ensures prompt { (by : Answering) (n turns : ℕ) (t : Trace) (r : Result (Done A) Stop) →
+        IsRun by n turns t r → IsPrompt by t }
+{}
+
+/// Moves come to one list of balances.
+pub fn balances_are_one()
+    ensures { (moves : List Move) (nodes : ℕ) (xs ys : List ℤ) →
+        AreBalances moves nodes xs → AreBalances moves nodes ys → xs ≡ ys }
+{}

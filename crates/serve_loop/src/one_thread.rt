@@ -1,0 +1,56 @@
+//! Rounds on one thread.
+
+ghost use Rattle.std.specs.Prelude.{◌≡◌, ◌≤◌, ◌^◌, ◌++◌, ℕ, List, length, IfOk};
+ghost use Rattle.lookup_balances.specs.Balances.{AreWithin};
+ghost use Rattle.serve_loop.specs.Rounds.{change, AppendsRound};
+
+use crate::answers::Answers;
+use crate::round::Round;
+use fuse_wire::limits::{ENOUGH_REPLIES, MAX_ROUND_MESSAGES};
+use fuse_wire::{Framed, frame};
+use reply_model::Session;
+use std::alloc::{AllocError, Allocator};
+
+/// Answers the first whole messages of the stream's bytes one after another: all of them, but no
+/// more than 256, and none after the reply with which 262,144 bytes of replies are reached.
+///
+/// Each message is borrowed from the stream; each is looked at once. `AllocError` comes only where
+/// memory was refused.
+pub fn walk<T: Answers, A: Allocator>(
+    answers: &T,
+    stream: &[u8],
+    session: Session,
+    replies: &mut Vec<u8, A>,
+    balances: &mut [i128],
+) -> Result<Round, AllocError>
+    requires nodes { length balances.old ≡ T.nodes answers.now }
+    requires within { AreWithin (2 ^ 122) balances.old }
+    requires short { length stream.now ≤ 2 ^ 57 }
+    ensures { IfOk result (λ round. AppendsRound (T.answering answers.now) session stream.now round
+        replies.old.items replies.new.items (change balances.old balances.new)) }
+{
+    let begun = replies.len();
+    let mut round = Round {
+        used: 0,
+        messages: 0,
+        session,
+    };
+    while round.messages < MAX_ROUND_MESSAGES && replies.len() - begun < ENOUGH_REPLIES {
+        let rest = &stream[round.used..];
+        match frame(rest) {
+            Framed::Whole(len) => {
+                round.session = answers.answer(
+                    round.messages as u32,
+                    round.session,
+                    &rest[..len],
+                    replies,
+                    balances,
+                )?;
+                round.used += len;
+                round.messages += 1;
+            }
+            Framed::More | Framed::Bad(_) => break,
+        }
+    }
+    Ok(round)
+}

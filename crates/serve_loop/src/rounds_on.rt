@@ -1,0 +1,81 @@
+//! Rounds of answers, handed on to the sink.
+
+ghost use Rattle.std.specs.Prelude.{◌<◌, ◌^◌, OnOk, IfOk, IfErr};
+ghost use Rattle.serve_loop.specs.Buffers.{IsWithinBytes};
+ghost use Rattle.serve_loop.specs.Steps.{serving_state, IsSmall, Advances, AdvancesToRest, StopsShort};
+
+use crate::progress::Progress;
+use crate::round::Rounds;
+use crate::stop::Stop;
+use devices::{Sink, hand_on};
+use std::alloc::Allocator;
+use std::thread::Threads;
+
+// Answers one round, and hands its replies on. It is false where no message is whole.
+fn answer_round<R: Threads + Sync, T: Rounds, K: Sink, A: Allocator + Copy + Send + Sync>(
+    rt: &R,
+    alloc: A,
+    answers: &T,
+    progress: &mut Progress<A>,
+    sink: &mut K,
+) -> Result<bool, Stop>
+    requires range { IsWithinBytes progress.old.buffer }
+    requires small { IsSmall (T.nodes answers.now) (serving_state progress.old) }
+    requires counts { (K.state sink.old).counts.failures < 2 ^ 63 }
+    ensures range { OnOk result (IsWithinBytes progress.new.buffer) }
+    ensures small { OnOk result (IsSmall (T.nodes answers.now) (serving_state progress.new)) }
+    ensures ok { IfOk result (Advances (T.answering answers.now) (serving_state progress.old)
+        (serving_state progress.new) (K.state sink.old) (K.state sink.new)) }
+    ensures err { IfErr result (StopsShort (T.answering answers.now) (serving_state progress.old)
+        (K.state sink.old) (K.state sink.new)) }
+{
+    progress.replies.clear();
+    let round = answers.answer_round(
+        rt,
+        alloc,
+        progress.buffer.rest(),
+        progress.session,
+        &mut progress.replies,
+        progress.balances.as_mut_slice(),
+    )?;
+    if round.messages == 0 {
+        return Ok(false);
+    }
+    match hand_on(sink, progress.replies.as_slice()) {
+        Ok(()) => {}
+        Err(_) => return Err(Stop::Write),
+    }
+    progress.buffer.pass(round.used);
+    progress.session = round.session;
+    progress.at += round.used as u64;
+    progress.messages += round.messages as u64;
+    progress.written += progress.replies.len() as u128;
+    Ok(true)
+}
+
+// Answers all that is whole.
+pub(crate) fn answer_all<R: Threads + Sync, T: Rounds, K: Sink, A: Allocator + Copy + Send + Sync>(
+    rt: &R,
+    alloc: A,
+    answers: &T,
+    progress: &mut Progress<A>,
+    sink: &mut K,
+) -> Result<(), Stop>
+    requires range { IsWithinBytes progress.old.buffer }
+    requires small { IsSmall (T.nodes answers.now) (serving_state progress.old) }
+    requires counts { (K.state sink.old).counts.failures < 2 ^ 63 }
+    ensures range { OnOk result (IsWithinBytes progress.new.buffer) }
+    ensures small { OnOk result (IsSmall (T.nodes answers.now) (serving_state progress.new)) }
+    ensures ok { OnOk result (AdvancesToRest (T.answering answers.now) (serving_state progress.old)
+        (serving_state progress.new) (K.state sink.old) (K.state sink.new)) }
+    ensures err { IfErr result (StopsShort (T.answering answers.now) (serving_state progress.old)
+        (K.state sink.old) (K.state sink.new)) }
+{
+    loop {
+        match answer_round(rt, alloc, answers, progress, sink) {
+            Ok(true) => {}
+            Ok(false) => return Ok(()),
+            Err(stop) => return Err(stop),
+        }
+    }
+}

@@ -1,0 +1,89 @@
+//! A stream, served to its end.
+
+ghost use Rattle.std.specs.Prelude.{◌≡◌, Err, MatchOption, OnOk};
+ghost use Rattle.std.specs.Io.KnownBytes.{IsAtEnd};
+ghost use Rattle.devices.specs.States.{devices};
+ghost use Rattle.fuse_wire.specs.Stream.{IsRest, IsBad, IsOpen};
+ghost use Rattle.serve_loop.specs.declared.stop.Stop.TheVariants.{Turns};
+ghost use Rattle.serve_loop.specs.Serving.{AreReady, Does, IsRun};
+
+use crate::done::Done;
+use crate::progress::Progress;
+use crate::round::Rounds;
+use crate::rounds_on::answer_all;
+use crate::stop::Stop;
+use devices::{Sink, Source};
+use fuse_wire::{Framed, frame};
+use std::alloc::Allocator;
+use std::thread::Threads;
+
+/// Serves the source's stream of requests into the sink, in at most `turns` pulls of at most 65,536
+/// bytes each.
+///
+/// - `Ok`: the stream came to its end between two messages, and all replies are written and
+///   flushed.
+/// - `BadLength`, `CutOff`, `Read` and `Turns`: all replies to the whole messages that came are
+///   written and flushed.
+/// - `Write` and `Memory`: some of the first replies are written.
+///
+/// `Read` and `Write` come exactly where the source's or the sink's count of failures rose in this
+/// call. A fault of an image is never told. No pull follows an end, a bad length or a failure, and
+/// no device is called after memory was refused. With no turns it answers `Turns` at once.
+pub fn run_by<R: Threads + Sync, T: Rounds, S: Source, K: Sink, A: Allocator + Copy + Send + Sync>(
+    rt: &R,
+    alloc: A,
+    answers: &T,
+    source: &mut S,
+    sink: &mut K,
+    turns: u64,
+) -> Result<Done<A>, Stop>
+    requires { AreReady turns (devices (S.state source.old) (K.state sink.old)) }
+    ensures run { Does (λ t. IsRun (T.answering answers.now) (T.nodes answers.now) turns t result)
+        (devices (S.state source.old) (K.state sink.old))
+        (devices (S.state source.new) (K.state sink.new)) }
+    ensures end { OnOk result (IsAtEnd (S.state source.new).left) }
+    ensures at_once { turns ≡ 0 → result ≡ Err Turns }
+{
+    if turns == 0 {
+        return Err(Stop::Turns);
+    }
+    let mut progress = Progress::new(alloc, answers.nodes())?;
+    for _turn in 0..turns {
+        progress.buffer.make_room()?;
+        let got = match progress.buffer.pull(source) {
+            Ok(got) => got,
+            Err(_) => return Err(Stop::Read),
+        };
+        if got == 0 {
+            if progress.buffer.rest().is_empty() {
+                return Ok(progress.done());
+            }
+            return Err(Stop::CutOff { at: progress.at });
+        }
+        match answer_all(rt, alloc, answers, &mut progress, sink) {
+            Ok(()) => {}
+            Err(stop) => return Err(stop),
+        }
+        match bad_length(progress.buffer.rest()) {
+            Some(len) => {
+                return Err(Stop::BadLength {
+                    at: progress.at,
+                    len,
+                });
+            }
+            None => {}
+        }
+    }
+    Err(Stop::Turns)
+}
+
+// The length that the next message says, where no message has it, of bytes in which none is whole.
+fn bad_length(rest: &[u8]) -> Option<u32>
+    requires { IsRest rest.now }
+    ensures { MatchOption result (IsOpen rest.now) (λ n. IsBad rest.now n) }
+{
+    match frame(rest) {
+        Framed::Bad(len) => Some(len),
+        _ => None,
+    }
+}

@@ -1,0 +1,10 @@
+//! What workers pass as they begin a piece of work.
+//!
+//! Checks, trees and batches of requests are shared out among threads. Each worker passes a
+//! [`Gate`] with the kind and the number of the piece that it begins, so that a test can hold one
+//! piece until another has begun. [`FreePass`] holds nothing.
+#![tactic(auto)]
+
+mod gate;
+
+pub use gate::{FreePass, Gate, Work};

@@ -1,0 +1,57 @@
+//! An answer, and what it moves: what stood before is as it was.
+
+use crate::jobs::{Job, jobs_of};
+use crate::tables::sample_table;
+use fuse_answer::{answer, moves};
+use node_table::Table;
+use reply_model::Move;
+use std::alloc::{Allocator, Global};
+use std::thread::Threads;
+use test_kit::script::lookups;
+
+/// Bytes that stand before an answer.
+const FRONT: [u8; 5] = [1, 2, 3, 4, 5];
+
+/// A move that stands before others.
+const FIRST: Move = Move { node: 7, amount: 9 };
+
+/// Whether a call went through, and how much it appended.
+pub type Left = (bool, usize);
+
+/// An answer behind the front; none where the front is refused, or isn't as it was.
+fn answered<A: Allocator>(alloc: A, table: &Table<A>, job: &Job<'_>) -> Option<Left> {
+    let mut out = Vec::new(alloc);
+    out.extend_from_slice(&FRONT).ok()?;
+    let told = answer(table, job.0, &job.1, &mut out).is_ok();
+    let appended = out.len().checked_sub(FRONT.len())?;
+    out.starts_with(&FRONT).then_some((told, appended))
+}
+
+/// What a job moves, behind the first move; none where that is refused, or isn't as it was.
+fn moved<A: Allocator>(alloc: A, table: &Table<A>, job: &Job<'_>) -> Option<Left> {
+    let mut out = Vec::new(alloc);
+    out.push(FIRST).ok()?;
+    let told = moves(table, job.0, &job.1, &mut out).is_ok();
+    let appended = out.len().checked_sub(1)?;
+    out.starts_with(&[FIRST]).then_some((told, appended))
+}
+
+/// The same of the request of the lookups with this index. The table stands in memory of `plain`.
+pub fn appended<R: Threads + Sync, A: Allocator + Copy + Send + Sync>(
+    rt: &R,
+    global: Global,
+    plain: A,
+    alloc: A,
+    index: usize,
+    moves: bool,
+) -> Option<Left> {
+    let stream = lookups(global).ok()?;
+    let jobs = jobs_of(global, &stream).ok()?;
+    let job = *jobs.get(index)?;
+    let table = sample_table(rt, plain)?;
+    if moves {
+        moved(alloc, &table, &job)
+    } else {
+        answered(alloc, &table, &job)
+    }
+}

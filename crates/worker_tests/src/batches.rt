@@ -1,0 +1,119 @@
+//! Rounds of jobs by any plan: their replies, the sums of their moves, and the gates that they
+//! pass.
+
+use crate::jobs::jobs_of;
+use crate::tables::sample_table;
+use reply_model::Move;
+use reply_pool::{Plan, Rounded, round};
+use stack_core::{Gate, Work};
+use std::alloc::{AllocError, Allocator, Global};
+use std::sync::atomic::{AtomicU64, Ordering};
+use std::test::Fail;
+use std::thread::Threads;
+use test_kit::script::{lookups, script, script_replies};
+
+const PLANS: [(u32, u32); 6] = [(1, 1), (2, 1), (5, 1), (1, 3), (2, 3), (5, 3)];
+
+/// A gate that counts how often each batch passes it: batch k in the digit k of a hexadecimal
+/// number.
+#[derive(Drop)]
+struct Counts {
+    digits: AtomicU64,
+}
+
+impl Counts {
+    fn new() -> Self {
+        Counts {
+            digits: AtomicU64::new(0),
+        }
+    }
+
+    fn digits(&self) -> u64 {
+        self.digits.load(Ordering::SeqCst)
+    }
+}
+
+impl Gate for Counts {
+    fn pass(&self, work: Work, number: u32) {
+        if work == Work::Batch && number < 16 {
+            self.digits.fetch_add(1 << (4 * number), Ordering::SeqCst);
+        }
+    }
+}
+
+#[derive(Clone, Copy, Debug, PartialEq, Eq)]
+pub enum Jobs {
+    None,
+    Script,
+    Lookups,
+}
+
+fn stream_of(alloc: Global, jobs: Jobs) -> Result<Vec<u8>, AllocError> {
+    match jobs {
+        Jobs::None => Ok(Vec::new(alloc)),
+        Jobs::Script => script(alloc),
+        Jobs::Lookups => lookups(alloc),
+    }
+}
+
+/// What the script of lookups gives and takes: the first FORGET takes more from node 6 than it was
+/// given, and the second is too short to take any.
+fn sums() -> [Move; 5] {
+    [(1, 1), (2, 1), (3, 2), (5, 1), (6, -4)].map(|(node, amount)| Move { node, amount })
+}
+
+/// Whether a round came to the replies to these jobs, and to the sums of their moves. Of lookups
+/// the length is asked.
+fn is_right<A: Allocator>(rounded: &Rounded<A>, jobs: Jobs, replies: &[u8]) -> bool {
+    let bytes = rounded.bytes.as_slice();
+    let moves = rounded.moves.as_slice();
+    match jobs {
+        Jobs::None => bytes.is_empty() && moves.is_empty(),
+        Jobs::Script => bytes == replies && moves.is_empty(),
+        Jobs::Lookups => bytes.len() == 1648 && moves == sums().as_slice(),
+    }
+}
+
+/// Whether a round of jobs comes to what it should, and the batches that pass its gate; over the
+/// table of the sample image, in memory of `plain`.
+pub fn round_of<R: Threads + Sync, A: Allocator + Copy + Send + Sync>(
+    rt: &R,
+    global: Global,
+    plain: A,
+    alloc: A,
+    jobs: Jobs,
+    plan: (u32, u32),
+) -> Option<Result<(bool, u64), AllocError>> {
+    let plan = Plan::new(plan.0, plan.1)?;
+    let counts = Counts::new();
+    let stream = stream_of(global, jobs).ok()?;
+    let replies = script_replies(global).ok()?;
+    let requests = jobs_of(global, &stream).ok()?;
+    let table = sample_table(rt, plain)?;
+    let few = requests.len().min(256);
+    match round(rt, alloc, &table, &requests[..few], plan, &counts) {
+        Ok(rounded) => Some(Ok((is_right(&rounded, jobs, &replies), counts.digits()))),
+        Err(AllocError) => Some(Err(AllocError)),
+    }
+}
+
+#[test]
+fn rounds_by_any_plan(rt: HostRuntime) -> Result<(), Fail> {
+    for jobs in [Jobs::None, Jobs::Script, Jobs::Lookups] {
+        for plan in PLANS {
+            let came_to = round_of(&rt, rt.alloc(), rt.alloc(), rt.alloc(), jobs, plan);
+            let Some(Ok((is_right, digits))) = came_to else {
+                return Err(Fail::new("no round"));
+            };
+            assert!(rt; is_right, "{jobs:?} by {plan:?}");
+            let passed = match (jobs, plan.1) {
+                (Jobs::None, _) => 0,
+                (Jobs::Script, 1) => 0x1111_1111_1111,
+                (Jobs::Lookups, 1) => 0x11_1111_1111,
+                _ => 0x1111,
+            };
+            assert!(rt; digits == passed, "{jobs:?} by {plan:?}");
+        }
+    }
+    Ok(())
+}
