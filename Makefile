@@ -1,9 +1,11 @@
 # make test: the merge gate. It proves every crate from nothing, tries the wrong bodies, and runs all tests and cases.
 # make build: the proved program, as build/strata. make demo: shows it at work.
 # make cases: the cases alone, on build/strata. make plant: sees that the cases notice wrong lines.
-# make trials [CRATES=..]: tries the wrong bodies of trials/, over what make build kept.
+# make mounted [STRATA=PROGRAM]: real mounts, looked at through the kernel; build/strata has no --device yet, so not in make test.
+# make layers: tools/layers.py on layouts made on the spot, and, where umoci stands, on images that umoci makes.
+# make trials [CRATES=..]: tries the wrong bodies of trials/, over what make build kept; docs/trials.txt tells the last runs.
 # make bench, make fuzz: figures, and a comparison with a plain reading of the formats.
-.PHONY: test build demo cases plant trials bench fuzz needed
+.PHONY: test build demo cases layers mounted plant trials bench fuzz needed
 
 PYTHON = python3 -B
 
@@ -12,6 +14,8 @@ test: needed
 	@mkdir -p build
 	@cp crates/strata_main/out/strata_main build/strata
 	$(PYTHON) tools/cases.py build/strata
+	$(PYTHON) tools/layers_test.py build/strata
+	$(PYTHON) tools/layers_umoci.py build/strata
 
 build: build/strata
 
@@ -30,6 +34,10 @@ demo: build/strata
 cases: build/strata
 	$(PYTHON) tools/cases.py build/strata
 
+STRATA = build/strata
+mounted: $(STRATA)
+	$(PYTHON) tools/mounted.py $(STRATA)
+
 plant: build/strata
 	$(PYTHON) tools/plant.py build/strata
 
@@ -41,6 +49,10 @@ bench: build/strata
 
 fuzz: build/strata
 	$(PYTHON) tools/fuzz.py build/strata
+
+layers: build/strata
+	$(PYTHON) tools/layers_test.py build/strata
+	$(PYTHON) tools/layers_umoci.py build/strata
 
 needed:
 	@command -v rt > /dev/null || { echo "strata needs the command rt of the Rattle kit on the path"; exit 1; }

@@ -8,6 +8,7 @@ of its size; where it gives a longer list, at most five times as long for each b
 """
 import multiprocessing
 import os
+import subprocess
 import sys
 import tempfile
 import threading
@@ -15,6 +16,7 @@ import time
 from collections import namedtuple
 
 import bench_inputs as inputs
+import runs
 
 RUNS = 3
 MOST = 5
@@ -23,21 +25,17 @@ Cost = namedtuple("Cost", "seconds memory written line")
 
 def run(words, output, packets):
     """What one run of some words costs; the bytes of a file of packets come through a pipe, one a read."""
-    errors, told = os.pipe()
     source, pipe = os.pipe2(os.O_DIRECT | os.O_CLOEXEC) if packets else (os.open(os.devnull, os.O_RDONLY), None)
-    sink = os.open(output, os.O_WRONLY | os.O_CREAT | os.O_TRUNC, 0o600)
-    dups = [(os.POSIX_SPAWN_DUP2, source, 0), (os.POSIX_SPAWN_DUP2, sink, 1), (os.POSIX_SPAWN_DUP2, told, 2)]
-    child = os.posix_spawnp(words[0], words, os.environ, file_actions=dups)
-    for end in (source, sink, told):
-        os.close(end)
+    with open(output, "wb") as sink:
+        child = subprocess.Popen(words, stdin=source, stdout=sink, stderr=subprocess.PIPE)
+    os.close(source)
     if packets:
         threading.Thread(target=feed, args=(packets, pipe), daemon=True).start()
-    with open(errors, "rb") as lines:
-        line = lines.read().decode().strip()
-    _, status, used = os.wait4(child, 0)
-    if os.waitstatus_to_exitcode(status) not in (0, 3):
-        sys.exit("%s: %s" % (" ".join(words)[:200], line))
-    return Cost(used.ru_utime + used.ru_stime, used.ru_maxrss / 1024, os.path.getsize(output), line)
+    done = runs.ended(child)
+    line = done.errors.decode().strip()
+    if done.status not in (0, 3):
+        sys.exit("%s: %s" % (" ".join(words)[:200], "no end after a minute" if done.status is None else line))
+    return Cost(done.seconds, done.memory, os.path.getsize(output), line)
 
 
 def feed(packets, pipe):

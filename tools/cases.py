@@ -26,7 +26,6 @@ below `for N 0 to 15`, or `for N in 1 2 5`, stand once for each of these values,
 Each run has a folder of its own, with the files that its line names. Whatever is not said must be empty, and each
 run says its status. A name that no run uses, and a line that means nothing, fail.
 """
-import fcntl
 import os
 import resource
 import select
@@ -35,18 +34,12 @@ import struct
 import subprocess
 import sys
 import tempfile
-import termios
-import threading
-import time
 
 import replies
+import runs
 from case_files import Case
 from plain_replies import split
 from text import Words, Wrong, plain_bytes, words_of
-
-SECONDS = 60
-# how long a client waits for a reply
-PATIENCE = 10
 
 
 class Started:
@@ -97,22 +90,6 @@ class Started:
         return self.case.streams.get(names[0], b"") if names else b""
 
 
-def feed(data, pipe, size):
-    """Writes bytes into a pipe, a piece whenever the one before was taken out."""
-    try:
-        for at in range(0, len(data), size):
-            os.write(pipe, data[at:at + size])
-            waited = time.monotonic()
-            while struct.unpack("i", fcntl.ioctl(pipe, termios.FIONREAD, bytes(4)))[0]:
-                if time.monotonic() - waited > SECONDS:
-                    return
-                time.sleep(0)
-    except OSError:
-        pass
-    finally:
-        os.close(pipe)
-
-
 def converse(process, pipe, messages, wanted):
     """Writes these messages one after another, and reads the reply to each that has one among those wanted before the next
     is written; what was read."""
@@ -136,9 +113,9 @@ def converse(process, pipe, messages, wanted):
 
 
 def read_whole(source, size):
-    """So many bytes of a pipe, or fewer where no more come."""
+    """So many bytes of a pipe, or fewer where no more come, at its end or for a minute."""
     data = b""
-    while len(data) < size and select.select([source], [], [], PATIENCE)[0]:
+    while len(data) < size and select.select([source], [], [], runs.MINUTE)[0]:
         part = os.read(source, size - len(data))
         if not part:
             break
@@ -199,14 +176,14 @@ def compared(what, wanted, got, requests=None):
     return told + ["  wanted %s" % (wanted_lines[at:at + 1] or ["nothing"])[0][:300], "  got    %s" % (got_lines[at:at + 1] or ["nothing"])[0][:300]]
 
 
-def judged(run, started, room, ended, position, written):
-    """What is not as it must be after a run that wrote this to its output and to standard error."""
+def judged(run, started, room, ended, position):
+    """What is not as it must be after a run that ended so."""
     told = []
-    if ended != run.status:
-        told.append("status: wanted %d, got %s" % (run.status, ended))
+    if ended.status != run.status:
+        told.append("status: wanted %d, got %s" % (run.status, "no end after a minute" if ended.status is None else ended.status))
     wanted = "".join(line + "\n" for line in run.output).encode() + run.replies.get(None, b"")
-    told += compared("the output", wanted, written[0] or b"", started.given() if None in run.replies else None)
-    faults = (written[1] or b"").decode(errors="replace")
+    told += compared("the output", wanted, ended.output, started.given() if None in run.replies else None)
+    faults = ended.errors.decode(errors="replace")
     if not (faults.startswith(run.faults) if run.more_faults else faults == run.faults):
         told.append("standard error: wanted %r, got %r" % (run.faults, faults[:2000]))
     for name, data in run.replies.items():
@@ -219,7 +196,7 @@ def judged(run, started, room, ended, position, written):
     return told
 
 
-def ended(program, started, run, source, pair, pipe, room):
+def ran(program, started, run, source, pair, pipe, room):
     """How the program ended, and what it wrote."""
     words = [program.encode(), *(plain_bytes(word) for word in started.words)]
     done = subprocess.Popen(words, cwd=room, stdin=source, stdout=pair[0], stderr=pair[1],
@@ -231,13 +208,10 @@ def ended(program, started, run, source, pair, pipe, room):
     if "waits" in started.limits:
         came = converse(done, pipe, split(data)[0], replies_in(run.replies[None]))
     elif pipe is not None:
-        threading.Thread(target=feed, args=(data, pipe, started.limits["fed"]), daemon=True).start()
-    try:
-        written = done.communicate(timeout=SECONDS)
-        return done.returncode, (came + (written[0] or b""), written[1])
-    except subprocess.TimeoutExpired:
-        done.kill()
-        return "no end after %d seconds" % SECONDS, done.communicate()
+        size = started.limits["fed"]
+        runs.feed((data[at:at + size] for at in range(0, len(data), size)), pipe)
+    ended = runs.ended(done)
+    return ended._replace(output=came + ended.output)
 
 
 def tried(program, case, run):
@@ -252,7 +226,7 @@ def tried(program, case, run):
     try:
         started.lay_out(room)
         source, pair, pipe = open_streams(started, room)
-        status, written = ended(program, started, run, source, pair, pipe, room)
+        ended = ran(program, started, run, source, pair, pipe, room)
         position = 0
         if pipe is None:
             position = position_of(source)
@@ -260,7 +234,7 @@ def tried(program, case, run):
         for stream in pair:
             if stream is not subprocess.PIPE:
                 stream.close()
-        return judged(run, started, room, status, position, written)
+        return judged(run, started, room, ended, position)
     finally:
         shutil.rmtree(room)
 

@@ -4,23 +4,19 @@ python3 tools/fuzz.py PROGRAM [IMAGES [STACKS [STREAMS [SEED]]]]
 
 Images, most of them broken, go through `check` and `list`; stacks of 1 to 6 layers through `check` and `list`; streams
 over such stacks through `serve`, from files and through pipes in pieces, by any plan, with balances. Each is tried
-strictly or not. Where a run differs, or takes longer than two seconds, its files are kept and its words are printed; where
-these name no file of requests, that file's bytes came through the pipe.
+strictly or not. Where a run differs, or takes more than two seconds of processor time, its files are kept and its words
+are printed; where these name no file of requests, that file's bytes came through the pipe.
 """
 import collections
-import fcntl
 import os
 import random
 import shutil
-import struct
 import subprocess
 import sys
 import tempfile
-import termios
-import threading
-import time
 
 import plain
+import runs
 from random_inputs import kinds_of, mutated, random_image, random_stack, random_stream
 
 SECONDS = 2
@@ -30,7 +26,7 @@ class Difference(Exception):
     """The program did something else than the plain reading says."""
 
 
-Ended = collections.namedtuple("Ended", "status output line files")
+Wanted = collections.namedtuple("Wanted", "status output line files")
 
 
 class Running:
@@ -52,18 +48,14 @@ class Running:
     def hold(self, words, want, pieces=()):
         """Runs the program with these words, and the pieces through a pipe, and holds it against what must come."""
         self.runs += 1
-        begun = time.monotonic()
         end, pipe = os.pipe()
-        done = subprocess.Popen([self.program, *words], cwd=self.folder, stdin=end, stdout=subprocess.PIPE, stderr=subprocess.PIPE)
+        child = subprocess.Popen([self.program, *words], cwd=self.folder, stdin=end, stdout=subprocess.PIPE, stderr=subprocess.PIPE)
         os.close(end)
-        threading.Thread(target=feed, args=(pieces, pipe), daemon=True).start()
-        try:
-            output, line = done.communicate(timeout=60)
-        except subprocess.TimeoutExpired:
-            done.kill()
-            raise Difference("%s does not end" % self.told(words)) from None
-        taken = time.monotonic() - begun
-        got = Ended(done.returncode, output, line.decode(errors="replace"), {name: self.read(name) for name in want.files})
+        runs.feed(pieces, pipe)
+        done = runs.ended(child)
+        if done.status is None:
+            raise Difference("%s does not end" % self.told(words))
+        got = Wanted(done.status, done.output, done.errors.decode(errors="replace"), {name: self.read(name) for name in want.files})
         for what in ("status", "line", "output"):
             if getattr(got, what) != getattr(want, what):
                 raise Difference("%s: the %s should be %r, and is %r" % (
@@ -73,33 +65,19 @@ class Running:
             if got.files[name] != data:
                 wanted = self.write("wanted-" + name, data)
                 raise Difference("%s: %s differs from %s" % (self.told(words), name, wanted))
-        if taken > SECONDS:
-            raise Difference("%s takes %.1f s" % (self.told(words), taken))
+        if done.seconds > SECONDS:
+            raise Difference("%s takes %.1f s of processor time" % (self.told(words), done.seconds))
 
     def told(self, words):
         return "in %s: strata %s" % (self.folder, " ".join(words))
 
 
-def feed(pieces, pipe):
-    """Writes pieces into a pipe, each when the one before it was taken out."""
-    try:
-        for piece in pieces:
-            os.write(pipe, piece)
-            begun = time.monotonic()
-            while struct.unpack("i", fcntl.ioctl(pipe, termios.FIONREAD, bytes(4)))[0] and time.monotonic() - begun < 10:
-                time.sleep(0)
-    except OSError:
-        pass
-    finally:
-        os.close(pipe)
-
-
 def lines_or_stop(lines, images, strict):
     """What must come of a command that prints lines."""
     try:
-        return Ended(0, "".join(line + "\n" for line in lines(images, strict)).encode(), "", {})
+        return Wanted(0, "".join(line + "\n" for line in lines(images, strict)).encode(), "", {})
     except plain.Stop as stop:
-        return Ended(stop.args[1], b"", stop.args[0] + "\n", {})
+        return Wanted(stop.args[1], b"", stop.args[0] + "\n", {})
 
 
 def hold_lines(running, images, strict):
@@ -154,10 +132,10 @@ def served(images, stream, strict):
     try:
         done = plain.Served(images, stream, strict)
     except plain.Stop as stop:
-        return Ended(stop.args[1], b"", stop.args[0] + "\n", {"balances": b""}), b""
+        return Wanted(stop.args[1], b"", stop.args[0] + "\n", {"balances": b""}), b""
     line, status = done.stop.args if done.stop else ("", 0)
     balances = "".join(it + "\n" for it in done.balance_lines()).encode()
-    return Ended(status, b"", line + "\n" if line else "", {"balances": balances}), done.replies
+    return Wanted(status, b"", line + "\n" if line else "", {"balances": balances}), done.replies
 
 
 def fuzz_streams(running, rng, count, others):

@@ -1,7 +1,7 @@
 """Tries the wrong bodies of trials/CRATE/*.edit: python3 tools/trials.py [--all] [--jobs N] [CRATE..]
 
 The prover must refuse each. --all tries those of the crate's own must-fail/ too. The last line says how many were
-refused; the status is 0 where these are all.
+refused; the status is 0 where these are all. What a crate's run showed is its line of docs/trials.txt from then on.
 
 Each crate is laid into a scratch copy of the repository, with what `make build` kept of it and of the crates below.
 Edits that change bodies alone, each another function's, are laid into it together, and one `rt check --only` of these
@@ -28,6 +28,7 @@ import time
 from trial_edits import Edit, Misfit, batches_of, bodies_of, together
 
 ROOT = os.path.dirname(os.path.dirname(os.path.abspath(__file__)))
+OUTCOMES = ROOT + "/docs/trials.txt"
 MOST = 12
 GOAL = re.compile(r"note: (?:\./)?(src/\S+):(\d+):\d+: (it is not proved that .*)")
 ERROR = re.compile(r"(?:\./)?((?:src|specs|proofs)/\S+):(\d+):\d+: error\S* (.*)")
@@ -214,6 +215,27 @@ class Trials:
         return kinds
 
 
+def commit():
+    """The commit that is tried, with a + where its crates or trials were changed since."""
+    def git(*words):
+        return subprocess.run(["git", *words], cwd=ROOT, stdout=subprocess.PIPE, text=True, check=True).stdout.strip()
+    return git("rev-parse", "--short", "HEAD") + "+" * bool(git("status", "--porcelain", "--", "crates", "trials"))
+
+
+def note(crate, outcome):
+    """Puts the outcome of a crate in place of its earlier one. Crates that have no trials any more are left out."""
+    def is_kept(line):
+        name = line.partition(":")[0]
+        return not line.startswith("#") and name != crate and os.path.isdir("%s/trials/%s" % (ROOT, name))
+
+    with open(OUTCOMES, encoding="utf-8") as kept:
+        lines = kept.read().splitlines()
+    heads = [it for it in lines if it.startswith("#")]
+    outcomes = sorted(["%s: %s" % (crate, outcome), *filter(is_kept, lines)])
+    with open(OUTCOMES, "w", encoding="utf-8") as out:
+        out.write("\n".join([*heads, *outcomes]) + "\n")
+
+
 def tried(crate, others, with_gate, jobs):
     """How many edits of a crate there are, and how many of them were refused."""
     folders = ["%s/trials/%s" % (ROOT, crate)] + ["%s/crates/%s/must-fail" % (ROOT, crate)] * with_gate
@@ -224,7 +246,9 @@ def tried(crate, others, with_gate, jobs):
         copied(crate, others, room)
         kinds = Trials(crate, room, jobs).run(paths)
     counts = "".join(", %d %s" % (kinds.count(it), it) for it in sorted(set(kinds)))
-    print("%s: %d of %d refused%s; %d s" % (crate, len(kinds), len(paths), counts, time.monotonic() - begun), flush=True)
+    outcome = "%d of %d refused%s" % (len(kinds), len(paths), counts)
+    note(crate, "%s; %sat %s" % (outcome, "with those of the gate, " * with_gate, commit()))
+    print("%s: %s; %d s" % (crate, outcome, time.monotonic() - begun), flush=True)
     return len(paths), len(kinds)
 
 

@@ -1,0 +1,44 @@
+"""Mounts stacks with the built program and looks at them through the kernel: python3 tools/mounted.py PROGRAM [CHECK..]
+
+What is seen is held against what went into the images, or against the plain reading of stacks. Each check runs in a
+process and a mount namespace of its own and says in a line what it saw, or what is missing here for it. Who is not root
+mounts in a user namespace. A check is a function of a room (tools/mounting.py) that gives its line back, or raises Failed.
+"""
+import os
+import sys
+import tempfile
+
+import mounted_ends as ends
+import mounted_trees as trees
+from mounting import Room, adopt, apart, try_mount
+
+CHECKS = (trees.tree, trees.whiteouts, trees.directory, trees.reads, trees.mapped, trees.many, trees.names, trees.writes,
+          ends.again, ends.killed, ends.aborted, ends.lazily, ends.waiting, ends.refused, ends.shared, ends.helped)
+
+
+def told_of(check, program, scratch):
+    """The line of a check. Only fusermount3 is of no use in a user namespace."""
+    room = Room(program, tempfile.mkdtemp(dir=scratch))
+    return apart(lambda: check(room), room.is_root or check is not ends.helped)
+
+
+def main(program, wanted):
+    adopt()
+    passed = failed = 0
+    with tempfile.TemporaryDirectory(prefix="mounted-") as scratch:
+        os.chmod(scratch, 0o755)
+        why = apart(lambda: try_mount(scratch))
+        if why != "yes":
+            print("mounted: left out: %s" % why.replace("FAILED: ", ""))
+            return True
+        for check in [it for it in CHECKS if it.__name__ in wanted or not wanted]:
+            told = told_of(check, program, scratch)
+            print("%-10s %s" % (check.__name__, told), flush=True)
+            failed += told.startswith("FAILED")
+            passed += not told.startswith(("FAILED", "left out"))
+    print("%d passed, %d failed" % (passed, failed))
+    return failed == 0 and passed > 0
+
+
+if __name__ == "__main__":
+    sys.exit(0 if main(os.path.abspath(sys.argv[1]), sys.argv[2:]) else 1)

@@ -1,0 +1,56 @@
+"""Runs of a program: what each wrote, and what it took.
+
+What a run takes is its own processor time, so that it tells the same beside busy neighbours. The clock judges nothing: it
+only ends what hangs, after a minute.
+"""
+import concurrent.futures
+import fcntl
+import os
+import select
+import struct
+import termios
+import threading
+import time
+from collections import namedtuple
+
+MINUTE = 60
+# how a run ended (None: it hung, and was killed), what it wrote to its pipes, its processor time in seconds, user and
+# system, and the most memory that it had at one moment, in MiB
+Ended = namedtuple("Ended", "status output errors seconds memory")
+
+
+def ended(child):
+    """Waits for a program that `subprocess.Popen` started, and reads its pipes meanwhile."""
+    def read(stream):
+        if stream is None:
+            return b""
+        with stream:
+            return stream.read()
+
+    patience = threading.Timer(MINUTE, child.kill)
+    patience.start()
+    with concurrent.futures.ThreadPoolExecutor(2) as readers:
+        output, errors = readers.map(read, (child.stdout, child.stderr))
+    _, status, used = os.wait4(child.pid, 0)
+    has_hung = not patience.is_alive()
+    patience.cancel()
+    child.returncode = os.waitstatus_to_exitcode(status)
+    return Ended(None if has_hung else child.returncode, output, errors, used.ru_utime + used.ru_stime, used.ru_maxrss / 1024)
+
+
+def feed(pieces, pipe):
+    """Writes pieces into a pipe in a thread of its own, each when the one before was taken out, as long as anyone reads."""
+    def write():
+        unread = select.poll()
+        unread.register(pipe, 0)
+        try:
+            for piece in pieces:
+                os.write(pipe, piece)
+                while struct.unpack("i", fcntl.ioctl(pipe, termios.FIONREAD, bytes(4)))[0] and not unread.poll(0):
+                    time.sleep(0)
+        except OSError:
+            pass
+        finally:
+            os.close(pipe)
+
+    threading.Thread(target=write, daemon=True).start()
