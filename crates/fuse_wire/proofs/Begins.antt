@@ -6,7 +6,7 @@ use Rattle.fuse_wire.specs.declared.framing.Framed.TheVariants.{More, Bad, Whole
 use Rattle.fuse_wire.specs.Frames.{Frames}
 use Rattle.fuse_wire.specs.declared.limits.TheConstants.{HEADER_SIZE, MAX_MESSAGE_SIZE}
 use Rattle.fuse_wire.specs.Stream.{said_length, IsGoodLength, IsMessage, IsBad, IsOpen, IsRest, IsSplit, BeginsMessage}
-use Rattle.fuse_wire.proofs.Splits.{said_more, said_front, no_rest}
+use Rattle.fuse_wire.proofs.Splits.{said_more, said_front, no_rest, split_goes_on, bad_stays}
 
 -- fewer than four bytes
 pub open_short : (bytes : List ℕ) → length bytes < 4 → IsOpen bytes
@@ -86,3 +86,9 @@ whole_stays bytes y n b = record {
   whole = b.whole;
   sized = b.sized;
 }
+
+-- how a stream goes on that was cut somewhere
+pub ruleset pieces = (split_goes_on, bad_stays, whole_stays)
+
+-- what frames bytes, and how the frames of a stream are its split
+pub ruleset frames = (one_frame, split_first, split_none)

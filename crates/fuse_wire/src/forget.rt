@@ -52,7 +52,7 @@ impl<'a> Forgets<'a> {
     ghost use Rattle.fuse_wire.specs.Reads.{items_of, SplitsFirst};
 
     // The items in the body of a message: as many as its count says and are whole.
-    #[tactic(auto, unfolding(crate::specs::Requests::forgets_of), using(crate::proofs::Items::whole_items))]
+    #[tactic(auto, unfolding(crate::specs::Requests::forgets_of))]
     pub fn read(body: &'a [u8]) -> Self
         requires long { 8 ≤ length body.now }
         requires short { HEADER_SIZE + length body.now ≤ MAX_MESSAGE_SIZE }

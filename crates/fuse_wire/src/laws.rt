@@ -19,7 +19,7 @@ pub fn one_split()
 
 /// A stream may be cut piece by piece: what a piece leaves over goes before the next one, and a bad
 /// length stays bad.
-#[tactic(auto, using(crate::proofs::Splits::split_goes_on, crate::proofs::Splits::bad_stays, crate::proofs::Begins::whole_stays,))]
+#[tactic(auto, using(crate::proofs::Begins::pieces))]
 pub fn pieces_do_not_matter()
     ensures goes_on { (x y rest end : List ℕ) (ms ns : List (List ℕ)) →
         IsSplit x ms rest → IsSplit (rest ++ y) ns end → IsSplit (x ++ y) (ms ++ ns) end }
@@ -29,7 +29,7 @@ pub fn pieces_do_not_matter()
 {}
 
 /// Bytes frame in one way, and the frames of a stream, one after another, are its split.
-#[tactic(auto, using(crate::proofs::Begins::one_frame, crate::proofs::Begins::split_first, crate::proofs::Begins::split_none,))]
+#[tactic(auto, using(crate::proofs::Begins::frames))]
 pub fn frames_make_the_split()
     ensures once { (bytes : List ℕ) (f g : Framed) → Frames bytes f → Frames bytes g → f ≡ g }
     ensures first { (bytes rest : List ℕ) (n : ℕ) (ms : List (List ℕ)) →

@@ -24,7 +24,7 @@ const DIRENT_FRONT_SIZE: usize = 24;
 const PADDING: [u8; 8] = [0; 8];
 
 /// Appends a reply without data: a `struct fuse_out_header` of 16 bytes alone, with no error.
-#[tactic(auto, unfolding(crate::specs::Replies::reply_with), using(std::proofs::lemmas::Grind::common_steps))]
+#[tactic(auto, unfolding(crate::specs::Replies::reply_with), using(crate::proofs::Fill::all))]
 pub fn put_head<A: Allocator>(out: &mut Vec<u8, A>, unique: u64) -> Result<(), AllocError>
     ensures { Appends result out.old out.new (reply_with unique []) }
 {
@@ -275,7 +275,7 @@ fn padding(name_len: usize) -> usize
 }
 
 // Appends three runs of bytes, one after another, in one growth.
-#[tactic(auto, using(std::proofs::lemmas::Grind::common_steps))]
+#[tactic(auto, using(crate::proofs::Fill::all))]
 #[inline(always)]
 fn put_three<A: Allocator>(
     out: &mut Vec<u8, A>,

@@ -60,7 +60,7 @@ const BLOCK_SIZE: u32 = 4_096;
 const STATFS_BLOCK_SIZE: u32 = 512;
 
 // `struct fuse_out_header` of a reply without an error and with `size` bytes of data.
-#[tactic(auto, unfolding(crate::specs::Replies::reply_head), using(std::proofs::lemmas::Grind::common_steps))]
+#[tactic(auto, unfolding(crate::specs::Replies::reply_head), using(crate::proofs::Fill::all))]
 pub fn head(fields: &mut Structure, unique: u64, size: usize)
     requires room { length fields.old + 16 ≤ ROOM }
     requires size { 16 + size < 2 ^ 32 }
@@ -73,7 +73,7 @@ pub fn head(fields: &mut Structure, unique: u64, size: usize)
 }
 
 // The same of a reply with an error.
-#[tactic(auto, unfolding(crate::specs::Replies::error_reply), using(std::proofs::lemmas::Grind::common_steps))]
+#[tactic(auto, unfolding(crate::specs::Replies::error_reply), using(crate::proofs::Fill::all))]
 pub fn error_head(fields: &mut Structure, unique: u64, errno: Errno)
     requires { length fields.old + 16 ≤ ROOM }
     ensures { fields.new ≡ fields.old ++ error_reply unique errno }
@@ -84,7 +84,7 @@ pub fn error_head(fields: &mut Structure, unique: u64, errno: Errno)
 }
 
 // `struct fuse_init_out`, as far as the client knows it.
-#[tactic(auto, unfolding(crate::specs::Structures::init_out), using(std::proofs::lemmas::Grind::common_steps))]
+#[tactic(auto, unfolding(crate::specs::Structures::init_out), using(crate::proofs::Fill::all))]
 pub fn init_out(fields: &mut Structure, init: &InitOut)
     requires { length fields.old + 64 ≤ ROOM }
     ensures { fields.new ≡ fields.old ++ init_out init.now }
@@ -109,7 +109,7 @@ pub fn init_out(fields: &mut Structure, init: &InitOut)
 }
 
 // Its fields up to `max_write`.
-#[tactic(auto, unfolding(crate::specs::Structures::init_out_22), using(std::proofs::lemmas::Grind::common_steps))]
+#[tactic(auto, unfolding(crate::specs::Structures::init_out_22), using(crate::proofs::Fill::all))]
 fn init_out_22(fields: &mut Structure, max_readahead: u32, flags: u32)
     requires { length fields.old + 24 ≤ ROOM }
     ensures fields { fields.new ≡ fields.old ++ init_out_22 max_readahead flags }
@@ -125,7 +125,7 @@ fn init_out_22(fields: &mut Structure, max_readahead: u32, flags: u32)
 }
 
 // Its fields from `time_gran` on.
-#[tactic(auto, unfolding(crate::specs::Structures::init_out_rest), using(std::proofs::lemmas::Grind::common_steps))]
+#[tactic(auto, unfolding(crate::specs::Structures::init_out_rest), using(crate::proofs::Fill::all))]
 fn init_out_rest(fields: &mut Structure, flags: u32)
     requires { length fields.old + 40 ≤ ROOM }
     ensures fields { fields.new ≡ fields.old ++ init_out_rest flags }
@@ -150,7 +150,7 @@ fn max_pages(flags: u32) -> u16
 }
 
 // `struct fuse_attr`. Owners and times are all 0.
-#[tactic(auto, unfolding(crate::specs::Structures::attr), using(std::proofs::lemmas::Grind::common_steps))]
+#[tactic(auto, unfolding(crate::specs::Structures::attr), using(crate::proofs::Fill::all))]
 fn attr(fields: &mut Structure, node: &Attr)
     requires { length fields.old + 88 ≤ ROOM }
     ensures fields { fields.new ≡ fields.old ++ attr node.now }
@@ -175,7 +175,7 @@ fn attr(fields: &mut Structure, node: &Attr)
 }
 
 // `struct fuse_entry_out`.
-#[tactic(auto, unfolding(crate::specs::Structures::entry_out), using(std::proofs::lemmas::Grind::common_steps))]
+#[tactic(auto, unfolding(crate::specs::Structures::entry_out), using(crate::proofs::Fill::all))]
 pub fn entry_out(fields: &mut Structure, node: &Attr)
     requires { length fields.old + 128 ≤ ROOM }
     ensures { fields.new ≡ fields.old ++ entry_out node.now }
@@ -190,7 +190,7 @@ pub fn entry_out(fields: &mut Structure, node: &Attr)
 }
 
 // `struct fuse_attr_out`.
-#[tactic(auto, unfolding(crate::specs::Structures::attr_out), using(std::proofs::lemmas::Grind::common_steps))]
+#[tactic(auto, unfolding(crate::specs::Structures::attr_out), using(crate::proofs::Fill::all))]
 pub fn attr_out(fields: &mut Structure, node: &Attr)
     requires { length fields.old + 104 ≤ ROOM }
     ensures { fields.new ≡ fields.old ++ attr_out node.now }
@@ -202,7 +202,7 @@ pub fn attr_out(fields: &mut Structure, node: &Attr)
 }
 
 // `struct fuse_open_out`.
-#[tactic(auto, unfolding(crate::specs::Structures::open_out), using(std::proofs::lemmas::Grind::common_steps))]
+#[tactic(auto, unfolding(crate::specs::Structures::open_out), using(crate::proofs::Fill::all))]
 pub fn open_out(fields: &mut Structure, open_flags: u32)
     requires { length fields.old + 16 ≤ ROOM }
     ensures { fields.new ≡ fields.old ++ open_out open_flags }
@@ -213,7 +213,7 @@ pub fn open_out(fields: &mut Structure, open_flags: u32)
 }
 
 // `struct fuse_statfs_out`, which holds a `struct fuse_kstatfs`.
-#[tactic(auto, unfolding(crate::specs::Structures::statfs_out), using(std::proofs::lemmas::Grind::common_steps))]
+#[tactic(auto, unfolding(crate::specs::Structures::statfs_out), using(crate::proofs::Fill::all))]
 pub fn statfs_out(fields: &mut Structure, blocks: u64, files: u64)
     requires { length fields.old + 80 ≤ ROOM }
     ensures { fields.new ≡ fields.old ++ statfs_out blocks files }
@@ -231,7 +231,7 @@ pub fn statfs_out(fields: &mut Structure, blocks: u64, files: u64)
 }
 
 // `struct fuse_dirent` up to its name.
-#[tactic(auto, unfolding(crate::specs::Structures::dirent_front), using(std::proofs::lemmas::Grind::common_steps))]
+#[tactic(auto, unfolding(crate::specs::Structures::dirent_front), using(crate::proofs::Fill::all))]
 pub fn dirent_front(fields: &mut Structure, row: &Dirent<'_>)
     requires room { length fields.old + 24 ≤ ROOM }
     requires named { length row.now.name.now < 2 ^ 32 }

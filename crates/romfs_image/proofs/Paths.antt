@@ -88,3 +88,6 @@ module _ (a : List ℕ) (i : IsImage a) where
 
   pub all_paths : (all : List (List (List ℕ))) × ((path : List (List ℕ)) (h : ℕ) → Has a path h → Contains all path)
   all_paths = (paths 512 (root a), λ path h x. has_all 512 (root a) path h (short path h x) x)
+
+-- what holds of the paths of a sound image
+pub ruleset path_laws = (one_header, short, all_paths)

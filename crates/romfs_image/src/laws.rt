@@ -7,7 +7,7 @@ ghost use Rattle.romfs_image.specs.Images.{IsImage};
 
 /// A path has one header and no more than [`MAX_NAMES`](romfs_format::limits::MAX_NAMES) names, and
 /// there are finitely many paths: here is a list of all.
-#[tactic(auto, using(crate::proofs::Paths::one_header, crate::proofs::Paths::short, crate::proofs::Paths::all_paths,))]
+#[tactic(auto, using(crate::proofs::Paths::path_laws))]
 pub fn paths_are_few()
     ensures one { (a : List ℕ) → IsImage a → (path : List (List ℕ)) (g h : ℕ) →
         Has a path g → Has a path h → g ≡ h }

@@ -51,3 +51,9 @@ module _ (a : List ℕ) (at : ℕ) where
 
   pub hard_none : kind a at ≢ HardLink → IsTheOne IsLinkedTo None
   hard_none n = nowhere IsLinkedTo (λ g x. n x.0.1)
+
+-- where the chain of a directory begins
+pub ruleset firsts = (first_none, first_own, first_some)
+
+-- where a chain leads down
+pub ruleset downs = (down_root, down_shut, down_open)

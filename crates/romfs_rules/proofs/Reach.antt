@@ -214,3 +214,6 @@ module _ (a : List ℕ) (Q : ℕ → Type 0) where
           let x = reached_named a v g r (u g q) in
           let i = x.inside in
           (record { slot = x.from / 16; early = omega arith; inside = rw (x.slot) i; names = subst (λ y. Names a y g) (sym x.slot) x.names }, q)
+
+-- what a header outside the image is noted for
+pub ruleset notes = (unnamed, noted, unnoted)

@@ -23,7 +23,7 @@ pub(crate) fn next_of(image: &Volume, at: usize) -> Option<u32>
 }
 
 /// The first header of a directory.
-#[tactic(auto, using(crate::proofs::Leads::first_none, crate::proofs::Leads::first_own, crate::proofs::Leads::first_some,))]
+#[tactic(auto, using(crate::proofs::Leads::firsts))]
 #[inline(always)]
 pub(crate) fn first_of(image: &Volume, at: usize) -> Option<u32>
     requires inside { IsInside image.now.bytes.now at }
@@ -41,7 +41,7 @@ pub(crate) fn first_of(image: &Volume, at: usize) -> Option<u32>
 }
 
 /// The first header of a header that opens as a directory, unless it is the root's.
-#[tactic(auto, using(crate::proofs::Leads::down_root, crate::proofs::Leads::down_shut, crate::proofs::Leads::down_open,))]
+#[tactic(auto, using(crate::proofs::Leads::downs))]
 #[inline(always)]
 pub(crate) fn first_below(image: &Volume, at: usize) -> Option<u32>
     requires inside { IsInside image.now.bytes.now at }

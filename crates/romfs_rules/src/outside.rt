@@ -78,7 +78,7 @@ fn lesser(found: Option<u32>, word: u32) -> u32
 }
 
 // What is found with one header more, if there is one.
-#[tactic(auto, using(crate::proofs::Reach::unnamed, crate::proofs::Reach::noted, crate::proofs::Reach::unnoted,))]
+#[tactic(auto, using(crate::proofs::Reach::notes))]
 #[inline(always)]
 fn note(found: Outside, image: &Volume, word: Option<u32>) -> Outside
     ensures below { Notes (λ h. word ≡ Some h) (IsBelow image.now.bytes.now)

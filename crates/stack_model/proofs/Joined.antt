@@ -80,3 +80,6 @@ root_stays a (p, (q, y, rest, e, c)) = none q y rest e
     none (x ∷ q) y rest e = cc
 
 pub ruleset cuts_of_a_layer = (cut_by_marker, cut_by_opaque, cut_by_other, root_stays)
+
+-- what a joined run shows, cuts and leaves free
+pub ruleset joins = (shows_joined, cuts_joined, free_is)

@@ -24,7 +24,7 @@ pub fn one_layer_shows_its_own()
 
 /// A run of layers laid on another one: the joined run shows what the upper run shows, and what the
 /// lower run shows where the upper one neither has nor cuts it; and it cuts what either cuts.
-#[tactic(auto, using(crate::proofs::Joined::shows_joined, crate::proofs::Joined::cuts_joined, crate::proofs::Joined::free_is,))]
+#[tactic(auto, using(crate::proofs::Joined::joins))]
 pub fn laid_is_joined()
     ensures free { (layers : List (List ℕ)) (path : Path) →
         IsFree layers path ↔ (AllByRecursion (λ a. ¬ IsIn a path) layers × ¬ IsCut layers path) }
