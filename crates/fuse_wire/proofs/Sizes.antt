@@ -1,11 +1,12 @@
 -- The sizes of structures, in bytes.
-use Rattle.std.proofs.Common.{◌≡◌, ◌∙◌, ap, ℕ, zero, suc, ◌+◌, ◌-◌, List, ◌++◌, length, Bool, true, false, Option, Some, None, cond, refl, arith, length-append}
+use Rattle.std.proofs.Common.{◌≡◌, ◌∙◌, ap, ℕ, zero, suc, ◌+◌, ◌-◌, List, ◌++◌, length, append_assoc, Bool, true, false, Option, Some, None, cond, refl, arith, length-append}
 use Rattle.std.specs.Prelude.{nat_lt, replicate}
 use Rattle.std.specs.Option.{option_map_or}
 use Rattle.fuse_wire.specs.declared.errno.Errno.{Errno}
 use Rattle.fuse_wire.specs.declared.reply.Attr.{Attr}
+use Rattle.fuse_wire.specs.declared.reply.Dirent.{Dirent}
 use Rattle.fuse_wire.specs.declared.reply.InitOut.TheVariants.{Version, Terms}
-use Rattle.fuse_wire.specs.Structures.{u16, u32, u64, zeros, init_out, init_out_22, init_out_rest, attr, entry_out, attr_out, open_out, statfs_out, dirent_size, dirent_front, dirent, direntplus}
+use Rattle.fuse_wire.specs.Structures.{u16, u32, u64, zeros, init_out, init_out_22, init_out_rest, attr, entry_out, attr_out, open_out, statfs_out, dirent_size, dirent_front, dirent, direntplus, padding, row_front, plus_row_bytes}
 use Rattle.fuse_wire.specs.Replies.{reply_head, reply_with, error_reply}
 
 pub length-head : (unique n : ℕ) → length (reply_head unique n) ≡ 16
@@ -89,3 +90,10 @@ length-direntplus entry ino off file_type name =
     given (Some a) = length-entry_out a
 
 pub ruleset sizes = (length-head, length-error_reply, length-reply_with, length-version, length-init_out_22, length-terms, length-attr, length-entry_out, length-attr_out, length-open_out, length-statfs_out, length-zeros, length-dirent_front, length-dirent, length-direntplus)
+
+-- the parts of a row of READDIRPLUS, as they are put one after another, are its bytes
+pub plus_row_is : (entry : Option Attr) (row : Dirent) (head front : List ℕ)
+    → head ≡ option_map_or entry_out entry (zeros 128) → front ≡ head ++ row_front row
+    → front ++ row.name.now ++ padding (length row.name.now) ≡ plus_row_bytes entry row
+unfolding dirent direntplus
+plus_row_is entry row head front h f = rw (f, h) grind (arith, append_assoc)

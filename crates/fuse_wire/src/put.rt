@@ -193,7 +193,7 @@ pub fn put_dirent<A: Allocator>(out: &mut Vec<u8, A>, row: &Dirent<'_>) -> Resul
 
 /// Appends a row of READDIRPLUS (`struct fuse_direntplus`): the node's entry, or 128 zeros for `.`
 /// and `..`, which have none, and the row of READDIR.
-#[tactic(auto, unfolding(crate::specs::Structures::direntplus, crate::specs::Structures::dirent), using(crate::proofs::Sizes::sizes))]
+#[tactic(auto, using(crate::proofs::Sizes::sizes))]
 #[inline(always)]
 pub fn put_direntplus<A: Allocator>(
     out: &mut Vec<u8, A>,
@@ -214,7 +214,7 @@ pub fn put_direntplus<A: Allocator>(
 
 // Appends a row of READDIRPLUS that has no entry. Few have none, so this stands apart from the loop
 // over rows.
-#[tactic(auto, unfolding(crate::specs::Structures::direntplus, crate::specs::Structures::dirent), using(crate::proofs::Sizes::sizes))]
+#[tactic(auto, using(crate::proofs::Sizes::sizes))]
 #[inline(never)]
 fn put_bare<A: Allocator>(out: &mut Vec<u8, A>, row: Dirent<'_>) -> Result<(), AllocError>
     requires { length row.name.now < 2 ^ 32 }
