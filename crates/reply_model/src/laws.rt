@@ -1,6 +1,6 @@
 //! What holds of every reply.
 
-ghost use Rattle.std.specs.Prelude.{◌≡◌, ◌⊎◌, ◌≤◌, [], ◌∷◌, ◌++◌, ℕ, List, length, map, All, false, ◌+ℤ◌};
+ghost use Rattle.std.specs.Prelude.{◌≡◌, ◌⊎◌, ◌≤◌, [], ◌∷◌, ◌++◌, ℕ, List, length, map, All, true, false, ◌+ℤ◌};
 ghost use Rattle.romfs_format.specs.Fields.{image};
 ghost use Rattle.romfs_format.specs.Rules.{IsSound};
 ghost use Rattle.fuse_wire.specs.Requests.{Asked, at_node, lookup, readdirplus, done, destroy};
@@ -9,7 +9,7 @@ ghost use Rattle.fuse_wire.specs.Stream.{said_length};
 ghost use Rattle.stack_model.specs.Listing.{Entry, IsListing};
 ghost use Rattle.reply_model.specs.declared.session.Session.{Session};
 ghost use Rattle.reply_model.specs.Replies.{reply};
-ghost use Rattle.reply_model.specs.declared.session.Session.TheVariants.{Fresh};
+ghost use Rattle.reply_model.specs.Sessions.{is_fresh};
 ghost use Rattle.reply_model.specs.declared.moves.Move.{Move};
 ghost use Rattle.reply_model.specs.Moves.{moves, balance};
 ghost use Rattle.reply_model.specs.Streams.{session_at, replies_by, moves_by};
@@ -48,7 +48,7 @@ pub fn fitting_rows_are_the_first()
 
 /// A lookup is given exactly where an entry is answered: LOOKUP gives one of the node whose entry
 /// its reply holds, and READDIRPLUS one of the node of each row in its reply but `.` and `..`;
-/// where they are answered an error, nothing.
+/// where they are answered an error, or a LOOKUP that its name is none, nothing.
 #[tactic(auto, using(crate::proofs::Given::given))]
 pub fn entries_are_given()
     ensures lookup { (layers : List (List ℕ)) (entries : List Entry) (s : Session)
@@ -61,8 +61,8 @@ pub fn entries_are_given()
         (record { unique = unique; node = node; op = at_node (readdirplus offset size) }) }
     ensures others { (layers : List (List ℕ)) (entries : List Entry) (s : Session) (q : Asked) →
         is_moving q.op ≡ false → moves layers entries s q ≡ [] }
-    ensures fresh { (layers : List (List ℕ)) (entries : List Entry) (q : Asked) →
-        moves layers entries Fresh q ≡ [] }
+    ensures fresh { (layers : List (List ℕ)) (entries : List Entry) (s : Session) (q : Asked) →
+        is_fresh s ≡ true → moves layers entries s q ≡ [] }
 {}
 
 /// Requests may be taken in parts: their replies and moves are those of the parts, the session
