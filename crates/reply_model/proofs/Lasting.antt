@@ -129,7 +129,7 @@ module _ (layers : List (List ℕ)) (entries : List Entry) where
   abbrev sought : Bool → Bool → Bool → Bool → Option Place → Option Errno
   sought lasting itself directory long found =
       first_refusal (first_refusal (cond itself None (refuse_if (not directory) ENOTDIR)
-      ∷ cond long (Some ENAMETOOLONG) (refuse_if (not lasting && is_none found) ENOENT) ∷ []) ∷ [])
+      ∷ cond long (Some ENAMETOOLONG) (refuse_if (is_none found && not lasting) ENOENT) ∷ []) ∷ [])
 
   abbrev looked : ℕ → Bool → Bool → Bool → Bool → Option Place → List ℕ
   looked unique lasting itself directory long found =

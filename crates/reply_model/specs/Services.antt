@@ -84,7 +84,7 @@ module _ (layers : List (List ℕ)) (entries : List Entry) where
     by_arguments = λ p.
         if nat_lt MAX_NAME_SIZE (length name) then Some ENAMETOOLONG
         else refuse_if
-        (not agreed.lasting && is_none (looked_up entries agreed.export p name)) ENOENT;
+        (is_none (looked_up entries agreed.export p name) && not agreed.lasting) ENOENT;
     answer = λ p.
         option_map_or (λ c. entry_out (reply_attr layers entries c))
         (looked_up entries agreed.export p name) negative_entry_out;
