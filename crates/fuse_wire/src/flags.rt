@@ -28,8 +28,8 @@ pub const MAX_PAGES: u32 = 0x0040_0000;
 /// Of INIT: the client keeps the targets of symbolic links that it has read.
 pub const CACHE_SYMLINKS: u32 = 0x0080_0000;
 
-/// Of INIT: the client need not ask to open directories; an OPENDIR that is answered `ENOSYS` is the
-/// last.
+/// Of INIT: the client need not ask to open directories; an OPENDIR that is answered `ENOSYS` is
+/// the last.
 pub const NO_OPENDIR_SUPPORT: u32 = 0x0100_0000;
 
 /// Of the reply to OPEN and OPENDIR: what the client has cached of the file or directory stays

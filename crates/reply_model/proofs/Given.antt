@@ -78,7 +78,8 @@ module _ (layers : List (List ℕ)) (entries : List Entry) where
       (moved layers entries (agreement_of s) q.node q.op) (moved_nothing (agreement_of s) q.node q.op e)
 
   -- nor does any request in a fresh session
-  fresh_op : (s : Session) (unique node : ℕ) (op : Op) → is_fresh s ≡ true → moves layers entries s (record { unique = unique; node = node; op = op }) ≡ []
+  fresh_op : (s : Session) (unique node : ℕ) (op : Op) → is_fresh s ≡ true
+      → moves layers entries s (record { unique = unique; node = node; op = op }) ≡ []
   fresh_op s unique node (at_node op) e = rw e refl
   fresh_op s unique node (silent op) e = rw e refl
   fresh_op s unique node op e = others_move_nothing s (record { unique = unique; node = node; op = op }) refl

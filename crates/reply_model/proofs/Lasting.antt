@@ -29,8 +29,13 @@ use Rattle.reply_model.specs.Refusals.{first_refusal, refused_at}
 use Rattle.reply_model.specs.Replies.{answer_at, reply}
 use Rattle.reply_model.specs.Moves.{moves, balance}
 use Rattle.reply_model.specs.Streams.{moves_by, balance_after}
-use Rattle.reply_model.specs.Lasting.{usual, Becomes, told_of_opening, LastsAs}
+use Rattle.reply_model.specs.Laws.{is_moving}
+use Rattle.reply_model.specs.Lasting.{usual_of, Becomes, told_of_opening, LastsAs}
 use Rattle.reply_model.proofs.Given.{others_move_nothing, fresh_moves_nothing}
+
+-- a request, by its parts
+abbrev asking : ℕ → ℕ → Op → Asked
+asking unique node op = record { unique = unique; node = node; op = op }
 
 stays : (from to reply : List ℕ) → reply ≢ from → Becomes from to reply reply
 stays from to reply n = record { there = λ e. absurd (n e); elsewhere = λ n. refl }
@@ -63,7 +68,8 @@ error_no_data unique errno bytes e =
 data_no_error : (unique : ℕ) (errno : Errno) (bytes : List ℕ) → reply_with unique bytes ≢ error_reply unique errno
 data_no_error unique errno bytes e = error_no_data unique errno bytes (sym e)
 
-other_error : (unique : ℕ) (errno : Errno) → ((2 ^ 32 - errno_number errno) % 256 == 254) ≡ false → error_reply unique errno ≢ error_reply unique ENOENT
+other_error : (unique : ℕ) (errno : Errno) → ((2 ^ 32 - errno_number errno) % 256 == 254) ≡ false
+    → error_reply unique errno ≢ error_reply unique ENOENT
 unfolding error_reply u32 u64
 other_error unique errno n e = false≢true (sym n ∙ eq-eqb ((2 ^ 32 - errno_number errno) % 256) 254 (ap error_byte e))
 
@@ -77,7 +83,8 @@ unfolding reply_with reply_head init_out init_out_22 init_out_rest u16 u32 u64 z
 version_no_terms unique lasting minor readahead flags = either (nat_lt minor 23)
   where
     either : (b : Bool) → reply_with unique (init_out Version)
-        ≢ reply_with unique (cond b (init_out_22 lasting readahead flags) (init_out_22 lasting readahead flags ++ init_out_rest lasting flags))
+        ≢ reply_with unique (cond b (init_out_22 lasting readahead flags)
+        (init_out_22 lasting readahead flags ++ init_out_rest lasting flags))
     either true e = false≢true (eq-eqb 0 12 (ap background_byte e))
     either false e = false≢true (eq-eqb 0 12 (ap background_byte e))
 
@@ -88,7 +95,8 @@ begun unique lasting later spoken minor readahead flags =
     (reply_with unique (init_out (cond later Version (Terms lasting minor readahead flags))))
 
 begun_lasts : (unique : ℕ) (later spoken : Bool) (minor readahead flags : ℕ)
-    → Becomes (reply_with unique (init_out (Terms false minor readahead flags))) (reply_with unique (init_out (Terms true minor readahead flags)))
+    → Becomes (reply_with unique (init_out (Terms false minor readahead flags)))
+    (reply_with unique (init_out (Terms true minor readahead flags)))
     (begun unique false later spoken minor readahead flags) (begun unique true later spoken minor readahead flags)
 begun_lasts unique true spoken minor readahead flags = stays _ _ _ (version_no_terms unique false minor readahead flags)
 begun_lasts unique false true minor readahead flags = turns _ _
@@ -171,26 +179,30 @@ module _ (layers : List (List ℕ)) (entries : List Entry) where
         option_map_or (error_reply unique) (first_refusal (option_map_or (refused_at layers entries agreed op) o (Some ESTALE) ∷ []))
         (reply_with unique (option_map_or (answer_at layers entries agreed op) o []))
 
-    node_lasts : (unique : ℕ) (op : NodeOp) (o : Option Place) → LastsAs lastingly unique (at_node op) (replied usually unique op o) (replied lastingly unique op o)
+    node_lasts : (unique : ℕ) (op : NodeOp) (o : Option Place)
+        → LastsAs lastingly unique (at_node op) (replied usually unique op o) (replied lastingly unique op o)
     node_lasts unique (lookup name) None = stays _ _ _ (other_error unique ESTALE refl)
     node_lasts unique (lookup name) (Some p) =
-        looked_lasts unique (is_itself export name) (is_directory (kind_at layers p)) (nat_lt MAX_NAME_SIZE (length name)) (looked_up entries export p name)
+        looked_lasts unique (is_itself export name) (is_directory (kind_at layers p))
+        (nat_lt MAX_NAME_SIZE (length name)) (looked_up entries export p name)
     node_lasts unique (open_file flags) None = stays _ _ _ (error_no_data unique ESTALE _)
     node_lasts unique (open_file flags) (Some p) = opened_lasts unique no_open (kind_at layers p) (not (flags % 4 == 0))
     node_lasts unique opendir None = stays _ _ _ (error_no_data unique ESTALE _)
     node_lasts unique opendir (Some p) = entered_lasts unique no_opendir (is_directory (kind_at layers p))
     node_lasts unique _ o = refl
 
-    ready_lasts : (unique node : ℕ) (op : Op) → (let q : Asked = record { unique = unique; node = node; op = op } in
-        LastsAs lastingly unique op (reply layers entries (Ready export) q) (reply layers entries (LastingReady export no_open no_opendir) q))
+    ready_lasts : (unique node : ℕ) (op : Op) →
+        LastsAs lastingly unique op (reply layers entries (Ready export) (asking unique node op))
+        (reply layers entries (LastingReady export no_open no_opendir) (asking unique node op))
     ready_lasts unique node (init major minor readahead flags) = stays _ _ _ (error_no_data unique EIO _)
     ready_lasts unique node (at_node op) = node_lasts unique op (node_of entries node)
     ready_lasts unique node (done flush) = turns _ _
     ready_lasts unique node (done _) = refl
     ready_lasts unique node _ = refl
 
-    looked_up_moves : (unique node : ℕ) (name : List ℕ) → (let q : Asked = record { unique = unique; node = node; op = at_node (lookup name) } in
-        moves layers entries (LastingReady export no_open no_opendir) q ≡ moves layers entries (Ready export) q)
+    looked_up_moves : (unique node : ℕ) (name : List ℕ) →
+        moves layers entries (LastingReady export no_open no_opendir) (asking unique node (at_node (lookup name)))
+        ≡ moves layers entries (Ready export) (asking unique node (at_node (lookup name)))
     looked_up_moves unique node name = at_place (node_of entries node)
       where
         at_place : (o : Option Place)
@@ -199,23 +211,31 @@ module _ (layers : List (List ℕ)) (entries : List Entry) where
             ≡ cond (is_some (first_refusal (option_map_or (refused_at layers entries usually (lookup name)) o (Some ESTALE) ∷ []))) []
             (option_map_or (λ p. map (give layers entries) (option_to_list (looked_up entries export p name))) o [])
         at_place None = refl
-        at_place (Some p) = looked_moves (is_itself export name) (is_directory (kind_at layers p)) (nat_lt MAX_NAME_SIZE (length name)) (looked_up entries export p name)
+        at_place (Some p) = looked_moves (is_itself export name) (is_directory (kind_at layers p))
+            (nat_lt MAX_NAME_SIZE (length name)) (looked_up entries export p name)
 
-    ready_moves : (unique node : ℕ) (op : Op) → (let q : Asked = record { unique = unique; node = node; op = op } in
-        moves layers entries (LastingReady export no_open no_opendir) q ≡ moves layers entries (Ready export) q)
+    none_moved : (q : Asked) → is_moving q.op ≡ false
+        → moves layers entries (LastingReady export no_open no_opendir) q ≡ moves layers entries (Ready export) q
+    none_moved q e =
+        others_move_nothing layers entries (LastingReady export no_open no_opendir) q e
+        ∙ sym (others_move_nothing layers entries (Ready export) q e)
+
+    ready_moves : (unique node : ℕ) (op : Op) →
+        moves layers entries (LastingReady export no_open no_opendir) (asking unique node op)
+        ≡ moves layers entries (Ready export) (asking unique node op)
     ready_moves unique node (at_node (lookup name)) = looked_up_moves unique node name
     ready_moves unique node (at_node (open_file flags)) =
-        let q : Asked = record { unique = unique; node = node; op = at_node (open_file flags) } in
-        others_move_nothing layers entries (LastingReady export no_open no_opendir) q refl ∙ sym (others_move_nothing layers entries (Ready export) q refl)
+        none_moved (asking unique node (at_node (open_file flags))) refl
     ready_moves unique node (at_node opendir) =
-        let q : Asked = record { unique = unique; node = node; op = at_node opendir } in
-        others_move_nothing layers entries (LastingReady export no_open no_opendir) q refl ∙ sym (others_move_nothing layers entries (Ready export) q refl)
+        none_moved (asking unique node (at_node opendir)) refl
     ready_moves unique node (done flush) = refl
     ready_moves unique node _ = refl
 
-  fresh_lasts : (unique node : ℕ) (op : Op) → (let q : Asked = record { unique = unique; node = node; op = op } in
-      LastsAs (agreement_of LastingFresh) unique op (reply layers entries Fresh q) (reply layers entries LastingFresh q))
-  fresh_lasts unique node (init major minor readahead flags) = begun_lasts unique (nat_lt 7 major) (is_spoken major minor) minor readahead flags
+  fresh_lasts : (unique node : ℕ) (op : Op) →
+      LastsAs (agreement_of LastingFresh) unique op (reply layers entries Fresh (asking unique node op))
+      (reply layers entries LastingFresh (asking unique node op))
+  fresh_lasts unique node (init major minor readahead flags) =
+      begun_lasts unique (nat_lt 7 major) (is_spoken major minor) minor readahead flags
   fresh_lasts unique node (at_node (lookup name)) = stays _ _ _ (other_error unique EIO refl)
   fresh_lasts unique node (at_node (open_file flags)) = stays _ _ _ (error_no_data unique EIO _)
   fresh_lasts unique node (at_node opendir) = stays _ _ _ (error_no_data unique EIO _)
@@ -225,28 +245,29 @@ module _ (layers : List (List ℕ)) (entries : List Entry) where
   fresh_lasts unique node _ = refl
 
   pub replies_last : (s : Session) (q : Asked) → (agreement_of s).lasting ≡ true
-      → LastsAs (agreement_of s) q.unique q.op (reply layers entries (usual s) q) (reply layers entries s q)
+      → LastsAs (agreement_of s) q.unique q.op (reply layers entries (usual_of s) q) (reply layers entries s q)
   replies_last Fresh q e = absurd (cc)
   replies_last (Ready export) q e = absurd (cc)
   replies_last LastingFresh q e = fresh_lasts q.unique q.node q.op
   replies_last (LastingReady export no_open no_opendir) q e = ready_lasts export no_open no_opendir q.unique q.node q.op
 
-  pub moves_stay : (s : Session) (q : Asked) → moves layers entries s q ≡ moves layers entries (usual s) q
+  pub moves_stay : (s : Session) (q : Asked) → moves layers entries s q ≡ moves layers entries (usual_of s) q
   moves_stay Fresh q = refl
   moves_stay (Ready export) q = refl
   moves_stay LastingFresh q = fresh_moves_nothing layers entries LastingFresh q refl ∙ sym (fresh_moves_nothing layers entries Fresh q refl)
   moves_stay (LastingReady export no_open no_opendir) q = ready_moves export no_open no_opendir q.unique q.node q.op
 
 -- sessions go on as the usual ones do
-begun_goes_on : (spoken export no_open no_opendir : Bool) → usual (cond spoken (LastingReady export no_open no_opendir) LastingFresh) ≡ cond spoken (Ready export) Fresh
+begun_goes_on : (spoken export no_open no_opendir : Bool)
+    → usual_of (cond spoken (LastingReady export no_open no_opendir) LastingFresh) ≡ cond spoken (Ready export) Fresh
 begun_goes_on true export no_open no_opendir = refl
 begun_goes_on false export no_open no_opendir = refl
 
-usual_begun : (spoken export : Bool) → usual (cond spoken (Ready export) Fresh) ≡ cond spoken (Ready export) Fresh
+usual_begun : (spoken export : Bool) → usual_of (cond spoken (Ready export) Fresh) ≡ cond spoken (Ready export) Fresh
 usual_begun true export = refl
 usual_begun false export = refl
 
-pub session_goes_on : (s : Session) (op : Op) → usual (session_after s op) ≡ session_after (usual s) op
+pub session_goes_on : (s : Session) (op : Op) → usual_of (session_after s op) ≡ session_after (usual_of s) op
 session_goes_on Fresh (init major minor readahead flags) = usual_begun (is_spoken major minor) (has_export flags)
 session_goes_on Fresh _ = refl
 session_goes_on LastingFresh (init major minor readahead flags) =
@@ -261,12 +282,13 @@ session_goes_on (LastingReady export no_open no_opendir) _ = refl
 
 module _ (layers : List (List ℕ)) (entries : List Entry) where
   -- so a stream moves what it moves usually
-  moves_by_stay : (s : Session) (qs : List Asked) → moves_by (moves layers entries) s qs ≡ moves_by (moves layers entries) (usual s) qs
+  moves_by_stay : (s : Session) (qs : List Asked) → moves_by (moves layers entries) s qs ≡ moves_by (moves layers entries) (usual_of s) qs
   moves_by_stay s [] = refl
   moves_by_stay s (q ∷ qs) =
       let moved = moves layers entries in
       ap (λ m. m ++ moves_by moved (session_after s q.op) qs) (moves_stay layers entries s q)
-      ∙ ap (λ v. moved (usual s) q ++ v) (moves_by_stay (session_after s q.op) qs ∙ ap (λ t. moves_by moved t qs) (session_goes_on s q.op))
+      ∙ ap (λ v. moved (usual_of s) q ++ v)
+      (moves_by_stay (session_after s q.op) qs ∙ ap (λ t. moves_by moved t qs) (session_goes_on s q.op))
 
   -- and leaves the same balances
   pub balances_are_usual : (messages : List (List ℕ)) (node : ℕ)

@@ -28,8 +28,10 @@ if_none false errno e = refl
 
 module _ (layers : List (List ℕ)) (entries : List Entry) where
   -- a request that nothing refuses is not refused by itself
-  pub not_by_itself : (s : Session) (node : ℕ) (op : Op) → refusal layers entries s node op ≡ None → refused_by_itself layers entries (agreement_of s) node op ≡ None
-  not_by_itself s node op e = (both_none (refused_by_session (is_fresh s) op) (refused_by_itself layers entries (agreement_of s) node op) e).1
+  pub not_by_itself : (s : Session) (node : ℕ) (op : Op) → refusal layers entries s node op ≡ None
+      → refused_by_itself layers entries (agreement_of s) node op ≡ None
+  not_by_itself s node op e =
+      (both_none (refused_by_session (is_fresh s) op) (refused_by_itself layers entries (agreement_of s) node op) e).1
 
   -- so one about a node has a node
   has_node : (agreed : Agreement) (op : NodeOp) (o : Option Place)
@@ -38,5 +40,6 @@ module _ (layers : List (List ℕ)) (entries : List Entry) where
   has_node agreed op None e = absurd (cc)
   has_node agreed op (Some p) e = (p, refl)
 
-  pub node_found : (s : Session) (node : ℕ) (op : NodeOp) → refusal layers entries s node (at_node op) ≡ None → (p : Place) × (node_of entries node ≡ Some p)
+  pub node_found : (s : Session) (node : ℕ) (op : NodeOp) → refusal layers entries s node (at_node op) ≡ None
+      → (p : Place) × (node_of entries node ≡ Some p)
   node_found s node op e = has_node (agreement_of s) op (node_of entries node) (not_by_itself s node (at_node op) e)

@@ -12,12 +12,12 @@ use Rattle.reply_model.specs.declared.session.Session.{Session}
 use Rattle.reply_model.specs.declared.session.Session.TheVariants.{Fresh, Ready, LastingFresh, LastingReady}
 
 -- the usual session in the place of a lasting one
-abbrev pub usual : Session → Session
-usual LastingFresh = Fresh
-usual (LastingReady export no_open no_opendir) = Ready export
-usual s = s
+abbrev pub usual_of : Session → Session
+usual_of LastingFresh = Fresh
+usual_of (LastingReady export no_open no_opendir) = Ready export
+usual_of s = s
 
--- where the usual reply is the first of two, the lasting one is the second; else it is the usual one
+-- where the usual reply is the first of two, the lasting one is the second; else they are the same
 pub record Becomes (from to usual lasting : List ℕ) : Type 0 where
   pub there : usual ≡ from → lasting ≡ to
   pub elsewhere : usual ≢ from → lasting ≡ usual

@@ -11,7 +11,7 @@ ghost use Rattle.reply_model.specs.declared.session.Session.{Session};
 ghost use Rattle.reply_model.specs.Replies.{reply};
 ghost use Rattle.reply_model.specs.declared.session.Session.TheVariants.{Fresh, LastingFresh};
 ghost use Rattle.reply_model.specs.Sessions.{is_fresh, session_after, agreement_of};
-ghost use Rattle.reply_model.specs.Lasting.{usual, LastsAs};
+ghost use Rattle.reply_model.specs.Lasting.{usual_of, LastsAs};
 ghost use Rattle.reply_model.specs.declared.moves.Move.{Move};
 ghost use Rattle.reply_model.specs.Moves.{moves, balance};
 ghost use Rattle.reply_model.specs.Streams.{session_at, replies_by, moves_by, balance_after};
@@ -90,19 +90,19 @@ pub fn destroy_leaves_balances()
         ≡ balance n (moves_by (moves layers entries) s qs) }
 {}
 
-/// Served lastingly, a stream is replied as it is usually but for four things: other terms of INIT; a
-/// LOOKUP that finds no entry; OPEN and OPENDIR; FLUSH. What requests move stays as it is, since a
-/// name that is none is no lookup; sessions go on alike, and a stream leaves the same balances.
+/// Served lastingly, a stream is replied as it is usually but for four things: other terms of INIT;
+/// a LOOKUP that finds no entry; OPEN and OPENDIR; FLUSH. What requests move stays as it is, since
+/// a name that is none is no lookup; sessions go on alike, and a stream leaves the same balances.
 #[tactic(auto, using(crate::proofs::Lasting::lasting))]
 pub fn lasting_replies_differ_in_four_ways()
     ensures replies { (layers : List (List ℕ)) (entries : List Entry) (s : Session) (q : Asked) →
         (agreement_of s).lasting ≡ true →
         LastsAs (agreement_of s) q.unique q.op
-        (reply layers entries (usual s) q) (reply layers entries s q) }
+        (reply layers entries (usual_of s) q) (reply layers entries s q) }
     ensures moves { (layers : List (List ℕ)) (entries : List Entry) (s : Session) (q : Asked) →
-        moves layers entries s q ≡ moves layers entries (usual s) q }
+        moves layers entries s q ≡ moves layers entries (usual_of s) q }
     ensures sessions { (s : Session) (op : Op) →
-        usual (session_after s op) ≡ session_after (usual s) op }
+        usual_of (session_after s op) ≡ session_after (usual_of s) op }
     ensures balances { (layers : List (List ℕ)) (entries : List Entry)
         (messages : List (List ℕ)) (node : ℕ) →
         balance_after layers entries LastingFresh messages node
