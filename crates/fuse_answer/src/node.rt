@@ -43,8 +43,8 @@ pub(crate) fn read_link<'a, A: Allocator>(
     }
 }
 
-/// What OPEN is answered: the access mode is the lowest two bits of the flags. A client that need not
-/// ask is told so last.
+/// What OPEN is answered: the access mode is the lowest two bits of the flags. A client that need
+/// not ask is told so last.
 pub(crate) fn open_file<'a, A: Allocator>(
     table: &'a Table<A>,
     agreed: Agreement,
