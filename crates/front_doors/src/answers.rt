@@ -5,7 +5,7 @@ pub use draw_board::{Board, Few, Hand};
 pub use fuse_answer::{Move, Session, after, answer, moves};
 pub use fuse_wire::{
     Framed, Op, Request, frame, put_attr, put_data, put_dirent, put_direntplus, put_entry,
-    put_error, put_head, put_init, put_open, put_statfs,
+    put_error, put_head, put_init, put_negative_entry, put_open, put_statfs,
 };
 use node_table::Table;
 pub use reply_pool::{Piece, Plan, Rounded, round, work};

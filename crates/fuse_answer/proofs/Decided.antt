@@ -10,6 +10,7 @@ use Rattle.fuse_wire.specs.declared.limits.TheConstants.{MAX_DATA_SIZE}
 use Rattle.stack_model.specs.Attributes.{is_directory, is_directory_at, kind_at}
 use Rattle.stack_model.specs.Numbers.{Place, node_of}
 use Rattle.node_table.specs.Stacked.{Stacked}
+use Rattle.reply_model.specs.declared.session.Agreement.{Agreement}
 use Rattle.reply_model.specs.Services.{refuse_if}
 use Rattle.reply_model.specs.Refusals.{first_refusal, refused_at}
 use Rattle.reply_model.specs.Rows.{is_too_small, rows_after, dirent_of, direntplus_of}
@@ -36,7 +37,7 @@ cut directory large small d s = rw (d, s) (either large)
     either true = refl
     either false = refl
 
-module _ {A : Type 0} (stack : Stacked) (export : Bool) (n offset size : ℕ) where
+module _ {A : Type 0} (stack : Stacked) (agreed : Agreement) (n offset size : ℕ) where
   whole : (plus : Bool) (l : Listing A) → AreListed stack n offset size plus l → size ≤ MAX_DATA_SIZE → l.size ≡ length (listed_data stack l) → IsWhole stack l
   whole plus l listed small same = record {
     in_order = (let e = listed.fits.until_is in omega arith);
@@ -47,7 +48,7 @@ module _ {A : Type 0} (stack : Stacked) (export : Bool) (n offset size : ℕ) wh
 
   rows_at_place : (plus : Bool) (l : Listing A) (p : Place) → node_of stack.entries n ≡ Some p → is_directory_at stack.layers p ≡ true
       → nat_lt MAX_DATA_SIZE size ≡ false → size ≤ MAX_DATA_SIZE → AreListed stack n offset size plus l → is_cut_short l ≡ false
-      → IsAnswerAt stack export (listing_op plus offset size) p (Rows l)
+      → IsAnswerAt stack agreed (listing_op plus offset size) p (Rows l)
   rows_at_place false l p is directory large small listed whole_rows =
       let form = dirent_of stack.layers stack.entries in
       let good = plain stack in
@@ -71,7 +72,7 @@ module _ {A : Type 0} (stack : Stacked) (export : Bool) (n offset size : ℕ) wh
 
   cut_at_place : (plus : Bool) (l : Listing A) (p : Place) → node_of stack.entries n ≡ Some p → is_directory_at stack.layers p ≡ true
       → AreListed stack n offset size plus l → is_cut_short l ≡ true
-      → refused_at stack.layers stack.entries export (listing_op plus offset size) p ≡ Some EINVAL
+      → refused_at stack.layers stack.entries agreed (listing_op plus offset size) p ≡ Some EINVAL
   cut_at_place false l p is directory listed short =
       let form = dirent_of stack.layers stack.entries in
       cut (is_directory_at stack.layers p) (nat_lt MAX_DATA_SIZE size) (is_too_small form size (rows_after stack.entries p offset)) directory
@@ -84,25 +85,25 @@ module _ {A : Type 0} (stack : Stacked) (export : Bool) (n offset size : ℕ) wh
   -- what is decided at a directory
   at_directory : (plus : Bool) (r : Result (Answer A) Errno) → TellsKind stack n (told_kind Directory)
       → ((p : Place) → node_of stack.entries n ≡ Some p → is_directory_at stack.layers p ≡ true
-      → MatchResult r (IsAnswerAt stack export (listing_op plus offset size) p) (λ errno. refused_at stack.layers stack.entries export (listing_op plus offset size) p ≡ Some errno))
-      → DecidesAt stack export n (listing_op plus offset size) r
+      → MatchResult r (IsAnswerAt stack agreed (listing_op plus offset size) p) (λ errno. refused_at stack.layers stack.entries agreed (listing_op plus offset size) p ≡ Some errno))
+      → DecidesAt stack agreed n (listing_op plus offset size) r
   at_directory plus r kind each = go (node_of stack.entries n) refl kind
     where
       go : (o : Option Place) → node_of stack.entries n ≡ o
           → MatchOption o (told_kind Directory ≡ Err ESTALE) (λ p. told_kind Directory ≡ Ok (kind_at stack.layers p))
-          → MatchOption o (r ≡ Err ESTALE) (λ p. MatchResult r (IsAnswerAt stack export (listing_op plus offset size) p) (λ errno. refused_at stack.layers stack.entries export (listing_op plus offset size) p ≡ Some errno))
+          → MatchOption o (r ≡ Err ESTALE) (λ p. MatchResult r (IsAnswerAt stack agreed (listing_op plus offset size) p) (λ errno. refused_at stack.layers stack.entries agreed (listing_op plus offset size) p ≡ Some errno))
       go None is kind = absurd (cc)
       go (Some p) is kind = let kind_is : kind_at stack.layers p ≡ Directory = cc in each p is (ap is_directory kind_is)
 
   pub rows_decided : (plus : Bool) (l : Listing A) → TellsKind stack n (told_kind Directory) → size ≤ MAX_DATA_SIZE
       → AreListed stack n offset size plus l → is_cut_short l ≡ false
-      → DecidesAt stack export n (listing_op plus offset size) (Ok (Rows l))
+      → DecidesAt stack agreed n (listing_op plus offset size) (Ok (Rows l))
   rows_decided plus l kind small listed whole_rows =
       at_directory plus (Ok (Rows l)) kind
       (λ p is directory. rows_at_place plus l p is directory (le-ltb MAX_DATA_SIZE size small) small listed whole_rows)
 
   pub cut_decided : (plus : Bool) (l : Listing A) → TellsKind stack n (told_kind Directory)
       → AreListed stack n offset size plus l → is_cut_short l ≡ true
-      → DecidesAt {A = A} stack export n (listing_op plus offset size) (Err EINVAL)
+      → DecidesAt {A = A} stack agreed n (listing_op plus offset size) (Err EINVAL)
   cut_decided plus l kind listed short =
       at_directory plus (Err EINVAL) kind (λ p is directory. cut_at_place plus l p is directory listed short)

@@ -7,20 +7,21 @@ use Rattle.fuse_wire.specs.declared.errno.Errno.TheVariants.{ENOENT, ESTALE}
 use Rattle.fuse_wire.specs.declared.forget.Forget.{Forget}
 use Rattle.fuse_wire.specs.Requests.{NodeOp, Asked}
 use Rattle.fuse_wire.specs.Reads.{items_of}
-use Rattle.fuse_wire.specs.Structures.{init_out, entry_out, attr_out, open_out, statfs_out}
+use Rattle.fuse_wire.specs.Structures.{init_out, entry_out, negative_entry_out, attr_out, open_out, statfs_out}
 use Rattle.romfs_format.specs.declared.head.Kind.{Kind}
 use Rattle.stack_model.specs.Attributes.{kind_at, is_directory_at}
 use Rattle.stack_model.specs.Numbers.{Place, number, node_of}
 use Rattle.node_table.specs.Stacked.{Stacked}
 use Rattle.reply_model.specs.declared.moves.Move.{Move}
+use Rattle.reply_model.specs.declared.session.Agreement.{Agreement}
 use Rattle.reply_model.specs.declared.session.Session.{Session}
-use Rattle.reply_model.specs.Sessions.{is_exported}
+use Rattle.reply_model.specs.Sessions.{is_fresh, agreement_of}
 use Rattle.reply_model.specs.Lookups.{is_itself, looked_up}
-use Rattle.reply_model.specs.Refusals.{refusal, refused_at}
+use Rattle.reply_model.specs.Refusals.{refusal_in, refused_at}
 use Rattle.reply_model.specs.Replies.{answer, answer_at}
 use Rattle.reply_model.specs.Moves.{moved, gives_at, take_back}
 use Rattle.fuse_answer.specs.declared.content.Answer.{Answer}
-use Rattle.fuse_answer.specs.declared.content.Answer.TheVariants.{Done, Terms, Entry, Attributes, Opened, Data, Figures, Rows, Forgotten, AllForgotten}
+use Rattle.fuse_answer.specs.declared.content.Answer.TheVariants.{Done, Terms, Entry, NoEntry, Attributes, Opened, Data, Figures, Rows, Forgotten, AllForgotten}
 use Rattle.fuse_answer.specs.Listings.{listed_data, listed_moves, wired_at, IsWhole}
 
 -- the data of an answer
@@ -28,6 +29,7 @@ abbrev pub answer_data : {A : Type 0} → Stacked → Answer A → List ℕ
 answer_data stack Done = []
 answer_data stack (Terms init) = init_out init
 answer_data stack (Entry attr) = entry_out attr
+answer_data stack NoEntry = negative_entry_out
 answer_data stack (Attributes attr) = attr_out attr
 answer_data stack (Opened flags) = open_out flags
 answer_data stack (Data bytes) = bytes.now
@@ -74,30 +76,35 @@ IsSized stack (Rows listing) = IsWhole stack listing
 IsSized stack _ = Unit {0}
 
 -- the answer to a request about the node at a place
-pub record IsAnswerAt {A : Type 0} (stack : Stacked) (export : Bool) (op : NodeOp) (p : Place)
+pub record IsAnswerAt {A : Type 0} (stack : Stacked) (agreed : Agreement) (op : NodeOp) (p : Place)
     (a : Answer A) : Type 0 where
-  pub taken : refused_at stack.layers stack.entries export op p ≡ None
-  pub data_is : answer_data stack a ≡ answer_at stack.layers stack.entries export op p
+  pub taken : refused_at stack.layers stack.entries agreed op p ≡ None
+  pub data_is : answer_data stack a ≡ answer_at stack.layers stack.entries agreed op p
   pub sized : IsSized stack a
-  pub moves_are : answer_moves stack a ≡ gives_at stack.layers stack.entries export op p
+  pub moves_are : answer_moves stack a ≡ gives_at stack.layers stack.entries agreed op p
 
 -- what is decided about a request at the node with this number: it is answered, or refused
-abbrev pub DecidesAt : {A : Type 0} → Stacked → Bool → ℕ → NodeOp → Result (Answer A) Errno → Type 0
-DecidesAt stack export node op result =
+abbrev pub DecidesAt : {A : Type 0} → Stacked → Agreement → ℕ → NodeOp → Result (Answer A) Errno
+    → Type 0
+DecidesAt stack agreed node op result =
     MatchOption (node_of stack.entries node) (result ≡ Err ESTALE)
-    (λ p. MatchResult result (IsAnswerAt stack export op p)
-    (λ errno. refused_at stack.layers stack.entries export op p ≡ Some errno))
+    (λ p. MatchResult result (IsAnswerAt stack agreed op p)
+    (λ errno. refused_at stack.layers stack.entries agreed op p ≡ Some errno))
 
--- the answer to a request that is not refused
-pub record IsAnswer {A : Type 0} (stack : Stacked) (s : Session) (q : Asked)
+-- the answer to a request that is not refused, in a session that is fresh or not
+pub record IsAnswer {A : Type 0} (stack : Stacked) (fresh : Bool) (agreed : Agreement) (q : Asked)
     (a : Answer A) : Type 0 where
-  pub taken : refusal stack.layers stack.entries s q.node q.op ≡ None
-  pub data_is : answer_data stack a ≡ answer stack.layers stack.entries (is_exported s) q.node q.op
+  pub taken : refusal_in stack.layers stack.entries fresh agreed q.node q.op ≡ None
+  pub data_is : answer_data stack a ≡ answer stack.layers stack.entries agreed q.node q.op
   pub sized : IsSized stack a
-  pub moves_are : answer_moves stack a ≡ moved stack.layers stack.entries
-      (is_exported s) q.node q.op
+  pub moves_are : answer_moves stack a ≡ moved stack.layers stack.entries agreed q.node q.op
+
+-- what is decided about a request
+abbrev pub DecidesIn : {A : Type 0} → Stacked → Bool → Agreement → Asked → Result (Answer A) Errno
+    → Type 0
+DecidesIn stack fresh agreed q result =
+    MatchResult result (IsAnswer stack fresh agreed q)
+    (λ errno. refusal_in stack.layers stack.entries fresh agreed q.node q.op ≡ Some errno)
 
 abbrev pub Decides : {A : Type 0} → Stacked → Session → Asked → Result (Answer A) Errno → Type 0
-Decides stack s q result =
-    MatchResult result (IsAnswer stack s q)
-    (λ errno. refusal stack.layers stack.entries s q.node q.op ≡ Some errno)
+Decides stack s q result = DecidesIn stack (is_fresh s) (agreement_of s) q result

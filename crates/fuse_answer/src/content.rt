@@ -14,6 +14,8 @@ pub(crate) enum Answer<'a, A: Allocator> {
     Terms(InitOut),
     /// A node that was found.
     Entry(Attr),
+    /// A name that is none.
+    NoEntry,
     /// A node's attributes.
     Attributes(Attr),
     /// A file or directory that was opened, with these flags.

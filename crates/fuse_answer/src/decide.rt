@@ -1,19 +1,18 @@
 //! Which answer a request has, or which refusal: the first that fits, in the order of the
 //! protocol's layers.
 
-ghost use Rattle.std.specs.Prelude.{◌≡◌};
+ghost use Rattle.std.specs.Prelude.{true, false};
 ghost use Rattle.fuse_wire.specs.Reads.{asked_of};
-ghost use Rattle.reply_model.specs.declared.session.Session.TheVariants.{Fresh, Ready};
-ghost use Rattle.fuse_answer.specs.Answers.{Decides};
+ghost use Rattle.fuse_answer.specs.Answers.{Decides, DecidesIn};
 
 use crate::content::Answer;
 use crate::listing::list;
 use crate::lookup::look_up;
 use crate::node::{get_attr, open_directory, open_file, read, read_link};
-use crate::sessions::is_spoken;
+use crate::sessions::{agreement_of, is_spoken};
 use fuse_wire::{Errno, InitOut, Op, Request, opcode};
 use node_table::Table;
-use reply_model::Session;
+use reply_model::{Agreement, Session};
 use std::alloc::Allocator;
 
 /// What is decided about a request.
@@ -24,18 +23,20 @@ pub(crate) fn decide<'a, A: Allocator>(
 ) -> Result<Answer<'a, A>, Errno>
     ensures { Decides table.now session (asked_of request.now) result }
 {
+    let agreed = agreement_of(session);
     match session {
-        Session::Fresh => begin(table, request),
-        Session::Ready { export } => go_on(table, export, request),
+        Session::Fresh | Session::LastingFresh => begin(table, agreed, request),
+        Session::Ready { .. } | Session::LastingReady { .. } => go_on(table, agreed, request),
     }
 }
 
 // A fresh session answers INIT alone.
 fn begin<'a, A: Allocator>(
     _table: &'a Table<A>,
+    agreed: Agreement,
     request: &Request<'a>,
 ) -> Result<Answer<'a, A>, Errno>
-    ensures { Decides _table.now Fresh (asked_of request.now) result }
+    ensures { DecidesIn _table.now true agreed (asked_of request.now) result }
 {
     match request.op {
         Op::Init {
@@ -48,6 +49,7 @@ fn begin<'a, A: Allocator>(
                 Ok(Answer::Terms(InitOut::Version))
             } else if is_spoken(major, minor) {
                 Ok(Answer::Terms(InitOut::Terms {
+                    lasting: agreed.lasting,
                     minor,
                     max_readahead,
                     flags,
@@ -66,10 +68,10 @@ fn begin<'a, A: Allocator>(
 // A session that was begun answers all but INIT.
 fn go_on<'a, A: Allocator>(
     table: &'a Table<A>,
-    export: bool,
+    agreed: Agreement,
     request: &Request<'a>,
 ) -> Result<Answer<'a, A>, Errno>
-    ensures { Decides table.now (Ready export) (asked_of request.now) result }
+    ensures { DecidesIn table.now false agreed (asked_of request.now) result }
 {
     let node = request.node;
     match request.op {
@@ -80,20 +82,21 @@ fn go_on<'a, A: Allocator>(
         Op::Modify => Err(Errno::EROFS),
         Op::Other => Err(Errno::ENOSYS),
         Op::Malformed { .. } => Err(Errno::EINVAL),
-        Op::Lookup { name } => look_up(table, export, node, name),
-        Op::Getattr => get_attr(table, export, node),
-        Op::Readlink => read_link(table, export, node),
-        Op::Open { flags } => open_file(table, export, node, flags),
-        Op::Read { offset, size } => read(table, export, node, offset, size),
-        Op::Opendir => open_directory(table, export, node),
-        Op::Readdir { offset, size } => list(table, export, node, offset, size, false),
-        Op::Readdirplus { offset, size } => list(table, export, node, offset, size, true),
+        Op::Lookup { name } => look_up(table, agreed, node, name),
+        Op::Getattr => get_attr(table, agreed, node),
+        Op::Readlink => read_link(table, agreed, node),
+        Op::Open { flags } => open_file(table, agreed, node, flags),
+        Op::Read { offset, size } => read(table, agreed, node, offset, size),
+        Op::Opendir => open_directory(table, agreed, node),
+        Op::Readdir { offset, size } => list(table, agreed, node, offset, size, false),
+        Op::Readdirplus { offset, size } => list(table, agreed, node, offset, size, true),
         Op::Statfs => Ok(Answer::Figures {
             blocks: table.blocks_all(),
             nodes: table.len(),
         }),
         Op::Forget { nlookup } => Ok(Answer::Forgotten { node, nlookup }),
         Op::BatchForget { items } => Ok(Answer::AllForgotten(items)),
+        Op::Flush if agreed.lasting => Err(Errno::ENOSYS),
         Op::Release
         | Op::Fsync
         | Op::Flush

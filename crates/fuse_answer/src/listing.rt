@@ -14,6 +14,7 @@ use crate::node::kind_of;
 use fuse_wire::limits::MAX_DATA_SIZE;
 use fuse_wire::{Errno, dirent_size};
 use node_table::{Row, Table};
+use reply_model::Agreement;
 use romfs_format::Kind;
 use std::alloc::Allocator;
 
@@ -37,13 +38,13 @@ pub(crate) struct Listing<'a, A: Allocator> {
 /// `offset` ones, as many as fit whole in the size.
 pub(crate) fn list<'a, A: Allocator>(
     table: &'a Table<A>,
-    export: bool,
+    agreed: Agreement,
     number: u64,
     offset: u64,
     size: u32,
     with_entries: bool,
 ) -> Result<Answer<'a, A>, Errno>
-    ensures { DecidesAt table.now export number (listing_op with_entries offset size) result }
+    ensures { DecidesAt table.now agreed number (listing_op with_entries offset size) result }
 {
     if kind_of(table, number)? != Kind::Directory {
         return Err(Errno::ENOTDIR);

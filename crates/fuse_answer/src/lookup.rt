@@ -10,21 +10,23 @@ use crate::node::{kind_of, wired};
 use fuse_wire::Errno;
 use fuse_wire::limits::MAX_NAME_SIZE;
 use node_table::Table;
+use reply_model::Agreement;
 use romfs_format::Kind;
 use std::alloc::Allocator;
 
 /// What LOOKUP is answered. In a session with `FUSE_EXPORT_SUPPORT` the name `.` finds the node
-/// itself, of any kind, and `..` the directory above.
+/// itself, of any kind, and `..` the directory above. Lastingly, that a name finds nothing is no
+/// error.
 pub(crate) fn look_up<'a, A: Allocator>(
     table: &'a Table<A>,
-    export: bool,
+    agreed: Agreement,
     number: u64,
     name: &[u8],
 ) -> Result<Answer<'a, A>, Errno>
-    ensures { DecidesAt table.now export number (lookup name.now) result }
+    ensures { DecidesAt table.now agreed number (lookup name.now) result }
 {
     let kind = kind_of(table, number)?;
-    if is_itself(export, name) {
+    if is_itself(agreed.export, name) {
         return entry(table, number);
     }
     if kind != Kind::Directory {
@@ -33,8 +35,9 @@ pub(crate) fn look_up<'a, A: Allocator>(
     if name.len() > MAX_NAME_SIZE as usize {
         return Err(Errno::ENAMETOOLONG);
     }
-    match found(table, export, number, name) {
+    match found(table, agreed.export, number, name) {
         Some(found) => entry(table, found),
+        None if agreed.lasting => Ok(Answer::NoEntry),
         None => Err(Errno::ENOENT),
     }
 }

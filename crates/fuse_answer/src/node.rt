@@ -2,24 +2,26 @@
 
 ghost use Rattle.std.specs.Prelude.{◌≡◌, take, drop};
 ghost use Rattle.fuse_wire.specs.Requests.{getattr, readlink, open_file, opendir, read};
+ghost use Rattle.reply_model.specs.Services.{opendir_flags};
 ghost use Rattle.fuse_answer.specs.Answers.{DecidesAt, TellsKind};
 ghost use Rattle.fuse_answer.specs.Listings.{wired};
 
 use crate::content::Answer;
-use fuse_wire::flags::FOPEN_KEEP_CACHE;
+use fuse_wire::flags::{FOPEN_CACHE_DIR, FOPEN_KEEP_CACHE};
 use fuse_wire::limits::MAX_DATA_SIZE;
 use fuse_wire::{Attr, Errno};
 use node_table::Table;
+use reply_model::Agreement;
 use romfs_format::Kind;
 use std::alloc::Allocator;
 
 /// What GETATTR is answered.
 pub(crate) fn get_attr<'a, A: Allocator>(
     table: &'a Table<A>,
-    export: bool,
+    agreed: Agreement,
     number: u64,
 ) -> Result<Answer<'a, A>, Errno>
-    ensures { DecidesAt table.now export number getattr result }
+    ensures { DecidesAt table.now agreed number getattr result }
 {
     match table.attr(number) {
         Some(attr) => Ok(Answer::Attributes(wired(attr))),
@@ -30,10 +32,10 @@ pub(crate) fn get_attr<'a, A: Allocator>(
 /// What READLINK is answered.
 pub(crate) fn read_link<'a, A: Allocator>(
     table: &'a Table<A>,
-    export: bool,
+    agreed: Agreement,
     number: u64,
 ) -> Result<Answer<'a, A>, Errno>
-    ensures { DecidesAt table.now export number readlink result }
+    ensures { DecidesAt table.now agreed number readlink result }
 {
     match kind_of(table, number)? {
         Kind::SymLink => Ok(Answer::Data(table.bytes(number))),
@@ -41,34 +43,48 @@ pub(crate) fn read_link<'a, A: Allocator>(
     }
 }
 
-/// What OPEN is answered: the access mode is the lowest two bits of the flags.
+/// What OPEN is answered: the access mode is the lowest two bits of the flags. A client that need
+/// not ask is told so last.
 pub(crate) fn open_file<'a, A: Allocator>(
     table: &'a Table<A>,
-    export: bool,
+    agreed: Agreement,
     number: u64,
     flags: u32,
 ) -> Result<Answer<'a, A>, Errno>
-    ensures { DecidesAt table.now export number (open_file flags) result }
+    ensures { DecidesAt table.now agreed number (open_file flags) result }
 {
     match kind_of(table, number)? {
-        Kind::Regular if flags % 4 == 0 => Ok(Answer::Opened(FOPEN_KEEP_CACHE)),
-        Kind::Regular => Err(Errno::EROFS),
+        Kind::Regular if flags % 4 != 0 => Err(Errno::EROFS),
+        Kind::Regular if agreed.no_open => Err(Errno::ENOSYS),
+        Kind::Regular => Ok(Answer::Opened(FOPEN_KEEP_CACHE)),
         Kind::Directory => Err(Errno::EISDIR),
         _ => Err(Errno::EINVAL),
     }
 }
 
-/// What OPENDIR is answered.
+/// What OPENDIR is answered. A client that need not ask is told so last.
 pub(crate) fn open_directory<'a, A: Allocator>(
     table: &'a Table<A>,
-    export: bool,
+    agreed: Agreement,
     number: u64,
 ) -> Result<Answer<'a, A>, Errno>
-    ensures { DecidesAt table.now export number opendir result }
+    ensures { DecidesAt table.now agreed number opendir result }
 {
     match kind_of(table, number)? {
-        Kind::Directory => Ok(Answer::Opened(0)),
+        Kind::Directory if agreed.no_opendir => Err(Errno::ENOSYS),
+        Kind::Directory => Ok(Answer::Opened(opendir_flags(agreed.lasting))),
         _ => Err(Errno::ENOTDIR),
+    }
+}
+
+// The flags of a directory that is opened.
+fn opendir_flags(lasting: bool) -> u32
+    ensures { result ≡ opendir_flags lasting }
+{
+    if lasting {
+        FOPEN_KEEP_CACHE | FOPEN_CACHE_DIR
+    } else {
+        0
     }
 }
 
@@ -76,12 +92,12 @@ pub(crate) fn open_directory<'a, A: Allocator>(
 /// file's end.
 pub(crate) fn read<'a, A: Allocator>(
     table: &'a Table<A>,
-    export: bool,
+    agreed: Agreement,
     number: u64,
     offset: u64,
     size: u32,
 ) -> Result<Answer<'a, A>, Errno>
-    ensures { DecidesAt table.now export number (read offset size) result }
+    ensures { DecidesAt table.now agreed number (read offset size) result }
 {
     match kind_of(table, number)? {
         Kind::Regular if size <= MAX_DATA_SIZE => {

@@ -2,12 +2,11 @@
 
 ghost use Rattle.std.specs.Prelude.{◌≡◌};
 ghost use Rattle.fuse_wire.specs.Reads.{op_said};
-ghost use Rattle.reply_model.specs.Sessions.{session_after, is_spoken};
-ghost use Rattle.fuse_wire.specs.Structures.{has_export};
+ghost use Rattle.reply_model.specs.Sessions.{session_after, is_spoken, agreement_of};
 
-use fuse_wire::flags::EXPORT_SUPPORT;
+use fuse_wire::flags::{has_export, has_no_open, has_no_opendir};
 use fuse_wire::{Op, Request};
-use reply_model::Session;
+use reply_model::{Agreement, Session};
 
 /// The session after a request: an INIT of a version that is spoken begins it, and DESTROY ends it
 /// (linux/fuse.h, `FUSE_INIT` and `FUSE_DESTROY`).
@@ -26,7 +25,21 @@ pub fn after(session: Session, request: &Request<'_>) -> Session
         ) if is_spoken(major, minor) => Session::Ready {
             export: has_export(flags),
         },
+        (
+            Session::LastingFresh,
+            Op::Init {
+                major,
+                minor,
+                flags,
+                ..
+            },
+        ) if is_spoken(major, minor) => Session::LastingReady {
+            export: has_export(flags),
+            no_open: has_no_open(flags),
+            no_opendir: has_no_opendir(flags),
+        },
         (Session::Ready { .. }, Op::Destroy) => Session::Fresh,
+        (Session::LastingReady { .. }, Op::Destroy) => Session::LastingFresh,
         (session, _) => session,
     }
 }
@@ -38,9 +51,32 @@ pub(crate) fn is_spoken(major: u32, minor: u32) -> bool
     major == 7 && 12 <= minor
 }
 
-// Whether the client finds `.` and `..` by LOOKUP.
-fn has_export(flags: u32) -> bool
-    ensures { result ≡ has_export flags }
+/// What is agreed on in a session.
+pub(crate) fn agreement_of(session: Session) -> Agreement
+    ensures { result ≡ agreement_of session }
 {
-    flags / EXPORT_SUPPORT % 2 == 1
+    let usual = Agreement {
+        lasting: false,
+        export: false,
+        no_open: false,
+        no_opendir: false,
+    };
+    match session {
+        Session::Fresh => usual,
+        Session::Ready { export } => Agreement { export, ..usual },
+        Session::LastingFresh => Agreement {
+            lasting: true,
+            ..usual
+        },
+        Session::LastingReady {
+            export,
+            no_open,
+            no_opendir,
+        } => Agreement {
+            lasting: true,
+            export,
+            no_open,
+            no_opendir,
+        },
+    }
 }

@@ -6,7 +6,9 @@ ghost use Rattle.fuse_answer.specs.Puts.{Puts};
 
 use crate::content::Answer;
 use crate::rows::put_rows;
-use fuse_wire::{put_attr, put_data, put_entry, put_head, put_init, put_open, put_statfs};
+use fuse_wire::{
+    put_attr, put_data, put_entry, put_head, put_init, put_negative_entry, put_open, put_statfs,
+};
 use node_table::Table;
 use std::alloc::{AllocError, Allocator};
 
@@ -24,6 +26,7 @@ pub(crate) fn write<A: Allocator, O: Allocator>(
         Answer::Done | Answer::Forgotten { .. } | Answer::AllForgotten(_) => put_head(out, unique),
         Answer::Terms(init) => put_init(out, unique, init),
         Answer::Entry(attr) => put_entry(out, unique, attr),
+        Answer::NoEntry => put_negative_entry(out, unique),
         Answer::Attributes(attr) => put_attr(out, unique, attr),
         Answer::Opened(flags) => put_open(out, unique, *flags),
         Answer::Data(bytes) => put_data(out, unique, bytes),

@@ -7,7 +7,7 @@ use Rattle.fuse_wire.specs.Stream.{field}
 use Rattle.fuse_wire.specs.Requests.{Op, init, at_node, getattr, open_file, read, opendir, readdir, readdirplus, silent, forget, batch_forget, malformed, forgets_of, op_of}
 use Rattle.fuse_wire.specs.Laws.{Needs, BodySizes, ReplySizes, RowSizes}
 use Rattle.fuse_wire.proofs.Items.{counted}
-use Rattle.fuse_wire.proofs.Sizes.{length-version, length-terms, length-entry_out, length-attr_out, length-open_out, length-statfs_out, length-dirent, length-direntplus}
+use Rattle.fuse_wire.proofs.Sizes.{length-version, length-terms, length-entry_out, length-negative_entry_out, length-attr_out, length-open_out, length-statfs_out, length-dirent, length-direntplus}
 
 is_malformed : Op → Bool
 is_malformed (malformed opcode) = true
@@ -35,7 +35,7 @@ body_sizes = record {
 }
 
 pub reply_sizes : ReplySizes
-reply_sizes = record { version = length-version; terms = length-terms; entry = length-entry_out; attr = length-attr_out; open_file = length-open_out; statfs = length-statfs_out }
+reply_sizes = record { version = length-version; terms = length-terms; entry = length-entry_out; negative_entry = length-negative_entry_out; attr = length-attr_out; open_file = length-open_out; statfs = length-statfs_out }
 
 pub row_sizes : RowSizes
 row_sizes = record {

@@ -3,7 +3,6 @@ pub mod Begins
 pub mod FlagBits
 pub mod Names
 pub mod Sizes
-pub mod Fill
 pub mod Padding
 pub mod Items
 pub mod Bodies

@@ -6,7 +6,7 @@ use Rattle.fuse_wire.specs.declared.errno.Errno.{Errno}
 use Rattle.fuse_wire.specs.declared.reply.Attr.{Attr}
 use Rattle.fuse_wire.specs.declared.reply.Dirent.{Dirent}
 use Rattle.fuse_wire.specs.declared.reply.InitOut.TheVariants.{Version, Terms}
-use Rattle.fuse_wire.specs.Structures.{u16, u32, u64, zeros, init_out, init_out_22, init_out_rest, attr, entry_out, attr_out, open_out, statfs_out, dirent_size, dirent_front, dirent, direntplus, padding, row_front, plus_row_bytes}
+use Rattle.fuse_wire.specs.Structures.{u16, u32, u64, zeros, init_out, init_out_22, init_out_rest, attr, entry_out, negative_entry_out, attr_out, open_out, statfs_out, dirent_size, dirent_front, dirent, direntplus, padding, row_front, plus_row_bytes}
 use Rattle.fuse_wire.specs.Replies.{reply_head, reply_with, error_reply}
 
 pub length-head : (unique n : ℕ) → length (reply_head unique n) ≡ 16
@@ -26,15 +26,15 @@ pub length-version : length (init_out Version) ≡ 64
 unfolding init_out u32 zeros
 length-version = refl
 
-pub length-init_out_22 : (readahead flags : ℕ) → length (init_out_22 readahead flags) ≡ 24
+pub length-init_out_22 : (lasting : Bool) (readahead flags : ℕ) → length (init_out_22 lasting readahead flags) ≡ 24
 unfolding init_out_22 u16 u32
-length-init_out_22 readahead flags = refl
+length-init_out_22 lasting readahead flags = refl
 
-pub length-terms : (minor readahead flags : ℕ) → length (init_out (Terms minor readahead flags)) ≡ cond (nat_lt minor 23) 24 64
+pub length-terms : (lasting : Bool) (minor readahead flags : ℕ) → length (init_out (Terms lasting minor readahead flags)) ≡ cond (nat_lt minor 23) 24 64
 unfolding init_out init_out_22 init_out_rest u16 u32 zeros
-length-terms minor readahead flags = either (nat_lt minor 23)
+length-terms lasting minor readahead flags = either (nat_lt minor 23)
   where
-    either : (b : Bool) → length (cond b (init_out_22 readahead flags) (init_out_22 readahead flags ++ init_out_rest flags)) ≡ cond b 24 64
+    either : (b : Bool) → length (cond b (init_out_22 lasting readahead flags) (init_out_22 lasting readahead flags ++ init_out_rest lasting flags)) ≡ cond b 24 64
     either true = refl
     either false = refl
 
@@ -45,6 +45,10 @@ length-attr a = refl
 pub length-entry_out : (a : Attr) → length (entry_out a) ≡ 128
 unfolding entry_out attr u32 u64
 length-entry_out a = refl
+
+pub length-negative_entry_out : length negative_entry_out ≡ 128
+unfolding negative_entry_out u32 u64 zeros
+length-negative_entry_out = refl
 
 pub length-attr_out : (a : Attr) → length (attr_out a) ≡ 104
 unfolding attr_out attr u32 u64
@@ -89,7 +93,7 @@ length-direntplus entry ino off file_type name =
     given None = length-zeros 128
     given (Some a) = length-entry_out a
 
-pub ruleset sizes = (length-head, length-error_reply, length-reply_with, length-version, length-init_out_22, length-terms, length-attr, length-entry_out, length-attr_out, length-open_out, length-statfs_out, length-zeros, length-dirent_front, length-dirent, length-direntplus)
+pub ruleset sizes = (length-head, length-error_reply, length-reply_with, length-version, length-init_out_22, length-terms, length-attr, length-entry_out, length-negative_entry_out, length-attr_out, length-open_out, length-statfs_out, length-zeros, length-dirent_front, length-dirent, length-direntplus)
 
 -- the parts of a row of READDIRPLUS, as they are put one after another, are its bytes
 pub plus_row_is : (entry : Option Attr) (row : Dirent) (head front : List ℕ)

@@ -21,4 +21,4 @@ unfolding op_of forgets_of u32 u64 zeros dirent_front dirent
 dirents = record { one_byte = refl; seven_bytes = refl; eight_bytes = refl; nine_bytes = refl }
 
 pub flags : FlagExamples
-flags = record { async_read = refl; export_support = refl; do_readdirplus = refl; readdirplus_auto = refl; parallel_dirops = refl; max_pages = refl; keep_cache = refl }
+flags = record { async_read = refl; export_support = refl; do_readdirplus = refl; readdirplus_auto = refl; no_open_support = refl; parallel_dirops = refl; max_pages = refl; cache_symlinks = refl; no_opendir_support = refl; keep_cache = refl; cache_dir = refl }

@@ -1,6 +1,6 @@
 -- Worked examples: what each opcode asks, and rows of directories as bytes.
 use Rattle.std.specs.Prelude.{◌≡◌, ℕ, ◌^◌, List, [], ◌∷◌, ◌++◌, map, replicate, codes}
-use Rattle.fuse_wire.specs.declared.flags.TheConstants.{ASYNC_READ, EXPORT_SUPPORT, DO_READDIRPLUS, READDIRPLUS_AUTO, PARALLEL_DIROPS, MAX_PAGES, FOPEN_KEEP_CACHE}
+use Rattle.fuse_wire.specs.declared.flags.TheConstants.{ASYNC_READ, EXPORT_SUPPORT, DO_READDIRPLUS, READDIRPLUS_AUTO, NO_OPEN_SUPPORT, PARALLEL_DIROPS, MAX_PAGES, CACHE_SYMLINKS, NO_OPENDIR_SUPPORT, FOPEN_KEEP_CACHE, FOPEN_CACHE_DIR}
 use Rattle.fuse_wire.specs.Requests.{init, at_node, lookup, getattr, readlink, open_file, read, opendir, readdir, readdirplus, statfs, done, release, fsync, flush, releasedir, fsyncdir, destroy, silent, forget, batch_forget, interrupt, modify, other, malformed, op_of, asked}
 use Rattle.fuse_wire.specs.Structures.{u32, u64, zeros, dirent}
 
@@ -78,12 +78,16 @@ pub record DirentExamples : Type 0 where
   pub nine_bytes : dirent 1 2 4 (codes "nnnnnnnnn") ≡ u64 1 ++ u64 2 ++ u32 9 ++ u32 4
       ++ codes "nnnnnnnnn" ++ zeros 7
 
--- the flags of INIT and of the reply to OPEN, by the places of their bits
+-- the flags of INIT and of the replies to OPEN and OPENDIR, by the places of their bits
 pub record FlagExamples : Type 0 where
   pub async_read : ASYNC_READ ≡ 2 ^ 0
   pub export_support : EXPORT_SUPPORT ≡ 2 ^ 4
   pub do_readdirplus : DO_READDIRPLUS ≡ 2 ^ 13
   pub readdirplus_auto : READDIRPLUS_AUTO ≡ 2 ^ 14
+  pub no_open_support : NO_OPEN_SUPPORT ≡ 2 ^ 17
   pub parallel_dirops : PARALLEL_DIROPS ≡ 2 ^ 18
   pub max_pages : MAX_PAGES ≡ 2 ^ 22
+  pub cache_symlinks : CACHE_SYMLINKS ≡ 2 ^ 23
+  pub no_opendir_support : NO_OPENDIR_SUPPORT ≡ 2 ^ 24
   pub keep_cache : FOPEN_KEEP_CACHE ≡ 2 ^ 1
+  pub cache_dir : FOPEN_CACHE_DIR ≡ 2 ^ 3

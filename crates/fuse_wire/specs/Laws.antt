@@ -1,9 +1,9 @@
 -- linux/fuse.h: how long the structures of requests are, and those of replies.
-use Rattle.std.specs.Prelude.{◌≡◌, ◌≢◌, ℕ, ◌+◌, ◌%◌, ◌<◌, ◌≤◌, List, length, Option, nat_lt, if◌then◌else◌}
+use Rattle.std.specs.Prelude.{◌≡◌, ◌≢◌, ℕ, ◌+◌, ◌%◌, ◌<◌, ◌≤◌, List, length, Bool, Option, nat_lt, if◌then◌else◌}
 use Rattle.fuse_wire.specs.declared.reply.Attr.{Attr}
 use Rattle.fuse_wire.specs.declared.reply.InitOut.TheVariants.{Version, Terms}
 use Rattle.fuse_wire.specs.Requests.{malformed, op_of}
-use Rattle.fuse_wire.specs.Structures.{init_out, entry_out, attr_out, open_out, statfs_out, dirent_size, dirent, direntplus}
+use Rattle.fuse_wire.specs.Structures.{init_out, entry_out, negative_entry_out, attr_out, open_out, statfs_out, dirent_size, dirent, direntplus}
 
 -- the opcode needs a body of n bytes, and asks for no more
 pub record Needs (opcode n : ℕ) : Type 0 where
@@ -25,9 +25,11 @@ pub record BodySizes : Type 0 where
 -- the structures of replies
 pub record ReplySizes : Type 0 where
   pub version : length (init_out Version) ≡ 64
-  pub terms : (minor readahead flags : ℕ)
-      → length (init_out (Terms minor readahead flags)) ≡ (if nat_lt minor 23 then 24 else 64)
+  pub terms : (lasting : Bool) (minor readahead flags : ℕ)
+      → length (init_out (Terms lasting minor readahead flags))
+      ≡ (if nat_lt minor 23 then 24 else 64)
   pub entry : (a : Attr) → length (entry_out a) ≡ 128
+  pub negative_entry : length negative_entry_out ≡ 128
   pub attr : (a : Attr) → length (attr_out a) ≡ 104
   pub open_file : (flags : ℕ) → length (open_out flags) ≡ 16
   pub statfs : (blocks files : ℕ) → length (statfs_out blocks files) ≡ 80

@@ -39,34 +39,45 @@ errno_number ESTALE = 116
 abbrev pub has_bit : ℕ → ℕ → Bool
 has_bit place flags = flags / 2 ^ place % 2 == 1
 
--- EXPORT_SUPPORT
+-- EXPORT_SUPPORT, NO_OPEN_SUPPORT and NO_OPENDIR_SUPPORT
 abbrev pub has_export : ℕ → Bool
 has_export flags = has_bit 4 flags
 
--- max_pages, where the client's flags have MAX_PAGES
-abbrev pub max_pages : ℕ → ℕ
-max_pages flags = if has_bit 22 flags then 32 else 0
+abbrev pub has_no_open : ℕ → Bool
+has_no_open flags = has_bit 17 flags
 
--- init_out up to max_write, which is all that clients of minor versions below 23 know. The flags
--- are ASYNC_READ (bit 0), EXPORT_SUPPORT (4), DO_READDIRPLUS (13), READDIRPLUS_AUTO (14),
--- PARALLEL_DIROPS (18) and MAX_PAGES (22)
-unfoldable pub init_out_22 : ℕ → ℕ → List ℕ
-init_out_22 readahead flags =
+abbrev pub has_no_opendir : ℕ → Bool
+has_no_opendir flags = has_bit 24 flags
+
+-- the flags that a session may have: ASYNC_READ (bit 0), EXPORT_SUPPORT (4), DO_READDIRPLUS (13),
+-- READDIRPLUS_AUTO (14), PARALLEL_DIROPS (18) and MAX_PAGES (22); of a lasting tree also
+-- NO_OPEN_SUPPORT (17), CACHE_SYMLINKS (23) and NO_OPENDIR_SUPPORT (24)
+abbrev pub served_flags : Bool → ℕ
+served_flags lasting = if lasting then 0x01c66011 else 0x00446011
+
+-- max_pages, where the client's flags have MAX_PAGES
+abbrev pub max_pages : Bool → ℕ → ℕ
+max_pages lasting flags = if has_bit 22 flags then (if lasting then 256 else 32) else 0
+
+-- init_out up to max_write, which is all that clients of minor versions below 23 know
+unfoldable pub init_out_22 : Bool → ℕ → ℕ → List ℕ
+init_out_22 lasting readahead flags =
     -- major, minor, max_readahead, flags
-    u32 7 ++ u32 31 ++ u32 (min readahead MAX_READAHEAD) ++ u32 (bit_and flags 0x00446011)
+    u32 7 ++ u32 31 ++ u32 (min readahead MAX_READAHEAD)
+    ++ u32 (bit_and flags (served_flags lasting))
     -- max_background, congestion_threshold, max_write
     ++ u16 12 ++ u16 9 ++ u32 MAX_WRITE
 
 -- init_out from there on: time_gran, max_pages, map_alignment, unused
-unfoldable pub init_out_rest : ℕ → List ℕ
-init_out_rest flags = u32 1 ++ u16 (max_pages flags) ++ u16 0 ++ zeros 32
+unfoldable pub init_out_rest : Bool → ℕ → List ℕ
+init_out_rest lasting flags = u32 1 ++ u16 (max_pages lasting flags) ++ u16 0 ++ zeros 32
 
 -- init_out: the version alone for a client of a later major version, else the session's terms
 unfoldable pub init_out : InitOut → List ℕ
 init_out Version = u32 7 ++ u32 31 ++ zeros 56
-init_out (Terms minor readahead flags) =
-    if nat_lt minor 23 then init_out_22 readahead flags
-    else init_out_22 readahead flags ++ init_out_rest flags
+init_out (Terms lasting minor readahead flags) =
+    if nat_lt minor 23 then init_out_22 lasting readahead flags
+    else init_out_22 lasting readahead flags ++ init_out_rest lasting flags
 
 unfoldable pub attr : Attr → List ℕ
 attr a =
@@ -81,6 +92,12 @@ unfoldable pub entry_out : Attr → List ℕ
 entry_out a =
     -- nodeid, generation, entry_valid, attr_valid, entry_valid_nsec, attr_valid_nsec, attr
     u64 a.ino ++ u64 0 ++ u64 3600 ++ u64 3600 ++ u32 0 ++ u32 0 ++ attr a
+
+-- entry_out of a name that is none: its nodeid is 0, and entry_valid says how long there is none
+unfoldable pub negative_entry_out : List ℕ
+negative_entry_out =
+    -- nodeid, generation, entry_valid, attr_valid, entry_valid_nsec, attr_valid_nsec, attr
+    u64 0 ++ u64 0 ++ u64 3600 ++ u64 0 ++ u32 0 ++ u32 0 ++ zeros 88
 
 unfoldable pub attr_out : Attr → List ℕ
 attr_out a =

@@ -4,8 +4,9 @@
 //! - [`frame`] says whether the bytes of a stream begin with a whole message, with a length that no
 //!   message has, or with less than a message.
 //! - [`Request::read`] says what a whole message asks, for every opcode.
-//! - [`put_head`], [`put_error`], [`put_data`], [`put_init`], [`put_entry`], [`put_attr`],
-//!   [`put_open`] and [`put_statfs`] append a whole reply each.
+//! - [`put_head`], [`put_error`], [`put_data`], [`put_init`], [`put_entry`],
+//!   [`put_negative_entry`], [`put_attr`], [`put_open`] and [`put_statfs`] append a whole reply
+//!   each.
 //! - A READDIR's reply is written row by row: [`put_data_head`], then [`put_dirent`] or
 //!   [`put_direntplus`] for each row. [`dirent_size`] says how long a row will be.
 //!
@@ -43,7 +44,7 @@ pub use forget::{Forget, Forgets};
 pub use framing::{Framed, frame};
 pub use put::{
     dirent_size, put_attr, put_data, put_data_head, put_dirent, put_direntplus, put_entry,
-    put_error, put_head, put_init, put_open, put_statfs,
+    put_error, put_head, put_init, put_negative_entry, put_open, put_statfs,
 };
 pub use reply::{Attr, Dirent, InitOut};
 pub use request::{Op, Request, glance};

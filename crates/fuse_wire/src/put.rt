@@ -3,7 +3,7 @@
 
 ghost use Rattle.std.specs.Prelude.{◌≡◌, ◌++◌, ◌<◌, ◌≤◌, ◌+◌, ◌-◌, ◌^◌, [], None, length, vec_len, vec_capacity};
 ghost use Rattle.std.specs.Option.{option_copied};
-ghost use Rattle.fuse_wire.specs.Structures.{zeros, init_out, entry_out, attr_out, open_out, statfs_out, dirent_size, padding, row_bytes, plus_row_bytes};
+ghost use Rattle.fuse_wire.specs.Structures.{zeros, init_out, entry_out, negative_entry_out, attr_out, open_out, statfs_out, dirent_size, padding, row_bytes, plus_row_bytes};
 ghost use Rattle.fuse_wire.specs.Replies.{reply_head, reply_with, error_reply};
 ghost use Rattle.fuse_wire.specs.Appends.{Appends};
 ghost use Rattle.fuse_wire.specs.declared.put.TheConstants.{DIRENT_FRONT_SIZE};
@@ -11,8 +11,8 @@ ghost use Rattle.fuse_wire.specs.declared.put.TheConstants.{DIRENT_FRONT_SIZE};
 use crate::structure::Structure;
 use crate::structures::{
     ATTR_OUT_SIZE, COMPAT_22_INIT_OUT_SIZE, ENTRY_OUT_SIZE, INIT_OUT_SIZE, OPEN_OUT_SIZE,
-    STATFS_OUT_SIZE, attr_out, dirent_front, entry_out, error_head, head, init_out, open_out,
-    statfs_out,
+    STATFS_OUT_SIZE, attr_out, dirent_front, entry_out, error_head, head, init_out,
+    negative_entry_out, open_out, statfs_out,
 };
 use crate::{Attr, Dirent, Errno, InitOut};
 use std::alloc::{AllocError, Allocator};
@@ -24,7 +24,7 @@ const DIRENT_FRONT_SIZE: usize = 24;
 const PADDING: [u8; 8] = [0; 8];
 
 /// Appends a reply without data: a `struct fuse_out_header` of 16 bytes alone, with no error.
-#[tactic(auto, unfolding(crate::specs::Replies::reply_with), using(crate::proofs::Fill::all))]
+#[tactic(auto, unfolding(crate::specs::Replies::reply_with))]
 pub fn put_head<A: Allocator>(out: &mut Vec<u8, A>, unique: u64) -> Result<(), AllocError>
     ensures { Appends result out.old out.new (reply_with unique []) }
 {
@@ -120,6 +120,18 @@ pub fn put_entry<A: Allocator>(
     out.extend_from_slice(reply.as_slice())
 }
 
+/// Appends the reply that a name is none, of 144 bytes (`struct fuse_entry_out`, with a nodeid of
+/// 0): for an hour the client need not ask for it again.
+#[tactic(auto, unfolding(crate::specs::Replies::reply_with), using(crate::proofs::Sizes::sizes))]
+pub fn put_negative_entry<A: Allocator>(out: &mut Vec<u8, A>, unique: u64) -> Result<(), AllocError>
+    ensures { Appends result out.old out.new (reply_with unique negative_entry_out) }
+{
+    let mut reply = Structure::new();
+    head(&mut reply, unique, ENTRY_OUT_SIZE);
+    negative_entry_out(&mut reply);
+    out.extend_from_slice(reply.as_slice())
+}
+
 /// Appends the reply with a node's attributes, of 120 bytes (`struct fuse_attr_out`).
 #[tactic(auto, unfolding(crate::specs::Replies::reply_with), using(crate::proofs::Sizes::sizes))]
 pub fn put_attr<A: Allocator>(
@@ -136,7 +148,8 @@ pub fn put_attr<A: Allocator>(
 }
 
 /// Appends the reply to an OPEN or OPENDIR, of 32 bytes (`struct fuse_open_out`), with handle 0 and
-/// these flags ([`FOPEN_KEEP_CACHE`](crate::flags::FOPEN_KEEP_CACHE) or none).
+/// these flags ([`FOPEN_KEEP_CACHE`](crate::flags::FOPEN_KEEP_CACHE),
+/// [`FOPEN_CACHE_DIR`](crate::flags::FOPEN_CACHE_DIR), both or none).
 #[tactic(auto, unfolding(crate::specs::Replies::reply_with), using(crate::proofs::Sizes::sizes))]
 pub fn put_open<A: Allocator>(
     out: &mut Vec<u8, A>,
@@ -275,7 +288,7 @@ fn padding(name_len: usize) -> usize
 }
 
 // Appends three runs of bytes, one after another, in one growth.
-#[tactic(auto, using(crate::proofs::Fill::all))]
+#[tactic(auto)]
 #[inline(always)]
 fn put_three<A: Allocator>(
     out: &mut Vec<u8, A>,

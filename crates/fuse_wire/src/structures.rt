@@ -3,7 +3,7 @@
 
 ghost use Rattle.std.specs.Prelude.{◌≡◌, ◌++◌, ◌<◌, ◌≤◌, ◌+◌, ◌^◌, length};
 ghost use Rattle.fuse_wire.specs.declared.structure.TheConstants.{ROOM};
-ghost use Rattle.fuse_wire.specs.Structures.{init_out, init_out_22, init_out_rest, max_pages, attr, entry_out, attr_out, open_out, statfs_out, row_front};
+ghost use Rattle.fuse_wire.specs.Structures.{init_out, init_out_22, init_out_rest, max_pages, served_flags, attr, entry_out, negative_entry_out, attr_out, open_out, statfs_out, row_front};
 ghost use Rattle.fuse_wire.specs.Replies.{reply_head, error_reply};
 
 use crate::limits::{MAX_NAME_SIZE, MAX_READAHEAD, MAX_WRITE, OUT_HEADER_SIZE};
@@ -38,6 +38,9 @@ const MINOR: u32 = 31;
 /// The flags that a session may have.
 const SERVED_FLAGS: u32 = 0x0044_6011;
 
+/// The same where the tree lasts.
+const LASTING_FLAGS: u32 = 0x01c6_6011;
+
 /// How many requests may wait in the background.
 const MAX_BACKGROUND: u16 = 12;
 
@@ -50,6 +53,9 @@ const TIME_GRANULARITY: u32 = 1;
 /// How many pages of 4,096 bytes a request may have.
 const MAX_PAGES: u16 = 32;
 
+/// The same where the tree lasts: as many as Linux allows (its `FUSE_MAX_MAX_PAGES`).
+const LASTING_MAX_PAGES: u16 = 256;
+
 /// How long an entry or attributes stay valid, in seconds.
 const VALID_SECONDS: u64 = 3_600;
 
@@ -60,7 +66,7 @@ const BLOCK_SIZE: u32 = 4_096;
 const STATFS_BLOCK_SIZE: u32 = 512;
 
 // `struct fuse_out_header` of a reply without an error and with `size` bytes of data.
-#[tactic(auto, unfolding(crate::specs::Replies::reply_head), using(crate::proofs::Fill::all))]
+#[tactic(auto, unfolding(crate::specs::Replies::reply_head))]
 pub fn head(fields: &mut Structure, unique: u64, size: usize)
     requires room { length fields.old + 16 ≤ ROOM }
     requires size { 16 + size < 2 ^ 32 }
@@ -73,7 +79,7 @@ pub fn head(fields: &mut Structure, unique: u64, size: usize)
 }
 
 // The same of a reply with an error.
-#[tactic(auto, unfolding(crate::specs::Replies::error_reply), using(crate::proofs::Fill::all))]
+#[tactic(auto, unfolding(crate::specs::Replies::error_reply))]
 pub fn error_head(fields: &mut Structure, unique: u64, errno: Errno)
     requires { length fields.old + 16 ≤ ROOM }
     ensures { fields.new ≡ fields.old ++ error_reply unique errno }
@@ -84,7 +90,7 @@ pub fn error_head(fields: &mut Structure, unique: u64, errno: Errno)
 }
 
 // `struct fuse_init_out`, as far as the client knows it.
-#[tactic(auto, unfolding(crate::specs::Structures::init_out), using(crate::proofs::Fill::all))]
+#[tactic(auto, unfolding(crate::specs::Structures::init_out))]
 pub fn init_out(fields: &mut Structure, init: &InitOut)
     requires { length fields.old + 64 ≤ ROOM }
     ensures { fields.new ≡ fields.old ++ init_out init.now }
@@ -96,61 +102,71 @@ pub fn init_out(fields: &mut Structure, init: &InitOut)
             fields.zeros::<56>();
         }
         InitOut::Terms {
+            lasting,
             minor,
             max_readahead,
             flags,
         } => {
-            init_out_22(fields, max_readahead, flags);
+            init_out_22(fields, lasting, max_readahead, flags);
             if 23 <= minor {
-                init_out_rest(fields, flags);
+                init_out_rest(fields, lasting, flags);
             }
         }
     }
 }
 
 // Its fields up to `max_write`.
-#[tactic(auto, unfolding(crate::specs::Structures::init_out_22), using(crate::proofs::Fill::all))]
-fn init_out_22(fields: &mut Structure, max_readahead: u32, flags: u32)
+#[tactic(auto, unfolding(crate::specs::Structures::init_out_22))]
+fn init_out_22(fields: &mut Structure, lasting: bool, max_readahead: u32, flags: u32)
     requires { length fields.old + 24 ≤ ROOM }
-    ensures fields { fields.new ≡ fields.old ++ init_out_22 max_readahead flags }
+    ensures fields { fields.new ≡ fields.old ++ init_out_22 lasting max_readahead flags }
     ensures len { length fields.new ≡ length fields.old + 24 }
 {
     fields.u32(MAJOR);
     fields.u32(MINOR);
     fields.u32(max_readahead.min(MAX_READAHEAD));
-    fields.u32(flags & SERVED_FLAGS);
+    fields.u32(flags & served_flags(lasting));
     fields.u16(MAX_BACKGROUND);
     fields.u16(CONGESTION_THRESHOLD);
     fields.u32(MAX_WRITE);
 }
 
 // Its fields from `time_gran` on.
-#[tactic(auto, unfolding(crate::specs::Structures::init_out_rest), using(crate::proofs::Fill::all))]
-fn init_out_rest(fields: &mut Structure, flags: u32)
+#[tactic(auto, unfolding(crate::specs::Structures::init_out_rest))]
+fn init_out_rest(fields: &mut Structure, lasting: bool, flags: u32)
     requires { length fields.old + 40 ≤ ROOM }
-    ensures fields { fields.new ≡ fields.old ++ init_out_rest flags }
+    ensures fields { fields.new ≡ fields.old ++ init_out_rest lasting flags }
     ensures len { length fields.new ≡ length fields.old + 40 }
 {
     fields.u32(TIME_GRANULARITY);
-    fields.u16(max_pages(flags));
+    fields.u16(max_pages(lasting, flags));
     fields.u16(0); // map_alignment
     fields.zeros::<32>(); // unused
 }
 
+// The flags that a session may have.
+fn served_flags(lasting: bool) -> u32
+    ensures { result ≡ served_flags lasting }
+{
+    if lasting { LASTING_FLAGS } else { SERVED_FLAGS }
+}
+
 // How many pages a request may have, for a client with these flags.
 #[tactic(auto, using(crate::proofs::FlagBits::max_pages_bit))]
-fn max_pages(flags: u32) -> u16
-    ensures { result ≡ max_pages flags }
+fn max_pages(lasting: bool, flags: u32) -> u16
+    ensures { result ≡ max_pages lasting flags }
 {
-    if flags & flags::MAX_PAGES != 0 {
-        MAX_PAGES
-    } else {
+    if flags & flags::MAX_PAGES == 0 {
         0
+    } else if lasting {
+        LASTING_MAX_PAGES
+    } else {
+        MAX_PAGES
     }
 }
 
 // `struct fuse_attr`. Owners and times are all 0.
-#[tactic(auto, unfolding(crate::specs::Structures::attr), using(crate::proofs::Fill::all))]
+#[tactic(auto, unfolding(crate::specs::Structures::attr))]
 fn attr(fields: &mut Structure, node: &Attr)
     requires { length fields.old + 88 ≤ ROOM }
     ensures fields { fields.new ≡ fields.old ++ attr node.now }
@@ -175,7 +191,7 @@ fn attr(fields: &mut Structure, node: &Attr)
 }
 
 // `struct fuse_entry_out`.
-#[tactic(auto, unfolding(crate::specs::Structures::entry_out), using(crate::proofs::Fill::all))]
+#[tactic(auto, unfolding(crate::specs::Structures::entry_out))]
 pub fn entry_out(fields: &mut Structure, node: &Attr)
     requires { length fields.old + 128 ≤ ROOM }
     ensures { fields.new ≡ fields.old ++ entry_out node.now }
@@ -189,8 +205,23 @@ pub fn entry_out(fields: &mut Structure, node: &Attr)
     attr(fields, node);
 }
 
+// `struct fuse_entry_out` of a name that is none.
+#[tactic(auto, unfolding(crate::specs::Structures::negative_entry_out))]
+pub fn negative_entry_out(fields: &mut Structure)
+    requires { length fields.old + 128 ≤ ROOM }
+    ensures { fields.new ≡ fields.old ++ negative_entry_out }
+{
+    fields.u64(0); // nodeid
+    fields.u64(0); // generation
+    fields.u64(VALID_SECONDS); // entry_valid
+    fields.u64(0); // attr_valid
+    fields.u32(0); // entry_valid_nsec
+    fields.u32(0); // attr_valid_nsec
+    fields.zeros::<88>(); // attr
+}
+
 // `struct fuse_attr_out`.
-#[tactic(auto, unfolding(crate::specs::Structures::attr_out), using(crate::proofs::Fill::all))]
+#[tactic(auto, unfolding(crate::specs::Structures::attr_out))]
 pub fn attr_out(fields: &mut Structure, node: &Attr)
     requires { length fields.old + 104 ≤ ROOM }
     ensures { fields.new ≡ fields.old ++ attr_out node.now }
@@ -202,7 +233,7 @@ pub fn attr_out(fields: &mut Structure, node: &Attr)
 }
 
 // `struct fuse_open_out`.
-#[tactic(auto, unfolding(crate::specs::Structures::open_out), using(crate::proofs::Fill::all))]
+#[tactic(auto, unfolding(crate::specs::Structures::open_out))]
 pub fn open_out(fields: &mut Structure, open_flags: u32)
     requires { length fields.old + 16 ≤ ROOM }
     ensures { fields.new ≡ fields.old ++ open_out open_flags }
@@ -213,7 +244,7 @@ pub fn open_out(fields: &mut Structure, open_flags: u32)
 }
 
 // `struct fuse_statfs_out`, which holds a `struct fuse_kstatfs`.
-#[tactic(auto, unfolding(crate::specs::Structures::statfs_out), using(crate::proofs::Fill::all))]
+#[tactic(auto, unfolding(crate::specs::Structures::statfs_out))]
 pub fn statfs_out(fields: &mut Structure, blocks: u64, files: u64)
     requires { length fields.old + 80 ≤ ROOM }
     ensures { fields.new ≡ fields.old ++ statfs_out blocks files }
@@ -231,7 +262,7 @@ pub fn statfs_out(fields: &mut Structure, blocks: u64, files: u64)
 }
 
 // `struct fuse_dirent` up to its name.
-#[tactic(auto, unfolding(crate::specs::Structures::dirent_front), using(crate::proofs::Fill::all))]
+#[tactic(auto, unfolding(crate::specs::Structures::dirent_front))]
 pub fn dirent_front(fields: &mut Structure, row: &Dirent<'_>)
     requires room { length fields.old + 24 ≤ ROOM }
     requires named { length row.now.name.now < 2 ^ 32 }

@@ -1,24 +1,25 @@
 -- What requests give, beside what they are answered.
-use Rattle.std.proofs.Common.{◌≡◌, ◌∙◌, ap, ℕ, inl, inr, List, [], ◌∷◌, ◌++◌, Bool, true, false, Option, Some, None, cond, refl}
+use Rattle.std.proofs.Common.{◌≡◌, ◌∙◌, ap, ℕ, ◌⊎◌, inl, inr, List, [], ◌∷◌, ◌++◌, Bool, true, false, Option, Some, None, cond, refl}
 use Rattle.std.specs.Prelude.{is_some}
 use Rattle.std.specs.Option.{option_map_or}
 use Rattle.fuse_wire.specs.declared.errno.Errno.{Errno}
 use Rattle.fuse_wire.specs.Requests.{Op, Asked, at_node, lookup, readdirplus, done, destroy, silent, forget, batch_forget}
 use Rattle.stack_model.specs.Listing.{Entry}
 use Rattle.stack_model.specs.Numbers.{Place, node_of}
+use Rattle.reply_model.specs.declared.session.Agreement.{Agreement}
 use Rattle.reply_model.specs.declared.session.Session.{Session}
-use Rattle.reply_model.specs.declared.session.Session.TheVariants.{Fresh}
 use Rattle.reply_model.specs.declared.moves.Move.{Move}
-use Rattle.reply_model.specs.Sessions.{is_exported}
+use Rattle.reply_model.specs.Sessions.{is_fresh, agreement_of}
+use Rattle.reply_model.specs.Lookups.{looked_up}
 use Rattle.reply_model.specs.Rows.{rows_answered, direntplus_of}
 use Rattle.reply_model.specs.Refusals.{refusal}
 use Rattle.reply_model.specs.Moves.{moved, moves}
-use Rattle.reply_model.specs.Laws.{GivesEntry, GivesRows, is_moving}
+use Rattle.reply_model.specs.Laws.{IsEntry, IsNoEntry, GivesEntry, GivesRows, is_moving}
 use Rattle.reply_model.specs.Moves.{balance}
 use Rattle.reply_model.specs.Streams.{session_at, moves_by}
 use Rattle.reply_model.proofs.Balances.{moves-append}
 use Rattle.std.proofs.lemmas.List.{append-nil}
-use Rattle.reply_model.proofs.Refused.{lookup_finds, rows_found}
+use Rattle.reply_model.proofs.Refused.{node_found}
 
 module _ (layers : List (List ℕ)) (entries : List Entry) where
   abbrev looking : ℕ → ℕ → List ℕ → Asked
@@ -30,11 +31,17 @@ module _ (layers : List (List ℕ)) (entries : List Entry) where
   pub lookup_gives : (s : Session) (unique node : ℕ) (name : List ℕ) → GivesEntry layers entries s (looking unique node name)
   lookup_gives s unique node name = go (refusal layers entries s node (at_node (lookup name))) refl
     where
+      found : refusal layers entries s node (at_node (lookup name)) ≡ None → (p : Place) → node_of entries node ≡ Some p
+          → (o : Option Place) → looked_up entries (agreement_of s).export p name ≡ o
+          → IsNoEntry layers entries s (looking unique node name) ⊎ IsEntry layers entries s (looking unique node name)
+      found e p is None n = inl (rw (e, is, n) refl, rw (e, is, n) refl)
+      found e p is (Some c) n = inr (c, rw (e, is, n) refl, rw (e, is, n) refl)
+
       go : (o : Option Errno) → refusal layers entries s node (at_node (lookup name)) ≡ o → GivesEntry layers entries s (looking unique node name)
       go (Some errno) e = inl ((errno, rw (e) refl), rw (e) refl)
       go None e =
-          let f = lookup_finds layers entries s node name e in
-          inr (f.1, rw (e, f.2, f.3) refl, rw (e, f.2, f.3) refl)
+          let f = node_found layers entries s node (lookup name) e in
+          inr (found e f.0 f.1 (looked_up entries (agreement_of s).export f.0 name) refl)
 
   pub readdirplus_gives : (s : Session) (unique node offset size : ℕ) → GivesRows layers entries s (listing unique node offset size)
   readdirplus_gives s unique node offset size = go (refusal layers entries s node (at_node (readdirplus offset size))) refl
@@ -42,7 +49,7 @@ module _ (layers : List (List ℕ)) (entries : List Entry) where
       go : (o : Option Errno) → refusal layers entries s node (at_node (readdirplus offset size)) ≡ o → GivesRows layers entries s (listing unique node offset size)
       go (Some errno) e = inl ((errno, rw (e) refl), rw (e) refl)
       go None e =
-          let f = rows_found layers entries s node offset size e in
+          let f = node_found layers entries s node (readdirplus offset size) e in
           inr (rows_answered entries (direntplus_of layers entries) f.0 offset size, rw (e, f.1) refl, rw (e, f.1) refl)
 
   abbrev no_moves : List Move
@@ -57,7 +64,7 @@ module _ (layers : List (List ℕ)) (entries : List Entry) where
   unless true ms e = refl
   unless false ms e = e
 
-  moved_nothing : (x : Bool) (node : ℕ) (op : Op) → is_moving op ≡ false → moved layers entries x node op ≡ []
+  moved_nothing : (x : Agreement) (node : ℕ) (op : Op) → is_moving op ≡ false → moved layers entries x node op ≡ []
   moved_nothing x node (at_node (lookup name)) e = absurd (cc)
   moved_nothing x node (at_node (readdirplus offset size)) e = absurd (cc)
   moved_nothing x node (at_node _) e = nowhere (node_of entries node)
@@ -68,16 +75,17 @@ module _ (layers : List (List ℕ)) (entries : List Entry) where
   -- the other requests move nothing, DESTROY among them
   pub others_move_nothing : (s : Session) (q : Asked) → is_moving q.op ≡ false → moves layers entries s q ≡ []
   others_move_nothing s q e = unless (is_some (refusal layers entries s q.node q.op))
-      (moved layers entries (is_exported s) q.node q.op) (moved_nothing (is_exported s) q.node q.op e)
+      (moved layers entries (agreement_of s) q.node q.op) (moved_nothing (agreement_of s) q.node q.op e)
 
   -- nor does any request in a fresh session
-  fresh_op : (unique node : ℕ) (op : Op) → moves layers entries Fresh (record { unique = unique; node = node; op = op }) ≡ []
-  fresh_op unique node (at_node op) = refl
-  fresh_op unique node (silent op) = refl
-  fresh_op unique node op = others_move_nothing Fresh (record { unique = unique; node = node; op = op }) refl
+  fresh_op : (s : Session) (unique node : ℕ) (op : Op) → is_fresh s ≡ true
+      → moves layers entries s (record { unique = unique; node = node; op = op }) ≡ []
+  fresh_op s unique node (at_node op) e = rw e refl
+  fresh_op s unique node (silent op) e = rw e refl
+  fresh_op s unique node op e = others_move_nothing s (record { unique = unique; node = node; op = op }) refl
 
-  pub fresh_moves_nothing : (q : Asked) → moves layers entries Fresh q ≡ []
-  fresh_moves_nothing q = fresh_op q.unique q.node q.op
+  pub fresh_moves_nothing : (s : Session) (q : Asked) → is_fresh s ≡ true → moves layers entries s q ≡ []
+  fresh_moves_nothing s q e = fresh_op s q.unique q.node q.op e
 
   -- so a request that moves nothing leaves all balances
   pub balances_stay : (s : Session) (qs : List Asked) (q : Asked) (node : ℕ) → is_moving q.op ≡ false

@@ -8,7 +8,7 @@ use Rattle.fuse_wire.specs.Structures.{u32, u64, errno_number}
 use Rattle.fuse_wire.specs.Replies.{reply_head, reply_with, error_reply}
 use Rattle.stack_model.specs.Listing.{Entry}
 use Rattle.reply_model.specs.declared.session.Session.{Session}
-use Rattle.reply_model.specs.Sessions.{is_exported}
+use Rattle.reply_model.specs.Sessions.{agreement_of}
 use Rattle.reply_model.specs.Refusals.{refusal}
 use Rattle.reply_model.specs.Replies.{is_silent, answer, reply}
 use Rattle.reply_model.specs.Laws.{IsReplyTo}
@@ -48,8 +48,8 @@ pub headed : (layers : List (List ℕ)) (entries : List Entry) (s : Session) (q 
 headed layers entries s q = silent (is_silent q.op) refl
   where
     refused : (o : Option Errno)
-        → IsReplyTo q.unique (option_map_or (error_reply q.unique) o (reply_with q.unique (answer layers entries (is_exported s) q.node q.op)))
-    refused None = with_data q.unique (answer layers entries (is_exported s) q.node q.op)
+        → IsReplyTo q.unique (option_map_or (error_reply q.unique) o (reply_with q.unique (answer layers entries (agreement_of s) q.node q.op)))
+    refused None = with_data q.unique (answer layers entries (agreement_of s) q.node q.op)
     refused (Some errno) = with_error q.unique errno
 
     silent : (b : Bool) → is_silent q.op ≡ b → (reply layers entries s q ≡ []) ⊎ IsReplyTo q.unique (reply layers entries s q)

@@ -23,21 +23,22 @@ use Rattle.fuse_wire.specs.declared.reply.InitOut.TheVariants.{Version, Terms}
 use Rattle.fuse_wire.specs.declared.limits.TheConstants.{MAX_DATA_SIZE, MAX_REPLY_SIZE}
 use Rattle.fuse_wire.specs.Stream.{said_length}
 use Rattle.fuse_wire.specs.Requests.{NodeOp, Op, Asked, init, at_node, lookup, getattr, readlink, open_file, read, opendir, readdir, readdirplus, statfs}
-use Rattle.fuse_wire.specs.Structures.{u32, u64, init_out, entry_out}
+use Rattle.fuse_wire.specs.Structures.{u32, u64, init_out, entry_out, negative_entry_out}
 use Rattle.fuse_wire.specs.Replies.{reply_with, error_reply}
 use Rattle.stack_model.specs.Listing.{Entry, IsListing}
 use Rattle.stack_model.specs.Numbers.{Place, nodes, node_of}
 use Rattle.stack_model.specs.Attributes.{blocks_all, kind_at, size_at, layer_of, data_of}
 use Rattle.stack_model.proofs.Listings.{IsLedTo, led_to}
 use Rattle.stack_model.proofs.Numbering.{number_listed}
+use Rattle.reply_model.specs.declared.session.Agreement.{Agreement}
 use Rattle.reply_model.specs.declared.session.Session.{Session}
-use Rattle.reply_model.specs.Sessions.{is_exported}
+use Rattle.reply_model.specs.Sessions.{agreement_of}
 use Rattle.reply_model.specs.Lookups.{looked_up}
 use Rattle.reply_model.specs.Rows.{Row, reply_attr, dirent_of, direntplus_of, fitting}
-use Rattle.reply_model.specs.Services.{unless_link, is_too_large, refused_rows, service}
+use Rattle.reply_model.specs.Services.{unless_link, is_too_large, refused_rows, opendir_flags, service}
 use Rattle.reply_model.specs.Refusals.{refused_by_itself, refused_at, refusal}
 use Rattle.reply_model.specs.Replies.{is_silent, answer_at, answer, reply}
-use Rattle.fuse_wire.proofs.Sizes.{length-error_reply, length-reply_with, length-version, length-terms, length-entry_out, length-attr_out, length-open_out, length-statfs_out}
+use Rattle.fuse_wire.proofs.Sizes.{length-error_reply, length-reply_with, length-version, length-terms, length-entry_out, length-negative_entry_out, length-attr_out, length-open_out, length-statfs_out}
 use Rattle.reply_model.proofs.Fronts.{front}
 use Rattle.reply_model.proofs.Refused.{both_none, if_none, not_by_itself}
 use Rattle.reply_model.proofs.Headers.{headed}
@@ -45,9 +46,9 @@ use Rattle.reply_model.proofs.Headers.{headed}
 -- INIT is answered 64 bytes at most
 short_init : (o : InitOut) → length (init_out o) ≤ 64
 short_init Version = let l = length-version in omega arith
-short_init (Terms minor readahead flags) = either (nat_lt minor 23) (length-terms minor readahead flags)
+short_init (Terms lasting minor readahead flags) = either (nat_lt minor 23) (length-terms lasting minor readahead flags)
   where
-    either : (b : Bool) → length (init_out (Terms minor readahead flags)) ≡ cond b 24 64 → length (init_out (Terms minor readahead flags)) ≤ 64
+    either : (b : Bool) → length (init_out (Terms lasting minor readahead flags)) ≡ cond b 24 64 → length (init_out (Terms lasting minor readahead flags)) ≤ 64
     either true e = omega arith
     either false e = omega arith
 
@@ -101,10 +102,10 @@ module _ (bs : List (List ℕ)) (entries : List Entry) (sound : All IsSound bs) 
       link_data layers p MAX_TARGET_SIZE k (subst (λ a. size a p.1 ≤ MAX_TARGET_SIZE) (sym here) short)
 
   -- what is not refused at a node is refused neither by its kind nor by the arguments
-  by_kind : (x : Bool) (op : NodeOp) (p : Place) → refused_at layers entries x op p ≡ None → (service layers entries x op).by_kind (kind_at layers p) ≡ None
+  by_kind : (x : Agreement) (op : NodeOp) (p : Place) → refused_at layers entries x op p ≡ None → (service layers entries x op).by_kind (kind_at layers p) ≡ None
   by_kind x op p r = let asked = service layers entries x op in (both_none (asked.by_kind (kind_at layers p)) (asked.by_arguments p) r).0
 
-  by_arguments : (x : Bool) (op : NodeOp) (p : Place) → refused_at layers entries x op p ≡ None → (service layers entries x op).by_arguments p ≡ None
+  by_arguments : (x : Agreement) (op : NodeOp) (p : Place) → refused_at layers entries x op p ≡ None → (service layers entries x op).by_arguments p ≡ None
   by_arguments x op p r = let asked = service layers entries x op in (both_none (asked.by_kind (kind_at layers p)) (asked.by_arguments p) r).1
 
   -- rows that are answered fit in 1 MiB
@@ -112,17 +113,17 @@ module _ (bs : List (List ℕ)) (entries : List Entry) (sound : All IsSound bs) 
   short_rows form rows n r = let a = not_large n (or_parts _ _ (if_none _ _ r)).0 in let f = (front form n rows).fits in omega arith
 
   -- the answer at a place that has a number
-  short_at : (x : Bool) (node : ℕ) (op : NodeOp) (p : Place) → node_of entries node ≡ Some p → refused_at layers entries x op p ≡ None
+  short_at : (x : Agreement) (node : ℕ) (op : NodeOp) (p : Place) → node_of entries node ≡ Some p → refused_at layers entries x op p ≡ None
       → length (answer_at layers entries x op p) ≤ MAX_DATA_SIZE
-  short_at x node (lookup name) p e r = found (looked_up entries x p name)
+  short_at x node (lookup name) p e r = found (looked_up entries x.export p name)
     where
-      found : (o : Option Place) → length (option_map_or (λ c. entry_out (reply_attr layers entries c)) o []) ≤ MAX_DATA_SIZE
-      found None = lit≤ tt
+      found : (o : Option Place) → length (option_map_or (λ c. entry_out (reply_attr layers entries c)) o negative_entry_out) ≤ MAX_DATA_SIZE
+      found None = let l = length-negative_entry_out in omega arith
       found (Some c) = let l = length-entry_out (reply_attr layers entries c) in omega arith
   short_at x node getattr p e r = let l = length-attr_out (reply_attr layers entries p) in omega arith
   short_at x node readlink p e r = let l = short_link node p e (is_link _ (by_kind x readlink p r)) in omega arith
   short_at x node (open_file flags) p e r = let l = length-open_out 2 in omega arith
-  short_at x node opendir p e r = let l = length-open_out 0 in omega arith
+  short_at x node opendir p e r = let l = length-open_out (opendir_flags x.lasting) in omega arith
   short_at x node (read offset n) p e r =
       let a = not_large n (if_none _ _ (by_arguments x (read offset n) p r)) in
       let f = length-front n (drop offset (data_of layers p)) in
@@ -131,15 +132,15 @@ module _ (bs : List (List ℕ)) (entries : List Entry) (sound : All IsSound bs) 
   short_at x node (readdirplus offset n) p e r = short_rows (direntplus_of layers entries) _ n (by_arguments x (readdirplus offset n) p r)
 
   -- the answer to a request about a node
-  short_node : (x : Bool) (node : ℕ) (op : NodeOp) (o : Option Place) → node_of entries node ≡ o
+  short_node : (x : Agreement) (node : ℕ) (op : NodeOp) (o : Option Place) → node_of entries node ≡ o
       → option_map_or (refused_at layers entries x op) o (Some ESTALE) ≡ None
       → length (option_map_or (answer_at layers entries x op) o []) ≤ MAX_DATA_SIZE
   short_node x node op None e r = lit≤ tt
   short_node x node op (Some p) e r = short_at x node op p e r
 
   -- the answer to a request that is not refused
-  short_answer : (x : Bool) (node : ℕ) (op : Op) → refused_by_itself layers entries x node op ≡ None → length (answer layers entries x node op) ≤ MAX_DATA_SIZE
-  short_answer x node (init major minor readahead flags) r = let l = short_init (cond (nat_lt 7 major) Version (Terms minor readahead flags)) in omega arith
+  short_answer : (x : Agreement) (node : ℕ) (op : Op) → refused_by_itself layers entries x node op ≡ None → length (answer layers entries x node op) ≤ MAX_DATA_SIZE
+  short_answer x node (init major minor readahead flags) r = let l = short_init (cond (nat_lt 7 major) Version (Terms x.lasting minor readahead flags)) in omega arith
   short_answer x node (at_node op) r = short_node x node op (node_of entries node) refl r
   short_answer x node statfs r = let l = length-statfs_out (blocks_all layers) (length (nodes entries)) in omega arith
   short_answer x node _ r = lit≤ tt
@@ -149,17 +150,17 @@ module _ (bs : List (List ℕ)) (entries : List Entry) (sound : All IsSound bs) 
   short s q = silent (is_silent q.op)
     where
       replied : (o : Option Errno) → refusal layers entries s q.node q.op ≡ o
-          → length (option_map_or (error_reply q.unique) o (reply_with q.unique (answer layers entries (is_exported s) q.node q.op)))
+          → length (option_map_or (error_reply q.unique) o (reply_with q.unique (answer layers entries (agreement_of s) q.node q.op)))
           ≤ MAX_REPLY_SIZE
       replied (Some errno) e = let x = length-error_reply q.unique errno in omega arith
       replied None e =
-          let a = short_answer (is_exported s) q.node q.op (not_by_itself layers entries s q.node q.op e) in
-          let x = length-reply_with q.unique (answer layers entries (is_exported s) q.node q.op) in
+          let a = short_answer (agreement_of s) q.node q.op (not_by_itself layers entries s q.node q.op e) in
+          let x = length-reply_with q.unique (answer layers entries (agreement_of s) q.node q.op) in
           omega arith
 
       silent : (b : Bool)
           → length (cond b [] (option_map_or (error_reply q.unique) (refusal layers entries s q.node q.op)
-          (reply_with q.unique (answer layers entries (is_exported s) q.node q.op))))
+          (reply_with q.unique (answer layers entries (agreement_of s) q.node q.op))))
           ≤ MAX_REPLY_SIZE
       silent true = lit≤ tt
       silent false = replied (refusal layers entries s q.node q.op) refl

@@ -1,8 +1,10 @@
 pub mod Headers
 pub mod Fronts
 pub mod Worked
+pub mod LastingWorked
 pub mod Lengths
 pub mod Refused
 pub mod Given
+pub mod Lasting
 pub mod Balances
 pub mod Widths

@@ -461,7 +461,7 @@ looking_up =
 
 -- the balance of a node after them
 abbrev pub held : ℕ → ℤ
-held node = balance_after (sample_image ∷ []) sample_entries looking_up node
+held node = balance_after (sample_image ∷ []) sample_entries Fresh looking_up node
 
 -- what one request of a session gives and takes
 abbrev pub moved_over_sample : Session → List ℕ → List Move

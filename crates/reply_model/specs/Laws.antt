@@ -4,7 +4,7 @@ use Rattle.std.specs.List.{flat_map}
 use Rattle.fuse_wire.specs.declared.errno.Errno.{Errno}
 use Rattle.fuse_wire.specs.declared.reply.Attr.{Attr}
 use Rattle.fuse_wire.specs.Requests.{Op, Asked, at_node, lookup, readdirplus, silent, forget, batch_forget}
-use Rattle.fuse_wire.specs.Structures.{u32, u64, entry_out}
+use Rattle.fuse_wire.specs.Structures.{u32, u64, entry_out, negative_entry_out}
 use Rattle.fuse_wire.specs.Replies.{reply_with, error_reply}
 use Rattle.stack_model.specs.Listing.{Entry}
 use Rattle.stack_model.specs.Numbers.{Place}
@@ -35,13 +35,22 @@ module _ (layers : List (List ℕ)) (entries : List Entry) where
       ((errno : Errno) × (reply layers entries s q ≡ error_reply q.unique errno))
       × (moves layers entries s q ≡ [])
 
+  -- it is answered the entry of a node, and gives one lookup of that node
+  abbrev pub IsEntry : Session → Asked → Type 0
+  IsEntry s q =
+      (p : Place)
+      × (reply layers entries s q ≡ reply_with q.unique (entry_out (reply_attr layers entries p)))
+      × (moves layers entries s q ≡ give layers entries p ∷ [])
+
+  -- it is answered that the name is none, and gives nothing
+  abbrev pub IsNoEntry : Session → Asked → Type 0
+  IsNoEntry s q =
+      (reply layers entries s q ≡ reply_with q.unique negative_entry_out)
+      × (moves layers entries s q ≡ [])
+
   -- a LOOKUP gives one lookup of the node whose entry it is answered, or nothing
   abbrev pub GivesEntry : Session → Asked → Type 0
-  GivesEntry s q =
-      GivesNothing s q
-      ⊎ ((p : Place)
-      × (reply layers entries s q ≡ reply_with q.unique (entry_out (reply_attr layers entries p)))
-      × (moves layers entries s q ≡ give layers entries p ∷ []))
+  GivesEntry s q = GivesNothing s q ⊎ (IsNoEntry s q ⊎ IsEntry s q)
 
   -- a READDIRPLUS gives one lookup of the node of each row that it is answered but . and .., or
   -- nothing

@@ -7,4 +7,6 @@ pub mod Replies
 pub mod Moves
 pub mod Streams
 pub mod Examples
+pub mod LastingExamples
 pub mod Laws
+pub mod Lasting

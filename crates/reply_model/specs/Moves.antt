@@ -1,15 +1,16 @@
 -- linux/fuse.h, FUSE_LOOKUP, FUSE_READDIRPLUS, FUSE_FORGET and FUSE_BATCH_FORGET: how many lookups
 -- of each node a client holds.
-use Rattle.std.specs.Prelude.{ℕ, List, [], ◌∷◌, Bool, ◌==◌, Option, is_some, ℤ, pos, neg_ℤ, ◌+ℤ◌, if◌then◌else◌}
+use Rattle.std.specs.Prelude.{ℕ, List, [], ◌∷◌, ◌==◌, Option, is_some, ℤ, pos, neg_ℤ, ◌+ℤ◌, if◌then◌else◌}
 use Rattle.std.specs.List.{filter_map}
 use Rattle.std.specs.Option.{option_map, option_map_or}
 use Rattle.fuse_wire.specs.declared.forget.Forget.{Forget}
 use Rattle.fuse_wire.specs.Requests.{NodeOp, SilentOp, Op, Asked, init, at_node, statfs, done, silent, forget, batch_forget, interrupt, modify, other, malformed}
 use Rattle.stack_model.specs.Listing.{Entry}
 use Rattle.stack_model.specs.Numbers.{Place, node_of}
+use Rattle.reply_model.specs.declared.session.Agreement.{Agreement}
 use Rattle.reply_model.specs.declared.session.Session.{Session}
 use Rattle.reply_model.specs.declared.moves.Move.{Move}
-use Rattle.reply_model.specs.Sessions.{is_exported}
+use Rattle.reply_model.specs.Sessions.{agreement_of}
 use Rattle.reply_model.specs.Services.{service}
 use Rattle.reply_model.specs.Refusals.{refusal}
 
@@ -32,23 +33,23 @@ module _ (layers : List (List ℕ)) (entries : List Entry) where
       (node_of entries f.node)
 
   -- what a request about a node gives
-  abbrev pub gives_at : Bool → NodeOp → Place → List Move
-  gives_at export op p = (service layers entries export op).gives p
+  abbrev pub gives_at : Agreement → NodeOp → Place → List Move
+  gives_at agreed op p = (service layers entries agreed op).gives p
 
   -- what a request gives and takes that is not refused, in order
-  abbrev pub moved : Bool → ℕ → Op → List Move
-  moved export node (at_node op) = option_map_or (gives_at export op) (node_of entries node) []
-  moved export node (silent op) = filter_map take_back (forgotten node op)
-  moved export node (init major minor readahead flags) = []
-  moved export node statfs = []
-  moved export node (done op) = []
-  moved export node modify = []
-  moved export node other = []
-  moved export node (malformed opcode) = []
+  abbrev pub moved : Agreement → ℕ → Op → List Move
+  moved agreed node (at_node op) = option_map_or (gives_at agreed op) (node_of entries node) []
+  moved agreed node (silent op) = filter_map take_back (forgotten node op)
+  moved agreed node (init major minor readahead flags) = []
+  moved agreed node statfs = []
+  moved agreed node (done op) = []
+  moved agreed node modify = []
+  moved agreed node other = []
+  moved agreed node (malformed opcode) = []
 
   -- what a request gives and takes; one that is refused, as any but INIT in a fresh session,
   -- changes nothing
   abbrev pub moves : Session → Asked → List Move
   moves s q =
       if is_some (refusal layers entries s q.node q.op) then []
-      else moved (is_exported s) q.node q.op
+      else moved (agreement_of s) q.node q.op

@@ -1,16 +1,16 @@
 -- Which requests are refused, and with which error: the first refusal in this order that fits.
-use Rattle.std.specs.Prelude.{ℕ, List, [], ◌∷◌, Bool, true, false, not, ◌||◌, ◌==◌, nat_lt, Option, Some, None}
+use Rattle.std.specs.Prelude.{ℕ, List, [], ◌∷◌, Bool, true, false, not, ◌||◌, ◌==◌, nat_lt, Option, Some, None, if◌then◌else◌}
 use Rattle.std.specs.Option.{option_map_or}
 use Rattle.fuse_wire.specs.declared.errno.Errno.{Errno}
 use Rattle.fuse_wire.specs.declared.errno.Errno.TheVariants.{EIO, EINVAL, EROFS, ENOSYS, EPROTO, ESTALE}
 use Rattle.fuse_wire.specs.declared.opcode.TheConstants.{INIT}
-use Rattle.fuse_wire.specs.Requests.{NodeOp, Op, init, at_node, statfs, done, silent, modify, other, malformed}
+use Rattle.fuse_wire.specs.Requests.{NodeOp, DoneOp, Op, init, at_node, statfs, done, release, fsync, flush, releasedir, fsyncdir, destroy, silent, modify, other, malformed}
 use Rattle.stack_model.specs.Listing.{Entry}
 use Rattle.stack_model.specs.Numbers.{Place, node_of}
 use Rattle.stack_model.specs.Attributes.{kind_at}
+use Rattle.reply_model.specs.declared.session.Agreement.{Agreement}
 use Rattle.reply_model.specs.declared.session.Session.{Session}
-use Rattle.reply_model.specs.declared.session.Session.TheVariants.{Fresh, Ready}
-use Rattle.reply_model.specs.Sessions.{is_spoken, is_exported}
+use Rattle.reply_model.specs.Sessions.{is_spoken, is_fresh, agreement_of}
 use Rattle.reply_model.specs.Services.{refuse_if, service}
 
 -- the first of the refusals
@@ -26,32 +26,44 @@ is_init (malformed opcode) = opcode == INIT
 is_init _ = false
 
 -- a fresh session answers INIT alone, one that is ready anything else
-abbrev pub refused_by_session : Session → Op → Option Errno
-refused_by_session Fresh op = refuse_if (not (is_init op)) EIO
-refused_by_session (Ready export) op = refuse_if (is_init op) EIO
+abbrev pub refused_by_session : Bool → Op → Option Errno
+refused_by_session fresh op = refuse_if (if fresh then not (is_init op) else is_init op) EIO
+
+-- lastingly a client is told once that it need not tell when a file is closed
+abbrev pub refused_when_done : Agreement → DoneOp → Option Errno
+refused_when_done agreed flush = refuse_if agreed.lasting ENOSYS
+refused_when_done agreed release = None
+refused_when_done agreed fsync = None
+refused_when_done agreed releasedir = None
+refused_when_done agreed fsyncdir = None
+refused_when_done agreed destroy = None
 
 module _ (layers : List (List ℕ)) (entries : List Entry) where
   -- a request at a node: its kind, and then the arguments
-  abbrev pub refused_at : Bool → NodeOp → Place → Option Errno
-  refused_at export op p =
-      let asked = service layers entries export op in
+  abbrev pub refused_at : Agreement → NodeOp → Place → Option Errno
+  refused_at agreed op p =
+      let asked = service layers entries agreed op in
       first_refusal (asked.by_kind (kind_at layers p) ∷ asked.by_arguments p ∷ [])
 
   -- requests that would change the tree, that are not served, or that are malformed; versions that
   -- are not spoken, but a client of a later major version is told the version; numbers that are not
   -- in use, and what is refused at their node
-  abbrev pub refused_by_itself : Bool → ℕ → Op → Option Errno
-  refused_by_itself export node modify = Some EROFS
-  refused_by_itself export node other = Some ENOSYS
-  refused_by_itself export node (malformed opcode) = Some EINVAL
-  refused_by_itself export node (init major minor readahead flags) =
+  abbrev pub refused_by_itself : Agreement → ℕ → Op → Option Errno
+  refused_by_itself agreed node modify = Some EROFS
+  refused_by_itself agreed node other = Some ENOSYS
+  refused_by_itself agreed node (malformed opcode) = Some EINVAL
+  refused_by_itself agreed node (init major minor readahead flags) =
       refuse_if (not (nat_lt 7 major || is_spoken major minor)) EPROTO
-  refused_by_itself export node (at_node op) =
-      option_map_or (refused_at export op) (node_of entries node) (Some ESTALE)
-  refused_by_itself export node statfs = None
-  refused_by_itself export node (done op) = None
-  refused_by_itself export node (silent op) = None
+  refused_by_itself agreed node (at_node op) =
+      option_map_or (refused_at agreed op) (node_of entries node) (Some ESTALE)
+  refused_by_itself agreed node statfs = None
+  refused_by_itself agreed node (done op) = refused_when_done agreed op
+  refused_by_itself agreed node (silent op) = None
+
+  -- the same of any request: whether the session is fresh comes before all else
+  abbrev pub refusal_in : Bool → Agreement → ℕ → Op → Option Errno
+  refusal_in fresh agreed node op =
+      first_refusal (refused_by_session fresh op ∷ refused_by_itself agreed node op ∷ [])
 
   abbrev pub refusal : Session → ℕ → Op → Option Errno
-  refusal s node op =
-      first_refusal (refused_by_session s op ∷ refused_by_itself (is_exported s) node op ∷ [])
+  refusal s node op = refusal_in (is_fresh s) (agreement_of s) node op

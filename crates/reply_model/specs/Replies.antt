@@ -9,8 +9,9 @@ use Rattle.fuse_wire.specs.Replies.{reply_with, error_reply}
 use Rattle.stack_model.specs.Listing.{Entry}
 use Rattle.stack_model.specs.Numbers.{Place, nodes, node_of}
 use Rattle.stack_model.specs.Attributes.{blocks_all}
+use Rattle.reply_model.specs.declared.session.Agreement.{Agreement}
 use Rattle.reply_model.specs.declared.session.Session.{Session}
-use Rattle.reply_model.specs.Sessions.{is_exported}
+use Rattle.reply_model.specs.Sessions.{agreement_of}
 use Rattle.reply_model.specs.Services.{service}
 use Rattle.reply_model.specs.Refusals.{refusal}
 
@@ -27,24 +28,24 @@ is_silent other = false
 
 module _ (layers : List (List ℕ)) (entries : List Entry) where
   -- what a request about a node is answered
-  abbrev pub answer_at : Bool → NodeOp → Place → List ℕ
-  answer_at export op p = (service layers entries export op).answer p
+  abbrev pub answer_at : Agreement → NodeOp → Place → List ℕ
+  answer_at agreed op p = (service layers entries agreed op).answer p
 
   -- what a request is answered that is not refused
-  abbrev pub answer : Bool → ℕ → Op → List ℕ
-  answer export node (init major minor readahead flags) =
-      init_out (if nat_lt 7 major then Version else Terms minor readahead flags)
-  answer export node (at_node op) = option_map_or (answer_at export op) (node_of entries node) []
-  answer export node statfs = statfs_out (blocks_all layers) (length (nodes entries))
-  answer export node (done op) = []
-  answer export node (silent op) = []
-  answer export node modify = []
-  answer export node other = []
-  answer export node (malformed opcode) = []
+  abbrev pub answer : Agreement → ℕ → Op → List ℕ
+  answer agreed node (init major minor readahead flags) =
+      init_out (if nat_lt 7 major then Version else Terms agreed.lasting minor readahead flags)
+  answer agreed node (at_node op) = option_map_or (answer_at agreed op) (node_of entries node) []
+  answer agreed node statfs = statfs_out (blocks_all layers) (length (nodes entries))
+  answer agreed node (done op) = []
+  answer agreed node (silent op) = []
+  answer agreed node modify = []
+  answer agreed node other = []
+  answer agreed node (malformed opcode) = []
 
   -- the reply to a request, over the layers and the paths that they show
   abbrev pub reply : Session → Asked → List ℕ
   reply s q =
       if is_silent q.op then [] else
       option_map_or (error_reply q.unique) (refusal layers entries s q.node q.op)
-      (reply_with q.unique (answer (is_exported s) q.node q.op))
+      (reply_with q.unique (answer (agreement_of s) q.node q.op))

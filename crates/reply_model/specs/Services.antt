@@ -1,19 +1,20 @@
 -- linux/fuse.h, enum fuse_opcode: the requests about a node, a row each.
-use Rattle.std.specs.Prelude.{ℕ, ◌%◌, List, [], length, map, filter, take, drop, Bool, not, ◌||◌, ◌==◌, nat_lt, Option, Some, None, is_none, pos, if◌then◌else◌}
+use Rattle.std.specs.Prelude.{ℕ, ◌%◌, List, [], length, map, filter, take, drop, Bool, not, ◌&&◌, ◌||◌, ◌+◌, ◌==◌, nat_lt, Option, Some, None, is_none, pos, if◌then◌else◌}
 use Rattle.std.specs.List.{flat_map}
 use Rattle.std.specs.Option.{option_map_or, option_to_list}
 use Rattle.romfs_format.specs.declared.head.Kind.{Kind}
 use Rattle.romfs_format.specs.declared.head.Kind.TheVariants.{Directory, Regular, SymLink}
 use Rattle.fuse_wire.specs.declared.errno.Errno.{Errno}
-use Rattle.fuse_wire.specs.declared.errno.Errno.TheVariants.{ENOENT, ENOTDIR, EISDIR, EINVAL, EROFS, ENAMETOOLONG}
-use Rattle.fuse_wire.specs.declared.flags.TheConstants.{FOPEN_KEEP_CACHE}
+use Rattle.fuse_wire.specs.declared.errno.Errno.TheVariants.{ENOENT, ENOTDIR, EISDIR, EINVAL, EROFS, ENAMETOOLONG, ENOSYS}
+use Rattle.fuse_wire.specs.declared.flags.TheConstants.{FOPEN_KEEP_CACHE, FOPEN_CACHE_DIR}
 use Rattle.fuse_wire.specs.declared.limits.TheConstants.{MAX_DATA_SIZE, MAX_NAME_SIZE}
 use Rattle.fuse_wire.specs.Requests.{NodeOp, lookup, getattr, readlink, open_file, read, opendir, readdir, readdirplus}
-use Rattle.fuse_wire.specs.Structures.{entry_out, attr_out, open_out}
+use Rattle.fuse_wire.specs.Structures.{entry_out, negative_entry_out, attr_out, open_out}
 use Rattle.stack_model.specs.Listing.{Entry}
 use Rattle.stack_model.specs.Numbers.{Place, number}
 use Rattle.stack_model.specs.Attributes.{is_directory, data_of}
 use Rattle.reply_model.specs.declared.moves.Move.{Move}
+use Rattle.reply_model.specs.declared.session.Agreement.{Agreement}
 use Rattle.reply_model.specs.Lookups.{is_itself, looked_up}
 use Rattle.reply_model.specs.Rows.{Row, is_child, reply_attr, is_too_small, rows_after, rows_answered, dirent_of, direntplus_of}
 
@@ -39,6 +40,10 @@ of_any_kind k = None
 -- more bytes than a READ, READDIR or READDIRPLUS may ask for
 abbrev pub is_too_large : ℕ → Bool
 is_too_large size = nat_lt MAX_DATA_SIZE size
+
+-- the open_flags of a directory: lastingly its rows may be kept
+abbrev pub opendir_flags : Bool → ℕ
+opendir_flags lasting = if lasting then FOPEN_KEEP_CACHE + FOPEN_CACHE_DIR else 0
 
 -- a size that is too large, or too small for the next row
 abbrev pub refused_rows : (Row → List ℕ) → ℕ → List Row → Option Errno
@@ -71,31 +76,37 @@ module _ (layers : List (List ℕ)) (entries : List Entry) where
       }
 
   -- each of them. With EXPORT_SUPPORT the name . finds a node of any kind; an access mode other
-  -- than 0 is not O_RDONLY; READDIRPLUS gives the nodes of its rows but . and ..
-  abbrev pub service : Bool → NodeOp → Service
-  service export (lookup name) = record {
-    by_kind = λ k. if is_itself export name then None else unless_directory k;
+  -- than 0 is not O_RDONLY; READDIRPLUS gives the nodes of its rows but . and ... Lastingly a name
+  -- that is none is answered so, and gives nothing; a client that need not open is told so last
+  abbrev pub service : Agreement → NodeOp → Service
+  service agreed (lookup name) = record {
+    by_kind = λ k. if is_itself agreed.export name then None else unless_directory k;
     by_arguments = λ p.
         if nat_lt MAX_NAME_SIZE (length name) then Some ENAMETOOLONG
-        else refuse_if (is_none (looked_up entries export p name)) ENOENT;
+        else refuse_if
+        (is_none (looked_up entries agreed.export p name) && not agreed.lasting) ENOENT;
     answer = λ p.
         option_map_or (λ c. entry_out (reply_attr layers entries c))
-        (looked_up entries export p name) [];
-    gives = λ p. map give (option_to_list (looked_up entries export p name));
+        (looked_up entries agreed.export p name) negative_entry_out;
+    gives = λ p. map give (option_to_list (looked_up entries agreed.export p name));
   }
-  service export getattr = tells of_any_kind (λ p. attr_out (reply_attr layers entries p))
-  service export readlink = tells unless_link (λ p. data_of layers p)
-  service export (open_file flags) =
+  service agreed getattr = tells of_any_kind (λ p. attr_out (reply_attr layers entries p))
+  service agreed readlink = tells unless_link (λ p. data_of layers p)
+  service agreed (open_file flags) =
       record (tells unless_regular (λ p. open_out FOPEN_KEEP_CACHE)) {
-        by_arguments = λ p. refuse_if (not (flags % 4 == 0)) EROFS;
+        by_arguments = λ p.
+            if not (flags % 4 == 0) then Some EROFS else refuse_if agreed.no_open ENOSYS;
       }
-  service export (read offset size) =
+  service agreed (read offset size) =
       record (tells unless_regular (λ p. take size (drop offset (data_of layers p)))) {
         by_arguments = λ p. refuse_if (is_too_large size) EINVAL;
       }
-  service export opendir = tells unless_directory (λ p. open_out 0)
-  service export (readdir offset size) = lists (dirent_of layers entries) offset size
-  service export (readdirplus offset size) =
+  service agreed opendir =
+      record (tells unless_directory (λ p. open_out (opendir_flags agreed.lasting))) {
+        by_arguments = λ p. refuse_if agreed.no_opendir ENOSYS;
+      }
+  service agreed (readdir offset size) = lists (dirent_of layers entries) offset size
+  service agreed (readdirplus offset size) =
       record (lists (direntplus_of layers entries) offset size) {
         gives = λ p.
             map (λ r. give r.1.place)

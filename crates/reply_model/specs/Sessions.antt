@@ -1,22 +1,43 @@
--- linux/fuse.h, FUSE_INIT and FUSE_DESTROY: when a session begins and ends.
-use Rattle.std.specs.Prelude.{ℕ, Bool, false, ◌&&◌, ◌==◌, nat_le, if◌then◌else◌}
+-- linux/fuse.h, FUSE_INIT and FUSE_DESTROY: when a session begins and ends, and what client and
+-- server agree on in it.
+use Rattle.std.specs.Prelude.{ℕ, Bool, true, false, ◌&&◌, ◌==◌, nat_le, if◌then◌else◌}
 use Rattle.fuse_wire.specs.Requests.{Op, init, done, destroy}
-use Rattle.fuse_wire.specs.Structures.{has_export}
+use Rattle.fuse_wire.specs.Structures.{has_export, has_no_open, has_no_opendir}
+use Rattle.reply_model.specs.declared.session.Agreement.{Agreement}
 use Rattle.reply_model.specs.declared.session.Session.{Session}
-use Rattle.reply_model.specs.declared.session.Session.TheVariants.{Fresh, Ready}
+use Rattle.reply_model.specs.declared.session.Session.TheVariants.{Fresh, Ready, LastingFresh, LastingReady}
 
 -- the versions that a session is begun with
 abbrev pub is_spoken : ℕ → ℕ → Bool
 is_spoken major minor = major == 7 && nat_le 12 minor
 
--- the session after a request
+-- the session after a request; a stream that is served lastingly stays so
 abbrev pub session_after : Session → Op → Session
 session_after Fresh (init major minor readahead flags) =
     if is_spoken major minor then Ready (has_export flags) else Fresh
+session_after LastingFresh (init major minor readahead flags) =
+    if is_spoken major minor
+    then LastingReady (has_export flags) (has_no_open flags) (has_no_opendir flags)
+    else LastingFresh
 session_after (Ready export) (done destroy) = Fresh
+session_after (LastingReady export no_open no_opendir) (done destroy) = LastingFresh
 session_after s _ = s
 
--- the session was begun with EXPORT_SUPPORT
-abbrev pub is_exported : Session → Bool
-is_exported Fresh = false
-is_exported (Ready export) = export
+-- the session is not begun yet
+abbrev pub is_fresh : Session → Bool
+is_fresh Fresh = true
+is_fresh LastingFresh = true
+is_fresh (Ready export) = false
+is_fresh (LastingReady export no_open no_opendir) = false
+
+-- what is agreed on in it: before INIT, and but for EXPORT_SUPPORT where the stream is not served
+-- lastingly, nothing
+abbrev pub agreement_of : Session → Agreement
+agreement_of Fresh =
+    record { lasting = false; export = false; no_open = false; no_opendir = false }
+agreement_of (Ready export) =
+    record { lasting = false; export = export; no_open = false; no_opendir = false }
+agreement_of LastingFresh =
+    record { lasting = true; export = false; no_open = false; no_opendir = false }
+agreement_of (LastingReady export no_open no_opendir) =
+    record { lasting = true; export = export; no_open = no_open; no_opendir = no_opendir }

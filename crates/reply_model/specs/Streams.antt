@@ -3,7 +3,6 @@ use Rattle.std.specs.Prelude.{ℕ, List, [], ◌∷◌, ◌++◌, map, fold, ℤ
 use Rattle.fuse_wire.specs.Requests.{Asked, asked}
 use Rattle.stack_model.specs.Listing.{Entry}
 use Rattle.reply_model.specs.declared.session.Session.{Session}
-use Rattle.reply_model.specs.declared.session.Session.TheVariants.{Fresh}
 use Rattle.reply_model.specs.declared.moves.Move.{Move}
 use Rattle.reply_model.specs.Sessions.{session_after}
 use Rattle.reply_model.specs.Replies.{reply}
@@ -27,8 +26,8 @@ moves_by moved s (q ∷ qs) = moved s q ++ moves_by moved (session_after s q.op)
 abbrev pub replies : List (List ℕ) → List Entry → Session → List (List ℕ) → List ℕ
 replies layers entries s messages = replies_by (reply layers entries) s (map asked messages)
 
--- the lookups of a node that the client holds after these messages, from a fresh session on; it may
--- be below 0
-abbrev pub balance_after : List (List ℕ) → List Entry → List (List ℕ) → ℕ → ℤ
-balance_after layers entries messages node =
-    balance node (moves_by (moves layers entries) Fresh (map asked messages))
+-- the lookups of a node that the client holds after these messages, which begin in this session; it
+-- may be below 0
+abbrev pub balance_after : List (List ℕ) → List Entry → Session → List (List ℕ) → ℕ → ℤ
+balance_after layers entries first messages node =
+    balance node (moves_by (moves layers entries) first (map asked messages))

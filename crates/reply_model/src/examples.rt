@@ -2,6 +2,7 @@
 //! computation.
 
 ghost use Rattle.reply_model.specs.Examples.{StreamExamples, FaultOrder, FaultExamples, EmptyImageFields, InitExamples, GetattrExamples, ReaddirExamples, ReaddirplusExamples, ReadExamples, LookupExamples, NodeExamples, OpenExamples, SessionExamples, ExportExamples, SilentExamples, RefusalOrder, TwelveRequests, BalanceExamples};
+ghost use Rattle.reply_model.specs.LastingExamples.{LastingInitExamples, LastingSessionExamples, LastingLookupExamples, LastingOpenExamples, LastingFlushExamples, LastingStreamExamples};
 
 /// The fields of the empty image.
 #[tactic(auto, using(crate::proofs::Worked::the_empty_image))]
@@ -109,4 +110,40 @@ pub fn order_of_faults_example()
 #[tactic(auto, using(crate::proofs::Worked::faults))]
 pub fn faults_example()
     ensures { FaultExamples }
+{}
+
+/// INIT of a stream that is served lastingly.
+#[tactic(auto, using(crate::proofs::LastingWorked::lasting_init))]
+pub fn lasting_init_example()
+    ensures { LastingInitExamples }
+{}
+
+/// When lasting sessions begin and end, and what they remember.
+#[tactic(auto, using(crate::proofs::LastingWorked::lasting_sessions))]
+pub fn lasting_sessions_example()
+    ensures { LastingSessionExamples }
+{}
+
+/// LOOKUP of names that are there and of names that are none, lastingly.
+#[tactic(auto, using(crate::proofs::LastingWorked::lasting_lookup))]
+pub fn lasting_lookup_example()
+    ensures { LastingLookupExamples }
+{}
+
+/// OPEN and OPENDIR, lastingly.
+#[tactic(auto, using(crate::proofs::LastingWorked::lasting_opens))]
+pub fn lasting_open_example()
+    ensures { LastingOpenExamples }
+{}
+
+/// FLUSH, lastingly, and what stays beside it.
+#[tactic(auto, using(crate::proofs::LastingWorked::lasting_flush))]
+pub fn lasting_flush_example()
+    ensures { LastingFlushExamples }
+{}
+
+/// Whole streams that are served lastingly, and their balances.
+#[tactic(auto, using(crate::proofs::LastingWorked::lasting_streams))]
+pub fn lasting_streams_example()
+    ensures { LastingStreamExamples }
 {}

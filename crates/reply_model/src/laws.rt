@@ -1,18 +1,20 @@
 //! What holds of every reply.
 
-ghost use Rattle.std.specs.Prelude.{◌≡◌, ◌⊎◌, ◌≤◌, [], ◌∷◌, ◌++◌, ℕ, List, length, map, All, false, ◌+ℤ◌};
+ghost use Rattle.std.specs.Prelude.{◌≡◌, ◌⊎◌, ◌≤◌, [], ◌∷◌, ◌++◌, ℕ, List, length, map, All, true, false, ◌+ℤ◌};
 ghost use Rattle.romfs_format.specs.Fields.{image};
 ghost use Rattle.romfs_format.specs.Rules.{IsSound};
-ghost use Rattle.fuse_wire.specs.Requests.{Asked, at_node, lookup, readdirplus, done, destroy};
+ghost use Rattle.fuse_wire.specs.Requests.{Op, Asked, at_node, lookup, readdirplus, done, destroy};
 ghost use Rattle.fuse_wire.specs.declared.limits.TheConstants.{MAX_REPLY_SIZE};
 ghost use Rattle.fuse_wire.specs.Stream.{said_length};
 ghost use Rattle.stack_model.specs.Listing.{Entry, IsListing};
 ghost use Rattle.reply_model.specs.declared.session.Session.{Session};
 ghost use Rattle.reply_model.specs.Replies.{reply};
-ghost use Rattle.reply_model.specs.declared.session.Session.TheVariants.{Fresh};
+ghost use Rattle.reply_model.specs.declared.session.Session.TheVariants.{Fresh, LastingFresh};
+ghost use Rattle.reply_model.specs.Sessions.{is_fresh, session_after, agreement_of};
+ghost use Rattle.reply_model.specs.Lasting.{usual_of, LastsAs};
 ghost use Rattle.reply_model.specs.declared.moves.Move.{Move};
 ghost use Rattle.reply_model.specs.Moves.{moves, balance};
-ghost use Rattle.reply_model.specs.Streams.{session_at, replies_by, moves_by};
+ghost use Rattle.reply_model.specs.Streams.{session_at, replies_by, moves_by, balance_after};
 ghost use Rattle.reply_model.specs.Laws.{IsReplyTo, AreFirstThatFit, GivesEntry, GivesRows, is_moving, AreLayersOfBytes, FitsFields};
 ghost use Rattle.stack_model.specs.Numbers.{Place, nodes, number};
 ghost use Rattle.reply_model.specs.Rows.{Row, fitting, reply_attr};
@@ -48,7 +50,7 @@ pub fn fitting_rows_are_the_first()
 
 /// A lookup is given exactly where an entry is answered: LOOKUP gives one of the node whose entry
 /// its reply holds, and READDIRPLUS one of the node of each row in its reply but `.` and `..`;
-/// where they are answered an error, nothing.
+/// where they are answered an error, or a LOOKUP that its name is none, nothing.
 #[tactic(auto, using(crate::proofs::Given::given))]
 pub fn entries_are_given()
     ensures lookup { (layers : List (List ℕ)) (entries : List Entry) (s : Session)
@@ -61,8 +63,8 @@ pub fn entries_are_given()
         (record { unique = unique; node = node; op = at_node (readdirplus offset size) }) }
     ensures others { (layers : List (List ℕ)) (entries : List Entry) (s : Session) (q : Asked) →
         is_moving q.op ≡ false → moves layers entries s q ≡ [] }
-    ensures fresh { (layers : List (List ℕ)) (entries : List Entry) (q : Asked) →
-        moves layers entries Fresh q ≡ [] }
+    ensures fresh { (layers : List (List ℕ)) (entries : List Entry) (s : Session) (q : Asked) →
+        is_fresh s ≡ true → moves layers entries s q ≡ [] }
 {}
 
 /// Requests may be taken in parts: their replies and moves are those of the parts, the session
@@ -86,6 +88,25 @@ pub fn destroy_leaves_balances()
         balance n (moves_by (moves layers entries) s
         (qs ++ record { unique = unique; node = node; op = done destroy } ∷ []))
         ≡ balance n (moves_by (moves layers entries) s qs) }
+{}
+
+/// Served lastingly, a stream is replied as it is usually but for four things: other terms of INIT;
+/// a LOOKUP that finds no entry; OPEN and OPENDIR; FLUSH. What requests move stays as it is, since
+/// a name that is none is no lookup; sessions go on alike, and a stream leaves the same balances.
+#[tactic(auto, using(crate::proofs::Lasting::lasting))]
+pub fn lasting_replies_differ_in_four_ways()
+    ensures replies { (layers : List (List ℕ)) (entries : List Entry) (s : Session) (q : Asked) →
+        (agreement_of s).lasting ≡ true →
+        LastsAs (agreement_of s) q.unique q.op
+        (reply layers entries (usual_of s) q) (reply layers entries s q) }
+    ensures moves { (layers : List (List ℕ)) (entries : List Entry) (s : Session) (q : Asked) →
+        moves layers entries s q ≡ moves layers entries (usual_of s) q }
+    ensures sessions { (s : Session) (op : Op) →
+        usual_of (session_after s op) ≡ session_after (usual_of s) op }
+    ensures balances { (layers : List (List ℕ)) (entries : List Entry)
+        (messages : List (List ℕ)) (node : ℕ) →
+        balance_after layers entries LastingFresh messages node
+        ≡ balance_after layers entries Fresh messages node }
 {}
 
 /// Attributes fit their fields, and numbers are no more than the nodes.

@@ -1,5 +1,5 @@
 //! What a FUSE server answers over a stack of layers: definitions, laws and worked examples alone,
-//! with no code but the type of a session.
+//! with no code but the types of a session and of a move.
 //!
 //! `specs/` says which requests are refused and with which error, what the others are answered, and
 //! what a whole stream is replied, over the shown paths of a stack (`stack_model`) and the
@@ -12,4 +12,4 @@ pub mod moves;
 pub mod session;
 
 pub use moves::Move;
-pub use session::Session;
+pub use session::{Agreement, Session};

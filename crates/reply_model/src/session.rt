@@ -1,6 +1,8 @@
-//! Sessions, and what requests move between a client and the server.
+//! Sessions, and what a client and the server agree on as they begin one.
 
-/// Whether a stream has agreed on its protocol version. A stream begins `Fresh`.
+/// Whether a stream has agreed on its protocol version, and on what beside. A stream begins
+/// `Fresh`; one that is served lastingly begins `LastingFresh`, and its client is told that the
+/// tree never changes, so that it asks for each thing once.
 #[derive(Clone, Copy, Debug, PartialEq, Eq)]
 pub enum Session {
     /// No INIT was accepted yet, or DESTROY came since.
@@ -10,4 +12,28 @@ pub enum Session {
         /// Whether the client said `FUSE_EXPORT_SUPPORT`, so that LOOKUP finds `.` and `..` too.
         export: bool,
     },
+    /// As `Fresh`, of a stream that is served lastingly.
+    LastingFresh,
+    /// As `Ready`, of a stream that is served lastingly.
+    LastingReady {
+        /// Whether the client said `FUSE_EXPORT_SUPPORT`, so that LOOKUP finds `.` and `..` too.
+        export: bool,
+        /// Whether it said `FUSE_NO_OPEN_SUPPORT`, so that it need not ask to open files.
+        no_open: bool,
+        /// Whether it said `FUSE_NO_OPENDIR_SUPPORT`, so that it need not ask to open directories.
+        no_opendir: bool,
+    },
+}
+
+/// What a client and the server have agreed on in a session.
+#[derive(Clone, Copy, Debug, PartialEq, Eq)]
+pub struct Agreement {
+    /// Whether the stream is served lastingly.
+    pub lasting: bool,
+    /// Whether LOOKUP finds `.` and `..` too.
+    pub export: bool,
+    /// Whether the client need not ask to open files.
+    pub no_open: bool,
+    /// Whether it need not ask to open directories.
+    pub no_opendir: bool,
 }

@@ -10,8 +10,9 @@ use Rattle.fuse_answer.specs.Puts.{AreSmall}
 use Rattle.stack_model.specs.Listing.{Entry}
 use Rattle.stack_model.specs.Numbers.{Place, node_of}
 use Rattle.reply_model.specs.declared.moves.Move.{Move}
+use Rattle.reply_model.specs.declared.session.Agreement.{Agreement}
 use Rattle.reply_model.specs.declared.session.Session.{Session}
-use Rattle.reply_model.specs.Sessions.{is_exported}
+use Rattle.reply_model.specs.Sessions.{agreement_of}
 use Rattle.reply_model.specs.Lookups.{looked_up}
 use Rattle.reply_model.specs.Refusals.{refusal}
 use Rattle.reply_model.specs.Rows.{Row, is_child, direntplus_of, fitting, rows_after}
@@ -45,21 +46,21 @@ few_mapped p f (x ∷ xs) = go (p x) (few_mapped p f xs)
     go true h = omega arith
     go false h = omega arith
 
-module _ (layers : List (List ℕ)) (entries : List Entry) (export : Bool) (node : ℕ) where
+module _ (layers : List (List ℕ)) (entries : List Entry) (agreed : Agreement) (node : ℕ) where
   none_moved : (o : Option Place) → length (option_map_or (λ (p : Place). let none : List Move = [] in none) o []) ≤ 2 ^ 32
   none_moved None = omega arith
   none_moved (Some p) = omega arith
 
-  lookup_moved : (name : List ℕ) (o : Option Place) → length (option_map_or (gives_at layers entries export (lookup name)) o []) ≤ 2 ^ 32
+  lookup_moved : (name : List ℕ) (o : Option Place) → length (option_map_or (gives_at layers entries agreed (lookup name)) o []) ≤ 2 ^ 32
   lookup_moved name None = omega arith
-  lookup_moved name (Some p) = go (looked_up entries export p name)
+  lookup_moved name (Some p) = go (looked_up entries agreed.export p name)
     where
       go : (o : Option Place) → length (map (give layers entries) (option_to_list o)) ≤ 2 ^ 32
       go None = omega arith
       go (Some c) = omega arith
 
   rows_moved : (offset size : ℕ) → size < 2 ^ 32 → (o : Option Place)
-      → length (option_map_or (gives_at layers entries export (readdirplus offset size)) o []) ≤ 2 ^ 32
+      → length (option_map_or (gives_at layers entries agreed (readdirplus offset size)) o []) ≤ 2 ^ 32
   rows_moved offset size small None = omega arith
   rows_moved offset size small (Some p) =
       let rows = fitting (direntplus_of layers entries) size (rows_after entries p offset) in
@@ -67,7 +68,7 @@ module _ (layers : List (List ℕ)) (entries : List Entry) (export : Bool) (node
       let f = fitting_few (direntplus_of layers entries) (row_some layers entries) size (rows_after entries p offset) in
       omega arith
 
-  few_moved : (op : Op) → HasFewItems op → length (moved layers entries export node op) ≤ 2 ^ 32
+  few_moved : (op : Op) → HasFewItems op → length (moved layers entries agreed node op) ≤ 2 ^ 32
   few_moved (at_node (lookup name)) h = lookup_moved name (node_of entries node)
   few_moved (at_node (readdirplus offset size)) h = rows_moved offset size h (node_of entries node)
   few_moved (at_node getattr) h = none_moved (node_of entries node)
@@ -89,6 +90,6 @@ module _ (layers : List (List ℕ)) (entries : List Entry) (export : Bool) (node
 pub few_moves : (layers : List (List ℕ)) (entries : List Entry) (s : Session) (q : Asked) → HasFewItems q.op → length (moves layers entries s q) ≤ 2 ^ 32
 few_moves layers entries s q h = go (is_some (refusal layers entries s q.node q.op))
   where
-    go : (refused : Bool) → length (cond refused [] (moved layers entries (is_exported s) q.node q.op)) ≤ 2 ^ 32
+    go : (refused : Bool) → length (cond refused [] (moved layers entries (agreement_of s) q.node q.op)) ≤ 2 ^ 32
     go true = omega arith
-    go false = few_moved layers entries (is_exported s) q.node q.op h
+    go false = few_moved layers entries (agreement_of s) q.node q.op h

@@ -16,8 +16,9 @@ use Rattle.stack_model.specs.Listing.{Entry}
 use Rattle.stack_model.specs.Numbers.{Place, number, node_of}
 use Rattle.stack_model.specs.Attributes.{mode}
 use Rattle.reply_model.specs.declared.moves.Move.{Move}
+use Rattle.reply_model.specs.declared.session.Agreement.{Agreement}
 use Rattle.reply_model.specs.declared.session.Session.{Session}
-use Rattle.reply_model.specs.Sessions.{is_exported}
+use Rattle.reply_model.specs.Sessions.{agreement_of}
 use Rattle.reply_model.specs.Lookups.{looked_up}
 use Rattle.reply_model.specs.Refusals.{refusal}
 use Rattle.reply_model.specs.Rows.{Row, is_child, reply_attr, fitting, direntplus_of, rows_after}
@@ -211,22 +212,22 @@ module _ (layers : List (List ℕ)) (entries : List Entry) where
       let rest = weight_items items small.1 in
       omega arith
 
-  module _ (bytes : ℕ) (some : 1 ≤ bytes) (export : Bool) (node : ℕ) where
+  module _ (bytes : ℕ) (some : 1 ≤ bytes) (agreed : Agreement) (node : ℕ) where
     -- where each node gives nothing, none does
     nothing_given : (o : Option Place) → weight (option_map_or (λ (p : Place). let none : List Move = [] in none) o []) ≤ 2 ^ 64 * bytes
     nothing_given None = omega arith
     nothing_given (Some p) = omega arith
 
-    lookup_given : (name : List ℕ) (o : Option Place) → weight (option_map_or (gives_at layers entries export (lookup name)) o []) ≤ 2 ^ 64 * bytes
+    lookup_given : (name : List ℕ) (o : Option Place) → weight (option_map_or (gives_at layers entries agreed (lookup name)) o []) ≤ 2 ^ 64 * bytes
     lookup_given name None = omega arith
-    lookup_given name (Some p) = go (looked_up entries export p name)
+    lookup_given name (Some p) = go (looked_up entries agreed.export p name)
       where
         go : (o : Option Place) → weight (map (give layers entries) (option_to_list o)) ≤ 2 ^ 64 * bytes
         go None = omega arith
         go (Some c) = omega (arith, ints)
 
     rows_given : (offset size : ℕ) → size < 2 ^ 64 → (o : Option Place)
-        → weight (option_map_or (gives_at layers entries export (readdirplus offset size)) o [])
+        → weight (option_map_or (gives_at layers entries agreed (readdirplus offset size)) o [])
         ≤ 2 ^ 64 * bytes
     rows_given offset size small None = omega arith
     rows_given offset size small (Some p) =
@@ -235,7 +236,7 @@ module _ (layers : List (List ℕ)) (entries : List Entry) where
         let f = fitting_few (direntplus_of layers entries) row_some size (rows_after entries p offset) in
         omega arith
 
-    moved_light : (op : Op) → IsModest bytes op → weight (moved layers entries export node op) ≤ 2 ^ 64 * bytes
+    moved_light : (op : Op) → IsModest bytes op → weight (moved layers entries agreed node op) ≤ 2 ^ 64 * bytes
     moved_light (at_node (lookup name)) m = lookup_given name (node_of entries node)
     moved_light (at_node (readdirplus offset size)) m = rows_given offset size m (node_of entries node)
     moved_light (at_node _) m = nothing_given (node_of entries node)
@@ -256,9 +257,9 @@ module _ (layers : List (List ℕ)) (entries : List Entry) where
       modest : IsModest (length body) (asked m).op
       modest = op_modest body (bytes_after HEADER_SIZE m b) (field 4 4 m)
 
-      go : (refused : Bool) → weight (cond refused [] (moved layers entries (is_exported s) (asked m).node (asked m).op)) ≤ 2 ^ 64 * length m
+      go : (refused : Bool) → weight (cond refused [] (moved layers entries (agreement_of s) (asked m).node (asked m).op)) ≤ 2 ^ 64 * length m
       go true = omega arith
-      go false = moved_light (length m) (omega arith) (is_exported s) (asked m).node (asked m).op (larger (asked m).op modest)
+      go false = moved_light (length m) (omega arith) (agreement_of s) (asked m).node (asked m).op (larger (asked m).op modest)
         where
           larger : (op : Op) → IsModest (length body) op → IsModest (length m) op
           larger (silent (batch_forget items)) h = (h.0, let l = length-drop HEADER_SIZE m in let n = h.1 in omega arith)

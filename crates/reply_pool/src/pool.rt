@@ -22,24 +22,35 @@ use work_gate::Gate;
 #[derive(Drop)]
 pub struct Pool<'a, A: Allocator + Copy + Send + Sync, G: Gate + Sync> {
     table: &'a Table<A>,
+    first: Session,
     plan: Plan,
     gate: &'a G,
 }
 
 impl<'a, A: Allocator + Copy + Send + Sync, G: Gate + Sync> Pool<'a, A, G> {
-    /// Answers over this table, by this plan.
-    pub fn new(table: &'a Table<A>, plan: Plan, gate: &'a G) -> Self
+    /// Answers over this table, by this plan. Streams begin in the session `first`.
+    pub fn new(table: &'a Table<A>, first: Session, plan: Plan, gate: &'a G) -> Self
         ensures table { result.table.now ≡ table.now }
+        ensures first { result.first ≡ first }
         ensures plan { result.plan ≡ plan }
     {
-        Pool { table, plan, gate }
+        Pool {
+            table,
+            first,
+            plan,
+            gate,
+        }
     }
 }
 
 impl<'a, A: Allocator + Copy + Send + Sync, G: Gate + Sync> Answers for Pool<'a, A, G> {
-    ghost answering = { λ pool. answering pool.table.now };
+    ghost answering = { λ pool. answering pool.first pool.table.now };
 
     ghost nodes = { λ pool. length (nodes pool.table.now.entries) };
+
+    fn first(&self) -> Session {
+        self.first
+    }
 
     fn nodes(&self) -> u64 {
         self.table.len()
@@ -61,9 +72,13 @@ impl<'a, A: Allocator + Copy + Send + Sync, G: Gate + Sync> Answers for Pool<'a,
 }
 
 impl<'a, A: Allocator + Copy + Send + Sync, G: Gate + Sync> Rounds for Pool<'a, A, G> {
-    ghost answering = { λ pool. answering pool.table.now };
+    ghost answering = { λ pool. answering pool.first pool.table.now };
 
     ghost nodes = { λ pool. length (nodes pool.table.now.entries) };
+
+    fn first(&self) -> Session {
+        self.first
+    }
 
     fn nodes(&self) -> u64 {
         self.table.len()

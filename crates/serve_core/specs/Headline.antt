@@ -3,6 +3,7 @@ use Rattle.std.specs.Prelude.{◌≡◌, ℕ, ◌⊎◌, List, [], length, Resul
 use Rattle.romfs_format.specs.declared.rule.Profile.{Profile}
 use Rattle.stack_model.specs.Numbers.{nodes}
 use Rattle.node_table.specs.Stacked.{Stacked}
+use Rattle.reply_model.specs.declared.session.Session.{Session}
 use Rattle.reply_pool.specs.Answers.{answering}
 use Rattle.serve_loop.specs.declared.stop.Stop.{Stop}
 use Rattle.serve_loop.specs.declared.done.Done.{Done}
@@ -10,11 +11,11 @@ use Rattle.serve_core.specs.Preparing.{AreStacked, AreRefused}
 use Rattle.serve_loop.specs.Serving.{Trace, IsRun}
 use Rattle.serve_loop.specs.Laws.{HasServed}
 
--- a stream was served over a stack of layers: each message as FUSE has it over the paths that they
--- show
-abbrev pub IsRunOver : {A : Type 0} → Stacked → ℕ → Trace → Result (Done A) Stop → Type 0
-IsRunOver stack turns t result =
-    IsRun (answering stack) (length (nodes stack.entries)) turns t result
+-- a stream that begins in this session was served over a stack of layers: each message as FUSE has
+-- it over the paths that they show
+abbrev pub IsRunOver : {A : Type 0} → Session → Stacked → ℕ → Trace → Result (Done A) Stop → Type 0
+IsRunOver first stack turns t result =
+    IsRun (answering first stack) (length (nodes stack.entries)) turns t result
 
 -- nothing was got or put, and both devices are as before
 pub record IsUntouched (t : Trace) : Type 0 where
@@ -24,11 +25,11 @@ pub record IsUntouched (t : Trace) : Type 0 where
   pub sink : t.sink ≡ t.sink_before
 
 -- the images are good, and the stream was served over their stack
-pub record IsServedOver {A : Type 0} (profile : Profile) (images : List (List ℕ)) (turns : ℕ)
-    (t : Trace) (result : Result (Done A) Stop) : Type 0 where
+pub record IsServedOver {A : Type 0} (profile : Profile) (first : Session)
+    (images : List (List ℕ)) (turns : ℕ) (t : Trace) (result : Result (Done A) Stop) : Type 0 where
   pub stack : Stacked
   pub stacked : AreStacked profile images stack
-  pub run : IsRunOver stack turns t result
+  pub run : IsRunOver first stack turns t result
 
 -- the images can't be served, or memory ran out before, and no device was touched
 pub record IsNotBegun {A : Type 0} (profile : Profile) (images : List (List ℕ)) (t : Trace)
@@ -38,18 +39,18 @@ pub record IsNotBegun {A : Type 0} (profile : Profile) (images : List (List ℕ)
   pub refused : AreRefused profile images stop
   pub untouched : IsUntouched t
 
--- a stream was served over images, or refused for them
-abbrev pub Serves : {A : Type 0} → Profile → List (List ℕ) → ℕ → Trace → Result (Done A) Stop
-    → Type 0
-Serves profile images turns t result = IsServedOver profile images turns t result
+-- a stream that begins in this session was served over images, or refused for them
+abbrev pub Serves : {A : Type 0} → Profile → Session → List (List ℕ) → ℕ → Trace
+    → Result (Done A) Stop → Type 0
+Serves profile first images turns t result = IsServedOver profile first images turns t result
     ⊎ IsNotBegun profile images t result
 
 -- the images are good, and all messages of the stream were answered over their stack, to its end
-pub record HasServedAll {A : Type 0} (profile : Profile) (images : List (List ℕ)) (t : Trace)
-    (done : Done A) : Type 0 where
+pub record HasServedAll {A : Type 0} (profile : Profile) (first : Session)
+    (images : List (List ℕ)) (t : Trace) (done : Done A) : Type 0 where
   pub stack : Stacked
   pub stacked : AreStacked profile images stack
-  pub served : HasServed (answering stack) (length (nodes stack.entries)) t done
+  pub served : HasServed (answering first stack) (length (nodes stack.entries)) t done
 
 -- the images are refused for this, and no device was touched
 pub record IsRefusedFor (profile : Profile) (images : List (List ℕ)) (t : Trace)

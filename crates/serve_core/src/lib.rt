@@ -3,7 +3,9 @@
 //! [`serve`] takes images, the lowest layer first, checks them, stacks them and serves the stream
 //! over what they show: for every list of images, request stream, cutting of its pulls and plan,
 //! the bytes that are put are the definition's replies, one after another. [`prepare`] and [`run`]
-//! are its two halves; `_as` takes a profile of rules.
+//! are its two halves; `_as` takes a profile of rules, and `_from` the session that the stream
+//! begins in too, so whether it is served lastingly: whether its client is told that the tree never
+//! changes.
 //!
 //! The loop over the stream is `serve_loop`'s, and what answers its rounds `reply_pool`'s. What
 //! serving promises at each end is said by `IsRun` in `serve_loop`'s `specs/Serving`, and over
@@ -13,13 +15,16 @@
 mod checking;
 pub mod laws;
 mod preparing;
+mod running;
 mod serving;
 
 pub use devices::{Failed, Sink, Source, Spout, Tap};
 pub use fuse_wire::limits::MAX_TURNS;
 pub use preparing::{prepare, prepare_as};
+pub use reply_model::Session;
 pub use reply_pool::Plan;
 pub use romfs_format::Profile;
+pub use running::{run, run_from};
 pub use serve_loop::{Done, Stop};
-pub use serving::{run, serve, serve_as};
+pub use serving::{serve, serve_as, serve_from};
 pub use work_gate::{FreePass, Gate, Work};

@@ -1,65 +1,25 @@
 //! Streams over images.
 
-ghost use Rattle.std.specs.Prelude.{◌≡◌, Err, OnOk};
+ghost use Rattle.std.specs.Prelude.{OnOk};
 ghost use Rattle.std.specs.Io.KnownBytes.{IsAtEnd};
 ghost use Rattle.devices.specs.States.{devices};
 ghost use Rattle.serve_core.specs.Preparing.{contents_of};
-ghost use Rattle.serve_loop.specs.declared.stop.Stop.TheVariants.{Turns};
 ghost use Rattle.serve_loop.specs.Serving.{AreReady, Does};
-ghost use Rattle.serve_core.specs.Headline.{IsRunOver, Serves};
+ghost use Rattle.serve_core.specs.Headline.{Serves};
 
 use crate::preparing::prepare_as;
+use crate::running::run_from;
 use devices::{Sink, Source};
-use node_table::Table;
-use reply_pool::{Plan, Pool};
+use reply_model::Session;
+use reply_pool::Plan;
 use romfs_format::Profile;
-use serve_loop::{Done, Stop, run_by};
+use serve_loop::{Done, Stop};
 use std::alloc::Allocator;
 use std::thread::Threads;
 use work_gate::Gate;
 
-/// Serves the source's stream of requests over a table into the sink, in at most `turns` pulls of
-/// at most 65,536 bytes each. The bytes put are the replies to the stream, for every plan and
-/// however it is cut into pulls.
-///
-/// - `Ok`: the stream came to its end between two messages: nothing is left of it, and all replies
-///   are written and flushed.
-/// - `BadLength`, `CutOff`, `Read` and `Turns`: all replies to the whole messages that came are
-///   written and flushed.
-/// - `Write` and `Memory`: some of the first replies are written.
-///
-/// `Read` and `Write` come exactly where the source's or the sink's count of failures rose in this
-/// call. A fault of an image is never told. No pull follows an end, a bad length or a failure, and
-/// no device is called after memory was refused. With no turns it answers `Turns` at once.
-pub fn run<
-    R: Threads + Sync,
-    A: Allocator + Copy + Send + Sync,
-    S: Source,
-    K: Sink,
-    G: Gate + Sync,
->(
-    rt: &R,
-    alloc: A,
-    table: &Table<A>,
-    source: &mut S,
-    sink: &mut K,
-    plan: Plan,
-    turns: u64,
-    gate: &G,
-) -> Result<Done<A>, Stop>
-    requires { AreReady turns (devices (S.state source.old) (K.state sink.old)) }
-    ensures run { Does (λ t. IsRunOver table.now turns t result)
-        (devices (S.state source.old) (K.state sink.old))
-        (devices (S.state source.new) (K.state sink.new)) }
-    ensures end { OnOk result (IsAtEnd (S.state source.new).left) }
-    ensures at_once { turns ≡ 0 → result ≡ Err Turns }
-{
-    let pool = Pool::new(table, plan, gate);
-    run_by(rt, alloc, &pool, source, sink, turns)
-}
-
 /// Checks images by the usual profile's rules, stacks them, the lowest layer first, and serves the
-/// source's stream over them, as [`run`] does.
+/// source's stream over them, as [`run`](crate::run) does.
 ///
 /// `Layers` comes exactly where there are no images or more than 128, and `Layer` names the lowest
 /// broken image and its fault. Then, and where memory runs out before the table stands, no device
@@ -81,7 +41,7 @@ pub fn serve<
     gate: &G,
 ) -> Result<Done<A>, Stop>
     requires { AreReady turns (devices (S.state source.old) (K.state sink.old)) }
-    ensures run { Does (λ t. Serves Profile.Usual (contents_of images) turns t result)
+    ensures run { Does (λ t. Serves Profile.Usual Session.Fresh (contents_of images) turns t result)
         (devices (S.state source.old) (K.state sink.old))
         (devices (S.state source.new) (K.state sink.new)) }
     ensures end { OnOk result (IsAtEnd (S.state source.new).left) }
@@ -118,11 +78,50 @@ pub fn serve_as<
     gate: &G,
 ) -> Result<Done<A>, Stop>
     requires { AreReady turns (devices (S.state source.old) (K.state sink.old)) }
-    ensures run { Does (λ t. Serves profile (contents_of images) turns t result)
+    ensures run { Does (λ t. Serves profile Session.Fresh (contents_of images) turns t result)
+        (devices (S.state source.old) (K.state sink.old))
+        (devices (S.state source.new) (K.state sink.new)) }
+    ensures end { OnOk result (IsAtEnd (S.state source.new).left) }
+{
+    serve_from(
+        rt,
+        alloc,
+        images,
+        profile,
+        Session::Fresh,
+        source,
+        sink,
+        plan,
+        turns,
+        gate,
+    )
+}
+
+/// The same, of a stream that begins in the session `first`, as [`run_from`] serves it.
+pub fn serve_from<
+    R: Threads + Sync,
+    A: Allocator + Copy + Send + Sync,
+    S: Source,
+    K: Sink,
+    G: Gate + Sync,
+>(
+    rt: &R,
+    alloc: A,
+    images: Vec<Vec<u8, A>, A>,
+    profile: Profile,
+    first: Session,
+    source: &mut S,
+    sink: &mut K,
+    plan: Plan,
+    turns: u64,
+    gate: &G,
+) -> Result<Done<A>, Stop>
+    requires { AreReady turns (devices (S.state source.old) (K.state sink.old)) }
+    ensures run { Does (λ t. Serves profile first (contents_of images) turns t result)
         (devices (S.state source.old) (K.state sink.old))
         (devices (S.state source.new) (K.state sink.new)) }
     ensures end { OnOk result (IsAtEnd (S.state source.new).left) }
 {
     let table = prepare_as(rt, alloc, images, profile, gate)?;
-    run(rt, alloc, &table, source, sink, plan, turns, gate)
+    run_from(rt, alloc, &table, first, source, sink, plan, turns, gate)
 }

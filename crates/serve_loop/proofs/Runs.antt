@@ -5,7 +5,6 @@ use Rattle.fuse_wire.specs.declared.limits.TheConstants.{PULL_SIZE}
 use Rattle.fuse_wire.specs.Stream.{IsBad, IsOpen, IsRest, IsSplit}
 use Rattle.fuse_wire.specs.Requests.{asked}
 use Rattle.fuse_wire.proofs.Splits.{some_split}
-use Rattle.reply_model.specs.declared.session.Session.TheVariants.{Fresh}
 use Rattle.reply_model.specs.Streams.{replies_by, session_at}
 use Rattle.devices.specs.declared.failed.Failed.{Failed}
 use Rattle.devices.specs.declared.counts.LastPull.TheVariants.{End}
@@ -24,21 +23,21 @@ use Rattle.serve_loop.proofs.Rounding.{goes_further, goes_nowhere, not_late}
 use Rattle.serve_loop.proofs.Traces.{start, untouched, pulled_on, pushed_on, IsLow, IsRunning, IsFed, some_counted, end_counted, failure_counted, take_none, take_whole, all_but_last, flushed_late, flushed_more, all_begun, no_bytes, unfinished, zero_more, from_nothing}
 
 module _ (by : Answering) (nodes : ℕ) where
-  replies_of : (t : Trace) (v : ServingState) (ms : List (List ℕ)) → Goes by (start nodes t.got) v ms t.put → t.put ≡ replies_to by ms
+  replies_of : (t : Trace) (v : ServingState) (ms : List (List ℕ)) → Goes by (start by.first nodes t.got) v ms t.put → t.put ≡ replies_to by ms
   replies_of t v ms g = g.answered.told
 
-  all_told : (t : Trace) (v : ServingState) (ms : List (List ℕ)) → Goes by (start nodes t.got) v ms t.put → flushed_bytes t ≡ t.put → IsAllTold by t ms
+  all_told : (t : Trace) (v : ServingState) (ms : List (List ℕ)) → Goes by (start by.first nodes t.got) v ms t.put → flushed_bytes t ≡ t.put → IsAllTold by t ms
   all_told t v ms g f = record { put = g.answered.told; flushed_all = f }
 
-  split_of : (t : Trace) (v : ServingState) (ms : List (List ℕ)) → Goes by (start nodes t.got) v ms t.put → IsRest v.rest → IsSplit t.got ms v.rest
+  split_of : (t : Trace) (v : ServingState) (ms : List (List ℕ)) → Goes by (start by.first nodes t.got) v ms t.put → IsRest v.rest → IsSplit t.got ms v.rest
   split_of t v ms g r = record { whole = g.taken; each = g.each; tail = r }
 
   prompt_first : (p : Pulls) (q : Pushes) → IsPrompt by (untouched p q)
   prompt_first p q = record { messages = []; rest = []; split = record { whole = take_none _ [] refl; each = tt; tail = inl (inl refl) }; good = inl refl; told = record { more = all_but q.unflushed []; is = refl } }
 
-  pub runs_first : (p : Pulls) (q : Pushes) (v : ServingState) → v ≡ start nodes [] → IsRunning by nodes 0 (untouched p q) v []
+  pub runs_first : (p : Pulls) (q : Pushes) (v : ServingState) → v ≡ start by.first nodes [] → IsRunning by nodes 0 (untouched p q) v []
   runs_first p q v e = record {
-    goes = subst (λ (w : ServingState). Goes by (start nodes []) w [] []) (sym e) (goes_nowhere by (start nodes []));
+    goes = subst (λ (w : ServingState). Goes by (start by.first nodes []) w [] []) (sym e) (goes_nowhere by (start by.first nodes []));
     good = subst (λ (w : ServingState). IsOpen w.rest) (sym e) (inl refl);
     size = omega arith;
     flushed_all = take_none _ [] refl;
@@ -224,8 +223,8 @@ module _ (by : Answering) (nodes : ℕ) where
 
     -- all that is whole is answered
     module _ (w : ServingState) (ns : List (List ℕ)) (new : Pushes) (more : List ℕ) (g : Goes by v w ns more) (p : HasFlushed more t.sink new) where
-      on : Goes by (start nodes t.got) w (ms ++ ns) (t.put ++ more)
-      on = goes_further by (start nodes t.got) v w ms ns t.put more f.goes g
+      on : Goes by (start by.first nodes t.got) w (ms ++ ns) (t.put ++ more)
+      on = goes_further by (start by.first nodes t.got) v w ms ns t.put more f.goes g
 
       all_flushed : flushed_bytes (pushed_on t new more) ≡ t.put ++ more
       all_flushed = flushed_more t.sink new t.put more f.flushed_all p
@@ -284,9 +283,9 @@ module _ (by : Answering) (nodes : ℕ) where
             begun = record {
               more = h.told.more ++ replies_by by.reply (session_at v.session (map asked ns)) (map asked ks);
               is =
-                  ap (replies_by by.reply Fresh) (map-append asked ms all)
-                  ∙ replies_append by.reply Fresh (map asked ms) (map asked all)
-                  ∙ ap (λ l. l ++ replies_by by.reply (session_at Fresh (map asked ms)) (map asked all)) (sym f.goes.answered.told)
+                  ap (replies_by by.reply by.first) (map-append asked ms all)
+                  ∙ replies_append by.reply by.first (map asked ms) (map asked all)
+                  ∙ ap (λ l. l ++ replies_by by.reply (session_at by.first (map asked ms)) (map asked all)) (sym f.goes.answered.told)
                   ∙ ap (λ z. t.put ++ replies_by by.reply z (map asked all)) (sym f.goes.answered.session)
                   ∙ ap (λ l. t.put ++ l) told
                   ∙ sym (append_assoc t.put more _);

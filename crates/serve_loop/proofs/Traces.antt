@@ -5,7 +5,7 @@ use Rattle.std.proofs.lemmas.List.{take_at}
 use Rattle.std.proofs.lemmas.Int.{ints}
 use Rattle.fuse_wire.specs.declared.limits.TheConstants.{PULL_SIZE}
 use Rattle.fuse_wire.specs.Stream.{IsUnfinished, IsOpen, IsSplit}
-use Rattle.reply_model.specs.declared.session.Session.TheVariants.{Fresh}
+use Rattle.reply_model.specs.declared.session.Session.{Session}
 use Rattle.devices.specs.declared.failed.Failed.{Failed}
 use Rattle.devices.specs.declared.counts.LastPull.TheVariants.{Bytes, End, Failure}
 use Rattle.devices.specs.declared.counts.Pulls.{Pulls}
@@ -64,9 +64,9 @@ unfinished s o n = elim o [ inl e ↦ absurd (n e) | inr u ↦ u ]
 pub zero_more : (n : ℕ) → n ≡ n + 0
 zero_more n = omega arith
 
--- the beginning of a stream to so many nodes
-abbrev pub start : ℕ → List ℕ → ServingState
-start nodes got = record { rest = got; session = Fresh; at = 0; messages = 0; written = 0; balances = replicate nodes (pos 0) }
+-- the beginning of a stream in this session, to so many nodes
+abbrev pub start : Session → ℕ → List ℕ → ServingState
+start first nodes got = record { rest = got; session = first; at = 0; messages = 0; written = 0; balances = replicate nodes (pos 0) }
 
 abbrev pub untouched : Pulls → Pushes → Trace
 untouched p q = record { got = []; put = []; source_before = p; source = p; sink_before = q; sink = q }
@@ -101,7 +101,7 @@ pub record IsLow (t : Trace) : Type 0 where
 
 -- before a turn: all that is whole was answered, and what is left is good
 pub record IsRunning (by : Answering) (nodes turn : ℕ) (t : Trace) (v : ServingState) (ms : List (List ℕ)) : Type 0 where
-  pub goes : Goes by (start nodes t.got) v ms t.put
+  pub goes : Goes by (start by.first nodes t.got) v ms t.put
   pub good : IsOpen v.rest
   pub size : length t.got ≤ PULL_SIZE * turn
   pub flushed_all : flushed_bytes t ≡ t.put
@@ -113,7 +113,7 @@ pub record IsRunning (by : Answering) (nodes turn : ℕ) (t : Trace) (v : Servin
 
 -- after a pull that gave bytes
 pub record IsFed (by : Answering) (nodes turn : ℕ) (t : Trace) (v : ServingState) (ms : List (List ℕ)) : Type 0 where
-  pub goes : Goes by (start nodes t.got) v ms t.put
+  pub goes : Goes by (start by.first nodes t.got) v ms t.put
   pub size : length t.got ≤ PULL_SIZE * (turn + 1)
   pub flushed_all : flushed_bytes t ≡ t.put
   pub earlier : List ℕ
@@ -145,8 +145,8 @@ module _ (old new : Pulls) (low : old.pulls < 2 ^ 63 + 2 ^ 41) (few_ends : old.e
   pub failure_counted : (failed : Failed) → new ≡ pulled old (Err failed) → (new.pulls ≡ old.pulls + 1) × (new.ends ≡ old.ends) × (new.failures ≡ old.failures + 1) × (new.last ≡ Some Failure)
   failure_counted failed e = (ap (λ p. p.pulls) e ∙ rises old.pulls low, ap (λ p. p.ends) e, ap (λ p. p.failures) e ∙ rises old.failures (omega arith), ap (λ p. p.last) e)
 
-pub small_first : (nodes : ℕ) → IsSmall nodes (start nodes [])
-small_first nodes = record {
+pub small_first : (first : Session) (nodes : ℕ) → IsSmall nodes (start first nodes [])
+small_first first nodes = record {
   place = lit≤ tt;
   count = omega arith;
   bytes = omega arith;

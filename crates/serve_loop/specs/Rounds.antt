@@ -15,8 +15,10 @@ use Rattle.reply_model.specs.Streams.{moves_by}
 abbrev pub joined : List (List ℕ) → List ℕ
 joined messages = flat_map (λ m. m) messages
 
--- what answers requests: the reply to one, and the moves of one, in a session
+-- what answers requests: the session that a stream begins in, and in a session the reply to a
+-- request, and its moves
 pub record Answering : Type 0 where
+  pub first : Session
   pub reply : Session → Asked → List ℕ
   pub moved : Session → Asked → List Move
 

@@ -4,7 +4,6 @@ use Rattle.std.specs.Io.KnownBytes.{Appends, Consumes}
 use Rattle.fuse_wire.specs.declared.limits.TheConstants.{MAX_TURNS, PULL_SIZE}
 use Rattle.fuse_wire.specs.Stream.{IsUnfinished, IsBad, IsOpen, IsSplit}
 use Rattle.fuse_wire.specs.Requests.{asked}
-use Rattle.reply_model.specs.declared.session.Session.TheVariants.{Fresh}
 use Rattle.reply_model.specs.Streams.{replies_by}
 use Rattle.devices.specs.declared.counts.LastPull.{LastPull}
 use Rattle.devices.specs.declared.counts.LastPull.TheVariants.{Bytes, End, Failure}
@@ -81,11 +80,11 @@ pub record Begins (part whole : List ℕ) : Type 0 where
 
 -- the replies to the messages of a stream
 abbrev pub replies_to : Answering → List (List ℕ) → List ℕ
-replies_to by messages = replies_by by.reply Fresh (map asked messages)
+replies_to by messages = replies_by by.reply by.first (map asked messages)
 
 -- what the messages of a stream move
 abbrev pub moves_of : Answering → List (List ℕ) → List Move
-moves_of by messages = moves_by by.moved Fresh (map asked messages)
+moves_of by messages = moves_by by.moved by.first (map asked messages)
 
 -- all replies were put, and flushed
 pub record IsAllTold (by : Answering) (t : Trace) (messages : List (List ℕ)) : Type 0 where

@@ -4,7 +4,6 @@ use Rattle.std.specs.List.{AllByRecursion}
 use Rattle.fuse_wire.specs.Stream.{IsMessage, IsRest}
 use Rattle.fuse_wire.specs.Requests.{asked}
 use Rattle.reply_model.specs.declared.session.Session.{Session}
-use Rattle.reply_model.specs.declared.session.Session.TheVariants.{Fresh}
 use Rattle.reply_model.specs.Streams.{replies_by}
 use Rattle.std.specs.Io.KnownBytes.{Appends}
 use Rattle.devices.specs.declared.counts.Pushes.{Pushes}
@@ -38,11 +37,11 @@ serving_state p = record {
   balances = p.balances.items;
 }
 
--- nothing is answered yet of a stream to so many nodes
-abbrev pub beginning : ℕ → ServingState
-beginning nodes = record {
+-- nothing is answered yet of a stream that begins in this session, to so many nodes
+abbrev pub beginning : Session → ℕ → ServingState
+beginning first nodes = record {
   rest = [];
-  session = Fresh;
+  session = first;
   at = 0;
   messages = 0;
   written = 0;

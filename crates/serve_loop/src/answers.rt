@@ -15,6 +15,10 @@ pub trait Answers {
 
     ghost nodes: { Self → ℕ };
 
+    /// The session that a stream begins in.
+    fn first(&self) -> Session
+        ensures { result ≡ (answering self.now).first };
+
     /// How many nodes there are. They are numbered from 1 on.
     fn nodes(&self) -> u64
         ensures { result ≡ nodes self.now };

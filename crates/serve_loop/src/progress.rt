@@ -33,13 +33,14 @@ pub(crate) struct Progress<A: Allocator> {
 }
 
 impl<A: Allocator + Copy> Progress<A> {
-    // Nothing is answered yet of a stream to so many nodes.
-    pub(crate) fn new(alloc: A, nodes: u64) -> Result<Progress<A>, AllocError>
-        ensures { IfOk result (λ p. IsWithinBytes p.buffer × (serving_state p ≡ beginning nodes)) }
+    // Nothing is answered yet of a stream that begins in this session, to so many nodes.
+    pub(crate) fn new(alloc: A, first: Session, nodes: u64) -> Result<Progress<A>, AllocError>
+        ensures { IfOk result (λ p. IsWithinBytes p.buffer
+            × (serving_state p ≡ beginning first nodes)) }
     {
         Ok(Progress {
             buffer: Buffer::new(alloc),
-            session: Session::Fresh,
+            session: first,
             at: 0,
             messages: 0,
             written: 0,

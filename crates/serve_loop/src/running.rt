@@ -18,7 +18,7 @@ use std::alloc::Allocator;
 use std::thread::Threads;
 
 /// Serves the source's stream of requests into the sink, in at most `turns` pulls of at most 65,536
-/// bytes each.
+/// bytes each. The stream begins in the session that `answers` names.
 ///
 /// - `Ok`: the stream came to its end between two messages, and all replies are written and
 ///   flushed.
@@ -47,7 +47,7 @@ pub fn run_by<R: Threads + Sync, T: Rounds, S: Source, K: Sink, A: Allocator + C
     if turns == 0 {
         return Err(Stop::Turns);
     }
-    let mut progress = Progress::new(alloc, answers.nodes())?;
+    let mut progress = Progress::new(alloc, answers.first(), answers.nodes())?;
     for _turn in 0..turns {
         progress.buffer.make_room()?;
         let got = match progress.buffer.pull(source) {

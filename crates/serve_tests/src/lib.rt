@@ -2,7 +2,8 @@
 //! too few turns, and memory that is refused. No command shows how often a device is called, or
 //! that it is not called. The tests of the writers of `fuse_wire` stand here too.
 //!
-//! - `streams`: one stream, however it is cut, answered and taken; how often each device is called.
+//! - `streams`: one stream, however it is cut, answered and taken, and lastingly; how often each
+//!   device is called.
 //! - `memory`: each request for memory of a call is refused in turn.
 //! - `gates`: the lowest image's check waits until the next one's was begun.
 //! - `layers`: images that are refused, with no call of a device; the strict profile.

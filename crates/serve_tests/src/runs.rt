@@ -6,7 +6,7 @@ use devices::{Spout, Tap};
 use node_table::Table;
 use reply_pool::Plan;
 use romfs_format::Profile;
-use serve_core::{Done, Stop, prepare, run, serve_as};
+use serve_core::{Done, Session, Stop, prepare, run, serve_as, serve_from};
 use stack_core::FreePass;
 use std::alloc::{AllocError, Allocator, Global};
 use std::thread::Threads;
@@ -190,6 +190,34 @@ pub fn serve_of<R: Threads + Sync, A: Allocator + Copy + Send + Sync>(
         alloc,
         images,
         profile,
+        &mut Tap::new(&mut pieces),
+        &mut Spout::new(&mut taker),
+        plan,
+        u64::from(row.turns),
+        &FreePass,
+    );
+    Some(told(&done, &pieces, &taker, &replies))
+}
+
+/// A run over images, of a stream that is served lastingly.
+pub fn serve_lastingly<R: Threads + Sync, A: Allocator + Copy + Send + Sync>(
+    rt: &R,
+    global: Global,
+    alloc: A,
+    images: Vec<Vec<u8, A>, A>,
+    row: Run,
+) -> Option<Seen> {
+    let plan = Plan::new(row.plan.0, row.plan.1)?;
+    let stream = stream_of(global, row.stream).ok()?;
+    let replies = long_replies(global).ok()?;
+    let mut pieces = pieces_of(&stream, row);
+    let mut taker = taker_of(global, row);
+    let done = serve_from(
+        rt,
+        alloc,
+        images,
+        Profile::Usual,
+        Session::LastingFresh,
         &mut Tap::new(&mut pieces),
         &mut Spout::new(&mut taker),
         plan,

@@ -1,9 +1,10 @@
 //! The twelve-request script over the sample image, however it comes and goes, and a long stream
 //! without a reply.
 
-use crate::runs::{Outcome, Run, Seen, Stream, TURNS, WHOLE, run_of};
+use crate::runs::{Outcome, Run, Seen, Stream, TURNS, WHOLE, run_of, serve_lastingly};
 use serve_core::Stop;
 use std::test::Fail;
+use test_kit::sample_images::{alone, sample};
 
 #[test]
 fn every_way_gives_the_same_bytes(rt: HostRuntime) -> Result<(), Fail> {
@@ -19,6 +20,15 @@ fn every_way_gives_the_same_bytes(rt: HostRuntime) -> Result<(), Fail> {
             assert!(rt; seen.reads == reads, "pieces of {piece}");
         }
     }
+    Ok(())
+}
+
+/// No reply to the script differs where it is served lastingly.
+#[test]
+fn the_script_is_served_lastingly(rt: HostRuntime) -> Result<(), Fail> {
+    let images = alone(rt.alloc(), sample(rt.alloc())?)?;
+    let seen = serve_lastingly(&rt, rt.alloc(), rt.alloc(), images, WHOLE).ok_or("a run")?;
+    assert!(rt; seen.end == Ok((12, 1531)) && seen.put == Some(1531));
     Ok(())
 }
 

@@ -3,7 +3,7 @@
 
 use fuse_wire::{
     Attr, Dirent, Errno, InitOut, put_attr, put_data, put_data_head, put_dirent, put_direntplus,
-    put_entry, put_error, put_head, put_init, put_open, put_statfs,
+    put_entry, put_error, put_head, put_init, put_negative_entry, put_open, put_statfs,
 };
 use std::alloc::{AllocError, Allocator};
 use std::test::Fail;
@@ -19,6 +19,7 @@ const NODE: Attr = Attr {
 };
 
 const OLDER: InitOut = InitOut::Terms {
+    lasting: false,
     minor: 22,
     max_readahead: 131_072,
     flags: 1,
@@ -34,7 +35,8 @@ fn put_reply<A: Allocator>(writer: u8, out: &mut Vec<u8, A>) -> Result<(), Alloc
         5 => put_entry(out, 1, &NODE),
         6 => put_attr(out, 1, &NODE),
         7 => put_open(out, 1, 0),
-        _ => put_statfs(out, 1, 11, 6),
+        8 => put_statfs(out, 1, 11, 6),
+        _ => put_negative_entry(out, 1),
     }
 }
 
@@ -46,15 +48,15 @@ fn put_row<A: Allocator>(writer: u8, out: &mut Vec<u8, A>) -> Result<(), AllocEr
         name: b"big",
     };
     match writer {
-        9 => put_data_head(out, 1, 32),
-        10 => put_dirent(out, &row),
-        11 => put_direntplus(out, None, &row),
+        10 => put_data_head(out, 1, 32),
+        11 => put_dirent(out, &row),
+        12 => put_direntplus(out, None, &row),
         _ => put_direntplus(out, Some(&NODE), &row),
     }
 }
 
 fn put_one<A: Allocator>(writer: u8, out: &mut Vec<u8, A>) -> Result<(), AllocError> {
-    if writer < 9 {
+    if writer < 10 {
         put_reply(writer, out)
     } else {
         put_row(writer, out)
@@ -73,10 +75,11 @@ fn a_refused_writer_appends_nothing(rt: HostRuntime) -> Result<(), Fail> {
         (6, 124),
         (7, 36),
         (8, 100),
-        (9, 20),
-        (10, 36),
-        (11, 164),
+        (9, 148),
+        (10, 20),
+        (11, 36),
         (12, 164),
+        (13, 164),
     ] {
         let refusing = Refusing::new(rt.alloc(), 2);
         let mut out = Vec::new(&refusing);

@@ -4,10 +4,10 @@ use Rattle.fuse_answer.proofs.listing.list.Goals as goal
 
 pub returns-in-Some : goal.returns-in-Some
 returns-in-Some g c =
-    cut_decided c.args.table.now c.args.export c.args.number c.args.offset c.args.size c.args.with_entries c.in-Some.rows
+    cut_decided c.args.table.now c.args.agreed c.args.number c.args.offset c.args.size c.args.with_entries c.in-Some.rows
     (search rules) c.in-Some.ensures (sym c.if-is_too_small.ensures)
 
 pub returns-in-Some-2 : goal.returns-in-Some-2
 returns-in-Some-2 g c =
-    rows_decided c.args.table.now c.args.export c.args.number c.args.offset c.args.size c.args.with_entries c.in-Some.rows
+    rows_decided c.args.table.now c.args.agreed c.args.number c.args.offset c.args.size c.args.with_entries c.in-Some.rows
     (search rules) (omega arith) c.in-Some.ensures (sym c.if-is_too_small.ensures)

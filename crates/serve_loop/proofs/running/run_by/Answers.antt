@@ -21,7 +21,7 @@ loop-turn-init g c =
     let by = g.T.Rounds.answering c.args.answers.now in
     let nodes = g.T.Rounds.nodes c.args.answers.now in
     let p = c.in_ok-progress.ensures in
-    let is = p.1 ∙ ap (λ n. start n []) c.nodes.ensures in (
+    let is = p.1 ∙ ap (λ s. start s c.nodes.result []) c.first.ensures ∙ ap (λ n. start by.first n []) c.nodes.ensures in (
       [],
       [],
       [],
@@ -29,7 +29,7 @@ loop-turn-init g c =
       Appends-nil _,
       runs_first by nodes _ _ (serving_state c.in_ok-progress.progress) is,
       p.0,
-      subst (λ w. IsSmall nodes w) (sym is) (small_first nodes),
+      subst (λ w. IsSmall nodes w) (sym is) (small_first by.first nodes),
     )
 
 pub returns-in_err-make_room-clause-run : goal.returns-in_err-make_room-clause-run

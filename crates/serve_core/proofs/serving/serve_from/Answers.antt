@@ -1,7 +1,7 @@
 use Rattle.std.proofs.Common.{[], inr, refl}
 use Rattle.std.proofs.KnownBytes.{Appends-nil, Consumes-nil}
 use Rattle.serve_core.proofs.Headline.{not_begun}
-use Rattle.serve_core.proofs.serving.serve_as.Goals as goal
+use Rattle.serve_core.proofs.serving.serve_from.Goals as goal
 
 pub returns-in_err-table-clause-run : goal.returns-in_err-table-clause-run
 returns-in_err-table-clause-run g c = (

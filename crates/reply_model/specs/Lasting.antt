@@ -1,0 +1,47 @@
+-- linux/fuse.h, FUSE_NO_OPEN_SUPPORT, FUSE_NO_OPENDIR_SUPPORT, FUSE_CACHE_SYMLINKS and
+-- FOPEN_CACHE_DIR: what a stream that is served lastingly is replied in place of the usual replies.
+use Rattle.std.specs.Prelude.{◌≡◌, ◌≢◌, ℕ, ◌+◌, Bool, true, false, List, [], if◌then◌else◌}
+use Rattle.fuse_wire.specs.declared.errno.Errno.TheVariants.{ENOENT, ENOSYS}
+use Rattle.fuse_wire.specs.declared.flags.TheConstants.{FOPEN_KEEP_CACHE, FOPEN_CACHE_DIR}
+use Rattle.fuse_wire.specs.declared.reply.InitOut.TheVariants.{Terms}
+use Rattle.fuse_wire.specs.Requests.{Op, init, at_node, lookup, open_file, opendir, done, flush}
+use Rattle.fuse_wire.specs.Structures.{init_out, negative_entry_out, open_out}
+use Rattle.fuse_wire.specs.Replies.{reply_with, error_reply}
+use Rattle.reply_model.specs.declared.session.Agreement.{Agreement}
+use Rattle.reply_model.specs.declared.session.Session.{Session}
+use Rattle.reply_model.specs.declared.session.Session.TheVariants.{Fresh, Ready, LastingFresh, LastingReady}
+
+-- the usual session in the place of a lasting one
+abbrev pub usual_of : Session → Session
+usual_of LastingFresh = Fresh
+usual_of (LastingReady export no_open no_opendir) = Ready export
+usual_of s = s
+
+-- where the usual reply is the first of two, the lasting one is the second; else they are the same
+pub record Becomes (from to usual lasting : List ℕ) : Type 0 where
+  pub there : usual ≡ from → lasting ≡ to
+  pub elsewhere : usual ≢ from → lasting ≡ usual
+
+-- a client that need not ask is told so, and else that it is opened, with these flags
+abbrev pub told_of_opening : Bool → ℕ → ℕ → List ℕ
+told_of_opening need_not unique flags =
+    if need_not then error_reply unique ENOSYS else reply_with unique (open_out flags)
+
+-- the usual and the lasting reply to a request: INIT is answered other terms; that LOOKUP finds no
+-- entry is an entry of no node; OPEN and OPENDIR are answered that the client need not ask, or
+-- OPENDIR other flags; and FLUSH that it need not ask. Every other reply is the same
+abbrev pub LastsAs : Agreement → ℕ → Op → List ℕ → List ℕ → Type 0
+LastsAs agreed unique (init major minor readahead flags) usual lasting =
+    Becomes (reply_with unique (init_out (Terms false minor readahead flags)))
+    (reply_with unique (init_out (Terms true minor readahead flags))) usual lasting
+LastsAs agreed unique (at_node (lookup name)) usual lasting =
+    Becomes (error_reply unique ENOENT) (reply_with unique negative_entry_out) usual lasting
+LastsAs agreed unique (at_node (open_file flags)) usual lasting =
+    Becomes (reply_with unique (open_out FOPEN_KEEP_CACHE))
+    (told_of_opening agreed.no_open unique FOPEN_KEEP_CACHE) usual lasting
+LastsAs agreed unique (at_node opendir) usual lasting =
+    Becomes (reply_with unique (open_out 0))
+    (told_of_opening agreed.no_opendir unique (FOPEN_KEEP_CACHE + FOPEN_CACHE_DIR)) usual lasting
+LastsAs agreed unique (done flush) usual lasting =
+    Becomes (reply_with unique []) (error_reply unique ENOSYS) usual lasting
+LastsAs agreed unique _ usual lasting = lasting ≡ usual

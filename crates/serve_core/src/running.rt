@@ -1,0 +1,96 @@
+//! Streams over a table.
+
+ghost use Rattle.std.specs.Prelude.{◌≡◌, Err, OnOk};
+ghost use Rattle.std.specs.Io.KnownBytes.{IsAtEnd};
+ghost use Rattle.devices.specs.States.{devices};
+ghost use Rattle.serve_loop.specs.declared.stop.Stop.TheVariants.{Turns};
+ghost use Rattle.serve_loop.specs.Serving.{AreReady, Does};
+ghost use Rattle.serve_core.specs.Headline.{IsRunOver};
+
+use devices::{Sink, Source};
+use node_table::Table;
+use reply_model::Session;
+use reply_pool::{Plan, Pool};
+use serve_loop::{Done, Stop, run_by};
+use std::alloc::Allocator;
+use std::thread::Threads;
+use work_gate::Gate;
+
+/// Serves the source's stream of requests over a table into the sink, in at most `turns` pulls of
+/// at most 65,536 bytes each. The bytes put are the replies to the stream, for every plan and
+/// however it is cut into pulls.
+///
+/// - `Ok`: the stream came to its end between two messages: nothing is left of it, and all replies
+///   are written and flushed.
+/// - `BadLength`, `CutOff`, `Read` and `Turns`: all replies to the whole messages that came are
+///   written and flushed.
+/// - `Write` and `Memory`: some of the first replies are written.
+///
+/// `Read` and `Write` come exactly where the source's or the sink's count of failures rose in this
+/// call. A fault of an image is never told. No pull follows an end, a bad length or a failure, and
+/// no device is called after memory was refused. With no turns it answers `Turns` at once.
+pub fn run<
+    R: Threads + Sync,
+    A: Allocator + Copy + Send + Sync,
+    S: Source,
+    K: Sink,
+    G: Gate + Sync,
+>(
+    rt: &R,
+    alloc: A,
+    table: &Table<A>,
+    source: &mut S,
+    sink: &mut K,
+    plan: Plan,
+    turns: u64,
+    gate: &G,
+) -> Result<Done<A>, Stop>
+    requires { AreReady turns (devices (S.state source.old) (K.state sink.old)) }
+    ensures run { Does (λ t. IsRunOver Session.Fresh table.now turns t result)
+        (devices (S.state source.old) (K.state sink.old))
+        (devices (S.state source.new) (K.state sink.new)) }
+    ensures end { OnOk result (IsAtEnd (S.state source.new).left) }
+    ensures at_once { turns ≡ 0 → result ≡ Err Turns }
+{
+    run_from(
+        rt,
+        alloc,
+        table,
+        Session::Fresh,
+        source,
+        sink,
+        plan,
+        turns,
+        gate,
+    )
+}
+
+/// The same, of a stream that begins in the session `first`: in [`Session::LastingFresh`] one whose
+/// client is told that the tree never changes.
+pub fn run_from<
+    R: Threads + Sync,
+    A: Allocator + Copy + Send + Sync,
+    S: Source,
+    K: Sink,
+    G: Gate + Sync,
+>(
+    rt: &R,
+    alloc: A,
+    table: &Table<A>,
+    first: Session,
+    source: &mut S,
+    sink: &mut K,
+    plan: Plan,
+    turns: u64,
+    gate: &G,
+) -> Result<Done<A>, Stop>
+    requires { AreReady turns (devices (S.state source.old) (K.state sink.old)) }
+    ensures run { Does (λ t. IsRunOver first table.now turns t result)
+        (devices (S.state source.old) (K.state sink.old))
+        (devices (S.state source.new) (K.state sink.new)) }
+    ensures end { OnOk result (IsAtEnd (S.state source.new).left) }
+    ensures at_once { turns ≡ 0 → result ≡ Err Turns }
+{
+    let pool = Pool::new(table, first, plan, gate);
+    run_by(rt, alloc, &pool, source, sink, turns)
+}
