@@ -10,6 +10,7 @@ use Rattle.command_line.specs.declared.options.LineFault.TheVariants as lines
 use Rattle.command_line.specs.declared.options.Verb.{Verb}
 use Rattle.command_line.specs.declared.options.Verb.TheVariants as verbs
 use Rattle.command_line.specs.CommandLine.{IsTaken, IsMisnumbered, IsLineFault}
+use Rattle.reply_model.specs.declared.session.Session.{Session}
 use Rattle.serve_core.specs.Preparing.{AreRefused}
 use Rattle.devices.specs.States.{Devices}
 use Rattle.serve_loop.specs.Serving.{Trace}
@@ -153,9 +154,10 @@ refused_bad profile images stops.Read r e = absurd r
 refused_bad profile images stops.Write r e = absurd r
 refused_bad profile images stops.Turns r e = absurd r
 
-served_bad : {A : Type 0} (profile : Profile) (images : List (List ℕ)) (turns : ℕ) (t : Trace) (stop : Stop) → Serves {A = A} profile images turns t (Err stop) → stop_status stop ≡ 3 → AreBad profile images
-served_bad profile images turns t (stops.Layers count) s e = refused_bad profile images (stops.Layers count) (many_refused profile images turns t count s).refused e
-served_bad profile images turns t (stops.Layer layer fault) s e = refused_bad profile images (stops.Layer layer fault) (broken_refused profile images turns t layer fault s).refused e
+served_bad : {A : Type 0} {first : Session} (profile : Profile) (images : List (List ℕ)) (turns : ℕ) (t : Trace) (stop : Stop)
+    → Serves {A = A} profile first images turns t (Err stop) → stop_status stop ≡ 3 → AreBad profile images
+served_bad profile images turns t (stops.Layers count) s e = refused_bad profile images (stops.Layers count) (many_refused profile _ images turns t count s).refused e
+served_bad profile images turns t (stops.Layer layer fault) s e = refused_bad profile images (stops.Layer layer fault) (broken_refused profile _ images turns t layer fault s).refused e
 served_bad profile images turns t stops.Memory s e = absurd (five_is_more e)
 served_bad profile images turns t (stops.BadLength at len) s e = absurd (four_is_more e)
 served_bad profile images turns t (stops.CutOff at) s e = absurd (four_is_more e)

@@ -12,6 +12,7 @@ use Rattle.serve_loop.specs.declared.stop.Stop.{Stop}
 use Rattle.serve_loop.specs.declared.done.Done.{Done}
 use Rattle.serve_core.specs.Preparing.{AreStacked, AreRefused}
 use Rattle.serve_loop.specs.Serving.{Trace}
+use Rattle.reply_model.specs.declared.session.Session.TheVariants.{Fresh}
 use Rattle.serve_core.specs.Headline.{Serves}
 use Rattle.path_list.specs.Faults.{Lists}
 use Rattle.command_line.specs.declared.options.Line.{Line}
@@ -117,7 +118,7 @@ pub record GetsReplies {F : Type 0} (file : Option F) (t : Trace)
 -- a stream was served over the images, or refused for them, between devices that were new
 pub record IsServingBy {A : Type 0} (line : Line) (images : List (List ℕ)) (t : Trace)
     (result : Result (Done A) Stop) : Type 0 where
-  pub serves : Serves (profile_of line) images MAX_TURNS t result
+  pub serves : Serves (profile_of line) Fresh images MAX_TURNS t result
   pub first_pull : t.source_before ≡ no_pulls
   pub first_push : t.sink_before ≡ no_pushes
 
