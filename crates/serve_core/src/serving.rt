@@ -1,8 +1,11 @@
 //! Streams over images.
 
-ghost use Rattle.std.specs.Prelude.{◌≡◌, Err, OnOk};
+ghost use Rattle.std.specs.Prelude.{◌≡◌, Err, IfOk, OnOk};
 ghost use Rattle.std.specs.Io.KnownBytes.{IsAtEnd};
+ghost use Rattle.std.specs.Thread.{IsSync};
+ghost use denote.Param.Send.{IsSend, Frees};
 ghost use Rattle.devices.specs.States.{devices};
+ghost use Rattle.reply_pool.specs.Spread.{IsSpreadable, SpreadsOut};
 ghost use Rattle.serve_core.specs.Preparing.{contents_of};
 ghost use Rattle.serve_loop.specs.declared.stop.Stop.TheVariants.{Turns};
 ghost use Rattle.serve_loop.specs.Serving.{AreReady, Does};
@@ -11,10 +14,11 @@ ghost use Rattle.serve_core.specs.Headline.{IsRunOver, Serves};
 use crate::preparing::prepare_as;
 use devices::{Sink, Source};
 use node_table::Table;
-use reply_pool::{Plan, Pool};
+use reply_model::Session;
+use reply_pool::{Plan, Pool, Spread, spread_out};
 use romfs_format::Profile;
 use serve_loop::{Done, Stop, run_by};
-use std::alloc::Allocator;
+use std::alloc::{AllocError, Allocator};
 use std::thread::Threads;
 use work_gate::Gate;
 
@@ -54,7 +58,15 @@ pub fn run<
     ensures end { OnOk result (IsAtEnd (S.state source.new).left) }
     ensures at_once { turns ≡ 0 → result ≡ Err Turns }
 {
-    let pool = Pool::new(table, plan, gate);
+    let workers = move |first: &[u8], session: Session, messages: usize| -> Result<
+        Spread<A>,
+        AllocError,
+    >
+        requires { IsSpreadable first.now messages × IsSync R.row × IsSync G.row × IsSync A.row
+            × IsSend A.row × Frees A.Allocator A.dealloc_token }
+        ensures { IfOk result (λ spread. SpreadsOut table.entry.now session first.now spread) }
+    { spread_out(rt, alloc, table, first, session, messages, plan, gate) };
+    let pool = Pool::new(table, plan, gate, workers);
     run_by(rt, alloc, &pool, source, sink, turns)
 }
 
