@@ -1,11 +1,13 @@
 """Times the built program, and hostile inputs against honest ones: python3 tools/bench.py PROGRAM [PART..]
 
 The parts are `serve` (a million requests, against cat), `check` (images), `stacks` (check, list and serve of stacks),
-`streams` (dear requests) and `pulls` (a byte at a time). Files lie in memory (/dev/shm where it is there). A time is
+`streams` (dear requests), `pulls` (a byte at a time) and `workers` (long replies by four workers, against one). Files lie in memory (/dev/shm where it is there). A time is
 processor time, user and system, the least of three runs; memory is the most that a run had at one moment, and less than
 some 20 MiB is not told apart. The status is 0 where each hostile input takes at most five times as long as an honest one
-of its size; where it gives a longer list, at most five times as long for each byte of it.
+of its size; where it gives a longer list, at most five times as long for each byte of it; and where four workers give the
+bytes of one in at most twice its processor time.
 """
+import filecmp
 import multiprocessing
 import os
 import subprocess
@@ -20,6 +22,7 @@ import runs
 
 RUNS = 3
 MOST = 5
+MOST_WORKERS = 2
 Cost = namedtuple("Cost", "seconds memory written line")
 
 
@@ -124,6 +127,22 @@ class Bench:
                   cost("cat", packets=packets))
 
 
+    def workers(self):
+        """Streams of long replies by one worker and by four: the same bytes, and little more processor time in all."""
+        for name in inputs.BULK:
+            image, requests = apart(inputs.write_bulk, name, self.folder)
+            outputs = [self.folder + "/replies-%d" % count for count in (1, 4)]
+            one, four = [cost(self.program, "serve", "--workers", count, "--requests", requests, "--replies", output, image)
+                         for count, output in zip("14", outputs)]
+            same, ratio = filecmp.cmp(*outputs, shallow=False), four.seconds / max(one.seconds, 0.001)
+            self.within = self.within and same and ratio <= MOST_WORKERS
+            print("%-30s %8.3f s %6.0f MiB   one worker %5.3f s %6.0f MiB  %5.2f times  %s" % (
+                name + " by four", four.seconds, four.memory, one.seconds, one.memory, ratio, "same bytes" if same else "OTHER BYTES"),
+                flush=True)
+            for path in (image, requests, *outputs):
+                os.remove(path)
+
+
 def main(program, parts):
     place = "/dev/shm" if os.path.isdir("/dev/shm") else None
     with tempfile.TemporaryDirectory(dir=place) as folder:
@@ -136,4 +155,4 @@ def main(program, parts):
 
 
 if __name__ == "__main__":
-    sys.exit(main(os.path.abspath(sys.argv[1]), sys.argv[2:] or ["serve", "check", "stacks", "streams", "pulls"]))
+    sys.exit(main(os.path.abspath(sys.argv[1]), sys.argv[2:] or ["serve", "check", "stacks", "streams", "pulls", "workers"]))

@@ -287,6 +287,43 @@ def write_million(folder):
     return written(folder, "image", flat(b"bench", [(name, False, name) for name in names_])), written(folder, "requests", requests)
 
 
+def read(unique, node, offset, size):
+    return request(15, unique, node, struct.pack("<QQIIQII", 0, offset, size, 0, 0, 0, 0))
+
+
+def readdirplus(unique, node, offset, size):
+    return request(44, unique, node, struct.pack("<QQIIQII", 0, offset, size, 0, 0, 0, 0))
+
+
+def bulk_reads():
+    """A file of 16 MiB in READs of 128 KiB, sixty times."""
+    size = 131_072
+    return [read(unique, 2, unique % 128 * size, size) for unique in range(60 * 128)]
+
+
+def bulk_rows():
+    """A directory of 20,000 names in READDIRPLUSes of 128 KiB, 819 rows of 160 bytes each, sixty times."""
+    return [readdirplus(unique, 3, unique % 25 * 819, 131_072) for unique in range(60 * 25)]
+
+
+def bulk_mix():
+    """READs of 16 KiB, READDIRPLUSes of 16 KiB and GETATTRs, in turn."""
+    kinds = (lambda unique: read(unique, 2, unique % 1024 * 16_384, 16_384),
+             lambda unique: readdirplus(unique, 3, unique % 196 * 102, 16_384), lambda unique: getattr_(unique, 4 + unique % 20_000))
+    return [kinds[unique % 3](unique) for unique in range(60_000)]
+
+
+BULK = {it.__name__: it for it in (bulk_reads, bulk_rows, bulk_mix)}
+
+
+def write_bulk(name, folder):
+    """An image of a large file and a large directory, and a stream whose replies are long."""
+    size, names_ = 16 * MIB, [b"%05d" % number for number in range(20_000)]
+    heads = [("regular", 1, -1, size, b"a", size), ("directory", -1, 2, 0, b"d", 0), *chained("regular", names_, 2)]
+    image = laid_out(heads)
+    return written(folder, "image", image), written(folder, "requests", b"".join([init(1), *BULK[name]()]))
+
+
 def write_packets(folder):
     """An image of one file, and 500,000 bytes of GETATTRs."""
     return (written(folder, "image", flat(b"bench", [(b"file", False, b"1")])),

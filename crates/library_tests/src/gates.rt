@@ -49,7 +49,9 @@ impl Holding {
 #[test]
 fn the_lowest_tree_waits_for_the_next(rt: HostRuntime) -> Result<(), Fail> {
     let gate = Holding::new();
-    let wrong = wrong_of(&rt, rt.alloc(), ("1-a + 1-b", "", "0f!/a 1f!/b"), &gate)?;
+    // The sample image on the empty one.
+    let stack = (" + 1#big 1*d 2-x 1@l 1$null", "", "1f!/big 1f!/d/x");
+    let wrong = wrong_of(&rt, rt.alloc(), stack, &gate)?;
     assert_eq!(rt; wrong, None);
     assert_eq!(rt; gate.given_up.load(Ordering::SeqCst), 0);
     assert_eq!(rt; gate.begun.load(Ordering::SeqCst), 0x0101);

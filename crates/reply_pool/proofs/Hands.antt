@@ -22,6 +22,7 @@ use Rattle.reply_pool.specs.declared.jobs.Rounded.{Rounded}
 use Rattle.reply_pool.specs.declared.pieces.Piece.{Piece}
 use Rattle.reply_pool.specs.Batches.{AreEachOnce, AreLight, AreOrdered, IsJoined, IsPiece, batch_of, batches, numbers_of}
 use Rattle.reply_pool.specs.Jobs.{IsRounded, Job, moved_by, reply_to}
+use Rattle.reply_pool.specs.Spread.{AnswerAll}
 use Rattle.reply_pool.specs.Sums.{AreSums}
 use Rattle.reply_pool.specs.Workers.{AreBoth, AreOf, AreWhole, HasAll, HasWorked, IsLast, WorksAlone, begins, gives, works, takes}
 use Rattle.reply_pool.proofs.Batched.{all_moved, all_told, reaches_end, weight_all}
@@ -90,7 +91,7 @@ module _ {A : Type 0} where
 
   -- a few light pieces are light together
   pub light_enough : (pieces ordered : List (Piece A)) → AreOrdered pieces ordered → AreEachOnce pieces → AreLight pieces
-      → weight (flat_map (λ (p : Piece A). p.moves.items) ordered) < 2 ^ 127
+      → weight (flat_map (λ (p : Piece A). p.moves.items) ordered) ≤ 2 ^ 112
   light_enough pieces ordered o once light =
       let w = weight_all (λ (p : Piece A). p.moves.items) (2 ^ 104) ordered (All-permutation (λ (p : Piece A). weight p.moves.items ≤ 2 ^ 104) pieces ordered o.same light) in
       let l = length-map ordered number in
@@ -134,6 +135,24 @@ module _ {A : Type 0} where
           (all_reached jobs size some) ∙ ap (flat_map (reply_to stack)) (all_jobs jobs size));
     }
 
+    -- jobs without a batch want no piece
+    pub no_batch : (pieces : List (Piece A)) → pieces ≡ [] → batches size (length jobs) ≡ 0 → AnswerAll stack jobs size pieces
+    no_batch pieces none no_number = subst (AnswerAll stack jobs size) (sym none) (record {
+      once = λ x. ap (λ (n : ℕ). times x (range_with_len 0 n)) (sym no_number);
+      answered = All-nil (IsPiece stack jobs size);
+      light = All-nil (λ (p : Piece A). weight p.moves.items ≤ 2 ^ 104);
+    })
+
+    -- and they move what all jobs move
+    pub all_move : (pieces ordered : List (Piece A)) (node : ℕ) → 1 ≤ size → All (IsPiece stack jobs size) pieces
+        → ((x : ℕ) → times x (numbers_of pieces) ≡ times x (range_with_len 0 (batches size (length jobs)))) → AreOrdered pieces ordered
+        → balance node (flat_map (λ (p : Piece A). p.moves.items) ordered) ≡ balance node (flat_map (moved_by stack) jobs)
+    all_move pieces ordered node some each once o =
+        all_moved number size jobs (λ (p : Piece A). p.moves.items) (moved_by stack) node ordered 0 (batches size (length jobs))
+        (ordered_numbers pieces ordered (batches size (length jobs)) once o)
+        (All-weaker (IsPiece stack jobs size) _ (λ p is. is.sums.each node) ordered (All-permutation (IsPiece stack jobs size) pieces ordered o.same each))
+        (all_reached jobs size some) ∙ ap (λ (js : List Job). balance node (flat_map (moved_by stack) js)) (all_jobs jobs size)
+
     -- pieces that are put in order come to the round of all jobs
     pub rounds : (pieces : List (Piece A)) (rounded : Rounded A) → 1 ≤ size → All (IsPiece stack jobs size) pieces
         → ((x : ℕ) → times x (numbers_of pieces) ≡ times x (range_with_len 0 (batches size (length jobs)))) → IsJoined pieces rounded
@@ -142,11 +161,7 @@ module _ {A : Type 0} where
       replies = joined.bytes ∙ (whole pieces some each once).replies joined.ordered joined.order;
       sums = record {
         ascending = joined.moves.ascending;
-        each = λ node. (joined.moves.each node
-            ∙ all_moved number size jobs (λ (p : Piece A). p.moves.items) (moved_by stack) node joined.ordered 0 (batches size (length jobs))
-            (ordered_numbers pieces joined.ordered (batches size (length jobs)) once joined.order)
-            (All-weaker (IsPiece stack jobs size) _ (λ p is. is.sums.each node) joined.ordered (All-permutation (IsPiece stack jobs size) pieces joined.ordered joined.order.same each))
-            (all_reached jobs size some) ∙ ap (λ (js : List Job). balance node (flat_map (moved_by stack) js)) (all_jobs jobs size));
+        each = λ node. (joined.moves.each node ∙ all_move pieces joined.ordered node some each once joined.order);
         none_zero = joined.moves.none_zero;
       };
     }
@@ -222,3 +237,14 @@ module _ {A : Type 0} where
       closed hand pieces draws are every last x =
           are.told x ∙ ap (λ (ps : List ℕ). times x (numbers (total_of board) ps)) last.positions
           ∙ ap (times x) (all_numbers (total_of board) draws (let s = last.seen in omega arith))
+
+      -- and each batch is answered once
+      pub every_batch : {E : Type 0} (r : Result (Vec (Piece A) A) E) (hand : Hand) (draws : ℕ) → total_of board ≡ batches size (length jobs)
+          → IfOk r (λ v. HasAll stack jobs size board hand v.items) → IfOk r (λ v. AreLight v.items) → IsLast hand draws
+          → IfOk r (λ v. AnswerAll stack jobs size v.items)
+      every_batch (Err e) hand draws same all light last = tt
+      every_batch (Ok v) hand draws same all light last = record {
+        once = λ x. (closed hand v.items draws all.of_hand all.every last x ∙ ap (λ (n : ℕ). times x (range_with_len 0 n)) same);
+        answered = all.of_hand.answered;
+        light = light;
+      }

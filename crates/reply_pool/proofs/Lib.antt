@@ -5,3 +5,5 @@ pub mod Summing
 pub mod Each
 pub mod Batched
 pub mod Hands
+pub mod Spreading
+pub mod Adding

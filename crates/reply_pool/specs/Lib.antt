@@ -4,3 +4,4 @@ pub mod Jobs
 pub mod Batches
 pub mod Workers
 pub mod Answers
+pub mod Spread

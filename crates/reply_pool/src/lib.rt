@@ -26,18 +26,23 @@
 
 mod ahead;
 mod batches;
+mod gathered;
 mod jobs;
 pub mod laws;
+mod load;
 mod pieces;
 mod plan;
 mod pool;
+mod spread;
 mod sums;
 mod worker;
 mod workers;
 
+pub use gathered::{Gathered, Spread};
 pub use jobs::Rounded;
 pub use pieces::Piece;
 pub use plan::Plan;
 pub use pool::Pool;
+pub use spread::spread_out;
 pub use worker::work;
 pub use workers::round;

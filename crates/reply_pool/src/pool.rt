@@ -1,12 +1,15 @@
 //! The rounds of a serving loop.
 
-ghost use Rattle.std.specs.Prelude.{◌≡◌, ◌≤◌, ◌^◌, length, IfOk};
+ghost use Rattle.std.specs.Prelude.{◌≡◌, ◌≤◌, ◌^◌, ℕ, length, IfOk, IfSome};
 ghost use Rattle.stack_model.specs.Numbers.{nodes};
 ghost use Rattle.lookup_balances.specs.Balances.{AreWithin};
 ghost use Rattle.serve_loop.specs.Rounds.{change, AppendsAnswer};
 ghost use Rattle.reply_pool.specs.Answers.{answering};
+ghost use Rattle.reply_pool.specs.Spread.{IsSpreadable};
 
 use crate::ahead::Ahead;
+use crate::gathered::Gathered;
+use crate::load::worth_workers;
 use crate::plan::{Plan, pass_batch};
 use fuse_answer::{after, answer_and_move};
 use fuse_wire::Request;
@@ -19,31 +22,56 @@ use work_gate::Gate;
 
 /// What answers requests over a table by a plan. A gate is passed before the first request of each
 /// batch.
+///
+/// A round that is worth workers is answered by these, as [`spread_out`](crate::spread_out) does
+/// it; any other on the caller's thread.
 #[derive(Drop)]
-pub struct Pool<'a, A: Allocator + Copy + Send + Sync, G: Gate + Sync> {
+pub struct Pool<'a, A: Allocator, G: Gate, F> {
     table: &'a Table<A>,
     first: Session,
     plan: Plan,
     gate: &'a G,
+    workers: F,
 }
 
-impl<'a, A: Allocator + Copy + Send + Sync, G: Gate + Sync> Pool<'a, A, G> {
-    /// Answers over this table, by this plan. Streams begin in the session `first`.
-    pub fn new(table: &'a Table<A>, first: Session, plan: Plan, gate: &'a G) -> Self
+impl<'a, A: Allocator, G: Gate, F> Pool<'a, A, G, F> {
+    /// Answers over this table, by this plan, with these workers. Streams begin in the session
+    /// `first`.
+    pub fn new(
+        table: &'a Table<A>,
+        first: Session,
+        plan: Plan,
+        gate: &'a G,
+        workers: F,
+    ) -> Self
         ensures table { result.table.now ≡ table.now }
         ensures first { result.first ≡ first }
         ensures plan { result.plan ≡ plan }
+        ensures workers { result.workers ≡ workers }
     {
         Pool {
             table,
             first,
             plan,
             gate,
+            workers,
         }
+    }
+
+    // How many of the first messages of a stream workers are to answer; none where the plan has one
+    // worker, no session has begun, or the round is not worth it.
+    fn worth(&self, stream: &[u8], session: Session) -> Option<usize>
+        ensures { IfSome result (λ n. (1 ≤ n) × (n ≤ 256)) }
+    {
+        let begun = matches!(session, Session::Ready { .. } | Session::LastingReady { .. });
+        if self.plan.workers() == 1 || !begun {
+            return None;
+        }
+        worth_workers(self.table, stream)
     }
 }
 
-impl<'a, A: Allocator + Copy + Send + Sync, G: Gate + Sync> Answers for Pool<'a, A, G> {
+impl<'a, A: Allocator, G: Gate, F> Answers for Pool<'a, A, G, F> {
     ghost answering = { λ pool. answering pool.first pool.table.now };
 
     ghost nodes = { λ pool. length (nodes pool.table.now.entries) };
@@ -71,10 +99,25 @@ impl<'a, A: Allocator + Copy + Send + Sync, G: Gate + Sync> Answers for Pool<'a,
     }
 }
 
-impl<'a, A: Allocator + Copy + Send + Sync, G: Gate + Sync> Rounds for Pool<'a, A, G> {
+impl<
+    'a,
+    A: Allocator,
+    G: Gate,
+    P: Gathered,
+    F: Fn(&[u8], Session, usize) -> Result<P, AllocError>,
+> Rounds for Pool<'a, A, G, F> {
     ghost answering = { λ pool. answering pool.first pool.table.now };
 
     ghost nodes = { λ pool. length (nodes pool.table.now.entries) };
+
+    ghost ready = { λ pool.
+        ((stream : _) (session : _) (messages : ℕ) → IsSpreadable stream.now messages
+        → F.pre pool.workers stream session messages)
+        × ((stream : _) (session : _) (messages : ℕ) (given : _)
+        → F.post pool.workers stream session messages given → IfOk given (λ p. P.whole p))
+        × ((stream : _) (session : _) (messages : ℕ) (given : _)
+        → F.post pool.workers stream session messages given
+        → IfOk given (λ p. P.answers p (answering pool.first pool.table.now) session stream.now)) };
 
     fn first(&self) -> Session {
         self.first
@@ -93,6 +136,10 @@ impl<'a, A: Allocator + Copy + Send + Sync, G: Gate + Sync> Rounds for Pool<'a, 
         replies: &mut Vec<u8, B>,
         balances: &mut [i128],
     ) -> Result<Round, AllocError> {
+        if let Some(messages) = self.worth(stream, session) {
+            let gathered = (self.workers)(stream, session, messages)?;
+            return gathered.append(replies, balances);
+        }
         let mut ahead = Ahead::new();
         ahead.read(self.table, stream, balances);
         walk(self, stream, session, replies, balances)

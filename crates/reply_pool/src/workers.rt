@@ -6,6 +6,7 @@ ghost use denote.Param.Send.{IsSend, Frees};
 ghost use Rattle.draw_board.specs.Hands.{KeepsShare};
 ghost use Rattle.reply_pool.specs.Batches.{AreLight};
 ghost use Rattle.reply_pool.specs.Jobs.{IsRounded};
+ghost use Rattle.reply_pool.specs.Spread.{AnswerAll};
 ghost use Rattle.reply_pool.specs.Workers.{AreBoth, CanDraw, HasAll};
 
 use crate::batches::count_batches;
@@ -38,19 +39,34 @@ pub fn round<R: Threads + Sync, A: Allocator + Copy + Send + Sync, G: Gate + Syn
     requires { length jobs.now ≤ 256 }
     ensures { IfOk result (λ rounded. IsRounded table.now jobs.now rounded) }
 {
-    let size = plan.batch();
+    let pieces = answer_batches(rt, alloc, table, jobs, plan.batch(), plan.workers(), gate)?;
+    in_order(alloc, pieces)
+}
+
+/// Answers jobs in batches of this size, by so many workers, but no more than there are batches.
+pub(crate) fn answer_batches<R: Threads + Sync, A: Allocator + Copy + Send + Sync, G: Gate + Sync>(
+    rt: &R,
+    alloc: A,
+    table: &Table<A>,
+    jobs: &[(Session, Request<'_>)],
+    size: u32,
+    workers: u32,
+    gate: &G,
+) -> Result<Vec<Piece<A>, A>, AllocError>
+    requires few { length jobs.now ≤ 256 }
+    requires size { (1 ≤ size) × (size ≤ 256) }
+    requires workers { 1 ≤ workers }
+    ensures { IfOk result (λ pieces. AnswerAll table.now jobs.now size pieces.items) }
+{
     let total = count_batches(jobs.len(), size);
     if total == 0 {
-        return Ok(Rounded {
-            bytes: Vec::new(alloc),
-            moves: Vec::new(alloc),
-        });
+        return Ok(Vec::new(alloc));
     }
-    let workers = plan.workers().min(total);
+    let workers = workers.min(total);
     let (board, first) = Board::start(alloc, total, workers)?;
     let (pieces, hand) = draw_all(rt, alloc, table, jobs, size, &board, first, gate, workers);
     board.close(hand);
-    in_order(alloc, pieces?)
+    pieces
 }
 
 /// Draws in so many workers at the same time until nothing is left, each with a hand of its own,

@@ -1,8 +1,11 @@
 //! Streams over a table.
 
-ghost use Rattle.std.specs.Prelude.{◌≡◌, Err, OnOk};
+ghost use Rattle.std.specs.Prelude.{◌≡◌, Err, IfOk, OnOk};
 ghost use Rattle.std.specs.Io.KnownBytes.{IsAtEnd};
+ghost use Rattle.std.specs.Thread.{IsSync};
+ghost use denote.Param.Send.{IsSend, Frees};
 ghost use Rattle.devices.specs.States.{devices};
+ghost use Rattle.reply_pool.specs.Spread.{IsSpreadable, SpreadsOut};
 ghost use Rattle.serve_loop.specs.declared.stop.Stop.TheVariants.{Turns};
 ghost use Rattle.serve_loop.specs.Serving.{AreReady, Does};
 ghost use Rattle.serve_core.specs.Headline.{IsRunOver};
@@ -10,9 +13,9 @@ ghost use Rattle.serve_core.specs.Headline.{IsRunOver};
 use devices::{Sink, Source};
 use node_table::Table;
 use reply_model::Session;
-use reply_pool::{Plan, Pool};
+use reply_pool::{Plan, Pool, Spread, spread_out};
 use serve_loop::{Done, Stop, run_by};
-use std::alloc::Allocator;
+use std::alloc::{AllocError, Allocator};
 use std::thread::Threads;
 use work_gate::Gate;
 
@@ -91,6 +94,14 @@ pub fn run_from<
     ensures end { OnOk result (IsAtEnd (S.state source.new).left) }
     ensures at_once { turns ≡ 0 → result ≡ Err Turns }
 {
-    let pool = Pool::new(table, first, plan, gate);
+    let workers = move |stream: &[u8], session: Session, messages: usize| -> Result<
+        Spread<A>,
+        AllocError,
+    >
+        requires { IsSpreadable stream.now messages × IsSync R.row × IsSync G.row × IsSync A.row
+            × IsSend A.row × Frees A.Allocator A.dealloc_token }
+        ensures { IfOk result (λ spread. SpreadsOut table.entry.now session stream.now spread) }
+    { spread_out(rt, alloc, table, stream, session, messages, plan, gate) };
+    let pool = Pool::new(table, first, plan, gate, workers);
     run_by(rt, alloc, &pool, source, sink, turns)
 }

@@ -30,6 +30,9 @@ pub trait Rounds {
     fn first(&self) -> Session
         ensures { result ≡ (answering self.now).first };
 
+    /// What a round asks for: where it calls workers, that they do what they are to do.
+    ghost ready: { Self → Type 0 };
+
     /// How many nodes there are. They are numbered from 1 on.
     fn nodes(&self) -> u64
         ensures { result ≡ nodes self.now };
@@ -49,6 +52,7 @@ pub trait Rounds {
         replies: &mut Vec<u8, A>,
         balances: &mut [i128],
     ) -> Result<Round, AllocError>
+        requires ready { ready self.now }
         requires nodes { length balances.old ≡ nodes self.now }
         requires within { AreWithin (2 ^ 122) balances.old }
         requires short { length stream.now ≤ 2 ^ 57 }

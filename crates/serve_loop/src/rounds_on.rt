@@ -19,6 +19,7 @@ fn answer_round<R: Threads + Sync, T: Rounds, K: Sink, A: Allocator + Copy + Sen
     progress: &mut Progress<A>,
     sink: &mut K,
 ) -> Result<bool, Stop>
+    requires ready { T.ready answers.now }
     requires range { IsWithinBytes progress.old.buffer }
     requires small { IsSmall (T.nodes answers.now) (serving_state progress.old) }
     requires counts { (K.state sink.old).counts.failures < 2 ^ 63 }
@@ -61,6 +62,7 @@ pub(crate) fn answer_all<R: Threads + Sync, T: Rounds, K: Sink, A: Allocator + C
     progress: &mut Progress<A>,
     sink: &mut K,
 ) -> Result<(), Stop>
+    requires ready { T.ready answers.now }
     requires range { IsWithinBytes progress.old.buffer }
     requires small { IsSmall (T.nodes answers.now) (serving_state progress.old) }
     requires counts { (K.state sink.old).counts.failures < 2 ^ 63 }

@@ -37,7 +37,8 @@ pub fn run_by<R: Threads + Sync, T: Rounds, S: Source, K: Sink, A: Allocator + C
     sink: &mut K,
     turns: u64,
 ) -> Result<Done<A>, Stop>
-    requires { AreReady turns (devices (S.state source.old) (K.state sink.old)) }
+    requires ready { T.ready answers.now }
+    requires devices { AreReady turns (devices (S.state source.old) (K.state sink.old)) }
     ensures run { Does (λ t. IsRun (T.answering answers.now) (T.nodes answers.now) turns t result)
         (devices (S.state source.old) (K.state sink.old))
         (devices (S.state source.new) (K.state sink.new)) }

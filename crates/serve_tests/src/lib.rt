@@ -7,15 +7,19 @@
 //! - `memory`: each request for memory of a call is refused in turn.
 //! - `gates`: the lowest image's check waits until the next one's was begun.
 //! - `layers`: images that are refused, with no call of a device; the strict profile.
+//! - `workers`: streams whose rounds are worth workers.
 //! - `writers`: each writer with its request for memory refused.
 //!
-//! What they share: `reader` and `writer`, the two devices; `runs`, what a run came to.
+//! What they share: `reader` and `writer`, the two devices; `runs`, what a run came to; `long`,
+//! streams whose replies are long.
 #![tactic(auto)]
 
 #[cfg(test)]
 mod gates;
 #[cfg(test)]
 mod layers;
+#[cfg(test)]
+mod long;
 #[cfg(test)]
 mod memory;
 #[cfg(test)]
@@ -24,6 +28,8 @@ mod reader;
 mod runs;
 #[cfg(test)]
 mod streams;
+#[cfg(test)]
+mod workers;
 #[cfg(test)]
 mod writer;
 #[cfg(test)]

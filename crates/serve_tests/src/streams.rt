@@ -8,7 +8,7 @@ use test_kit::sample_images::{alone, sample};
 
 #[test]
 fn every_way_gives_the_same_bytes(rt: HostRuntime) -> Result<(), Fail> {
-    for plan in [(1, 1), (2, 3), (5, 16)] {
+    for plan in [(1, 1), (2, 1), (5, 1), (1, 3), (2, 3), (5, 3)] {
         for (piece, reads) in [(1, 653), (7, 95), (652, 2)] {
             let row = Run {
                 piece,

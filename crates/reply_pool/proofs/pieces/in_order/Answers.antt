@@ -1,4 +1,4 @@
-use Rattle.std.proofs.Common.{sym, subst, List, rules}
+use Rattle.std.proofs.Common.{sym, subst, List, rules, arith}
 use Rattle.std.specs.List.Sorted.{IsNonDecreasingBy, IsPermutation}
 use Rattle.std.proofs.lemmas.List.Sorted.{IsNonDecreasingBy-from_sort_by_key}
 use Rattle.reply_pool.specs.declared.pieces.Piece.{Piece}
@@ -13,7 +13,8 @@ join-requires g c =
       same = subst (λ (ys : List (Piece g.row.A.Denot)). IsPermutation c.args.pieces.items ys) (sym c.deref.ensures.value) c.sort_unstable_by_key.ensures.permutation;
       rising = subst (λ (ys : List (Piece g.row.A.Denot)). IsNonDecreasingBy (λ p. p.number) ys) (sym c.deref.ensures.value) up;
     } in
-    light_enough c.args.pieces.items c.deref.result.now order c.requires.once c.requires.light
+    let w = light_enough c.args.pieces.items c.deref.result.now order c.requires.once c.requires.light in
+    omega arith
 
 pub returns : goal.returns
 returns g c =

@@ -47,7 +47,7 @@ returns-in-Err-clause-run g c =
     let v = serving_state c.loop-turn.progress in
     let (got, put, ms, took, held, run, range, small) = c.loop-turn.invariant in
     let (x, more, pull) = c.in-Err.ensures.pull in
-    (got ++ x, put, Consumes-trans _ _ _ _ _ took more, held, ends_read by nodes c.loop-turn._turn _ v ms run _ x _ c.args.turns pull.counts pull.is (record { pulls = c.requires.pulls; ends = c.requires.ends; failures = c.requires.source_failures }) c.loop-turn-test.true c.requires.few)
+    (got ++ x, put, Consumes-trans _ _ _ _ _ took more, held, ends_read by nodes c.loop-turn._turn _ v ms run _ x _ c.args.turns pull.counts pull.is (record { pulls = c.requires.devices.pulls; ends = c.requires.devices.ends; failures = c.requires.devices.source_failures }) c.loop-turn-test.true c.requires.devices.few)
 
 pub returns-then-is_empty-clause-run : goal.returns-then-is_empty-clause-run
 returns-then-is_empty-clause-run g c =
@@ -62,7 +62,7 @@ returns-then-is_empty-clause-run g c =
       put,
       Consumes-trans _ _ _ _ _ took more,
       held,
-      ends_clean by nodes c.loop-turn._turn _ v ms run _ x c.in-Ok.got c.args.turns pull.counts pull.is.0 c.if-got-eq0.true (record { pulls = c.requires.pulls; ends = c.requires.ends; failures = c.requires.source_failures }) c.loop-turn-test.true c.requires.few c.done.result none c.done.ensures.messages c.done.ensures.written c.done.ensures.balances,
+      ends_clean by nodes c.loop-turn._turn _ v ms run _ x c.in-Ok.got c.args.turns pull.counts pull.is.0 c.if-got-eq0.true (record { pulls = c.requires.devices.pulls; ends = c.requires.devices.ends; failures = c.requires.devices.source_failures }) c.loop-turn-test.true c.requires.devices.few c.done.result none c.done.ensures.messages c.done.ensures.written c.done.ensures.balances,
     )
 
 pub returns-then-got-eq0-clause-run : goal.returns-then-got-eq0-clause-run
@@ -74,7 +74,7 @@ returns-then-got-eq0-clause-run g c =
     let (x, more, pull) = c.in-Ok.ensures.pull in
     let rest = pull.behind ∙ ap (λ b. b ++ x) c.in_ok-make_room.ensures.rest in
     let some = some_left c.rest.result.now _ v.rest x _ c.is_empty.ensures c.if-is_empty.false c.rest.ensures rest (pull.is.0 ∙ c.if-got-eq0.true) in
-    (got ++ x, put, Consumes-trans _ _ _ _ _ took more, held, ends_cut by nodes c.loop-turn._turn _ v ms run _ x c.in-Ok.got c.args.turns pull.counts pull.is.0 c.if-got-eq0.true (record { pulls = c.requires.pulls; ends = c.requires.ends; failures = c.requires.source_failures }) c.loop-turn-test.true c.requires.few some)
+    (got ++ x, put, Consumes-trans _ _ _ _ _ took more, held, ends_cut by nodes c.loop-turn._turn _ v ms run _ x c.in-Ok.got c.args.turns pull.counts pull.is.0 c.if-got-eq0.true (record { pulls = c.requires.devices.pulls; ends = c.requires.devices.ends; failures = c.requires.devices.source_failures }) c.loop-turn-test.true c.requires.devices.few some)
 
 pub answer_all-requires-clause-small : goal.answer_all-requires-clause-small
 answer_all-requires-clause-small g c κs within =
@@ -84,8 +84,8 @@ answer_all-requires-clause-small g c κs within =
     let (got, put, ms, took, held, run, range, small) = c.loop-turn.invariant in
     let (x, more, pull) = c.in-Ok.ensures.pull in
     let rest = pull.behind ∙ ap (λ b. b ++ x) c.in_ok-make_room.ensures.rest in
-    let f = fed by nodes c.loop-turn._turn _ v ms run _ x (held_in c.pull.new.self) c.in-Ok.got pull.counts pull.is.0 pull.is.1 c.if-got-eq0.false rest (record { pulls = c.requires.pulls; ends = c.requires.ends; failures = c.requires.source_failures }) (omega (arith, c.loop-turn-test.true, c.requires.few)) in
-    small_fed by nodes c.loop-turn._turn _ v (held_in c.pull.new.self) ms f small (omega (arith, c.loop-turn-test.true, c.requires.few))
+    let f = fed by nodes c.loop-turn._turn _ v ms run _ x (held_in c.pull.new.self) c.in-Ok.got pull.counts pull.is.0 pull.is.1 c.if-got-eq0.false rest (record { pulls = c.requires.devices.pulls; ends = c.requires.devices.ends; failures = c.requires.devices.source_failures }) (omega (arith, c.loop-turn-test.true, c.requires.devices.few)) in
+    small_fed by nodes c.loop-turn._turn _ v (held_in c.pull.new.self) ms f small (omega (arith, c.loop-turn-test.true, c.requires.devices.few))
 
 pub returns-in-Err-answer_all-clause-run : goal.returns-in-Err-answer_all-clause-run
 returns-in-Err-answer_all-clause-run g c =
@@ -95,7 +95,7 @@ returns-in-Err-answer_all-clause-run g c =
     let (got, put, ms, took, held, run, range, small) = c.loop-turn.invariant in
     let (x, more, pull) = c.in-Ok.ensures.pull in
     let rest = pull.behind ∙ ap (λ b. b ++ x) c.in_ok-make_room.ensures.rest in
-    let f = fed by nodes c.loop-turn._turn _ v ms run _ x (held_in c.pull.new.self) c.in-Ok.got pull.counts pull.is.0 pull.is.1 c.if-got-eq0.false rest (record { pulls = c.requires.pulls; ends = c.requires.ends; failures = c.requires.source_failures }) (omega (arith, c.loop-turn-test.true, c.requires.few)) in
+    let f = fed by nodes c.loop-turn._turn _ v ms run _ x (held_in c.pull.new.self) c.in-Ok.got pull.counts pull.is.0 pull.is.1 c.if-got-eq0.false rest (record { pulls = c.requires.devices.pulls; ends = c.requires.devices.ends; failures = c.requires.devices.source_failures }) (omega (arith, c.loop-turn-test.true, c.requires.devices.few)) in
     let (ns, out, left, and, halted) = c.in-Err-answer_all.ensures.err in
     (got ++ x, put ++ out, Consumes-trans _ _ _ _ _ took more, Appends-trans _ _ _ _ _ held and, ends_halt by nodes c.loop-turn._turn _ _ ms f ns _ out left c.args.turns _ halted c.loop-turn-test.true)
 
@@ -107,7 +107,7 @@ returns-in-Some-clause-run g c =
     let (got, put, ms, took, held, run, range, small) = c.loop-turn.invariant in
     let (x, more, pull) = c.in-Ok.ensures.pull in
     let rest = pull.behind ∙ ap (λ b. b ++ x) c.in_ok-make_room.ensures.rest in
-    let f = fed by nodes c.loop-turn._turn _ v ms run _ x (held_in c.pull.new.self) c.in-Ok.got pull.counts pull.is.0 pull.is.1 c.if-got-eq0.false rest (record { pulls = c.requires.pulls; ends = c.requires.ends; failures = c.requires.source_failures }) (omega (arith, c.loop-turn-test.true, c.requires.few)) in
+    let f = fed by nodes c.loop-turn._turn _ v ms run _ x (held_in c.pull.new.self) c.in-Ok.got pull.counts pull.is.0 pull.is.1 c.if-got-eq0.false rest (record { pulls = c.requires.devices.pulls; ends = c.requires.devices.ends; failures = c.requires.devices.source_failures }) (omega (arith, c.loop-turn-test.true, c.requires.devices.few)) in
     let (ns, out, goes, and, flushed, _) = c.in-Ok-answer_all.ensures.ok in
     let bad = subst (λ l. IsBad l c.in-Some.len) c.rest-in-loop-turn.ensures c.in-Some.ensures in
     (got ++ x, put ++ out, Consumes-trans _ _ _ _ _ took more, Appends-trans _ _ _ _ _ held and, ends_bad by nodes c.loop-turn._turn _ _ ms f (serving_state c.answer_all.new.progress) ns _ out goes flushed c.args.turns c.in-Some.len bad c.loop-turn-test.true)
@@ -120,7 +120,7 @@ loop-turn-preserved g c =
     let (got, put, ms, took, held, run, range, small) = c.loop-turn.invariant in
     let (x, more, pull) = c.in-Ok.ensures.pull in
     let rest = pull.behind ∙ ap (λ b. b ++ x) c.in_ok-make_room.ensures.rest in
-    let f = fed by nodes c.loop-turn._turn _ v ms run _ x (held_in c.pull.new.self) c.in-Ok.got pull.counts pull.is.0 pull.is.1 c.if-got-eq0.false rest (record { pulls = c.requires.pulls; ends = c.requires.ends; failures = c.requires.source_failures }) (omega (arith, c.loop-turn-test.true, c.requires.few)) in
+    let f = fed by nodes c.loop-turn._turn _ v ms run _ x (held_in c.pull.new.self) c.in-Ok.got pull.counts pull.is.0 pull.is.1 c.if-got-eq0.false rest (record { pulls = c.requires.devices.pulls; ends = c.requires.devices.ends; failures = c.requires.devices.source_failures }) (omega (arith, c.loop-turn-test.true, c.requires.devices.few)) in
     let (ns, out, goes, and, flushed, _) = c.in-Ok-answer_all.ensures.ok in
     let good = subst IsOpen c.rest-in-loop-turn.ensures c.in-None.ensures in (
       got ++ x,

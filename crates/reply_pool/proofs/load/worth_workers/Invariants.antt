@@ -1,0 +1,12 @@
+use Rattle.std.proofs.Common.{◌*◌, ◌-◌, ◌^◌, ◌≤◌}
+use Rattle.reply_pool.proofs.load.worth_workers.Given as goal
+
+abbrev pub invariant-loop-messages : goal.invariant-loop-messages
+invariant-loop-messages g l = record {
+  few : l.messages ≤ 256;
+  time : l.time ≤ l.messages * 2 ^ 33;
+  room : l.room ≤ 4194304;
+}
+
+abbrev pub decreases-loop-messages : goal.decreases-loop-messages
+decreases-loop-messages g l = 256 - l.messages

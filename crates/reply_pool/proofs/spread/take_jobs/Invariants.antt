@@ -1,0 +1,13 @@
+use Rattle.std.proofs.Common.{◌≡◌, ◌≤◌, ◌-◌, length}
+use Rattle.reply_pool.specs.Spread.{AreFirstJobs}
+use Rattle.reply_pool.proofs.spread.take_jobs.Given as goal
+
+abbrev pub invariant-loop-round : goal.invariant-loop-round
+invariant-loop-round g l = record {
+  first : AreFirstJobs l.fn.session l.stream l.round l.jobs.items;
+  many : length l.jobs.items ≡ l.round.messages;
+  few : l.round.messages ≤ l.messages;
+}
+
+abbrev pub decreases-loop-round : goal.decreases-loop-round
+decreases-loop-round g l = l.messages - l.round.messages

@@ -1,0 +1,174 @@
+//! A round of a stream, answered by several workers.
+//!
+//! The first messages of the stream are read as jobs, the workers draw batches of these, and the
+//! pieces that they give back are appended to the loop's replies in the order of their numbers.
+
+ghost use Rattle.std.specs.Prelude.{◌≡◌, ◌<◌, ◌≤◌, ◌^◌, ◌++◌, ◌⊎◌, drop, length, IfOk, OnOk};
+ghost use Rattle.std.specs.List.{flat_map};
+ghost use Rattle.fuse_wire.specs.Stream.{IsRest};
+ghost use Rattle.lookup_balances.specs.Balances.{AreWithin, IsMoved, weight};
+ghost use Rattle.serve_loop.specs.Rounds.{change};
+ghost use Rattle.node_table.specs.Stacked.{Stacked};
+ghost use Rattle.reply_model.specs.declared.session.Session.{Session};
+ghost use Rattle.reply_pool.specs.Answers.{answering};
+ghost use Rattle.reply_pool.specs.Batches.{AreEachOnce, AreLight};
+ghost use Rattle.reply_pool.specs.Spread.{AreAppended, AreFirstJobs, SpreadsOut};
+
+use crate::gathered::{Gathered, Spread};
+use crate::pieces::Piece;
+use crate::plan::Plan;
+use crate::workers::answer_batches;
+use fuse_answer::after;
+use fuse_wire::{Framed, Request, frame};
+use lookup_balances::add_move;
+use node_table::Table;
+use reply_model::{Move, Session};
+use serve_loop::Round;
+use std::alloc::{AllocError, Allocator};
+use std::thread::Threads;
+use work_gate::Gate;
+
+// The first messages of a stream as jobs, and how far they go.
+#[derive(Drop)]
+struct Taken<'a, A: Allocator> {
+    jobs: Vec<(Session, Request<'a>), A>,
+    round: Round,
+}
+
+/// Answers so many of the first messages of a stream, or as many as are whole: 1 to 256 of them, by
+/// workers of a plan. The batches are the plan's, or smaller ones, so that there is one for each
+/// worker. `AllocError` comes only where memory was refused, in whichever thread.
+pub fn spread_out<R: Threads + Sync, A: Allocator + Copy + Send + Sync, G: Gate + Sync>(
+    rt: &R,
+    alloc: A,
+    table: &Table<A>,
+    stream: &[u8],
+    session: Session,
+    messages: usize,
+    plan: Plan,
+    gate: &G,
+) -> Result<Spread<A>, AllocError>
+    requires some { 1 ≤ messages }
+    requires few { messages ≤ 256 }
+    requires short { length stream.now ≤ 2 ^ 57 }
+    ensures { IfOk result (λ spread. SpreadsOut table.now session stream.now spread) }
+{
+    let Taken { jobs, round } = take_jobs(alloc, stream, session, messages)?;
+    let size = batch_size(plan, jobs.len());
+    let pieces = answer_batches(rt, alloc, table, &jobs, size, plan.workers(), gate)?;
+    Ok(Spread { round, pieces })
+}
+
+impl<A: Allocator> Gathered for Spread<A> {
+    ghost whole = { λ spread. AreEachOnce spread.pieces.items × AreLight spread.pieces.items };
+
+    ghost answers = { λ spread by s stream.
+        (first : Session) × (stack : Stacked) × (by ≡ answering first stack)
+        × SpreadsOut stack s stream spread };
+
+    fn append<B: Allocator>(
+        self,
+        replies: &mut Vec<u8, B>,
+        balances: &mut [i128],
+    ) -> Result<Round, AllocError> {
+        let Spread { round, pieces } = self;
+        append(pieces, replies, balances)?;
+        Ok(round)
+    }
+}
+
+// Reads so many of the first messages of a stream, or as many as are whole.
+fn take_jobs<'a, A: Allocator>(
+    alloc: A,
+    stream: &'a [u8],
+    session: Session,
+    messages: usize,
+) -> Result<Taken<'a, A>, AllocError>
+    requires some { 1 ≤ messages }
+    requires short { length stream.now ≤ 2 ^ 57 }
+    ensures jobs { IfOk result
+        (λ taken. AreFirstJobs session stream.now taken.round taken.jobs.items) }
+    ensures few { IfOk result (λ taken. length taken.jobs.items ≤ messages) }
+    ensures some { IfOk result (λ taken.
+        (0 < taken.round.messages) ⊎ IsRest (drop taken.round.used stream.now)) }
+{
+    let mut jobs = Vec::with_capacity(alloc, messages)?;
+    let mut round = Round {
+        used: 0,
+        messages: 0,
+        session,
+    };
+    while round.messages < messages {
+        let rest = &stream[round.used..];
+        match frame(rest) {
+            Framed::Whole(len) => {
+                let request = Request::read(&rest[..len]);
+                jobs.push((round.session, request))?;
+                round.session = after(round.session, &request);
+                round.used += len;
+                round.messages += 1;
+            }
+            Framed::More => break,
+            Framed::Bad(_) => break,
+        }
+    }
+    Ok(Taken { jobs, round })
+}
+
+// How many jobs a batch has, of so many in all: the plan's number, or fewer.
+fn batch_size(plan: Plan, jobs: usize) -> u32
+    requires { jobs ≤ 256 }
+    ensures some { 1 ≤ result }
+    ensures few { result ≤ 256 }
+{
+    let workers = plan.workers();
+    let even = (jobs as u32 + workers - 1) / workers;
+    plan.batch().min(even.max(1))
+}
+
+// Appends the bytes of pieces in the order of their numbers, and adds what they move to balances.
+fn append<A: Allocator, B: Allocator>(
+    mut pieces: Vec<Piece<A>, A>,
+    replies: &mut Vec<u8, B>,
+    balances: &mut [i128],
+) -> Result<(), AllocError>
+    requires once { AreEachOnce pieces.items }
+    requires light { AreLight pieces.items }
+    requires within { AreWithin (2 ^ 122) balances.old }
+    ensures { OnOk result (AreAppended pieces.items replies.old.items replies.new.items
+        (change balances.old balances.new)) }
+{
+    pieces.sort_unstable_by_key(|piece| piece.number);
+    append_all(&pieces, replies, balances)
+}
+
+// The same of pieces that are in order.
+fn append_all<A: Allocator, B: Allocator>(
+    pieces: &[Piece<A>],
+    replies: &mut Vec<u8, B>,
+    balances: &mut [i128],
+) -> Result<(), AllocError>
+    requires light { weight (flat_map (λ piece. piece.moves.items) pieces.now) ≤ 2 ^ 112 }
+    requires within { AreWithin (2 ^ 122) balances.old }
+    ensures bytes { OnOk result (replies.new.items
+        ≡ replies.old.items ++ flat_map (λ piece. piece.bytes.items) pieces.now) }
+    ensures moves { OnOk result (IsMoved (flat_map (λ piece. piece.moves.items) pieces.now)
+        balances.old balances.new) }
+{
+    for piece in pieces {
+        replies.extend_from_slice(&piece.bytes)?;
+        add_moves(&piece.moves, balances);
+    }
+    Ok(())
+}
+
+// Adds moves to balances.
+fn add_moves(moves: &[Move], balances: &mut [i128])
+    requires light { weight moves.now ≤ 2 ^ 112 }
+    requires within { AreWithin (2 ^ 123) balances.old }
+    ensures { IsMoved moves.now balances.old balances.new }
+{
+    for m in moves {
+        add_move(balances, m.node, m.amount);
+    }
+}

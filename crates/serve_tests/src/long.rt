@@ -1,0 +1,91 @@
+//! A large file and a large directory, and streams whose replies are long.
+
+use romfs_image::sample::{BuildFault, Item, What, build};
+use std::alloc::{AllocError, Allocator, Global};
+
+/// How many bytes the file has: a page, so that each READ of it is answered a whole page.
+const FILE: usize = 16_384;
+
+/// How many names the directory has.
+const NAMES: u32 = 4_000;
+
+/// INIT 7.31, 56 bytes.
+const INIT: [u8; 56] = [
+    56, 0, 0, 0, 26, 0, 0, 0, 1, 0, 0, 0, 0, 0, 0, 0, 0, 0, 0, 0, 0, 0, 0, 0, 0, 0, 0, 0, 0, 0, 0,
+    0, 0, 0, 0, 0, 0, 0, 0, 0, 7, 0, 0, 0, 31, 0, 0, 0, 0, 0, 2, 0, 1, 96, 0, 0,
+];
+
+/// A request of which each stream has many.
+#[derive(Clone, Copy, Debug, PartialEq, Eq)]
+pub enum Long {
+    /// READ of the file, a page from its beginning on.
+    Read,
+    /// READDIRPLUS of the directory, a page from its first row on: 102 rows of 160 bytes.
+    Readdirplus,
+}
+
+impl Long {
+    /// The opcode, and the number of the node.
+    fn asked(self) -> (u8, u8) {
+        match self {
+            Long::Read => (15, 2),
+            Long::Readdirplus => (44, 3),
+        }
+    }
+
+    /// How many bytes a reply to it has.
+    pub fn reply(self) -> u64 {
+        match self {
+            Long::Read => 16 + 16_384,
+            Long::Readdirplus => 16 + 102 * 160,
+        }
+    }
+}
+
+fn item<A: Allocator>(depth: u16, name: Vec<u8, A>, what: What<A>) -> Item<A> {
+    Item {
+        depth,
+        name,
+        exec: false,
+        what,
+    }
+}
+
+/// A file `a`, and a directory `d` with the names 1000 to 4999.
+fn items<A: Allocator + Copy>(alloc: A) -> Result<Vec<Item<A>, A>, AllocError> {
+    let mut items = Vec::new(alloc);
+    let mut data = Vec::new(alloc);
+    for place in 0..FILE {
+        data.push((place % 251) as u8)?;
+    }
+    items.push(item(1, b"a".to_vec(alloc)?, What::Regular(data)))?;
+    items.push(item(1, b"d".to_vec(alloc)?, What::Directory))?;
+    for number in 0..NAMES {
+        let digits = [1000, 100, 10, 1].map(|unit| b'0' + ((1000 + number) / unit % 10) as u8);
+        items.push(item(2, digits.to_vec(alloc)?, What::Regular(Vec::new(alloc))))?;
+    }
+    Ok(items)
+}
+
+/// The image of the file and the directory: nodes 2 and 3.
+pub fn image<A: Allocator + Copy>(alloc: A) -> Result<Vec<u8, A>, BuildFault> {
+    let items = items(alloc)?;
+    build(alloc, b"v", &items)
+}
+
+/// INIT, and so many requests.
+pub fn stream(alloc: Global, long: Long, count: u32) -> Result<Vec<u8>, AllocError> {
+    let mut stream = INIT.to_vec(alloc)?;
+    let (opcode, node) = long.asked();
+    for unique in 0..count {
+        stream.extend_from_slice(&[80, 0, 0, 0, opcode, 0, 0, 0])?;
+        stream.extend_from_slice(&u64::from(unique).to_le_bytes())?;
+        stream.extend_from_slice(&u64::from(node).to_le_bytes())?;
+        // The rest of the header, the handle, and the offset.
+        stream.extend_from_slice(&[0; 32])?;
+        // A page.
+        stream.extend_from_slice(&[0, 64, 0, 0, 0, 0, 0, 0])?;
+        stream.extend_from_slice(&[0; 16])?;
+    }
+    Ok(stream)
+}
