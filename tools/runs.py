@@ -15,8 +15,8 @@ from collections import namedtuple
 
 MINUTE = 60
 # how a run ended (None: it hung, and was killed), what it wrote to its pipes, its processor time in seconds, user and
-# system, and the most memory that it had at one moment, in MiB
-Ended = namedtuple("Ended", "status output errors seconds memory")
+# system, the most memory that it had at one moment, in MiB, and how many writes it made
+Ended = namedtuple("Ended", "status output errors seconds memory writes")
 
 
 def ended(child):
@@ -31,11 +31,20 @@ def ended(child):
     patience.start()
     with concurrent.futures.ThreadPoolExecutor(2) as readers:
         output, errors = readers.map(read, (child.stdout, child.stderr))
+    os.waitid(os.P_PID, child.pid, os.WEXITED | os.WNOWAIT)
+    writes = written_by(child.pid)
     _, status, used = os.wait4(child.pid, 0)
     has_hung = not patience.is_alive()
     patience.cancel()
     child.returncode = os.waitstatus_to_exitcode(status)
-    return Ended(None if has_hung else child.returncode, output, errors, used.ru_utime + used.ru_stime, used.ru_maxrss / 1024)
+    return Ended(None if has_hung else child.returncode, output, errors, used.ru_utime + used.ru_stime, used.ru_maxrss / 1024,
+                 writes)
+
+
+def written_by(process):
+    """How many writes a process has made, which may have ended but is not waited for yet."""
+    with open("/proc/%d/io" % process, encoding="ascii") as lines:
+        return int(dict(line.split(":") for line in lines)["syscw"])
 
 
 def feed(pieces, pipe):
