@@ -1,6 +1,7 @@
 """Parts of tools/soak.py that run for long: random requests through pipes, and random calls on a mount."""
 import os
 import random
+import select
 import subprocess
 import threading
 import time
@@ -13,6 +14,7 @@ from images import Item, flat
 from mount import DEVICE
 from mounting import Failed, LeftOut, Room, apart, hold, try_mount
 from plain_replies import Session
+from runs import MINUTE
 
 KIB = 1 << 10
 MIB = 1 << 20
@@ -77,7 +79,7 @@ class Client:
             self.unique += 1
             messages.append(random_inputs.random_message(self.rng, self.unique, self.stack))
         wanted = b"".join(self.session.reply(message) for message in messages)
-        writing = threading.Thread(target=write_all, args=(sink, b"".join(messages)))
+        writing = threading.Thread(target=try_to_write, args=(sink, b"".join(messages)))
         writing.start()
         got = read_whole(source, len(wanted))
         writing.join()
@@ -90,9 +92,20 @@ def write_all(sink, data):
         data = data[os.write(sink, data):]
 
 
+def try_to_write(sink, data):
+    """The same, where who reads the replies tells that they end early."""
+    try:
+        write_all(sink, data)
+    except OSError:
+        pass
+
+
 def read_whole(source, size):
+    """So many bytes of a descriptor, each part of which comes within a minute."""
     parts = []
     while size:
+        if not select.select([source], [], [], MINUTE)[0]:
+            raise Failed("no replies come")
         parts.append(os.read(source, min(size, MIB)))
         if not parts[-1]:
             raise Failed("replies end early")
@@ -110,8 +123,9 @@ def pipe(program, folder, seconds):
                 client.ask(served.stdin.fileno(), served.stdout.fileno())
             served.stdin.close()
             hold("the end", (0, b"", b""), (served.wait(), served.stdout.read(), served.stderr.read()))
-        finally:
+        except Failed as wrong:
             served.kill()
+            raise Failed("%s; strata says %r" % (wrong, served.stderr.read())) from None
     return "%d requests as the plain reading has them; %s" % (client.requests, memory.told())
 
 
