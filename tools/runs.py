@@ -15,7 +15,7 @@ from collections import namedtuple
 
 MINUTE = 60
 # how a run ended (None: it hung, and was killed), what it wrote to its pipes, its processor time in seconds, user and
-# system, the most memory that it had at one moment, in MiB, and how many writes it made
+# system, the most memory that it had at one moment, in MiB, and how many writes it made (where nothing is fed to it)
 Ended = namedtuple("Ended", "status output errors seconds memory writes")
 
 
@@ -32,8 +32,9 @@ def ended(child):
     with concurrent.futures.ThreadPoolExecutor(2) as readers:
         output, errors = readers.map(read, (child.stdout, child.stderr))
     os.waitid(os.P_PID, child.pid, os.WEXITED | os.WNOWAIT)
-    writes = written_by(child.pid)
+    before = writes_of("self")
     _, status, used = os.wait4(child.pid, 0)
+    writes = writes_of("self") - before  # those of a child are its parent's once it was waited for
     has_hung = not patience.is_alive()
     patience.cancel()
     child.returncode = os.waitstatus_to_exitcode(status)
@@ -41,9 +42,9 @@ def ended(child):
                  writes)
 
 
-def written_by(process):
-    """How many writes a process has made, which may have ended but is not waited for yet."""
-    with open("/proc/%d/io" % process, encoding="ascii") as lines:
+def writes_of(process):
+    """How many writes a process has made, with those of the children that it has waited for."""
+    with open("/proc/%s/io" % process, encoding="ascii") as lines:
         return int(dict(line.split(":") for line in lines)["syscw"])
 
 
