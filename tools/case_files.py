@@ -163,7 +163,7 @@ class Case:
         elif kind == "writes":
             first = words.number()
             words.expect("to")
-            run.writes = range(first, words.number() + 1)
+            run.writes = first, words.number()
             words.end()
         elif kind == "replies":
             self.read_replies(words, line, run)

@@ -227,8 +227,8 @@ def judged(run, started, room, ended, position):
             told += compared("the replies of %s" % name, data, bytes_of(os.path.join(room, name)), started.given())
     for name, data in run.left.items():
         told += compared("the file %s" % name, data, bytes_of(os.path.join(room, name)))
-    if run.writes and ended.writes not in run.writes:
-        told.append("writes: wanted %d to %d, got %d" % (run.writes[0], run.writes[-1], ended.writes))
+    if run.writes and not run.writes[0] <= ended.writes <= run.writes[1]:
+        told.append("writes: wanted %d to %d, got %d" % (*run.writes, ended.writes))
     if run.unread and position != 0:
         told.append("%d bytes of the input were read" % position)
     return told
