@@ -5,7 +5,8 @@
 # make layers: tools/layers.py on layouts made on the spot, and, where umoci stands, on images that umoci makes.
 # make trials [CRATES=..]: tries the wrong bodies of trials/, over what make build kept; docs/trials.txt tells the last runs.
 # make bench, make fuzz: figures, and a comparison with a plain reading of the formats.
-.PHONY: test build demo cases layers mounted plant trials bench fuzz needed
+# make soak [MINUTES=20]: little memory by steps, the largest image, and random requests for so many minutes a part.
+.PHONY: test build demo cases layers mounted plant trials bench fuzz soak needed
 
 PYTHON = python3 -B
 
@@ -16,6 +17,8 @@ test: needed
 	$(PYTHON) tools/cases.py build/strata
 	$(PYTHON) tools/layers_test.py build/strata
 	$(PYTHON) tools/layers_umoci.py build/strata
+	$(PYTHON) tools/soak.py build/strata --quick memory
+	$(PYTHON) tools/bench.py build/strata --quick
 
 build: build/strata
 
@@ -49,6 +52,10 @@ bench: build/strata
 
 fuzz: build/strata
 	$(PYTHON) tools/fuzz.py build/strata
+
+MINUTES = 20
+soak: build/strata
+	$(PYTHON) tools/soak.py build/strata --minutes $(MINUTES)
 
 layers: build/strata
 	$(PYTHON) tools/layers_test.py build/strata

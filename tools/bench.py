@@ -1,12 +1,15 @@
-"""Times the built program, and hostile inputs against honest ones: python3 tools/bench.py PROGRAM [PART..]
+"""Times the built program, and hostile inputs against honest ones: python3 tools/bench.py PROGRAM [--quick] [PART..]
 
-The parts are `serve` (a million requests, against cat), `check` (images), `stacks` (check, list and serve of stacks),
-`streams` (dear requests), `pulls` (a byte at a time) and `workers` (long replies by four workers, against one). Files lie in memory (/dev/shm where it is there). A time is
+The parts are `serve` (a million requests, against cat), `lookups` (in a large directory, against attributes in a small
+one), `check` (images), `stacks` (check, list and serve of stacks), `streams` (dear requests), `pulls` (a byte at a time)
+and `workers` (long replies by four workers, against one). Files lie in memory (/dev/shm where it is there). A time is
 processor time, user and system, the least of three runs; memory is the most that a run had at one moment, and less than
 some 20 MiB is not told apart. The status is 0 where each hostile input takes at most five times as long as an honest one
-of its size; where it gives a longer list, at most five times as long for each byte of it; and where four workers give the
-bytes of one in at most twice its processor time.
+of its size; where it gives a longer list, at most five times as long for each byte of it; where `serve` and `lookups` are
+within bounds of their own; and where four workers give the bytes of one in at most twice its processor time. `--quick` is
+for the gate: the hostile parts alone, of a quarter of the size.
 """
+import argparse
 import filecmp
 import multiprocessing
 import os
@@ -21,8 +24,15 @@ import bench_inputs as inputs
 import runs
 
 RUNS = 3
-MOST = 5
+# how many times as long a hostile input may take as an honest one, a million requests as copying them, and a LOOKUP in a
+# large directory as a GETATTR in a small one
+MOST, MOST_OF_CAT, MOST_OF_GETATTR = 5, 4, 11
+# how many times the processor time of one worker four may take
 MOST_WORKERS = 2
+HOSTILE = ("check", "stacks", "streams", "pulls")
+PARTS = ("serve", "lookups", *HOSTILE, "workers")
+# what the sizes are divided by for the gate
+QUICK = 4
 Cost = namedtuple("Cost", "seconds memory written line")
 
 
@@ -90,6 +100,19 @@ class Bench:
             os.path.getsize(requests), os.path.getsize(replies)))
         print("  strata serve %.3f s, %.0f MiB; cat of both %.3f s: %.1f times" % (
             served.seconds, served.memory, copied, served.seconds / copied), flush=True)
+        self.within = self.within and served.seconds <= MOST_OF_CAT * copied
+
+    def lookups(self):
+        """A million LOOKUPs of names of a directory of 100,000 files, against a million GETATTRs over 1,000; what images and
+        the start take is taken off."""
+        begin, times = apart(inputs.write_begin, self.folder), []
+        for image, requests in apart(inputs.write_lookups, self.folder):
+            taken, idle = (cost(self.program, "serve", "--requests", it, "--replies", os.devnull, image).seconds
+                           for it in (requests, begin))
+            times.append(taken - idle)
+        print("1,000,000 LOOKUPs in 100,000 files %.3f s, 1,000,000 GETATTRs in 1,000 files %.3f s: %.1f times" % (
+            *times, times[0] / times[1]), flush=True)
+        self.within = self.within and times[0] <= MOST_OF_GETATTR * times[1]
 
     def check(self):
         """Hostile images against the first one, which has as many headers and bytes."""
@@ -143,16 +166,23 @@ class Bench:
                 os.remove(path)
 
 
-def main(program, parts):
+def main(words):
+    parser = argparse.ArgumentParser(description="Times strata, and hostile inputs against honest ones.")
+    parser.add_argument("program", type=os.path.abspath)
+    parser.add_argument("--quick", action="store_true")
+    parser.add_argument("parts", nargs="*", metavar="PART", help=", ".join(PARTS))
+    asked = parser.parse_intermixed_args(words)
+    if asked.quick:
+        inputs.divide(QUICK)
     place = "/dev/shm" if os.path.isdir("/dev/shm") else None
     with tempfile.TemporaryDirectory(dir=place) as folder:
-        bench = Bench(program, folder)
+        bench = Bench(asked.program, folder)
         begun = time.monotonic()
-        for part in parts:
+        for part in asked.parts or (HOSTILE if asked.quick else PARTS):
             getattr(bench, part)()
         print("%.0f s in all" % (time.monotonic() - begun))
     return 0 if bench.within else "slower than promised"
 
 
 if __name__ == "__main__":
-    sys.exit(main(os.path.abspath(sys.argv[1]), sys.argv[2:] or ["serve", "check", "stacks", "streams", "pulls", "workers"]))
+    sys.exit(main(sys.argv[1:]))

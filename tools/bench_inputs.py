@@ -8,6 +8,13 @@ from build import finished, getattr_, header, init, lookup, padded, request, vol
 from images import flat
 
 MIB = 1 << 20
+# what the counts of stacks and streams are divided by
+DIVIDED = 1
+
+
+def divided(make):
+    """What a function makes of its count, which is its one default."""
+    return make(max(2, make.__defaults__[0] // DIVIDED))
 
 
 # --- images ---
@@ -51,6 +58,12 @@ HEADERS = 200_000
 SIZE = 16 * MIB
 
 
+def divide(by):
+    """Makes all inputs that are written from here on smaller."""
+    global HEADERS, SIZE, DIVIDED
+    HEADERS, SIZE, DIVIDED = HEADERS // by, SIZE // by, by
+
+
 def spread(count):
     """Bytes beside each of so many headers of 32 bytes, so that the image has about 16 MiB."""
     return max(0, (SIZE - 100) // count // 16 * 16 - 32)
@@ -58,7 +71,7 @@ def spread(count):
 
 def honest():
     """200 directories of 999 files each."""
-    return laid_out(folders(200, 999, spread(HEADERS)), SIZE)
+    return laid_out(folders(HEADERS // 1000, 999, spread(HEADERS)), SIZE)
 
 
 def shared_tail():
@@ -268,14 +281,14 @@ def write_begin(folder):
 
 def write_stacks(name, folder):
     """How many headers a stack has, the paths of its layers, and those of an honest stack of its size."""
-    stack = STACKS[name]()
+    stack = divided(STACKS[name])
     paths = [[path for number, it in enumerate(made) for path in [written(folder, "%s-%d" % (mark, number), it.image)] * it.times]
              for mark, made in (("hostile", stack), ("honest", honest_stack(stack)))]
     return sum(it.headers * it.times for it in stack), *paths
 
 
 def write_streams(name, folder):
-    image, honest_, hostile = STREAMS[name]()
+    image, honest_, hostile = divided(STREAMS[name])
     return written(folder, "image", image), written(folder, "honest", honest_), written(folder, "hostile", hostile)
 
 
@@ -324,7 +337,18 @@ def write_bulk(name, folder):
     return written(folder, "image", image), written(folder, "requests", b"".join([init(1), *BULK[name]()]))
 
 
+def write_lookups(folder):
+    """Images and streams: a million LOOKUPs over 100,000 files, and a million GETATTRs over 1,000."""
+    rng = random.Random(2)
+    wanted = [rng.randrange(100_000) for _ in range(1_000_000)]
+    large, small = laid_out(names(b"file-%06d", 100_000)), laid_out(names(b"f%06d", 1000))
+    return ((written(folder, "large", large), written(folder, "lookups", of_requests(
+                lambda unique, it: lookup(unique, 1, b"file-%06d" % it), wanted))),
+            (written(folder, "small", small), written(folder, "attributes", of_requests(
+                lambda unique, it: getattr_(unique, it % 1000 + 1), wanted))))
+
+
 def write_packets(folder):
     """An image of one file, and 500,000 bytes of GETATTRs."""
     return (written(folder, "image", flat(b"bench", [(b"file", False, b"1")])),
-            written(folder, "packets", of_requests(lambda unique, it: getattr_(unique, it), [1] * 8927)))
+            written(folder, "packets", of_requests(lambda unique, it: getattr_(unique, it), [1] * (8927 // DIVIDED))))

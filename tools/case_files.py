@@ -1,11 +1,16 @@
 """Case files, as tools/cases.py says how they are written: their lines as images, streams, files and runs."""
 import re
 import struct
+from collections import namedtuple
 
 import images
 import messages
 import replies
 from text import Words, Wrong, words_of
+
+
+# a file of so many bytes, zeros behind the first ones
+Sparse = namedtuple("Sparse", "front size")
 
 
 class Line:
@@ -36,14 +41,15 @@ def repeated(lines):
     """The lines with those below `for N 0 to 15`, or `for N in 1 2 5`, once for each of these values in place of N."""
     made = []
     for line in lines:
-        found = re.fullmatch(r"for ([A-Z]+) (?:([0-9]+) to ([0-9]+)|in ([^#]+))", line.text)
+        found = re.fullmatch(r"for ([A-Z]+) (?:([0-9]+) to ([0-9]+)(?: and ([A-Z]+) from ([0-9]+))?|in ([^#]+))", line.text)
         if not found:
             line.below = repeated(line.below)
             made.append(line)
             continue
-        values = found[4].split() if found[4] else range(int(found[2]), int(found[3]) + 1)
-        for value in values:
-            made += repeated([replaced(below, found[1], value) for below in line.below])
+        values = found[6].split() if found[6] else range(int(found[2]), int(found[3]) + 1)
+        for place, value in enumerate(values):
+            below = [replaced(it, found[1], value) for it in line.below]
+            made += repeated([replaced(it, found[4], int(found[5]) + place) for it in below] if found[4] else below)
     return made
 
 
@@ -60,7 +66,7 @@ class Run:
         self.line = line
         self.output, self.faults, self.replies, self.left = [], "", {}, {}
         self.more_faults = self.unread = False
-        self.status = None
+        self.status = self.writes = None
 
 
 class Case:
@@ -85,7 +91,7 @@ class Case:
         into[name] = value
 
     def read(self, line):
-        words = line.words() if line.text[0] not in "|!$" else None
+        words = line.words() if line.text[0] not in "|!$" or line.text[:2] == "|=" else None
         kind = line.text[0] if words is None else words.next()
         if kind == "image":
             name = words.next()
@@ -96,7 +102,7 @@ class Case:
             self.read_requests(words, line)
         elif kind == "file":
             name = words.next()
-            value = words.number() if words.take("sparse") else words.data()
+            value = self.sparse(words) if words.take("sparse") else words.data()
             words.end()
             self.define(name, self.files, value)
         elif kind == "folder":
@@ -113,6 +119,10 @@ class Case:
             self.read_wanted(kind, words, line, self.runs[-1])
         if line.below and kind not in ("image", "requests", "answers", "$", "replies", "left"):
             raise Wrong("lines below that mean nothing here")
+
+    def sparse(self, words):
+        size = words.number()
+        return Sparse(self.front_of(words, self.images) if words.take("=") else b"", size)
 
     def front_of(self, words, table):
         """The bytes of what a name stands for, or the first ones."""
@@ -134,7 +144,10 @@ class Case:
     def read_wanted(self, kind, words, line, run):
         text = line.text[2:]
         if kind == "|":
-            run.output.append(text)
+            run.output.append(text.encode())
+        elif kind == "|=":
+            run.output.append(words.data())
+            words.end()
         elif kind == "!" and run.more_faults:
             raise Wrong("a line behind any more lines")
         elif kind == "!" and text == "...":
@@ -146,6 +159,11 @@ class Case:
             words.end()
         elif kind == "unread":
             run.unread = True
+            words.end()
+        elif kind == "writes":
+            first = words.number()
+            words.expect("to")
+            run.writes = first, words.number()
             words.end()
         elif kind == "replies":
             self.read_replies(words, line, run)
@@ -167,7 +185,7 @@ class Case:
         run.replies[name] = begun + replies_below(line)
 
     def data_of(self, name):
-        """The bytes of what a name stands for, its size where it is sparse, None for a folder; and whether there is one."""
+        """The bytes of what a name stands for, None for a folder; and whether there is one."""
         for table in (self.images, self.streams, self.files):
             if name in table:
                 self.used.add(name)

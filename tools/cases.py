@@ -1,35 +1,45 @@
 """Runs the cases of cases/*.case on the built program: python3 tools/cases.py PROGRAM [CASE..]
 
 A case file is a transcript. Lines that begin with # are comments, and indented lines belong to the line above; those
-below `for N 0 to 15`, or `for N in 1 2 5`, stand once for each of these values, in place of N.
+below `for N 0 to 15`, or `for N in 1 2 5`, stand once for each of these values, in place of N; `for N 0 to 15 and M from 1`
+counts M beside N.
 
     image NAME [volume "v"]         what it holds, a line each (tools/images.py), and edits by offset
     image NAME = OTHER              the image `empty`, `sample` or OTHER, and edits; sealed only where a line says `seal`
     requests NAME [= OTHER [first N]]   requests by name, a line each (tools/messages.py), after the first bytes of others
     answers NAME                    replies that several runs have, a line each (tools/replies.py)
-    file NAME DATA                  what a file holds before a run; `file NAME sparse SIZE` has that many zeros, and no blocks
+    file NAME DATA                  what a file holds before a run; `file NAME sparse SIZE [= IMAGE]` has that many bytes, zeros
+                                    behind those of the image, which take no blocks
     folder NAME
     $ strata WORDS [< NAME] [> NAME] [2> NAME]
       fed N                         the input is a pipe, fed N bytes at a time
       waits                         the input is a pipe; a request is written when the reply to the one before it has come
       room N                        a file may grow to N bytes, and then writes fail
+      disk N                        the run's folder is a file system of N KiB
       memory N                      so many MiB of address space
+      stack N                       so many KiB of stack
+      gone > [2>]                   the output, or standard error, is a pipe that nobody reads any more
     | TEXT                          a line of the output
+    |= DATA                         the same as data
     ! TEXT                          a line of standard error, where `! ...` stands for any more lines
     replies [NAME] [= ANSWERS [first N]]    what came out as replies, or stands in that file: the first bytes of these
                                     answers, and a line each below
     left NAME DATA                  what a file holds after the run; `left NAME empty`, `left NAME absent`, or lines
                                     `| TEXT` below
     unread                          nothing was read of the input
+    writes N to M                   how many writes the program made
     status N                        how the process ended
 
 Each run has a folder of its own, with the files that its line names. Whatever is not said must be empty, and each
-run says its status. A name that no run uses, and a line that means nothing, fail.
+run says its status. A name that no run uses, and a line that means nothing, fail. A run with `disk` is left out where no
+file system may be mounted.
 """
+import functools
 import os
 import resource
 import select
 import shutil
+import signal
 import struct
 import subprocess
 import sys
@@ -37,7 +47,9 @@ import tempfile
 
 import replies
 import runs
-from case_files import Case
+from case_files import Case, Sparse
+from mount import called, libc
+from mounting import enter
 from plain_replies import split
 from text import Words, Wrong, plain_bytes, words_of
 
@@ -61,9 +73,12 @@ class Started:
         for below in line.below:
             limit = below.words()
             name = limit.next()
-            if name not in ("fed", "waits", "room", "memory") or below.below:
+            if name not in ("fed", "waits", "room", "disk", "memory", "stack", "gone") or below.below:
                 raise Wrong("this line means nothing: %s" % below.text)
-            self.limits[name] = limit.number() if name != "waits" else None
+            if name == "gone":
+                self.limits[name] = [limit.next() for _ in list(limit.words)]
+            else:
+                self.limits[name] = limit.number() if name != "waits" else None
             limit.end()
         self.names = {part for word in self.words for part in (word, word.partition("=")[2])}
         self.names |= set(self.streams.values())
@@ -77,9 +92,9 @@ class Started:
                 os.mkdir(path)
             elif is_there:
                 with open(path, "wb") as out:
-                    out.write(b"" if isinstance(value, int) else value)
-                    if isinstance(value, int):
-                        out.truncate(value)
+                    out.write(value.front if isinstance(value, Sparse) else value)
+                    if isinstance(value, Sparse):
+                        out.truncate(value.size)
 
     def given(self):
         """The bytes of the requests that the run reads, as far as they can be told."""
@@ -132,10 +147,19 @@ def replies_in(data):
     return parts
 
 
+def sink(room, name, is_gone):
+    """Where a stream of a run goes: a file, a pipe that nobody reads any more, or a pipe that is read."""
+    if is_gone:
+        end, pipe = os.pipe()
+        os.close(end)
+        return os.fdopen(pipe, "wb")
+    return open(os.path.join(room, name), "wb") if name else subprocess.PIPE
+
+
 def open_streams(started, room):
     """The input, the output and standard error of a run, and the pipe that feeds the input."""
     names = started.streams
-    pair = [open(os.path.join(room, names[it]), "wb") if it in names else subprocess.PIPE for it in (">", "2>")]
+    pair = [sink(room, names.get(it), it in started.limits.get("gone", ())) for it in (">", "2>")]
     if "fed" in started.limits or "waits" in started.limits:
         end, pipe = os.pipe()
         return end, pair, pipe
@@ -144,11 +168,23 @@ def open_streams(started, room):
 
 def limited(limits):
     def set_limits():
-        if "room" in limits:
-            resource.setrlimit(resource.RLIMIT_FSIZE, (limits["room"], limits["room"]))
-        if "memory" in limits:
-            resource.setrlimit(resource.RLIMIT_AS, (limits["memory"] << 20, limits["memory"] << 20))
+        for name, what, unit in (("room", resource.RLIMIT_FSIZE, 1), ("memory", resource.RLIMIT_AS, 1 << 20),
+                                 ("stack", resource.RLIMIT_STACK, 1 << 10)):
+            if name in limits:
+                resource.setrlimit(what, (limits[name] * unit, limits[name] * unit))
+        if "gone" in limits:
+            signal.signal(signal.SIGPIPE, signal.SIG_DFL)  # as a shell leaves it
     return set_limits
+
+
+@functools.lru_cache(maxsize=None)
+def may_mount():
+    """Whether this process may mount file systems, in a namespace of its own."""
+    try:
+        enter()
+        return True
+    except OSError:
+        return False
 
 
 def bytes_of(path):
@@ -181,7 +217,7 @@ def judged(run, started, room, ended, position):
     told = []
     if ended.status != run.status:
         told.append("status: wanted %d, got %s" % (run.status, "no end after a minute" if ended.status is None else ended.status))
-    wanted = "".join(line + "\n" for line in run.output).encode() + run.replies.get(None, b"")
+    wanted = b"".join(line + b"\n" for line in run.output) + run.replies.get(None, b"")
     told += compared("the output", wanted, ended.output, started.given() if None in run.replies else None)
     faults = ended.errors.decode(errors="replace")
     if not (faults.startswith(run.faults) if run.more_faults else faults == run.faults):
@@ -191,6 +227,8 @@ def judged(run, started, room, ended, position):
             told += compared("the replies of %s" % name, data, bytes_of(os.path.join(room, name)), started.given())
     for name, data in run.left.items():
         told += compared("the file %s" % name, data, bytes_of(os.path.join(room, name)))
+    if run.writes and not run.writes[0] <= ended.writes <= run.writes[1]:
+        told.append("writes: wanted %d to %d, got %d" % (*run.writes, ended.writes))
     if run.unread and position != 0:
         told.append("%d bytes of the input were read" % position)
     return told
@@ -222,8 +260,14 @@ def tried(program, case, run):
         raise Wrong("%s:%d: an input that is a file is wanted here" % (case.path, run.line.number))
     if "waits" in started.limits and None not in run.replies:
         raise Wrong("%s:%d: replies are wanted here" % (case.path, run.line.number))
+    if not {">", "2>"} - {*started.streams} >= {*started.limits.get("gone", ())}:
+        raise Wrong("%s:%d: a stream that is gone goes to no file" % (case.path, run.line.number))
+    if "disk" in started.limits and not may_mount():
+        return None
     room = tempfile.mkdtemp(prefix="case-")
     try:
+        if "disk" in started.limits:
+            called(libc.mount(b"strata", room.encode(), b"tmpfs", 0, b"size=%dk" % started.limits["disk"]))
         started.lay_out(room)
         source, pair, pipe = open_streams(started, room)
         ended = ran(program, started, run, source, pair, pipe, room)
@@ -236,6 +280,8 @@ def tried(program, case, run):
                 stream.close()
         return judged(run, started, room, ended, position)
     finally:
+        if "disk" in started.limits:
+            called(libc.umount2(room.encode(), 0))
         shutil.rmtree(room)
 
 
@@ -247,12 +293,15 @@ def position_of(source):
 
 
 def main(program, paths):
-    passed = failed = 0
+    passed = failed = left_out = 0
     for path in paths:
         try:
             case = Case(path)
             for run in case.runs:
                 told = tried(program, case, run)
+                if told is None:
+                    left_out += 1
+                    continue
                 passed, failed = passed + (not told), failed + bool(told)
                 if told:
                     print("%s:%d: %s\n  %s" % (path, run.line.number, run.line.text, "\n  ".join(told)))
@@ -264,6 +313,8 @@ def main(program, paths):
         if unused:
             print("%s: never used: %s" % (path, ", ".join(unused)))
             failed += 1
+    if left_out:
+        print("%d left out, since no file system may be mounted here" % left_out)
     print("%d passed, %d failed" % (passed, failed))
     return failed == 0 and passed > 0
 

@@ -127,6 +127,11 @@ def cut(rng, stream):
     return pieces
 
 
+def random_plan(rng):
+    """Words of any plan, the least and the most more often."""
+    return ["--workers", str(rng.choice([1, 64, rng.randrange(1, 65)])), "--batch", str(rng.choice([1, 256, rng.randrange(1, 257)]))]
+
+
 def served(images, stream, strict):
     """What must come of serving a stream: how it ends, and the replies."""
     try:
@@ -149,7 +154,7 @@ def fuzz_streams(running, rng, count, others):
         names = [running.write("image-%d" % number, data) for number, data in enumerate(images)]
         words = ["serve", "--balances", "balances", *["--strict"] * strict]
         if rng.random() < 0.8:
-            words += ["--workers", str(rng.choice([1, 2, 4, 5, 64])), "--batch", str(rng.choice([1, 3, 16, 256]))]
+            words += random_plan(rng)
         want, replies = served(images, stream, strict)
         pieces, requests = [], running.write("requests", stream)
         if rng.random() < 0.6:

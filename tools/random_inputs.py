@@ -138,8 +138,13 @@ def read_body(offset, size):
 def init_body(rng):
     major = rng.choice([7] * 12 + [0, 6, 8, 2 ** 32 - 1])
     minor = rng.choice([31, 31, 31, 39, 23, 22, 12, 11, 0, 2 ** 32 - 1, rng.randrange(40)])
-    flags = rng.choice([0, 0x10, 0x6001, 0x6011, 0x73fffffb, 2 ** 32 - 1, rng.randrange(2 ** 32)])
-    return struct.pack("<4I", major, minor, rng.choice([0, 131072, 1048575, 1048576, 1048577, 2 ** 32 - 1]), flags)
+    readahead = rng.choice([0, 131072, 1048575, 1048576, 1048577, 2 ** 32 - 1])
+    return struct.pack("<4I", major, minor, readahead, random_flags(rng))
+
+
+def random_flags(rng):
+    """Flags of an INIT: a few, most, or any; and a kernel's."""
+    return rng.choice([0, 0x10, 0x6001, 0x6011, 0x73fffffb, 2 ** 32 - 1, *[rng.randrange(2 ** 32) for _ in range(3)]])
 
 
 def random_body(rng, name, stack, node):
@@ -171,7 +176,7 @@ def random_node(rng, stack):
 
 
 COMMON = ["LOOKUP"] * 5 + ["READ", "READ", "GETATTR", "READDIR", "READDIRPLUS", "FORGET", "BATCH_FORGET"] * 2 + [
-    "READLINK", "OPEN", "OPENDIR", "STATFS", "DESTROY", "INTERRUPT", "RELEASE", "INIT"]
+    "READLINK", "OPEN", "OPEN", "OPENDIR", "OPENDIR", "FLUSH", "STATFS", "DESTROY", "INTERRUPT", "RELEASE", "INIT"]
 
 
 def random_message(rng, unique, stack):
@@ -190,11 +195,11 @@ def random_message(rng, unique, stack):
 
 def random_stream(rng, stack):
     """Requests over a stack; one stream in three breaks off somewhere, or says a bad length."""
-    parts = [] if rng.random() < 0.1 else [init(1, minor=rng.choice([31, 39, 12, 22]), flags=rng.choice([0x10, 0x6001]))]
+    parts = [] if rng.random() < 0.1 else [init(1, minor=rng.choice([31, 39, 12, 22]), flags=random_flags(rng))]
     for unique in range(2, rng.choice([2, 10, 40, 40, 600])):
         parts.append(random_message(rng, unique, stack))
         if rng.random() < 0.02:
-            parts.append(init(unique, flags=rng.choice([0, 0x10])))
+            parts.append(init(unique, flags=random_flags(rng)))
     stream = b"".join(parts)
     ending = rng.randrange(9)
     if ending == 0:

@@ -15,8 +15,8 @@ from collections import namedtuple
 
 MINUTE = 60
 # how a run ended (None: it hung, and was killed), what it wrote to its pipes, its processor time in seconds, user and
-# system, and the most memory that it had at one moment, in MiB
-Ended = namedtuple("Ended", "status output errors seconds memory")
+# system, the most memory that it had at one moment, in MiB, and how many writes it made (where nothing is fed to it)
+Ended = namedtuple("Ended", "status output errors seconds memory writes")
 
 
 def ended(child):
@@ -31,11 +31,21 @@ def ended(child):
     patience.start()
     with concurrent.futures.ThreadPoolExecutor(2) as readers:
         output, errors = readers.map(read, (child.stdout, child.stderr))
+    os.waitid(os.P_PID, child.pid, os.WEXITED | os.WNOWAIT)
+    before = writes_of("self")
     _, status, used = os.wait4(child.pid, 0)
+    writes = writes_of("self") - before  # those of a child are its parent's once it was waited for
     has_hung = not patience.is_alive()
     patience.cancel()
     child.returncode = os.waitstatus_to_exitcode(status)
-    return Ended(None if has_hung else child.returncode, output, errors, used.ru_utime + used.ru_stime, used.ru_maxrss / 1024)
+    return Ended(None if has_hung else child.returncode, output, errors, used.ru_utime + used.ru_stime, used.ru_maxrss / 1024,
+                 writes)
+
+
+def writes_of(process):
+    """How many writes a process has made, with those of the children that it has waited for."""
+    with open("/proc/%s/io" % process, encoding="ascii") as lines:
+        return int(dict(line.split(":") for line in lines)["syscw"])
 
 
 def feed(pieces, pipe):
