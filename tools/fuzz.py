@@ -3,8 +3,8 @@
 python3 tools/fuzz.py PROGRAM [IMAGES [STACKS [STREAMS [SEED]]]]
 
 Images, most of them broken, go through `check` and `list`; stacks of 1 to 6 layers through `check` and `list`; streams
-over such stacks through `serve`, from files and through pipes in pieces, by any plan, with balances. Each is tried
-strictly or not. Where a run differs, or takes more than two seconds of processor time, its files are kept and its words
+over such stacks through `serve`, from files and through pipes in pieces, by any plan, lastingly or not, with balances. Each
+is tried strictly or not. Where a run differs, or takes more than two seconds of processor time, its files are kept and its words
 are printed; where these name no file of requests, that file's bytes came through the pipe.
 """
 import collections
@@ -132,10 +132,10 @@ def random_plan(rng):
     return ["--workers", str(rng.choice([1, 64, rng.randrange(1, 65)])), "--batch", str(rng.choice([1, 256, rng.randrange(1, 257)]))]
 
 
-def served(images, stream, strict):
+def served(images, stream, strict, is_lasting):
     """What must come of serving a stream: how it ends, and the replies."""
     try:
-        done = plain.Served(images, stream, strict)
+        done = plain.Served(images, stream, strict, is_lasting)
     except plain.Stop as stop:
         return Wanted(stop.args[1], b"", stop.args[0] + "\n", {"balances": b""}), b""
     line, status = done.stop.args if done.stop else ("", 0)
@@ -147,15 +147,15 @@ def fuzz_streams(running, rng, count, others):
     replied = messages = nodes = 0
     for _ in range(count):
         images = random_stack(rng, others)
-        strict = rng.random() < 0.1
+        strict, is_lasting = rng.random() < 0.1, rng.random() < 0.5
         sound = [data for data in images if plain.fault(data) is None] or [others[0]]
         stack = plain.stack_of(sound)
         stream = random_stream(rng, stack)
         names = [running.write("image-%d" % number, data) for number, data in enumerate(images)]
-        words = ["serve", "--balances", "balances", *["--strict"] * strict]
+        words = ["serve", "--balances", "balances", *["--strict"] * strict, *["--lasting"] * is_lasting]
         if rng.random() < 0.8:
             words += random_plan(rng)
-        want, replies = served(images, stream, strict)
+        want, replies = served(images, stream, strict, is_lasting)
         pieces, requests = [], running.write("requests", stream)
         if rng.random() < 0.6:
             words += ["--requests", requests]

@@ -13,7 +13,7 @@ import mounted_trees as trees
 from mounting import Room, adopt, apart, try_mount
 
 CHECKS = (trees.tree, trees.whiteouts, trees.directory, trees.reads, trees.mapped, trees.many, trees.names, trees.writes,
-          ends.again, ends.killed, ends.aborted, ends.lazily, ends.waiting, ends.refused, ends.shared, ends.helped)
+          trees.silent, ends.again, ends.killed, ends.aborted, ends.lazily, ends.waiting, ends.refused, ends.shared, ends.helped)
 
 
 def told_of(check, program, scratch):

@@ -40,9 +40,18 @@ def dead(mount, opened):
     """Holds what a mount says whose server has ended."""
     fails("statvfs", errno.ENOTCONN, os.statvfs, mount.at)
     fails("a name not asked for before", errno.ENOTCONN, os.lstat, mount.path(b"y"))
-    fails("an open", errno.ENOTCONN, os.open, mount.path(b"x"), os.O_RDONLY)
+    fails("a file opened anew", errno.ENOTCONN, read_anew, mount.path(b"x"))
     fails("a read", errno.ENOTCONN, os.pread, opened, 4096, 4 * MIB)
     close_dead(opened)
+
+
+def read_anew(path):
+    """Opens a file, for which a kernel may not ask the server, and reads at a place that was not read before."""
+    opened = os.open(path, os.O_RDONLY)
+    try:
+        os.pread(opened, 4096, 4 * MIB)
+    finally:
+        close_dead(opened)
 
 
 def close_dead(opened):

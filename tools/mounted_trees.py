@@ -1,4 +1,4 @@
-"""Checks of tools/mounted.py: what a mount shows, and that nothing can be written to it."""
+"""Checks of tools/mounted.py: what a mount shows, that nothing can be written to it, and what the kernel asks for twice."""
 import ctypes
 import errno
 import mmap
@@ -282,3 +282,64 @@ def names(room):
     hold("the limit that is told", 255, os.statvfs(mount.at).f_namemax)
     mount.end()
     return "255 bytes found, or not there; 256 and more too long"
+
+
+# --- what the kernel keeps ---
+
+def wide_items():
+    """4,000 names in 200 directories: half of them files of all sizes around pages, links, and empty directories."""
+    rng, items = random.Random(9), []
+    for at in range(200):
+        here = (b"d%03d" % at,)
+        items.append(Item(here, "directory", True))
+        sizes = [rng.choice([0, 1, 4095, 4096, 4097, 20000]) for _ in range(10)]
+        items += [Item(here + (b"f%02d" % number,), "regular", False, data=rng.randbytes(size)) for number, size in enumerate(sizes)]
+        items += [Item(here + (b"l%02d" % number,), "symlink", False, data=b"../d%03d/f%02d" % (at, number)) for number in range(5)]
+        items += [Item(here + (b"e%02d" % number,), "directory", True) for number in range(4)]
+    return items
+
+
+def walk(root):
+    """Looks at all that a folder shows: rows, attributes, targets, names that are not there, and data; how many paths."""
+    count, todo = 0, [os.fsencode(root)]
+    while todo:
+        folder_of_it = todo.pop()
+        fails("a name that is not there", errno.ENOENT, os.lstat, folder_of_it + b"/missing")
+        for name in os.listdir(folder_of_it):
+            path, count = os.path.join(folder_of_it, name), count + 1
+            kind = os.lstat(path).st_mode & 0o170000
+            fails("a name that is not there", errno.ENOENT, os.stat, path + b"-missing")
+            if kind == 0o040000:
+                todo.append(path)
+            elif kind == 0o120000:
+                os.readlink(path)
+            elif kind == 0o100000:
+                read_all(path)
+    return count
+
+
+def read_all(path):
+    """Reads a file to its end by plain calls: open() asks each file whether it is a terminal, which reaches the server."""
+    opened = os.open(path, os.O_RDONLY)
+    while os.read(opened, 131072):
+        pass
+    os.close(opened)
+
+
+def silent(room):
+    """A second walk over a whole tree asks the server for nothing that the first one was told."""
+    mount = room.mount([room.layer(wide_items()), room.layer(upper_items())])
+    reads_before = reads_of(mount.server)
+    count = walk(mount.at)
+    first = reads_of(mount.server) - reads_before
+    hold("paths at the second walk", count, walk(mount.at))
+    second = reads_of(mount.server) - reads_before - first
+    hold("%d reads for the first walk, %d for the second: next to nothing" % (first, second), True, second * 100 <= first)
+    mount.end()
+    return "%d paths looked at and read, for %d reads of the server; once more, for %d" % (count, first, second)
+
+
+def reads_of(process):
+    """How many reads a process has made."""
+    with open("/proc/%d/io" % process, encoding="ascii") as it:
+        return int(dict(line.split(": ") for line in it)["syscr"])

@@ -38,10 +38,10 @@ def list_(images, strict=False):
 
 
 class Served:
-    """What serving a stream over images comes to: all replies that stand, and then how it ends."""
+    """What serving a stream over images comes to, lastingly or not: all replies that stand, and then how it ends."""
 
-    def __init__(self, images, stream, strict=False):
-        session = Session(stack_of(images, strict))
+    def __init__(self, images, stream, strict=False, is_lasting=False):
+        session = Session(stack_of(images, strict), is_lasting)
         messages, rest = split(stream)
         self.parts = [session.reply(message) for message in messages]
         self.replies, self.stop, self.balances = b"".join(self.parts), None, session.balances

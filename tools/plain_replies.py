@@ -22,9 +22,12 @@ SERVED = (INIT, STATFS, DESTROY, *ACKNOWLEDGED, *AT_NODE)
 BODIES = {INIT: 16, GETATTR: 16, OPEN: 8, OPENDIR: 8, READ: 40, READDIR: 40, READDIRPLUS: 40}
 VALID = 3600
 MOST = 1048576
-EXPORT_SUPPORT, MAX_PAGES = 1 << 4, 1 << 22
+EXPORT_SUPPORT, NO_OPEN_SUPPORT, MAX_PAGES, CACHE_SYMLINKS, NO_OPENDIR_SUPPORT = 1 << 4, 1 << 17, 1 << 22, 1 << 23, 1 << 24
 # ASYNC_READ, EXPORT_SUPPORT, DO_READDIRPLUS, READDIRPLUS_AUTO, PARALLEL_DIROPS, MAX_PAGES
 FLAGS = 1 << 0 | EXPORT_SUPPORT | 1 << 13 | 1 << 14 | 1 << 18 | MAX_PAGES
+# and what tells a client that nothing changes
+LASTING_FLAGS = FLAGS | NO_OPEN_SUPPORT | CACHE_SYMLINKS | NO_OPENDIR_SUPPORT
+KEEP_CACHE, CACHE_DIR = 1 << 1, 1 << 3
 
 
 # --- messages ---
@@ -72,6 +75,11 @@ def entry_out(node, attributes):
     return struct.pack("<4Q2I", node, 0, VALID, VALID, 0, 0) + attributes
 
 
+def no_entry_out():
+    """A negative entry: the node 0, and how long it is valid, and nothing else."""
+    return struct.pack("<4Q2I", 0, 0, VALID, 0, 0, 0) + bytes(88)
+
+
 def open_out(flags):
     return struct.pack("<Q2I", 0, flags, 0)
 
@@ -111,12 +119,17 @@ def lookup_name(body):
 
 
 class Session:
-    """A session over a stack: whether it has begun, what its client said, and the balance of each node's lookups."""
+    """A session over a stack, lasting or not: whether it has begun, the flags that its client said, and the balance of each
+    node's lookups."""
 
-    def __init__(self, stack):
-        self.stack = stack
-        self.ready = self.exports = False
+    def __init__(self, stack, is_lasting=False):
+        self.stack, self.is_lasting = stack, is_lasting
+        self.ready, self.said = False, 0
         self.balances = [0] * (len(stack.places) - 1)
+
+    def may_last(self, flag):
+        """Whether a lasting session's client said this flag."""
+        return self.is_lasting and self.said & flag != 0
 
     def reply(self, message):
         """The reply to a message, which may be nothing."""
@@ -157,6 +170,7 @@ class Session:
         if opcode == DESTROY:
             self.ready = False
             return b""
+        refuse_if(self.is_lasting and opcode == FLUSH, "ENOSYS")
         if opcode in ACKNOWLEDGED:
             return b""
         if opcode == STATFS:
@@ -177,9 +191,11 @@ class Session:
             refuse_if(kind != DIRECTORY, "ENOTDIR")
         if opcode == OPEN:
             refuse_if(struct.unpack_from("<I", body)[0] & 3 != 0, "EROFS")
-            return open_out(2)
+            refuse_if(self.may_last(NO_OPEN_SUPPORT), "ENOSYS")
+            return open_out(KEEP_CACHE)
         if opcode == OPENDIR:
-            return open_out(0)
+            refuse_if(self.may_last(NO_OPENDIR_SUPPORT), "ENOSYS")
+            return open_out(KEEP_CACHE | CACHE_DIR if self.is_lasting else 0)
         offset, size = struct.unpack_from("<8xQI", body)
         refuse_if(size > MOST, "EINVAL")
         if opcode == READ:
@@ -190,8 +206,9 @@ class Session:
         if major > 7:
             return version_out()
         refuse_if(major < 7 or minor < 12, "EPROTO")
-        self.ready, self.exports = True, flags & EXPORT_SUPPORT != 0
-        out = init_out(min(readahead, MOST), flags & FLAGS, 32 if flags & MAX_PAGES else 0)
+        self.ready, self.said = True, flags
+        known, pages = (LASTING_FLAGS, 256) if self.is_lasting else (FLAGS, 32)
+        out = init_out(min(readahead, MOST), flags & known, pages if flags & MAX_PAGES else 0)
         return out if minor >= 23 else out[:24]
 
     def attr(self, node):
@@ -200,16 +217,19 @@ class Session:
 
     def look_up(self, node, name):
         found = self.found(node, name)
+        if found is None and self.is_lasting:
+            return no_entry_out()
         refuse_if(found is None, "ENOENT")
         self.move(found, 1)
         return entry_out(found, self.attr(found))
 
     def found(self, node, name):
         """The number that a name leads to; None where there is none."""
-        if self.exports and name == b".":
+        exports = self.said & EXPORT_SUPPORT != 0
+        if exports and name == b".":
             return node
         refuse_if(self.stack.kind(node) != DIRECTORY, "ENOTDIR")
-        if self.exports and name == b"..":
+        if exports and name == b"..":
             return self.stack.parent(node)
         refuse_if(len(name) > 255, "ENAMETOOLONG")
         return dict(self.stack.children(node)).get(name)

@@ -14,7 +14,8 @@ import tempfile
 import cases
 from plain_replies import ERRNOS
 
-WANTED = {"|", "|=", "!", "status", "left", "entry", "attributes", "data", "rows", "rows_plus", "ino", "open_flags", "statfs", *ERRNOS}
+WANTED = {"|", "|=", "!", "status", "left", "entry", "negative", "attributes", "data", "rows", "rows_plus", "ino", "open_flags",
+          "statfs", *ERRNOS}
 # what only says how a run is made
 QUIET = {"fed", "waits", "memory", "stack", "gone", "writes", "folder", "for", "$", "# "}
 VALUE = re.compile(r"(?<![A-Za-z0-9_.-])(?:0x)?[0-9a-f_]*[0-9][0-9a-f_]*(?![A-Za-z_-])")

@@ -71,6 +71,9 @@ def reply_of(unique, words, rows):
         return plain.with_data(unique, init_of(words))
     if kind == "entry":
         return plain.with_data(unique, entry_of(words))
+    if kind == "negative":
+        words.expect("entry")
+        return plain.with_data(unique, plain.no_entry_out())
     if kind == "attributes":
         return plain.with_data(unique, plain.attr_out(attr_of(words)))
     if kind == "open_flags":
@@ -154,6 +157,8 @@ def reply_lines(name, reply):
         return ["%d bytes hex %s" % (unique, reply.hex())]
     if name == "INIT":
         return ["%d %s" % (unique, init_text(data))]
+    if name == "LOOKUP" and data == plain.no_entry_out():
+        return ["%d negative entry" % unique]
     if name == "LOOKUP":
         return ["%d entry node %d %s" % (unique, struct.unpack_from("<Q", data)[0], attr_text(data[40:]))]
     if name == "GETATTR":

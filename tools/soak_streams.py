@@ -55,8 +55,8 @@ def resident(process):
 class Client:
     """Random requests over random images, and the replies that must come to them."""
 
-    def __init__(self, rng, folder):
-        self.rng, self.unique, self.requests, self.paths = rng, 1, 0, []
+    def __init__(self, rng, folder, is_lasting=False):
+        self.rng, self.is_lasting, self.unique, self.requests, self.paths = rng, is_lasting, 1, 0, []
         while not self.paths:
             images = random_inputs.random_stack(rng, [])
             try:
@@ -70,7 +70,7 @@ class Client:
         self.begin()
 
     def begin(self):
-        self.session = Session(self.stack)
+        self.session = Session(self.stack, self.is_lasting)
 
     def ask(self, sink, source):
         """Some requests, written to a descriptor while the replies are read from another."""
@@ -114,9 +114,14 @@ def read_whole(source, size):
 
 
 def pipe(program, folder, seconds):
-    client = Client(random.Random(11), folder)
-    with subprocess.Popen([program, "serve", *client.paths], stdin=subprocess.PIPE, stdout=subprocess.PIPE,
-                          stderr=subprocess.PIPE) as served:
+    """Requests in both manners, half of the time each."""
+    return "; lastingly ".join(piped(program, folder, seconds / 2, is_lasting) for is_lasting in (False, True))
+
+
+def piped(program, folder, seconds, is_lasting):
+    client = Client(random.Random(11), folder, is_lasting)
+    words = [program, "serve", *["--lasting"] * is_lasting, *client.paths]
+    with subprocess.Popen(words, stdin=subprocess.PIPE, stdout=subprocess.PIPE, stderr=subprocess.PIPE) as served:
         memory = Memory(served.pid, seconds)
         try:
             while not memory.is_over():
