@@ -3,9 +3,10 @@
 python3 tools/soak.py PROGRAM [--minutes N] [--quick] [PART..]
 
 The parts are `memory` (from too little address space to enough, by steps of 1 MiB), `nodes` (more than one thread fills
-attributes of), `largest` (an image of 2^32 - 1 bytes), `pipe` and `mount` (random requests for so many minutes, held against
-the plain reading, while the memory of strata must not grow). `--quick` takes fewer steps, and some seconds in place of
-minutes. Each part prints a line, or says what is missing for it here.
+attributes of), `largest` (an image of 2^32 - 1 bytes), `pipe`, `mount` and `socket` (random requests for so many minutes, held
+against the plain reading, while the memory of strata must not grow), and `kills` (2,000 clients of a socket that are killed).
+`--quick` takes fewer steps, and some seconds in place of minutes. Each part prints a line, or says what is missing for it
+here.
 """
 import argparse
 import os
@@ -17,6 +18,7 @@ import tempfile
 
 import plain
 import runs
+import soak_sockets
 import soak_streams
 from build import init, lookup, request, seal
 from images import Item, laid_out
@@ -202,7 +204,17 @@ def mount(soak):
     return soak_streams.mount(soak.program, soak.folder, soak.seconds)
 
 
-PARTS = {it.__name__: it for it in (memory, nodes, largest, pipe, mount)}
+def socket(soak):
+    """Random requests through sessions of a socket."""
+    return soak_sockets.sessions(soak.program, soak.folder, soak.seconds)
+
+
+def kills(soak):
+    """Clients of a socket that are killed in all they do."""
+    return soak_sockets.kills(soak.program, soak.folder, 100 if soak.is_quick else 2000)
+
+
+PARTS = {it.__name__: it for it in (memory, nodes, largest, pipe, mount, socket, kills)}
 
 
 def told_of(part, program, seconds, is_quick):
