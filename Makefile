@@ -1,7 +1,7 @@
 # make test: the merge gate. It proves every crate from nothing, tries the wrong bodies, and runs all tests and cases.
 # make build: the proved program, as build/strata. make demo: shows it at work.
 # make cases: the cases alone, on build/strata. make plant: sees that the cases notice wrong lines.
-# make mounted [STRATA=PROGRAM]: real mounts, looked at through the kernel; build/strata has no --device yet, so not in make test.
+# make mounted [STRATA=PROGRAM]: real mounts, looked at through the kernel.
 # make layers: tools/layers.py on layouts made on the spot, and, where umoci stands, on images that umoci makes.
 # make trials [CRATES=..]: tries the wrong bodies of trials/, over what make build kept; docs/trials.txt tells the last runs.
 # make bench, make fuzz: figures, and a comparison with a plain reading of the formats.
@@ -17,6 +17,7 @@ test: needed
 	$(PYTHON) tools/cases.py build/strata
 	$(PYTHON) tools/layers_test.py build/strata
 	$(PYTHON) tools/layers_umoci.py build/strata
+	$(PYTHON) tools/mounted.py build/strata
 	$(PYTHON) tools/soak.py build/strata --quick memory
 	$(PYTHON) tools/bench.py build/strata --quick
 

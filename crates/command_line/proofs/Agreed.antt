@@ -6,7 +6,7 @@ use Rattle.command_line.specs.declared.options.LineFault.{LineFault}
 use Rattle.command_line.specs.declared.options.LineFault.TheVariants.{Memory, Usage}
 use Rattle.command_line.specs.declared.options.Verb.{Verb}
 use Rattle.command_line.specs.declared.options.Verb.TheVariants as verbs
-use Rattle.command_line.specs.CommandLine.{IsLineFault, IsLineOf, HaveNumbersInRange, Says, command_in, parts_of, verb_word}
+use Rattle.command_line.specs.CommandLine.{AreCrossed, IsLineFault, IsLineOf, HaveNumbersInRange, Says, command_in, parts_of, verb_word}
 use Rattle.command_line.specs.LineLaws.{LinesAgree, LinesAreFaultless}
 
 -- the verb whose word begins with this letter
@@ -46,7 +46,8 @@ faultless : (words : List Text) (line : Line) (fault : LineFault) → IsLineOf w
 faultless words line Memory is told = refl
 faultless words line (Usage text) is told = elim told [
   | inl refused ↦ absurd (refused is.taken)
-  | inr bad ↦ absurd (bad.wrong (subst HaveNumbersInRange (same_rows (command_in words) _ _ is.rows bad.rows is.command bad.command) is.holds.numbered))
+  | inr (inl bad) ↦ absurd (bad.wrong (subst HaveNumbersInRange (same_rows (command_in words) _ _ is.rows bad.rows is.command bad.command) is.holds.numbered))
+  | inr (inr bad) ↦ absurd (is.holds.apart (subst AreCrossed (same_rows (command_in words) _ _ bad.rows is.rows bad.command is.command) bad.crossed))
 ]
 
 pub lines_are_faultless : LinesAreFaultless

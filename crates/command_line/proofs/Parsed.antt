@@ -3,7 +3,7 @@ use Rattle.std.specs.Borrow.{Bor}
 use Rattle.std.specs.Prelude.{Box}
 use Rattle.std.specs.Box.{box_value}
 use Rattle.std.proofs.lemmas.List.{length-map}
-use Rattle.std.proofs.Common.{◌≡◌, ◌≤◌, ◌∙◌, ◌⊎◌, ◌≢◌, ◌∷◌, ℕ, Bool, arith, codes, is_some, length, option_map, unwrap_or, Option, Some, None, Result, Ok, Err, IfOk, IfSome, MatchOption, true, false, refl, sym, ap, ap₂, subst, List, [], inl, inr}
+use Rattle.std.proofs.Common.{◌≡◌, ◌≤◌, ◌∙◌, ◌⊎◌, ◌≢◌, ◌∷◌, ℕ, Bool, arith, codes, is_some, length, option_map, unwrap_or, Option, Some, None, Result, Ok, Err, IfOk, IfSome, MatchOption, true, false, true≢false, refl, sym, ap, ap₂, subst, List, [], inl, inr}
 use Rattle.clap.specs.Kinds.{HasKind, IsAmong, Kinds}
 use Rattle.clap.specs.Faults.{fault_of, is_simple_and_free}
 use Rattle.clap.specs.Simple.{App, HasMatchesOf, is_simple, subcommand_of, subcommand_rows, subcommand_rows_of}
@@ -26,7 +26,7 @@ use Rattle.command_line.specs.declared.options.LineFault.TheVariants.{Usage, Mem
 use Rattle.command_line.specs.declared.options.Verb.{Verb}
 use Rattle.command_line.specs.declared.options.Verb.TheVariants as verbs
 use Rattle.command_line.proofs.Taken.{taken_names}
-use Rattle.command_line.specs.CommandLine.{HoldsRows, IsFilled, IsLineOf, IsLineFault, IsNumberOf, IsNumberTo, HaveNumbersInRange, IsTaken, command_in, faults_in, most_batch, most_workers, number_or, program, verb_word}
+use Rattle.command_line.specs.CommandLine.{AreCrossed, HoldsRows, IsFilled, IsFlagFilled, Says, names_both, names_both_of, parts_of, IsLineOf, IsLineFault, IsNumberOf, IsNumberTo, HaveNumbersInRange, IsTaken, command_in, faults_in, most_batch, most_workers, number_or, program, verb_word}
 
 program_is_simple : is_simple program ≡ true
 program_is_simple = refl
@@ -79,14 +79,14 @@ one_or_more rows images filled are =
     let same : texts images ≡ filled.first ∷ filled.rest = ap (λ o. unwrap_or o []) (are ∙ filled.images) in
     omega (arith, length-map {A = Bor Text} images (λ s. s.now), ap length same)
 
--- the flag, by what it reads
-pub flag_is : (f : Found) (flag : Bool) → IsFilled (rows_of f) → (one_text f (codes "strict") ≡ None → flag ≡ false)
-    → (one_text f (codes "strict") ≡ Some (codes "true") → flag ≡ true) → (one_text f (codes "strict") ≡ Some (codes "false") → flag ≡ false)
-    → flag ≡ is_given (codes "strict") (rows_of f)
-flag_is f flag filled absent is_true is_false =
-    go (one_of (codes "strict") (rows_of f)) (is_given (codes "strict") (rows_of f)) (one_text-rows f (codes "strict")) filled.strict
+-- a flag, by what it reads
+pub flag_is : (f : Found) (id : Text) (flag : Bool) → IsFlagFilled id (rows_of f) → (one_text f id ≡ None → flag ≡ false)
+    → (one_text f id ≡ Some (codes "true") → flag ≡ true) → (one_text f id ≡ Some (codes "false") → flag ≡ false)
+    → flag ≡ is_given id (rows_of f)
+flag_is f id flag filled absent is_true is_false =
+    go (one_of id (rows_of f)) (is_given id (rows_of f)) (one_text-rows f id) filled
   where
-    go : (o : Option Text) (given : Bool) → one_text f (codes "strict") ≡ o → MatchOption o (given ≡ false) (λ t. t ≡ bool_text given) → flag ≡ given
+    go : (o : Option Text) (given : Bool) → one_text f id ≡ o → MatchOption o (given ≡ false) (λ t. t ≡ bool_text given) → flag ≡ given
     go None given is reads = absent is ∙ sym reads
     go (Some t) true is reads = is_true (is ∙ ap Some reads)
     go (Some t) false is reads = is_false (is ∙ ap Some reads)
@@ -157,16 +157,37 @@ numbers_are f workers batch w b =
 
 -- and a fault of one of them
 pub workers_fault : (f : Found) (fault : LineFault) → (fault ≡ Memory) ⊎ (¬ IfSome (first_value f (codes "workers")) (IsNumberTo most_workers))
-    → (fault ≡ Memory) ⊎ (¬ HaveNumbersInRange (rows_of f))
+    → (fault ≡ Memory) ⊎ ((¬ HaveNumbersInRange (rows_of f)) ⊎ AreCrossed (rows_of f))
 workers_fault f fault (inl memory) = inl memory
-workers_fault f fault (inr bad) = inr (λ numbered. bad
+workers_fault f fault (inr bad) = inr (inl (λ numbered. bad
     (subst (λ o. IfSome o (IsNumberTo most_workers)) (sym (first_value-rows f (codes "workers")))
-    numbered.workers))
+    numbered.workers)))
 
 pub batch_fault : (f : Found) (fault : LineFault) → (fault ≡ Memory) ⊎ (¬ IfSome (first_value f (codes "batch")) (IsNumberTo most_batch))
-    → (fault ≡ Memory) ⊎ (¬ HaveNumbersInRange (rows_of f))
+    → (fault ≡ Memory) ⊎ ((¬ HaveNumbersInRange (rows_of f)) ⊎ AreCrossed (rows_of f))
 batch_fault f fault (inl memory) = inl memory
-batch_fault f fault (inr bad) = inr (λ numbered. bad (subst (λ o. IfSome o (IsNumberTo most_batch)) (sym (first_value-rows f (codes "batch"))) numbered.batch))
+batch_fault f fault (inr bad) = inr (inl (λ numbered. bad (subst (λ o. IfSome o (IsNumberTo most_batch)) (sym (first_value-rows f (codes "batch"))) numbered.batch)))
+
+-- the line names a file beside the device where the rows do
+some_named : (o : Option (Bor Text)) (p : Option Text) → option_map (λ file. file.now) o ≡ p → is_some o ≡ is_some p
+some_named None p e = ap (λ o. is_some o) e
+some_named (Some file) p e = ap (λ o. is_some o) e
+
+pub names_as : (rows : List Row) (line : Line) → Says line (parts_of line.verb rows) → names_both line ≡ names_both_of rows
+names_as rows line says =
+    rw (says.device, some_named line.requests _ says.requests, some_named line.replies _ says.replies, some_named line.balances _ says.balances) refl
+
+-- a line that says what the rows give, and names no file beside the device, holds them
+pub held : (rows : List Row) (line : Line) → HaveNumbersInRange rows → Says line (parts_of line.verb rows) → names_both line ≡ false → HoldsRows rows line
+held rows line numbered says apart = record {
+  numbered = numbered;
+  apart = λ crossed. true≢false (sym crossed ∙ sym (names_as rows line says) ∙ apart);
+  says = says;
+}
+
+-- and where it names one, the rows do
+pub rows_crossed : (rows : List Row) (line : Line) → Says line (parts_of line.verb rows) → names_both line ≡ true → AreCrossed rows
+rows_crossed rows line says both = sym (names_as rows line says) ∙ both
 
 -- a line that holds the rows of a command is the line of the words
 pub line_is : (words : List Text) (name : Text) (rows : List Row) (verb : Verb) (r : Result Line LineFault)
@@ -182,9 +203,10 @@ line_is words name rows verb (Err fault) taken command named verb_is holds = tt
 
 -- and a fault of its numbers is a fault of the words
 pub fault_is : (words : List Text) (name : Text) (rows : List Row) (fault : LineFault) → IsTaken words → command_in words ≡ Some (name, rows)
-    → (fault ≡ Memory) ⊎ (¬ HaveNumbersInRange rows) → IsLineFault words fault
+    → (fault ≡ Memory) ⊎ ((¬ HaveNumbersInRange rows) ⊎ AreCrossed rows) → IsLineFault words fault
 fault_is words name rows Memory taken command told = tt
 fault_is words name rows (Usage text) taken command told = elim told [
   | inl same ↦ cc
-  | inr wrong ↦ inr (record { taken = taken; name = name; rows = rows; command = command; wrong = wrong })
+  | inr (inl wrong) ↦ inr (inl (record { taken = taken; name = name; rows = rows; command = command; wrong = wrong }))
+  | inr (inr crossed) ↦ inr (inr (record { taken = taken; name = name; rows = rows; command = command; crossed = crossed }))
 ]

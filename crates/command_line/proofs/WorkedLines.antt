@@ -8,7 +8,7 @@ use Rattle.clap.proofs.OnLiterals.{clap_on_literals}
 use Rattle.clap.proofs.WalkLemmas.{both}
 use Rattle.command_line.specs.declared.options.Verb.{Verb}
 use Rattle.command_line.specs.declared.options.Verb.TheVariants as verbs
-use Rattle.command_line.specs.CommandLine.{IsMisnumbered, IsNumberTo, HaveNumbersInRange, IsTaken, Parts, Says, command_in, faults_in, most_batch, most_workers, parts_of, verb_word}
+use Rattle.command_line.specs.CommandLine.{AreCrossed, IsCrossed, names_both_of, IsMisnumbered, IsNumberTo, HaveNumbersInRange, IsTaken, Parts, Says, command_in, faults_in, most_batch, most_workers, parts_of, verb_word}
 use Rattle.command_line.specs.LineExamples.{MisnumberedLines, ReadsAs, RefusedLines, TakenLines, words_of}
 use Rattle.command_line.proofs.Agreed.{one_name, one_word, same_rows}
 
@@ -61,18 +61,23 @@ is_numbered rows = passes most_workers (first_of (codes "workers") rows) && pass
 -- ---- what a text says, by the command that its words name and what its rows give
 
 reads : (text : Text) (verb : Verb) (rows : List Row) (parts : Parts) → IsTaken (words_of text) → command_in (words_of text) ≡ Some (verb_word verb, rows)
-    → is_numbered rows ≡ true → parts_of verb rows ≡ parts → ReadsAs text parts
-reads text verb rows parts taken command numbers are = record {
+    → is_numbered rows ≡ true → names_both_of rows ≡ false → parts_of verb rows ≡ parts → ReadsAs text parts
+reads text verb rows parts taken command numbers apart are = record {
   taken = taken;
   numbered = λ bad.
       let tests = both (passes most_workers (first_of (codes "workers") rows)) _ numbers in
       let numbered : HaveNumbersInRange rows = record { workers = given_passed most_workers _ tests.0; batch = given_passed most_batch _ tests.1 } in
       bad.wrong (subst HaveNumbersInRange (same_rows (command_in (words_of text)) _ _ rows bad.rows command bad.command) numbered);
+  apart = λ bad. true≢false (sym (subst AreCrossed (same_rows (command_in (words_of text)) _ _ bad.rows rows bad.command command) bad.crossed) ∙ apart);
   says = λ line is.
       let verb_is = one_word line.verb verb (one_name (command_in (words_of text)) _ _ is.rows rows is.command command) in
       let rows_are = same_rows (command_in (words_of text)) _ _ is.rows rows is.command command in
       subst (Says line) are (subst (λ v. Says line (parts_of v rows)) verb_is (subst (λ rows. Says line (parts_of line.verb rows)) rows_are is.holds.says));
 }
+
+crosses : (text : Text) (verb : Verb) (rows : List Row) → IsTaken (words_of text) → command_in (words_of text) ≡ Some (verb_word verb, rows)
+    → names_both_of rows ≡ true → IsCrossed (words_of text)
+crosses text verb rows taken command crossed = record { taken = taken; name = verb_word verb; rows = rows; command = command; crossed = crossed }
 
 misnumbers : (text : Text) (verb : Verb) (rows : List Row) → IsTaken (words_of text) → command_in (words_of text) ≡ Some (verb_word verb, rows)
     → is_numbered rows ≡ false → IsMisnumbered (words_of text)
@@ -95,27 +100,28 @@ rows_in text = unwrap_or (option_map (λ p. p.1) (command_in (words_of text))) [
 pub taken_lines : TakenLines
 unfolding clap_on_literals faults_in command_in rows_in
 taken_lines = record {
-  check_one = reads (codes "check e.img") verbs.Check (rows_in (codes "check e.img")) _ refl refl refl refl;
-  check_two = reads (codes "check b a") verbs.Check (rows_in (codes "check b a")) _ refl refl refl refl;
-  check_strict = reads (codes "check --strict a") verbs.Check (rows_in (codes "check --strict a")) _ refl refl refl refl;
-  list_one = reads (codes "list f.img") verbs.List (rows_in (codes "list f.img")) _ refl refl refl refl;
-  list_strict = reads (codes "list a b --strict") verbs.List (rows_in (codes "list a b --strict")) _ refl refl refl refl;
-  serve_one = reads (codes "serve f.img") verbs.Serve (rows_in (codes "serve f.img")) _ refl refl refl refl;
-  serve_layers = reads (codes "serve --replies r f g e") verbs.Serve (rows_in (codes "serve --replies r f g e")) _ refl refl refl refl;
-  all_options = reads (codes "serve --workers 2 --batch 3 --requests q --replies r --balances b --strict e f") verbs.Serve (rows_in (codes "serve --workers 2 --batch 3 --requests q --replies r --balances b --strict e f")) _ refl refl refl refl;
-  attached = reads (codes "serve --workers=5 --requests=q f") verbs.Serve (rows_in (codes "serve --workers=5 --requests=q f")) _ refl refl refl refl;
-  least_numbers = reads (codes "serve --workers 1 --batch 1 f") verbs.Serve (rows_in (codes "serve --workers 1 --batch 1 f")) _ refl refl refl refl;
-  most_numbers = reads (codes "serve --workers 64 --batch 256 f") verbs.Serve (rows_in (codes "serve --workers 64 --batch 256 f")) _ refl refl refl refl;
+  check_one = reads (codes "check e.img") verbs.Check (rows_in (codes "check e.img")) _ refl refl refl refl refl;
+  check_two = reads (codes "check b a") verbs.Check (rows_in (codes "check b a")) _ refl refl refl refl refl;
+  check_strict = reads (codes "check --strict a") verbs.Check (rows_in (codes "check --strict a")) _ refl refl refl refl refl;
+  list_one = reads (codes "list f.img") verbs.List (rows_in (codes "list f.img")) _ refl refl refl refl refl;
+  list_strict = reads (codes "list a b --strict") verbs.List (rows_in (codes "list a b --strict")) _ refl refl refl refl refl;
+  serve_one = reads (codes "serve f.img") verbs.Serve (rows_in (codes "serve f.img")) _ refl refl refl refl refl;
+  serve_device = reads (codes "serve --device --workers 2 f") verbs.Serve (rows_in (codes "serve --device --workers 2 f")) _ refl refl refl refl refl;
+  serve_layers = reads (codes "serve --replies r f g e") verbs.Serve (rows_in (codes "serve --replies r f g e")) _ refl refl refl refl refl;
+  all_options = reads (codes "serve --workers 2 --batch 3 --requests q --replies r --balances b --strict e f") verbs.Serve (rows_in (codes "serve --workers 2 --batch 3 --requests q --replies r --balances b --strict e f")) _ refl refl refl refl refl;
+  attached = reads (codes "serve --workers=5 --requests=q f") verbs.Serve (rows_in (codes "serve --workers=5 --requests=q f")) _ refl refl refl refl refl;
+  least_numbers = reads (codes "serve --workers 1 --batch 1 f") verbs.Serve (rows_in (codes "serve --workers 1 --batch 1 f")) _ refl refl refl refl refl;
+  most_numbers = reads (codes "serve --workers 64 --batch 256 f") verbs.Serve (rows_in (codes "serve --workers 64 --batch 256 f")) _ refl refl refl refl refl;
   leading_zeros = reads (codes "serve --workers 0008 --batch 00000000000000000000256 f") verbs.Serve
-      (rows_in (codes "serve --workers 0008 --batch 00000000000000000000256 f")) _ refl refl refl refl;
-  options_last = reads (codes "serve f g --balances b") verbs.Serve (rows_in (codes "serve f g --balances b")) _ refl refl refl refl;
-  option_between = reads (codes "serve f --batch 7 g") verbs.Serve (rows_in (codes "serve f --batch 7 g")) _ refl refl refl refl;
-  after_dashes = reads (codes "check -- --help --strict") verbs.Check (rows_in (codes "check -- --help --strict")) _ refl refl refl refl;
-  image_like_a_verb = reads (codes "list check") verbs.List (rows_in (codes "list check")) _ refl refl refl refl;
+      (rows_in (codes "serve --workers 0008 --batch 00000000000000000000256 f")) _ refl refl refl refl refl;
+  options_last = reads (codes "serve f g --balances b") verbs.Serve (rows_in (codes "serve f g --balances b")) _ refl refl refl refl refl;
+  option_between = reads (codes "serve f --batch 7 g") verbs.Serve (rows_in (codes "serve f --batch 7 g")) _ refl refl refl refl refl;
+  after_dashes = reads (codes "check -- --help --strict") verbs.Check (rows_in (codes "check -- --help --strict")) _ refl refl refl refl refl;
+  image_like_a_verb = reads (codes "list check") verbs.List (rows_in (codes "list check")) _ refl refl refl refl refl;
 }
 
 pub refused_lines : RefusedLines
-unfolding clap_on_literals faults_in
+unfolding clap_on_literals faults_in command_in rows_in
 refused_lines = record {
   no_words = refl;
   asks_help = refl;
@@ -132,6 +138,10 @@ refused_lines = record {
   flag_twice = refl;
   flag_with_value = refl;
   option_without_file = refl;
+  device_of_check = refl;
+  requests_and_device = crosses (codes "serve --requests q --device a") verbs.Serve (rows_in (codes "serve --requests q --device a")) refl refl refl;
+  replies_and_device = crosses (codes "serve --device --replies r a") verbs.Serve (rows_in (codes "serve --device --replies r a")) refl refl refl;
+  balances_and_device = crosses (codes "serve a --device --balances b") verbs.Serve (rows_in (codes "serve a --device --balances b")) refl refl refl;
   minus_apart = refl;
 }
 

@@ -1,5 +1,5 @@
 -- The command line: the program as `clap` sees it, and what the words after its name say.
-use Rattle.std.specs.Prelude.{◌≡◌, ◌⊎◌, ℕ, Bool, true, false, List, [], ◌∷◌, codes}
+use Rattle.std.specs.Prelude.{◌≡◌, ◌⊎◌, ℕ, Bool, true, false, List, [], ◌∷◌, codes, is_some, ◌&&◌, ◌||◌}
 use Rattle.std.specs.Prelude.{Option, Some, IfSome, MatchOption, option_map, unwrap_or}
 use Rattle.std.specs.Int.{IsInRange}
 use Rattle.std.specs.Option.{option_map_or}
@@ -24,12 +24,9 @@ use Rattle.command_line.specs.declared.options.Verb.TheVariants as verbs
 abbrev pub value_option : Text → Rule
 value_option name = record (new_rule name) { long = Some name; value_names = 1 }
 
--- the flag `--strict`
-abbrev pub strict_flag : Rule
-strict_flag = record (new_rule (codes "strict")) {
-  long = Some (codes "strict");
-  action = Some SetTrue;
-}
+-- an option without a value, as `--strict`
+abbrev pub flag : Text → Rule
+flag name = record (new_rule name) { long = Some name; action = Some SetTrue }
 
 -- the words IMAGE, one or more
 abbrev pub image_words : Rule
@@ -48,12 +45,12 @@ command_with name rules = on_top (λ s. record s { rules = rules }) (new_app nam
 abbrev pub serve_command : App
 serve_command = command_with (codes "serve") (
     value_option (codes "workers") ∷ value_option (codes "batch") ∷ value_option (codes "requests")
-    ∷ value_option (codes "replies") ∷ value_option (codes "balances") ∷ strict_flag ∷ image_words
-    ∷ [])
+    ∷ value_option (codes "replies") ∷ value_option (codes "balances") ∷ flag (codes "device")
+    ∷ flag (codes "strict") ∷ image_words ∷ [])
 
 -- a command over images, as `check` and `list`
 abbrev pub images_command : Text → App
-images_command name = command_with name (strict_flag ∷ image_words ∷ [])
+images_command name = command_with name (flag (codes "strict") ∷ image_words ∷ [])
 
 -- the program's name, which is no word of the line; it wants a command
 abbrev pub top_command : App
@@ -116,6 +113,7 @@ verb_word verbs.List = codes "list"
 pub record Parts : Type 0 where
   pub verb : Verb
   pub strict : Bool
+  pub device : Bool
   pub workers : ℕ
   pub batch : ℕ
   pub requests : Option Text
@@ -123,12 +121,13 @@ pub record Parts : Type 0 where
   pub balances : Option Text
   pub images : List Text
 
--- what the rows of a command give: whether there is the flag, the first value of each option or
+-- what the rows of a command give: whether there is each flag, the first value of each option or
 -- else its default, and all images in order
 abbrev pub parts_of : Verb → List Row → Parts
 parts_of verb rows = record {
   verb = verb;
   strict = is_given (codes "strict") rows;
+  device = is_given (codes "device") rows;
   workers = number_or 4 (first_of (codes "workers") rows);
   batch = number_or 16 (first_of (codes "batch") rows);
   requests = first_of (codes "requests") rows;
@@ -141,6 +140,7 @@ parts_of verb rows = record {
 pub record Says (line : Line) (parts : Parts) : Type 0 where
   pub verb : line.verb ≡ parts.verb
   pub strict : line.strict ≡ parts.strict
+  pub device : line.device ≡ parts.device
   pub workers : line.workers ≡ parts.workers
   pub batch : line.batch ≡ parts.batch
   pub requests : option_map (λ file. file.now) line.requests ≡ parts.requests
@@ -148,9 +148,25 @@ pub record Says (line : Line) (parts : Parts) : Type 0 where
   pub balances : option_map (λ file. file.now) line.balances ≡ parts.balances
   pub images : texts line.images.items ≡ parts.images
 
--- the line says what the rows of a command give, whose numbers are in their ranges
+-- a line has the device, and names a file in place of one of its ends or for the balances
+abbrev pub names_both : Line → Bool
+names_both line =
+    line.device && (is_some line.requests || (is_some line.replies || is_some line.balances))
+
+-- the rows of a command do
+abbrev pub names_both_of : List Row → Bool
+names_both_of rows = is_given (codes "device") rows
+    && (is_some (first_of (codes "requests") rows) || (is_some (first_of (codes "replies") rows)
+    || is_some (first_of (codes "balances") rows)))
+
+abbrev pub AreCrossed : List Row → Type 0
+AreCrossed rows = names_both_of rows ≡ true
+
+-- the line says what the rows of a command give, whose numbers are in their ranges, and which name
+-- no file beside the device
 pub record HoldsRows (rows : List Row) (line : Line) : Type 0 where
   pub numbered : HaveNumbersInRange rows
+  pub apart : ¬ AreCrossed rows
   pub says : Says line (parts_of line.verb rows)
 
 -- the words are a command of the program, and the line says the same
@@ -173,15 +189,29 @@ pub record IsMisnumbered (words : List Text) : Type 0 where
   pub command : command_in words ≡ Some (name, rows)
   pub wrong : ¬ HaveNumbersInRange rows
 
--- the words are no command of the program, or misnumbered, or memory ran out
+-- the words are a command of the program, but name a file beside the device
+pub record IsCrossed (words : List Text) : Type 0 where
+  pub taken : IsTaken words
+  pub name : Text
+  pub rows : List Row
+  pub command : command_in words ≡ Some (name, rows)
+  pub crossed : AreCrossed rows
+
+-- the words are no command of the program, or misnumbered, or name a file beside the device, or
+-- memory ran out
 abbrev pub IsLineFault : List Text → LineFault → Type 0
-IsLineFault words (Usage text) = (¬ IsTaken words) ⊎ IsMisnumbered words
+IsLineFault words (Usage text) = (¬ IsTaken words) ⊎ (IsMisnumbered words ⊎ IsCrossed words)
 IsLineFault words Memory = Unit {0}
 
--- the rows of a command have an image, and `--strict` reads as whether it is given
+-- the flag of this name reads as whether it is given
+abbrev pub IsFlagFilled : Text → List Row → Type 0
+IsFlagFilled id rows = MatchOption (one_of id rows) (is_given id rows ≡ false)
+    (λ text. text ≡ bool_text (is_given id rows))
+
+-- the rows of a command have an image, and both flags read as whether they are given
 pub record IsFilled (rows : List Row) : Type 0 where
   pub first : Text
   pub rest : List Text
   pub images : all_of (codes "image") rows ≡ Some (first ∷ rest)
-  pub strict : MatchOption (one_of (codes "strict") rows) (is_given (codes "strict") rows ≡ false)
-      (λ text. text ≡ bool_text (is_given (codes "strict") rows))
+  pub strict : IsFlagFilled (codes "strict") rows
+  pub device : IsFlagFilled (codes "device") rows

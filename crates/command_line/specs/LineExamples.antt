@@ -7,7 +7,7 @@ use Rattle.clap.specs.declared.error.kind.ErrorKind.TheVariants as kind
 use Rattle.command_line.specs.declared.options.Line.{Line}
 use Rattle.command_line.specs.declared.options.Verb.{Verb}
 use Rattle.command_line.specs.declared.options.Verb.TheVariants as verbs
-use Rattle.command_line.specs.CommandLine.{IsLineOf, IsMisnumbered, IsTaken, Parts, Says, faults_in}
+use Rattle.command_line.specs.CommandLine.{IsCrossed, IsLineOf, IsMisnumbered, IsTaken, Parts, Says, faults_in}
 
 -- the words of a text, after those of which this is the last so far, cut at each blank
 abbrev pub cut : Text → Text → List Text
@@ -22,6 +22,7 @@ abbrev pub plain : Verb → Text → Parts
 plain verb images = record {
   verb = verb;
   strict = false;
+  device = false;
   workers = 4;
   batch = 16;
   requests = None;
@@ -30,10 +31,12 @@ plain verb images = record {
   images = words_of images;
 }
 
--- the words are a command with numbers in their ranges, and each line of them says this
+-- the words are a command with numbers in their ranges and no file beside the device, and each line
+-- of them says this
 pub record ReadsAs (text : Text) (parts : Parts) : Type 0 where
   pub taken : IsTaken (words_of text)
   pub numbered : ¬ IsMisnumbered (words_of text)
+  pub apart : ¬ IsCrossed (words_of text)
   pub says : (line : Line) → IsLineOf (words_of text) line → Says line parts
 
 -- words that are a command, and what they say
@@ -46,6 +49,8 @@ pub record TakenLines : Type 0 where
   pub list_strict : ReadsAs (codes "list a b --strict")
       (record (plain verbs.List (codes "a b")) { strict = true })
   pub serve_one : ReadsAs (codes "serve f.img") (plain verbs.Serve (codes "f.img"))
+  pub serve_device : ReadsAs (codes "serve --device --workers 2 f")
+      (record (plain verbs.Serve (codes "f")) { device = true; workers = 2 })
   pub serve_layers : ReadsAs (codes "serve --replies r f g e")
       (record (plain verbs.Serve (codes "f g e")) { replies = Some (codes "r") })
   pub all_options : ReadsAs
@@ -53,6 +58,7 @@ pub record TakenLines : Type 0 where
       (record {
         verb = verbs.Serve;
         strict = true;
+        device = false;
         workers = 2;
         batch = 3;
         requests = Some (codes "q");
@@ -80,7 +86,7 @@ pub record TakenLines : Type 0 where
 abbrev pub HasOneFault : Text → ErrorKind → Type 0
 HasOneFault text why = faults_in (words_of text) ≡ why ∷ []
 
--- words that are no command, and why
+-- words that are no command, and why; or are one that names a file beside the device
 pub record RefusedLines : Type 0 where
   pub no_words : faults_in [] ≡ kind.MissingSubcommand ∷ []
   pub asks_help : HasOneFault (codes "--help") kind.DisplayHelp
@@ -98,6 +104,10 @@ pub record RefusedLines : Type 0 where
   pub flag_twice : HasOneFault (codes "check --strict --strict a") kind.ArgumentConflict
   pub flag_with_value : HasOneFault (codes "check --strict=true a") kind.TooManyValues
   pub option_without_file : HasOneFault (codes "serve a --requests") kind.InvalidValue
+  pub device_of_check : HasOneFault (codes "check --device a") kind.UnknownArgument
+  pub requests_and_device : IsCrossed (words_of (codes "serve --requests q --device a"))
+  pub replies_and_device : IsCrossed (words_of (codes "serve --device --replies r a"))
+  pub balances_and_device : IsCrossed (words_of (codes "serve a --device --balances b"))
   pub minus_apart : HasOneFault (codes "serve --workers -4 a") kind.UnknownArgument
 
 -- words that are a command but for a number

@@ -1,9 +1,9 @@
 //! The commands of the program, their options and words, as `clap` takes them.
 
-ghost use Rattle.std.specs.Prelude.{◌≡◌, false, IfOk};
+ghost use Rattle.std.specs.Prelude.{◌≡◌, codes, false, IfOk};
 ghost use Rattle.clap.specs.Words.{app_of, rule_of};
 ghost use Rattle.command_line.specs.CommandLine.{images_command, program, serve_command};
-ghost use Rattle.command_line.specs.CommandLine.{image_words, strict_flag, value_option};
+ghost use Rattle.command_line.specs.CommandLine.{flag, image_words, value_option};
 
 use clap::{Arg, ArgAction, Command};
 use std::alloc::{AllocError, Global};
@@ -61,6 +61,11 @@ fn serve<'a>(alloc: Global) -> Result<Command<'a>, AllocError>
             "FILE",
             "Where the nodes' balances of look-ups go",
         ))?
+        .arg(flag(
+            alloc,
+            "device",
+            "Standard input and output are one open /dev/fuse",
+        ))?
         .arg(strict(alloc))?
         .arg(images(alloc))
 }
@@ -87,13 +92,21 @@ fn option<'a>(alloc: Global, name: &'a str, value: &'a str, help: &'a str) -> Ar
 }
 
 fn strict<'a>(alloc: Global) -> Arg<'a>
-    ensures rule { rule_of result ≡ strict_flag }
+    ensures rule { rule_of result ≡ flag (codes "strict") }
     ensures local { result.global ≡ false }
 {
-    Arg::new(alloc, "strict")
-        .long("strict")
+    flag(alloc, "strict", "Holds images to the strict profile")
+}
+
+// An option without a value.
+fn flag<'a>(alloc: Global, name: &'a str, help: &'a str) -> Arg<'a>
+    ensures rule { rule_of result ≡ flag name.entry.now }
+    ensures local { result.global ≡ false }
+{
+    Arg::new(alloc, name)
+        .long(name)
         .action(ArgAction::SetTrue)
-        .help("Holds images to the strict profile")
+        .help(help)
 }
 
 fn images<'a>(alloc: Global) -> Arg<'a>

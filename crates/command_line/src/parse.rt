@@ -2,12 +2,13 @@
 //!
 //! `clap` keeps what it makes in the global allocator, so this module takes that one alone.
 
-ghost use Rattle.std.specs.Prelude.{◌≡◌, ◌≢◌, ◌≤◌, ◌⊎◌, codes, map, vec_len};
+ghost use Rattle.std.specs.Prelude.{◌≡◌, ◌≢◌, ◌≤◌, ◌⊎◌, codes, is_some, map, vec_len};
 ghost use Rattle.std.specs.Prelude.{IfOk, IfErr, IfSome};
 ghost use Rattle.std.specs.Int.{IsInRange};
 ghost use Rattle.clap.specs.Words.{first_value, found_of, kind_of, rows_of, subcommand_rows_of};
 ghost use Rattle.command_line.specs.CommandLine.{IsLineFault, IsLineOf, IsTaken, command_in};
-ghost use Rattle.command_line.specs.CommandLine.{HoldsRows, IsFilled, IsInLimits, verb_word};
+ghost use Rattle.command_line.specs.CommandLine.{HoldsRows, IsFilled, IsInLimits, names_both, verb_word};
+ghost use Rattle.command_line.specs.CommandLine.{AreCrossed};
 ghost use Rattle.command_line.specs.CommandLine.{IsNumberOf, IsNumberTo, HaveNumbersInRange};
 ghost use Rattle.command_line.specs.declared.options.LineFault.TheVariants.{Memory};
 
@@ -44,8 +45,8 @@ pub fn words<R: Env + AllocGlobal>(rt: &R) -> Result<Vec<String>, LineFault> {
 /// each option or else its default, and all images in order. A number is decimal, in digits alone,
 /// from 1 to 64 (`--workers`) or 256 (`--batch`).
 ///
-/// It is `Usage` only where the words are no command of the program, as where they ask for help, or
-/// where they give another number.
+/// It is `Usage` only where the words are no command of the program, as where they ask for help,
+/// where they give another number, or where they name a file beside the device.
 pub fn line<'a, S: AsStr>(alloc: Global, words: &'a [S]) -> Result<Line<'a>, LineFault>
     ensures ok { IfOk result (λ line. IsLineOf (map S.text words.now) line) }
     ensures limits { IfOk result (λ line. IsInLimits line) }
@@ -92,21 +93,44 @@ fn line_of<'a>(alloc: Global, verb: Verb, found: &ArgMatches<'a>) -> Result<Line
     ensures limits { IfOk result (λ line. IsInLimits line) }
     ensures some_image { IfOk result (λ line. 1 ≤ vec_len line.images) }
     ensures err { IfErr result (λ fault. (fault ≡ Memory)
-        ⊎ ¬ HaveNumbersInRange (rows_of (found_of found.now))) }
+        ⊎ ((¬ HaveNumbersInRange (rows_of (found_of found.now)))
+        ⊎ AreCrossed (rows_of (found_of found.now)))) }
 {
     let workers = number_of(alloc, found, "workers", DEFAULT_WORKERS, MOST_WORKERS)?;
     let batch = number_of(alloc, found, "batch", DEFAULT_BATCH, MOST_BATCH)?;
     let images = found.get_strs("image").unwrap().to_vec(alloc)?;
-    Ok(Line {
+    let line = Line {
         verb,
         strict: found.get_flag("strict"),
+        device: found.get_flag("device"),
         workers,
         batch,
         requests: found.get_str("requests"),
         replies: found.get_str("replies"),
         balances: found.get_str("balances"),
         images,
-    })
+    };
+    match named_beside_device(&line) {
+        None => Ok(line),
+        Some(name) => Err(crossed(alloc, name)?),
+    }
+}
+
+// The option of a file that is given beside the device, if there is one.
+fn named_beside_device(line: &Line<'_>) -> Option<&'static str>
+    ensures { is_some result ≡ names_both line.now }
+{
+    if !line.device {
+        None
+    } else if line.requests.is_some() {
+        Some("requests")
+    } else if line.replies.is_some() {
+        Some("replies")
+    } else if line.balances.is_some() {
+        Some("balances")
+    } else {
+        None
+    }
 }
 
 // The number that is given for an option, from 1 to `most`, or `default` where it is left out.
@@ -150,6 +174,15 @@ fn refusal(alloc: Global, error: &Error) -> LineFault
 fn misnumbered(alloc: Global, name: &str, text: &str, most: u32) -> Result<LineFault, AllocError> {
     let text = format!(in alloc;
         "error: invalid value '{text}' for '--{name} <N>': not a number from 1 to {most}\n\n\
+         For more information, try '--help'."
+    )?;
+    Ok(LineFault::Usage { text })
+}
+
+// What the device beside the file of another option is answered, as `clap` words it.
+fn crossed(alloc: Global, name: &str) -> Result<LineFault, AllocError> {
+    let text = format!(in alloc;
+        "error: the argument '--device' cannot be used with '--{name} <FILE>'\n\n\
          For more information, try '--help'."
     )?;
     Ok(LineFault::Usage { text })

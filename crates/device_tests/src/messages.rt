@@ -162,6 +162,7 @@ fn interrupted_reads(rt: HostRuntime) -> Result<(), Fail> {
         (1000, 2, 3, true),
         (1000, 4, 3, true),
         (1000, 11, 3, true),
+        (1000, 103, 3, true),
         (1024, 4, 1, false),
         (1, 5, 1, false),
     ] {
@@ -187,7 +188,7 @@ fn interrupted_reads(rt: HostRuntime) -> Result<(), Fail> {
 fn mounts_that_are_taken_away(rt: HostRuntime) -> Result<(), Fail> {
     let none: [usize; 0] = [];
     let two = [40, 70_000];
-    for (number, taken) in [(19, true), (5, false), (22, false), (103, false)] {
+    for (number, taken) in [(19, true), (5, false), (22, false)] {
         for (sizes, pulls) in [(none.as_slice(), 1), (two.as_slice(), 4)] {
             let mut reader = messages_of(sizes);
             reader.last = Some(number);

@@ -3,11 +3,13 @@ use Rattle.std.specs.Prelude.{ℕ, ℤ, pos, negsuc, Bool, true, Option, Some, N
 use Rattle.fuse_device.specs.declared.trouble.Trouble.{Trouble}
 use Rattle.fuse_device.specs.declared.trouble.Trouble.TheVariants.{Again, Gone, Fault}
 
--- EINTR, EAGAIN and ENOENT are tried again, and ENODEV comes once the mount was taken away
+-- EINTR, EAGAIN, ENOENT and ECONNABORTED are tried again, and ENODEV comes once the mount was taken
+-- away
 abbrev pub read_number : ℤ → Trouble
 read_number (pos n) =
     if n == 2 then Again else (if n == 4 then Again else
-    (if n == 11 then Again else (if n == 19 then Gone else Fault)))
+    (if n == 11 then Again else (if n == 103 then Again else
+    (if n == 19 then Gone else Fault))))
 read_number (negsuc n) = Fault
 
 abbrev pub read_trouble : Option ℤ → Trouble

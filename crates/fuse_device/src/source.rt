@@ -21,10 +21,10 @@ const TRIES: u32 = 1024;
 /// A source over a reader that gives one whole message a read.
 ///
 /// A pull gives what the room holds of the last message. Where it holds nothing, the pull reads
-/// once, and reads again while that is interrupted, 1,024 times at most. It reads into a room of
-/// 135,168 bytes, or straight into the pull's own where that is at least as large. What a pull has
-/// no room for stays for the next one. A read of no byte is the end, and any other error fails the
-/// pull. Pulls take no memory.
+/// once, and reads again while that is interrupted (EINTR, EAGAIN, ENOENT, ECONNABORTED), 1,024
+/// times at most. It reads into a room of 135,168 bytes, or straight into the pull's own where that
+/// is at least as large. What a pull has no room for stays for the next one. A read of no byte is
+/// the end, and any other error fails the pull. Pulls take no memory.
 #[derive(Drop)]
 pub struct MessageTap<R, A: Allocator> {
     reader: BufReader<R, A>,

@@ -17,13 +17,14 @@ pub(crate) enum Trouble {
     Fault,
 }
 
-// What an error of a read says: EINTR, EAGAIN and ENOENT, where the request was given up as it was
-// read, are to be tried again, and ENODEV means that the mount was taken away.
+// What an error of a read says: EINTR, EAGAIN, ENOENT, where the request was given up as it was
+// read, and ECONNABORTED, where the connection ended meanwhile, are to be tried again, and ENODEV
+// means that the mount was taken away.
 pub(crate) fn trouble_of_read(error: &Error) -> Trouble
     ensures { result ≡ read_trouble (raw_os_error error.now) }
 {
     match error.raw_os_error() {
-        Some(2 | 4 | 11) => Trouble::Again,
+        Some(2 | 4 | 11 | 103) => Trouble::Again,
         Some(19) => Trouble::Gone,
         _ => Trouble::Fault,
     }

@@ -4,3 +4,4 @@ pub mod Served
 pub mod Ended
 pub mod Listed
 pub mod Statuses
+pub mod Mounts

@@ -9,7 +9,7 @@ use Rattle.command_line.specs.declared.options.LineFault.{LineFault}
 use Rattle.command_line.specs.declared.options.LineFault.TheVariants as lines
 use Rattle.command_line.specs.declared.options.Verb.{Verb}
 use Rattle.command_line.specs.declared.options.Verb.TheVariants as verbs
-use Rattle.command_line.specs.CommandLine.{IsTaken, IsMisnumbered, IsLineFault}
+use Rattle.command_line.specs.CommandLine.{IsTaken, IsMisnumbered, IsCrossed, IsLineFault}
 use Rattle.reply_model.specs.declared.session.Session.{Session}
 use Rattle.serve_core.specs.Preparing.{AreRefused}
 use Rattle.devices.specs.States.{Devices}
@@ -69,7 +69,7 @@ told_as fault other f n e = n (sym (ap status_of f) ∙ e)
 one_is_other : ◌≢◌ {A = ℕ} 1 2
 one_is_other e = absurd (omega arith)
 
-zero_is_other : ◌≢◌ {A = ℕ} 0 2
+pub zero_is_other : ◌≢◌ {A = ℕ} 0 2
 zero_is_other e = absurd (omega arith)
 
 three_is_other : ◌≢◌ {A = ℕ} 3 2
@@ -111,11 +111,11 @@ work_other A verbs.List line images fault old new s =
     ]
 
 -- of the two faults of words want of memory has another status
-misread : (words : List (List ℕ)) (line : LineFault) → IsLineFault words line → status_of (line_told_of line) ≡ 2 → (¬ IsTaken words) ⊎ IsMisnumbered words
+misread : (words : List (List ℕ)) (line : LineFault) → IsLineFault words line → status_of (line_told_of line) ≡ 2 → (¬ IsTaken words) ⊎ (IsMisnumbered words ⊎ IsCrossed words)
 misread words (lines.Usage text) is e = is
 misread words lines.Memory is e = absurd (five_is_other e)
 
-pub ends_for_words : (A : Type 0) (words : List (List ℕ)) (old new : Devices) → EndsWith A words 2 old new → ((¬ IsTaken words) ⊎ IsMisnumbered words) × (new ≡ old)
+pub ends_for_words : (A : Type 0) (words : List (List ℕ)) (old new : Devices) → EndsWith A words 2 old new → ((¬ IsTaken words) ⊎ (IsMisnumbered words ⊎ IsCrossed words)) × (new ≡ old)
 ends_for_words A words old new e =
     let two : status_of e.fault ≡ 2 = sym e.status_is in
     elim e.stopped [

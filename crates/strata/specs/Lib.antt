@@ -2,3 +2,4 @@ pub mod Faults
 pub mod Texts
 pub mod Ending
 pub mod Laws
+pub mod Mounts

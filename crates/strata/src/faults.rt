@@ -55,6 +55,14 @@ impl Fault {
         writeln!(writer, "{self}")?;
         writer.flush()
     }
+
+    /// Writes its line, whatever comes of that, and gives the exit status.
+    pub fn end<W: Write>(&self, writer: &mut W) -> u8
+        ensures { result ≡ status_of self.now }
+    {
+        let _ = self.tell(writer);
+        self.status()
+    }
 }
 
 // The exit status where serving stopped.

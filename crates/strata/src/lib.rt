@@ -1,9 +1,10 @@
 //! The program `strata`: FUSE requests answered over a stack of romfs images.
 //!
-//! [`command`] is the whole program over the words of its command line and its three standard
-//! streams. It stands on `command_line`, which reads the words, on `serve_core`, which checks
-//! images, stacks them and serves a stream of requests over them, and on `path_list`, which writes
-//! the paths that a stack shows.
+//! [`command`] is the whole program over its command line and its three standard streams, and
+//! [`command_on_device`] the same over an open `/dev/fuse`. They stand on `command_line`, which
+//! reads the words, on `serve_core`, which checks images, stacks them and serves a stream of
+//! requests over them, on `path_list`, which writes the paths that a stack shows, and on
+//! `fuse_device`, which knows where a mount was taken away.
 //!
 //! The private parts: `checking`, `listing` and `serving` are the three commands, `balances` writes
 //! what a client still holds, `files` opens the files that a line names, and `streams` reads files
@@ -22,4 +23,4 @@ mod streams;
 
 pub use command_line::{Line, LineFault, line};
 pub use faults::Fault;
-pub use program::command;
+pub use program::{command, command_on_device};

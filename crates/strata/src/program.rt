@@ -1,4 +1,4 @@
-//! The commands of the program, over its three standard streams.
+//! The commands of the program, over its three standard streams or an open `/dev/fuse`.
 //!
 //! A command does its steps in this order, and the first that fails ends it: it reads its line, the
 //! files of the images, opens the file of requests, creates the files of replies and of balances,
@@ -6,7 +6,10 @@
 
 ghost use Rattle.std.specs.Prelude.{◌≡◌, map, OnOk, IfErr};
 ghost use Rattle.devices.specs.States.{devices};
+ghost use Rattle.fuse_device.specs.Spouts.{spout_gone};
+ghost use Rattle.fuse_device.specs.Taps.{tap_gone};
 ghost use Rattle.strata.specs.Ending.{profile_of, AreNew, IsDone, EndsInFault, IsRunOf};
+ghost use Rattle.strata.specs.Mounts.{status_on_device, IsRunOnDevice};
 
 use crate::checking::check;
 use crate::faults::Fault;
@@ -15,11 +18,12 @@ use crate::listing::list;
 use crate::serving::serve;
 use command_line::{Line, Verb, line};
 use devices::{Sink, Source};
-use serve_core::Profile;
+use fuse_device::{MessageTap, ReplySpout};
+use serve_core::{Profile, Stop};
 use std::alloc::{Allocator, Global};
 use std::convert::AsStr;
 use std::fs::Files;
-use std::io::Write;
+use std::io::{Read, Write};
 use std::thread::Threads;
 
 /// Runs the program on the words after its name, and gives its exit status.
@@ -60,10 +64,46 @@ where
 {
     match run(rt, alloc, global, words, input, output) {
         Ok(()) => 0,
-        Err(fault) => {
-            let _ = fault.tell(faults);
-            fault.status()
-        }
+        Err(fault) => fault.end(faults),
+    }
+}
+
+/// Runs the program as [`command`] does, over the two devices of an open `/dev/fuse`.
+///
+/// The status is 0 also where the mount was taken away: a pull failed, and `input` says that it is
+/// gone; or a push failed, and one of both says so. No line is written then, and what `output` took
+/// is the beginning of the replies. Any other fault has its line and its status.
+pub fn command_on_device<
+    R: Files + Threads + Sync,
+    A: Allocator + Copy + Send + Sync,
+    S: AsStr,
+    I: Read + Drop,
+    O: Write,
+    E: Write,
+>(
+    rt: &R,
+    alloc: A,
+    global: Global,
+    words: &[S],
+    input: &mut MessageTap<I, A>,
+    output: &mut ReplySpout<O>,
+    faults: &mut E,
+) -> u8
+where
+    R::File: Send,
+    R::Dir: Send,
+    requires { AreNew (devices (⟦<MessageTap<I, A> as Source>⟧.state input.old)
+        (⟦<ReplySpout<O> as Sink>⟧.state output.old)) }
+    ensures { IsRunOnDevice A (map S.text words.now)
+        (tap_gone input.new) (spout_gone output.new) result
+        (devices (⟦<MessageTap<I, A> as Source>⟧.state input.old)
+        (⟦<ReplySpout<O> as Sink>⟧.state output.old))
+        (devices (⟦<MessageTap<I, A> as Source>⟧.state input.new)
+        (⟦<ReplySpout<O> as Sink>⟧.state output.new)) }
+{
+    match run(rt, alloc, global, words, input, output) {
+        Ok(()) => 0,
+        Err(fault) => end_on_device(&fault, input.is_gone(), output.is_gone(), faults),
     }
 }
 
@@ -93,6 +133,18 @@ where
         Verb::Check => check(alloc, images, profile_of(&line), output),
         Verb::List => list(rt, alloc, images, profile_of(&line), output),
     }
+}
+
+// Ends with a fault over an open `/dev/fuse`, of which either side may be gone.
+fn end_on_device<E: Write>(fault: &Fault, input: bool, output: bool, faults: &mut E) -> u8
+    ensures { result ≡ status_on_device fault.now input output }
+{
+    let taken_away = match fault {
+        Fault::Stopped(Stop::Read) => input,
+        Fault::Stopped(Stop::Write) => input || output,
+        _ => false,
+    };
+    if taken_away { 0 } else { fault.end(faults) }
 }
 
 // The rules that the line holds images to.

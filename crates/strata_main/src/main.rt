@@ -1,11 +1,15 @@
 //! The program `strata`, over the process's own words and streams.
 #![tactic(auto)]
 
-use command_line::words;
+use command_line::{line, words};
 use devices::{Spout, Tap};
-use std::alloc::Allocator;
+use fuse_device::{MessageTap, ReplySpout};
+use std::alloc::{Allocator, Global};
+use std::fs::Files;
+use std::io::{Read, Write};
 use std::process::ExitCode;
-use strata::{Fault, command};
+use std::thread::Threads;
+use strata::{Fault, command, command_on_device};
 
 /// Freed blocks of up to this size are kept for whoever asks next.
 const KEPT: usize = 0x40_0000;
@@ -24,20 +28,57 @@ fn main(rt: HostRuntime) -> ExitCode {
     keep_freed_blocks(alloc);
     let mut faults = rt.stderr();
     let status = match words(&rt) {
-        Ok(words) => command(
+        Ok(words) => run(
             &rt,
             alloc,
-            alloc,
             words.as_slice(),
-            &mut Tap::new(rt.stdin()),
-            &mut Spout::new(rt.stdout()),
+            rt.stdin(),
+            rt.stdout(),
             &mut faults,
         ),
-        Err(fault) => {
-            let fault = Fault::from(fault);
-            let _ = fault.tell(&mut faults);
-            fault.status()
-        }
+        Err(fault) => Fault::from(fault).end(&mut faults),
     };
     ExitCode::from(status)
+}
+
+// Runs the program over a reader and a writer, which are both an open `/dev/fuse` where the words
+// say so.
+fn run<R: Files + Threads + Sync, I: Read + Drop, O: Write + Drop, E: Write>(
+    rt: &R,
+    alloc: Global,
+    words: &[String],
+    reader: I,
+    writer: O,
+    faults: &mut E,
+) -> u8
+where
+    R::File: Send,
+    R::Dir: Send,
+{
+    if !is_on_device(alloc, words) {
+        let mut output = Spout::new(writer);
+        return command(
+            rt,
+            alloc,
+            alloc,
+            words,
+            &mut Tap::new(reader),
+            &mut output,
+            faults,
+        );
+    }
+    match MessageTap::new(alloc, reader) {
+        Ok(mut input) => {
+            let mut output = ReplySpout::new(writer);
+            command_on_device(rt, alloc, alloc, words, &mut input, &mut output, faults)
+        }
+        Err(refused) => Fault::from(refused).end(faults),
+    }
+}
+
+// Whether the words say that the streams are an open `/dev/fuse`. Words that hold no such option
+// are not read here.
+fn is_on_device(alloc: Global, words: &[String]) -> bool {
+    words.iter().any(|word| word.as_str() == "--device")
+        && line(alloc, words).is_ok_and(|line| line.device)
 }

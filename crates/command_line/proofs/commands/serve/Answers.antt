@@ -1,7 +1,7 @@
 use Rattle.std.proofs.Common.{ap, codes, ◌∙◌}
 use Rattle.std.proofs.lemmas.Result.{IfOk-weaker}
 use Rattle.clap.specs.Simple.{app_of_fields}
-use Rattle.command_line.specs.CommandLine.{image_words, strict_flag, value_option}
+use Rattle.command_line.specs.CommandLine.{flag, image_words, value_option}
 use Rattle.command_line.proofs.Added.{added_rule}
 use Rattle.command_line.proofs.commands.serve.Goals as goal
 
@@ -23,7 +23,9 @@ returns c =
     let balances = added_rule c.in_ok-arg-4.field-0 c.option-5.result c.in_ok-arg-5.field-0 _
     (value_option (codes "balances")) c.in_ok-arg-5.ensures replies c.option-5.ensures.rule
     c.option-5.ensures.local in
-    let strict = added_rule c.in_ok-arg-5.field-0 c.strict.result c.in_ok-arg-6.field-0 _ strict_flag
-    c.in_ok-arg-6.ensures balances c.strict.ensures.rule c.strict.ensures.local in
-    IfOk-weaker c.arg-7.result _ _ (λ command added. added_rule c.in_ok-arg-6.field-0 c.images.result command
-    _ image_words added strict c.images.ensures.rule c.images.ensures.local) c.arg-7.ensures
+    let device = added_rule c.in_ok-arg-5.field-0 c.flag.result c.in_ok-arg-6.field-0 _ (flag (codes "device"))
+    c.in_ok-arg-6.ensures balances c.flag.ensures.rule c.flag.ensures.local in
+    let strict = added_rule c.in_ok-arg-6.field-0 c.strict.result c.in_ok-arg-7.field-0 _ (flag (codes "strict"))
+    c.in_ok-arg-7.ensures device c.strict.ensures.rule c.strict.ensures.local in
+    IfOk-weaker c.arg-8.result _ _ (λ command added. added_rule c.in_ok-arg-7.field-0 c.images.result command
+    _ image_words added strict c.images.ensures.rule c.images.ensures.local) c.arg-8.ensures

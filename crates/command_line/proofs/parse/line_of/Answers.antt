@@ -1,34 +1,33 @@
-use Rattle.std.proofs.Common.{arith, ◌∙◌, ap, refl, codes, rules, unwrap_or, []}
+use Rattle.std.proofs.Common.{arith, ◌∙◌, ap, refl, codes, rules, unwrap_or, [], is_some, sym, inr}
 use Rattle.clap.specs.Words.{found_of, rows_of}
 use Rattle.clap.specs.Walk.{texts}
 use Rattle.clap.proofs.WalkLemmas.{first_value-rows}
-use Rattle.command_line.proofs.Parsed.{batch_fault, flag_is, images_are, numbers_are, one_or_more, some_images, workers_fault}
+use Rattle.command_line.proofs.Parsed.{batch_fault, flag_is, held, images_are, numbers_are, one_or_more, rows_crossed, some_images, workers_fault}
+use Rattle.command_line.specs.declared.options.Line.{Line}
 use Rattle.command_line.proofs.parse.line_of.Goals as goal
 
 pub unwrap-requires : goal.unwrap-requires
 unwrap-requires c = some_images (found_of c.args.found.now) c.get_strs.result c.get_strs.ensures c.requires
 
-pub returns-clause-holds : goal.returns-clause-holds
-returns-clause-holds c =
+pub returns-in-None-clause-holds : goal.returns-in-None-clause-holds
+returns-in-None-clause-holds c =
     let found = found_of c.args.found.now in
     let are = images_are found c.get_strs.result c.unwrap.result c.get_strs.ensures c.unwrap.ensures in
     let numbers = numbers_are found c.in_ok-workers.workers c.in_ok-batch.batch c.in_ok-workers.ensures.ok c.in_ok-batch.ensures.ok in
-    record {
-      numbered = numbers.0;
-      says = record {
-        verb = refl;
-        strict = flag_is found c.get_flag.result c.requires c.get_flag.ensures.none c.get_flag.ensures.value c.get_flag.ensures.other;
-        workers = numbers.1;
-        batch = numbers.2;
-        requests = c.get_str.ensures ∙ first_value-rows found (codes "requests");
-        replies = c.get_str-2.ensures ∙ first_value-rows found (codes "replies");
-        balances = c.get_str-3.ensures ∙ first_value-rows found (codes "balances");
-        images = ap texts (c.in_ok-images.ensures.items_if_clones_equal (λ x y same. same)) ∙ ap (λ o. unwrap_or o []) are;
-      };
-    }
+    held (rows_of found) _ numbers.0 (record {
+      verb = refl;
+      strict = flag_is found (codes "strict") c.get_flag.result c.requires.strict c.get_flag.ensures.none c.get_flag.ensures.value c.get_flag.ensures.other;
+      device = flag_is found (codes "device") c.get_flag-2.result c.requires.device c.get_flag-2.ensures.none c.get_flag-2.ensures.value c.get_flag-2.ensures.other;
+      workers = numbers.1;
+      batch = numbers.2;
+      requests = c.get_str.ensures ∙ first_value-rows found (codes "requests");
+      replies = c.get_str-2.ensures ∙ first_value-rows found (codes "replies");
+      balances = c.get_str-3.ensures ∙ first_value-rows found (codes "balances");
+      images = ap texts (c.in_ok-images.ensures.items_if_clones_equal (λ x y same. same)) ∙ ap (λ o. unwrap_or o []) are;
+    }) (sym c.named_beside_device.ensures ∙ ap (λ o. is_some o) c.in-None.is)
 
-pub returns-clause-some_image : goal.returns-clause-some_image
-returns-clause-some_image c =
+pub returns-in-None-clause-some_image : goal.returns-in-None-clause-some_image
+returns-in-None-clause-some_image c =
     let some = one_or_more (rows_of (found_of c.args.found.now)) c.unwrap.result.now c.requires
     (images_are (found_of c.args.found.now) c.get_strs.result c.unwrap.result c.get_strs.ensures c.unwrap.ensures) in
     omega (arith, c.in_ok-images.ensures.len)
@@ -42,3 +41,31 @@ pub returns-in_err-batch-clause-err : goal.returns-in_err-batch-clause-err
 returns-in_err-batch-clause-err c =
     let told = batch_fault (found_of c.args.found.now) c.in_err-batch.field-0.0 c.in_err-batch.ensures.err in
     search (rules, told)
+
+pub returns-clause-err : goal.returns-clause-err
+returns-clause-err c =
+    let found = found_of c.args.found.now in
+    let are = images_are found c.get_strs.result c.unwrap.result c.get_strs.ensures c.unwrap.ensures in
+    let numbers = numbers_are found c.in_ok-workers.workers c.in_ok-batch.batch c.in_ok-workers.ensures.ok c.in_ok-batch.ensures.ok in
+    let line : Line = record {
+      verb = c.args.verb;
+      strict = c.get_flag.result;
+      device = c.get_flag-2.result;
+      workers = c.in_ok-workers.workers;
+      batch = c.in_ok-batch.batch;
+      requests = c.get_str.result;
+      replies = c.get_str-2.result;
+      balances = c.get_str-3.result;
+      images = c.in_ok-images.images;
+    } in
+    inr (inr (rows_crossed (rows_of found) line (record {
+      verb = refl;
+      strict = flag_is found (codes "strict") c.get_flag.result c.requires.strict c.get_flag.ensures.none c.get_flag.ensures.value c.get_flag.ensures.other;
+      device = flag_is found (codes "device") c.get_flag-2.result c.requires.device c.get_flag-2.ensures.none c.get_flag-2.ensures.value c.get_flag-2.ensures.other;
+      workers = numbers.1;
+      batch = numbers.2;
+      requests = c.get_str.ensures ∙ first_value-rows found (codes "requests");
+      replies = c.get_str-2.ensures ∙ first_value-rows found (codes "replies");
+      balances = c.get_str-3.ensures ∙ first_value-rows found (codes "balances");
+      images = ap texts (c.in_ok-images.ensures.items_if_clones_equal (λ x y same. same)) ∙ ap (λ o. unwrap_or o []) are;
+    }) (sym c.named_beside_device.ensures ∙ ap (λ o. is_some o) c.in-Some.is)))

@@ -5,4 +5,4 @@ pub returns-in-Ok : goal.returns-in-Ok
 returns-in-Ok g c = has_done g.row.A.Denot _ _ _ c.in-Ok.ensures.done
 
 pub returns-in-Err : goal.returns-in-Err
-returns-in-Err g c = has_stopped g.row.A.Denot _ _ c.in-Err.fault _ _ c.in-Err.ensures.stopped c.status.ensures
+returns-in-Err g c = has_stopped g.row.A.Denot _ _ c.in-Err.fault _ _ c.in-Err.ensures.stopped c.end.ensures
