@@ -31,7 +31,7 @@ and_true a b p q = rw (p, q) refl
 
 -- the row is that of a flag
 abbrev names_flag : Text → Bool
-names_flag id = bytes_eq id (codes "strict") || bytes_eq id (codes "device")
+names_flag id = bytes_eq id (codes "strict") || (bytes_eq id (codes "device") || bytes_eq id (codes "lasting"))
 
 -- there is a value
 abbrev some_text : List Text → Bool
@@ -299,4 +299,5 @@ rows_filled rows filled given =
       images = image.2;
       strict = flag_text (codes "strict") refl (find (λ r. bytes_eq r.id (codes "strict")) rows) (found_filled (codes "strict") rows filled);
       device = flag_text (codes "device") refl (find (λ r. bytes_eq r.id (codes "device")) rows) (found_filled (codes "device") rows filled);
+      lasting = flag_text (codes "lasting") refl (find (λ r. bytes_eq r.id (codes "lasting")) rows) (found_filled (codes "lasting") rows filled);
     }

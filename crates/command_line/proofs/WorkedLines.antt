@@ -108,7 +108,7 @@ taken_lines = record {
   serve_one = reads (codes "serve f.img") verbs.Serve (rows_in (codes "serve f.img")) _ refl refl refl refl refl;
   serve_device = reads (codes "serve --device --workers 2 f") verbs.Serve (rows_in (codes "serve --device --workers 2 f")) _ refl refl refl refl refl;
   serve_layers = reads (codes "serve --replies r f g e") verbs.Serve (rows_in (codes "serve --replies r f g e")) _ refl refl refl refl refl;
-  all_options = reads (codes "serve --workers 2 --batch 3 --requests q --replies r --balances b --strict e f") verbs.Serve (rows_in (codes "serve --workers 2 --batch 3 --requests q --replies r --balances b --strict e f")) _ refl refl refl refl refl;
+  all_options = reads (codes "serve --workers 2 --batch 3 --requests q --replies r --balances b --strict --lasting f") verbs.Serve (rows_in (codes "serve --workers 2 --batch 3 --requests q --replies r --balances b --strict --lasting f")) _ refl refl refl refl refl;
   attached = reads (codes "serve --workers=5 --requests=q f") verbs.Serve (rows_in (codes "serve --workers=5 --requests=q f")) _ refl refl refl refl refl;
   least_numbers = reads (codes "serve --workers 1 --batch 1 f") verbs.Serve (rows_in (codes "serve --workers 1 --batch 1 f")) _ refl refl refl refl refl;
   most_numbers = reads (codes "serve --workers 64 --batch 256 f") verbs.Serve (rows_in (codes "serve --workers 64 --batch 256 f")) _ refl refl refl refl refl;
@@ -139,6 +139,7 @@ refused_lines = record {
   flag_with_value = refl;
   option_without_file = refl;
   device_of_check = refl;
+  lasting_list = refl;
   requests_and_device = crosses (codes "serve --requests q --device a") verbs.Serve (rows_in (codes "serve --requests q --device a")) refl refl refl;
   replies_and_device = crosses (codes "serve --device --replies r a") verbs.Serve (rows_in (codes "serve --device --replies r a")) refl refl refl;
   balances_and_device = crosses (codes "serve a --device --balances b") verbs.Serve (rows_in (codes "serve a --device --balances b")) refl refl refl;

@@ -46,7 +46,7 @@ abbrev pub serve_command : App
 serve_command = command_with (codes "serve") (
     value_option (codes "workers") ∷ value_option (codes "batch") ∷ value_option (codes "requests")
     ∷ value_option (codes "replies") ∷ value_option (codes "balances") ∷ flag (codes "device")
-    ∷ flag (codes "strict") ∷ image_words ∷ [])
+    ∷ flag (codes "lasting") ∷ flag (codes "strict") ∷ image_words ∷ [])
 
 -- a command over images, as `check` and `list`
 abbrev pub images_command : Text → App
@@ -114,6 +114,7 @@ pub record Parts : Type 0 where
   pub verb : Verb
   pub strict : Bool
   pub device : Bool
+  pub lasting : Bool
   pub workers : ℕ
   pub batch : ℕ
   pub requests : Option Text
@@ -128,6 +129,7 @@ parts_of verb rows = record {
   verb = verb;
   strict = is_given (codes "strict") rows;
   device = is_given (codes "device") rows;
+  lasting = is_given (codes "lasting") rows;
   workers = number_or 4 (first_of (codes "workers") rows);
   batch = number_or 16 (first_of (codes "batch") rows);
   requests = first_of (codes "requests") rows;
@@ -141,6 +143,7 @@ pub record Says (line : Line) (parts : Parts) : Type 0 where
   pub verb : line.verb ≡ parts.verb
   pub strict : line.strict ≡ parts.strict
   pub device : line.device ≡ parts.device
+  pub lasting : line.lasting ≡ parts.lasting
   pub workers : line.workers ≡ parts.workers
   pub batch : line.batch ≡ parts.batch
   pub requests : option_map (λ file. file.now) line.requests ≡ parts.requests
@@ -208,10 +211,11 @@ abbrev pub IsFlagFilled : Text → List Row → Type 0
 IsFlagFilled id rows = MatchOption (one_of id rows) (is_given id rows ≡ false)
     (λ text. text ≡ bool_text (is_given id rows))
 
--- the rows of a command have an image, and both flags read as whether they are given
+-- the rows of a command have an image, and the flags read as whether they are given
 pub record IsFilled (rows : List Row) : Type 0 where
   pub first : Text
   pub rest : List Text
   pub images : all_of (codes "image") rows ≡ Some (first ∷ rest)
   pub strict : IsFlagFilled (codes "strict") rows
   pub device : IsFlagFilled (codes "device") rows
+  pub lasting : IsFlagFilled (codes "lasting") rows

@@ -23,6 +23,7 @@ plain verb images = record {
   verb = verb;
   strict = false;
   device = false;
+  lasting = false;
   workers = 4;
   batch = 16;
   requests = None;
@@ -54,17 +55,18 @@ pub record TakenLines : Type 0 where
   pub serve_layers : ReadsAs (codes "serve --replies r f g e")
       (record (plain verbs.Serve (codes "f g e")) { replies = Some (codes "r") })
   pub all_options : ReadsAs
-      (codes "serve --workers 2 --batch 3 --requests q --replies r --balances b --strict e f")
+      (codes "serve --workers 2 --batch 3 --requests q --replies r --balances b --strict --lasting f")
       (record {
         verb = verbs.Serve;
         strict = true;
         device = false;
+        lasting = true;
         workers = 2;
         batch = 3;
         requests = Some (codes "q");
         replies = Some (codes "r");
         balances = Some (codes "b");
-        images = codes "e" ∷ codes "f" ∷ [];
+        images = codes "f" ∷ [];
       })
   pub attached : ReadsAs (codes "serve --workers=5 --requests=q f")
       (record (plain verbs.Serve (codes "f")) { workers = 5; requests = Some (codes "q") })
@@ -105,6 +107,7 @@ pub record RefusedLines : Type 0 where
   pub flag_with_value : HasOneFault (codes "check --strict=true a") kind.TooManyValues
   pub option_without_file : HasOneFault (codes "serve a --requests") kind.InvalidValue
   pub device_of_check : HasOneFault (codes "check --device a") kind.UnknownArgument
+  pub lasting_list : HasOneFault (codes "list --lasting a") kind.UnknownArgument
   pub requests_and_device : IsCrossed (words_of (codes "serve --requests q --device a"))
   pub replies_and_device : IsCrossed (words_of (codes "serve --device --replies r a"))
   pub balances_and_device : IsCrossed (words_of (codes "serve a --device --balances b"))

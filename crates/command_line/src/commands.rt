@@ -66,6 +66,11 @@ fn serve<'a>(alloc: Global) -> Result<Command<'a>, AllocError>
             "device",
             "Standard input and output are one open /dev/fuse",
         ))?
+        .arg(flag(
+            alloc,
+            "lasting",
+            "Tells the client that nothing changes, so that it asks for each thing once",
+        ))?
         .arg(strict(alloc))?
         .arg(images(alloc))
 }

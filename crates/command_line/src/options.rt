@@ -26,6 +26,8 @@ pub struct Line<'a> {
     /// Standard input and output are one open `/dev/fuse`. No file is named in place of one of
     /// them, nor for the balances.
     pub device: bool,
+    /// The client is told that the tree never changes, so that it asks for each thing once.
+    pub lasting: bool,
     /// At most so many workers, from 1 to 64. The default is 4.
     pub workers: u32,
     /// At most so many requests in a worker's batch, from 1 to 256. The default is 16.

@@ -103,6 +103,7 @@ fn line_of<'a>(alloc: Global, verb: Verb, found: &ArgMatches<'a>) -> Result<Line
         verb,
         strict: found.get_flag("strict"),
         device: found.get_flag("device"),
+        lasting: found.get_flag("lasting"),
         workers,
         batch,
         requests: found.get_str("requests"),

@@ -1,5 +1,5 @@
 -- What a command leaves behind: its status, and what its output gained.
-use Rattle.std.specs.Prelude.{◌≡◌, ◌≢◌, ◌<◌, ◌≤◌, ◌+◌, ◌^◌, ◌⊎◌, ℕ, List, true, Option, None, is_some, length, vec_len, Result, Ok, Err, OnOk, if◌then◌else◌}
+use Rattle.std.specs.Prelude.{◌≡◌, ◌≢◌, ◌<◌, ◌≤◌, ◌+◌, ◌^◌, ◌⊎◌, ◌||◌, ℕ, List, true, Option, None, is_some, length, vec_len, Result, Ok, Err, OnOk, if◌then◌else◌}
 use Rattle.std.specs.Io.KnownBytes.{Appends, Consumes, IsAtEnd}
 use Rattle.romfs_format.specs.declared.rule.Profile.{Profile}
 use Rattle.romfs_format.specs.declared.rule.Profile.TheVariants.{Usual, Strict}
@@ -12,7 +12,8 @@ use Rattle.serve_loop.specs.declared.stop.Stop.{Stop}
 use Rattle.serve_loop.specs.declared.done.Done.{Done}
 use Rattle.serve_core.specs.Preparing.{AreStacked, AreRefused}
 use Rattle.serve_loop.specs.Serving.{Trace}
-use Rattle.reply_model.specs.declared.session.Session.TheVariants.{Fresh}
+use Rattle.reply_model.specs.declared.session.Session.{Session}
+use Rattle.reply_model.specs.declared.session.Session.TheVariants.{Fresh, LastingFresh}
 use Rattle.serve_core.specs.Headline.{Serves}
 use Rattle.path_list.specs.Faults.{Lists}
 use Rattle.command_line.specs.declared.options.Line.{Line}
@@ -28,6 +29,11 @@ use Rattle.strata.specs.Texts.{size_lines}
 -- the rules that a line holds images to
 abbrev pub profile_of : Line → Profile
 profile_of line = if line.strict then Strict else Usual
+
+-- the session that its stream begins in: over a device, and where the line says so, the client is
+-- told that the tree never changes
+abbrev pub first_of : Line → Session
+first_of line = if line.lasting || line.device then LastingFresh else Fresh
 
 -- as many images as the line names
 abbrev pub NamesAsMany : Line → List (List ℕ) → Type 0
@@ -118,7 +124,7 @@ pub record GetsReplies {F : Type 0} (file : Option F) (t : Trace)
 -- a stream was served over the images, or refused for them, between devices that were new
 pub record IsServingBy {A : Type 0} (line : Line) (images : List (List ℕ)) (t : Trace)
     (result : Result (Done A) Stop) : Type 0 where
-  pub serves : Serves (profile_of line) Fresh images MAX_TURNS t result
+  pub serves : Serves (profile_of line) (first_of line) images MAX_TURNS t result
   pub first_pull : t.source_before ≡ no_pulls
   pub first_push : t.sink_before ≡ no_pushes
 

@@ -6,7 +6,7 @@ ghost use Rattle.devices.specs.States.{devices};
 ghost use Rattle.command_line.specs.CommandLine.{IsInLimits};
 ghost use Rattle.serve_core.specs.Preparing.{contents_of};
 ghost use Rattle.serve_loop.specs.Serving.{Trace, Does};
-ghost use Rattle.strata.specs.Ending.{AreNew, Gave, GetsReplies, IsServingBy, IsServing, IsServedWhole, IsNotServed};
+ghost use Rattle.strata.specs.Ending.{first_of, AreNew, Gave, GetsReplies, IsServingBy, IsServing, IsServedWhole, IsNotServed};
 
 use crate::balances::tell_balances;
 use crate::faults::Fault;
@@ -14,7 +14,7 @@ use crate::files::{create_balances, create_replies, open_requests};
 use crate::program::profile_of;
 use command_line::Line;
 use devices::{Sink, Source, Spout, Tap};
-use serve_core::{Done, FreePass, MAX_TURNS, Plan, Stop, serve_as};
+use serve_core::{Done, FreePass, MAX_TURNS, Plan, Session, Stop, serve_from};
 use std::alloc::Allocator;
 use std::fs::Files;
 use std::io::{Read, Write};
@@ -72,7 +72,7 @@ fn serve_stream<
         (devices (S.state input.new) (K.state output.new)) }
 {
     match requests {
-        Some(file) => serve_from(
+        Some(file) => serve_source(
             rt,
             alloc,
             line,
@@ -81,12 +81,12 @@ fn serve_stream<
             replies,
             output,
         ),
-        None => serve_from(rt, alloc, line, images, input, replies, output),
+        None => serve_source(rt, alloc, line, images, input, replies, output),
     }
 }
 
 // Answers the requests of the source, to the file or else to the output.
-fn serve_from<
+fn serve_source<
     R: Threads + Sync,
     A: Allocator + Copy + Send + Sync,
     S: Source,
@@ -131,9 +131,21 @@ fn serve_between<R: Threads + Sync, A: Allocator + Copy + Send + Sync, S: Source
 {
     let plan = plan_of(line);
     let profile = profile_of(line);
-    serve_as(
-        rt, alloc, images, profile, source, sink, plan, MAX_TURNS, &FreePass,
+    let first = first_of(line);
+    serve_from(
+        rt, alloc, images, profile, first, source, sink, plan, MAX_TURNS, &FreePass,
     )
+}
+
+// The session that the line has its stream begin in.
+fn first_of(line: &Line<'_>) -> Session
+    ensures { result ≡ first_of line.now }
+{
+    if line.lasting || line.device {
+        Session::LastingFresh
+    } else {
+        Session::Fresh
+    }
 }
 
 // The plan that the line says.

@@ -25,7 +25,9 @@ returns c =
     c.option-5.ensures.local in
     let device = added_rule c.in_ok-arg-5.field-0 c.flag.result c.in_ok-arg-6.field-0 _ (flag (codes "device"))
     c.in_ok-arg-6.ensures balances c.flag.ensures.rule c.flag.ensures.local in
-    let strict = added_rule c.in_ok-arg-6.field-0 c.strict.result c.in_ok-arg-7.field-0 _ (flag (codes "strict"))
-    c.in_ok-arg-7.ensures device c.strict.ensures.rule c.strict.ensures.local in
-    IfOk-weaker c.arg-8.result _ _ (λ command added. added_rule c.in_ok-arg-7.field-0 c.images.result command
-    _ image_words added strict c.images.ensures.rule c.images.ensures.local) c.arg-8.ensures
+    let lasting = added_rule c.in_ok-arg-6.field-0 c.flag-2.result c.in_ok-arg-7.field-0 _ (flag (codes "lasting"))
+    c.in_ok-arg-7.ensures device c.flag-2.ensures.rule c.flag-2.ensures.local in
+    let strict = added_rule c.in_ok-arg-7.field-0 c.strict.result c.in_ok-arg-8.field-0 _ (flag (codes "strict"))
+    c.in_ok-arg-8.ensures lasting c.strict.ensures.rule c.strict.ensures.local in
+    IfOk-weaker c.arg-9.result _ _ (λ command added. added_rule c.in_ok-arg-8.field-0 c.images.result command
+    _ image_words added strict c.images.ensures.rule c.images.ensures.local) c.arg-9.ensures
