@@ -51,6 +51,11 @@ fn item<A: Allocator>(depth: u16, name: Vec<u8, A>, what: What<A>) -> Item<A> {
     }
 }
 
+/// The last digit of a number.
+fn digit(number: u32) -> u8 {
+    b'0' + (number % 10) as u8
+}
+
 /// A file `a`, and a directory `d` with the names 1000 to 4999.
 fn items<A: Allocator + Copy>(alloc: A) -> Result<Vec<Item<A>, A>, AllocError> {
     let mut items = Vec::new(alloc);
@@ -60,9 +65,15 @@ fn items<A: Allocator + Copy>(alloc: A) -> Result<Vec<Item<A>, A>, AllocError> {
     }
     items.push(item(1, b"a".to_vec(alloc)?, What::Regular(data)))?;
     items.push(item(1, b"d".to_vec(alloc)?, What::Directory))?;
-    for number in 0..NAMES {
-        let digits = [1000, 100, 10, 1].map(|unit| b'0' + ((1000 + number) / unit % 10) as u8);
-        items.push(item(2, digits.to_vec(alloc)?, What::Regular(Vec::new(alloc))))?;
+    for number in 1000..1000 + NAMES {
+        let name = [
+            digit(number / 1000),
+            digit(number / 100),
+            digit(number / 10),
+            digit(number),
+        ];
+        let file = What::Regular(Vec::new(alloc));
+        items.push(item(2, name.to_vec(alloc)?, file))?;
     }
     Ok(items)
 }

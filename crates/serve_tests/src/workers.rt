@@ -170,17 +170,20 @@ fn long_replies_by_workers(rt: HostRuntime) -> Result<(), Fail> {
     Ok(())
 }
 
-/// Whether a run of READs tells that memory was refused, with some of the first replies put; or
-/// else gives them all.
+/// Whether a run of a stream tells that memory was refused, with some of the first replies put; or
+/// else gives them all. The table stands in memory of `plain`.
 fn is_told<'a, R: Threads + Sync>(
     rt: &R,
     global: Global,
+    plain: &'a Refusing<Global>,
     alloc: &'a Refusing<Global>,
-    table: &Table<&'a Refusing<Global>>,
     stream: &[u8],
     replies: &[u8],
 ) -> bool {
-    match ran(rt, global, alloc, table, stream, (3, 64), &FreePass) {
+    let Some(table) = table(rt, plain) else {
+        return false;
+    };
+    match ran(rt, global, alloc, &table, stream, (3, 64), &FreePass) {
         Some(ran) if alloc.refused() => {
             ran.end == Err(Stop::Memory) && replies.starts_with(&ran.bytes)
         }
@@ -189,19 +192,38 @@ fn is_told<'a, R: Threads + Sync>(
     }
 }
 
-#[test]
-fn workers_of_a_run_are_refused(rt: HostRuntime) -> Result<(), Fail> {
-    let plain = Refusing::new(rt.alloc(), 0);
-    let table = table(&rt, &plain).ok_or("a table")?;
-    let stream = stream(rt.alloc(), Long::Readdirplus, COUNT)?;
-    let whole = ran(&rt, rt.alloc(), &plain, &table, &stream, (1, 16), &FreePass).ok_or("a run")?;
-    let requests = refuse_each(rt.alloc(), |refusing, refuse_at| {
-        if is_told(&rt, rt.alloc(), refusing, &table, &stream, &whole.bytes) {
+/// How many requests for memory a run of a stream makes, each of which is refused once.
+fn requests_of<R: Threads + Sync>(
+    rt: &R,
+    global: Global,
+    stream: &[u8],
+    replies: &[u8],
+) -> Result<u64, Fail> {
+    let plain = Refusing::new(global, 0);
+    refuse_each(global, |refusing, refuse_at| {
+        if is_told(rt, global, &plain, refusing, stream, replies) {
             Ok(())
         } else {
             Err(Fail::new(format_args!("at {refuse_at}")))
         }
-    })?;
+    })
+}
+
+#[test]
+fn workers_of_a_run_are_refused(rt: HostRuntime) -> Result<(), Fail> {
+    let table = table(&rt, rt.alloc()).ok_or("a table")?;
+    let stream = stream(rt.alloc(), Long::Readdirplus, COUNT)?;
+    let whole = ran(
+        &rt,
+        rt.alloc(),
+        rt.alloc(),
+        &table,
+        &stream,
+        (1, 16),
+        &FreePass,
+    )
+    .ok_or("a run")?;
+    let requests = requests_of(&rt, rt.alloc(), &stream, &whole.bytes)?;
     assert!(rt; 20 < requests, "{requests}");
     Ok(())
 }
