@@ -37,13 +37,7 @@ pub struct Pool<'a, A: Allocator, G: Gate, F> {
 impl<'a, A: Allocator, G: Gate, F> Pool<'a, A, G, F> {
     /// Answers over this table, by this plan, with these workers. Streams begin in the session
     /// `first`.
-    pub fn new(
-        table: &'a Table<A>,
-        first: Session,
-        plan: Plan,
-        gate: &'a G,
-        workers: F,
-    ) -> Self
+    pub fn new(table: &'a Table<A>, first: Session, plan: Plan, gate: &'a G, workers: F) -> Self
         ensures table { result.table.now ≡ table.now }
         ensures first { result.first ≡ first }
         ensures plan { result.plan ≡ plan }
@@ -63,7 +57,10 @@ impl<'a, A: Allocator, G: Gate, F> Pool<'a, A, G, F> {
     fn worth(&self, stream: &[u8], session: Session) -> Option<usize>
         ensures { IfSome result (λ n. (1 ≤ n) × (n ≤ 256)) }
     {
-        let begun = matches!(session, Session::Ready { .. } | Session::LastingReady { .. });
+        let begun = matches!(
+            session,
+            Session::Ready { .. } | Session::LastingReady { .. }
+        );
         if self.plan.workers() == 1 || !begun {
             return None;
         }
