@@ -150,7 +150,9 @@ fn long_replies_by_workers(rt: HostRuntime) -> Result<(), Fail> {
         )
         .ok_or("a run")?;
         assert!(rt; alone.end == Ok(271));
-        assert!(rt; alone.bytes.len() as u64 == 80 + 270 * long.reply());
+        assert!(rt;
+            alone.bytes.len() as u64 == long.reply().saturating_mul(270).saturating_add(80)
+        );
         for plan in [(2, 1), (2, 3), (5, 1), (5, 3), (4, 16)] {
             let gate = Holding::new();
             let many = ran(&rt, rt.alloc(), rt.alloc(), &table, &stream, plan, &gate).ok_or(
