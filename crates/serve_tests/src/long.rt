@@ -22,6 +22,9 @@ pub enum Long {
     Read,
     /// READDIRPLUS of the directory, a page from its first row on: 102 rows of 160 bytes.
     Readdirplus,
+    /// READDIR of the directory, a page from its first row on: 512 rows of 32 bytes. Its rounds are
+    /// worth workers.
+    Readdir,
 }
 
 impl Long {
@@ -30,6 +33,7 @@ impl Long {
         match self {
             Long::Read => (15, 2),
             Long::Readdirplus => (44, 3),
+            Long::Readdir => (28, 3),
         }
     }
 
@@ -38,6 +42,7 @@ impl Long {
         match self {
             Long::Read => 16 + 16_384,
             Long::Readdirplus => 16 + 102 * 160,
+            Long::Readdir => 16 + 512 * 32,
         }
     }
 }

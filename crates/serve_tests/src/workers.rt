@@ -134,40 +134,52 @@ fn ran<R: Threads + Sync, A: Allocator + Copy + Send + Sync, G: Gate + Sync>(
     })
 }
 
+/// A run of a stream of 270 requests by one worker, which must have all their replies.
+fn by_one<R: Threads + Sync>(
+    rt: &R,
+    global: Global,
+    table: &Table<Global>,
+    stream: &[u8],
+    long: Long,
+) -> Result<Outcome, Fail> {
+    let alone = ran(rt, global, global, table, stream, (1, 16), &FreePass).ok_or("a run")?;
+    let all = long.reply().saturating_mul(270).saturating_add(80);
+    if alone.end == Ok(271) && alone.bytes.len() as u64 == all {
+        Ok(alone)
+    } else {
+        Err(Fail::new(format_args!("{long:?} by one worker")))
+    }
+}
+
+/// Whether two runs came to the same.
+fn is_same(one: &Outcome, other: &Outcome) -> bool {
+    one.end == other.end && one.bytes == other.bytes && one.balances == other.balances
+}
+
 #[test]
-fn long_replies_by_workers(rt: HostRuntime) -> Result<(), Fail> {
-    let table = table(&rt, rt.alloc()).ok_or("a table")?;
+fn long_replies_by_any_plan(rt: HostRuntime) -> Result<(), Fail> {
+    let global = rt.alloc();
+    let table = table(&rt, global).ok_or("a table")?;
     for long in [Long::Read, Long::Readdirplus] {
-        let stream = stream(rt.alloc(), long, COUNT)?;
-        let alone = ran(
-            &rt,
-            rt.alloc(),
-            rt.alloc(),
-            &table,
-            &stream,
-            (1, 16),
-            &FreePass,
-        )
-        .ok_or("a run")?;
-        assert!(rt; alone.end == Ok(271));
-        assert!(rt;
-            alone.bytes.len() as u64 == long.reply().saturating_mul(270).saturating_add(80)
-        );
-        for plan in [(2, 1), (2, 3), (5, 1), (5, 3), (4, 16)] {
-            let gate = Holding::new();
-            let many = ran(&rt, rt.alloc(), rt.alloc(), &table, &stream, plan, &gate).ok_or(
-                "a run",
-            )?;
-            assert!(rt;
-                many.end == Ok(271) && many.bytes == alone.bytes,
-                "{long:?} by {plan:?}"
-            );
-            assert!(rt; many.balances == alone.balances, "{long:?} by {plan:?}");
-            assert!(rt;
-                gate.given_up.load(Ordering::SeqCst) == 0,
-                "{long:?} by {plan:?}"
-            );
-        }
+        let stream = stream(global, long, COUNT)?;
+        let alone = by_one(&rt, global, &table, &stream, long)?;
+        let many = ran(&rt, global, global, &table, &stream, (5, 3), &FreePass).ok_or("a run")?;
+        assert!(rt; is_same(&many, &alone), "{long:?}");
+    }
+    Ok(())
+}
+
+#[test]
+fn long_lists_by_workers(rt: HostRuntime) -> Result<(), Fail> {
+    let global = rt.alloc();
+    let table = table(&rt, global).ok_or("a table")?;
+    let stream = stream(global, Long::Readdir, COUNT)?;
+    let alone = by_one(&rt, global, &table, &stream, Long::Readdir)?;
+    for plan in [(2, 1), (2, 3), (5, 1), (5, 3), (4, 16)] {
+        let gate = Holding::new();
+        let many = ran(&rt, global, global, &table, &stream, plan, &gate).ok_or("a run")?;
+        assert!(rt; is_same(&many, &alone), "{plan:?}");
+        assert!(rt; gate.given_up.load(Ordering::SeqCst) == 0, "{plan:?}");
     }
     Ok(())
 }
@@ -214,7 +226,7 @@ fn requests_of<R: Threads + Sync>(
 #[test]
 fn workers_of_a_run_are_refused(rt: HostRuntime) -> Result<(), Fail> {
     let table = table(&rt, rt.alloc()).ok_or("a table")?;
-    let stream = stream(rt.alloc(), Long::Readdirplus, COUNT)?;
+    let stream = stream(rt.alloc(), Long::Readdir, COUNT)?;
     let whole = ran(
         &rt,
         rt.alloc(),
