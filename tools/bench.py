@@ -6,7 +6,7 @@ and `workers` (long replies by four workers, against one). Files lie in memory (
 processor time, user and system, the least of three runs; memory is the most that a run had at one moment, and less than
 some 20 MiB is not told apart. The status is 0 where each hostile input takes at most five times as long as an honest one
 of its size; where it gives a longer list, at most five times as long for each byte of it; where `serve` and `lookups` are
-within bounds of their own; and where four workers give the bytes of one in at most twice its processor time. `--quick` is
+within bounds of their own; and where four workers give the bytes of one in at most three times its processor time. `--quick` is
 for the gate: the hostile parts alone, of a quarter of the size.
 """
 import argparse
@@ -28,7 +28,7 @@ RUNS = 3
 # large directory as a GETATTR in a small one
 MOST, MOST_OF_CAT, MOST_OF_GETATTR = 5, 4, 11
 # how many times the processor time of one worker four may take
-MOST_WORKERS = 2
+MOST_WORKERS = 3
 HOSTILE = ("check", "stacks", "streams", "pulls")
 PARTS = ("serve", "lookups", *HOSTILE, "workers")
 # what the sizes are divided by for the gate

@@ -326,7 +326,12 @@ def bulk_mix():
     return [kinds[unique % 3](unique) for unique in range(60_000)]
 
 
-BULK = {it.__name__: it for it in (bulk_reads, bulk_rows, bulk_mix)}
+def bulk_lists():
+    """The same directory in READDIRs of 128 KiB, 4,096 rows of 32 bytes each: rounds that are worth workers."""
+    return [request(28, unique, 3, struct.pack("<QQIIQII", 0, unique % 4 * 4096, 131_072, 0, 0, 0, 0)) for unique in range(1500)]
+
+
+BULK = {it.__name__: it for it in (bulk_reads, bulk_rows, bulk_mix, bulk_lists)}
 
 
 def write_bulk(name, folder):
