@@ -61,7 +61,7 @@ def crates_below():
     return below
 
 
-def copied(crate, others, room):
+def copied(crate, others, room, copy=shutil.copy2):
     """A copy of the repository that holds this crate, what it stands on, and what was kept of these."""
     lines = open(ROOT + "/crates.txt", encoding="utf-8").read().splitlines()
     kept = [line for line in lines if line.partition(":")[0].split()[:1] in [[name] for name in [crate, *others]]]
@@ -70,7 +70,8 @@ def copied(crate, others, room):
     shutil.copy(ROOT + "/HANDLES", room)
     for name in [crate, *others]:
         ignored = shutil.ignore_patterns("must-fail", *(["incremental"] if name != crate else []))
-        shutil.copytree("%s/crates/%s" % (ROOT, name), "%s/crates/%s" % (room, name), ignore=ignored)
+        shutil.copytree("%s/crates/%s" % (ROOT, name), "%s/crates/%s" % (room, name), ignore=ignored,
+                        copy_function=copy)
 
 
 def verdict(goals, errors):

@@ -1,7 +1,7 @@
 //! `romfs_image`: one image.
 
 pub use romfs_image::sample::{BuildFault, Item, What, build, seal};
-pub use romfs_image::{CheckFault, Head, Image, ImageFault, Kind, Members, Profile, Rule};
+pub use romfs_image::{Check, CheckFault, Head, Image, ImageFault, Kind, Members, Profile, Rule};
 use std::alloc::Allocator;
 
 /// An image that is checked by the usual rules, or by those of a profile.

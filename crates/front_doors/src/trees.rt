@@ -2,7 +2,7 @@
 
 ghost use Rattle.std.specs.Prelude.{◌≤◌, length};
 
-pub use layer_tree::{Child, Entry, Place, Tree, lay};
+pub use layer_tree::{Child, Entry, OfLayer, Place, Tree, lay};
 pub use node_table::{Attr, Node, Row, Table};
 use romfs_image::Image;
 pub use stack_core::{FreePass, Gate, Work, shown, stack};

@@ -8,14 +8,14 @@ use Rattle.std.proofs.lemmas.List.{append-nil, drop_all}
 use Rattle.romfs_format.specs.declared.head.Kind.TheVariants.{HardLink}
 use Rattle.romfs_format.specs.Fields.{root}
 use Rattle.romfs_format.specs.Chains.{Has}
-use Rattle.romfs_image.specs.Images.{IsImage}
-use Rattle.romfs_image.proofs.Paths.{short}
+use Rattle.romfs_reader.specs.Images.{IsImage}
+use Rattle.romfs_reader.proofs.Paths.{short}
 use Rattle.stack_model.specs.Stack.{Path, IsMarker, marker}
 use Rattle.path_tree.specs.Rows.{Shoot, name_cmp, named, IsRising, IsForest}
 use Rattle.path_tree.proofs.Names.{same_or_not, named_below}
 use Rattle.path_tree.proofs.Spread.{through}
-use Rattle.layer_tree.specs.declared.place.Entry.{Entry}
-use Rattle.layer_tree.specs.declared.place.Mark.{Mark}
+use Rattle.shown_tree.specs.declared.place.Entry.{Entry}
+use Rattle.shown_tree.specs.declared.place.Mark.{Mark}
 use Rattle.layer_tree.specs.declared.members.Named.{Named}
 use Rattle.layer_tree.specs.Reading.{IsBefore, NamedRise, IsNamedMember, IsAtDepth, AreMembersAt, IsBranchOf, RemovesFrom, IsBranchAlone, AreBranchesOf, AreBuilt, none_built, hidden, alone, built, AreWhiteouts, none_white, other, white}
 use Rattle.layer_tree.proofs.Layered.{leads_on}

@@ -23,10 +23,10 @@ use Rattle.romfs_format.specs.declared.head.Head.{Head}
 use Rattle.romfs_format.specs.Fields.{root, name}
 use Rattle.romfs_format.specs.Chains.{IsAt, IsOpened, IsMember}
 use Rattle.romfs_format.specs.Heads.{name_of, head_of}
-use Rattle.romfs_image.specs.Images.{IsImage}
-use Rattle.romfs_image.specs.Readers.{IsGiven, IsListed, AreMembers, passes_over}
-use Rattle.romfs_image.proofs.Keeps.{good, not_twice, member_reached, reached_named}
-use Rattle.romfs_image.proofs.Paths.{one_header}
+use Rattle.romfs_reader.specs.Images.{IsImage}
+use Rattle.romfs_reader.specs.Readers.{IsGiven, IsListed, AreMembers, passes_over}
+use Rattle.romfs_reader.proofs.Keeps.{good, not_twice, member_reached, reached_named}
+use Rattle.romfs_reader.proofs.Paths.{one_header}
 use Rattle.stack_model.specs.Stack.{marker}
 use Rattle.path_tree.specs.Rows.{name_cmp}
 use Rattle.layer_tree.specs.declared.members.Named.{Named}

@@ -3,8 +3,8 @@ use Rattle.std.proofs.Common.{◌≡◌, ◌∙◌, sym, ℕ, List, [], ◌∷�
 use Rattle.stack_model.specs.Stack.{Path}
 use Rattle.path_tree.specs.Rows.{Shoot, spread, named, at_path}
 use Rattle.path_tree.proofs.Spread.{through, at_spread}
-use Rattle.layer_tree.specs.declared.place.Entry.{Entry}
-use Rattle.layer_tree.specs.Trees.{TreeRows, entry_at, AreChildren, IsTreeOf}
+use Rattle.shown_tree.specs.declared.place.Entry.{Entry}
+use Rattle.shown_tree.specs.Trees.{TreeRows, entry_at, AreChildren, IsTreeOf}
 use Rattle.layer_tree.specs.Merging.{value_of}
 use Rattle.layer_tree.proofs.Agreeing.{same_entries}
 

@@ -11,11 +11,12 @@ use Rattle.path_tree.specs.Laying.{laid_at}
 use Rattle.path_tree.proofs.Names.{same_or_not, named_below, not_below_itself}
 use Rattle.path_tree.proofs.Spread.{through, at_spread}
 use Rattle.path_tree.proofs.Merging.{grown}
-use Rattle.layer_tree.specs.declared.place.Entry.{Entry}
-use Rattle.layer_tree.specs.declared.place.Mark.{Mark}
-use Rattle.layer_tree.specs.Marks.{cuts_itself, cuts_below, cut_by, marked, mark_of, covered_by, removed_by}
-use Rattle.layer_tree.specs.Laying.{unless, upper, IsFrom, is_uncut, IsBare, IsLeafAt, Clash, AreClashes, IsClashMark}
-use Rattle.layer_tree.proofs.Cutting.{nothing_cut, cut_same}
+use Rattle.shown_tree.specs.declared.place.Entry.{Entry}
+use Rattle.shown_tree.specs.declared.place.Mark.{Mark}
+use Rattle.shown_tree.specs.Marks.{cuts_itself, cuts_below, cut_by, marked, mark_of, covered_by, removed_by}
+use Rattle.layer_tree.specs.Laying.{unless, IsFrom, is_uncut, IsBare, IsLeafAt, Clash, AreClashes, IsClashMark}
+use Rattle.shown_tree.specs.Marks.{upper}
+use Rattle.shown_tree.proofs.Cutting.{nothing_cut, cut_same}
 use Rattle.layer_tree.proofs.Removing.{IsFile, or_true, or_left, or_right, both_ways, cut_extends, covering_file, file_covers, removed_extends}
 use Rattle.layer_tree.proofs.Stepping.{all_cut, still_same}
 

@@ -8,26 +8,22 @@ use Rattle.romfs_format.specs.Fields.{root, kind, name, spec, cleared}
 use Rattle.romfs_format.specs.Chains.{IsFirst, IsOpened, at_root, below, IsMember, IsSomeMember, Leads, Has}
 use Rattle.romfs_format.specs.Links.{IsFinal, stays, follows, destination}
 use Rattle.romfs_format.specs.Heads.{head_of}
-use Rattle.romfs_image.specs.Images.{IsImage}
-use Rattle.romfs_image.specs.Readers.{kept}
-use Rattle.romfs_image.specs.Walks.{chain_from, places}
-use Rattle.romfs_image.proofs.Chain.{at_before, listed}
-use Rattle.romfs_image.proofs.Keeps.{good, reached_inside, member_reached}
-use Rattle.romfs_image.proofs.Listing.{are_members}
-use Rattle.romfs_image.proofs.Hops.{is_hard, LeavesWithin, hops, count}
-use Rattle.romfs_image.proofs.Given.{sets_out}
+use Rattle.romfs_reader.specs.Images.{IsImage}
+use Rattle.romfs_reader.specs.Readers.{kept}
+use Rattle.romfs_reader.specs.Walks.{chain_from, places}
+use Rattle.romfs_reader.proofs.Chain.{at_before, listed}
+use Rattle.romfs_reader.proofs.Keeps.{good, reached_inside, member_reached}
+use Rattle.romfs_reader.proofs.Listing.{are_members}
+use Rattle.romfs_reader.proofs.Hops.{is_hard, LeavesWithin, hops, count}
+use Rattle.romfs_reader.proofs.Given.{sets_out}
+use Rattle.romfs_reader.proofs.Paths.{leads_to}
 use Rattle.stack_model.specs.Stack.{Path, IsPlain, marker, opaque, IsIn, Cuts}
 use Rattle.path_tree.proofs.Names.{same_or_not}
-use Rattle.layer_tree.specs.Marks.{is_plain}
+use Rattle.shown_tree.specs.Marks.{is_plain}
 use Rattle.layer_tree.specs.Reading.{HasNamed, CutsFrom}
 use Rattle.layer_tree.proofs.Plain.{plain_is}
 use Rattle.layer_tree.proofs.Layered.{opened_directory, cuts_is}
 use Rattle.layer_tree.proofs.Parents.{is_directory_or_not}
-
--- names lead nowhere, or to a member
-pub leads_to : (a : List ℕ) (path : Path) (d h : ℕ) → Leads a d path h → (d ≡ h) ⊎ IsSomeMember a h
-leads_to a [] d h l = inl l
-leads_to a (n ∷ path) d h (c, m, f, l) = elim (leads_to a path c h l) [ inl e ↦ inr (subst (λ x. IsSomeMember a x) e (d, m)) | inr x ↦ inr x ]
 
 -- it holds, or it does not
 abbrev pub IsDecided : Type 0 → Type 0

@@ -4,11 +4,11 @@ use Rattle.romfs_format.specs.declared.head.Head.{Head}
 use Rattle.romfs_format.specs.declared.head.Kind.TheVariants.{Directory}
 use Rattle.romfs_format.specs.Fields.{kind}
 use Rattle.romfs_format.specs.Links.{IsFinal, stays, follows}
-use Rattle.romfs_image.specs.Images.{IsImage}
-use Rattle.romfs_image.proofs.Keeps.{not_directory}
-use Rattle.romfs_image.proofs.Given.{From, from_inside, hard_member}
-use Rattle.romfs_image.specs.Readers.{IsGiven}
-use Rattle.layer_tree.specs.declared.place.Entry.{Entry}
+use Rattle.romfs_reader.specs.Images.{IsImage}
+use Rattle.romfs_reader.proofs.Keeps.{not_directory}
+use Rattle.romfs_reader.proofs.Given.{From, from_inside, hard_member}
+use Rattle.romfs_reader.specs.Readers.{IsGiven}
+use Rattle.shown_tree.specs.declared.place.Entry.{Entry}
 use Rattle.layer_tree.specs.Reading.{IsEntryIn}
 
 -- no hard link leads on from a directory

@@ -12,13 +12,13 @@ use Rattle.std.proofs.lemmas.List.Elements.{Contains-append_left, Contains-appen
 use Rattle.romfs_format.specs.Fields.{root}
 use Rattle.romfs_format.specs.Chains.{Has}
 use Rattle.romfs_format.specs.Links.{IsFinal}
-use Rattle.romfs_image.specs.Images.{IsImage}
-use Rattle.romfs_image.proofs.Paths.{one_header, all_paths}
+use Rattle.romfs_reader.specs.Images.{IsImage}
+use Rattle.romfs_reader.proofs.Paths.{one_header, all_paths}
 use Rattle.stack_model.specs.Stack.{Path, IsPlain, IsIn, IsFree, IsTop}
 use Rattle.stack_model.specs.Listing.{Entry, path_cmp, Rises, IsAmong, IsShown, IsListing}
 use Rattle.name_keys.proofs.Places.{equal}
 use Rattle.layer_tree.proofs.Joining.{top_in}
-use Rattle.layer_tree.proofs.Listed.{one_end}
+use Rattle.shown_tree.proofs.Listed.{one_end}
 use Rattle.layer_tree.proofs.Parents.{AreImages}
 use Rattle.layer_tree.proofs.Deciding.{IsDecided, both_decided, not_decided, plain_decided, first_or_later, has_decided, cut_decided, has_end}
 

@@ -6,21 +6,21 @@ use Rattle.romfs_format.specs.declared.head.Kind.{Kind}
 use Rattle.romfs_format.specs.declared.head.Kind.TheVariants.{HardLink, Directory, Regular, SymLink, Block, Character, Socket, Fifo}
 use Rattle.romfs_format.specs.Fields.{kind, name}
 use Rattle.romfs_format.specs.Chains.{IsMember, Leads}
-use Rattle.romfs_image.specs.Images.{IsImage}
-use Rattle.romfs_image.proofs.Paths.{one_header}
+use Rattle.romfs_reader.specs.Images.{IsImage}
+use Rattle.romfs_reader.proofs.Paths.{one_header}
 use Rattle.stack_model.specs.Stack.{Path, IsPlain, marker, opaque}
 use Rattle.stack_model.specs.Attributes.{is_directory}
 use Rattle.path_tree.specs.Rows.{Shoot, spread, whole, named, at_path, IsForest}
 use Rattle.path_tree.specs.Laying.{AreLaid}
 use Rattle.path_tree.proofs.Spread.{through, at_spread}
 use Rattle.path_tree.proofs.Rising.{branch_rises}
-use Rattle.layer_tree.specs.declared.place.Entry.{Entry}
-use Rattle.layer_tree.specs.declared.place.Mark.{Mark}
+use Rattle.shown_tree.specs.declared.place.Entry.{Entry}
+use Rattle.shown_tree.specs.declared.place.Mark.{Mark}
 use Rattle.layer_tree.specs.declared.members.Named.{Named}
-use Rattle.layer_tree.specs.Marks.{cut_by, mark_of, covered_by, removed_by}
-use Rattle.layer_tree.specs.Laying.{united}
+use Rattle.shown_tree.specs.Marks.{cut_by, mark_of, covered_by, removed_by}
+use Rattle.shown_tree.specs.Marks.{united}
 use Rattle.layer_tree.specs.Reading.{IsNamedMember, AreByName, HasNamed, CutsFrom, CutsAt, IsEntryIn, IsBranchOf, RemovesFrom, IsBranchAlone, AreBranchesOf, IsMadeOf, IsBlank, AreBuilt, AreWhiteouts, rest_of_opaque}
-use Rattle.layer_tree.proofs.Cutting.{nothing_cut, cut_same, cut_through, by_name, by_through}
+use Rattle.shown_tree.proofs.Cutting.{nothing_cut, cut_same, cut_through, by_name, by_through}
 use Rattle.layer_tree.proofs.Removing.{or_true, or_left, or_right, file_covers}
 use Rattle.layer_tree.proofs.Joining.{cut_united}
 use Rattle.layer_tree.proofs.Stepping.{all_cut}

@@ -6,11 +6,12 @@ use Rattle.stack_model.specs.Stack.{Path, IsPlain, Shows, IsTop, IsFree, IsCut}
 use Rattle.stack_model.proofs.Joined.{shows_joined, cuts_joined, free_is}
 use Rattle.path_tree.specs.Rows.{Shoot, whole, at_path}
 use Rattle.path_tree.specs.Laying.{laid_at, IsLaid}
-use Rattle.layer_tree.specs.declared.place.Entry.{Entry}
-use Rattle.layer_tree.specs.declared.place.Mark.{Mark}
-use Rattle.layer_tree.specs.Marks.{cuts_itself, cuts_below, cut_by, mark_of, is_plain}
-use Rattle.layer_tree.specs.Trees.{TreeRows, entry_at, removes, cuts_at, IsEntryOf, IsTreeOf}
-use Rattle.layer_tree.specs.Laying.{unless, upper, united, IsKept, AreRootClashes, Lays}
+use Rattle.shown_tree.specs.declared.place.Entry.{Entry}
+use Rattle.shown_tree.specs.declared.place.Mark.{Mark}
+use Rattle.shown_tree.specs.Marks.{cuts_itself, cuts_below, cut_by, mark_of, is_plain}
+use Rattle.shown_tree.specs.Trees.{TreeRows, entry_at, removes, cuts_at, IsEntryOf, IsTreeOf}
+use Rattle.layer_tree.specs.Laying.{unless, IsKept, AreRootClashes, Lays}
+use Rattle.shown_tree.specs.Marks.{upper, united}
 use Rattle.layer_tree.proofs.Plain.{plain_is}
 use Rattle.layer_tree.proofs.Removing.{or_true}
 use Rattle.layer_tree.proofs.Clashing.{what_is_left, what_both_remove}

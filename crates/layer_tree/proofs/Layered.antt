@@ -4,15 +4,15 @@ use Rattle.romfs_format.specs.declared.head.Kind.TheVariants.{Directory}
 use Rattle.romfs_format.specs.Fields.{root, kind, name}
 use Rattle.romfs_format.specs.Chains.{IsOpened, at_root, below, IsMember, Leads}
 use Rattle.romfs_format.specs.Links.{IsFinal, stays, follows}
-use Rattle.romfs_image.specs.Images.{IsImage}
-use Rattle.romfs_image.proofs.Keeps.{root_directory}
+use Rattle.romfs_reader.specs.Images.{IsImage}
+use Rattle.romfs_reader.proofs.Keeps.{root_directory}
 use Rattle.stack_model.specs.Stack.{Path, IsPlain, marker, opaque, Cuts, Shows, IsCut}
 use Rattle.stack_model.proofs.Joined.{alone}
 use Rattle.path_tree.specs.Rows.{Shoot, whole, at_path}
-use Rattle.layer_tree.specs.declared.place.Entry.{Entry}
-use Rattle.layer_tree.specs.declared.place.Mark.{Mark}
-use Rattle.layer_tree.specs.Marks.{covered_by, removed_by, is_plain}
-use Rattle.layer_tree.specs.Trees.{IsEntryOf, IsTreeOf}
+use Rattle.shown_tree.specs.declared.place.Entry.{Entry}
+use Rattle.shown_tree.specs.declared.place.Mark.{Mark}
+use Rattle.shown_tree.specs.Marks.{covered_by, removed_by, is_plain}
+use Rattle.shown_tree.specs.Trees.{IsEntryOf, IsTreeOf}
 use Rattle.layer_tree.specs.Reading.{CutsFrom, CutsAt, IsEntryIn, IsBranchOf, RemovesFrom}
 use Rattle.layer_tree.proofs.Plain.{plain_is}
 use Rattle.layer_tree.proofs.Removing.{or_left}

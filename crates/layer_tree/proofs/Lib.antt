@@ -1,5 +1,3 @@
-pub mod Cutting
-pub mod Listed
 pub mod Plain
 pub mod Stepping
 pub mod Removing

@@ -6,12 +6,12 @@ use Rattle.romfs_format.specs.declared.head.Kind.{Kind}
 use Rattle.romfs_format.specs.declared.head.Kind.TheVariants.{HardLink, Directory, Regular, SymLink, Block, Character, Socket, Fifo}
 use Rattle.romfs_format.specs.Fields.{root, kind}
 use Rattle.romfs_format.specs.Chains.{Has}
-use Rattle.romfs_image.specs.Images.{IsImage}
-use Rattle.romfs_image.proofs.Keeps.{root_directory}
-use Rattle.romfs_image.proofs.Paths.{one_header}
+use Rattle.romfs_reader.specs.Images.{IsImage}
+use Rattle.romfs_reader.proofs.Keeps.{root_directory}
+use Rattle.romfs_reader.proofs.Paths.{one_header}
 use Rattle.stack_model.specs.Stack.{Path, IsPlain, IsIn, HasDirectory, Cuts, IsFree, IsTop}
-use Rattle.layer_tree.specs.declared.place.Entry.{Entry}
-use Rattle.layer_tree.specs.Trees.{TreeRows, entry_at, IsEntryOf, IsTreeOf}
+use Rattle.shown_tree.specs.declared.place.Entry.{Entry}
+use Rattle.shown_tree.specs.Trees.{TreeRows, entry_at, IsEntryOf, IsTreeOf}
 use Rattle.layer_tree.proofs.Layered.{final_directory, last_member, opened_directory}
 
 abbrev pub AreImages : List (List ℕ) → Type 0

@@ -3,7 +3,7 @@ use Rattle.std.proofs.Common.{◌≡◌, ◌∙◌, sym, ◌↔◌, [], ◌∷�
 use Rattle.std.specs.Prelude.{nat_eq}
 use Rattle.std.specs.List.{starts_with}
 use Rattle.stack_model.specs.Stack.{Path, IsPlain, marker}
-use Rattle.layer_tree.specs.Marks.{is_plain}
+use Rattle.shown_tree.specs.Marks.{is_plain}
 
 pub plain_is : (path : Path) → (is_plain path ≡ true) ↔ IsPlain path
 plain_is [] = (λ e. tt, λ p. refl)

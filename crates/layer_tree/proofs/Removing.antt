@@ -3,9 +3,9 @@ use Rattle.std.proofs.Common.{◌≡◌, sym, ap, subst, ◌⊎◌, inl, inr, []
 use Rattle.std.specs.Prelude.{option_map}
 use Rattle.stack_model.specs.Stack.{Path}
 use Rattle.stack_model.specs.Attributes.{is_directory}
-use Rattle.layer_tree.specs.declared.place.Entry.{Entry}
-use Rattle.layer_tree.specs.declared.place.Mark.{Mark}
-use Rattle.layer_tree.specs.Marks.{cuts_itself, cuts_below, cut_by, mark_of, covered_by, removed_by}
+use Rattle.shown_tree.specs.declared.place.Entry.{Entry}
+use Rattle.shown_tree.specs.declared.place.Mark.{Mark}
+use Rattle.shown_tree.specs.Marks.{cuts_itself, cuts_below, cut_by, mark_of, covered_by, removed_by}
 
 pub or_true : (a b : Bool) → (a || b) ≡ true → (a ≡ true) ⊎ (b ≡ true)
 or_true true b e = inl refl

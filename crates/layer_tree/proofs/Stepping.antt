@@ -11,10 +11,10 @@ use Rattle.path_tree.proofs.Rising.{branch_rises}
 use Rattle.path_tree.proofs.Merging.{grown}
 use Rattle.std.proofs.lemmas.Map.Lookups.{exact_bytes}
 use Rattle.stack_model.specs.Stack.{Path}
-use Rattle.layer_tree.specs.declared.place.Mark.{Mark}
-use Rattle.layer_tree.specs.Marks.{cut_by}
+use Rattle.shown_tree.specs.declared.place.Mark.{Mark}
+use Rattle.shown_tree.specs.Marks.{cut_by}
 use Rattle.layer_tree.specs.Laying.{unless, AreKept, IsLeftOut, IsKept, IsFrom}
-use Rattle.layer_tree.proofs.Cutting.{nothing_cut, cut_same, cut_through, by_name}
+use Rattle.shown_tree.proofs.Cutting.{nothing_cut, cut_same, cut_through, by_name}
 
 -- some branches were passed over, all with names before this one
 pub record IsPassed {T : Type 0} (name : List ℕ) (branches rest : List (Shoot T)) : Type 0 where

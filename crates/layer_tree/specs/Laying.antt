@@ -6,22 +6,14 @@ use Rattle.path_tree.specs.Rows.{Shoot, name_cmp, named, NamesRise, spread, whol
 use Rattle.std.specs.declared.cmp.Ordering.TheVariants.{Less}
 use Rattle.path_tree.specs.Laying.{laid_at}
 use Rattle.stack_model.specs.Stack.{Path}
-use Rattle.layer_tree.specs.declared.place.Entry.{Entry}
-use Rattle.layer_tree.specs.declared.place.Mark.{Mark}
-use Rattle.layer_tree.specs.Marks.{cuts_itself, cut_by, marked}
-use Rattle.layer_tree.specs.Trees.{TreeRows, entry_at, removes}
+use Rattle.shown_tree.specs.declared.place.Entry.{Entry}
+use Rattle.shown_tree.specs.declared.place.Mark.{Mark}
+use Rattle.shown_tree.specs.Marks.{upper, cuts_itself, cut_by, marked}
+use Rattle.shown_tree.specs.Trees.{TreeRows, entry_at, removes}
 
 -- the value, unless it is cut
 abbrev pub unless : {T : Type 0} → Bool → Option T → Option T
 unless cut value = if cut then None else value
-
--- the upper entry
-abbrev pub upper : Entry → Entry → Entry
-upper low high = high
-
--- both marks
-abbrev pub united : Mark → Mark → Mark
-united low high = record { cut = low.cut || high.cut; opaque = low.opaque || high.opaque }
 
 -- these branches are what marks at and below their paths leave of the others
 pub record AreKept {T : Type 0} (lows : List (Shoot T)) (marks : List (Shoot Mark))

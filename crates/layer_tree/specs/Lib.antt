@@ -1,5 +1,3 @@
-pub mod Marks
-pub mod Trees
 pub mod Laying
 pub mod Members
 pub mod Reading

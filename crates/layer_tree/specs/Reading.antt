@@ -7,13 +7,13 @@ use Rattle.romfs_format.specs.declared.limits.TheConstants.{MAX_NAMES}
 use Rattle.romfs_format.specs.Fields.{kind, name}
 use Rattle.romfs_format.specs.Chains.{IsMember, Leads, Has}
 use Rattle.romfs_format.specs.Links.{IsFinal}
-use Rattle.romfs_image.specs.Readers.{IsGiven}
+use Rattle.romfs_reader.specs.Readers.{IsGiven}
 use Rattle.stack_model.specs.Stack.{Path, IsPlain, IsMarker, marker, opaque}
 use Rattle.path_tree.specs.Rows.{Shoot, name_cmp, whole, at_path, IsRising}
-use Rattle.layer_tree.specs.declared.place.Entry.{Entry}
-use Rattle.layer_tree.specs.declared.place.Mark.{Mark}
+use Rattle.shown_tree.specs.declared.place.Entry.{Entry}
+use Rattle.shown_tree.specs.declared.place.Mark.{Mark}
 use Rattle.layer_tree.specs.declared.members.Named.{Named}
-use Rattle.layer_tree.specs.Marks.{removed_by}
+use Rattle.shown_tree.specs.Marks.{removed_by}
 
 -- the member comes before the other one by its name
 abbrev pub IsBefore : Named → Named → Type 0

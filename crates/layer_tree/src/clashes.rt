@@ -9,9 +9,9 @@ ghost use Rattle.path_tree.specs.Rows.{IsForest};
 ghost use Rattle.layer_tree.specs.Laying.{AreClashes, HasClash, AreRootClashes, IsBare};
 
 use crate::laying::seek;
-use crate::place::{Cuts, Mark};
 use crate::reading::{CUT, UNCUT, leaf};
 use path_tree::{Branch, Name};
+use shown_tree::{Cuts, Mark};
 use std::alloc::{AllocError, Allocator};
 
 /// The marks of all paths at which a tree has a file, and another one a directory or something

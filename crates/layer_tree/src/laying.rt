@@ -7,41 +7,15 @@
 
 ghost use Rattle.std.specs.Prelude.{◌≡◌, ◌+◌, ◌++◌, ℕ, List, length, IfOk, false};
 ghost use Rattle.path_tree.specs.Rows.{NamesRise, IsForest, IsFirstNamed};
-ghost use Rattle.layer_tree.specs.Trees.{IsTreeOf};
+ghost use Rattle.shown_tree.specs.Trees.{IsTreeOf};
 ghost use Rattle.layer_tree.specs.Laying.{AreKept, IsKept, IsLeft, IsFrom, Lays};
 
 use crate::clashes::clashes;
-use crate::place::{Entry, Mark};
-use crate::tree::Tree;
-use path_tree::{Branch, Lay, cover};
+use path_tree::{Branch, cover};
+use shown_tree::{Mark, Tree};
 use std::alloc::{AllocError, Allocator};
 use std::cmp::Ordering;
 use std::collections::VecDeque;
-
-/// The upper entry replaces the lower one.
-impl Lay for Entry {
-    ghost use Rattle.layer_tree.specs.Laying.{upper};
-
-    ghost laid = { upper };
-
-    fn lay(_low: Entry, high: Entry) -> Entry {
-        high
-    }
-}
-
-/// Marks are united.
-impl Lay for Mark {
-    ghost use Rattle.layer_tree.specs.Laying.{united};
-
-    ghost laid = { united };
-
-    fn lay(low: Mark, high: Mark) -> Mark {
-        Mark {
-            cut: low.cut || high.cut,
-            opaque: low.opaque || high.opaque,
-        }
-    }
-}
 
 /// What is left of branches from a name on, and the first of it if it has the name.
 pub(crate) fn seek<'a, T: Copy + Drop, A: Allocator>(

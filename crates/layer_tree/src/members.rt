@@ -1,23 +1,20 @@
 //! The members of a directory in the order of their names.
 
-ghost use Rattle.std.specs.Prelude.{◌≡◌, ◌∷◌, ◌++◌, map, IfOk, All, MatchOption, nat_eq};
-ghost use Rattle.std.specs.List.{starts_with};
+ghost use Rattle.std.specs.Prelude.{◌≡◌, ◌∷◌, ◌++◌, map, IfOk, All, MatchOption};
 ghost use Rattle.std.specs.List.Sorted.{IsPermutation};
 ghost use Rattle.romfs_format.specs.Heads.{name_of};
-ghost use Rattle.romfs_image.specs.Images.{IsImage};
-ghost use Rattle.romfs_image.specs.Readers.{IsGiven};
+ghost use Rattle.romfs_reader.specs.Images.{IsImage};
+ghost use Rattle.romfs_reader.specs.Readers.{IsGiven};
 ghost use Rattle.stack_model.specs.Stack.{marker, IsMarker};
 ghost use Rattle.name_keys.specs.Keys.{key, AreBytes};
 ghost use Rattle.path_tree.specs.Rows.{name_cmp};
 ghost use Rattle.layer_tree.specs.Members.{AreNamed, IsKeyed, IsByName};
 ghost use Rattle.layer_tree.specs.Reading.{AreByName};
 
-use romfs_image::{Head, Image, Kind, Members};
+use romfs_reader::{Head, Image, Kind, Members};
+use shown_tree::is_marker;
 use std::alloc::{AllocError, Allocator};
 use std::cmp::Ordering;
-
-/// The names of markers begin with this.
-const MARKER: &[u8; 4] = b".wh.";
 
 /// A member with its name.
 #[derive(Clone, Copy)]
@@ -88,13 +85,6 @@ fn key_of(name: &[u8]) -> u64
     ensures bytes { AreBytes name.now }
 {
     name_keys::key_of(name)
-}
-
-/// Whether a name is a marker's.
-pub(crate) fn is_marker(name: &[u8]) -> bool
-    ensures { result ≡ starts_with nat_eq name.now marker }
-{
-    name.starts_with(MARKER)
 }
 
 /// What the name of a marker says after `.wh.`; none where the name is no marker's.

@@ -9,19 +9,18 @@
 //! hard links that were found are kept while the tree is made.
 
 ghost use Rattle.std.specs.Prelude.{◌≡◌, ◌≢◌, [], ◌∷◌, IfOk, IsTrue, MatchOption, is_some};
-ghost use Rattle.romfs_image.specs.Images.{IsImage};
-ghost use Rattle.romfs_image.specs.Readers.{IsGiven};
-ghost use Rattle.layer_tree.specs.Trees.{IsTreeOf};
+ghost use Rattle.romfs_reader.specs.Images.{IsImage};
+ghost use Rattle.romfs_reader.specs.Readers.{IsGiven};
+ghost use Rattle.shown_tree.specs.Trees.{IsTreeOf};
 ghost use Rattle.path_tree.specs.Rows.{NamesRise, named};
 ghost use Rattle.layer_tree.specs.Reading.{IsAtDepth, IsBranchAlone, AreByName, AreMadeOf, IsMadeOf, IsBlank, AreBuilt, AreWhiteouts, AreMembersAt, rest_of_opaque};
 
 use crate::ahead::Ahead;
-use crate::members::{Named, is_marker, sorted_members, whiteout_of};
-use crate::place::{Entry, Mark, Place};
-use crate::tree::{Child, Tree};
+use crate::members::{Named, sorted_members, whiteout_of};
 use path_tree::{Branch, Name, child, merge};
 use romfs_format::limits::MAX_NAMES;
-use romfs_image::{Ends, Head, Image, Kind};
+use romfs_reader::{Ends, Head, Image, Kind};
+use shown_tree::{Child, Entry, Mark, Place, Tree, is_marker};
 use std::alloc::{AllocError, Allocator};
 
 /// What the name of the marker of a whole directory says after `.wh.`.
@@ -46,13 +45,29 @@ struct Branches<A: Allocator> {
     marks: Vec<Branch<Mark, A>, A>,
 }
 
-impl<A: Allocator + Copy> Tree<A> {
+/// What is made of one layer.
+pub trait OfLayer: Sized {
+    /// Where memory comes from.
+    type Memory;
+
+    /// The layer's image.
+    type Image;
+
+    /// What is made of this layer, which has this number among the layers.
+    fn of(alloc: Self::Memory, image: &Self::Image, layer: u16) -> Result<Self, AllocError>;
+}
+
+impl<A: Allocator + Copy> OfLayer for Tree<A> {
+    type Memory = A;
+
+    type Image = Image<A>;
+
     /// The tree of one layer, which has this number among the layers.
     ///
     /// A marker is a mark and no entry, with all below it; a marker that ends after `.wh.` marks
     /// the empty name. A hard link has the kind and the place of the header where it ends.
     /// `AllocError` comes only where memory was refused.
-    pub fn of(alloc: A, image: &Image<A>, layer: u16) -> Result<Tree<A>, AllocError>
+    fn of(alloc: A, image: &Image<A>, layer: u16) -> Result<Tree<A>, AllocError>
         ensures { IfOk result (λ tree. IsTreeOf layer (image.now ∷ []) tree) }
     {
         let mut ends = image.ends(alloc);

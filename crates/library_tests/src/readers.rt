@@ -1,6 +1,6 @@
 //! What is read from checked images.
 
-ghost use Rattle.romfs_image.specs.Readers.{IsGiven};
+ghost use Rattle.romfs_reader.specs.Readers.{IsGiven};
 
 use romfs_image::sample::seal;
 use romfs_image::{Head, Image};

@@ -1,7 +1,7 @@
 //! What trees say, and stacks, in whatever order they are laid.
 
 use crate::told::first_wrong;
-use layer_tree::{Tree, lay};
+use layer_tree::{OfLayer, Tree, lay};
 use romfs_image::Image;
 use romfs_image::sample::BuildFault;
 use stack_core::{FreePass, Gate, stack};

@@ -11,12 +11,12 @@ use Rattle.stack_model.specs.Attributes.{is_directory}
 use Rattle.path_tree.specs.Rows.{Shoot, whole, NamesRise, name_cmp}
 use Rattle.romfs_format.specs.declared.head.Head.{Head}
 use Rattle.romfs_format.specs.Heads.{head_of}
-use Rattle.romfs_image.specs.declared.parts.Part.{Part}
-use Rattle.romfs_image.specs.Readers.{IsDataPart}
+use Rattle.romfs_reader.specs.declared.parts.Part.{Part}
+use Rattle.romfs_reader.specs.Readers.{IsDataPart}
 use Rattle.node_table.specs.declared.node.Node.{Node}
 use Rattle.node_table.specs.declared.directory.Directory.{Directory as Folder}
-use Rattle.layer_tree.specs.declared.place.Place.{Place}
-use Rattle.layer_tree.specs.declared.place.Entry.{Entry}
+use Rattle.shown_tree.specs.declared.place.Place.{Place}
+use Rattle.shown_tree.specs.declared.place.Entry.{Entry}
 use Rattle.name_keys.specs.Names.{Rise}
 use Rattle.node_table.specs.Rows.{Line, names}
 use Rattle.node_table.specs.Walks.{Spot}

@@ -4,7 +4,7 @@ use Rattle.std.specs.Prelude.{slice_set}
 use Rattle.std.specs.List.{AllByRecursion}
 use Rattle.std.proofs.lemmas.Bool.{cases_order}
 use Rattle.std.proofs.lemmas.List.Sums.{sum_by_more}
-use Rattle.romfs_image.specs.Images.{IsImage}
+use Rattle.romfs_reader.specs.Images.{IsImage}
 use Rattle.stack_model.specs.Attributes.{blocks_of, blocks_all}
 
 -- the elements below i are changed, and those from i on are not

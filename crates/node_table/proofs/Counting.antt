@@ -8,8 +8,8 @@ use Rattle.std.proofs.lemmas.List.Recursion.{is_count_by}
 use Rattle.stack_model.specs.Listing.{Entry as Listed, IsAmong}
 use Rattle.stack_model.specs.Numbers.{Place as ModelPlace, place, same_place, noted, nodes, number_of, node_of}
 use Rattle.stack_model.proofs.Numbering.{number_used, number_listed, entries_numbered}
-use Rattle.layer_tree.specs.declared.place.Place.{Place}
-use Rattle.layer_tree.specs.declared.place.Entry.{Entry}
+use Rattle.shown_tree.specs.declared.place.Place.{Place}
+use Rattle.shown_tree.specs.declared.place.Entry.{Entry}
 use Rattle.node_table.specs.Readers.{placed}
 use Rattle.node_table.specs.Walks.{Spot}
 use Rattle.node_table.specs.Firsts.{IsFirstOf, AreFirsts}

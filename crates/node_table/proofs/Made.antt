@@ -5,12 +5,12 @@ use Rattle.std.specs.List.{slice_index_or}
 use Rattle.romfs_format.specs.declared.head.Kind.{Kind}
 use Rattle.romfs_format.specs.declared.head.Kind.TheVariants.{HardLink, Directory, Regular, SymLink, Block, Character, Socket, Fifo}
 use Rattle.romfs_format.specs.Fields.{kind, exec, size, spec}
-use Rattle.romfs_image.specs.Readers.{data_size}
+use Rattle.romfs_reader.specs.Readers.{data_size}
 use Rattle.stack_model.specs.Listing.{Entry as Listed}
 use Rattle.stack_model.specs.Numbers.{Place as ModelPlace, Child, place, same_place, nodes, number, parent, children}
 use Rattle.stack_model.specs.Attributes.{is_directory, is_directory_at, kind_at, mode_of, mode, size_of, size_at, rdev_of, rdev, nlink, blocks_all}
-use Rattle.layer_tree.specs.declared.place.Place.{Place}
-use Rattle.layer_tree.specs.declared.place.Entry.{Entry}
+use Rattle.shown_tree.specs.declared.place.Place.{Place}
+use Rattle.shown_tree.specs.declared.place.Entry.{Entry}
 use Rattle.path_tree.specs.Rows.{Shoot}
 use Rattle.node_table.specs.declared.node.Node.{Node}
 use Rattle.node_table.specs.declared.directory.Directory.{Directory as Folder}

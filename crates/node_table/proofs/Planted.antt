@@ -2,16 +2,16 @@
 use Rattle.std.proofs.Common.{◌≡◌, ◌∙◌, sym, ap, subst, ℕ, zero, suc, ◌+◌, ◌-◌, ◌^◌, ◌<◌, List, [], ◌∷◌, ◌++◌, length, take, map, refl, arith, append_assoc, length-append, cond, Some}
 use Rattle.std.specs.Prelude.{slice_get, slice_index, min, count_by, unwrap_or}
 use Rattle.std.specs.List.{AllByRecursion}
-use Rattle.romfs_image.specs.Images.{IsImage}
-use Rattle.romfs_image.specs.Readers.{data_of_header as data_in}
+use Rattle.romfs_reader.specs.Images.{IsImage}
+use Rattle.romfs_reader.specs.Readers.{data_of_header as data_in}
 use Rattle.stack_model.specs.Stack.{Path}
 use Rattle.stack_model.specs.Listing.{Entry as Listed}
 use Rattle.stack_model.specs.Numbers.{Place as ModelPlace, Child, place, same_place, number, children}
 use Rattle.stack_model.specs.Attributes.{is_directory, is_directory_at, data_of}
 use Rattle.path_tree.specs.Rows.{Shoot, Rows, prefixed, spread, whole, NamesRise, IsForest, length_prefixed}
-use Rattle.layer_tree.specs.declared.place.Entry.{Entry}
-use Rattle.layer_tree.specs.Trees.{TreeRows, IsTreeOf, listed}
-use Rattle.layer_tree.proofs.Listed.{is_listing}
+use Rattle.shown_tree.specs.declared.place.Entry.{Entry}
+use Rattle.shown_tree.specs.Trees.{TreeRows, IsTreeOf, listed}
+use Rattle.shown_tree.proofs.Listed.{is_listing}
 use Rattle.node_table.specs.Readers.{placed}
 use Rattle.node_table.specs.Walks.{Spot, under, IsLocated, AreWalked, spot_size, AreAbove, AddsWalk}
 use Rattle.node_table.specs.Numbering.{spot_place, bare, seen, paths_of, number_among, IsFirstSpot, IsNumbered}

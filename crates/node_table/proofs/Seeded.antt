@@ -10,8 +10,8 @@ use Rattle.stack_model.specs.Stack.{Path}
 use Rattle.stack_model.specs.Listing.{Entry as Listed, IsAmong}
 use Rattle.stack_model.specs.Numbers.{Place as ModelPlace, Child, place, same_place, same_name, same_path, noted, nodes, number_of, path_of, parent, name_below, child_in, children}
 use Rattle.path_tree.specs.Rows.{Shoot, Rows, prefixed, spread, whole, IsForest, IsRising, name_cmp}
-use Rattle.layer_tree.specs.declared.place.Entry.{Entry}
-use Rattle.layer_tree.specs.Trees.{listed}
+use Rattle.shown_tree.specs.declared.place.Entry.{Entry}
+use Rattle.shown_tree.specs.Trees.{listed}
 use Rattle.node_table.specs.Readers.{placed}
 use Rattle.node_table.specs.Walks.{Spot, under, extends, AreApart, IsLocated}
 use Rattle.node_table.specs.Numbering.{spot_place, bare, seen, IsFirstSpot}

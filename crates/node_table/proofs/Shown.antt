@@ -14,20 +14,20 @@ use Rattle.romfs_format.specs.Fields.{root, kind, name, size, data_at}
 use Rattle.romfs_format.specs.Chains.{Has}
 use Rattle.romfs_format.specs.Links.{IsFinal, stays, follows}
 use Rattle.romfs_format.specs.Heads.{name_of, head_of}
-use Rattle.romfs_image.specs.Images.{IsImage}
-use Rattle.romfs_image.specs.Readers.{bytes_at, data_of_header as data_in, data_of_kind, IsGiven}
-use Rattle.romfs_image.proofs.Keeps.{root_directory}
-use Rattle.romfs_image.proofs.Given.{From, from_inside, from_named}
+use Rattle.romfs_reader.specs.Images.{IsImage}
+use Rattle.romfs_reader.specs.Readers.{bytes_at, data_of_header as data_in, data_of_kind, IsGiven}
+use Rattle.romfs_reader.proofs.Keeps.{root_directory}
+use Rattle.romfs_reader.proofs.Given.{From, from_inside, from_named}
 use Rattle.stack_model.specs.Stack.{Path}
 use Rattle.stack_model.specs.Listing.{IsAmong}
 use Rattle.stack_model.specs.Attributes.{kind_at, size_of, data_of}
 use Rattle.stack_model.proofs.Listings.{led_to}
 use Rattle.path_tree.specs.Rows.{Rows, at_path, PathsRise, name_cmp}
 use Rattle.path_tree.proofs.Paths.{same_path_or_not}
-use Rattle.layer_tree.specs.declared.place.Entry.{Entry}
-use Rattle.layer_tree.specs.Trees.{TreeRows, IsTreeOf, listed, listing}
-use Rattle.layer_tree.proofs.Deciding.{leads_to}
-use Rattle.layer_tree.proofs.Listed.{is_listing}
+use Rattle.shown_tree.specs.declared.place.Entry.{Entry}
+use Rattle.shown_tree.specs.Trees.{TreeRows, IsTreeOf, listed, listing}
+use Rattle.romfs_reader.proofs.Paths.{leads_to}
+use Rattle.shown_tree.proofs.Listed.{is_listing}
 use Rattle.node_table.specs.Readers.{placed}
 
 -- an entry's place is in an image of the stack, which gives its header, and its kind is that header's

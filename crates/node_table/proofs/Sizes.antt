@@ -3,7 +3,7 @@ use Rattle.std.proofs.Common.{◌≡◌, ◌∙◌, sym, ap, ℕ, suc, ◌+◌, 
 use Rattle.std.specs.Prelude.{slice_get}
 use Rattle.stack_model.specs.Stack.{Path}
 use Rattle.path_tree.specs.Rows.{Shoot, Rows, whole}
-use Rattle.layer_tree.specs.declared.place.Entry.{Entry}
+use Rattle.shown_tree.specs.declared.place.Entry.{Entry}
 use Rattle.node_table.specs.Walks.{under, extends, AreApart, IsLocated}
 use Rattle.node_table.proofs.Paths.{same_itself}
 use Rattle.node_table.proofs.Seeded.{row_at, nil_right}

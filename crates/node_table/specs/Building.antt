@@ -2,11 +2,11 @@
 use Rattle.std.specs.Prelude.{◌≡◌, ℕ, ◌+◌, ◌-◌, ◌^◌, ◌<◌, ◌≤◌, List, [], ◌∷◌, ◌++◌, length, map, min, count_by, slice_get, slice_index, Some, Bool, true, false, ⊤}
 use Rattle.romfs_format.specs.Fields.{exec, spec}
 use Rattle.romfs_format.specs.Heads.{head_of}
-use Rattle.romfs_image.specs.Readers.{IsGiven, IsDataPart}
+use Rattle.romfs_reader.specs.Readers.{IsGiven, IsDataPart}
 use Rattle.stack_model.specs.Attributes.{is_directory, mode_of, rdev_of}
 use Rattle.path_tree.specs.Rows.{Shoot, spread, whole, IsForest}
-use Rattle.layer_tree.specs.declared.place.Place.{Place}
-use Rattle.layer_tree.specs.declared.place.Entry.{Entry}
+use Rattle.shown_tree.specs.declared.place.Place.{Place}
+use Rattle.shown_tree.specs.declared.place.Entry.{Entry}
 use Rattle.node_table.specs.declared.node.Node.{Node}
 use Rattle.node_table.specs.declared.directory.Directory.{Directory}
 use Rattle.name_keys.specs.Keyed.{AddsKeys}

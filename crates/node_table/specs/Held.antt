@@ -1,7 +1,7 @@
 -- What a table holds, and what of it agrees with the listing of its layers.
 use Rattle.std.specs.Prelude.{◌≡◌, ℕ, zero, suc, ◌≤◌, List, length, slice_get, slice_range, Option, Some, None, true, if◌then◌else◌}
 use Rattle.std.specs.Option.{option_and_then}
-use Rattle.romfs_image.specs.Readers.{bytes_at, IsPart}
+use Rattle.romfs_reader.specs.Readers.{bytes_at, IsPart}
 use Rattle.stack_model.specs.Listing.{Entry, IsListing}
 use Rattle.stack_model.specs.Numbers.{Place, nodes, number, parent}
 use Rattle.stack_model.specs.Attributes.{is_directory, kind_at, mode, size_at, rdev, nlink, blocks_of, blocks_all, data_of}

@@ -2,8 +2,8 @@
 use Rattle.std.specs.Prelude.{◌≡◌, ℕ, ◌+◌, ◌-◌, ◌*◌, ◌^◌, ◌<◌, List, [], length, map, take, min, count_by, slice_get, slice_index, Some, None, unwrap_or, All}
 use Rattle.stack_model.specs.Listing.{Entry as Listed}
 use Rattle.stack_model.specs.Numbers.{Place as ModelPlace, place, same_place, nodes, number_of}
-use Rattle.layer_tree.specs.declared.place.Place.{Place}
-use Rattle.layer_tree.specs.declared.place.Entry.{Entry}
+use Rattle.shown_tree.specs.declared.place.Place.{Place}
+use Rattle.shown_tree.specs.declared.place.Entry.{Entry}
 use Rattle.node_table.specs.Readers.{placed}
 use Rattle.node_table.specs.Walks.{Spot}
 

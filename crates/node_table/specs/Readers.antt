@@ -5,7 +5,7 @@ use Rattle.std.specs.Option.{option_map, option_map_or, option_and_then}
 use Rattle.stack_model.specs.Listing.{Entry}
 use Rattle.stack_model.specs.Numbers.{Place as ModelPlace, number, node_of, parent, children, child}
 use Rattle.stack_model.specs.Attributes.{is_directory_at, kind_at, mode, size_at, rdev, blocks_of, nlink, data_of}
-use Rattle.layer_tree.specs.declared.place.Place.{Place}
+use Rattle.shown_tree.specs.declared.place.Place.{Place}
 use Rattle.node_table.specs.declared.node.Attr.{Attr}
 use Rattle.node_table.specs.declared.node.Node.{Node}
 use Rattle.node_table.specs.Rows.{Line}

@@ -1,12 +1,12 @@
 -- What the first branches of places have to say, so that a table can be made of them.
 use Rattle.std.specs.Prelude.{◌≡◌, ℕ, List, length, map, slice_get, slice_index, count_by, Some, false}
-use Rattle.romfs_image.specs.Readers.{data_of_header as data_in}
+use Rattle.romfs_reader.specs.Readers.{data_of_header as data_in}
 use Rattle.stack_model.specs.Listing.{Entry as Listed, IsListing}
 use Rattle.stack_model.specs.Numbers.{Place, Child, nodes, number, parent, children}
 use Rattle.stack_model.specs.Attributes.{kind_at, is_directory_at, nlink, data_of}
 use Rattle.path_tree.specs.Rows.{Shoot, spread, IsForest}
-use Rattle.layer_tree.specs.declared.place.Place.{Place as Seat}
-use Rattle.layer_tree.specs.declared.place.Entry.{Entry}
+use Rattle.shown_tree.specs.declared.place.Place.{Place as Seat}
+use Rattle.shown_tree.specs.declared.place.Entry.{Entry}
 use Rattle.node_table.specs.declared.node.Node.{Node}
 use Rattle.node_table.specs.declared.directory.Directory.{Directory}
 use Rattle.node_table.specs.Rows.{Line}

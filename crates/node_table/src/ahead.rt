@@ -6,8 +6,8 @@
 //! another. No node follows from what is read here.
 
 use crate::walk::Walked;
-use layer_tree::Entry;
-use romfs_image::Image;
+use romfs_reader::Image;
+use shown_tree::Entry;
 use std::alloc::Allocator;
 
 /// How many headers are read together.

@@ -2,7 +2,7 @@
 
 ghost use Rattle.std.specs.Prelude.{◌≡◌, ◌+◌, ◌<◌, length, slice_index, IfOk};
 ghost use Rattle.romfs_format.specs.Heads.{head_of};
-ghost use Rattle.romfs_image.specs.Readers.{IsGiven};
+ghost use Rattle.romfs_reader.specs.Readers.{IsGiven};
 ghost use Rattle.node_table.specs.Numbering.{number_among};
 ghost use Rattle.node_table.specs.Building.{IsAbove, AreFollowing, AreChildPosts};
 ghost use Rattle.node_table.specs.Building.{AddsRows, AddsDirectory, AddsNode, IsSeat};
@@ -14,9 +14,9 @@ use crate::node::Node;
 use crate::numbering::Numbered;
 use crate::row::Row;
 use crate::walk::{Spot, Walked};
-use layer_tree::{Child, Entry};
 use name_keys::add_keys;
-use romfs_image::{Head, Image, Kind};
+use romfs_reader::{Head, Image, Kind};
+use shown_tree::{Child, Entry};
 use std::alloc::{AllocError, Allocator};
 
 /// What a table is made of beside its images.

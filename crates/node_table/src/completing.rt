@@ -2,13 +2,13 @@
 
 ghost use Rattle.std.specs.Prelude.{◌≡◌, ◌≤◌, length, map};
 ghost use Rattle.std.specs.List.{AllByRecursion};
-ghost use Rattle.romfs_image.specs.Images.{IsImage};
+ghost use Rattle.romfs_reader.specs.Images.{IsImage};
 ghost use Rattle.stack_model.specs.Attributes.{blocks_all, mode_of, rdev_of};
 ghost use Rattle.node_table.specs.Building.{completed};
 
 use crate::node::Node;
 use rayon::prelude::*;
-use romfs_image::{Image, Kind};
+use romfs_reader::{Image, Kind};
 use std::alloc::Allocator;
 use std::thread::Threads;
 

@@ -23,7 +23,7 @@
 //! all are numbered by their first path; from then on a branch's number is found by where it
 //! stands.
 //!
-//! The crate stands on `layer_tree` for the tree of a stack, on `romfs_image` for its images, on
+//! The crate stands on `shown_tree` for the tree of a stack, on `romfs_reader` for its images, on
 //! `name_keys` for look-ups, and on `rayon`.
 #![tactic(auto)]
 
@@ -39,8 +39,8 @@ mod row;
 mod table;
 mod walk;
 
-pub use layer_tree::Place;
 pub use node::{Attr, Node};
-pub use romfs_image::Kind;
+pub use romfs_reader::Kind;
 pub use row::Row;
+pub use shown_tree::Place;
 pub use table::Table;

@@ -10,7 +10,7 @@ use crate::directory::{Directories, Directory};
 use crate::node::{Attr, Node};
 use crate::row::Row;
 use name_keys::{Guesses, find};
-use romfs_image::Kind;
+use romfs_reader::Kind;
 use std::alloc::{AllocError, Allocator};
 
 // The node of a number, counted from 1.

@@ -1,7 +1,7 @@
 //! What a table holds of a node.
 
-use layer_tree::Place;
-use romfs_image::{Kind, Part};
+use romfs_reader::{Kind, Part};
+use shown_tree::Place;
 
 /// The attributes of a node, as stat(2) has them. Owners and times are 0 for all nodes.
 #[derive(Clone, Copy, Debug, PartialEq, Eq)]

@@ -5,7 +5,7 @@ ghost use Rattle.node_table.specs.Numbering.{place_key, one_more, AreKeys, AreNu
 
 use crate::firsts::firsts_of;
 use crate::walk::Spot;
-use layer_tree::{Entry, Place};
+use shown_tree::{Entry, Place};
 use std::alloc::{AllocError, Allocator};
 
 /// The places of branches, numbered from 1 in the order of their first branch.

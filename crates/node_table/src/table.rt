@@ -2,8 +2,8 @@
 
 ghost use Rattle.std.specs.Prelude.{◌≡◌, ◌≤◌, ◌<◌, ◌+◌, ◌^◌, length, IfOk};
 ghost use Rattle.std.specs.List.{AllByRecursion};
-ghost use Rattle.romfs_image.specs.Images.{IsImage};
-ghost use Rattle.layer_tree.specs.Trees.{IsTreeOf};
+ghost use Rattle.romfs_reader.specs.Images.{IsImage};
+ghost use Rattle.shown_tree.specs.Trees.{IsTreeOf};
 ghost use Rattle.stack_model.specs.Listing.{IsListing};
 ghost use Rattle.stack_model.specs.Numbers.{nodes};
 ghost use Rattle.stack_model.specs.Attributes.{blocks_all};
@@ -19,9 +19,9 @@ use crate::node::{Attr, Node};
 use crate::numbering::number_places;
 use crate::row::Row;
 use crate::walk::{Walked, count_branches, walk};
-use layer_tree::Tree;
 use name_keys::Guesses;
-use romfs_image::Image;
+use romfs_reader::Image;
+use shown_tree::Tree;
 use std::alloc::{AllocError, Allocator, Global};
 use std::marker::Model;
 use std::thread::Threads;

@@ -6,9 +6,9 @@ use Rattle.romfs_format.specs.Fields.{root, IsInside, kind, name}
 use Rattle.romfs_format.specs.Chains.{IsAt, IsOpened, at_root, below, IsMember, IsSomeMember, Leads, Has}
 use Rattle.romfs_format.specs.Links.{first_of, next_of, IsHardLink, IsFinal, stays, follows}
 use Rattle.romfs_format.proofs.Targets.{final_target}
-use Rattle.romfs_image.specs.Images.{IsImage}
-use Rattle.romfs_image.proofs.Hops.{is_hard}
-use Rattle.romfs_image.proofs.Keeps.{not_twice, not_loop, not_directory, root_directory, reached_inside}
+use Rattle.romfs_reader.specs.Images.{IsImage}
+use Rattle.romfs_reader.proofs.Hops.{is_hard}
+use Rattle.romfs_reader.proofs.Keeps.{not_twice, not_loop, not_directory, root_directory, reached_inside}
 use Rattle.stack_model.specs.Stack.{Path}
 
 -- the names of the path in reverse order, before those of up

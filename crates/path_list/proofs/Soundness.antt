@@ -2,7 +2,7 @@
 use Rattle.std.proofs.Common.{◌≡◌, ◌∙◌, subst, ℕ, zero, suc, ◌+◌, ◌<◌, ◌≤◌, inl, inr, List, [], ◌∷◌, length, get_or, Some, arith}
 use Rattle.std.specs.Prelude.{slice_get}
 use Rattle.std.proofs.lemmas.Bool.{cases_lt}
-use Rattle.romfs_image.specs.Images.{IsImage}
+use Rattle.romfs_reader.specs.Images.{IsImage}
 use Rattle.path_list.specs.Below.{AreImages}
 
 pub record AreImagesTo (layers : List (List ℕ)) (i : ℕ) : Type 0 where

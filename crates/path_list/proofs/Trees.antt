@@ -7,9 +7,9 @@ use Rattle.romfs_format.specs.declared.head.Kind.TheVariants.{HardLink, Director
 use Rattle.romfs_format.specs.Fields.{root, kind}
 use Rattle.romfs_format.specs.Chains.{Has}
 use Rattle.romfs_format.specs.Links.{IsFinal}
-use Rattle.romfs_image.specs.Images.{IsImage}
-use Rattle.romfs_image.proofs.Keeps.{root_directory}
-use Rattle.romfs_image.proofs.Paths.{one_header}
+use Rattle.romfs_reader.specs.Images.{IsImage}
+use Rattle.romfs_reader.proofs.Keeps.{root_directory}
+use Rattle.romfs_reader.proofs.Paths.{one_header}
 use Rattle.path_tree.proofs.Paths.{same_path_or_not}
 use Rattle.stack_model.specs.Stack.{Path, IsPlain, IsIn, Cuts, IsFree, IsTop, Shows}
 use Rattle.stack_model.specs.Listing.{Entry, IsAmong, IsShown, IsListing}

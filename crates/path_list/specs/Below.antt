@@ -1,6 +1,6 @@
 -- The entries below a path.
 use Rattle.std.specs.Prelude.{◌≡◌, ℕ, List, [], ◌∷◌, ◌++◌, Bool, true, false, Option, Some, None, slice_get, filter, if◌then◌else◌}
-use Rattle.romfs_image.specs.Images.{IsImage}
+use Rattle.romfs_reader.specs.Images.{IsImage}
 use Rattle.stack_model.specs.Stack.{Path}
 use Rattle.stack_model.specs.Listing.{Entry, Rises, IsAmong}
 use Rattle.stack_model.specs.Numbers.{place, same_name}

@@ -12,7 +12,7 @@ use crate::text::{put_mode, put_number, put_path};
 use crate::trail::Trail;
 use devices::{Failed, Sink};
 use node_table::Table;
-use romfs_image::Image;
+use romfs_reader::Image;
 use std::alloc::{AllocError, Allocator};
 
 // How many bytes of lines wait before they are written.

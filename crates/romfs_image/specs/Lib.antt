@@ -1,6 +1,3 @@
-pub mod Readers
-pub mod Walks
-pub mod Ends
-pub mod Images
+pub mod Checks
 pub mod Refusals
 pub mod Texts

@@ -1,11 +1,9 @@
 //! romfs images: whether bytes are one, and what is read from it.
 //!
-//! - [`Image::check`] keeps the accessible bytes of an image that breaks no rule, and else names
-//!   the rule that is broken first, and where. It answers for every list of bytes.
-//!   [`Image::check_as`] takes the strict profile too.
-//! - [`Image`] gives headers, and for these the members of a directory, where hard links end, names
-//!   and data. No reader but [`Ends`] takes memory, and names and data are borrowed from the image.
-//! - [`Ends`] finds where many hard links end, and passes none of them twice.
+//! - [`Image::check`](Check::check) keeps the accessible bytes of an image that breaks no rule, and
+//!   else names the rule that is broken first, and where. It answers for every list of bytes.
+//!   [`Image::check_as`](Check::check_as) takes the strict profile too.
+//! - [`Image`] gives headers, names and data, as `romfs_reader` has them.
 //! - [`sample`] makes images for tests and examples.
 //!
 //! ```text
@@ -17,26 +15,18 @@
 //! }
 //! ```
 //!
-//! What the calls promise is said by the definitions of `romfs_format`, and in `specs/`: what the
-//! readers give (`Readers`, step by step `Walks`, and `Ends`), what a checked image is known to be
-//! (`Images`), and why bytes are refused (`Refusals`, in words `Texts`). The readers are proved for
-//! every image that keeps all rules. [`laws`] says that each path of such an image has one header
-//! and at most 512 names, and that there are finitely many.
+//! What a check promises is said by the definitions of `romfs_format`, and in `specs/`: what bytes
+//! are that it takes (`Checks`), and why it refuses others (`Refusals`, in words `Texts`).
 //!
-//! The crate stands on `romfs_format` for the format and `romfs_rules` for the check.
+//! The crate stands on `romfs_rules` for the check and `romfs_reader` for what is read. It is apart
+//! from both, so that what stands on images is proved beside the rules, and not after them.
 #![tactic(auto)]
 
-pub mod ends;
-mod image;
-pub mod laws;
-pub mod members;
-mod parts;
+mod check;
 pub mod refusal;
 pub mod sample;
 
-pub use ends::Ends;
-pub use image::Image;
-pub use members::Members;
-pub use parts::Part;
+pub use check::Check;
 pub use refusal::CheckFault;
 pub use romfs_format::{Head, ImageFault, Kind, Profile, Rule};
+pub use romfs_reader::{Ends, Image, Members, Part};

@@ -1,10 +1,10 @@
 //! The tree of a run of layers, made by one caller.
 
 ghost use Rattle.std.specs.Prelude.{◌+◌, ◌≤◌, ◌∷◌, [], length, IfOk};
-ghost use Rattle.layer_tree.specs.Trees.{IsTreeOf};
+ghost use Rattle.shown_tree.specs.Trees.{IsTreeOf};
 
-use layer_tree::{Tree, lay};
-use romfs_image::Image;
+use layer_tree::{OfLayer, Tree, lay};
+use romfs_reader::Image;
 use std::alloc::{AllocError, Allocator};
 use work_gate::{Gate, Work};
 

@@ -4,11 +4,11 @@ ghost use Rattle.std.specs.Prelude.{◌≡◌, ◌+◌, ◌<◌, ◌≤◌, ◌�
 ghost use Rattle.std.specs.Option.{option_map};
 ghost use Rattle.std.specs.Thread.{IsSync};
 ghost use denote.Param.Send.{IsSend, Frees};
-ghost use Rattle.layer_tree.specs.Trees.{IsTreeOf, entry_at};
+ghost use Rattle.shown_tree.specs.Trees.{IsTreeOf, entry_at};
 
 use crate::alone::{stack_alone, tree_of};
-use layer_tree::{Place, Tree, lay};
-use romfs_image::Image;
+use layer_tree::{OfLayer, Place, Tree, lay};
+use romfs_reader::Image;
 use std::alloc::{AllocError, Allocator};
 use std::thread::{Threads, join};
 use work_gate::Gate;

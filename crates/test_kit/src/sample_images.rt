@@ -2,7 +2,7 @@
 
 use crate::bytes::bytes_of;
 use romfs_image::sample::{BuildFault, Item, What, build};
-use romfs_image::{CheckFault, Image};
+use romfs_image::{Check, CheckFault, Image};
 use std::alloc::{AllocError, Allocator, Global};
 
 /// The empty image with the volume name `v`.

@@ -1,7 +1,7 @@
 use Rattle.std.proofs.Common.{◌≡◌}
 use Rattle.std.proofs.lemmas.List.Elements.{All-tail, All-push}
 use Rattle.romfs_format.specs.Heads.{name_of}
-use Rattle.romfs_image.specs.Readers.{IsGiven}
+use Rattle.romfs_reader.specs.Readers.{IsGiven}
 use Rattle.layer_tree.specs.declared.members.Named.{Named}
 use Rattle.layer_tree.specs.Members.{IsKeyed}
 use Rattle.layer_tree.proofs.ByName.{found_one}

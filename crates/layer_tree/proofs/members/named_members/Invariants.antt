@@ -1,6 +1,6 @@
 use Rattle.std.proofs.Common.{◌≡◌, ◌++◌, map, All}
 use Rattle.romfs_format.specs.Heads.{name_of}
-use Rattle.romfs_image.specs.Readers.{IsGiven}
+use Rattle.romfs_reader.specs.Readers.{IsGiven}
 use Rattle.layer_tree.specs.Members.{IsKeyed}
 use Rattle.layer_tree.proofs.members.named_members.Given as goal
 

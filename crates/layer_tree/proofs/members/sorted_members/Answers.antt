@@ -2,7 +2,7 @@ use Rattle.std.proofs.Common.{◌≡◌, sym, ap, ◌∙◌}
 use Rattle.romfs_format.specs.declared.head.Head.{Head}
 use Rattle.romfs_format.specs.declared.head.Kind.TheVariants.{Directory}
 use Rattle.romfs_format.specs.Fields.{kind}
-use Rattle.romfs_image.proofs.Given.{from_opened}
+use Rattle.romfs_reader.proofs.Given.{from_opened}
 use Rattle.layer_tree.proofs.ByName.{are_by_name}
 use Rattle.layer_tree.proofs.members.sorted_members.Goals as goal
 

@@ -1,5 +1,5 @@
 use Rattle.std.proofs.lemmas.List.Elements.{All-head, All-rest}
-use Rattle.romfs_image.specs.Readers.{IsGiven}
+use Rattle.romfs_reader.specs.Readers.{IsGiven}
 use Rattle.library_tests.proofs.readers.list.Goals as goal
 
 pub loop-head-init : goal.loop-head-init

@@ -1,5 +1,5 @@
 use Rattle.std.proofs.Common.{All}
-use Rattle.romfs_image.specs.Readers.{IsGiven}
+use Rattle.romfs_reader.specs.Readers.{IsGiven}
 use Rattle.library_tests.proofs.readers.list.Given as goal
 
 abbrev pub invariant-loop-head : goal.invariant-loop-head

@@ -1,5 +1,0 @@
-use Rattle.layer_tree.proofs.Cutting.{IsCutFrom}
-use Rattle.layer_tree.proofs.tree.cut_by.Given as goal
-
-abbrev pub invariant-loop-name : goal.invariant-loop-name
-invariant-loop-name g l = IsCutFrom g.T.Cuts.removed l.fn.tree l.path l.name-index l.here

@@ -1,5 +1,0 @@
-use Rattle.layer_tree.proofs.Cutting.{IsPlainFrom}
-use Rattle.layer_tree.proofs.tree.is_plain.Given as goal
-
-abbrev pub invariant-loop-name : goal.invariant-loop-name
-invariant-loop-name l = IsPlainFrom l.path l.name-index

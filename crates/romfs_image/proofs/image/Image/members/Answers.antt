@@ -1,4 +1,0 @@
-use Rattle.romfs_image.proofs.image.Image.members.Goals as goal
-
-pub returns-clause-given : goal.returns-clause-given
-returns-clause-given g c = rw (← c.self.view_is) (rw c.deref.ensures.value at c.members_of.ensures.given)

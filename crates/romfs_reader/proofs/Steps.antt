@@ -1,0 +1,69 @@
+-- A step along a chain.
+use Rattle.std.proofs.Common.{◌≡◌, ◌≢◌, sym, ap, subst, ℕ, zero, suc, ◌<◌, inl, inr, List, [], ◌∷◌, length, true, false, arith, refl}
+use Rattle.romfs_format.specs.declared.head.Head.{Head}
+use Rattle.romfs_format.specs.Fields.{IsInside, next}
+use Rattle.romfs_format.specs.Heads.{head_of}
+use Rattle.romfs_reader.specs.Readers.{passes_over, kept}
+use Rattle.romfs_reader.specs.Walks.{chain_from, EndsWithin, places, members_from, IsWalk}
+use Rattle.romfs_reader.proofs.Chain.{other}
+
+-- more steps do no harm
+wider : (a : List ℕ) (n h : ℕ) → EndsWithin a n h → EndsWithin a (suc n) h
+wider a zero h e = inl e
+wider a (suc n) h (inl e) = inl e
+wider a (suc n) h (inr x) = inr (x.0, x.1, wider a n (next a h) x.2)
+
+same_walk : (a : List ℕ) (n h : ℕ) → EndsWithin a n h → chain_from a (suc n) h ≡ chain_from a n h
+same_walk a zero h e = rw e refl
+same_walk a (suc n) h (inl e) = rw e refl
+same_walk a (suc n) h (inr x) = rw (other h x.0) (ap (λ hs. h ∷ hs) (same_walk a n (next a h) x.2))
+
+-- what a step leaves
+pub record Stepped (a : List ℕ) (n h : ℕ) : Type 0 where
+  pub inside : IsInside a h
+  pub walk : chain_from a n h ≡ h ∷ chain_from a n (next a h)
+  pub ends : EndsWithin a n (next a h)
+
+step : (a : List ℕ) (n h : ℕ) → h ≢ 0 → EndsWithin a n h → Stepped a n h
+step a zero h z e = absurd (z e)
+step a (suc n) h z (inl e) = absurd (z e)
+step a (suc n) h z (inr x) = record {
+  inside = x.1;
+  walk = rw (other h z) (ap (λ hs. h ∷ hs) (sym (same_walk a n (next a h) x.2)));
+  ends = wider a n (next a h) x.2;
+}
+
+module _ (a : List ℕ) (r d h : ℕ) (w : IsWalk a r h) where
+  pub at_end : h ≡ 0 → members_from a d h ≡ []
+  at_end z = rw z (none (places a))
+    where
+      none : (n : ℕ) → kept a d (chain_from a n 0) ≡ []
+      none zero = refl
+      none (suc n) = refl
+
+  pub on : h ≢ 0 → IsInside a h × IsWalk a r (next a h)
+  on z = let s = step a (places a) h z w.ends in (s.inside, record { small = w.small; root = w.root; ends = s.ends })
+
+  pub over : h ≢ 0 → passes_over a d h ≡ true → members_from a d h ≡ members_from a d (next a h)
+  over z p = let s = step a (places a) h z w.ends in rw (s.walk, p) refl
+
+  pub take : h ≢ 0 → passes_over a d h ≡ false → members_from a d h ≡ head_of a h ∷ members_from a d (next a h)
+  take z p = let s = step a (places a) h z w.ends in rw (s.walk, p) refl
+
+  pub shorter : h ≢ 0 → length (chain_from a (places a) (next a h)) < length (chain_from a (places a) h)
+  shorter z = let s = step a (places a) h z w.ends in rw s.walk (omega arith)
+
+  pub takes : (head : Head) → head ≡ head_of a h → h ≢ 0 → passes_over a d head.offset ≡ false
+      → (members_from a d h ≡ head ∷ members_from a d head.next) × IsWalk a r head.next
+  takes head e z p =
+      subst (λ x. (members_from a d h ≡ x ∷ members_from a d x.next) × IsWalk a r x.next) (sym e)
+      (take z (subst (λ x. passes_over a d x.offset ≡ false) e p), (on z).1)
+
+  pub goes : (head : Head) → head ≡ head_of a h → h ≢ 0 → passes_over a d head.offset ≡ true
+      → (members_from a d head.next ≡ members_from a d h) × IsWalk a r head.next
+  goes head e z p =
+      subst (λ x. (members_from a d x.next ≡ members_from a d h) × IsWalk a r x.next) (sym e)
+      (sym (over z (subst (λ x. passes_over a d x.offset ≡ true) e p)), (on z).1)
+
+  pub falls : (head : Head) → head ≡ head_of a h → h ≢ 0 → length (chain_from a (places a) head.next) < length (chain_from a (places a) h)
+  falls head e z = subst (λ x. length (chain_from a (places a) x.next) < length (chain_from a (places a) h)) (sym e) (shorter z)

@@ -1,0 +1,10 @@
+use Rattle.romfs_reader.specs.Walks.{places}
+use Rattle.romfs_reader.proofs.Given.{IsOnWay}
+use Rattle.romfs_reader.proofs.Hops.{count}
+use Rattle.romfs_reader.proofs.parts.end_of.Given as goal
+
+abbrev pub invariant-loop-end : goal.invariant-loop-end
+invariant-loop-end l = IsOnWay l.image l.head l.end
+
+abbrev pub decreases-loop-end : goal.decreases-loop-end
+decreases-loop-end l = count l.image (places l.image) l.end.offset

@@ -1,0 +1,4 @@
+pub mod Readers
+pub mod Walks
+pub mod Ends
+pub mod Images

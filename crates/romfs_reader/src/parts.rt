@@ -1,0 +1,140 @@
+//! What the readers of an image read, from its bytes.
+
+ghost use Rattle.std.specs.Prelude.{◌≡◌, ◌≢◌, [], ◌+◌, ◌^◌, ◌<◌, ◌≤◌, length, IsTrue, IsFalse, All};
+ghost use Rattle.romfs_format.specs.Fields.{root as root_of, cleared};
+ghost use Rattle.romfs_format.specs.Links.{IsFinal};
+ghost use Rattle.romfs_reader.specs.Images.{IsImage};
+ghost use Rattle.romfs_format.specs.Heads.{name_of, IsHeadIn};
+ghost use Rattle.romfs_reader.specs.Readers.{data_of_header, IsHeadAt, IsGiven, IsPart, IsDataPart, AreMembers, bytes_at};
+
+use crate::members::Members;
+use romfs_format::head::{Head, Kind};
+use romfs_format::limits::HEAD_SIZE;
+use romfs_format::read::{cleared, head_at, padded, text_at};
+
+/// A part of an image's bytes: where it begins, from the image's first byte on, and how long it is.
+#[derive(Clone, Copy, Debug, PartialEq, Eq)]
+pub struct Part {
+    pub start: u32,
+    pub len: u32,
+}
+
+/// The header at an offset, if a header with an ended name can stand there.
+#[tactic(auto, using(crate::proofs::Named::some_name))]
+pub(crate) fn place_at(image: &[u8], root: u32, offset: u32) -> Option<Head>
+    requires image { IsImage image.now }
+    requires root { root ≡ root_of image.now }
+    ensures { IsHeadAt image.now offset result }
+{
+    let place = offset as usize;
+    if offset % 16 != 0 || offset < root || image.len() < place + HEAD_SIZE {
+        return None;
+    }
+    let head = head_at(image, offset);
+    if head.name_len != 0 {
+        return Some(head);
+    }
+    match text_at(image, place + HEAD_SIZE) {
+        None => None,
+        Some(_) => Some(head),
+    }
+}
+
+/// Whether a directory other than the root names its own header as the first, which says that it
+/// is empty.
+fn leads_to_itself(root: u32, directory: &Head) -> bool
+    ensures yes { IsTrue result → (cleared directory.now.spec ≡ directory.now.offset)
+        × (cleared directory.now.spec ≢ root) }
+    ensures no { IsFalse result → cleared directory.now.spec ≡ directory.now.offset →
+        cleared directory.now.spec ≡ root }
+{
+    let first = cleared(directory.spec);
+    first == directory.offset && first != root
+}
+
+/// The members of a header that is given.
+pub(crate) fn members_of<'a>(image: &'a [u8], root: u32, directory: &Head) -> Members<'a>
+    requires image { IsImage image.now }
+    requires root { root ≡ root_of image.now }
+    requires given { IsGiven image.now directory.now }
+    ensures directory { directory.now.kind ≡ Kind.Directory →
+        AreMembers image.now directory.now.offset result }
+    ensures other { directory.now.kind ≢ Kind.Directory → result ≡ [] }
+    ensures given { All (λ head. IsGiven image.now head) result }
+{
+    if directory.kind != Kind::Directory {
+        return Members::new(image, root, directory.offset, 0);
+    }
+    if leads_to_itself(root, directory) {
+        return Members::new(image, root, directory.offset, 0);
+    }
+    Members::new(image, root, directory.offset, cleared(directory.spec))
+}
+
+/// Where the chain of hard links from a header that is given ends.
+pub(crate) fn end_of(image: &[u8], head: &Head) -> Head
+    requires image { IsImage image.now }
+    requires given { IsGiven image.now head.now }
+    ensures end { IsFinal image.now head.now.offset result.offset }
+    ensures given { IsGiven image.now result }
+{
+    let mut end = *head;
+    while end.kind == Kind::HardLink {
+        end = head_at(image, cleared(end.spec));
+    }
+    end
+}
+
+/// Some bytes of an image.
+#[tactic(auto, unfolding(crate::specs::Readers::bytes_at))]
+fn bytes_at(image: &[u8], from: u32, len: u32) -> &[u8]
+    requires { from + len ≤ length image.now }
+    ensures { result.now ≡ bytes_at image.now from len }
+{
+    let rest = &image[from as usize..];
+    &rest[..len as usize]
+}
+
+/// The name of a header.
+pub(crate) fn name_in<'a>(image: &'a [u8], head: &Head) -> &'a [u8]
+    requires { IsHeadIn image.now head.now }
+    ensures { result.now ≡ name_of image.now head.now.offset }
+{
+    bytes_at(image, head.name_at, head.name_len)
+}
+
+/// Where the data of a header that is given lie.
+pub(crate) fn data_part(image: &[u8], head: &Head) -> Part
+    requires image { IsImage image.now }
+    requires given { IsGiven image.now head.now }
+    ensures { IsDataPart image.now head.now.offset result }
+{
+    match head.kind {
+        Kind::Regular | Kind::SymLink => {
+            let start = head.name_at as usize + padded(head.name_len as usize + 1);
+            Part {
+                start: start as u32,
+                len: head.size,
+            }
+        }
+        _ => Part { start: 0, len: 0 },
+    }
+}
+
+/// The bytes of a part.
+pub(crate) fn bytes_in(image: &[u8], part: Part) -> &[u8]
+    requires { IsPart image.now part }
+    ensures value { result.now ≡ bytes_at image.now part.start part.len }
+    ensures short { 16 + length result.now < 2 ^ 32 }
+{
+    bytes_at(image, part.start, part.len)
+}
+
+/// The data of a header that is given.
+pub(crate) fn data_in<'a>(image: &'a [u8], head: &Head) -> &'a [u8]
+    requires image { IsImage image.now }
+    requires given { IsGiven image.now head.now }
+    ensures { result.now ≡ data_of_header image.now head.now.offset }
+{
+    bytes_in(image, data_part(image, head))
+}

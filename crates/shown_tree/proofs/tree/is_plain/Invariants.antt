@@ -1,0 +1,5 @@
+use Rattle.shown_tree.proofs.Cutting.{IsPlainFrom}
+use Rattle.shown_tree.proofs.tree.is_plain.Given as goal
+
+abbrev pub invariant-loop-name : goal.invariant-loop-name
+invariant-loop-name l = IsPlainFrom l.path l.name-index
