@@ -13,7 +13,7 @@ import termios
 import threading
 import time
 
-from plain_replies import split
+from plain_replies import bad_length, split
 from replies import single
 from runs import MINUTE
 
@@ -36,6 +36,10 @@ class Client:
 
     def sent(self):
         return b"".join(self.pieces)
+
+    def ends_session(self):
+        """Whether its session lasts until its own end: it gets replies, and says no bad length."""
+        return self.replies != b"" and bad_length(split(self.sent())[1], 0) is None
 
 
 # --- connecting ---
@@ -185,7 +189,9 @@ class Visit:
         came = received(self.end, most)
         if self.client.leaves_some and not select.select([self.end], [], [], MINUTE)[0]:
             raise Hanging("no more came for a minute, after %d bytes" % len(came))
-        self.sending.join()
+        self.sending.join(1)
+        if self.sending.is_alive():  # nobody reads what it sends
+            self.end.shutdown(socket.SHUT_RDWR)
         before_end()
         return came
 
@@ -231,7 +237,7 @@ class Party:
     def look(self, client, waiting):
         """Looks at those who wait, before a client ends that was served: nothing came to them."""
         ends = [visit.end for visit in waiting if visit.end.fileno() >= 0 and not visit.client.is_deaf]
-        if client.replies and select.select(ends, [], [], 0)[0]:
+        if client.ends_session() and select.select(ends, [], [], 0)[0]:
             self.told.append("a client that waits was served before the one above it had ended")
         if client.files is not None:
             resource.prlimit(self.process, resource.RLIMIT_NOFILE, (client.files, client.files))
