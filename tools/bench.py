@@ -1,13 +1,14 @@
 """Times the built program, and hostile inputs against honest ones: python3 tools/bench.py PROGRAM [--quick] [PART..]
 
 The parts are `serve` (a million requests, against cat), `lookups` (in a large directory, against attributes in a small
-one), `check` (images), `stacks` (check, list and serve of stacks), `streams` (dear requests), `pulls` (a byte at a time)
-and `workers` (long replies by four workers, against one). Files lie in memory (/dev/shm where it is there). A time is
-processor time, user and system, the least of three runs; memory is the most that a run had at one moment, and less than
-some 20 MiB is not told apart. The status is 0 where each hostile input takes at most five times as long as an honest one
-of its size; where it gives a longer list, at most five times as long for each byte of it; where `serve` and `lookups` are
-within bounds of their own; and where four workers give the bytes of one in at most three times its processor time. `--quick` is
-for the gate: the hostile parts alone, of a quarter of the size.
+one), `sockets` (a million requests at a socket, against pipes; the shortest sessions), `check` (images), `stacks` (check,
+list and serve of stacks), `streams` (dear requests), `pulls` (a byte at a time) and `workers` (long replies by four workers,
+against one). Files lie in memory (/dev/shm where it is there). A time is processor time, user and system, the least of three
+runs; memory is the most that a run had at one moment, and less than some 20 MiB is not told apart. The status is 0 where each
+hostile input takes at most five times as long as an honest one of its size; where it gives a longer list, at most five times
+as long for each byte of it; where `serve`, `lookups` and `sockets` are within bounds of their own; and where four workers give
+the bytes of one in at most three times its processor time. `--quick` is for the gate: the hostile parts alone, of a quarter of
+the size.
 """
 import argparse
 import filecmp
@@ -21,6 +22,7 @@ import time
 from collections import namedtuple
 
 import bench_inputs as inputs
+import bench_sockets
 import runs
 
 RUNS = 3
@@ -29,8 +31,10 @@ RUNS = 3
 MOST, MOST_OF_CAT, MOST_OF_GETATTR = 5, 4, 11
 # how many times the processor time of one worker four may take
 MOST_WORKERS = 3
+# how many times the processor time of a stream through pipes one at a socket may take; how many of the shortest sessions
+MOST_OF_PIPES, SESSIONS = 2, 20000
 HOSTILE = ("check", "stacks", "streams", "pulls")
-PARTS = ("serve", "lookups", *HOSTILE, "workers")
+PARTS = ("serve", "lookups", "sockets", *HOSTILE, "workers")
 # what the sizes are divided by for the gate
 QUICK = 4
 Cost = namedtuple("Cost", "seconds memory written line")
@@ -113,6 +117,24 @@ class Bench:
         print("1,000,000 LOOKUPs in 100,000 files %.3f s, 1,000,000 GETATTRs in 1,000 files %.3f s: %.1f times" % (
             *times, times[0] / times[1]), flush=True)
         self.within = self.within and times[0] <= MOST_OF_GETATTR * times[1]
+
+    def sockets(self):
+        """A million requests at a socket, against pipes, by turns; and the shortest sessions, many at one socket."""
+        image, requests = apart(inputs.write_million, self.folder)
+        with open(requests, "rb") as data:
+            stream = data.read()
+        pairs = [(bench_sockets.piped(self.program, image, stream), bench_sockets.at_socket(self.program, image, [stream]))
+                 for _ in range(RUNS)]
+        same = all(pair[0].output == pair[1].output for pair in pairs)
+        pipes, at_socket = (min(it.seconds for it in ends) for ends in zip(*pairs))
+        print("1,000,000 requests through pipes %.3f s, at a socket %.3f s: %.2f times  %s" % (
+            pipes, at_socket, at_socket / pipes, "same bytes" if same else "OTHER BYTES"))
+        shortest = bench_sockets.shortest()
+        one, many = (min(bench_sockets.at_socket(self.program, image, [shortest] * count).seconds for _ in range(RUNS))
+                     for count in (1, SESSIONS))
+        print("  %d sessions of an INIT and a DESTROY: %.1f microseconds each" % (
+            SESSIONS, (many - one) / (SESSIONS - 1) * 1e6), flush=True)
+        self.within = self.within and same and at_socket <= MOST_OF_PIPES * pipes
 
     def check(self):
         """Hostile images against the first one, which has as many headers and bytes."""

@@ -6,11 +6,14 @@ from collections import namedtuple
 import images
 import messages
 import replies
+from clients import Client
 from text import Words, Wrong, words_of
 
 
 # a file of so many bytes, zeros behind the first ones
 Sparse = namedtuple("Sparse", "front size")
+# a socket at which nobody listens
+SOCKET = object()
 
 
 class Line:
@@ -64,7 +67,7 @@ class Run:
 
     def __init__(self, line):
         self.line = line
-        self.output, self.faults, self.replies, self.left = [], "", {}, {}
+        self.output, self.faults, self.replies, self.left, self.clients = [], "", {}, {}, []
         self.more_faults = self.unread = False
         self.status = self.writes = None
 
@@ -105,8 +108,8 @@ class Case:
             value = self.sparse(words) if words.take("sparse") else words.data()
             words.end()
             self.define(name, self.files, value)
-        elif kind == "folder":
-            self.define(words.next(), self.files, None)
+        elif kind in ("folder", "socket"):
+            self.define(words.next(), self.files, None if kind == "folder" else SOCKET)
             words.end()
         elif kind == "answers":
             self.define(words.next(), self.answers, replies_below(line))
@@ -117,7 +120,7 @@ class Case:
             raise Wrong("no run above")
         else:
             self.read_wanted(kind, words, line, self.runs[-1])
-        if line.below and kind not in ("image", "requests", "answers", "$", "replies", "left"):
+        if line.below and kind not in ("image", "requests", "answers", "$", "replies", "left", "client"):
             raise Wrong("lines below that mean nothing here")
 
     def sparse(self, words):
@@ -167,6 +170,8 @@ class Case:
             words.end()
         elif kind == "replies":
             self.read_replies(words, line, run)
+        elif kind == "client":
+            run.clients.append(self.client_of(words, line))
         elif kind == "left":
             name = words.next()
             run.left[name] = lines_below(line) if line.below else left_data(words)
@@ -178,11 +183,38 @@ class Case:
         name = words.next() if words.more() and words.words[0] != "=" else None
         if name in run.replies:
             raise Wrong("replies twice")
+        run.replies[name] = self.replies_said(words, line)
+
+    def replies_said(self, words, line):
+        """The replies of a line `replies`, behind its name."""
         begun = self.front_of(words, self.answers) if words.take("=") else b""
         words.end()
         if not begun and not line.below:
             raise Wrong("no replies")
-        run.replies[name] = begun + replies_below(line)
+        return begun + replies_below(line)
+
+    def client_of(self, words, line):
+        """A client of the run's socket."""
+        client, sends, size = Client(), b"", None
+        client.number, client.is_meanwhile = line.number, words.take("meanwhile")
+        words.end()
+        for below in line.below:
+            words = below.words()
+            kind = words.next()
+            if kind == "sends":
+                sends = self.front_of(words, self.streams)
+            elif kind == "fed":
+                size = words.number()
+            elif kind == "replies":
+                client.replies = self.replies_said(words, below)
+            else:
+                read_habit(kind, words, client)
+            words.end()
+            if below.below and kind != "replies":
+                raise Wrong("lines below that mean nothing here")
+        size = size or max(len(sends), 1)
+        client.pieces = [sends[at:at + size] for at in range(0, len(sends), size)]
+        return client
 
     def data_of(self, name):
         """The bytes of what a name stands for, None for a folder; and whether there is one."""
@@ -195,6 +227,20 @@ class Case:
     def unused(self):
         names = [*self.images, *self.streams, *self.files, *self.answers]
         return [name for name in names if name not in self.used]
+
+
+def read_habit(kind, words, client):
+    """A line below a client that says how it sends or ends."""
+    if kind == "waits":
+        client.is_stepwise = True
+    elif kind == "deaf":
+        client.is_deaf = True
+    elif kind == "closes":
+        client.closes, client.leaves_some = True, words.take("early")
+    elif kind == "files":
+        client.files = words.number()
+    else:
+        raise Wrong("this line means nothing: %s" % kind)
 
 
 def replies_below(line):

@@ -11,6 +11,7 @@ counts M beside N.
     file NAME DATA                  what a file holds before a run; `file NAME sparse SIZE [= IMAGE]` has that many bytes, zeros
                                     behind those of the image, which take no blocks
     folder NAME
+    socket NAME                     at which nobody listens any more
     $ strata WORDS [< NAME] [> NAME] [2> NAME]
       fed N                         the input is a pipe, fed N bytes at a time
       waits                         the input is a pipe; a request is written when the reply to the one before it has come
@@ -18,7 +19,19 @@ counts M beside N.
       disk N                        the run's folder is a file system of N KiB
       memory N                      so many MiB of address space
       stack N                       so many KiB of stack
+      files N                       so many files may be open
       gone > [2>]                   the output, or standard error, is a pipe that nobody reads any more
+    client [meanwhile]              who connects to the socket that the run listens at, once the client above it has ended or,
+                                    meanwhile, while that one is served, and gets nothing before its end. It shuts its writing
+                                    half down when all is sent, and reads to the end
+      sends NAME [first N]          requests, or their first bytes; else nothing
+      fed N                         N bytes at a time, each when those before them were read
+      waits                         a request is sent when the reply to the one before it has come
+      deaf                          its reading half is shut down before it sends
+      closes [early]                it closes when all replies below have come and, early, more that it does not read, in place
+                                    of shutting down
+      files N                       so many files may be open in the program from its end on
+      replies [= ANSWERS [first N]]     what comes to it
     | TEXT                          a line of the output
     |= DATA                         the same as data
     ! TEXT                          a line of standard error, where `! ...` stands for any more lines
@@ -37,17 +50,16 @@ file system may be mounted.
 import functools
 import os
 import resource
-import select
 import shutil
 import signal
-import struct
 import subprocess
 import sys
 import tempfile
 
 import replies
 import runs
-from case_files import Case, Sparse
+from case_files import SOCKET, Case, Sparse
+from clients import Party, converse, leave_socket
 from mount import called, libc
 from mounting import enter
 from plain_replies import split
@@ -73,7 +85,7 @@ class Started:
         for below in line.below:
             limit = below.words()
             name = limit.next()
-            if name not in ("fed", "waits", "room", "disk", "memory", "stack", "gone") or below.below:
+            if name not in ("fed", "waits", "room", "disk", "memory", "stack", "files", "gone") or below.below:
                 raise Wrong("this line means nothing: %s" % below.text)
             if name == "gone":
                 self.limits[name] = [limit.next() for _ in list(limit.words)]
@@ -82,7 +94,7 @@ class Started:
             limit.end()
         self.names = {part for word in self.words for part in (word, word.partition("=")[2])}
         self.names |= set(self.streams.values())
-        self.case = case
+        self.case, self.line = case, line
 
     def lay_out(self, room):
         for name in self.names:
@@ -90,11 +102,20 @@ class Started:
             path = os.path.join(room, name)
             if is_there and value is None:
                 os.mkdir(path)
+            elif value is SOCKET:
+                leave_socket(room, name)
             elif is_there:
                 with open(path, "wb") as out:
                     out.write(value.front if isinstance(value, Sparse) else value)
                     if isinstance(value, Sparse):
                         out.truncate(value.size)
+
+    def listens_at(self):
+        """The path of the socket that the words name."""
+        for at, word in enumerate(self.words):
+            if word == "--listen" or word.startswith("--listen="):
+                return plain_bytes((self.words[at + 1:at + 2] or [""])[0] if word == "--listen" else word[9:])
+        raise Wrong("%s:%d: there is no socket for clients" % (self.case.path, self.line.number))
 
     def given(self):
         """The bytes of the requests that the run reads, as far as they can be told."""
@@ -103,48 +124,6 @@ class Started:
             if word == "--requests":
                 names = self.words[at + 1:at + 2]
         return self.case.streams.get(names[0], b"") if names else b""
-
-
-def converse(process, pipe, messages, wanted):
-    """Writes these messages one after another, and reads the reply to each that has one among those wanted before the next
-    is written; what was read."""
-    came, source = b"", process.stdout.fileno()
-    try:
-        for message in messages:
-            os.write(pipe, message)
-            if not wanted or wanted[0][8:16] != message[8:16]:
-                continue
-            wanted.pop(0)
-            head = read_whole(source, 16)
-            came += head
-            if len(head) < 16:
-                break
-            came += read_whole(source, struct.unpack_from("<I", head)[0] - 16)
-    except OSError:
-        pass
-    finally:
-        os.close(pipe)
-    return came
-
-
-def read_whole(source, size):
-    """So many bytes of a pipe, or fewer where no more come, at its end or for a minute."""
-    data = b""
-    while len(data) < size and select.select([source], [], [], runs.MINUTE)[0]:
-        part = os.read(source, size - len(data))
-        if not part:
-            break
-        data += part
-    return data
-
-
-def replies_in(data):
-    """The single replies of some bytes."""
-    parts = []
-    while data:
-        size = struct.unpack_from("<I", data)[0]
-        parts, data = [*parts, data[:size]], data[size:]
-    return parts
 
 
 def sink(room, name, is_gone):
@@ -169,11 +148,10 @@ def open_streams(started, room):
 def limited(limits):
     def set_limits():
         for name, what, unit in (("room", resource.RLIMIT_FSIZE, 1), ("memory", resource.RLIMIT_AS, 1 << 20),
-                                 ("stack", resource.RLIMIT_STACK, 1 << 10)):
+                                 ("stack", resource.RLIMIT_STACK, 1 << 10), ("files", resource.RLIMIT_NOFILE, 1)):
             if name in limits:
                 resource.setrlimit(what, (limits[name] * unit, limits[name] * unit))
-        if "gone" in limits:
-            signal.signal(signal.SIGPIPE, signal.SIG_DFL)  # as a shell leaves it
+        signal.signal(signal.SIGPIPE, signal.SIG_DFL)  # as a shell leaves it
     return set_limits
 
 
@@ -235,7 +213,7 @@ def judged(run, started, room, ended, position):
 
 
 def ran(program, started, run, source, pair, pipe, room):
-    """How the program ended, and what it wrote."""
+    """How the program ended, and what it wrote; what was not as it must be with its clients."""
     words = [program.encode(), *(plain_bytes(word) for word in started.words)]
     done = subprocess.Popen(words, cwd=room, stdin=source, stdout=pair[0], stderr=pair[1],
                             preexec_fn=limited(started.limits), restore_signals=False)
@@ -244,12 +222,25 @@ def ran(program, started, run, source, pair, pipe, room):
         os.close(source)
         data = started.case.data_of(started.streams["<"])[1]
     if "waits" in started.limits:
-        came = converse(done, pipe, split(data)[0], replies_in(run.replies[None]))
+        came = converse(done.stdout.fileno(), pipe, split(data)[0], replies.single(run.replies[None]))
+        os.close(pipe)
     elif pipe is not None:
         size = started.limits["fed"]
         runs.feed((data[at:at + size] for at in range(0, len(data), size)), pipe)
+    visits = Party(run.clients, room, started.listens_at() if run.clients else None, done.pid)
+    got = visits.served()
+    if visits.told:
+        os.kill(done.pid, signal.SIGKILL)
     ended = runs.ended(done)
-    return ended._replace(output=came + ended.output)
+    return ended._replace(output=came + ended.output), visits.told + told_of(run.clients, got)
+
+
+def told_of(clients, got):
+    """What clients got that is not as it must be."""
+    told = []
+    for number, (client, came) in enumerate(zip(clients, got), 1):
+        told += compared("the replies to client %d" % number, client.replies, came, client.sent())
+    return told
 
 
 def tried(program, case, run):
@@ -270,7 +261,7 @@ def tried(program, case, run):
             called(libc.mount(b"strata", room.encode(), b"tmpfs", 0, b"size=%dk" % started.limits["disk"]))
         started.lay_out(room)
         source, pair, pipe = open_streams(started, room)
-        ended = ran(program, started, run, source, pair, pipe, room)
+        ended, told = ran(program, started, run, source, pair, pipe, room)
         position = 0
         if pipe is None:
             position = position_of(source)
@@ -278,7 +269,7 @@ def tried(program, case, run):
         for stream in pair:
             if stream is not subprocess.PIPE:
                 stream.close()
-        return judged(run, started, room, ended, position)
+        return told + judged(run, started, room, ended, position)
     finally:
         if "disk" in started.limits:
             called(libc.umount2(room.encode(), 0))

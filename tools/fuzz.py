@@ -3,23 +3,29 @@
 python3 tools/fuzz.py PROGRAM [IMAGES [STACKS [STREAMS [SEED]]]]
 
 Images, most of them broken, go through `check` and `list`; stacks of 1 to 6 layers through `check` and `list`; streams
-over such stacks through `serve`, from files and through pipes in pieces, by any plan, lastingly or not, with balances. Each
-is tried strictly or not. Where a run differs, or takes more than two seconds of processor time, its files are kept and its words
-are printed; where these name no file of requests, that file's bytes came through the pipe.
+over such stacks through `serve`, from files and through pipes in pieces, by any plan, lastingly or not, with balances, and one
+in three through `socket`, one to three clients, some of whom go away early. Each is tried strictly or not. Where a run differs,
+or takes more than two seconds of processor time, its files are kept and its words are printed; where these name no file of
+requests, that file's bytes came through the pipe, and those of requests-1 and so on from the clients.
 """
 import collections
 import os
 import random
+import re
 import shutil
+import signal
 import subprocess
 import sys
 import tempfile
 
 import plain
 import runs
+from clients import Client, Party
 from random_inputs import kinds_of, mutated, random_image, random_stack, random_stream
 
 SECONDS = 2
+# what may be told of a client that went away
+GONE = re.compile("|request at [0-9]+: (cut off|bad length [0-9]+)|read fault|write fault")
 
 
 class Difference(Exception):
@@ -68,8 +74,44 @@ class Running:
         if done.seconds > SECONDS:
             raise Difference("%s takes %.1f s of processor time" % (self.told(words), done.seconds))
 
+    def hold_sessions(self, words, clients, lines):
+        """Runs the program with these words for clients, and holds what comes to them, and the fault lines of those that stay."""
+        self.runs += 1
+        for number, client in enumerate(clients, 1):
+            self.write("requests-%d" % number, client.sent())
+        child = subprocess.Popen([self.program, *words], cwd=self.folder, stdin=subprocess.DEVNULL, stdout=subprocess.PIPE,
+                                 stderr=subprocess.PIPE)
+        party = Party(clients, self.folder, "socket", child.pid)
+        got = party.served()
+        if party.told:
+            os.kill(child.pid, signal.SIGKILL)
+        done = runs.ended(child)
+        wrong = party.told or ["client %d: other replies" % number for number, pair in enumerate(zip(clients, got), 1)
+                               if pair[0].replies != pair[1]]
+        wrong = wrong or faults_wrong(clients, lines, done)
+        if os.path.exists(os.path.join(self.folder, "socket")):
+            wrong.append("the socket is there still")
+        if wrong or done.output or done.seconds > SECONDS:
+            habits = ["closes" if it.closes else "is deaf" if it.is_deaf else "stays" for it in clients]
+            raise Difference("%s: %s; %.1f s of processor time; the clients: %s" % (
+                self.told(words), "; ".join(wrong), done.seconds, ", ".join(habits)))
+
     def told(self, words):
         return "in %s: strata %s" % (self.folder, " ".join(words))
+
+
+def faults_wrong(clients, lines, done):
+    """What is wrong with the fault lines of sessions, and with the status."""
+    told, wrong, status = done.errors.decode(errors="replace").splitlines(), [], 0
+    for number, (client, line) in enumerate(zip(clients, lines), 1):
+        front = "session %d: " % number
+        got = told.pop(0)[len(front):] if told and told[0].startswith(front) else ""
+        if got != line and not ((client.closes or client.is_deaf) and GONE.fullmatch(got)):
+            wrong.append("client %d: the line should be %r, and is %r" % (number, line, got))
+        status = status or (4 if got.startswith("request") else 1 if got else 0)
+    if told or done.status != status:
+        wrong.append("the status should be %d, and is %r; other lines: %r" % (status, done.status, told))
+    return wrong
 
 
 def lines_or_stop(lines, images, strict):
@@ -143,32 +185,78 @@ def served(images, stream, strict, is_lasting):
     return Wanted(status, b"", line + "\n" if line else "", {"balances": balances}), done.replies
 
 
-def fuzz_streams(running, rng, count, others):
-    replied = messages = nodes = 0
-    for _ in range(count):
-        images = random_stack(rng, others)
-        strict, is_lasting = rng.random() < 0.1, rng.random() < 0.5
-        sound = [data for data in images if plain.fault(data) is None] or [others[0]]
-        stack = plain.stack_of(sound)
-        stream = random_stream(rng, stack)
-        names = [running.write("image-%d" % number, data) for number, data in enumerate(images)]
-        words = ["serve", "--balances", "balances", *["--strict"] * strict, *["--lasting"] * is_lasting]
+class Inputs:
+    """Random images, and the words that name them; the stack that they make, or another where they are broken."""
+
+    def __init__(self, running, rng, others):
+        self.images, self.strict, self.is_lasting = random_stack(rng, others), rng.random() < 0.1, rng.random() < 0.5
+        self.stack = plain.stack_of([data for data in self.images if plain.fault(data) is None] or [others[0]])
+        self.words = [running.write("image-%d" % number, data) for number, data in enumerate(self.images)]
+        self.words += ["--strict"] * self.strict + ["--lasting"] * self.is_lasting
         if rng.random() < 0.8:
-            words += random_plan(rng)
-        want, replies = served(images, stream, strict, is_lasting)
-        pieces, requests = [], running.write("requests", stream)
-        if rng.random() < 0.6:
-            words += ["--requests", requests]
+            self.words += random_plan(rng)
+
+    def served(self, stream):
+        return served(self.images, stream, self.strict, self.is_lasting)
+
+
+def fuzz_stream(running, rng, inputs, stream):
+    """Holds `serve` of a stream."""
+    words = ["serve", "--balances", "balances", *inputs.words]
+    want, replies = inputs.served(stream)
+    pieces, requests = [], running.write("requests", stream)
+    if rng.random() < 0.6:
+        words += ["--requests", requests]
+    else:
+        pieces = cut(rng, stream)
+    if rng.random() < 0.5:
+        words += ["--replies", "replies"]
+        want.files["replies"] = replies
+    else:
+        want = want._replace(output=replies)
+    running.hold(words, want, pieces)
+    return len(replies)
+
+
+def random_client(rng, stream, replies):
+    """A client that stays to the end of its replies, or goes away."""
+    client = Client(cut(rng, stream), replies)
+    client.is_meanwhile = rng.random() < 0.3
+    if rng.random() < 0.3:
+        client.closes, client.replies = True, replies[:rng.choice([0, len(replies), rng.randrange(len(replies) + 1)])]
+        client.pieces = [stream]
+    elif rng.random() < 0.1:
+        client.is_deaf, client.replies = True, b""
+    return client
+
+
+def fuzz_sessions(running, rng, inputs, streams):
+    """Holds `socket` with a client for each stream."""
+    words = ["socket", "--listen", "socket", "--sessions", str(len(streams)), *inputs.words]
+    wants = [inputs.served(stream) for stream in streams]
+    if wants[0][0].status == 3:
+        running.hold(words, wants[0][0]._replace(files={}))
+        return 0
+    clients = [random_client(rng, stream, replies) for stream, (_, replies) in zip(streams, wants)]
+    running.hold_sessions(words, clients, [want.line.strip() for want, _ in wants])
+    return sum(len(it.replies) for it in clients)
+
+
+def fuzz_streams(running, rng, count, others):
+    replied = messages = nodes = sessions = 0
+    for _ in range(count):
+        inputs = Inputs(running, rng, others)
+        streams = [random_stream(rng, inputs.stack) for _ in range(rng.choice([0, 0, 0, 0, 0, 0, 1, 2, 3]))]
+        if streams:
+            replied += fuzz_sessions(running, rng, inputs, streams)
+            sessions += len(streams)
         else:
-            pieces = cut(rng, stream)
-        if rng.random() < 0.5:
-            words += ["--replies", "replies"]
-            want.files["replies"] = replies
-        else:
-            want = want._replace(output=replies)
-        running.hold([*words, *names], want, pieces)
-        replied, messages, nodes = replied + len(replies), messages + len(plain.split(stream)[0]), nodes + sum(kinds_of(stack))
-    print("streams: %d over %d nodes; %d requests; %d bytes of replies" % (count, nodes, messages, replied), flush=True)
+            streams = [random_stream(rng, inputs.stack)]
+            replied += fuzz_stream(running, rng, inputs, streams[0])
+        messages += sum(len(plain.split(stream)[0]) for stream in streams)
+        nodes += sum(kinds_of(inputs.stack))
+    print("streams: %d, and %d sessions, over %d nodes; %d requests; %d bytes of replies" % (
+        count, sessions, nodes, messages, replied), flush=True)
 
 
 def main(program, counts):

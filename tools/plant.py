@@ -17,7 +17,7 @@ from plain_replies import ERRNOS
 WANTED = {"|", "|=", "!", "status", "left", "entry", "negative", "attributes", "data", "rows", "rows_plus", "ino", "open_flags",
           "statfs", *ERRNOS}
 # what only says how a run is made
-QUIET = {"fed", "waits", "memory", "stack", "gone", "writes", "folder", "for", "$", "# "}
+QUIET = {"fed", "waits", "memory", "stack", "files", "gone", "writes", "folder", "for", "$", "# "}
 VALUE = re.compile(r"(?<![A-Za-z0-9_.-])(?:0x)?[0-9a-f_]*[0-9][0-9a-f_]*(?![A-Za-z_-])")
 
 
@@ -30,7 +30,25 @@ def kind_of(lines, number):
     is_reply = text[0].isdigit() and words[0] in (*WANTED, "INIT", "bytes", "empty")
     if words[0] == "at":
         return "at .. %s" % words[2], False
-    return words[0] + (" (reply)" if is_reply else ""), is_reply or words[0] in WANTED
+    place = "client's " if words[0] != "client" and is_of_client(lines, number) else ""
+    kind = "! session" if text.startswith("! session ") else place + words[0] + (" (reply)" if is_reply else "")
+    return kind, is_reply or words[0] in WANTED
+
+
+def is_of_client(lines, number):
+    """Whether a line of a case file stands below a client."""
+    indent = indent_of(lines[number])
+    while indent and number:
+        number -= 1
+        if lines[number].strip() and indent_of(lines[number]) < indent:
+            indent = indent_of(lines[number])
+            if lines[number].split()[0] == "client":
+                return True
+    return False
+
+
+def indent_of(line):
+    return len(line) - len(line.lstrip())
 
 
 def changes(text):
@@ -102,7 +120,7 @@ def main(program, paths):
     with tempfile.TemporaryDirectory() as folder:
         planting = Planting(program, folder)
         for (kind, is_wanted), places in sorted(by_kind.items()):
-            if kind in QUIET:
+            if kind.replace("client's ", "") in QUIET:
                 continue
             places.sort(key=lambda it: len(it[1]))
             places = [it for at, it in enumerate(places) if at < 3 or it[0] != places[at - 2][0]]

@@ -118,6 +118,15 @@ def replies_of(lines):
     return b"".join(parts)
 
 
+def single(data):
+    """The single replies of some bytes."""
+    parts = []
+    while data:
+        size = struct.unpack_from("<I", data)[0]
+        parts, data = [*parts, data[:size]], data[size:]
+    return parts
+
+
 def attr_text(data):
     ino, size = struct.unpack_from("<2Q", data)
     mode, nlink, _, _, rdev = struct.unpack_from("<5I", data, 60)

@@ -3,10 +3,10 @@ import os
 import random
 import re
 import signal
-import socket
 import subprocess
 import time
 
+import clients
 from mounting import Failed, LeftOut, hold
 from plain_replies import split
 from random_inputs import random_stream
@@ -20,10 +20,11 @@ class Server:
     """`strata socket` over a client's images, for so many sessions."""
 
     def __init__(self, program, folder, client, sessions):
-        self.path = os.path.join(folder, "socket")
-        words = [program, "socket", "--listen", self.path, "--sessions", str(sessions), *client.paths]
+        self.folder, self.path = folder, os.path.join(folder, "socket")
+        words = [program, "socket", "--listen", "socket", "--sessions", str(sessions), *client.paths]
         self.faults = open(os.path.join(folder, "faults"), "w+b")
-        self.process = subprocess.Popen(words, stdin=subprocess.DEVNULL, stdout=subprocess.DEVNULL, stderr=self.faults)
+        self.process = subprocess.Popen(words, cwd=folder, stdin=subprocess.DEVNULL, stdout=subprocess.DEVNULL,
+                                        stderr=self.faults)
         while not os.path.exists(self.path) and self.process.poll() is None:
             time.sleep(0.01)
         if self.process.poll() is not None:
@@ -39,9 +40,10 @@ class Server:
         raise Failed("strata socket ends at once, and says %r" % told)
 
     def connected(self):
-        it = socket.socket(socket.AF_UNIX)
-        it.connect(self.path)
-        return it
+        try:
+            return clients.connected(self.folder, "socket", self.process.pid)
+        except clients.Hanging as hanging:
+            raise Failed(hanging) from None
 
     def ended(self):
         """Waits for the end; the status and the fault lines."""
