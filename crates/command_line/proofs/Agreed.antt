@@ -9,19 +9,20 @@ use Rattle.command_line.specs.declared.options.Verb.TheVariants as verbs
 use Rattle.command_line.specs.CommandLine.{AreCrossed, IsLineFault, IsLineOf, HaveNumbersInRange, Says, command_in, parts_of, verb_word}
 use Rattle.command_line.specs.LineLaws.{LinesAgree, LinesAreFaultless}
 
--- the verb whose word begins with this letter
+-- the verb whose word has this second letter
 verb_by : ℕ → Verb
-verb_by letter = cond (letter == 115) verbs.Serve (cond (letter == 99) verbs.Check verbs.List)
+verb_by letter = cond (letter == 101) verbs.Serve (cond (letter == 111) verbs.Socket (cond (letter == 104) verbs.Check verbs.List))
 
-verb_is : (verb : Verb) → verb_by (slice_index (verb_word verb) 0) ≡ verb
+verb_is : (verb : Verb) → verb_by (slice_index (verb_word verb) 1) ≡ verb
 unfolding verb_by
 verb_is verbs.Serve = refl
+verb_is verbs.Socket = refl
 verb_is verbs.Check = refl
 verb_is verbs.List = refl
 
 -- each verb has its own word
 pub one_word : (a b : Verb) → verb_word a ≡ verb_word b → a ≡ b
-one_word a b e = sym (verb_is a) ∙ ap (λ word. verb_by (slice_index word 0)) e ∙ verb_is b
+one_word a b e = sym (verb_is a) ∙ ap (λ word. verb_by (slice_index word 1)) e ∙ verb_is b
 
 -- words name one command
 pub one_name : (o : Option (Text × List Row)) (a b : Text) (r s : List Row) → o ≡ Some (a, r) → o ≡ Some (b, s) → a ≡ b

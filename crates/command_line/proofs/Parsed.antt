@@ -25,8 +25,9 @@ use Rattle.command_line.specs.declared.options.LineFault.{LineFault}
 use Rattle.command_line.specs.declared.options.LineFault.TheVariants.{Usage, Memory}
 use Rattle.command_line.specs.declared.options.Verb.{Verb}
 use Rattle.command_line.specs.declared.options.Verb.TheVariants as verbs
+use Rattle.command_line.proofs.Agreed.{one_name, one_word, same_rows}
 use Rattle.command_line.proofs.Taken.{taken_names}
-use Rattle.command_line.specs.CommandLine.{AreCrossed, HoldsRows, IsFilled, IsFlagFilled, Says, names_both, names_both_of, parts_of, IsLineOf, IsLineFault, IsNumberOf, IsNumberTo, HaveNumbersInRange, IsTaken, command_in, faults_in, most_batch, most_workers, number_or, program, verb_word}
+use Rattle.command_line.specs.CommandLine.{AreCrossed, GivesSocket, HoldsRows, IsFilled, IsFlagFilled, Says, names_both, names_both_of, parts_of, IsLineOf, IsLineFault, IsNumberOf, IsNumberTo, HaveNumbersInRange, IsTaken, command_in, faults_in, most_batch, most_sessions, most_workers, number_or, program, verb_word}
 
 program_is_simple : is_simple program ≡ true
 program_is_simple = refl
@@ -119,17 +120,28 @@ command_filled words name rows taken is =
     let rows_are : names.rows ≡ rows = ap (λ o. unwrap_or (option_map (λ (p : Text × List Row). p.1) o) rows) (sym names.is ∙ is) in
     subst IsFilled rows_are names.filled
 
--- and it is one of the three
+-- and give the path of a socket, where the command is to listen at one
+pub command_gives : (words : List Text) (name : Text) (rows : List Row) (verb : Verb) → IsTaken words → command_in words ≡ Some (name, rows)
+    → verb_word verb ≡ name → GivesSocket verb rows
+command_gives words name rows verb taken is named =
+    let names = taken_names words taken in
+    let both : command_in words ≡ Some (verb_word names.verb, names.rows) = names.is in
+    let verbs_are : names.verb ≡ verb = one_word names.verb verb (one_name (command_in words) _ _ names.rows rows both is ∙ sym named) in
+    let rows_are : names.rows ≡ rows = same_rows (command_in words) _ _ names.rows rows both is in
+    subst (λ v. GivesSocket v rows) verbs_are (subst (GivesSocket names.verb) rows_are names.gives)
+
+-- and it is one of the four
 pub command_verb : (words : List Text) (name : Text) (rows : List Row) → IsTaken words → command_in words ≡ Some (name, rows)
-    → (name ≡ codes "serve") ⊎ (name ≡ codes "check") ⊎ (name ≡ codes "list")
+    → (name ≡ codes "serve") ⊎ (name ≡ codes "socket") ⊎ (name ≡ codes "check") ⊎ (name ≡ codes "list")
 command_verb words name rows taken is =
     let names = taken_names words taken in
     go names.verb (ap (λ o. unwrap_or (option_map (λ (p : Text × List Row). p.0) o) name) (sym is ∙ names.is))
   where
-    go : (verb : Verb) → name ≡ verb_word verb → (name ≡ codes "serve") ⊎ (name ≡ codes "check") ⊎ (name ≡ codes "list")
+    go : (verb : Verb) → name ≡ verb_word verb → (name ≡ codes "serve") ⊎ (name ≡ codes "socket") ⊎ (name ≡ codes "check") ⊎ (name ≡ codes "list")
     go verbs.Serve same = inl same
-    go verbs.Check same = inr (inl same)
-    go verbs.List same = inr (inr same)
+    go verbs.Socket same = inr (inl same)
+    go verbs.Check same = inr (inr (inl same))
+    go verbs.List same = inr (inr (inr same))
 
 -- there is one
 pub some_command : (m : ArgMatches) (words : List Text) → IsTaken words → subcommand_rows_of m ≡ command_in words → has_subcommand m ≡ true
@@ -140,19 +152,22 @@ some_command m words taken is =
 -- ---- the line
 
 -- the numbers, as the rows give them
-pub numbers_are : (f : Found) (workers batch : ℕ) → IsNumberOf most_workers 4 (first_value f (codes "workers")) workers
-    → IsNumberOf most_batch 16 (first_value f (codes "batch")) batch
+pub numbers_are : (f : Found) (workers batch sessions : ℕ) → IsNumberOf most_workers 4 (first_value f (codes "workers")) workers
+    → IsNumberOf most_batch 16 (first_value f (codes "batch")) batch → IsNumberOf most_sessions 1 (first_value f (codes "sessions")) sessions
     → HaveNumbersInRange (rows_of f) × (workers ≡ number_or 4 (first_of (codes "workers") (rows_of f)))
-    × (batch ≡ number_or 16 (first_of (codes "batch") (rows_of f)))
-numbers_are f workers batch w b =
+    × (batch ≡ number_or 16 (first_of (codes "batch") (rows_of f))) × (sessions ≡ number_or 1 (first_of (codes "sessions") (rows_of f)))
+numbers_are f workers batch sessions w b s =
     let w_is = first_value-rows f (codes "workers") in
-    let b_is = first_value-rows f (codes "batch") in (
+    let b_is = first_value-rows f (codes "batch") in
+    let s_is = first_value-rows f (codes "sessions") in (
       record {
         workers = subst (λ o. IfSome o (IsNumberTo most_workers)) w_is w.numbered;
         batch = subst (λ o. IfSome o (IsNumberTo most_batch)) b_is b.numbered;
+        sessions = subst (λ o. IfSome o (IsNumberTo most_sessions)) s_is s.numbered;
       },
       w.value ∙ ap (number_or 4) w_is,
       b.value ∙ ap (number_or 16) b_is,
+      s.value ∙ ap (number_or 1) s_is,
     )
 
 -- and a fault of one of them
@@ -168,11 +183,22 @@ pub batch_fault : (f : Found) (fault : LineFault) → (fault ≡ Memory) ⊎ (¬
 batch_fault f fault (inl memory) = inl memory
 batch_fault f fault (inr bad) = inr (inl (λ numbered. bad (subst (λ o. IfSome o (IsNumberTo most_batch)) (sym (first_value-rows f (codes "batch"))) numbered.batch)))
 
--- the line names a file beside the device where the rows do
+pub sessions_fault : (f : Found) (fault : LineFault) → (fault ≡ Memory) ⊎ (¬ IfSome (first_value f (codes "sessions")) (IsNumberTo most_sessions))
+    → (fault ≡ Memory) ⊎ ((¬ HaveNumbersInRange (rows_of f)) ⊎ AreCrossed (rows_of f))
+sessions_fault f fault (inl memory) = inl memory
+sessions_fault f fault (inr bad) = inr (inl (λ numbered. bad (subst (λ o. IfSome o (IsNumberTo most_sessions)) (sym (first_value-rows f (codes "sessions"))) numbered.sessions)))
+
+-- an option that is given, as the line has it
 some_named : (o : Option (Bor Text)) (p : Option Text) → option_map (λ file. file.now) o ≡ p → is_some o ≡ is_some p
 some_named None p e = ap (λ o. is_some o) e
 some_named (Some file) p e = ap (λ o. is_some o) e
 
+-- the line names the socket's path where the rows give one
+pub names_socket : (verb : Verb) (rows : List Row) (listen : Option (Bor Text)) → GivesSocket verb rows
+    → option_map (λ path. path.now) listen ≡ first_of (codes "listen") rows → verb ≡ verbs.Socket → is_some listen ≡ true
+names_socket verb rows listen gives listen_is is = some_named listen (first_of (codes "listen") rows) listen_is ∙ gives is
+
+-- the line names a file beside the device where the rows do
 pub names_as : (rows : List Row) (line : Line) → Says line (parts_of line.verb rows) → names_both line ≡ names_both_of rows
 names_as rows line says =
     rw (says.device, some_named line.requests _ says.requests, some_named line.replies _ says.replies, some_named line.balances _ says.balances) refl

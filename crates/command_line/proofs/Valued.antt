@@ -1,5 +1,5 @@
 -- How the rows of a command are filled: those of the flags with their truth, each other with a value.
-use Rattle.std.proofs.Common.{◌≡◌, ◌==◌, ◌&&◌, ◌||◌, ◌∙◌, ℕ, Bool, cond, codes, true, false, refl, sym, ap, arith, subst, eqb-true, List, [], ◌∷◌, ◌++◌, length, true≢false, nat_lt, MatchOption, Option, Some, None, option_map}
+use Rattle.std.proofs.Common.{◌≡◌, ◌==◌, ◌&&◌, ◌||◌, ◌∙◌, ℕ, Bool, cond, codes, true, false, refl, sym, ap, arith, subst, eqb-true, List, [], ◌∷◌, ◌++◌, length, true≢false, nat_lt, MatchOption, Option, Some, None, is_some, option_map, unwrap_or}
 use Rattle.std.specs.Prelude.{find, option_and_then, slice_get}
 use Rattle.std.specs.List.{fold, list_all}
 use Rattle.std.specs.Option.{option_map_or}
@@ -12,7 +12,7 @@ use Rattle.clap.specs.Kinds.{range_kinds}
 use Rattle.clap.specs.Faults.{action_fault, repeat_fault, use_fault, values_fault}
 use Rattle.clap.specs.Takes.{is_given}
 use Rattle.clap.specs.Values.{bool_text, read_as}
-use Rattle.clap.specs.Walk.{Row, Rule, Text, action_of, at_row, default_rows, has_row, more_values, most_values, reading_by, row_text, stronger, used, used_as, values_or_missing, with_default, with_values, without}
+use Rattle.clap.specs.Walk.{Row, Rule, Text, action_of, at_row, default_rows, first_of, has_row, more_values, most_values, reading_by, row_text, stronger, used, used_as, values_or_missing, with_default, with_values, without}
 use Rattle.clap.specs.declared.builder.action.ArgAction.{ArgAction}
 use Rattle.clap.specs.declared.builder.action.ArgAction.TheVariants as action
 use Rattle.clap.specs.declared.builder.value_parser.Reading.{Reading}
@@ -264,6 +264,17 @@ given_value id other (Some r) passes given = go r.values value
     go : (vs : List Text) → some_text vs ≡ true → (first : Text) × (rest : List Text) × (Some vs ≡ Some (first ∷ rest))
     go [] e = absurd (true≢false (sym e))
     go (v ∷ vs) e = (v, vs, refl)
+
+first_value : (o : Option Row) (first : Text) (rest : List Text) → option_map (λ (r : Row). r.values) o ≡ Some (first ∷ rest)
+    → is_some (option_and_then (λ (r : Row). slice_get r.values 0) o) ≡ true
+first_value None first rest e = ap (λ o. is_some o) e
+first_value (Some r) first rest e = ap (λ o. is_some (slice_get (unwrap_or o []) 0)) e
+
+-- another option than a flag has a value, where it is given
+pub some_value : (id : Text) (rows : List Row) → names_flag id ≡ false → all_filled rows ≡ true → is_given id rows ≡ true → is_some (first_of id rows) ≡ true
+some_value id rows other filled given =
+    let value = given_value id other (find (λ r. bytes_eq r.id id) rows) (found_filled id rows filled) given in
+    first_value (find (λ r. bytes_eq r.id id) rows) value.0 value.1 value.2
 
 -- what a flag reads of its row is whether it was given
 abbrev ReadsFlag : Option Row → Type 0

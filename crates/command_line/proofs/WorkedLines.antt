@@ -8,7 +8,7 @@ use Rattle.clap.proofs.OnLiterals.{clap_on_literals}
 use Rattle.clap.proofs.WalkLemmas.{both}
 use Rattle.command_line.specs.declared.options.Verb.{Verb}
 use Rattle.command_line.specs.declared.options.Verb.TheVariants as verbs
-use Rattle.command_line.specs.CommandLine.{AreCrossed, IsCrossed, names_both_of, IsMisnumbered, IsNumberTo, HaveNumbersInRange, IsTaken, Parts, Says, command_in, faults_in, most_batch, most_workers, parts_of, verb_word}
+use Rattle.command_line.specs.CommandLine.{AreCrossed, IsCrossed, names_both_of, IsMisnumbered, IsNumberTo, HaveNumbersInRange, IsTaken, Parts, Says, command_in, faults_in, most_batch, most_sessions, most_workers, parts_of, verb_word}
 use Rattle.command_line.specs.LineExamples.{MisnumberedLines, ReadsAs, RefusedLines, TakenLines, words_of}
 use Rattle.command_line.proofs.Agreed.{one_name, one_word, same_rows}
 
@@ -56,7 +56,8 @@ given_passed most None e = tt
 given_passed most (Some text) e = number_passed most text e
 
 abbrev is_numbered : List Row → Bool
-is_numbered rows = passes most_workers (first_of (codes "workers") rows) && passes most_batch (first_of (codes "batch") rows)
+is_numbered rows = passes most_workers (first_of (codes "workers") rows)
+    && (passes most_batch (first_of (codes "batch") rows) && passes most_sessions (first_of (codes "sessions") rows))
 
 -- ---- what a text says, by the command that its words name and what its rows give
 
@@ -66,7 +67,12 @@ reads text verb rows parts taken command numbers apart are = record {
   taken = taken;
   numbered = λ bad.
       let tests = both (passes most_workers (first_of (codes "workers") rows)) _ numbers in
-      let numbered : HaveNumbersInRange rows = record { workers = given_passed most_workers _ tests.0; batch = given_passed most_batch _ tests.1 } in
+      let others = both (passes most_batch (first_of (codes "batch") rows)) _ tests.1 in
+      let numbered : HaveNumbersInRange rows = record {
+        workers = given_passed most_workers _ tests.0;
+        batch = given_passed most_batch _ others.0;
+        sessions = given_passed most_sessions _ others.1;
+      } in
       bad.wrong (subst HaveNumbersInRange (same_rows (command_in (words_of text)) _ _ rows bad.rows command bad.command) numbered);
   apart = λ bad. true≢false (sym (subst AreCrossed (same_rows (command_in (words_of text)) _ _ bad.rows rows bad.command command) bad.crossed) ∙ apart);
   says = λ line is.
@@ -89,7 +95,8 @@ misnumbers text verb rows taken command numbers = record {
   wrong = λ numbered.
       let workers = given_passes most_workers _ numbered.workers in
       let batch = given_passes most_batch _ numbered.batch in
-      let good : is_numbered rows ≡ true = rw (workers, batch) refl in
+      let sessions = given_passes most_sessions _ numbered.sessions in
+      let good : is_numbered rows ≡ true = rw (workers, batch, sessions) refl in
       true≢false (sym good ∙ numbers);
 }
 
@@ -118,6 +125,10 @@ taken_lines = record {
   option_between = reads (codes "serve f --batch 7 g") verbs.Serve (rows_in (codes "serve f --batch 7 g")) _ refl refl refl refl refl;
   after_dashes = reads (codes "check -- --help --strict") verbs.Check (rows_in (codes "check -- --help --strict")) _ refl refl refl refl refl;
   image_like_a_verb = reads (codes "list check") verbs.List (rows_in (codes "list check")) _ refl refl refl refl refl;
+  socket_one = reads (codes "socket --listen s f") verbs.Socket (rows_in (codes "socket --listen s f")) _ refl refl refl refl refl;
+  socket_options = reads (codes "socket --workers 2 --batch 3 --listen s --sessions 5 --lasting --strict f g") verbs.Socket
+      (rows_in (codes "socket --workers 2 --batch 3 --listen s --sessions 5 --lasting --strict f g")) _ refl refl refl refl refl;
+  most_sessions = reads (codes "socket f --sessions 65535 --listen=s") verbs.Socket (rows_in (codes "socket f --sessions 65535 --listen=s")) _ refl refl refl refl refl;
 }
 
 pub refused_lines : RefusedLines
@@ -143,6 +154,12 @@ refused_lines = record {
   requests_and_device = crosses (codes "serve --requests q --device a") verbs.Serve (rows_in (codes "serve --requests q --device a")) refl refl refl;
   replies_and_device = crosses (codes "serve --device --replies r a") verbs.Serve (rows_in (codes "serve --device --replies r a")) refl refl refl;
   balances_and_device = crosses (codes "serve a --device --balances b") verbs.Serve (rows_in (codes "serve a --device --balances b")) refl refl refl;
+  no_socket = refl;
+  no_image_at_socket = refl;
+  requests_of_socket = refl;
+  device_of_socket = refl;
+  sessions_of_serve = refl;
+  listen_of_list = refl;
   minus_apart = refl;
 }
 
@@ -153,6 +170,8 @@ misnumbered_lines = record {
   many_workers = misnumbers (codes "serve --workers 65 a") verbs.Serve (rows_in (codes "serve --workers 65 a")) refl refl refl;
   no_batch = misnumbers (codes "serve --batch 0 a") verbs.Serve (rows_in (codes "serve --batch 0 a")) refl refl refl;
   large_batch = misnumbers (codes "serve --batch 257 a") verbs.Serve (rows_in (codes "serve --batch 257 a")) refl refl refl;
+  no_sessions = misnumbers (codes "socket --listen s --sessions 0 a") verbs.Socket (rows_in (codes "socket --listen s --sessions 0 a")) refl refl refl;
+  many_sessions = misnumbers (codes "socket --listen s --sessions 65536 a") verbs.Socket (rows_in (codes "socket --listen s --sessions 65536 a")) refl refl refl;
   plus = misnumbers (codes "serve --workers +4 a") verbs.Serve (rows_in (codes "serve --workers +4 a")) refl refl refl;
   minus = misnumbers (codes "serve --workers=-4 a") verbs.Serve (rows_in (codes "serve --workers=-4 a")) refl refl refl;
   no_digits = misnumbers (codes "serve --batch= a") verbs.Serve (rows_in (codes "serve --batch= a")) refl refl refl;

@@ -1,13 +1,14 @@
 -- The command line: the program as `clap` sees it, and what the words after its name say.
-use Rattle.std.specs.Prelude.{◌≡◌, ◌⊎◌, ℕ, Bool, true, false, List, [], ◌∷◌, codes, is_some, ◌&&◌, ◌||◌}
+use Rattle.std.specs.Prelude.{◌≡◌, ◌⊎◌, ℕ, Bool, true, false, List, [], ◌∷◌, ◌++◌, codes, is_some, ◌&&◌, ◌||◌}
 use Rattle.std.specs.Prelude.{Option, Some, IfSome, MatchOption, option_map, unwrap_or}
 use Rattle.std.specs.Int.{IsInRange}
+use Rattle.std.specs.List.{fold}
 use Rattle.std.specs.Option.{option_map_or}
 use Rattle.std.specs.Str.Parse.{IsNumeral, digits_value}
 use Rattle.clap.specs.Lexer.{usize_max}
 use Rattle.clap.specs.Values.{bool_text}
 use Rattle.clap.specs.Walk.{Row, Rule, Text, all_of, first_of, one_of, texts}
-use Rattle.clap.specs.Simple.{App, new_app, new_rule, on_top, subcommand_of, with_subcommand}
+use Rattle.clap.specs.Simple.{App, new_app, new_rule, on_top, subcommand_of, with_rule, with_subcommand}
 use Rattle.clap.specs.Takes.{is_given}
 use Rattle.clap.specs.Kinds.{Kinds}
 use Rattle.clap.specs.Faults.{fault_of}
@@ -41,12 +42,32 @@ image_words = record (new_rule (codes "image")) {
 abbrev pub command_with : Text → List Rule → App
 command_with name rules = on_top (λ s. record s { rules = rules }) (new_app name)
 
+-- the command with these options and words more
+abbrev pub with_rules : App → List Rule → App
+with_rules = fold with_rule
+
+-- how requests are shared out
+abbrev pub plan_options : List Rule
+plan_options = value_option (codes "workers") ∷ value_option (codes "batch") ∷ []
+
+-- the images that are served, and what the client is told of them
+abbrev pub served_images : List Rule
+served_images = flag (codes "lasting") ∷ flag (codes "strict") ∷ image_words ∷ []
+
 -- the command `serve`
 abbrev pub serve_command : App
-serve_command = command_with (codes "serve") (
-    value_option (codes "workers") ∷ value_option (codes "batch") ∷ value_option (codes "requests")
-    ∷ value_option (codes "replies") ∷ value_option (codes "balances") ∷ flag (codes "device")
-    ∷ flag (codes "lasting") ∷ flag (codes "strict") ∷ image_words ∷ [])
+serve_command = command_with (codes "serve") (plan_options ++ (
+    value_option (codes "requests") ∷ value_option (codes "replies")
+    ∷ value_option (codes "balances") ∷ flag (codes "device") ∷ served_images))
+
+-- the option `--listen PATH`, which is not left out
+abbrev pub listen_option : Rule
+listen_option = record (value_option (codes "listen")) { required = true }
+
+-- the command `socket`
+abbrev pub socket_command : App
+socket_command = command_with (codes "socket") (plan_options ++ (
+    listen_option ∷ value_option (codes "sessions") ∷ served_images))
 
 -- a command over images, as `check` and `list`
 abbrev pub images_command : Text → App
@@ -57,9 +78,10 @@ abbrev pub top_command : App
 top_command = on_top (λ s. record s { no_binary_name = true; subcommand_required = true })
     (new_app (codes "strata"))
 
--- the program, with its three commands
+-- the program, with its four commands
 abbrev pub program : App
-program = with_subcommand (with_subcommand (with_subcommand top_command serve_command.top)
+program = with_subcommand (with_subcommand (with_subcommand
+    (with_subcommand top_command serve_command.top) socket_command.top)
     (images_command (codes "check")).top) (images_command (codes "list")).top
 
 -- what is wrong with the words, by the kinds of `clap`
@@ -76,12 +98,15 @@ IsTaken words = faults_in words ≡ []
 
 -- ---- numbers
 
--- the most workers, and the most requests of a batch
+-- the most workers, requests of a batch, and sessions
 abbrev pub most_workers : ℕ
 most_workers = 64
 
 abbrev pub most_batch : ℕ
 most_batch = 256
+
+abbrev pub most_sessions : ℕ
+most_sessions = 65535
 
 -- the text is a decimal number from 1 to `most`, in digits alone
 abbrev pub IsNumberTo : ℕ → Text → Type 0
@@ -100,12 +125,14 @@ pub record IsNumberOf (most default : ℕ) (given : Option Text) (number : ℕ) 
 pub record HaveNumbersInRange (rows : List Row) : Type 0 where
   pub workers : IfSome (first_of (codes "workers") rows) (IsNumberTo most_workers)
   pub batch : IfSome (first_of (codes "batch") rows) (IsNumberTo most_batch)
+  pub sessions : IfSome (first_of (codes "sessions") rows) (IsNumberTo most_sessions)
 
 -- ---- lines
 
 -- the word for a verb
 abbrev pub verb_word : Verb → Text
 verb_word verbs.Serve = codes "serve"
+verb_word verbs.Socket = codes "socket"
 verb_word verbs.Check = codes "check"
 verb_word verbs.List = codes "list"
 
@@ -120,6 +147,8 @@ pub record Parts : Type 0 where
   pub requests : Option Text
   pub replies : Option Text
   pub balances : Option Text
+  pub listen : Option Text
+  pub sessions : ℕ
   pub images : List Text
 
 -- what the rows of a command give: whether there is each flag, the first value of each option or
@@ -135,6 +164,8 @@ parts_of verb rows = record {
   requests = first_of (codes "requests") rows;
   replies = first_of (codes "replies") rows;
   balances = first_of (codes "balances") rows;
+  listen = first_of (codes "listen") rows;
+  sessions = number_or 1 (first_of (codes "sessions") rows);
   images = unwrap_or (all_of (codes "image") rows) [];
 }
 
@@ -149,6 +180,8 @@ pub record Says (line : Line) (parts : Parts) : Type 0 where
   pub requests : option_map (λ file. file.now) line.requests ≡ parts.requests
   pub replies : option_map (λ file. file.now) line.replies ≡ parts.replies
   pub balances : option_map (λ file. file.now) line.balances ≡ parts.balances
+  pub listen : option_map (λ path. path.now) line.listen ≡ parts.listen
+  pub sessions : line.sessions ≡ parts.sessions
   pub images : texts line.images.items ≡ parts.images
 
 -- a line has the device, and names a file in place of one of its ends or for the balances
@@ -183,6 +216,15 @@ pub record IsLineOf (words : List Text) (line : Line) : Type 0 where
 pub record IsInLimits (line : Line) : Type 0 where
   pub workers : IsInRange 1 most_workers line.workers
   pub batch : IsInRange 1 most_batch line.batch
+  pub sessions : IsInRange 1 most_sessions line.sessions
+
+-- a line of the command `socket` has the path of the socket
+abbrev pub NamesSocket : Line → Type 0
+NamesSocket line = line.verb ≡ verbs.Socket → is_some line.listen ≡ true
+
+-- the rows of the command `socket` give it
+abbrev pub GivesSocket : Verb → List Row → Type 0
+GivesSocket verb rows = verb ≡ verbs.Socket → is_some (first_of (codes "listen") rows) ≡ true
 
 -- the words are a command of the program, but for a number that is none, or is out of its range
 pub record IsMisnumbered (words : List Text) : Type 0 where

@@ -29,8 +29,14 @@ plain verb images = record {
   requests = None;
   replies = None;
   balances = None;
+  listen = None;
+  sessions = 1;
   images = words_of images;
 }
+
+-- a line of the command `socket` with the path of a socket and no other option
+abbrev pub at_socket : Text → Text → Parts
+at_socket path images = record (plain verbs.Socket images) { listen = Some path }
 
 -- the words are a command with numbers in their ranges and no file beside the device, and each line
 -- of them says this
@@ -66,8 +72,22 @@ pub record TakenLines : Type 0 where
         requests = Some (codes "q");
         replies = Some (codes "r");
         balances = Some (codes "b");
+        listen = None;
+        sessions = 1;
         images = codes "f" ∷ [];
       })
+  pub socket_one : ReadsAs (codes "socket --listen s f") (at_socket (codes "s") (codes "f"))
+  pub socket_options : ReadsAs
+      (codes "socket --workers 2 --batch 3 --listen s --sessions 5 --lasting --strict f g")
+      (record (at_socket (codes "s") (codes "f g")) {
+        strict = true;
+        lasting = true;
+        workers = 2;
+        batch = 3;
+        sessions = 5;
+      })
+  pub most_sessions : ReadsAs (codes "socket f --sessions 65535 --listen=s")
+      (record (at_socket (codes "s") (codes "f")) { sessions = 65535 })
   pub attached : ReadsAs (codes "serve --workers=5 --requests=q f")
       (record (plain verbs.Serve (codes "f")) { workers = 5; requests = Some (codes "q") })
   pub least_numbers : ReadsAs (codes "serve --workers 1 --batch 1 f")
@@ -111,6 +131,13 @@ pub record RefusedLines : Type 0 where
   pub requests_and_device : IsCrossed (words_of (codes "serve --requests q --device a"))
   pub replies_and_device : IsCrossed (words_of (codes "serve --device --replies r a"))
   pub balances_and_device : IsCrossed (words_of (codes "serve a --device --balances b"))
+  pub no_socket : HasOneFault (codes "socket a") kind.MissingRequiredArgument
+  pub no_image_at_socket : HasOneFault (codes "socket --listen s") kind.MissingRequiredArgument
+  pub requests_of_socket :
+      HasOneFault (codes "socket --requests q --listen s a") kind.UnknownArgument
+  pub device_of_socket : HasOneFault (codes "socket --device --listen s a") kind.UnknownArgument
+  pub sessions_of_serve : HasOneFault (codes "serve --sessions 2 a") kind.UnknownArgument
+  pub listen_of_list : HasOneFault (codes "list --listen s a") kind.UnknownArgument
   pub minus_apart : HasOneFault (codes "serve --workers -4 a") kind.UnknownArgument
 
 -- words that are a command but for a number
@@ -119,6 +146,8 @@ pub record MisnumberedLines : Type 0 where
   pub many_workers : IsMisnumbered (words_of (codes "serve --workers 65 a"))
   pub no_batch : IsMisnumbered (words_of (codes "serve --batch 0 a"))
   pub large_batch : IsMisnumbered (words_of (codes "serve --batch 257 a"))
+  pub no_sessions : IsMisnumbered (words_of (codes "socket --listen s --sessions 0 a"))
+  pub many_sessions : IsMisnumbered (words_of (codes "socket --listen s --sessions 65536 a"))
   pub plus : IsMisnumbered (words_of (codes "serve --workers +4 a"))
   pub minus : IsMisnumbered (words_of (codes "serve --workers=-4 a"))
   pub no_digits : IsMisnumbered (words_of (codes "serve --batch= a"))

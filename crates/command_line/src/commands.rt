@@ -3,7 +3,9 @@
 ghost use Rattle.std.specs.Prelude.{◌≡◌, codes, false, IfOk};
 ghost use Rattle.clap.specs.Words.{app_of, rule_of};
 ghost use Rattle.command_line.specs.CommandLine.{images_command, program, serve_command};
-ghost use Rattle.command_line.specs.CommandLine.{flag, image_words, value_option};
+ghost use Rattle.command_line.specs.CommandLine.{socket_command, plan_options, served_images};
+ghost use Rattle.command_line.specs.CommandLine.{flag, image_words, listen_option, value_option};
+ghost use Rattle.command_line.specs.CommandLine.{with_rules};
 
 use clap::{Arg, ArgAction, Command};
 use std::alloc::{AllocError, Global};
@@ -18,6 +20,7 @@ pub(crate) fn program<'a>(alloc: Global) -> Result<Command<'a>, AllocError>
         .about("Serves stacked romfs images by the FUSE protocol")
         .subcommand_required(true)
         .subcommand(serve(alloc)?)?
+        .subcommand(socket(alloc)?)?
         .subcommand(over_images(alloc, "check", "Checks images, and prints their sizes")?)?
         .subcommand(over_images(
             alloc,
@@ -29,20 +32,10 @@ pub(crate) fn program<'a>(alloc: Global) -> Result<Command<'a>, AllocError>
 fn serve<'a>(alloc: Global) -> Result<Command<'a>, AllocError>
     ensures { IfOk result (λ command. app_of command ≡ serve_command) }
 {
-    Command::new(alloc, "serve")
-        .about("Answers FUSE requests over the stacked images")
-        .arg(option(
-            alloc,
-            "workers",
-            "N",
-            "At most N workers, from 1 to 64 [default: 4]",
-        ))?
-        .arg(option(
-            alloc,
-            "batch",
-            "N",
-            "At most N requests a batch, from 1 to 256 [default: 16]",
-        ))?
+    let command = Command::new(alloc, "serve").about(
+        "Answers FUSE requests over the stacked images",
+    );
+    let command = with_plan(alloc, command)?
         .arg(option(
             alloc,
             "requests",
@@ -65,7 +58,49 @@ fn serve<'a>(alloc: Global) -> Result<Command<'a>, AllocError>
             alloc,
             "device",
             "Standard input and output are one open /dev/fuse",
+        ))?;
+    with_served_images(alloc, command)
+}
+
+fn socket<'a>(alloc: Global) -> Result<Command<'a>, AllocError>
+    ensures { IfOk result (λ command. app_of command ≡ socket_command) }
+{
+    let command = Command::new(alloc, "socket").about(
+        "Answers FUSE requests of one client after another at a Unix socket",
+    );
+    let command = with_plan(alloc, command)?.arg(listen(alloc))?.arg(option(
+        alloc,
+        "sessions",
+        "N",
+        "How many sessions are served, one after another, from 1 to 65535 [default: 1]",
+    ))?;
+    with_served_images(alloc, command)
+}
+
+// The command with the options that say how requests are shared out.
+fn with_plan<'a>(alloc: Global, command: Command<'a>) -> Result<Command<'a>, AllocError>
+    ensures { IfOk result (λ more. app_of more ≡ with_rules (app_of command.entry) plan_options) }
+{
+    command
+        .arg(option(
+            alloc,
+            "workers",
+            "N",
+            "At most N workers, from 1 to 64 [default: 4]",
         ))?
+        .arg(option(
+            alloc,
+            "batch",
+            "N",
+            "At most N requests a batch, from 1 to 256 [default: 16]",
+        ))
+}
+
+// The command with the images that are served, and what the client is told of them.
+fn with_served_images<'a>(alloc: Global, command: Command<'a>) -> Result<Command<'a>, AllocError>
+    ensures { IfOk result (λ more. app_of more ≡ with_rules (app_of command.entry) served_images) }
+{
+    command
         .arg(flag(
             alloc,
             "lasting",
@@ -94,6 +129,13 @@ fn option<'a>(alloc: Global, name: &'a str, value: &'a str, help: &'a str) -> Ar
         .long(name)
         .value_name(value)
         .help(help)
+}
+
+fn listen<'a>(alloc: Global) -> Arg<'a>
+    ensures rule { rule_of result ≡ listen_option }
+    ensures local { result.global ≡ false }
+{
+    option(alloc, "listen", "PATH", "Where the socket is made").required(true)
 }
 
 fn strict<'a>(alloc: Global) -> Arg<'a>

@@ -10,6 +10,8 @@ use std::alloc::{AllocError, AllocFailed};
 pub enum Verb {
     /// To answer requests over the images.
     Serve,
+    /// To answer the requests of one client after another at a socket.
+    Socket,
     /// To check the images.
     Check,
     /// To list the paths that the images show.
@@ -38,6 +40,10 @@ pub struct Line<'a> {
     pub replies: Option<&'a str>,
     /// The file that the nodes' balances of look-ups are written to.
     pub balances: Option<&'a str>,
+    /// The path that the socket is made at. The verb `Socket` has one.
+    pub listen: Option<&'a str>,
+    /// So many sessions are served, one after another, from 1 to 65,535. The default is 1.
+    pub sessions: u32,
     /// The files of the images, one or more, the lowest layer first.
     pub images: Vec<&'a str>,
 }

@@ -8,7 +8,7 @@ ghost use Rattle.std.specs.Int.{IsInRange};
 ghost use Rattle.clap.specs.Words.{first_value, found_of, kind_of, rows_of, subcommand_rows_of};
 ghost use Rattle.command_line.specs.CommandLine.{IsLineFault, IsLineOf, IsTaken, command_in};
 ghost use Rattle.command_line.specs.CommandLine.{HoldsRows, IsFilled, IsInLimits, names_both, verb_word};
-ghost use Rattle.command_line.specs.CommandLine.{AreCrossed};
+ghost use Rattle.command_line.specs.CommandLine.{AreCrossed, GivesSocket, NamesSocket};
 ghost use Rattle.command_line.specs.CommandLine.{IsNumberOf, IsNumberTo, HaveNumbersInRange};
 ghost use Rattle.command_line.specs.declared.options.LineFault.TheVariants.{Memory};
 
@@ -30,6 +30,10 @@ const DEFAULT_BATCH: u32 = 16;
 
 const MOST_BATCH: u32 = 256;
 
+const DEFAULT_SESSIONS: u32 = 1;
+
+const MOST_SESSIONS: u32 = 65_535;
+
 /// The words of the command line after the program's name. All of them are text, or it is a `Usage`
 /// fault.
 pub fn words<R: Env + AllocGlobal>(rt: &R) -> Result<Vec<String>, LineFault> {
@@ -43,7 +47,8 @@ pub fn words<R: Env + AllocGlobal>(rt: &R) -> Result<Vec<String>, LineFault> {
 
 /// Reads the words after the program's name: the line has their verb, the flag, the first value of
 /// each option or else its default, and all images in order. A number is decimal, in digits alone,
-/// from 1 to 64 (`--workers`) or 256 (`--batch`).
+/// from 1 to 64 (`--workers`), 256 (`--batch`) or 65,535 (`--sessions`). Of the verb `socket` it
+/// has the path of the socket.
 ///
 /// It is `Usage` only where the words are no command of the program, as where they ask for help,
 /// where they give another number, or where they name a file beside the device.
@@ -51,6 +56,7 @@ pub fn line<'a, S: AsStr>(alloc: Global, words: &'a [S]) -> Result<Line<'a>, Lin
     ensures ok { IfOk result (λ line. IsLineOf (map S.text words.now) line) }
     ensures limits { IfOk result (λ line. IsInLimits line) }
     ensures some_image { IfOk result (λ line. 1 ≤ vec_len line.images) }
+    ensures socket { IfOk result (λ line. NamesSocket line) }
     ensures err { IfErr result (λ fault. IsLineFault (map S.text words.now) fault) }
 {
     let matches = matches_of(alloc, words)?;
@@ -73,12 +79,13 @@ fn matches_of<'a, S: AsStr>(alloc: Global, words: &'a [S]) -> Result<ArgMatches<
 
 // The verb of a command's name.
 fn verb_of(name: &str) -> Verb
-    requires { (name.now ≡ codes "serve") ⊎ (name.now ≡ codes "check")
-        ⊎ (name.now ≡ codes "list") }
+    requires { (name.now ≡ codes "serve") ⊎ (name.now ≡ codes "socket")
+        ⊎ (name.now ≡ codes "check") ⊎ (name.now ≡ codes "list") }
     ensures { verb_word result ≡ name.now }
 {
     match name {
         "serve" => Verb::Serve,
+        "socket" => Verb::Socket,
         "check" => Verb::Check,
         "list" => Verb::List,
         _ => unreachable!(),
@@ -87,17 +94,20 @@ fn verb_of(name: &str) -> Verb
 
 // The line of a command that was found.
 fn line_of<'a>(alloc: Global, verb: Verb, found: &ArgMatches<'a>) -> Result<Line<'a>, LineFault>
-    requires { IsFilled (rows_of (found_of found.now)) }
+    requires filled { IsFilled (rows_of (found_of found.now)) }
+    requires socket { GivesSocket verb (rows_of (found_of found.now)) }
     ensures verb { IfOk result (λ line. line.verb ≡ verb) }
     ensures holds { IfOk result (λ line. HoldsRows (rows_of (found_of found.now)) line) }
     ensures limits { IfOk result (λ line. IsInLimits line) }
     ensures some_image { IfOk result (λ line. 1 ≤ vec_len line.images) }
+    ensures socket { IfOk result (λ line. NamesSocket line) }
     ensures err { IfErr result (λ fault. (fault ≡ Memory)
         ⊎ ((¬ HaveNumbersInRange (rows_of (found_of found.now)))
         ⊎ AreCrossed (rows_of (found_of found.now)))) }
 {
     let workers = number_of(alloc, found, "workers", DEFAULT_WORKERS, MOST_WORKERS)?;
     let batch = number_of(alloc, found, "batch", DEFAULT_BATCH, MOST_BATCH)?;
+    let sessions = number_of(alloc, found, "sessions", DEFAULT_SESSIONS, MOST_SESSIONS)?;
     let images = found.get_strs("image").unwrap().to_vec(alloc)?;
     let line = Line {
         verb,
@@ -109,6 +119,8 @@ fn line_of<'a>(alloc: Global, verb: Verb, found: &ArgMatches<'a>) -> Result<Line
         requests: found.get_str("requests"),
         replies: found.get_str("replies"),
         balances: found.get_str("balances"),
+        listen: found.get_str("listen"),
+        sessions,
         images,
     };
     match named_beside_device(&line) {

@@ -1,3 +1,3 @@
-//! `strata`: the program, and its command line.
+//! `strata`: the program, its command line, and sessions at a socket.
 
-pub use strata::{Fault, Line, LineFault, command, line};
+pub use strata::{Fault, Line, LineFault, command, line, sessions, sessions_from};

@@ -5,6 +5,7 @@ use devices::{Spout, Tap};
 use std::alloc::Global;
 use std::fs::{self, Files};
 use std::io::{self, Error, ErrorKind, Read, Write};
+use std::net::Net;
 use std::test::Fail;
 use std::thread::Threads;
 use strata::command;
@@ -51,7 +52,7 @@ impl Write for Full {
 }
 
 /// Whether the program over these streams ends with status 1 and this line.
-fn is_told<R: Files + Threads + Sync, I: Read + Drop, O: Write + Drop>(
+fn is_told<R: Files + Net + Threads + Sync, I: Read + Drop, O: Write + Drop>(
     rt: &R,
     alloc: Global,
     words: &[&str],

@@ -1,12 +1,15 @@
 //! The tests of the program over devices that fail and memory that is refused, which no command
-//! line can bring about.
+//! line can bring about, and of sessions at a socket.
 //!
+//! - `clients`: clients of a socket that are served, are gone, or can't be accepted.
 //! - `failing`: readers and writers that fail.
 //! - `memory`: each request for memory is refused in turn.
 //!
 //! What they share: `program`, which names files of the test's own.
 #![tactic(auto)]
 
+#[cfg(test)]
+mod clients;
 #[cfg(test)]
 mod failing;
 #[cfg(test)]

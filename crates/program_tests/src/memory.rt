@@ -4,6 +4,7 @@ use crate::program::{file_path, image_file};
 use devices::{Spout, Tap};
 use std::alloc::{Allocator, Global};
 use std::fs::{self, Files};
+use std::net::Net;
 use std::test::Fail;
 use std::thread::Threads;
 use strata::command;
@@ -12,7 +13,7 @@ use test_kit::refusing::refuse_each;
 
 /// The status of the program over two requests, in memory of `alloc`, and what it wrote to its
 /// output and to standard error.
-fn run_in<R: Files + Threads + Sync, A: Allocator + Copy + Send + Sync>(
+fn run_in<R: Files + Net + Threads + Sync, A: Allocator + Copy + Send + Sync>(
     rt: &R,
     global: Global,
     alloc: A,
@@ -38,7 +39,7 @@ where
 
 /// How many requests for memory a run makes, each of which is refused once and told, with some of
 /// the first bytes of the output written.
-fn told_refusals<R: Files + Threads + Sync>(
+fn told_refusals<R: Files + Net + Threads + Sync>(
     rt: &R,
     global: Global,
     words: &[&str],

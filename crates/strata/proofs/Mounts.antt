@@ -1,10 +1,11 @@
 -- How a run over an open /dev/fuse ends, by how its last step ended: done, or stopped with a fault, which either says that
 -- the mount was taken away or not.
-use Rattle.std.proofs.Common.{◌≡◌, ◌∙◌, sym, ap, subst, refl, ℕ, Bool, true, false, inl, inr, List, if◌then◌else◌}
+use Rattle.std.proofs.Common.{◌≡◌, ◌∙◌, sym, ap, subst, refl, ℕ, Bool, true, false, inl, inr, List, Option, Some, None, if◌then◌else◌}
 use Rattle.devices.specs.States.{Devices}
 use Rattle.strata.specs.declared.faults.Fault.{Fault}
 use Rattle.strata.specs.Faults.{status_of}
-use Rattle.strata.specs.Ending.{IsDone, EndsInFault, EndsWith}
+use Rattle.strata.specs.Sessions.{status_at}
+use Rattle.strata.specs.Ending.{IsDone, EndsInFault, EndsWith, IsOfSessions, IsOver, IsOverWith}
 use Rattle.strata.specs.Mounts.{is_taken_away, status_on_device, StopsWhere, IsRunOnDevice}
 use Rattle.strata.proofs.Ended.{fault_status}
 use Rattle.strata.proofs.Statuses.{ends_for_words, zero_is_other}
@@ -35,3 +36,15 @@ module _ (A : Type 0) (words : List (List ℕ)) (input output : Bool) (old new :
 
     pub has_stopped_there : IsRunOnDevice A words input output status old new
     has_stopped_there = by_whether (is_taken_away fault input output) refl
+
+  -- no fault of sessions says that the mount was taken away
+  told_there : (fault : Fault) → IsOfSessions fault → status_on_device fault input output ≡ status_of fault
+  told_there fault (inl e) = subst (λ f. status_on_device f input output ≡ status_of f) (sym e) refl
+  told_there fault (inr s) = subst (λ f. status_on_device f input output ≡ status_of f) (sym s.2) refl
+
+  pub has_ended_there : (status : ℕ) → IsOverWith A words status old new → IsRunOnDevice A words input output status old new
+  has_ended_there status r = go r.fault r.status_is r.over
+    where
+      go : (fault : Option Fault) → status ≡ status_at fault → IsOver A words fault old new → IsRunOnDevice A words input output status old new
+      go None e d = subst (λ n. IsRunOnDevice A words input output n old new) (sym e) (has_done_there d)
+      go (Some fault) e s = has_stopped_there status fault s.1 (e ∙ sym (told_there fault s.0))

@@ -1,5 +1,5 @@
 -- What the exit statuses of the program mean.
-use Rattle.std.proofs.Common.{◌≡◌, ◌≢◌, ◌∙◌, sym, ap, subst, ℕ, ◌≤◌, ◌⊎◌, inl, inr, List, All, Err, refl, arith}
+use Rattle.std.proofs.Common.{◌≡◌, ◌≢◌, ◌∙◌, sym, ap, subst, ℕ, ◌≤◌, ◌⊎◌, inl, inr, List, All, Option, Some, None, Err, refl, arith}
 use Rattle.romfs_format.specs.declared.rule.Profile.{Profile}
 use Rattle.romfs_format.specs.Rules.{IsSoundAs}
 use Rattle.serve_loop.specs.declared.stop.Stop.{Stop}
@@ -12,17 +12,20 @@ use Rattle.command_line.specs.declared.options.Verb.TheVariants as verbs
 use Rattle.command_line.specs.CommandLine.{IsTaken, IsMisnumbered, IsCrossed, IsLineFault}
 use Rattle.reply_model.specs.declared.session.Session.{Session}
 use Rattle.serve_core.specs.Preparing.{AreRefused}
+use Rattle.node_table.specs.Stacked.{Stacked}
 use Rattle.devices.specs.States.{Devices}
 use Rattle.serve_loop.specs.Serving.{Trace}
 use Rattle.serve_core.specs.Headline.{Serves}
 use Rattle.serve_core.proofs.Headline.{many_refused, broken_refused}
 use Rattle.serve_core.proofs.Refusals.{not_few, none_broken}
 use Rattle.strata.specs.declared.faults.Fault.{Fault}
-use Rattle.strata.specs.declared.faults.Fault.TheVariants.{Usage, ImageFile, RequestsFile, RepliesFile, BalancesFile, Broken, Stopped}
+use Rattle.strata.specs.declared.faults.Fault.TheVariants.{Usage, ImageFile, RequestsFile, RepliesFile, BalancesFile, Bind, Accept, Broken, InSession, Stopped}
 use Rattle.strata.specs.Faults.{status_of, stop_status, out_of_memory, line_told_of}
-use Rattle.strata.specs.Ending.{profile_of, IsStoppedOver, IsDone, EndsInFault, EndsWith, IsRunOf}
+use Rattle.strata.specs.Ending.{profile_of, first_of, IsStoppedOver, IsDone, EndsInFault, EndsWith, IsOver, IsOverWith, IsRunOf}
 use Rattle.strata.specs.Laws.{AreBad, AreToBlame}
+use Rattle.strata.specs.Sessions.{IsSession, status_at}
 use Rattle.strata.proofs.Ended.{fault_status}
+use Rattle.strata.proofs.InTurn.{of_sessions}
 
 IsStatus : ℕ → Type 0
 IsStatus n = (1 ≤ n) × (n ≤ 5)
@@ -45,7 +48,10 @@ fault_range (ImageFile image) = (omega arith, omega arith)
 fault_range RequestsFile = (omega arith, omega arith)
 fault_range RepliesFile = (omega arith, omega arith)
 fault_range BalancesFile = (omega arith, omega arith)
+fault_range Bind = (omega arith, omega arith)
+fault_range Accept = (omega arith, omega arith)
 fault_range (Broken image fault) = (omega arith, omega arith)
+fault_range (InSession session stop) = stop_range stop
 fault_range (Stopped stop) = stop_range stop
 
 pub ends_in_range : (A : Type 0) (words : List (List ℕ)) (n : ℕ) (old new : Devices) → EndsWith A words n old new → (1 ≤ n) × (n ≤ 5)
@@ -93,6 +99,15 @@ work_other A verbs.Serve line images fault old new s =
         | inr w ↦ told_as fault out_of_memory w five_is_other
       ]
     ]
+work_other A verbs.Socket line images fault old new s =
+    elim s.1 [
+      | inl r ↦ told_as fault (Stopped r.stop) r.told (stop_other r.stop)
+      | inr (inl b) ↦ told_as fault Bind b.told one_is_other
+      | inr (inr served) ↦ elim (of_sessions {A = A} line.sessions fault served.served) [
+        | inl accept ↦ told_as fault Accept accept one_is_other
+        | inr s ↦ told_as fault (InSession s.0 s.1) s.2 (stop_other s.1)
+      ]
+    ]
 work_other A verbs.Check line images fault old new s =
     elim s.1 [
       | inl g ↦ elim g.0 [
@@ -106,7 +121,7 @@ work_other A verbs.Check line images fault old new s =
     ]
 work_other A verbs.List line images fault old new s =
     elim s.1 [
-      | inl r ↦ told_as fault (Stopped r.stop) r.told (stop_other r.stop)
+      | inl r ↦ told_as fault (Stopped r.0.stop) r.0.told (stop_other r.0.stop)
       | inr l ↦ told_as fault (Stopped stops.Write) l.told one_is_other
     ]
 
@@ -165,6 +180,17 @@ served_bad profile images turns t stops.Read s e = absurd (one_is_less e)
 served_bad profile images turns t stops.Write s e = absurd (one_is_less e)
 served_bad profile images turns t stops.Turns s e = absurd (four_is_more e)
 
+-- no session is stopped for images
+session_less : {A : Type 0} (first : Session) (stack : Stacked) (t : Trace) (stop : Stop) → IsSession {A = A} first stack t (Err stop) → stop_status stop ≢ 3
+session_less first stack t (stops.Layers count) s e = absurd s.run.end
+session_less first stack t (stops.Layer layer fault) s e = absurd s.run.end
+session_less first stack t stops.Memory s e = five_is_more e
+session_less first stack t (stops.BadLength at len) s e = four_is_more e
+session_less first stack t (stops.CutOff at) s e = four_is_more e
+session_less first stack t stops.Read s e = one_is_less e
+session_less first stack t stops.Write s e = one_is_less e
+session_less first stack t stops.Turns s e = four_is_more e
+
 work_bad : (A : Type 0) (verb : Verb) (line : Line) (images : List (List ℕ)) (fault : Fault) (old new : Devices) → IsStoppedOver A verb line images fault old new → status_of fault ≡ 3 → AreBad (profile_of line) images
 work_bad A verbs.Serve line images fault old new s e =
     elim s [
@@ -177,6 +203,15 @@ work_bad A verbs.Serve line images fault old new s e =
       | inr (inr b) ↦ elim b.told [
         | inl w ↦ absurd (one_is_less (three_of fault (Stopped stops.Write) w e))
         | inr w ↦ absurd (five_is_more (three_of fault out_of_memory w e))
+      ]
+    ]
+work_bad A verbs.Socket line images fault old new s e =
+    elim s.1 [
+      | inl r ↦ refused_bad (profile_of line) images r.stop r.refused (three_of fault (Stopped r.stop) r.told e)
+      | inr (inl b) ↦ absurd (one_is_less (three_of fault Bind b.told e))
+      | inr (inr served) ↦ elim (of_sessions {A = A} line.sessions fault served.served) [
+        | inl accept ↦ absurd (one_is_less (three_of fault Accept accept e))
+        | inr s ↦ absurd (session_less (first_of line) served.stack s.3 s.1 s.4 (three_of fault (InSession s.0 s.1) s.2 e))
       ]
     ]
 work_bad A verbs.Check line images fault old new s e =
@@ -192,7 +227,7 @@ work_bad A verbs.Check line images fault old new s e =
     ]
 work_bad A verbs.List line images fault old new s e =
     elim s.1 [
-      | inl r ↦ refused_bad (profile_of line) images r.stop r.refused (three_of fault (Stopped r.stop) r.told e)
+      | inl r ↦ refused_bad (profile_of line) images r.0.stop r.0.refused (three_of fault (Stopped r.0.stop) r.0.told e)
       | inr l ↦ absurd (one_is_less (three_of fault (Stopped stops.Write) l.told e))
     ]
 
@@ -231,3 +266,11 @@ has_stopped A words status fault old new s e =
       stopped = λ _. ends;
       untouched = λ two. (ends_for_words A words old new (subst (λ n. EndsWith A words n old new) two ends)).1;
     }
+
+-- where it did all its steps, by what its sessions end with
+pub has_ended : (A : Type 0) (words : List (List ℕ)) (status : ℕ) (old new : Devices) → IsOverWith A words status old new → IsRunOf A words status old new
+has_ended A words status old new r = go r.fault r.status_is r.over
+  where
+    go : (fault : Option Fault) → status ≡ status_at fault → IsOver A words fault old new → IsRunOf A words status old new
+    go None e d = subst (λ n. IsRunOf A words n old new) (sym e) (has_done A words old new d)
+    go (Some fault) e s = has_stopped A words status fault old new s.1 e

@@ -1,5 +1,5 @@
 -- What a command leaves behind: its status, and what its output gained.
-use Rattle.std.specs.Prelude.{◌≡◌, ◌≢◌, ◌<◌, ◌≤◌, ◌+◌, ◌^◌, ◌⊎◌, ◌||◌, ℕ, List, true, Option, None, is_some, length, vec_len, Result, Ok, Err, OnOk, if◌then◌else◌}
+use Rattle.std.specs.Prelude.{◌≡◌, ◌≢◌, ◌<◌, ◌+◌, ◌⊎◌, ◌||◌, ℕ, List, true, Option, Some, None, is_some, length, vec_len, Result, Ok, Err, OnOk, if◌then◌else◌}
 use Rattle.std.specs.Io.KnownBytes.{Appends, Consumes, IsAtEnd}
 use Rattle.romfs_format.specs.declared.rule.Profile.{Profile}
 use Rattle.romfs_format.specs.declared.rule.Profile.TheVariants.{Usual, Strict}
@@ -22,9 +22,10 @@ use Rattle.command_line.specs.declared.options.Verb.{Verb}
 use Rattle.command_line.specs.declared.options.Verb.TheVariants as verbs
 use Rattle.command_line.specs.CommandLine.{IsLineOf, IsLineFault}
 use Rattle.strata.specs.declared.faults.Fault.{Fault}
-use Rattle.strata.specs.declared.faults.Fault.TheVariants.{ImageFile, RequestsFile, RepliesFile, BalancesFile, Stopped}
+use Rattle.strata.specs.declared.faults.Fault.TheVariants.{ImageFile, RequestsFile, RepliesFile, BalancesFile, Bind, Accept, InSession, Stopped}
 use Rattle.strata.specs.Faults.{AreSizes, IsFirstFault, line_told_of, status_of, out_of_memory, write_failed}
 use Rattle.strata.specs.Texts.{size_lines}
+use Rattle.strata.specs.Sessions.{AreServed, status_at}
 
 -- the rules that a line holds images to
 abbrev pub profile_of : Line → Profile
@@ -82,18 +83,17 @@ pub record IsStackListed (profile : Profile) (images : List (List ℕ))
   pub stacked : AreStacked profile images stack
   pub listed : Lists stack old new
 
--- the images were not stacked, or memory ran out, and the output is as it was
-pub record IsRefused (profile : Profile) (images : List (List ℕ)) (fault : Fault)
-    (old new : SinkState) : Type 0 where
+-- why images are not stacked: one of them is to blame, or their number, or memory ran out
+pub record AreNotStacked (profile : Profile) (images : List (List ℕ))
+    (fault : Fault) : Type 0 where
   pub stop : Stop
   pub told : fault ≡ Stopped stop
   pub refused : AreRefused profile images stop
-  pub kept : new ≡ old
 
--- a list stopped so; or the output failed
+-- a list stopped: so, and the output is as it was; or the output failed
 abbrev pub IsNotListed : Profile → List (List ℕ) → Fault → SinkState → SinkState → Type 0
-IsNotListed profile images fault old new = IsRefused profile images fault old new
-    ⊎ IsLost fault old new
+IsNotListed profile images fault old new =
+    (AreNotStacked profile images fault × (new ≡ old)) ⊎ IsLost fault old new
 
 -- ---- serve
 
@@ -171,12 +171,43 @@ IsNotServed A line images fault old new =
     IsFileFault line fault old new
     ⊎ (IsServedInPart A line images fault old new ⊎ AreBalancesLost A line images fault old new)
 
--- ---- all three
+-- ---- socket
+
+-- the images are good, and sessions were served over their stack, which end with this fault, or
+-- with none
+pub record IsServedAtSocket (A : Type 0) (line : Line) (images : List (List ℕ))
+    (fault : Option Fault) : Type 0 where
+  pub stack : Stacked
+  pub stacked : AreStacked (profile_of line) images stack
+  pub served : AreServed A (first_of line) stack line.sessions fault
+
+-- and this is their status
+pub record EndsAtSocket (A : Type 0) (line : Line) (images : List (List ℕ))
+    (status : ℕ) : Type 0 where
+  pub fault : Option Fault
+  pub status_is : status ≡ status_at fault
+  pub served : IsServedAtSocket A line images fault
+
+-- the images are good, but the socket could not be bound
+pub record IsNotBound (line : Line) (images : List (List ℕ)) (fault : Fault) : Type 0 where
+  pub told : fault ≡ Bind
+  pub stack : Stacked
+  pub stacked : AreStacked (profile_of line) images stack
+
+-- why serving at a socket stopped
+abbrev pub IsNotServedAtSocket : (A : Type 0) → Line → List (List ℕ) → Fault → Type 0
+IsNotServedAtSocket A line images fault =
+    AreNotStacked (profile_of line) images fault
+    ⊎ (IsNotBound line images fault ⊎ IsServedAtSocket A line images (Some fault))
+
+-- ---- all four
 
 -- the work of a command over the images that were read: done, and stopped with a fault. Only serve
--- touches the input
+-- touches the input, and socket neither device
 abbrev pub IsDoneOver : (A : Type 0) → Verb → Line → List (List ℕ) → Devices → Devices → Type 0
 IsDoneOver A verbs.Serve line images old new = IsServedWhole A line images old new
+IsDoneOver A verbs.Socket line images old new =
+    (new ≡ old) × IsServedAtSocket A line images None
 IsDoneOver A verbs.Check line images old new =
     (new.source ≡ old.source) × AreGood (profile_of line) images old.sink new.sink
 IsDoneOver A verbs.List line images old new =
@@ -185,6 +216,8 @@ IsDoneOver A verbs.List line images old new =
 abbrev pub IsStoppedOver : (A : Type 0) → Verb → Line → List (List ℕ) → Fault → Devices → Devices
     → Type 0
 IsStoppedOver A verbs.Serve line images fault old new = IsNotServed A line images fault old new
+IsStoppedOver A verbs.Socket line images fault old new =
+    (new ≡ old) × IsNotServedAtSocket A line images fault
 IsStoppedOver A verbs.Check line images fault old new =
     (new.source ≡ old.source) × AreNotGood (profile_of line) images fault old.sink new.sink
 IsStoppedOver A verbs.List line images fault old new =
@@ -230,6 +263,23 @@ pub record IsEarly (words : List (List ℕ)) (fault : Fault) (old new : Devices)
 -- the program stopped with a fault, before its work or in it
 abbrev pub EndsInFault : (A : Type 0) → List (List ℕ) → Fault → Devices → Devices → Type 0
 EndsInFault A words fault old new = IsEarly words fault old new ⊎ IsDoneInPart A words fault old new
+
+-- the fault is one of sessions, which told it as it came
+abbrev pub IsOfSessions : Fault → Type 0
+IsOfSessions fault =
+    (fault ≡ Accept) ⊎ ((n : ℕ) × (stop : Stop) × (fault ≡ InSession n stop))
+
+-- the program did all its steps: what its words say, or what its sessions stopped for was told
+abbrev pub IsOver : (A : Type 0) → List (List ℕ) → Option Fault → Devices → Devices → Type 0
+IsOver A words None old new = IsDone A words old new
+IsOver A words (Some fault) old new = IsOfSessions fault × EndsInFault A words fault old new
+
+-- and this is its status
+pub record IsOverWith (A : Type 0) (words : List (List ℕ)) (status : ℕ)
+    (old new : Devices) : Type 0 where
+  pub fault : Option Fault
+  pub status_is : status ≡ status_at fault
+  pub over : IsOver A words fault old new
 
 -- the program stopped with this status
 pub record EndsWith (A : Type 0) (words : List (List ℕ)) (status : ℕ)

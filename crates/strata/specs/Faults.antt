@@ -11,7 +11,7 @@ use Rattle.command_line.specs.declared.options.LineFault.TheVariants as line
 use Rattle.path_list.specs.declared.walk.ListFault.{ListFault}
 use Rattle.path_list.specs.declared.walk.ListFault.TheVariants as list
 use Rattle.strata.specs.declared.faults.Fault.{Fault}
-use Rattle.strata.specs.declared.faults.Fault.TheVariants.{Usage, ImageFile, RequestsFile, RepliesFile, BalancesFile, Broken, Stopped}
+use Rattle.strata.specs.declared.faults.Fault.TheVariants.{Usage, ImageFile, RequestsFile, RepliesFile, BalancesFile, Bind, Accept, Broken, InSession, Stopped}
 
 -- the exit status where serving stopped: 1 for streams, 3 for images, 4 for requests, 5 for memory
 abbrev pub stop_status : Stop → ℕ
@@ -24,14 +24,17 @@ stop_status stops.Write = 1
 stop_status stops.Turns = 4
 stop_status stops.Memory = 5
 
--- the exit status of a fault: 1 for files, 2 for the command line, 3 for images
+-- the exit status of a fault: 1 for files and sockets, 2 for the command line, 3 for images
 abbrev pub status_of : Fault → ℕ
 status_of (Usage text) = 2
 status_of (ImageFile image) = 1
 status_of RequestsFile = 1
 status_of RepliesFile = 1
 status_of BalancesFile = 1
+status_of Bind = 1
+status_of Accept = 1
 status_of (Broken image fault) = 3
+status_of (InSession session stop) = stop_status stop
 status_of (Stopped stop) = stop_status stop
 
 abbrev pub out_of_memory : Fault

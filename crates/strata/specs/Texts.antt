@@ -6,7 +6,7 @@ use Rattle.romfs_format.specs.Texts.{text_of}
 use Rattle.serve_loop.specs.declared.stop.Stop.{Stop}
 use Rattle.serve_loop.specs.declared.stop.Stop.TheVariants.{Layer, Layers, BadLength, CutOff, Read, Write, Turns, Memory}
 use Rattle.strata.specs.declared.faults.Fault.{Fault}
-use Rattle.strata.specs.declared.faults.Fault.TheVariants.{Usage, ImageFile, RequestsFile, RepliesFile, BalancesFile, Broken, Stopped}
+use Rattle.strata.specs.declared.faults.Fault.TheVariants.{Usage, ImageFile, RequestsFile, RepliesFile, BalancesFile, Bind, Accept, Broken, InSession, Stopped}
 
 -- a place in an image as eight hexadecimal digits: zeros (48) and then its own
 abbrev pub place_text : ℕ → List ℕ
@@ -37,7 +37,11 @@ fault_text (ImageFile image) = codes "image " ++ (decimal image ++ codes ": cann
 fault_text RequestsFile = codes "requests: cannot be opened"
 fault_text RepliesFile = codes "replies: cannot be created"
 fault_text BalancesFile = codes "balances: cannot be created"
+fault_text Bind = codes "socket: cannot be bound"
+fault_text Accept = codes "socket: cannot accept"
 fault_text (Broken image fault) = broken_text image fault
+fault_text (InSession session stop) =
+    codes "session " ++ (decimal session ++ (codes ": " ++ stop_text stop))
 fault_text (Stopped stop) = stop_text stop
 
 -- the line of an image that was checked, by its number and its size in bytes

@@ -3,7 +3,7 @@
 ghost use Rattle.std.specs.Prelude.{◌≡◌, ◌++◌, ◌∷◌, [], OnOk};
 ghost use Rattle.std.specs.Io.KnownBytes.{Appends};
 ghost use Rattle.strata.specs.Faults.{status_of, stop_status};
-ghost use Rattle.strata.specs.Texts.{fault_text};
+ghost use Rattle.strata.specs.Texts.{fault_text, stop_text};
 
 use command_line::LineFault;
 use path_list::ListFault;
@@ -26,8 +26,14 @@ pub enum Fault {
     RepliesFile,
     /// The file of balances cannot be created.
     BalancesFile,
+    /// The socket cannot be bound.
+    Bind,
+    /// No client can be accepted at the socket.
+    Accept,
     /// This image, counted from 0, breaks a rule, as a check of images by themselves has found.
     Broken { image: u64, fault: ImageFault },
+    /// This session at a socket, counted from 1, was not served to its end.
+    InSession { session: u32, stop: Stop },
     /// A stream was not served to its end, the images could not be stacked, a write of the
     /// program's own lines failed, or memory ran out.
     Stopped(Stop),
@@ -42,7 +48,9 @@ impl Fault {
             Fault::Usage { .. } => 2,
             Fault::ImageFile { .. } => 1,
             Fault::RequestsFile | Fault::RepliesFile | Fault::BalancesFile => 1,
+            Fault::Bind | Fault::Accept => 1,
             Fault::Broken { .. } => 3,
+            Fault::InSession { stop, .. } => stop_status(*stop),
             Fault::Stopped(stop) => stop_status(*stop),
         }
     }
@@ -89,21 +97,46 @@ impl fmt::Display for Fault {
             Fault::RequestsFile => write!(f, "requests: cannot be opened"),
             Fault::RepliesFile => write!(f, "replies: cannot be created"),
             Fault::BalancesFile => write!(f, "balances: cannot be created"),
+            Fault::Bind => write!(f, "socket: cannot be bound"),
+            Fault::Accept => write!(f, "socket: cannot accept"),
             Fault::Broken { image, fault } => {
                 write!(f, "layer {image} at {:08x}: {}", fault.place, fault.rule)
             }
-            Fault::Stopped(stop) => match *stop {
-                Stop::Layer { layer, fault } => {
-                    write!(f, "layer {layer} at {:08x}: {}", fault.place, fault.rule)
-                }
-                Stop::Layers { count } => write!(f, "layers: {count}, allowed 1 to 128"),
-                Stop::BadLength { at, len } => write!(f, "request at {at}: bad length {len}"),
-                Stop::CutOff { at } => write!(f, "request at {at}: cut off"),
-                Stop::Read => write!(f, "read fault"),
-                Stop::Write => write!(f, "write fault"),
-                Stop::Turns => write!(f, "turns used up"),
-                Stop::Memory => write!(f, "out of memory"),
-            },
+            Fault::InSession { session, stop } => {
+                let why = Why { stop: *stop };
+                write!(f, "session {session}: {why}")
+            }
+            Fault::Stopped(stop) => {
+                let why = Why { stop: *stop };
+                write!(f, "{why}")
+            }
+        }
+    }
+}
+
+// Why serving stopped. Its `Display` is the line of it.
+#[derive(Drop)]
+struct Why {
+    stop: Stop,
+}
+
+impl fmt::Display for Why {
+    ghost use Rattle.std.specs.Prelude.{Some};
+
+    ghost output = { λ why. Some (stop_text why.stop) };
+
+    fn fmt<W: fmt::Write>(&self, f: &mut fmt::Formatter<W>) -> fmt::Result {
+        match self.stop {
+            Stop::Layer { layer, fault } => {
+                write!(f, "layer {layer} at {:08x}: {}", fault.place, fault.rule)
+            }
+            Stop::Layers { count } => write!(f, "layers: {count}, allowed 1 to 128"),
+            Stop::BadLength { at, len } => write!(f, "request at {at}: bad length {len}"),
+            Stop::CutOff { at } => write!(f, "request at {at}: cut off"),
+            Stop::Read => write!(f, "read fault"),
+            Stop::Write => write!(f, "write fault"),
+            Stop::Turns => write!(f, "turns used up"),
+            Stop::Memory => write!(f, "out of memory"),
         }
     }
 }

@@ -6,21 +6,28 @@
 //! requests over them, on `path_list`, which writes the paths that a stack shows, and on
 //! `fuse_device`, which knows where a mount was taken away.
 //!
-//! The private parts: `checking`, `listing` and `serving` are the three commands, `balances` writes
-//! what a client still holds, `files` opens the files that a line names, and `streams` reads files
-//! and writes lines. [`faults`] has a line and an exit status for each thing that can go wrong.
+//! [`sessions`] serves the clients of a Unix socket that is already bound, one after another.
+//!
+//! The private parts: `checking`, `listing`, `serving` and `listening` are the four commands,
+//! `settings` is what a line says of serving, `balances` writes what a client still holds, `files`
+//! opens the files that a line names, and `streams` reads files and writes lines. [`faults`] has a
+//! line and an exit status for each thing that can go wrong.
 #![tactic(auto)]
 
 mod balances;
 mod checking;
+mod clients;
 pub mod faults;
 mod files;
 pub mod laws;
+mod listening;
 mod listing;
 mod program;
 mod serving;
+mod settings;
 mod streams;
 
+pub use clients::{sessions, sessions_from};
 pub use command_line::{Line, LineFault, line};
 pub use faults::Fault;
 pub use program::{command, command_on_device};

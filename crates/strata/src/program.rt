@@ -2,44 +2,47 @@
 //!
 //! A command does its steps in this order, and the first that fails ends it: it reads its line, the
 //! files of the images, opens the file of requests, creates the files of replies and of balances,
-//! and then does its work.
+//! and then does its work. `socket` makes its socket once the images are stacked.
 
-ghost use Rattle.std.specs.Prelude.{◌≡◌, map, OnOk, IfErr};
+ghost use Rattle.std.specs.Prelude.{◌≡◌, map, IfOk, IfErr};
 ghost use Rattle.devices.specs.States.{devices};
 ghost use Rattle.fuse_device.specs.Spouts.{spout_gone};
 ghost use Rattle.fuse_device.specs.Taps.{tap_gone};
-ghost use Rattle.strata.specs.Ending.{profile_of, AreNew, IsDone, EndsInFault, IsRunOf};
+ghost use Rattle.strata.specs.Ending.{AreNew, EndsInFault, IsOverWith, IsRunOf};
 ghost use Rattle.strata.specs.Mounts.{status_on_device, IsRunOnDevice};
 
 use crate::checking::check;
 use crate::faults::Fault;
 use crate::files::read_images;
+use crate::listening::listen;
 use crate::listing::list;
 use crate::serving::serve;
-use command_line::{Line, Verb, line};
+use crate::settings::profile_of;
+use command_line::{Verb, line};
 use devices::{Sink, Source};
 use fuse_device::{MessageTap, ReplySpout};
-use serve_core::{Profile, Stop};
+use serve_core::Stop;
 use std::alloc::{Allocator, Global};
 use std::convert::AsStr;
 use std::fs::Files;
 use std::io::{Read, Write};
+use std::net::Net;
 use std::thread::Threads;
 
 /// Runs the program on the words after its name, and gives its exit status.
 ///
 /// The status is 0 only where the words are a command of the program and its work was done: the
 /// whole stream was answered over the images, and `output` gained all replies, unless a file is
-/// named for them; or `output` gained the sizes of all images, or the paths that they show. Else
-/// the status is that of a [`Fault`], whose line goes to `faults`; `output` then holds the replies
-/// that stand, or is as it was; only where lines are lost, since `output` failed, nothing is
-/// promised of what it holds. `input` is read by `serve` alone, and only where no file of requests
-/// is named.
+/// named for them; or all sessions at a socket were served to their end; or `output` gained the
+/// sizes of all images, or the paths that they show. Else the status is that of a [`Fault`], whose
+/// line goes to `faults`; `output` then holds the replies that stand, or is as it was; only where
+/// lines are lost, since `output` failed, nothing is promised of what it holds. `input` is read by
+/// `serve` alone, and only where no file of requests is named.
 ///
 /// It asks that neither `input` nor `output` was used before. Memory comes from `alloc`, but for
 /// the command line: `clap` takes the global allocator alone.
 pub fn command<
-    R: Files + Threads + Sync,
+    R: Files + Net + Threads + Sync,
     A: Allocator + Copy + Send + Sync,
     S: AsStr,
     T: Source,
@@ -62,8 +65,8 @@ where
         (devices (T.state input.old) (K.state output.old))
         (devices (T.state input.new) (K.state output.new)) }
 {
-    match run(rt, alloc, global, words, input, output) {
-        Ok(()) => 0,
+    match run(rt, alloc, global, words, input, output, faults) {
+        Ok(status) => status,
         Err(fault) => fault.end(faults),
     }
 }
@@ -74,7 +77,7 @@ where
 /// gone; or a push failed, and one of both says so. No line is written then, and what `output` took
 /// is the beginning of the replies. Any other fault has its line and its status.
 pub fn command_on_device<
-    R: Files + Threads + Sync,
+    R: Files + Net + Threads + Sync,
     A: Allocator + Copy + Send + Sync,
     S: AsStr,
     I: Read + Drop,
@@ -101,25 +104,35 @@ where
         (devices (⟦<MessageTap<I, A> as Source>⟧.state input.new)
         (⟦<ReplySpout<O> as Sink>⟧.state output.new)) }
 {
-    match run(rt, alloc, global, words, input, output) {
-        Ok(()) => 0,
+    match run(rt, alloc, global, words, input, output, faults) {
+        Ok(status) => status,
         Err(fault) => end_on_device(&fault, input.is_gone(), output.is_gone(), faults),
     }
 }
 
-fn run<R: Files + Threads + Sync, A: Allocator + Copy + Send + Sync, S: AsStr, T: Source, K: Sink>(
+// Does all the steps, and gives the exit status, which sessions at a socket may make another than
+// 0: what they stop for is told as it comes.
+fn run<
+    R: Files + Net + Threads + Sync,
+    A: Allocator + Copy + Send + Sync,
+    S: AsStr,
+    T: Source,
+    K: Sink,
+    E: Write,
+>(
     rt: &R,
     alloc: A,
     global: Global,
     words: &[S],
     input: &mut T,
     output: &mut K,
-) -> Result<(), Fault>
+    faults: &mut E,
+) -> Result<u8, Fault>
 where
     R::File: Send,
     R::Dir: Send,
     requires { AreNew (devices (T.state input.old) (K.state output.old)) }
-    ensures done { OnOk result (IsDone A (map S.text words.now)
+    ensures over { IfOk result (λ status. IsOverWith A (map S.text words.now) status
         (devices (T.state input.old) (K.state output.old))
         (devices (T.state input.new) (K.state output.new))) }
     ensures stopped { IfErr result (λ fault. EndsInFault A (map S.text words.now) fault
@@ -129,9 +142,19 @@ where
     let line = line(global, words)?;
     let images = read_images(rt, alloc, line.images.as_slice())?;
     match line.verb {
-        Verb::Serve => serve(rt, alloc, &line, images, input, output),
-        Verb::Check => check(alloc, images, profile_of(&line), output),
-        Verb::List => list(rt, alloc, images, profile_of(&line), output),
+        Verb::Serve => {
+            serve(rt, alloc, &line, images, input, output)?;
+            Ok(0)
+        }
+        Verb::Socket => listen(rt, alloc, &line, images, faults),
+        Verb::Check => {
+            check(alloc, images, profile_of(&line), output)?;
+            Ok(0)
+        }
+        Verb::List => {
+            list(rt, alloc, images, profile_of(&line), output)?;
+            Ok(0)
+        }
     }
 }
 
@@ -145,15 +168,4 @@ fn end_on_device<E: Write>(fault: &Fault, input: bool, output: bool, faults: &mu
         _ => false,
     };
     if taken_away { 0 } else { fault.end(faults) }
-}
-
-// The rules that the line holds images to.
-pub(crate) fn profile_of(line: &Line<'_>) -> Profile
-    ensures { result ≡ profile_of line.now }
-{
-    if line.strict {
-        Profile::Strict
-    } else {
-        Profile::Usual
-    }
 }

@@ -6,15 +6,15 @@ ghost use Rattle.devices.specs.States.{devices};
 ghost use Rattle.command_line.specs.CommandLine.{IsInLimits};
 ghost use Rattle.serve_core.specs.Preparing.{contents_of};
 ghost use Rattle.serve_loop.specs.Serving.{Trace, Does};
-ghost use Rattle.strata.specs.Ending.{first_of, AreNew, Gave, GetsReplies, IsServingBy, IsServing, IsServedWhole, IsNotServed};
+ghost use Rattle.strata.specs.Ending.{AreNew, Gave, GetsReplies, IsServingBy, IsServing, IsServedWhole, IsNotServed};
 
 use crate::balances::tell_balances;
 use crate::faults::Fault;
 use crate::files::{create_balances, create_replies, open_requests};
-use crate::program::profile_of;
+use crate::settings::{first_of, plan_of, profile_of};
 use command_line::Line;
 use devices::{Sink, Source, Spout, Tap};
-use serve_core::{Done, FreePass, MAX_TURNS, Plan, Session, Stop, serve_from};
+use serve_core::{Done, FreePass, MAX_TURNS, Stop, serve_from};
 use std::alloc::Allocator;
 use std::fs::Files;
 use std::io::{Read, Write};
@@ -135,24 +135,4 @@ fn serve_between<R: Threads + Sync, A: Allocator + Copy + Send + Sync, S: Source
     serve_from(
         rt, alloc, images, profile, first, source, sink, plan, MAX_TURNS, &FreePass,
     )
-}
-
-// The session that the line has its stream begin in.
-fn first_of(line: &Line<'_>) -> Session
-    ensures { result ≡ first_of line.now }
-{
-    if line.lasting || line.device {
-        Session::LastingFresh
-    } else {
-        Session::Fresh
-    }
-}
-
-// The plan that the line says.
-fn plan_of(line: &Line<'_>) -> Plan
-    requires { IsInLimits line.now }
-    ensures workers { result.workers ≡ line.now.workers }
-    ensures batch { result.batch ≡ line.now.batch }
-{
-    Plan::new(line.workers, line.batch).unwrap()
 }

@@ -7,6 +7,7 @@ use fuse_device::{MessageTap, ReplySpout};
 use std::alloc::{Allocator, Global};
 use std::fs::Files;
 use std::io::{Read, Write};
+use std::net::Net;
 use std::process::ExitCode;
 use std::thread::Threads;
 use strata::{Fault, command, command_on_device};
@@ -43,7 +44,7 @@ fn main(rt: HostRuntime) -> ExitCode {
 
 // Runs the program over a reader and a writer, which are both an open `/dev/fuse` where the words
 // say so.
-fn run<R: Files + Threads + Sync, I: Read + Drop, O: Write + Drop, E: Write>(
+fn run<R: Files + Net + Threads + Sync, I: Read + Drop, O: Write + Drop, E: Write>(
     rt: &R,
     alloc: Global,
     words: &[String],

@@ -2,36 +2,43 @@ use Rattle.std.proofs.Common.{arith, ◌∙◌, ap, refl, codes, rules, unwrap_o
 use Rattle.clap.specs.Words.{found_of, rows_of}
 use Rattle.clap.specs.Walk.{texts}
 use Rattle.clap.proofs.WalkLemmas.{first_value-rows}
-use Rattle.command_line.proofs.Parsed.{batch_fault, flag_is, held, images_are, numbers_are, one_or_more, rows_crossed, some_images, workers_fault}
+use Rattle.command_line.proofs.Parsed.{batch_fault, flag_is, held, images_are, numbers_are, one_or_more, names_socket, rows_crossed, sessions_fault, some_images, workers_fault}
 use Rattle.command_line.specs.declared.options.Line.{Line}
 use Rattle.command_line.proofs.parse.line_of.Goals as goal
 
 pub unwrap-requires : goal.unwrap-requires
-unwrap-requires c = some_images (found_of c.args.found.now) c.get_strs.result c.get_strs.ensures c.requires
+unwrap-requires c = some_images (found_of c.args.found.now) c.get_strs.result c.get_strs.ensures c.requires.filled
 
 pub returns-in-None-clause-holds : goal.returns-in-None-clause-holds
 returns-in-None-clause-holds c =
     let found = found_of c.args.found.now in
     let are = images_are found c.get_strs.result c.unwrap.result c.get_strs.ensures c.unwrap.ensures in
-    let numbers = numbers_are found c.in_ok-workers.workers c.in_ok-batch.batch c.in_ok-workers.ensures.ok c.in_ok-batch.ensures.ok in
+    let numbers = numbers_are found c.in_ok-workers.workers c.in_ok-batch.batch c.in_ok-sessions.sessions c.in_ok-workers.ensures.ok c.in_ok-batch.ensures.ok c.in_ok-sessions.ensures.ok in
     held (rows_of found) _ numbers.0 (record {
       verb = refl;
-      strict = flag_is found (codes "strict") c.get_flag.result c.requires.strict c.get_flag.ensures.none c.get_flag.ensures.value c.get_flag.ensures.other;
-      device = flag_is found (codes "device") c.get_flag-2.result c.requires.device c.get_flag-2.ensures.none c.get_flag-2.ensures.value c.get_flag-2.ensures.other;
-      lasting = flag_is found (codes "lasting") c.get_flag-3.result c.requires.lasting c.get_flag-3.ensures.none c.get_flag-3.ensures.value c.get_flag-3.ensures.other;
+      strict = flag_is found (codes "strict") c.get_flag.result c.requires.filled.strict c.get_flag.ensures.none c.get_flag.ensures.value c.get_flag.ensures.other;
+      device = flag_is found (codes "device") c.get_flag-2.result c.requires.filled.device c.get_flag-2.ensures.none c.get_flag-2.ensures.value c.get_flag-2.ensures.other;
+      lasting = flag_is found (codes "lasting") c.get_flag-3.result c.requires.filled.lasting c.get_flag-3.ensures.none c.get_flag-3.ensures.value c.get_flag-3.ensures.other;
       workers = numbers.1;
       batch = numbers.2;
       requests = c.get_str.ensures ∙ first_value-rows found (codes "requests");
       replies = c.get_str-2.ensures ∙ first_value-rows found (codes "replies");
       balances = c.get_str-3.ensures ∙ first_value-rows found (codes "balances");
+      listen = c.get_str-4.ensures ∙ first_value-rows found (codes "listen");
+      sessions = numbers.3;
       images = ap texts (c.in_ok-images.ensures.items_if_clones_equal (λ x y same. same)) ∙ ap (λ o. unwrap_or o []) are;
     }) (sym c.named_beside_device.ensures ∙ ap (λ o. is_some o) c.in-None.is)
 
 pub returns-in-None-clause-some_image : goal.returns-in-None-clause-some_image
 returns-in-None-clause-some_image c =
-    let some = one_or_more (rows_of (found_of c.args.found.now)) c.unwrap.result.now c.requires
+    let some = one_or_more (rows_of (found_of c.args.found.now)) c.unwrap.result.now c.requires.filled
     (images_are (found_of c.args.found.now) c.get_strs.result c.unwrap.result c.get_strs.ensures c.unwrap.ensures) in
     omega (arith, c.in_ok-images.ensures.len)
+
+pub returns-in-None-clause-socket : goal.returns-in-None-clause-socket
+returns-in-None-clause-socket c =
+    let found = found_of c.args.found.now in
+    names_socket c.args.verb (rows_of found) c.get_str-4.result c.requires.socket (c.get_str-4.ensures ∙ first_value-rows found (codes "listen"))
 
 pub returns-in_err-workers-clause-err : goal.returns-in_err-workers-clause-err
 returns-in_err-workers-clause-err c =
@@ -43,11 +50,16 @@ returns-in_err-batch-clause-err c =
     let told = batch_fault (found_of c.args.found.now) c.in_err-batch.field-0.0 c.in_err-batch.ensures.err in
     search (rules, told)
 
+pub returns-in_err-sessions-clause-err : goal.returns-in_err-sessions-clause-err
+returns-in_err-sessions-clause-err c =
+    let told = sessions_fault (found_of c.args.found.now) c.in_err-sessions.field-0.0 c.in_err-sessions.ensures.err in
+    search (rules, told)
+
 pub returns-clause-err : goal.returns-clause-err
 returns-clause-err c =
     let found = found_of c.args.found.now in
     let are = images_are found c.get_strs.result c.unwrap.result c.get_strs.ensures c.unwrap.ensures in
-    let numbers = numbers_are found c.in_ok-workers.workers c.in_ok-batch.batch c.in_ok-workers.ensures.ok c.in_ok-batch.ensures.ok in
+    let numbers = numbers_are found c.in_ok-workers.workers c.in_ok-batch.batch c.in_ok-sessions.sessions c.in_ok-workers.ensures.ok c.in_ok-batch.ensures.ok c.in_ok-sessions.ensures.ok in
     let line : Line = record {
       verb = c.args.verb;
       strict = c.get_flag.result;
@@ -58,17 +70,21 @@ returns-clause-err c =
       requests = c.get_str.result;
       replies = c.get_str-2.result;
       balances = c.get_str-3.result;
+      listen = c.get_str-4.result;
+      sessions = c.in_ok-sessions.sessions;
       images = c.in_ok-images.images;
     } in
     inr (inr (rows_crossed (rows_of found) line (record {
       verb = refl;
-      strict = flag_is found (codes "strict") c.get_flag.result c.requires.strict c.get_flag.ensures.none c.get_flag.ensures.value c.get_flag.ensures.other;
-      device = flag_is found (codes "device") c.get_flag-2.result c.requires.device c.get_flag-2.ensures.none c.get_flag-2.ensures.value c.get_flag-2.ensures.other;
-      lasting = flag_is found (codes "lasting") c.get_flag-3.result c.requires.lasting c.get_flag-3.ensures.none c.get_flag-3.ensures.value c.get_flag-3.ensures.other;
+      strict = flag_is found (codes "strict") c.get_flag.result c.requires.filled.strict c.get_flag.ensures.none c.get_flag.ensures.value c.get_flag.ensures.other;
+      device = flag_is found (codes "device") c.get_flag-2.result c.requires.filled.device c.get_flag-2.ensures.none c.get_flag-2.ensures.value c.get_flag-2.ensures.other;
+      lasting = flag_is found (codes "lasting") c.get_flag-3.result c.requires.filled.lasting c.get_flag-3.ensures.none c.get_flag-3.ensures.value c.get_flag-3.ensures.other;
       workers = numbers.1;
       batch = numbers.2;
       requests = c.get_str.ensures ∙ first_value-rows found (codes "requests");
       replies = c.get_str-2.ensures ∙ first_value-rows found (codes "replies");
       balances = c.get_str-3.ensures ∙ first_value-rows found (codes "balances");
+      listen = c.get_str-4.ensures ∙ first_value-rows found (codes "listen");
+      sessions = numbers.3;
       images = ap texts (c.in_ok-images.ensures.items_if_clones_equal (λ x y same. same)) ∙ ap (λ o. unwrap_or o []) are;
     }) (sym c.named_beside_device.ensures ∙ ap (λ o. is_some o) c.in-Some.is)))

@@ -1,0 +1,41 @@
+-- How the command `socket` ends, by how its sessions ended.
+use Rattle.std.proofs.Common.{◌≡◌, refl, ℕ, ◌⊎◌, inl, inr, List, Option, Some, None, Result, Ok, Err, IfOk, IfErr}
+use Rattle.command_line.specs.declared.options.Line.{Line}
+use Rattle.command_line.specs.declared.options.Verb.TheVariants.{Socket}
+use Rattle.command_line.specs.CommandLine.{IsLineOf}
+use Rattle.devices.specs.States.{Devices}
+use Rattle.strata.specs.declared.faults.Fault.{Fault}
+use Rattle.strata.specs.Sessions.{status_at}
+use Rattle.strata.specs.Ending.{profile_of, AreNotStacked, EndsAtSocket, EndsInFault, IsNotBound, IsOfSessions, IsOverWith, IsServedAtSocket, NamesAsMany}
+use Rattle.strata.proofs.Ended.{begun, whole}
+use Rattle.strata.proofs.InTurn.{of_sessions}
+
+told_by : {A : Type 0} (line : Line) (images : List (List ℕ)) (fault : Fault) → IsServedAtSocket A line images (Some fault) → IsOfSessions fault
+told_by {A} line images fault s =
+    elim (of_sessions {A = A} line.sessions fault s.served) [
+      | inl accept ↦ inl accept
+      | inr t ↦ inr (t.0, t.1, t.2)
+    ]
+
+module _ (A : Type 0) (words : List (List ℕ)) (line : Line) (images : List (List ℕ)) (old : Devices) (line_is : IsLineOf words line) (named : NamesAsMany line images) (verb_is : line.verb ≡ Socket) where
+  over_with : (status : ℕ) (fault : Option Fault) → status ≡ status_at fault → IsServedAtSocket A line images fault → IsOverWith A words status old old
+  over_with status None e s = record {
+    fault = None;
+    status_is = e;
+    over = whole A words line images Socket old old line_is named verb_is (refl, s);
+  }
+  over_with status (Some fault) e s = record {
+    fault = Some fault;
+    status_is = e;
+    over = (told_by {A = A} line images fault s, begun A words line images Socket old old line_is named verb_is fault (refl, inr (inr s)));
+  }
+
+  pub over_there : (r : Result ℕ Fault) → IfOk r (λ status. EndsAtSocket A line images status) → IfOk r (λ status. IsOverWith A words status old old)
+  over_there (Ok status) e = over_with status e.fault e.status_is e.served
+  over_there (Err fault) e = e
+
+  pub stopped_there : (r : Result ℕ Fault) → IfErr r (λ fault. AreNotStacked (profile_of line) images fault ⊎ IsNotBound line images fault)
+      → IfErr r (λ fault. EndsInFault A words fault old old)
+  stopped_there (Ok status) e = e
+  stopped_there (Err fault) (inl e) = begun A words line images Socket old old line_is named verb_is fault (refl, inl e)
+  stopped_there (Err fault) (inr e) = begun A words line images Socket old old line_is named verb_is fault (refl, inr (inl e))

@@ -1,0 +1,175 @@
+-- Sessions that are served one after another.
+use Rattle.std.proofs.Common.{◌≡◌, ◌≢◌, ◌∙◌, sym, ap, subst, refl, ℕ, ◌+◌, ◌<◌, ◌⊎◌, inl, inr, List, [], ◌∷◌, ◌++◌, length, Option, Some, None, Result, Ok, Err, arith}
+use Rattle.std.specs.List.{AllByRecursion}
+use Rattle.std.proofs.lemmas.List.{length-append}
+use Rattle.node_table.specs.Stacked.{Stacked}
+use Rattle.reply_model.specs.declared.session.Session.{Session}
+use Rattle.serve_loop.specs.declared.stop.Stop.{Stop}
+use Rattle.serve_loop.specs.declared.done.Done.{Done}
+use Rattle.serve_loop.specs.Serving.{Trace}
+use Rattle.strata.specs.declared.faults.Fault.{Fault}
+use Rattle.strata.specs.declared.faults.Fault.TheVariants.{Accept, InSession}
+use Rattle.strata.specs.Faults.{status_of}
+use Rattle.strata.specs.Laws.{IsFirstStopped, IsWhole, TellsOfSessions}
+use Rattle.strata.specs.Sessions.{fault_of, first_fault, or_later, status_at, AreServed, EndWith, IsSession, Served}
+use Rattle.strata.proofs.Ended.{fault_status}
+
+-- sessions so far, and the status of the first that stopped
+pub record AreSoFar (A : Type 0) (first : Session) (stack : Stacked) (count status : ℕ) : Type 0 where
+  pub served : List (Served A first stack)
+  pub count_is : length served ≡ count
+  pub status_is : status ≡ status_at (first_fault 1 served)
+
+or_none : (fault : Option Fault) → or_later fault None ≡ fault
+or_none None = refl
+or_none (Some fault) = refl
+
+-- the status where one more session follows
+status_later : (a b : Option Fault) (status ended more : ℕ) → status ≡ status_at a → ended ≡ status_at b
+    → ((status ≡ 0) × (more ≡ ended)) ⊎ ((status ≢ 0) × (more ≡ status)) → more ≡ status_at (or_later a b)
+status_later None b status ended more s e (inl m) = m.1 ∙ e
+status_later None b status ended more s e (inr m) = absurd (m.0 s)
+status_later (Some fault) b status ended more s e (inl m) = absurd (fault_status fault (sym s ∙ m.0))
+status_later (Some fault) b status ended more s e (inr m) = m.1 ∙ s
+
+or_assoc : (a b c : Option Fault) → or_later (or_later a b) c ≡ or_later a (or_later b c)
+or_assoc None b c = refl
+or_assoc (Some fault) b c = refl
+
+whole_of : {A : Type 0} (n : ℕ) (r : Result (Done A) Stop) → fault_of n r ≡ None → (done : Done A) × (r ≡ Ok done)
+whole_of n (Ok done) e = (done, refl)
+whole_of n (Err stop) e = absurd (cc)
+
+stop_of : {A : Type 0} (n : ℕ) (r : Result (Done A) Stop) (fault : Fault) → fault_of n r ≡ Some fault → (stop : Stop) × (r ≡ Err stop) × (fault ≡ InSession n stop)
+stop_of n (Ok done) fault e = absurd (cc)
+stop_of n (Err stop) fault e = (stop, refl, cc)
+
+module _ {A : Type 0} {first : Session} {stack : Stacked} where
+  same_number : (n m : ℕ) (s : Served A first stack) → n ≡ m → fault_of n s.result ≡ fault_of m s.result
+  same_number n m s e = ap (λ k. fault_of k s.result) e
+
+  -- the first fault where one more session follows
+  first_more : (n : ℕ) (served : List (Served A first stack)) (s : Served A first stack)
+      → first_fault n (served ++ s ∷ []) ≡ or_later (first_fault n served) (fault_of (n + length served) s.result)
+  unfolding first_fault
+  first_more n [] s = or_none (fault_of n s.result) ∙ same_number n (n + 0) s (omega arith)
+  first_more n (x ∷ served) s =
+      let number : n + 1 + length served ≡ n + length (x ∷ served) = omega arith in
+      ap (or_later (fault_of n x.result)) (first_more (n + 1) served s)
+      ∙ sym (or_assoc (fault_of n x.result) (first_fault (n + 1) served) (fault_of (n + 1 + length served) s.result))
+      ∙ ap (or_later (first_fault n (x ∷ served))) (same_number (n + 1 + length served) (n + length (x ∷ served)) s number)
+
+  pub none_so_far : AreSoFar A first stack 0 0
+  unfolding first_fault
+  none_so_far = record { served = []; count_is = refl; status_is = refl }
+
+  pub one_more : (count status ended more : ℕ) → AreSoFar A first stack count status
+      → (s : Served A first stack) × (ended ≡ status_at (fault_of (count + 1) s.result))
+      → ((status ≡ 0) × (more ≡ ended)) ⊎ ((status ≢ 0) × (more ≡ status))
+      → AreSoFar A first stack (count + 1) more
+  one_more count status ended more so_far (s, e) m =
+      let number : 1 + length so_far.served ≡ count + 1 = omega (arith, so_far.count_is) in
+      let e : ended ≡ status_at (fault_of (1 + length so_far.served) s.result) = e ∙ ap status_at (same_number (count + 1) (1 + length so_far.served) s (sym number)) in
+      record {
+        served = so_far.served ++ s ∷ [];
+        count_is = length-append so_far.served (s ∷ []) ∙ ap (λ k. k + 1) so_far.count_is;
+        status_is = status_later (first_fault 1 so_far.served) (fault_of (1 + length so_far.served) s.result) status ended more so_far.status_is e m
+            ∙ ap status_at (sym (first_more 1 so_far.served s));
+      }
+
+  -- all were served
+  pub all_served : (count status : ℕ) → AreSoFar A first stack count status → EndWith A first stack count status
+  all_served count status so_far = record {
+    fault = first_fault 1 so_far.served;
+    status_is = so_far.status_is;
+    served = record { served = so_far.served; ends = inl (so_far.count_is, refl) };
+  }
+
+  -- no client came any more
+  pub none_accepted : (at count status ended : ℕ) → AreSoFar A first stack at status → at < count → ended ≡ status_of Accept → EndWith A first stack count ended
+  none_accepted at count status ended so_far less e = record {
+    fault = Some Accept;
+    status_is = e;
+    served = record { served = so_far.served; ends = inr (subst (λ k. k < count) (sym so_far.count_is) less, refl) };
+  }
+
+  none_stopped : (n : ℕ) (served : List (Served A first stack)) → first_fault n served ≡ None → AllByRecursion IsWhole served
+  unfolding first_fault
+  none_stopped n [] e = tt
+  none_stopped n (s ∷ more) e = go (fault_of n s.result) refl (none_stopped (n + 1) more) e
+    where
+      go : (o : Option Fault) → fault_of n s.result ≡ o → (first_fault (n + 1) more ≡ None → AllByRecursion IsWhole more)
+          → or_later o (first_fault (n + 1) more) ≡ None → IsWhole s × AllByRecursion IsWhole more
+      go None is rest e = (whole_of n s.result is, rest e)
+      go (Some fault) is rest e = absurd (cc)
+
+  stopped_first : (fault : Fault) (n : ℕ) (served : List (Served A first stack)) → first_fault n served ≡ Some fault
+      → (number : ℕ) × (stop : Stop) × (fault ≡ InSession number stop) × IsFirstStopped served stop
+  unfolding first_fault
+  stopped_first fault n [] e = absurd (cc)
+  stopped_first fault n (s ∷ more) e = go (fault_of n s.result) refl (stopped_first fault (n + 1) more) e
+    where
+      go : (o : Option Fault) → fault_of n s.result ≡ o
+          → (first_fault (n + 1) more ≡ Some fault → (number : ℕ) × (stop : Stop) × (fault ≡ InSession number stop) × IsFirstStopped more stop)
+          → or_later o (first_fault (n + 1) more) ≡ Some fault
+          → (number : ℕ) × (stop : Stop) × (fault ≡ InSession number stop) × IsFirstStopped (s ∷ more) stop
+      go None is rest e =
+          let later = rest e in
+          let at = later.3 in (
+            later.0,
+            later.1,
+            later.2,
+            record {
+              before = s ∷ at.before;
+              stopped = at.stopped;
+              after = at.after;
+              served_are = ap (λ xs. s ∷ xs) at.served_are;
+              whole = (whole_of n s.result is, at.whole);
+              result_is = at.result_is;
+            },
+          )
+      go (Some other) is rest e =
+          let its = stop_of n s.result fault (is ∙ e) in (
+            n,
+            its.0,
+            its.2,
+            record {
+              before = [];
+              stopped = s;
+              after = more;
+              served_are = refl;
+              whole = tt;
+              result_is = its.1;
+            },
+          )
+
+  -- the fault that sessions end with is that of one of them, or that no client could be accepted
+  pub of_sessions : (count : ℕ) (fault : Fault) → AreServed A first stack count (Some fault)
+      → (fault ≡ Accept) ⊎ ((number : ℕ) × (stop : Stop) × (fault ≡ InSession number stop) × (t : Trace) × IsSession {A = A} first stack t (Err stop))
+  of_sessions count fault a =
+      elim a.ends [
+        | inl e ↦
+            let at = stopped_first fault 1 a.served (sym e.1) in
+            let s = at.3.stopped in
+            inr (at.0, at.1, at.2, s.trace, subst (λ r. IsSession first stack s.trace r) at.3.result_is s.is)
+        | inr e ↦ inl (cc)
+      ]
+
+  tells : (count status : ℕ) (fault : Option Fault) → status ≡ status_at fault → AreServed A first stack count fault → TellsOfSessions A first stack count status
+  tells count status None e a =
+      elim a.ends [
+        | inl s ↦ record { served = a.served; which = inl (s.0, e, none_stopped 1 a.served (sym s.1)) }
+        | inr s ↦ absurd (cc)
+      ]
+  tells count status (Some fault) e a =
+      elim a.ends [
+        | inl s ↦
+            let at = stopped_first fault 1 a.served (sym s.1) in
+            record { served = a.served; which = inr (inl (s.0, at.1, e ∙ ap status_of at.2, at.3)) }
+        | inr s ↦
+            let is : fault ≡ Accept = cc in
+            record { served = a.served; which = inr (inr (s.0, e ∙ ap status_of is)) }
+      ]
+
+pub sessions_tell : (A : Type 0) (first : Session) (stack : Stacked) (count status : ℕ) → EndWith A first stack count status → TellsOfSessions A first stack count status
+sessions_tell A first stack count status e = tells count status e.fault e.status_is e.served

@@ -1,0 +1,6 @@
+use Rattle.strata.proofs.InTurn.{AreSoFar}
+use Rattle.strata.proofs.clients.sessions_from.Given as goal
+
+-- as many sessions were served, and the status is that of the first that stopped
+abbrev pub invariant-loop-served : goal.invariant-loop-served
+invariant-loop-served g l = AreSoFar g.row.A.Denot l.fn.first l.fn.table l.served l.status

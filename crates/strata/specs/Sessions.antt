@@ -1,0 +1,68 @@
+-- What sessions at a socket come to, served one after another.
+use Rattle.std.specs.Prelude.{◌≡◌, ◌<◌, ◌+◌, ◌⊎◌, ℕ, List, [], ◌∷◌, length, Option, Some, None, Result, Ok, Err}
+use Rattle.devices.specs.Counting.{no_pulls, no_pushes}
+use Rattle.fuse_wire.specs.declared.limits.TheConstants.{MAX_TURNS}
+use Rattle.node_table.specs.Stacked.{Stacked}
+use Rattle.reply_model.specs.declared.session.Session.{Session}
+use Rattle.serve_loop.specs.declared.stop.Stop.{Stop}
+use Rattle.serve_loop.specs.declared.done.Done.{Done}
+use Rattle.serve_loop.specs.Serving.{Trace}
+use Rattle.serve_core.specs.Headline.{IsRunOver}
+use Rattle.strata.specs.declared.faults.Fault.{Fault}
+use Rattle.strata.specs.declared.faults.Fault.TheVariants.{Accept, InSession}
+use Rattle.strata.specs.Faults.{status_of}
+
+-- a session was served over a stack between devices that were new, as a stream of its own
+pub record IsSession {A : Type 0} (first : Session) (stack : Stacked) (t : Trace)
+    (result : Result (Done A) Stop) : Type 0 where
+  pub run : IsRunOver first stack MAX_TURNS t result
+  pub first_pull : t.source_before ≡ no_pulls
+  pub first_push : t.sink_before ≡ no_pushes
+
+-- a session: what it did, and how it ended
+pub record Served (A : Type 0) (first : Session) (stack : Stacked) : Type 0 where
+  pub trace : Trace
+  pub result : Result (Done A) Stop
+  pub is : IsSession first stack trace result
+
+-- the fault of the session with this number, if it stopped
+abbrev pub fault_of : {A : Type 0} → ℕ → Result (Done A) Stop → Option Fault
+fault_of n (Ok done) = None
+fault_of n (Err stop) = Some (InSession n stop)
+
+-- the fault, or else the later one
+abbrev pub or_later : Option Fault → Option Fault → Option Fault
+or_later None later = later
+or_later (Some fault) later = Some fault
+
+-- the fault of the first session that stopped, if one did; they are numbered from n on
+unfoldable pub first_fault : {A : Type 0} {first : Session} {stack : Stacked} → ℕ
+    → List (Served A first stack) → Option Fault
+first_fault n [] = None
+first_fault n (s ∷ more) = or_later (fault_of n s.result) (first_fault (n + 1) more)
+
+-- what sessions end with: all are served, and it is the fault of the first that stopped; or fewer,
+-- and it is that no client could be accepted
+abbrev pub EndsSessions : {A : Type 0} {first : Session} {stack : Stacked} → ℕ
+    → List (Served A first stack) → Option Fault → Type 0
+EndsSessions count served fault =
+    ((length served ≡ count) × (fault ≡ first_fault 1 served))
+    ⊎ ((length served < count) × (fault ≡ Some Accept))
+
+-- so many sessions were asked for, and they end with this fault, or with none
+pub record AreServed (A : Type 0) (first : Session) (stack : Stacked) (count : ℕ)
+    (fault : Option Fault) : Type 0 where
+  pub served : List (Served A first stack)
+  pub ends : EndsSessions count served fault
+
+-- the exit status of a fault, or of none
+abbrev pub status_at : Option Fault → ℕ
+status_at None = 0
+status_at (Some fault) = status_of fault
+
+-- so many sessions were asked for, and they end with this status
+pub record EndWith (A : Type 0) (first : Session) (stack : Stacked)
+    (count status : ℕ) : Type 0 where
+  pub fault : Option Fault
+  pub status_is : status ≡ status_at fault
+  pub served : AreServed A first stack count fault

@@ -1,0 +1,133 @@
+//! Sessions at a Unix socket, one after another.
+//!
+//! A session is the stream of one client: it begins with a new connection, and the connection is
+//! closed where it ends. All sessions are served over one table, each as a stream of its own.
+
+ghost use Rattle.std.specs.Prelude.{◌≡◌};
+ghost use Rattle.serve_loop.specs.Serving.{Trace};
+ghost use Rattle.strata.specs.Sessions.{fault_of, status_at, EndWith, IsSession, Served};
+
+use crate::faults::Fault;
+use devices::{Spout, Tap};
+use node_table::Table;
+use serve_core::{Done, FreePass, MAX_TURNS, Plan, Session, Stop, run_from};
+use std::alloc::Allocator;
+use std::io::Write;
+use std::os::unix::net::{UnixListener, UnixStream};
+use std::thread::Threads;
+
+/// Serves `count` sessions over a table to the clients of a listener, one after another, and gives
+/// the exit status. Each begins in a fresh session, and has at most 2^40 pulls.
+///
+/// Where a session stops before its stream's end, its fault is told in a line of `faults`, with its
+/// number, from 1 on, and the next one follows. The status is that of the first such fault, and 0
+/// where there is none. Where no client can be accepted, a line tells it, no more sessions follow,
+/// and the status is 1. It waits for a client as long as none connects.
+pub fn sessions<R: Threads + Sync, A: Allocator + Copy + Send + Sync, E: Write>(
+    rt: &R,
+    alloc: A,
+    table: &Table<A>,
+    listener: &UnixListener,
+    count: u32,
+    plan: Plan,
+    faults: &mut E,
+) -> u8
+    ensures { EndWith A Session.Fresh table.now count result }
+{
+    sessions_from(
+        rt,
+        alloc,
+        table,
+        Session::Fresh,
+        listener,
+        count,
+        plan,
+        faults,
+    )
+}
+
+/// The same, of streams that begin in the session `first`, as [`serve_core::run_from`] serves them.
+pub fn sessions_from<R: Threads + Sync, A: Allocator + Copy + Send + Sync, E: Write>(
+    rt: &R,
+    alloc: A,
+    table: &Table<A>,
+    first: Session,
+    listener: &UnixListener,
+    count: u32,
+    plan: Plan,
+    faults: &mut E,
+) -> u8
+    ensures { EndWith A first table.now count result }
+{
+    let mut status = 0;
+    for served in 0..count {
+        let Ok((client, _)) = listener.accept() else {
+            return Fault::Accept.end(faults);
+        };
+        let ended = serve_session(rt, alloc, table, first, client, served + 1, plan, faults);
+        if status == 0 {
+            status = ended;
+        }
+    }
+    status
+}
+
+// Serves the session with this number, and gives its status.
+fn serve_session<R: Threads + Sync, A: Allocator + Copy + Send + Sync, E: Write>(
+    rt: &R,
+    alloc: A,
+    table: &Table<A>,
+    first: Session,
+    client: UnixStream,
+    session: u32,
+    plan: Plan,
+    faults: &mut E,
+) -> u8
+    ensures { (s : Served A first table.now) × (result ≡ status_at (fault_of session s.result)) }
+{
+    let ended = serve_client(rt, alloc, table, first, client, plan);
+    end_session(session, &ended, faults)
+}
+
+// Tells why the session with this number stopped, if it did, and gives its status.
+fn end_session<A: Allocator, E: Write>(
+    session: u32,
+    ended: &Result<Done<A>, Stop>,
+    faults: &mut E,
+) -> u8
+    ensures { result ≡ status_at (fault_of session ended.now) }
+{
+    match ended {
+        Ok(_) => 0,
+        Err(stop) => {
+            let stop = *stop;
+            Fault::InSession { session, stop }.end(faults)
+        }
+    }
+}
+
+// Serves a client until its stream ends or stops, and closes the connection.
+fn serve_client<R: Threads + Sync, A: Allocator + Copy + Send + Sync>(
+    rt: &R,
+    alloc: A,
+    table: &Table<A>,
+    first: Session,
+    client: UnixStream,
+    plan: Plan,
+) -> Result<Done<A>, Stop>
+    ensures { (t : Trace) × IsSession first table.now t result }
+{
+    let mut source = Tap::new(&client);
+    let mut sink = Spout::new(&client);
+    run_from(
+        rt,
+        alloc,
+        table,
+        first,
+        &mut source,
+        &mut sink,
+        plan,
+        MAX_TURNS,
+        &FreePass,
+    )
+}

@@ -1,0 +1,39 @@
+//! What a line says of serving: the rules for images, the session that a stream begins in, the plan.
+
+ghost use Rattle.std.specs.Prelude.{◌≡◌};
+ghost use Rattle.command_line.specs.CommandLine.{IsInLimits};
+ghost use Rattle.strata.specs.Ending.{profile_of, first_of};
+
+use command_line::Line;
+use serve_core::{Plan, Profile, Session};
+
+/// The rules that the line holds images to.
+pub fn profile_of(line: &Line<'_>) -> Profile
+    ensures { result ≡ profile_of line.now }
+{
+    if line.strict {
+        Profile::Strict
+    } else {
+        Profile::Usual
+    }
+}
+
+/// The session that the line has its streams begin in.
+pub fn first_of(line: &Line<'_>) -> Session
+    ensures { result ≡ first_of line.now }
+{
+    if line.lasting || line.device {
+        Session::LastingFresh
+    } else {
+        Session::Fresh
+    }
+}
+
+/// The plan that the line says.
+pub fn plan_of(line: &Line<'_>) -> Plan
+    requires { IsInLimits line.now }
+    ensures workers { result.workers ≡ line.now.workers }
+    ensures batch { result.batch ≡ line.now.batch }
+{
+    Plan::new(line.workers, line.batch).unwrap()
+}
