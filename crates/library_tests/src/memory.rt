@@ -2,20 +2,47 @@
 
 use crate::stacks::wrong_of;
 use crate::tables::table_of;
+use layer_tree::{Tree, lay};
 use romfs_image::sample::BuildFault;
+use romfs_image::{CheckFault, Image, Profile};
 use stack_core::FreePass;
 use std::alloc::{Allocator, Global};
 use std::test::Fail;
 use std::thread::Threads;
 use test_kit::refusing::refuse_each;
-use test_kit::sample_images::{SAMPLE, checked, sample};
+use test_kit::sample_images::{SAMPLE, checked, layers, sample};
 
 #[derive(Clone, Copy, Debug)]
 enum Call {
     Build,
     Check,
+    CheckAs,
+    TreeOf,
+    Lay,
     Stack,
     Table,
+}
+
+/// The size of the sample image, checked by the strict profile.
+fn strict_size<A: Allocator + Copy>(alloc: A) -> Result<u32, BuildFault> {
+    match Image::check_as(alloc, sample(alloc)?, Profile::Strict) {
+        Ok(image) => Ok(image.full()),
+        Err(CheckFault::Memory) => Err(BuildFault::Memory),
+        Err(CheckFault::Broken(_)) => Err(BuildFault::Listing),
+    }
+}
+
+/// Whether a tree has the file of the lower layer alone: of this layer, or of one laid on it.
+fn has_file<A: Allocator + Copy>(alloc: A, is_laid: bool) -> Result<bool, BuildFault> {
+    let images = layers(alloc, "1/a 2-c + 1/a 2-.wh.c")?;
+    let [below, above] = images.as_slice() else {
+        return Err(BuildFault::Listing);
+    };
+    let mut tree = Tree::of(alloc, below, 0)?;
+    if is_laid {
+        tree = lay(alloc, tree, Tree::of(alloc, above, 1)?)?;
+    }
+    Ok(tree.entry(&[b"a".as_slice(), b"c".as_slice()]).is_some())
 }
 
 /// Whether a call comes to what it should.
@@ -27,6 +54,9 @@ fn is_right<R: Threads + Sync, A: Allocator + Copy + Send + Sync>(
     match call {
         Call::Build => Ok(sample(alloc)?.len() == 5360),
         Call::Check => Ok(checked(alloc, sample(alloc)?)?.full() == 5360),
+        Call::CheckAs => Ok(strict_size(alloc)? == 5360),
+        Call::TreeOf => has_file(alloc, false),
+        Call::Lay => Ok(!has_file(alloc, true)?),
         Call::Stack => {
             // An opaque marker over a marker for a name.
             let layers = "1/a 2-c 1-b + 1-.wh.b 1/a 2-d + 1/a 2-.wh..wh..opq 2-c";
@@ -58,6 +88,9 @@ fn requests_of<R: Threads + Sync>(rt: &R, alloc: Global, call: Call) -> Result<u
 fn each_request_is_refused_in_turn(rt: HostRuntime) -> Result<(), Fail> {
     let building = requests_of(&rt, rt.alloc(), Call::Build)?;
     assert!(rt; building < requests_of(&rt, rt.alloc(), Call::Check)?);
+    assert!(rt; building < requests_of(&rt, rt.alloc(), Call::CheckAs)?);
+    let reading = requests_of(&rt, rt.alloc(), Call::TreeOf)?;
+    assert!(rt; reading < requests_of(&rt, rt.alloc(), Call::Lay)?);
     assert!(rt; 50 < requests_of(&rt, rt.alloc(), Call::Stack)?);
     assert!(rt; 10 < requests_of(&rt, rt.alloc(), Call::Table)?);
     Ok(())

@@ -7,6 +7,7 @@ use romfs_image::{Head, Image};
 use std::alloc::{AllocError, Allocator, Global};
 use std::test::Fail;
 use test_kit::bytes::bytes_of;
+use test_kit::refusing::Refusing;
 use test_kit::sample_images::{checked, empty, mixed};
 
 /// An image as genromfs lays it out: the root's `.` heads its own chain, `..` is a hard link to it,
@@ -45,12 +46,17 @@ fn has_three_files<A: Allocator>(alloc: Global, image: &Image<A>) -> Result<bool
     Ok(files(alloc, image)?.as_slice() == wanted.as_slice())
 }
 
+/// What an image is asked takes no memory.
 #[test]
 fn reads_three_files(rt: HostRuntime) -> Result<(), Fail> {
-    let image = checked(rt.alloc(), bytes_of(rt.alloc(), &THREE_FILES)?)?;
+    let memory = Refusing::new(rt.alloc(), 0);
+    let bytes = bytes_of(rt.alloc(), &THREE_FILES)?;
+    let image = checked(&memory, bytes.to_vec(&memory)?)?;
+    let requests = memory.requests();
     let has_files = has_three_files(rt.alloc(), &image)?;
     let has_root = image.head(32) == Some(image.root()) && image.head(33).is_none();
     assert!(rt; has_files && has_root && image.full() == 256);
+    assert_eq!(rt; memory.requests(), requests);
     Ok(())
 }
 

@@ -8,6 +8,7 @@ use stack_core::{FreePass, Gate, stack};
 use std::alloc::{Allocator, Global};
 use std::test::Fail;
 use std::thread::Threads;
+use test_kit::refusing::Refusing;
 use test_kit::sample_images::layers;
 
 /// Layers by words of `sample_images`; the order in which they are laid; and words of `told`.
@@ -156,5 +157,17 @@ fn trees_show_and_cut(rt: HostRuntime) -> Result<(), Fail> {
         let wrong = wrong_in(&rt, rt.alloc(), paragraph)?;
         assert_eq!(rt; wrong, None, "{paragraph}");
     }
+    Ok(())
+}
+
+#[test]
+fn a_tree_is_asked_without_memory(rt: HostRuntime) -> Result<(), Fail> {
+    let memory = Refusing::new(rt.alloc(), 0);
+    let images = layers(&memory, "1/a 2-c")?;
+    let tree = laid(&memory, &images, "0")?;
+    let requests = memory.requests();
+    let wrong = first_wrong(&tree, "0d.a 0d.c/a 0f!/a/c no./b");
+    assert_eq!(rt; wrong, None);
+    assert_eq!(rt; memory.requests(), requests);
     Ok(())
 }

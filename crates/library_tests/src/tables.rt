@@ -6,6 +6,7 @@ use stack_core::{FreePass, stack};
 use std::alloc::Allocator;
 use std::test::Fail;
 use std::thread::Threads;
+use test_kit::refusing::Refusing;
 use test_kit::sample_images::{SAMPLE, layers};
 
 /// The table of layers by words.
@@ -49,13 +50,28 @@ fn is_unused<A: Allocator>(table: &Table<A>, number: u64) -> bool {
         && table.bytes(number).is_empty()
 }
 
+/// Whether each number has a node and attributes; and, of the file `big` and of the root, its data
+/// and its rows.
+fn are_used<A: Allocator>(table: &Table<A>) -> bool {
+    for number in 1..=table.len() {
+        let ino = table.attr(number).map(|attr| attr.ino);
+        if ino != Some(number) || table.node(number).is_none() {
+            return false;
+        }
+    }
+    table.bytes(2).len() == 5000 && table.rows(1).len() == 4
+}
+
+/// What a table is asked takes no memory.
 #[test]
 fn names_and_numbers_that_are_nowhere(rt: HostRuntime) -> Result<(), Fail> {
-    let table = table_of(&rt, rt.alloc(), SAMPLE)?;
+    let memory = Refusing::new(rt.alloc(), 0);
+    let table = table_of(&rt, &memory, SAMPLE)?;
+    let requests = memory.requests();
     let are_unused = is_unused(&table, 0) && is_unused(&table, 7) && is_unused(&table, u64::MAX);
     let parents = (table.parent(1), table.parent(3), table.parent(2));
-    assert!(rt; are_children(&table) && are_unused);
+    assert!(rt; are_children(&table) && are_unused && are_used(&table));
     assert!(rt; table.len() == 6 && table.blocks_all() == 11);
-    assert!(rt; parents == (Some(1), Some(1), None));
+    assert!(rt; parents == (Some(1), Some(1), None) && memory.requests() == requests);
     Ok(())
 }

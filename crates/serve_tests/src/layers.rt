@@ -3,7 +3,8 @@
 use crate::runs::{Outcome, Run, Seen, WHOLE, serve_of};
 use romfs_format::{ImageFault, Profile, Rule};
 use romfs_image::sample::{BuildFault, seal};
-use serve_core::Stop;
+use serve_core::{Stop, prepare_as};
+use stack_core::FreePass;
 use std::alloc::{AllocError, Global};
 use std::test::Fail;
 use test_kit::sample_images::{alone, empty, sample};
@@ -67,6 +68,9 @@ const SERVED: Outcome = (Ok((12, 1531)), 1531, 2, 2);
 #[test]
 fn refused_images_touch_no_device(rt: HostRuntime) -> Result<(), Fail> {
     let (usual, strict) = (Profile::Usual, Profile::Strict);
+    let images = images_of(rt.alloc(), Layers::Sample)?;
+    let table = prepare_as(&rt, rt.alloc(), images, strict, &FreePass);
+    assert!(rt; table.is_ok_and(|table| table.len() == 6));
     for (layers, profile, wanted) in [
         (Layers::None, usual, untouched(Stop::Layers { count: 0 })),
         (
@@ -86,7 +90,7 @@ fn refused_images_touch_no_device(rt: HostRuntime) -> Result<(), Fail> {
             piece: 999,
             ..WHOLE
         };
-        let seen = serve_of(&rt, rt.alloc(), rt.alloc(), images, profile, row);
+        let seen = serve_of(&rt, rt.alloc(), rt.alloc(), images, profile, row, None);
         assert!(rt;
             seen == Some(Seen::of(wanted)),
             "{layers:?} came to {seen:?}"

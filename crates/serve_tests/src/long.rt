@@ -25,6 +25,8 @@ pub enum Long {
     /// READDIR of the directory, a page from its first row on: 512 rows of 32 bytes. Its rounds are
     /// worth workers.
     Readdir,
+    /// READDIR of all of the directory: 4,002 rows. So are its rounds, from 13 messages on.
+    All,
 }
 
 impl Long {
@@ -33,7 +35,7 @@ impl Long {
         match self {
             Long::Read => (15, 2),
             Long::Readdirplus => (44, 3),
-            Long::Readdir => (28, 3),
+            Long::Readdir | Long::All => (28, 3),
         }
     }
 
@@ -43,6 +45,15 @@ impl Long {
             Long::Read => 16 + 16_384,
             Long::Readdirplus => 16 + 102 * 160,
             Long::Readdir => 16 + 512 * 32,
+            Long::All => 16 + 4002 * 32,
+        }
+    }
+
+    /// How many bytes it asks for.
+    fn size(self) -> u32 {
+        match self {
+            Long::All => 131_072,
+            _ => 16_384,
         }
     }
 }
@@ -89,19 +100,46 @@ pub fn image<A: Allocator + Copy>(alloc: A) -> Result<Vec<u8, A>, BuildFault> {
     build(alloc, b"v", &items)
 }
 
+/// Appends a request: READ, READDIR or READDIRPLUS of a node from its beginning on.
+fn put_request(
+    stream: &mut Vec<u8>,
+    unique: u32,
+    asked: (u8, u8),
+    size: u32,
+) -> Result<(), AllocError> {
+    let (opcode, node) = asked;
+    stream.extend_from_slice(&[80, 0, 0, 0, opcode, 0, 0, 0])?;
+    stream.extend_from_slice(&u64::from(unique).to_le_bytes())?;
+    stream.extend_from_slice(&u64::from(node).to_le_bytes())?;
+    // The rest of the header, the handle, and the offset.
+    stream.extend_from_slice(&[0; 32])?;
+    stream.extend_from_slice(&size.to_le_bytes())?;
+    stream.extend_from_slice(&[0; 20])
+}
+
 /// INIT, and so many requests.
 pub fn stream(alloc: Global, long: Long, count: u32) -> Result<Vec<u8>, AllocError> {
     let mut stream = INIT.to_vec(alloc)?;
-    let (opcode, node) = long.asked();
     for unique in 0..count {
-        stream.extend_from_slice(&[80, 0, 0, 0, opcode, 0, 0, 0])?;
-        stream.extend_from_slice(&u64::from(unique).to_le_bytes())?;
-        stream.extend_from_slice(&u64::from(node).to_le_bytes())?;
-        // The rest of the header, the handle, and the offset.
-        stream.extend_from_slice(&[0; 32])?;
-        // A page.
-        stream.extend_from_slice(&[0, 64, 0, 0, 0, 0, 0, 0])?;
-        stream.extend_from_slice(&[0; 16])?;
+        put_request(&mut stream, unique, long.asked(), long.size())?;
+    }
+    Ok(stream)
+}
+
+/// An image of a file of 1 MiB: node 2.
+pub fn mebibyte<A: Allocator + Copy>(alloc: A) -> Result<Vec<u8, A>, BuildFault> {
+    let mut data = Vec::new(alloc);
+    data.resize(1 << 20, 7)?;
+    let mut items = Vec::new(alloc);
+    items.push(item(1, b"a".to_vec(alloc)?, What::Regular(data)))?;
+    build(alloc, b"v", &items)
+}
+
+/// INIT, and READs of so many bytes each.
+pub fn reads(alloc: Global, sizes: &[u32]) -> Result<Vec<u8>, AllocError> {
+    let mut stream = INIT.to_vec(alloc)?;
+    for size in sizes {
+        put_request(&mut stream, 1, Long::Read.asked(), *size)?;
     }
     Ok(stream)
 }

@@ -1,20 +1,20 @@
 //! A reader that gives pieces.
 
+use crate::calls::Calls;
 use std::io::{self, Error, ErrorKind, Read};
 
-/// A reader that gives its bytes in pieces of at most so many, and then ends or fails. It counts
-/// its calls.
+/// A reader that gives its bytes in pieces of at most so many, and then ends or fails.
 #[derive(Drop)]
 pub struct Pieces<'a> {
     pub rest: &'a [u8],
     pub piece: usize,
     pub fails: bool,
-    pub calls: u64,
+    pub calls: Calls<'a>,
 }
 
 impl Read for Pieces<'_> {
     fn read(&mut self, buf: &mut [u8]) -> io::Result<usize> {
-        self.calls = self.calls.saturating_add(1);
+        self.calls.count();
         if self.fails && self.rest.is_empty() {
             return Err(Error::from(ErrorKind::Other));
         }

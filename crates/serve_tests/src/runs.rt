@@ -1,5 +1,6 @@
 //! Runs over the sample image, and what they came to.
 
+use crate::calls::Calls;
 use crate::reader::Pieces;
 use crate::writer::Taker;
 use devices::{Spout, Tap};
@@ -10,6 +11,8 @@ use serve_core::{Done, Session, Stop, prepare, run, serve_as, serve_from};
 use stack_core::FreePass;
 use std::alloc::{AllocError, Allocator, Global};
 use std::thread::Threads;
+use test_kit::messages::REQUESTS;
+use test_kit::refusing::Refusing;
 use test_kit::sample_images::{alone, sample};
 use test_kit::script::{bad_stream, forgets, long_replies, long_stream, script};
 
@@ -25,6 +28,17 @@ pub enum Stream {
     Bad,
     /// A million bytes without a reply.
     Forgets,
+    /// INIT, and 512 GETATTRs of the root.
+    Many,
+}
+
+/// INIT, and 512 GETATTRs of the root.
+fn many(alloc: Global) -> Result<Vec<u8>, AllocError> {
+    let mut stream = REQUESTS[..56].to_vec(alloc)?;
+    for _ in 0..512 {
+        stream.extend_from_slice(&REQUESTS[56..])?;
+    }
+    Ok(stream)
 }
 
 fn stream_of(alloc: Global, stream: Stream) -> Result<Vec<u8>, AllocError> {
@@ -33,6 +47,7 @@ fn stream_of(alloc: Global, stream: Stream) -> Result<Vec<u8>, AllocError> {
         Stream::Long => long_stream(alloc),
         Stream::Bad => bad_stream(alloc),
         Stream::Forgets => forgets(alloc),
+        Stream::Many => many(alloc),
     }
 }
 
@@ -53,7 +68,7 @@ pub struct Run {
     pub room: usize,
     pub most: usize,
     pub fails: bool,
-    /// How many flushes succeed.
+    /// How many flushes succeed before one fails.
     pub flushes: u64,
 }
 
@@ -71,25 +86,28 @@ pub const WHOLE: Run = Run {
     flushes: u64::MAX,
 };
 
-fn pieces_of(stream: &[u8], run: Run) -> Pieces<'_> {
+fn pieces_of<'a>(stream: &'a [u8], run: Run, watched: Watched<'a>) -> Pieces<'a> {
     Pieces {
         rest: stream,
         piece: run.piece,
         fails: run.breaks,
-        calls: 0,
+        calls: Calls::new(watched),
     }
 }
 
-fn taker_of(alloc: Global, run: Run) -> Taker {
+fn taker_of<'a>(alloc: Global, run: Run, watched: Watched<'a>) -> Taker<'a> {
     Taker {
         taken: Vec::new(alloc),
         room: run.room,
         most: run.most,
         fails: run.fails,
         flushes: run.flushes,
-        calls: 0,
+        calls: Calls::new(watched),
     }
 }
+
+/// The memory of a run that is refused, if one looks whether a device is called after that.
+pub type Watched<'a> = Option<&'a Refusing<Global>>;
 
 /// How many messages and how many bytes of replies, or why it stopped.
 pub type End = Result<(u64, u128), Stop>;
@@ -103,6 +121,8 @@ pub struct Seen {
     pub reads: u64,
     /// Writes and flushes.
     pub writes: u64,
+    /// Calls of a device after memory was refused.
+    pub late: u64,
 }
 
 /// How a run ends; how many bytes of the first replies are put, and how many reads, and writes and
@@ -117,6 +137,7 @@ impl Seen {
             put: Some(put),
             reads,
             writes,
+            late: 0,
         }
     }
 }
@@ -125,7 +146,7 @@ impl Seen {
 fn told<A: Allocator>(
     done: &Result<Done<A>, Stop>,
     pieces: &Pieces<'_>,
-    taker: &Taker,
+    taker: &Taker<'_>,
     replies: &[u8],
 ) -> Seen {
     let end = match done {
@@ -138,9 +159,38 @@ fn told<A: Allocator>(
     Seen {
         end,
         put,
-        reads: pieces.calls,
-        writes: taker.calls,
+        reads: pieces.calls.made,
+        writes: taker.calls.made,
+        late: pieces.calls.late.saturating_add(taker.calls.late),
     }
+}
+
+/// A run of the first bytes of a stream over a table.
+pub fn run_over<R: Threads + Sync, A: Allocator + Copy + Send + Sync>(
+    rt: &R,
+    global: Global,
+    alloc: A,
+    table: &Table<A>,
+    streams: (&[u8], &[u8]),
+    row: Run,
+    watched: Watched<'_>,
+) -> Option<Seen> {
+    let plan = Plan::new(row.plan.0, row.plan.1)?;
+    let (stream, replies) = streams;
+    let given = &stream[..stream.len().min(row.given)];
+    let mut pieces = pieces_of(given, row, watched);
+    let mut taker = taker_of(global, row, watched);
+    let done = run(
+        rt,
+        alloc,
+        table,
+        &mut Tap::new(&mut pieces),
+        &mut Spout::new(&mut taker),
+        plan,
+        u64::from(row.turns),
+        &FreePass,
+    );
+    Some(told(&done, &pieces, &taker, replies))
 }
 
 /// A run over the table of the sample image, which stands in memory of `plain`.
@@ -150,25 +200,12 @@ pub fn run_of<R: Threads + Sync, A: Allocator + Copy + Send + Sync>(
     plain: A,
     alloc: A,
     row: Run,
+    watched: Watched<'_>,
 ) -> Option<Seen> {
-    let plan = Plan::new(row.plan.0, row.plan.1)?;
-    let mut stream = stream_of(global, row.stream).ok()?;
-    stream.truncate(row.given);
+    let stream = stream_of(global, row.stream).ok()?;
     let replies = long_replies(global).ok()?;
     let table = sample_table(rt, plain)?;
-    let mut pieces = pieces_of(&stream, row);
-    let mut taker = taker_of(global, row);
-    let done = run(
-        rt,
-        alloc,
-        &table,
-        &mut Tap::new(&mut pieces),
-        &mut Spout::new(&mut taker),
-        plan,
-        u64::from(row.turns),
-        &FreePass,
-    );
-    Some(told(&done, &pieces, &taker, &replies))
+    run_over(rt, global, alloc, &table, (&stream, &replies), row, watched)
 }
 
 /// A run over images.
@@ -179,12 +216,13 @@ pub fn serve_of<R: Threads + Sync, A: Allocator + Copy + Send + Sync>(
     images: Vec<Vec<u8, A>, A>,
     profile: Profile,
     row: Run,
+    watched: Watched<'_>,
 ) -> Option<Seen> {
     let plan = Plan::new(row.plan.0, row.plan.1)?;
     let stream = stream_of(global, row.stream).ok()?;
     let replies = long_replies(global).ok()?;
-    let mut pieces = pieces_of(&stream, row);
-    let mut taker = taker_of(global, row);
+    let mut pieces = pieces_of(&stream, row, watched);
+    let mut taker = taker_of(global, row, watched);
     let done = serve_as(
         rt,
         alloc,
@@ -206,12 +244,13 @@ pub fn serve_lastingly<R: Threads + Sync, A: Allocator + Copy + Send + Sync>(
     alloc: A,
     images: Vec<Vec<u8, A>, A>,
     row: Run,
+    watched: Watched<'_>,
 ) -> Option<Seen> {
     let plan = Plan::new(row.plan.0, row.plan.1)?;
     let stream = stream_of(global, row.stream).ok()?;
     let replies = long_replies(global).ok()?;
-    let mut pieces = pieces_of(&stream, row);
-    let mut taker = taker_of(global, row);
+    let mut pieces = pieces_of(&stream, row, watched);
+    let mut taker = taker_of(global, row, watched);
     let done = serve_from(
         rt,
         alloc,

@@ -15,7 +15,7 @@ fn every_way_gives_the_same_bytes(rt: HostRuntime) -> Result<(), Fail> {
                 plan,
                 ..WHOLE
             };
-            let seen = run_of(&rt, rt.alloc(), rt.alloc(), rt.alloc(), row).ok_or("a run")?;
+            let seen = run_of(&rt, rt.alloc(), rt.alloc(), rt.alloc(), row, None).ok_or("a run")?;
             assert!(rt; seen.end == Ok((12, 1531)) && seen.put == Some(1531));
             assert!(rt; seen.reads == reads, "pieces of {piece}");
         }
@@ -27,34 +27,52 @@ fn every_way_gives_the_same_bytes(rt: HostRuntime) -> Result<(), Fail> {
 #[test]
 fn the_script_is_served_lastingly(rt: HostRuntime) -> Result<(), Fail> {
     let images = alone(rt.alloc(), sample(rt.alloc())?)?;
-    let seen = serve_lastingly(&rt, rt.alloc(), rt.alloc(), images, WHOLE).ok_or("a run")?;
+    let seen = serve_lastingly(&rt, rt.alloc(), rt.alloc(), images, WHOLE, None).ok_or("a run")?;
     assert!(rt; seen.end == Ok((12, 1531)) && seen.put == Some(1531));
     Ok(())
 }
 
-/// How many first bytes of the stream are given, in pieces of so many; whether the read after them
-/// fails; the turns.
-type Source = (usize, usize, bool, u32);
+/// A stream; how many of its first bytes are given, in pieces of so many; whether the read after
+/// them fails; the turns.
+type Source = (Stream, usize, usize, bool, u32);
 
 const CUT_OFF: Stop = Stop::CutOff { at: 100 };
 
 const BAD_LENGTH: Stop = Stop::BadLength { at: 100, len: 39 };
 
-const SOURCES: [(Source, Outcome); 10] = [
-    ((0, 999, false, TURNS), (Ok((0, 0)), 0, 1, 0)),
-    ((0, 999, true, TURNS), (Err(Stop::Read), 0, 1, 0)),
-    ((100, 999, true, TURNS), (Err(Stop::Read), 224, 2, 2)),
-    ((102, 1, true, TURNS), (Err(Stop::Read), 224, 103, 4)),
-    ((102, 999, false, TURNS), (Err(CUT_OFF), 224, 2, 2)),
-    ((105, 1, false, TURNS), (Err(BAD_LENGTH), 224, 104, 4)),
-    ((105, 999, true, TURNS), (Err(BAD_LENGTH), 224, 1, 2)),
-    ((105, 1, false, 0), (Err(Stop::Turns), 0, 0, 0)),
-    ((105, 1, false, 99), (Err(Stop::Turns), 80, 99, 2)),
-    ((105, 1, false, 100), (Err(Stop::Turns), 224, 100, 4)),
+const BAD: Stream = Stream::Bad;
+
+const SCRIPT: Stream = Stream::Script;
+
+const SOURCES: [(Source, Outcome); 15] = [
+    ((BAD, 0, 999, false, TURNS), (Ok((0, 0)), 0, 1, 0)),
+    ((BAD, 0, 999, true, TURNS), (Err(Stop::Read), 0, 1, 0)),
+    ((BAD, 100, 999, true, TURNS), (Err(Stop::Read), 224, 2, 2)),
+    ((BAD, 102, 1, true, TURNS), (Err(Stop::Read), 224, 103, 4)),
+    ((BAD, 102, 999, false, TURNS), (Err(CUT_OFF), 224, 2, 2)),
+    ((BAD, 105, 1, false, TURNS), (Err(BAD_LENGTH), 224, 104, 4)),
+    ((BAD, 105, 999, true, TURNS), (Err(BAD_LENGTH), 224, 1, 2)),
+    ((BAD, 105, 1, false, 0), (Err(Stop::Turns), 0, 0, 0)),
+    ((BAD, 105, 1, false, 99), (Err(Stop::Turns), 80, 99, 2)),
+    ((BAD, 105, 1, false, 100), (Err(Stop::Turns), 224, 100, 4)),
+    (
+        (SCRIPT, 150, 999, true, TURNS),
+        (Err(Stop::Read), 224, 2, 2),
+    ),
+    (
+        (SCRIPT, 652, 1, false, 652),
+        (Err(Stop::Turns), 1531, 652, 20),
+    ),
+    (
+        (SCRIPT, 652, 1, false, 653),
+        (Ok((12, 1531)), 1531, 653, 20),
+    ),
+    ((SCRIPT, 652, 999, false, 1), (Err(Stop::Turns), 1531, 1, 2)),
+    ((SCRIPT, 652, 999, false, 2), (Ok((12, 1531)), 1531, 2, 2)),
 ];
 
 /// The script in pieces of so many bytes; how many bytes are taken in all and at once; whether the
-/// write after them fails, or takes none; how many flushes succeed.
+/// write after them fails, or takes none; how many flushes succeed before one fails.
 type Sink = (usize, usize, usize, bool, u64);
 
 const ALL: usize = usize::MAX;
@@ -73,8 +91,8 @@ const SINKS: [(Sink, Outcome); 7] = [
 
 #[test]
 fn devices_end_and_fail(rt: HostRuntime) -> Result<(), Fail> {
-    for ((given, piece, breaks, turns), wanted) in SOURCES {
-        let (stream, plan) = (Stream::Bad, (1, 1));
+    for ((stream, given, piece, breaks, turns), wanted) in SOURCES {
+        let plan = (1, 1);
         let row = Run {
             stream,
             given,
@@ -84,7 +102,7 @@ fn devices_end_and_fail(rt: HostRuntime) -> Result<(), Fail> {
             plan,
             ..WHOLE
         };
-        let seen = run_of(&rt, rt.alloc(), rt.alloc(), rt.alloc(), row);
+        let seen = run_of(&rt, rt.alloc(), rt.alloc(), rt.alloc(), row, None);
         assert!(rt; seen == Some(Seen::of(wanted)), "{row:?} came to {seen:?}");
     }
     for ((piece, room, most, fails, flushes), wanted) in SINKS {
@@ -96,20 +114,32 @@ fn devices_end_and_fail(rt: HostRuntime) -> Result<(), Fail> {
             flushes,
             ..WHOLE
         };
-        let seen = run_of(&rt, rt.alloc(), rt.alloc(), rt.alloc(), row);
+        let seen = run_of(&rt, rt.alloc(), rt.alloc(), rt.alloc(), row, None);
         assert!(rt; seen == Some(Seen::of(wanted)), "{row:?} came to {seen:?}");
     }
-    // 16 pulls of 65,536 bytes, one of 32, and the end.
-    let (stream, plan) = (Stream::Forgets, (1, 256));
-    let row = Run {
-        stream,
-        plan,
-        ..WHOLE
-    };
-    let seen = run_of(&rt, rt.alloc(), rt.alloc(), rt.alloc(), row);
-    assert!(rt;
-        seen == Some(Seen::of((Ok((21_846, 0)), 0, 18, 0))),
-        "{seen:?}"
-    );
+    Ok(())
+}
+
+/// Streams that are read in pulls of at most 65,536 bytes, and answered in rounds of at most 256
+/// messages, each with one write and one flush if it has a reply.
+#[test]
+fn pulls_and_rounds_are_not_larger(rt: HostRuntime) -> Result<(), Fail> {
+    for (stream, end, reads, writes) in [
+        // 16 pulls of 65,536 bytes, one of 32, and the end.
+        (Stream::Forgets, Ok((21_846, 0)), 18, 0),
+        // Rounds of 256, 256 and 1; a pull of 28,728 bytes, and the end.
+        (Stream::Many, Ok((513, 61_520)), 2, 6),
+    ] {
+        let row = Run {
+            stream,
+            plan: (1, 256),
+            ..WHOLE
+        };
+        let seen = run_of(&rt, rt.alloc(), rt.alloc(), rt.alloc(), row, None).ok_or("a run")?;
+        assert!(rt;
+            seen.end == end && seen.reads == reads && seen.writes == writes,
+            "{seen:?}"
+        );
+    }
     Ok(())
 }

@@ -1,22 +1,23 @@
 //! A writer that takes so much.
 
+use crate::calls::Calls;
 use std::io::{self, Error, ErrorKind, Write};
 
 /// A writer that takes so many bytes in all, and at most so many at once; then each write fails, or
-/// takes none. So many of its flushes succeed. It counts its calls.
+/// takes none. So many of its flushes succeed, then one fails. It counts its writes and flushes.
 #[derive(Drop)]
-pub struct Taker {
+pub struct Taker<'a> {
     pub taken: Vec<u8>,
     pub room: usize,
     pub most: usize,
     pub fails: bool,
     pub flushes: u64,
-    pub calls: u64,
+    pub calls: Calls<'a>,
 }
 
-impl Write for Taker {
+impl Write for Taker<'_> {
     fn write(&mut self, buf: &[u8]) -> io::Result<usize> {
-        self.calls = self.calls.saturating_add(1);
+        self.calls.count();
         if self.fails && self.room == 0 {
             return Err(Error::from(ErrorKind::StorageFull));
         }
@@ -27,8 +28,9 @@ impl Write for Taker {
     }
 
     fn flush(&mut self) -> io::Result<()> {
-        self.calls = self.calls.saturating_add(1);
+        self.calls.count();
         if self.flushes == 0 {
+            self.flushes = u64::MAX;
             return Err(Error::from(ErrorKind::Other));
         }
         self.flushes -= 1;
