@@ -2,7 +2,7 @@
 
 use crate::stacks::wrong_of;
 use crate::tables::table_of;
-use layer_tree::{Tree, lay};
+use layer_tree::{OfLayer, Tree, lay};
 use romfs_image::sample::BuildFault;
 use romfs_image::{CheckFault, Image, Profile};
 use stack_core::FreePass;

@@ -17,7 +17,7 @@ use romfs_format::Kind;
 use std::alloc::Allocator;
 
 /// A round is worth workers that one thread answers in so many nanoseconds. Within 4 MiB of replies
-/// READ and READDIRPLUS take less: what workers save on them, copying their replies once more costs.
+/// READ and READDIRPLUS take less: what workers save on them, one more copy of their replies costs.
 const WORTH: u64 = 1_000_000;
 
 /// The most bytes of replies of a round that workers answer: 4 MiB.

@@ -8,7 +8,7 @@
 //! names.
 //!
 //! What the calls promise is said by the definitions of `romfs_format`, and in `specs/`: what the
-//! readers give (`Readers`, step by step `Walks`, and `Ends`), and what a sound image is known to be
+//! readers give (`Readers`, step by step `Walks`, and `Ends`), and what is known of a sound image
 //! (`Images`). The readers are proved for every image that keeps all rules. [`laws`] says that each
 //! path of such an image has one header and at most 512 names, and that there are finitely many.
 #![tactic(auto)]

@@ -1,4 +1,5 @@
-//! What a line says of serving: the rules for images, the session that a stream begins in, the plan.
+//! What a line says of serving: the rules for images, the session that a stream begins in, and
+//! the plan.
 
 ghost use Rattle.std.specs.Prelude.{◌≡◌};
 ghost use Rattle.command_line.specs.CommandLine.{IsInLimits};
