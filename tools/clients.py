@@ -37,7 +37,7 @@ class Client:
     def sent(self):
         return b"".join(self.pieces)
 
-    def ends_session(self):
+    def lasts(self):
         """Whether its session lasts until its own end: it gets replies, and says no bad length."""
         return self.replies != b"" and bad_length(split(self.sent())[1], 0) is None
 
@@ -237,7 +237,7 @@ class Party:
     def look(self, client, waiting):
         """Looks at those who wait, before a client ends that was served: nothing came to them."""
         ends = [visit.end for visit in waiting if visit.end.fileno() >= 0 and not visit.client.is_deaf]
-        if client.ends_session() and select.select(ends, [], [], 0)[0]:
+        if client.lasts() and select.select(ends, [], [], 0)[0]:
             self.told.append("a client that waits was served before the one above it had ended")
         if client.files is not None:
             resource.prlimit(self.process, resource.RLIMIT_NOFILE, (client.files, client.files))
