@@ -4,9 +4,12 @@ use draw_board::{Board, Few};
 use std::test::Fail;
 use test_kit::refusing::Refusing;
 
+/// No call but the start takes memory.
 #[test]
 fn two_hands_share_three_numbers(rt: HostRuntime) -> Result<(), Fail> {
-    let (board, mut a) = Board::start(rt.alloc(), 3, 2)?;
+    let memory = Refusing::new(rt.alloc(), 0);
+    let (board, mut a) = Board::start(&memory, 3, 2)?;
+    let requests = memory.requests();
     let Ok(mut b) = board.split(&mut a, 1) else {
         panic!(rt; "the first hand has two misses")
     };
@@ -17,6 +20,7 @@ fn two_hands_share_three_numbers(rt: HostRuntime) -> Result<(), Fail> {
     assert_eq!(rt; misses, [None, None, None]);
     board.rejoin(&mut a, b);
     assert_eq!(rt; board.close(a), 5);
+    assert_eq!(rt; memory.requests(), requests);
     Ok(())
 }
 
