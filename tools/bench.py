@@ -32,7 +32,7 @@ MOST, MOST_OF_CAT, MOST_OF_GETATTR = 5, 4, 11
 # how many times the processor time of one worker four may take
 MOST_WORKERS = 3
 # how many times the processor time of a stream through pipes one at a socket may take; how many of the shortest sessions
-MOST_OF_PIPES, SESSIONS = 2, 20000
+MOST_OF_PIPES, SESSIONS = 4, 20000
 HOSTILE = ("check", "stacks", "streams", "pulls")
 PARTS = ("serve", "lookups", "sockets", *HOSTILE, "workers")
 # what the sizes are divided by for the gate
