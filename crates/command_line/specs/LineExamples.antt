@@ -46,6 +46,11 @@ pub record ReadsAs (text : Text) (parts : Parts) : Type 0 where
   pub apart : ¬ IsCrossed (words_of text)
   pub says : (line : Line) → IsLineOf (words_of text) line → Says line parts
 
+-- each option of `serve` but the device
+abbrev pub every_option : Text
+every_option =
+    codes "serve --workers 2 --batch 3 --requests q --replies r --balances b --strict --lasting f"
+
 -- words that are a command, and what they say
 pub record TakenLines : Type 0 where
   pub check_one : ReadsAs (codes "check e.img") (plain verbs.Check (codes "e.img"))
@@ -60,8 +65,7 @@ pub record TakenLines : Type 0 where
       (record (plain verbs.Serve (codes "f")) { device = true; workers = 2 })
   pub serve_layers : ReadsAs (codes "serve --replies r f g e")
       (record (plain verbs.Serve (codes "f g e")) { replies = Some (codes "r") })
-  pub all_options : ReadsAs
-      (codes "serve --workers 2 --batch 3 --requests q --replies r --balances b --strict --lasting f")
+  pub all_options : ReadsAs every_option
       (record {
         verb = verbs.Serve;
         strict = true;

@@ -1,4 +1,4 @@
-//! Trees of layers are made at the same time, but of no more than 16 parts; and each after its gate.
+//! Trees of layers are made at the same time, but of no more than 16 parts, each after its gate.
 
 use crate::stacks::wrong_of;
 use stack_core::{Gate, Work, stack};
