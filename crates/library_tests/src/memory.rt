@@ -4,7 +4,7 @@ use crate::stacks::wrong_of;
 use crate::tables::table_of;
 use layer_tree::{OfLayer, Tree, lay};
 use romfs_image::sample::BuildFault;
-use romfs_image::{CheckFault, Image, Profile};
+use romfs_image::{Check, CheckFault, Image, Profile};
 use stack_core::FreePass;
 use std::alloc::{Allocator, Global};
 use std::test::Fail;
