@@ -16,12 +16,12 @@ use node_table::Table;
 use romfs_format::Kind;
 use std::alloc::Allocator;
 
-/// A round is worth workers that one thread answers in so many nanoseconds. Within 4 MiB of replies
+/// A round is worth workers that one thread answers in so many nanoseconds. Within 2 MiB of replies
 /// READ and READDIRPLUS take less: what workers save on them, one more copy of their replies costs.
 const WORTH: u64 = 1_000_000;
 
-/// The most bytes of replies of a round that workers answer: 4 MiB.
-const MOST_REPLIES: u64 = 4_194_304;
+/// The most bytes of replies of a round that workers answer: 2 MiB.
+const MOST_REPLIES: u64 = 2_097_152;
 
 /// The part of each message in a whole round that is just worth workers.
 const PACE: u64 = WORTH / MAX_ROUND_MESSAGES as u64;
@@ -55,7 +55,7 @@ struct Load {
 }
 
 /// How many of the first messages of a stream workers are to answer: 1 to 256, with no more than
-/// 4 MiB of replies. None where the round is not worth workers.
+/// 2 MiB of replies. None where the round is not worth workers.
 pub(crate) fn worth_workers<A: Allocator>(table: &Table<A>, stream: &[u8]) -> Option<usize>
     ensures { IfSome result (λ n. (1 ≤ n) × (n ≤ 256)) }
 {

@@ -106,7 +106,7 @@ fn long_lists_by_workers(rt: HostRuntime) -> Result<(), Fail> {
         let many = ran(&rt, global, global, &table, &stream, plan, &gate).ok_or("a run")?;
         assert!(rt; is_same(&many, &alone), "{plan:?}");
         assert!(rt;
-            many.writes == 4 && gate.given_up.load(Ordering::SeqCst) == 0,
+            many.writes == 6 && gate.given_up.load(Ordering::SeqCst) == 0,
             "{plan:?}"
         );
     }

@@ -5,7 +5,7 @@ abbrev pub invariant-loop-messages : goal.invariant-loop-messages
 invariant-loop-messages g l = record {
   few : l.messages ≤ 256;
   time : l.time ≤ l.messages * 2 ^ 33;
-  room : l.room ≤ 4194304;
+  room : l.room ≤ 2097152;
 }
 
 abbrev pub decreases-loop-messages : goal.decreases-loop-messages
