@@ -12,7 +12,7 @@ use crate::listing::Listing;
 use crate::rows::line_at;
 use fuse_wire::Request;
 use fuse_wire::forget::{Forget, Forgets};
-use node_table::Table;
+use stack_table::Table;
 use reply_model::{Move, Session};
 use std::alloc::{AllocError, Allocator};
 

@@ -9,7 +9,7 @@ use crate::content::Answer;
 use crate::node::{kind_of, wired};
 use fuse_wire::Errno;
 use fuse_wire::limits::MAX_NAME_SIZE;
-use node_table::Table;
+use stack_table::Table;
 use reply_model::Agreement;
 use romfs_format::Kind;
 use std::alloc::Allocator;

@@ -12,7 +12,7 @@ use crate::content::Answer;
 use crate::decide::decide;
 use crate::write::write;
 use fuse_wire::{Errno, Op, Request, opcode, put_error};
-use node_table::Table;
+use stack_table::Table;
 use reply_model::Session;
 use std::alloc::{AllocError, Allocator};
 

@@ -9,7 +9,7 @@ ghost use Rattle.reply_pool.specs.Jobs.{HasFewItems, IsRounded, moved_by, reply_
 use crate::sums::sums;
 use fuse_answer::{answer, moves};
 use fuse_wire::{Op, Request};
-use node_table::Table;
+use stack_table::Table;
 use reply_model::{Move, Session};
 use std::alloc::{AllocError, Allocator};
 

@@ -10,7 +10,7 @@ ghost use Rattle.reply_pool.specs.Workers.{AreWhole, IsLast, WorksAlone};
 use crate::pieces::Piece;
 use draw_board::{Board, Hand};
 use fuse_wire::Request;
-use node_table::Table;
+use stack_table::Table;
 use reply_model::Session;
 use std::alloc::Allocator;
 

@@ -12,7 +12,7 @@ ghost use Rattle.std.specs.Prelude.{◌≤◌, ◌^◌, IfSome};
 
 use fuse_wire::limits::{MAX_DATA_SIZE, MAX_ROUND_MESSAGES, OUT_HEADER_SIZE};
 use fuse_wire::{Framed, Op, Request, frame};
-use node_table::Table;
+use stack_table::Table;
 use romfs_format::Kind;
 use std::alloc::Allocator;
 

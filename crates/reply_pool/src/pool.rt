@@ -13,7 +13,7 @@ use crate::load::worth_workers;
 use crate::plan::{Plan, pass_batch};
 use fuse_answer::{after, answer_and_move};
 use fuse_wire::Request;
-use node_table::Table;
+use stack_table::Table;
 use reply_model::Session;
 use serve_loop::{Answers, Round, Rounds, walk};
 use std::alloc::{AllocError, Allocator};

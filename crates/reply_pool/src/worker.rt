@@ -10,7 +10,7 @@ use crate::jobs::{Rounded, answer_jobs};
 use crate::pieces::Piece;
 use draw_board::{Board, Hand};
 use fuse_wire::Request;
-use node_table::Table;
+use stack_table::Table;
 use reply_model::Session;
 use std::alloc::{AllocError, Allocator};
 use std::thread::Threads;

@@ -16,7 +16,7 @@ use crate::plan::Plan;
 use crate::worker::work;
 use draw_board::{Board, Hand};
 use fuse_wire::Request;
-use node_table::Table;
+use stack_table::Table;
 use reply_model::Session;
 use std::alloc::{AllocError, Allocator};
 use std::thread::{Threads, join};
