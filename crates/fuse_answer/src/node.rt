@@ -10,9 +10,9 @@ use crate::content::Answer;
 use fuse_wire::flags::{FOPEN_CACHE_DIR, FOPEN_KEEP_CACHE};
 use fuse_wire::limits::MAX_DATA_SIZE;
 use fuse_wire::{Attr, Errno};
-use stack_table::Table;
 use reply_model::Agreement;
 use romfs_format::Kind;
+use stack_table::Table;
 use std::alloc::Allocator;
 
 /// What GETATTR is answered.

@@ -28,8 +28,10 @@ pub trait OfTree: Sized {
     /// The images of the layers, the lowest first.
     type Images;
 
+    ghost use Rattle.std.specs.Thread.{IsSync};
+
     // Holds of a tree and the images whose tree it is.
-    ghost fits: { Tree → Images → Type 0 };
+    ghost fits: { Self.Tree → Self.Images → Type 0 };
 
     /// What is made of this tree and these images.
     fn of<R: Threads + Sync>(
@@ -38,7 +40,8 @@ pub trait OfTree: Sized {
         tree: Self::Tree,
         images: Self::Images,
     ) -> Result<Self, AllocError>
-        requires { fits tree images };
+        requires threads { IsSync R.row }
+        requires fits { fits tree images };
 }
 
 impl<A: Allocator + Copy> OfTree for Table<A> {
@@ -49,6 +52,7 @@ impl<A: Allocator + Copy> OfTree for Table<A> {
     type Images = Vec<Image<A>, A>;
 
     ghost use Rattle.std.specs.Prelude.{◌≤◌, length};
+    ghost use Rattle.std.specs.Thread.{IsSync};
     ghost use Rattle.shown_tree.specs.Trees.{IsTreeOf};
 
     ghost fits = { λ tree images. IsTreeOf 0 images.items tree × (length images.items ≤ 128) };
@@ -63,6 +67,7 @@ impl<A: Allocator + Copy> OfTree for Table<A> {
         tree: Tree<A>,
         images: Vec<Image<A>, A>,
     ) -> Result<Table<A>, AllocError>
+        requires threads { IsSync R.row }
         requires tree { IsTreeOf 0 images.items tree }
         requires few { length images.items ≤ 128 }
         ensures { IfOk result (λ table. IsTableOf images.items table) }
