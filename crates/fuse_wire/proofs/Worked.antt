@@ -24,4 +24,18 @@ pub flags : FlagExamples
 flags = record { async_read = refl; export_support = refl; do_readdirplus = refl; readdirplus_auto = refl; no_open_support = refl; parallel_dirops = refl; max_pages = refl; cache_symlinks = refl; no_opendir_support = refl; keep_cache = refl; cache_dir = refl }
 
 pub limits : LimitExamples
-limits = record { header = refl; out_header = refl; most_data = refl; readahead = refl; write = refl; message = refl; reply = refl; name = refl; forgets = refl; round = refl; enough = refl; pull = refl; turns = refl }
+limits = record {
+  header = refl;
+  out_header = refl;
+  most_data = refl;
+  readahead = refl;
+  write = refl;
+  message = refl;
+  reply = refl;
+  name = refl;
+  forgets = refl;
+  round = refl;
+  enough = refl;
+  pull = refl;
+  turns = refl;
+}
