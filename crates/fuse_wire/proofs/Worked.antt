@@ -2,7 +2,7 @@
 use Rattle.std.proofs.Common.{refl}
 use Rattle.fuse_wire.specs.Requests.{op_of, forgets_of}
 use Rattle.fuse_wire.specs.Structures.{u32, u64, zeros, dirent_front, dirent}
-use Rattle.fuse_wire.specs.Examples.{OpcodeExamples, MessageExamples, ForgetExamples, DirentExamples, FlagExamples}
+use Rattle.fuse_wire.specs.Examples.{OpcodeExamples, MessageExamples, ForgetExamples, DirentExamples, FlagExamples, LimitExamples}
 
 pub opcodes : OpcodeExamples
 unfolding op_of forgets_of u32 u64 zeros dirent_front dirent
@@ -22,3 +22,20 @@ dirents = record { one_byte = refl; seven_bytes = refl; eight_bytes = refl; nine
 
 pub flags : FlagExamples
 flags = record { async_read = refl; export_support = refl; do_readdirplus = refl; readdirplus_auto = refl; no_open_support = refl; parallel_dirops = refl; max_pages = refl; cache_symlinks = refl; no_opendir_support = refl; keep_cache = refl; cache_dir = refl }
+
+pub limits : LimitExamples
+limits = record {
+  header = refl;
+  out_header = refl;
+  most_data = refl;
+  readahead = refl;
+  write = refl;
+  message = refl;
+  reply = refl;
+  name = refl;
+  forgets = refl;
+  round = refl;
+  enough = refl;
+  pull = refl;
+  turns = refl;
+}

@@ -1,6 +1,6 @@
 //! Worked examples: what messages ask, and rows as bytes, by computation.
 
-ghost use Rattle.fuse_wire.specs.Examples.{OpcodeExamples, MessageExamples, ForgetExamples, DirentExamples, FlagExamples};
+ghost use Rattle.fuse_wire.specs.Examples.{OpcodeExamples, MessageExamples, ForgetExamples, DirentExamples, FlagExamples, LimitExamples};
 
 /// What each opcode asks, by its number.
 #[tactic(auto, using(crate::proofs::Worked::opcodes))]
@@ -30,4 +30,10 @@ pub fn dirents_example()
 #[tactic(auto, using(crate::proofs::Worked::flags))]
 pub fn flags_example()
     ensures { FlagExamples }
+{}
+
+/// The numbers of the limits.
+#[tactic(auto, using(crate::proofs::Worked::limits))]
+pub fn limits_example()
+    ensures { LimitExamples }
 {}

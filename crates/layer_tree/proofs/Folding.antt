@@ -1,6 +1,6 @@
 -- A directory with the branches of its members has those of all paths from it.
-use Rattle.std.proofs.Common.{◌≡◌, ◌≢◌, ◌∙◌, sym, ap, subst, ℕ, zero, suc, ◌↔◌, inl, inr, List, [], ◌∷◌, ◌++◌, refl, Some, None, Option, Bool, true, false, ◌||◌, not, IsTrue, IsSomeAnd}
-use Rattle.std.specs.Prelude.{slice_get, is_some, option_map, MatchOption}
+use Rattle.std.proofs.Common.{◌≡◌, ◌≢◌, ◌∙◌, sym, ap, subst, ℕ, zero, suc, ◌↔◌, inl, inr, List, [], ◌∷◌, ◌++◌, refl, Some, None, Option, Bool, true, false, ◌||◌, not, IsTrue, IsSomeAnd, length, arith}
+use Rattle.std.specs.Prelude.{◌==◌, slice_get, is_some, option_map, MatchOption}
 use Rattle.std.specs.List.{AllByRecursion}
 use Rattle.romfs_format.specs.declared.head.Kind.{Kind}
 use Rattle.romfs_format.specs.declared.head.Kind.TheVariants.{HardLink, Directory, Regular, SymLink, Block, Character, Socket, Fifo}
@@ -261,8 +261,18 @@ alone_without a layer h n e k w blank = record { name = w.entry_name; entries = 
         = ap (λ x. x || covered_by (at_path (whole e)) path) (nothing_cut path ∙ sym (nothing path)) in
         subst (λ x. IsTrue x ↔ CutsAt a h path) (sym same) (w.exact path p)
 
+pub no_true : (b : Bool) → not b ≡ true → b ≡ false
+no_true true e = sym e
+no_true false e = refl
+
+-- a mark that itself cuts nothing is blank exactly where it has no branches
+pub blank_below : (k : Shoot Mark) (ks : List (Shoot Mark)) (none : Bool) → k.value.cut ≡ false → k.value.opaque ≡ false
+    → k.below ≡ spread ks → none ≡ (length ks == 0) → (IsTrue none → IsBlank k) × (IsBlank k → IsTrue none)
+blank_below k [] none u o b e = (λ t. record { uncut = u; clear = o; nothing = b }, λ blank. e)
+blank_below k (s ∷ ss) none u o b e = (λ t. absurd (grind (arith, t, e)), λ blank. (let f = sym b ∙ blank.nothing in absurd (cc)))
+
 -- a mark where one is needed
 pub made_as_needed : (a : List ℕ) (layer h : ℕ) (n : List ℕ) (e : Shoot Entry) (k : Shoot Mark) (o : Option (Shoot Mark))
-    → AreBranchesOf a layer h n e k → MatchOption o (IsBlank k) (λ s. s ≡ k) → IsMadeOf a layer h n (e, o)
+    → AreBranchesOf a layer h n e k → MatchOption o (IsBlank k) (λ s. (s ≡ k) × ¬ IsBlank k) → IsMadeOf a layer h n (e, o)
 made_as_needed a layer h n e k None w p = alone_without a layer h n e k w p
-made_as_needed a layer h n e k (Some s) w p = subst (λ x. AreBranchesOf a layer h n e x) (sym p) w
+made_as_needed a layer h n e k (Some s) w p = subst (λ x. AreBranchesOf a layer h n e x) (sym p.0) w

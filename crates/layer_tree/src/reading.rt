@@ -8,7 +8,7 @@
 //! It takes n log n steps in the members of the layer and the hard links that they lead to: ends of
 //! hard links that were found are kept while the tree is made.
 
-ghost use Rattle.std.specs.Prelude.{◌≡◌, ◌≢◌, [], ◌∷◌, IfOk, IsTrue, MatchOption, is_some};
+ghost use Rattle.std.specs.Prelude.{◌≡◌, ◌≢◌, [], ◌∷◌, ◌↔◌, IfOk, IsTrue, MatchOption, is_some};
 ghost use Rattle.romfs_reader.specs.Images.{IsImage};
 ghost use Rattle.romfs_reader.specs.Readers.{IsGiven};
 ghost use Rattle.shown_tree.specs.Trees.{IsTreeOf};
@@ -136,16 +136,16 @@ fn directory<A: Allocator + Copy>(
     folder(alloc, image, layer, name, head, &members, below)
 }
 
-/// The mark, if it or one below it cuts anything.
+/// The mark, if it or one below it cuts anything, and none else.
 fn needed<A: Allocator>(mark: Branch<Mark, A>) -> Option<Branch<Mark, A>>
-    ensures { MatchOption result (IsBlank mark) (λ same. same ≡ mark) }
+    ensures { MatchOption result (IsBlank mark) (λ same. (same ≡ mark) × ¬ IsBlank mark) }
 {
     if is_blank(&mark) { None } else { Some(mark) }
 }
 
 /// Whether neither the mark nor one below it cuts anything.
 fn is_blank<A: Allocator>(mark: &Branch<Mark, A>) -> bool
-    ensures { IsTrue result → IsBlank mark.now }
+    ensures { IsTrue result ↔ IsBlank mark.now }
 {
     !mark.value().cut && !mark.value().opaque && mark.children().is_empty()
 }

@@ -1,6 +1,6 @@
 //! A branch of a tree, and what is found below it.
 
-ghost use Rattle.std.specs.Prelude.{◌≡◌, [], map, IfOk, MatchOption};
+ghost use Rattle.std.specs.Prelude.{◌≡◌, ◌<◌, [], length, map, MatchOption, MatchResult};
 ghost use Rattle.path_tree.specs.Rows.{spread, whole, name_cmp, NamesRise, IsForest, IsFirstNamed, IsUnder};
 
 use crate::name::Name;
@@ -98,7 +98,8 @@ impl<T: Copy + Drop, A: Allocator + Copy> Branch<T, A> {
     /// The branch's name once more. `AllocError` comes only where memory was refused for a name of
     /// more than 22 bytes.
     pub fn copy_name(&self, alloc: A) -> Result<Name<A>, AllocError>
-        ensures { IfOk result (λ name. name ≡ self.now.name) }
+        ensures { MatchResult result
+            (λ name. name ≡ self.now.name) (λ _. 22 < length self.now.name) }
     {
         self.name.copied(alloc)
     }

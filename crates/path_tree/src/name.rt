@@ -1,6 +1,6 @@
 //! Names that need no allocation while they are short.
 
-ghost use Rattle.std.specs.Prelude.{◌≡◌, ◌≤◌, length, IfOk};
+ghost use Rattle.std.specs.Prelude.{◌≡◌, ◌<◌, ◌≤◌, length, MatchResult};
 
 use std::alloc::{AllocError, Allocator, Global};
 use std::marker::Model;
@@ -71,18 +71,20 @@ const _: () = prove!(size_of::<Name<Global>>() <= 24);
 
 impl<A: Allocator> Model for Name<A> {
     ghost use Rattle.std.specs.Prelude.{List, ℕ};
-    ghost use Rattle.path_tree.specs.Names.{bytes_of};
+    ghost use Rattle.path_tree.specs.Names.{bytes_of, IsBesideIfLong};
 
     ghost Value = { List ℕ };
 
     ghost view = { λ n. bytes_of n.bytes };
+
+    ghost invariant = { λ n. IsBesideIfLong n.bytes };
 }
 
 impl<A: Allocator + Copy> Name<A> {
     /// A name of one's own. `AllocError` comes only where memory was refused for a name of more
     /// than 22 bytes.
     pub fn of(alloc: A, name: &[u8]) -> Result<Name<A>, AllocError>
-        ensures { IfOk result (λ own. own ≡ name.now) }
+        ensures { MatchResult result (λ own. own ≡ name.now) (λ _. 22 < length name.now) }
     {
         let bytes = if name.len() <= MOST {
             Bytes::Here(Short::of(name))
@@ -95,7 +97,7 @@ impl<A: Allocator + Copy> Name<A> {
     /// The same name once more. `AllocError` comes only where memory was refused for a name of more
     /// than 22 bytes.
     pub fn copied(&self, alloc: A) -> Result<Name<A>, AllocError>
-        ensures { IfOk result (λ own. own ≡ self.now) }
+        ensures { MatchResult result (λ own. own ≡ self.now) (λ _. 22 < length self.now) }
     {
         let bytes = match &self.bytes {
             Bytes::Here(short) => Bytes::Here(short.copied()),

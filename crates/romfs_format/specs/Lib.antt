@@ -4,3 +4,4 @@ pub mod Links
 pub mod Rules
 pub mod Heads
 pub mod Texts
+pub mod Examples

@@ -5,11 +5,12 @@
 //! in which directory (`Chains`), what they lead to (`Links`), the rules of an image and the one
 //! fault of an image that breaks some (`Rules`, in words `Texts`). [`limits`] has its sizes and
 //! limits. [`read`] reads words, names and headers where they lie within the image; no call takes
-//! memory. [`laws`] says that an image has at most one fault.
+//! memory. [`laws`] says that an image has at most one fault, [`examples`] the numbers of the limits.
 //!
 //! The crate stands on `byteorder` for words and `memchr` for the ends of names.
 #![tactic(auto)]
 
+pub mod examples;
 pub mod head;
 pub mod laws;
 pub mod limits;

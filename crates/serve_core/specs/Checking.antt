@@ -1,5 +1,5 @@
 -- What comes of a run of images that are checked.
-use Rattle.std.specs.Prelude.{◌≡◌, ℕ, ◌+◌, List, map, All, ⊤, IfOk, IfErr}
+use Rattle.std.specs.Prelude.{◌≡◌, ℕ, ◌+◌, ◌⊎◌, List, ◌++◌, map, All, ⊤, IfOk, IfErr, Ok, Err}
 use Rattle.std.specs.declared.result.Result.{Result}
 use Rattle.std.specs.declared.vec.Vec.{Vec}
 use Rattle.romfs_format.specs.Fields.{image}
@@ -28,3 +28,22 @@ abbrev pub Checks : {A : Type 0} → ℕ → Profile → List (List ℕ) → Res
 Checks first profile images result =
     IfOk result (λ checked. AreChecked profile images checked.items)
     × IfErr result (IsBroken first profile images)
+
+-- both halves of a run were checked, and these are the images of both
+abbrev pub AreBoth : {A : Type 0} → Result (Vec (List ℕ) A) Stop → Result (Vec (List ℕ) A) Stop
+    → List (List ℕ) → Type 0
+AreBoth (Ok low) (Ok high) all = all ≡ low.items ++ high.items
+AreBoth _ _ all = ⊥
+
+-- of two halves of a run the lower one stopped for this, or else the upper one
+abbrev pub IsFirstStop : {A : Type 0} → Result (Vec (List ℕ) A) Stop
+    → Result (Vec (List ℕ) A) Stop → Stop → Type 0
+IsFirstStop (Err low) high stop = stop ≡ low
+IsFirstStop (Ok low) (Err high) stop = stop ≡ high
+IsFirstStop (Ok low) (Ok high) stop = ⊥
+
+-- what two halves of a run come to: the images of both; or want of memory, or why the first stopped
+abbrev pub Joins : {A : Type 0} → Result (Vec (List ℕ) A) Stop → Result (Vec (List ℕ) A) Stop
+    → Result (Vec (List ℕ) A) Stop → Type 0
+Joins low high (Ok all) = AreBoth low high all.items
+Joins low high (Err stop) = (stop ≡ Memory) ⊎ IsFirstStop low high stop

@@ -6,6 +6,7 @@ use Rattle.stack_table.specs.Stacked.{Stacked}
 use Rattle.reply_model.specs.declared.session.Session.{Session}
 use Rattle.reply_pool.specs.Answers.{answering}
 use Rattle.serve_loop.specs.declared.stop.Stop.{Stop}
+use Rattle.serve_loop.specs.declared.stop.Stop.TheVariants.{Turns}
 use Rattle.serve_loop.specs.declared.done.Done.{Done}
 use Rattle.serve_core.specs.Preparing.{AreStacked, AreRefused}
 use Rattle.serve_loop.specs.Serving.{Trace, IsRun}
@@ -57,3 +58,8 @@ pub record IsRefusedFor (profile : Profile) (images : List (List ℕ)) (t : Trac
     (stop : Stop) : Type 0 where
   pub refused : AreRefused profile images stop
   pub untouched : IsUntouched t
+
+-- with no turns: as many as there are were used up, or why the images can't be served
+abbrev pub IsAtOnce : {A : Type 0} → Profile → List (List ℕ) → Result (Done A) Stop → Type 0
+IsAtOnce profile images result =
+    (result ≡ Err Turns) ⊎ ((stop : Stop) × (result ≡ Err stop) × AreRefused profile images stop)

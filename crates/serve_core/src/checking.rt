@@ -3,10 +3,9 @@
 //! A list is cut in two, and so on; each half is checked in a call of its own, and what both find
 //! is put together: where both have a broken image the lower half's is told.
 
-ghost use Rattle.std.specs.Prelude.{◌≡◌, ◌+◌, ◌++◌, ◌≤◌, ℕ, List, length, IfOk, IfErr};
-ghost use Rattle.romfs_format.specs.declared.rule.Profile.{Profile};
+ghost use Rattle.std.specs.Prelude.{◌+◌, ◌≤◌, length, IfOk, IfErr};
 ghost use Rattle.serve_core.specs.Preparing.{contents_of, AreLayers, AreRefused, IsFew};
-ghost use Rattle.serve_core.specs.Checking.{Checks};
+ghost use Rattle.serve_core.specs.Checking.{Checks, Joins};
 ghost use denote.Param.Send.{IsSync, IsSend, Frees};
 
 use romfs_check::{Check, CheckFault, Image};
@@ -80,10 +79,7 @@ fn together<A: Allocator>(
     low: Result<Vec<Image<A>, A>, Stop>,
     high: Result<Vec<Image<A>, A>, Stop>,
 ) -> Result<Vec<Image<A>, A>, Stop>
-    ensures { (first next : ℕ) (profile : Profile) (lows highs : List (List ℕ)) →
-        next ≡ first + length lows →
-        Checks first profile lows low → Checks next profile highs high →
-        Checks first profile (lows ++ highs) result }
+    ensures { Joins low high result }
 {
     match (low, high) {
         (Ok(mut all), Ok(mut rest)) => {

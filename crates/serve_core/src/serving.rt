@@ -1,11 +1,11 @@
 //! Streams over images.
 
-ghost use Rattle.std.specs.Prelude.{OnOk};
+ghost use Rattle.std.specs.Prelude.{◌≡◌, OnOk};
 ghost use Rattle.std.specs.Io.KnownBytes.{IsAtEnd};
 ghost use Rattle.devices.specs.States.{devices};
 ghost use Rattle.serve_core.specs.Preparing.{contents_of};
 ghost use Rattle.serve_loop.specs.Serving.{AreReady, Does};
-ghost use Rattle.serve_core.specs.Headline.{Serves};
+ghost use Rattle.serve_core.specs.Headline.{IsAtOnce, Serves};
 
 use crate::preparing::prepare_as;
 use crate::running::run_from;
@@ -23,7 +23,7 @@ use work_gate::Gate;
 ///
 /// `Layers` comes exactly where there are no images or more than 128, and `Layer` names the lowest
 /// broken image and its fault. Then, and where memory runs out before the table stands, no device
-/// is touched.
+/// is touched. With no turns good images are answered `Turns`.
 pub fn serve<
     R: Threads + Sync,
     A: Allocator + Copy + Send + Sync,
@@ -45,6 +45,7 @@ pub fn serve<
         (devices (S.state source.old) (K.state sink.old))
         (devices (S.state source.new) (K.state sink.new)) }
     ensures end { OnOk result (IsAtEnd (S.state source.new).left) }
+    ensures at_once { turns ≡ 0 → IsAtOnce Profile.Usual (contents_of images) result }
 {
     serve_as(
         rt,
@@ -82,6 +83,7 @@ pub fn serve_as<
         (devices (S.state source.old) (K.state sink.old))
         (devices (S.state source.new) (K.state sink.new)) }
     ensures end { OnOk result (IsAtEnd (S.state source.new).left) }
+    ensures at_once { turns ≡ 0 → IsAtOnce profile (contents_of images) result }
 {
     serve_from(
         rt,
@@ -121,6 +123,7 @@ pub fn serve_from<
         (devices (S.state source.old) (K.state sink.old))
         (devices (S.state source.new) (K.state sink.new)) }
     ensures end { OnOk result (IsAtEnd (S.state source.new).left) }
+    ensures at_once { turns ≡ 0 → IsAtOnce profile (contents_of images) result }
 {
     let table = prepare_as(rt, alloc, images, profile, gate)?;
     run_from(rt, alloc, &table, first, source, sink, plan, turns, gate)

@@ -1,6 +1,6 @@
 use Rattle.std.proofs.Common.{◌≤◌, ◌/◌, subst, length, map, arith}
 use Rattle.serve_core.specs.Checking.{Checks}
-use Rattle.serve_core.proofs.Checked.{halved, counted}
+use Rattle.serve_core.proofs.Checked.{halved, counted, joined}
 use Rattle.serve_core.proofs.checking.+halves.Goals as goal
 
 pub returns : goal.returns
@@ -9,6 +9,7 @@ returns g t c =
     let highs = c.in_ok-highs.highs.items in
     let half = c.len-half.result / 2 in
     let within : half ≤ length c.args.images.items = omega arith in
-    let all = c.together.ensures c.args.first _ c.args.profile (map (λ image. image.items) lows) (map (λ image. image.items) highs)
-    (counted (λ image. image.items) c.args.images.items lows half c.args.first c.in_ok-highs.ensures.items within) c.join-low.ensures.first c.join-low.ensures.second in
+    let up = counted (λ image. image.items) c.args.images.items lows half c.args.first c.in_ok-highs.ensures.items within in
+    let all = joined c.args.first _ c.args.profile (map (λ image. image.items) lows) (map (λ image. image.items) highs)
+    _ _ c.together.result up c.join-low.ensures.first c.join-low.ensures.second c.together.ensures in
     subst (λ xs. Checks c.args.first c.args.profile xs c.together.result) (halved (λ image. image.items) c.args.images.items lows highs half c.in_ok-highs.ensures.items c.in_ok-highs.ensures.tail) all

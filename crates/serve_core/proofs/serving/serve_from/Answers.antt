@@ -1,4 +1,4 @@
-use Rattle.std.proofs.Common.{[], inr, refl}
+use Rattle.std.proofs.Common.{[], inl, inr, refl}
 use Rattle.std.proofs.KnownBytes.{Appends-nil, Consumes-nil}
 use Rattle.serve_core.proofs.Headline.{not_begun}
 use Rattle.serve_core.proofs.serving.serve_from.Goals as goal
@@ -11,3 +11,6 @@ returns-in_err-table-clause-run g c = (
   Appends-nil _,
   inr (not_begun c.args.profile _ _ c.from_residual.result c.in_err-table.field-0.0 c.from_residual.ensures.1 c.in_err-table.ensures.err (record { got = refl; put = refl; source = refl; sink = refl })),
 )
+
+pub returns-clause-at_once : goal.returns-clause-at_once
+returns-clause-at_once g c = λ none. inl (c.run_from.ensures.at_once none)
