@@ -1,11 +1,14 @@
 //! `fuse_wire` and `fuse_answer`: messages, requests, replies. `draw_board` and `reply_pool`:
 //! batches.
 
+ghost use Rattle.draw_board.specs.Hands.{IsHandOf};
+
 pub use draw_board::{Board, Few, Hand};
 pub use fuse_answer::{Move, Session, after, answer, moves};
 pub use fuse_wire::{
-    Framed, Op, Request, frame, put_attr, put_data, put_dirent, put_direntplus, put_entry,
-    put_error, put_head, put_init, put_negative_entry, put_open, put_statfs,
+    Attr, Dirent, Errno, Framed, InitOut, Op, Request, frame, put_attr, put_data, put_dirent,
+    put_direntplus, put_entry, put_error, put_head, put_init, put_negative_entry, put_open,
+    put_statfs,
 };
 use node_table::Table;
 pub use reply_pool::{Piece, Plan, Rounded, round, work};
@@ -46,4 +49,14 @@ pub fn drawn<A: Allocator>(alloc: A) -> Result<(Option<u32>, u64), AllocError> {
     let (board, mut hand) = Board::start(alloc, 1, 1)?;
     let number = board.draw(&mut hand);
     Ok((number, board.close(hand)))
+}
+
+/// What a new hand of one miss draws, which is then taken in again.
+pub fn drawn_by_another<A: Allocator>(board: &Board<A>, hand: &mut Hand) -> Result<Option<u32>, Few>
+    requires { IsHandOf board.now hand.old }
+{
+    let mut other = board.split(hand, 1)?;
+    let number = board.draw(&mut other);
+    board.rejoin(hand, other);
+    Ok(number)
 }

@@ -30,6 +30,19 @@ pub fn stacked<R: Threads + Sync, A: Allocator + Copy + Send + Sync>(
     stack(rt, alloc, images, &FreePass)
 }
 
+/// The table of a list of layers.
+pub fn tabled<R: Threads + Sync, A: Allocator + Copy + Send + Sync>(
+    rt: &R,
+    alloc: A,
+    images: Vec<Image<A>, A>,
+) -> Result<Table<A>, AllocError>
+    requires some { 1 ≤ length images.items }
+    requires few { length images.items ≤ 128 }
+{
+    let tree = stack(rt, alloc, &images, &FreePass)?;
+    Table::of(rt, alloc, tree, images)
+}
+
 /// What a tree tells of a path.
 pub fn told<'a, A: Allocator>(
     tree: &'a Tree<A>,
