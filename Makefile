@@ -4,7 +4,8 @@
 # make mounted [STRATA=PROGRAM]: real mounts, looked at through the kernel.
 # make layers: tools/layers.py on layouts made on the spot, and, where umoci stands, on images that umoci makes.
 # make trials [CRATES=..]: tries the wrong bodies of trials/, over what make build kept; docs/trials.txt tells the last runs.
-# make bench, make fuzz: figures, and a comparison with a plain reading of the formats.
+# make bench: figures. make fuzz [FUZZ=WORDS]: random and changed inputs, against a plain reading of the formats; WORDS are
+# those of tools/fuzz.py, as `--minutes 120 --seed 1000000 long device`.
 # make soak [MINUTES=20]: little memory by steps, the largest image, and random requests for so many minutes a part.
 .PHONY: test build demo cases layers mounted plant trials bench fuzz soak needed
 
@@ -52,7 +53,7 @@ bench: build/strata
 	$(PYTHON) tools/bench.py build/strata
 
 fuzz: build/strata
-	$(PYTHON) tools/fuzz.py build/strata
+	$(PYTHON) tools/fuzz.py build/strata $(FUZZ)
 
 MINUTES = 20
 soak: build/strata
