@@ -23,6 +23,8 @@ from random_inputs import read_body
 
 READDIR, READDIRPLUS, BATCH_FORGET, FORGET = 28, 44, 42, 2
 WORKERS, ROWS, ROUNDS = 64, 720, 2
+# helgrind takes the C library's reuse of an ended thread's stack for a race
+NO_CACHE = {"GLIBC_TUNABLES": "glibc.pthread.stack_cache_size=0"}
 # how much is pulled at once
 PULL = 65536
 
@@ -40,17 +42,18 @@ def image():
 
 
 def stream():
-    """Rounds of long lists, with look-ups and what takes them back. A message that is as long as a pull ends each round."""
+    """Rounds of long lists, with look-ups and what takes them back. Before each stands a message that is as long as a pull, so
+    that a round begins with it; the first answers INIT alone, since no workers are started before a session has begun."""
     parts, unique = [init(1, flags=0x6001)], 2
     for _ in range(ROUNDS):
-        for at in range(80):
-            parts.append(request(READDIR, unique, 2, read_body(at, ROWS * 32)))
-            parts.append(lookup(unique + 1, 2, b"%x" % (unique % ROWS)))
-            unique += 2
-        parts.append(request(READDIRPLUS, unique, 2, read_body(600, 16384)))
-        parts.append(request(FORGET, unique + 1, 5, struct.pack("<Q", 3)))
         items = b"".join(struct.pack("<2Q", 3 + at % ROWS, 1) for at in range(PULL // 16))
-        parts.append(request(BATCH_FORGET, unique + 2, 0, struct.pack("<2I", PULL // 16, 0) + items))
+        parts.append(request(BATCH_FORGET, unique, 0, struct.pack("<2I", PULL // 16, 0) + items))
+        for at in range(80):
+            parts.append(request(READDIR, unique + 1, 2, read_body(at, ROWS * 32)))
+            parts.append(lookup(unique + 2, 2, b"%x" % (unique % ROWS)))
+            unique += 2
+        parts.append(request(READDIRPLUS, unique + 1, 2, read_body(600, 16384)))
+        parts.append(request(FORGET, unique + 2, 5, struct.pack("<Q", 3)))
         unique += 3
     return b"".join(parts)
 
@@ -74,7 +77,8 @@ class Runs:
         balances = "balances-%d" % number
         words = [*under, self.program, "serve", "--workers", str(workers), "--batch", "1", "--requests", "requests",
                  "--balances", balances, "image"]
-        return subprocess.Popen(words, cwd=self.folder, stdin=subprocess.DEVNULL, stdout=subprocess.PIPE, stderr=subprocess.PIPE)
+        return subprocess.Popen(words, cwd=self.folder, stdin=subprocess.DEVNULL, stdout=subprocess.PIPE,
+                                stderr=subprocess.PIPE, env={**os.environ, **(NO_CACHE if under else {})})
 
     def hold(self, number, child):
         """Waits for a run, and holds what it gave; what it wrote to standard error."""
