@@ -117,6 +117,22 @@ def received(end, most=None):
     return b"".join(parts)
 
 
+def received_packets(end, most=None):
+    """What comes packet by packet, up to the end or so many packets."""
+    packets = []
+    while most is None or len(packets) < most:
+        if not select.select([end], [], [], MINUTE)[0]:
+            raise Hanging("nothing came for a minute, after %d packets" % len(packets))
+        try:
+            packet = end.recv(1 << 21)
+        except ConnectionError:  # what was not read is told first, and what had come before follows
+            continue
+        if not packet:
+            break
+        packets.append(packet)
+    return packets
+
+
 def read_whole(source, size):
     """So many bytes of a descriptor, or fewer where no more come, at its end or for a minute."""
     data = b""

@@ -1,118 +1,43 @@
-"""Holds the built program against the plain reading of the formats, over random images, stacks and request streams.
+"""Holds the built program against the plain reading of the formats, over random and mutated inputs.
 
-python3 tools/fuzz.py PROGRAM [IMAGES [STACKS [STREAMS [SEED]]]]
+python3 tools/fuzz.py PROGRAM [--seed N] [--tries N] [--minutes N] [PART..]
 
-Images, most of them broken, go through `check` and `list`; stacks of 1 to 6 layers through `check` and `list`; streams
-over such stacks through `serve`, from files and through pipes in pieces, by any plan, lastingly or not, with balances, and one
-in three through `socket`, one to three clients, some of whom go away early. Each is tried strictly or not. Where a run differs,
-or takes more than two seconds of processor time, its files are kept and its words are printed; where these name no file of
-requests, that file's bytes came through the pipe, and those of requests-1 and so on from the clients.
+Each try of a part makes its inputs of a seed of its own, from N (1) on, and goes by any plan, strictly or not. The parts:
+
+- `images`: images, most of them broken, through `check` and `list`; `stacks`: stacks of 1 to 6 layers, too.
+- `streams`: requests over such stacks through `serve`, from files and through pipes in pieces, lastingly or not, with
+  balances, and one in three through `socket`, one to three clients, some of whom go away early.
+- `device`: requests through `serve --device`, over a socket of packets in place of /dev/fuse: a read gives one packet, of a
+  message, of several, or of any piece, and a write must be one whole reply. Some stand-ins go away early.
+- `long`: lists of hundreds and thousands of rows, for which workers are started, in all these ways.
+- `made`: genromfs's images of random folders with bits flipped, records swapped and words changed, through `check`, `list`
+  and one of these ways; `kernel`: the requests of a real mount over the demo's layers, changed in the same spirit.
+
+With --minutes the parts go on by turns, and end then. Where a try differs, or takes more than two seconds of processor time,
+its files are kept, its words are printed, and how to make it again alone; where the words name no file of requests, that
+file's bytes came through a pipe or as packets, and those of requests-1 and so on from the clients.
 """
+import argparse
 import collections
 import os
 import random
-import re
 import shutil
-import signal
-import subprocess
 import sys
-import tempfile
+import time
 
 import plain
-import runs
-from clients import Client, Party
-from random_inputs import kinds_of, mutated, random_image, random_stack, random_stream
+from clients import Client
+from fuzz_runs import Difference, Running, Wanted
+from images import EMPTY
+from mutations import Made, demo_images, has_genromfs, mutated_image, mutated_stream, recorded
+from random_inputs import kinds_of, long_stack, long_stream, mutated, others_of, random_image, random_stack, random_stream
+from replies import single
 
-SECONDS = 2
-# what may be told of a client that went away
-GONE = re.compile("|request at [0-9]+: (cut off|bad length [0-9]+)|read fault|write fault")
-
-
-class Difference(Exception):
-    """The program did something else than the plain reading says."""
+# what a read of /dev/fuse gives at most
+MOST_PACKET = 131072
 
 
-Wanted = collections.namedtuple("Wanted", "status output line files")
-
-
-class Running:
-    """The program, and a folder for its files."""
-
-    def __init__(self, program):
-        self.program, self.folder = program, tempfile.mkdtemp(prefix="strata-fuzz-")
-        self.runs = 0
-
-    def write(self, name, data):
-        with open(os.path.join(self.folder, name), "wb") as out:
-            out.write(data)
-        return name
-
-    def read(self, name):
-        with open(os.path.join(self.folder, name), "rb") as it:
-            return it.read()
-
-    def hold(self, words, want, pieces=()):
-        """Runs the program with these words, and the pieces through a pipe, and holds it against what must come."""
-        self.runs += 1
-        end, pipe = os.pipe()
-        child = subprocess.Popen([self.program, *words], cwd=self.folder, stdin=end, stdout=subprocess.PIPE, stderr=subprocess.PIPE)
-        os.close(end)
-        runs.feed(pieces, pipe)
-        done = runs.ended(child)
-        if done.status is None:
-            raise Difference("%s does not end" % self.told(words))
-        got = Wanted(done.status, done.output, done.errors.decode(errors="replace"), {name: self.read(name) for name in want.files})
-        for what in ("status", "line", "output"):
-            if getattr(got, what) != getattr(want, what):
-                raise Difference("%s: the %s should be %r, and is %r" % (
-                    self.told(words), what, getattr(want, what)[:500] if what != "status" else want.status,
-                    getattr(got, what)[:500] if what != "status" else got.status))
-        for name, data in want.files.items():
-            if got.files[name] != data:
-                wanted = self.write("wanted-" + name, data)
-                raise Difference("%s: %s differs from %s" % (self.told(words), name, wanted))
-        if done.seconds > SECONDS:
-            raise Difference("%s takes %.1f s of processor time" % (self.told(words), done.seconds))
-
-    def hold_sessions(self, words, clients, lines):
-        """Runs the program with these words for clients, and holds what comes to them, and the fault lines of those that stay."""
-        self.runs += 1
-        for number, client in enumerate(clients, 1):
-            self.write("requests-%d" % number, client.sent())
-        child = subprocess.Popen([self.program, *words], cwd=self.folder, stdin=subprocess.DEVNULL, stdout=subprocess.PIPE,
-                                 stderr=subprocess.PIPE)
-        party = Party(clients, self.folder, "socket", child.pid)
-        got = party.served()
-        if party.told:
-            os.kill(child.pid, signal.SIGKILL)
-        done = runs.ended(child)
-        wrong = party.told or ["client %d: other replies" % number for number, pair in enumerate(zip(clients, got), 1)
-                               if pair[0].replies != pair[1]]
-        wrong = wrong or faults_wrong(clients, lines, done)
-        if os.path.exists(os.path.join(self.folder, "socket")):
-            wrong.append("the socket is there still")
-        if wrong or done.output or done.seconds > SECONDS:
-            habits = ["closes" if it.closes else "is deaf" if it.is_deaf else "stays" for it in clients]
-            raise Difference("%s: %s; %.1f s of processor time; the clients: %s" % (
-                self.told(words), "; ".join(wrong), done.seconds, ", ".join(habits)))
-
-    def told(self, words):
-        return "in %s: strata %s" % (self.folder, " ".join(words))
-
-
-def faults_wrong(clients, lines, done):
-    """What is wrong with the fault lines of sessions, and with the status."""
-    told, wrong, status = done.errors.decode(errors="replace").splitlines(), [], 0
-    for number, (client, line) in enumerate(zip(clients, lines), 1):
-        front = "session %d: " % number
-        got = told.pop(0)[len(front):] if told and told[0].startswith(front) else ""
-        if got != line and not ((client.closes or client.is_deaf) and GONE.fullmatch(got)):
-            wrong.append("client %d: the line should be %r, and is %r" % (number, line, got))
-        status = status or (4 if got.startswith("request") else 1 if got else 0)
-    if told or done.status != status:
-        wrong.append("the status should be %d, and is %r; other lines: %r" % (status, done.status, told))
-    return wrong
-
+# --- images ---
 
 def lines_or_stop(lines, images, strict):
     """What must come of a command that prints lines."""
@@ -132,33 +57,30 @@ def hold_lines(running, images, strict):
     return want
 
 
-def fuzz_images(running, rng, count):
-    """Holds single images; those that are sound."""
-    faults, sound = collections.Counter(), []
-    for _ in range(count):
-        data = mutated(rng, random_image(rng))
-        want = hold_lines(running, [data], rng.random() < 0.3)
-        faults[want.line[want.line.find(": ") + 2:].strip() or "none"] += 1
-        if plain.fault(data) is None:
-            sound.append(data)
-    print("images: %d; faults: %s" % (count, ", ".join("%s %d" % it for it in sorted(faults.items()))), flush=True)
-    return sound
+def rule_of(line):
+    """The broken rule that a line tells."""
+    return line[line.find(": ") + 2:].strip() or "no fault"
 
 
-def fuzz_stacks(running, rng, count, others):
-    lines = broken = markers = 0
-    for _ in range(count):
-        images = random_stack(rng, others)
-        want = hold_lines(running, images, rng.random() < 0.2)
-        broken += want.status != 0
-        lines += want.output.count(b"\n")
-        markers += sum(data.count(b".wh.") for data in images)
-    print("stacks: %d, %d of them broken; %d markers; %d lines" % (count, broken, markers, lines), flush=True)
+def try_image(running, rng, seen):
+    """Holds a single image."""
+    want = hold_lines(running, [mutated(rng, random_image(rng))], rng.random() < 0.3)
+    seen[rule_of(want.line)] += 1
 
 
-def cut(rng, stream):
-    """A stream in pieces of random lengths."""
-    most, pieces = rng.choice([1, 7, 60, 500, 5000, 65536]), []
+def try_stack(running, rng, seen):
+    images = random_stack(rng, others_of(rng))
+    want = hold_lines(running, images, rng.random() < 0.2)
+    seen["broken"] += want.status != 0
+    seen["lines"] += want.output.count(b"\n")
+    seen["markers"] += sum(data.count(b".wh.") for data in images)
+
+
+# --- requests ---
+
+def cut(rng, stream, sizes=(1, 7, 60, 500, 5000, 65536)):
+    """A stream in pieces of random lengths up to one of these."""
+    most, pieces = rng.choice(sizes), []
     if len(stream) // most > 2000:
         most = 5000
     at = 0
@@ -169,58 +91,78 @@ def cut(rng, stream):
     return pieces
 
 
-def random_plan(rng):
-    """Words of any plan, the least and the most more often."""
-    return ["--workers", str(rng.choice([1, 64, rng.randrange(1, 65)])), "--batch", str(rng.choice([1, 256, rng.randrange(1, 257)]))]
-
-
-def served(images, stream, strict, is_lasting):
-    """What must come of serving a stream: how it ends, and the replies."""
-    try:
-        done = plain.Served(images, stream, strict, is_lasting)
-    except plain.Stop as stop:
-        return Wanted(stop.args[1], b"", stop.args[0] + "\n", {"balances": b""}), b""
-    line, status = done.stop.args if done.stop else ("", 0)
-    balances = "".join(it + "\n" for it in done.balance_lines()).encode()
-    return Wanted(status, b"", line + "\n" if line else "", {"balances": balances}), done.replies
+def random_plan(rng, are_long):
+    """Words of any plan, the least and the most more often; for long streams those that share them out."""
+    workers = rng.choice([*[2, 3, 64] * are_long, 1, 64, rng.randrange(1, 65)])
+    batch = rng.choice([*[1, 2, 7, 16, 30] * are_long, 1, 256, rng.randrange(1, 257)])
+    return ["--workers", str(workers), "--batch", str(batch)]
 
 
 class Inputs:
-    """Random images, and the words that name them; the stack that they make, or another where they are broken."""
+    """Images, and the words that name them; the stack that they make, or that of the sound ones where some are broken."""
 
-    def __init__(self, running, rng, others):
-        self.images, self.strict, self.is_lasting = random_stack(rng, others), rng.random() < 0.1, rng.random() < 0.5
-        self.stack = plain.stack_of([data for data in self.images if plain.fault(data) is None] or [others[0]])
-        self.words = [running.write("image-%d" % number, data) for number, data in enumerate(self.images)]
-        self.words += ["--strict"] * self.strict + ["--lasting"] * self.is_lasting
+    def __init__(self, running, rng, images, are_long=False):
+        self.running, self.rng, self.strict, self.are_long = running, rng, rng.random() < 0.1, are_long
+        self.stop = None
+        try:
+            self.stack = plain.stack_of(images, self.strict)
+        except plain.Stop as stop:
+            self.stop = stop
+            self.stack = plain.stack_of([data for data in images if plain.fault(data) is None] or [EMPTY])
+        self.words = [running.write("image-%d" % number, data) for number, data in enumerate(images)]
+        self.words += ["--strict"] * self.strict
         if rng.random() < 0.8:
-            self.words += random_plan(rng)
+            self.words += random_plan(rng, are_long)
 
-    def served(self, stream):
-        return served(self.images, stream, self.strict, self.is_lasting)
+    def cut(self, stream):
+        """A stream in pieces: in long ones where its lists are."""
+        return cut(self.rng, stream, (500, 65536, 65536, 65536)) if self.are_long else cut(self.rng, stream)
+
+    def packets(self, stream):
+        """A stream in packets of a message each, of several whole messages each, or of any bytes."""
+        messages, rest = plain.split(stream)
+        if self.rng.random() < 0.2 or max(map(len, [b"", *messages])) > MOST_PACKET:
+            return self.cut(stream)
+        most, parts = self.rng.choice([60000] if self.are_long else [0, 0, 1000, 60000]), []
+        for message in [*messages, *[rest] * bool(rest)]:
+            if parts and len(parts[-1]) + len(message) <= most:
+                parts[-1] += message
+            else:
+                parts.append(message)
+        return parts
+
+    def served(self, stream, is_lasting):
+        """What must come of serving a stream: how it ends, and the replies."""
+        if self.stop:
+            return Wanted(self.stop.args[1], b"", self.stop.args[0] + "\n", {"balances": b""}), b""
+        done = plain.Answered(self.stack, stream, is_lasting)
+        line, status = done.stop.args if done.stop else ("", 0)
+        balances = "".join(it + "\n" for it in done.balance_lines()).encode()
+        return Wanted(status, b"", line + "\n" if line else "", {"balances": balances}), done.replies
 
 
-def fuzz_stream(running, rng, inputs, stream):
+def serve(inputs, make, seen):
     """Holds `serve` of a stream."""
-    words = ["serve", "--balances", "balances", *inputs.words]
-    want, replies = inputs.served(stream)
+    rng, running, stream, is_lasting = inputs.rng, inputs.running, make(), inputs.rng.random() < 0.5
+    words = ["serve", "--balances", "balances", *["--lasting"] * is_lasting, *inputs.words]
+    want, replies = inputs.served(stream, is_lasting)
     pieces, requests = [], running.write("requests", stream)
     if rng.random() < 0.6:
         words += ["--requests", requests]
     else:
-        pieces = cut(rng, stream)
+        pieces = inputs.cut(stream)
     if rng.random() < 0.5:
         words += ["--replies", "replies"]
         want.files["replies"] = replies
     else:
         want = want._replace(output=replies)
     running.hold(words, want, pieces)
-    return len(replies)
+    note(seen, [stream], [replies])
 
 
-def random_client(rng, stream, replies):
+def random_client(inputs, stream, replies):
     """A client that stays to the end of its replies, or goes away."""
-    client = Client(cut(rng, stream), replies)
+    rng, client = inputs.rng, Client(inputs.cut(stream), replies)
     client.is_meanwhile = rng.random() < 0.3
     if rng.random() < 0.3:
         client.closes, client.replies = True, replies[:rng.choice([0, len(replies), rng.randrange(len(replies) + 1)])]
@@ -230,49 +172,144 @@ def random_client(rng, stream, replies):
     return client
 
 
-def fuzz_sessions(running, rng, inputs, streams):
-    """Holds `socket` with a client for each stream."""
-    words = ["socket", "--listen", "socket", "--sessions", str(len(streams)), *inputs.words]
-    wants = [inputs.served(stream) for stream in streams]
-    if wants[0][0].status == 3:
-        running.hold(words, wants[0][0]._replace(files={}))
-        return 0
-    clients = [random_client(rng, stream, replies) for stream, (_, replies) in zip(streams, wants)]
-    running.hold_sessions(words, clients, [want.line.strip() for want, _ in wants])
-    return sum(len(it.replies) for it in clients)
+def serve_clients(inputs, make, seen):
+    """Holds `socket` with one to three clients."""
+    rng, is_lasting = inputs.rng, inputs.rng.random() < 0.5
+    streams = [make() for _ in range(rng.choice([1, 2, 3]))]
+    words = ["socket", "--listen", "socket", "--sessions", str(len(streams)), *["--lasting"] * is_lasting, *inputs.words]
+    wants = [inputs.served(stream, is_lasting) for stream in streams]
+    if inputs.stop:
+        inputs.running.hold(words, wants[0][0]._replace(files={}))
+        return
+    clients = [random_client(inputs, stream, replies) for stream, (_, replies) in zip(streams, wants)]
+    inputs.running.hold_sessions(words, clients, [want.line.strip() for want, _ in wants])
+    seen["sessions"] += len(streams)
+    note(seen, streams, [it.replies for it in clients])
 
 
-def fuzz_streams(running, rng, count, others):
-    replied = messages = nodes = sessions = 0
-    for _ in range(count):
-        inputs = Inputs(running, rng, others)
-        streams = [random_stream(rng, inputs.stack) for _ in range(rng.choice([0, 0, 0, 0, 0, 0, 1, 2, 3]))]
-        if streams:
-            replied += fuzz_sessions(running, rng, inputs, streams)
-            sessions += len(streams)
-        else:
-            streams = [random_stream(rng, inputs.stack)]
-            replied += fuzz_stream(running, rng, inputs, streams[0])
-        messages += sum(len(plain.split(stream)[0]) for stream in streams)
-        nodes += sum(kinds_of(inputs.stack))
-    print("streams: %d, and %d sessions, over %d nodes; %d requests; %d bytes of replies" % (
-        count, sessions, nodes, messages, replied), flush=True)
+def serve_device(inputs, make, seen):
+    """Holds `serve --device`, which is lasting, over a stand-in that stays or goes away early."""
+    rng, stream = inputs.rng, make()
+    want, replies = inputs.served(stream, True)
+    patience = rng.randrange(len(single(replies)) + 1) if rng.random() < 0.15 and not inputs.stop else None
+    inputs.running.hold_device(["serve", "--device", *inputs.words], want, replies, inputs.packets(stream), patience)
+    seen["devices"] += 1
+    note(seen, [stream], [replies])
 
 
-def main(program, counts):
-    images, stacks, streams, seed = [*counts, *[3000, 3000, 2000, 1][len(counts):]]
-    rng = random.Random(seed)
-    running = Running(program)
+def note(seen, streams, replies):
+    seen["requests"] += sum(len(plain.split(stream)[0]) for stream in streams)
+    seen["bytes of replies"] += sum(map(len, replies))
+
+
+def try_stream(running, rng, seen):
+    inputs = Inputs(running, rng, random_stack(rng, others_of(rng)))
+    seen["nodes"] += sum(kinds_of(inputs.stack))
+    rng.choice([serve, serve, serve_clients])(inputs, lambda: random_stream(rng, inputs.stack), seen)
+
+
+def try_device(running, rng, seen):
+    inputs = Inputs(running, rng, random_stack(rng, others_of(rng)))
+    serve_device(inputs, lambda: random_stream(rng, inputs.stack), seen)
+
+
+def try_long(running, rng, seen):
+    inputs = Inputs(running, rng, long_stack(rng), True)
+    seen["nodes"] += sum(kinds_of(inputs.stack))
+    rng.choice([serve, serve, serve_clients, serve_device])(inputs, lambda: long_stream(rng, inputs.stack), seen)
+
+
+# --- mutated ---
+
+MADE = Made()
+
+
+def try_made(running, rng, seen):
+    images = [mutated_image(rng, MADE.image(rng)) for _ in range(rng.choice([1, 1, 2, 3]))]
+    want = hold_lines(running, images, rng.random() < 0.3)
+    seen[rule_of(want.line)] += 1
+    if rng.random() < 0.3:
+        inputs = Inputs(running, rng, images)
+        rng.choice([serve, serve_clients, serve_device])(inputs, lambda: random_stream(rng, inputs.stack), seen)
+
+
+RECORDED = recorded()
+
+
+def try_kernel(running, rng, seen):
+    inputs = Inputs(running, rng, demo_images())
+    rng.choice([serve, serve, serve_clients, serve_device])(inputs, lambda: mutated_stream(rng, RECORDED), seen)
+
+
+# --- all parts ---
+
+# how many tries a part has where no number is said
+TRIES = {"images": 3000, "stacks": 3000, "streams": 2000, "device": 1000, "long": 200, "made": 1000, "kernel": 1000}
+PARTS = {"images": try_image, "stacks": try_stack, "streams": try_stream, "device": try_device, "long": try_long,
+         "made": try_made, "kernel": try_kernel}
+# with --minutes a turn has so many of these at a time
+TURN = 50
+
+
+class Counts:
+    """What the tries of a part came to."""
+
+    def __init__(self, part, first):
+        self.part, self.first, self.tries, self.seen = part, first, 0, collections.Counter()
+
+    def told(self):
+        seen = ", ".join("%s %d" % it for it in sorted(self.seen.items()))
+        return "%-8s %d tries, seeds %d to %d: %s" % (self.part, self.tries, self.first, self.first + self.tries - 1, seen)
+
+
+def go_on(running, counts, tries):
+    """Some more tries of a part."""
+    for _ in range(tries):
+        seed = counts.first + counts.tries
+        try:
+            PARTS[counts.part](running, random.Random("%s %d" % (counts.part, seed)), counts.seen)
+        except Difference as difference:
+            raise Difference("%s\nonce more: python3 tools/fuzz.py PROGRAM --seed %d --tries 1 %s" % (
+                difference, seed, counts.part)) from None
+        counts.tries += 1
+
+
+def run(running, asked, all_counts):
+    if asked.minutes is None:
+        for counts in all_counts:
+            go_on(running, counts, asked.tries or TRIES[counts.part])
+            print(counts.told(), flush=True)
+        return
+    until = time.monotonic() + asked.minutes * 60
+    while time.monotonic() < until:
+        for counts in all_counts:
+            go_on(running, counts, max(1, TRIES[counts.part] // TURN))
+    for counts in all_counts:
+        print(counts.told())
+
+
+def main(words):
+    parser = argparse.ArgumentParser(description="Holds strata against the plain reading, over random and mutated inputs.")
+    parser.add_argument("program")
+    parser.add_argument("--seed", type=int, default=1)
+    parser.add_argument("--tries", type=int)
+    parser.add_argument("--minutes", type=float)
+    parser.add_argument("parts", nargs="*", metavar="PART", help=", ".join(PARTS))
+    asked = parser.parse_intermixed_args(words)
+    parts = asked.parts or list(PARTS)
+    if "made" in parts and not has_genromfs():
+        parts.remove("made")
+        print("made     left out: no genromfs")
+    running = Running(os.path.abspath(asked.program))
     try:
-        sound = fuzz_images(running, rng, images)
-        fuzz_stacks(running, rng, stacks, sound)
-        fuzz_streams(running, rng, streams, sound)
+        run(running, asked, [Counts(part, asked.seed) for part in parts])
     except Difference as difference:
-        return "a difference: %s" % difference
+        print("a difference: %s" % difference)
+        return 1
     shutil.rmtree(running.folder)
     print("%d runs, no difference" % running.runs)
     return 0
 
 
 if __name__ == "__main__":
-    sys.exit(main(os.path.abspath(sys.argv[1]), [int(word) for word in sys.argv[2:]]))
+    sys.exit(main(sys.argv[1:]))

@@ -37,11 +37,11 @@ def list_(images, strict=False):
     return list(stack_of(images, strict).lines())
 
 
-class Served:
-    """What serving a stream over images comes to, lastingly or not: all replies that stand, and then how it ends."""
+class Answered:
+    """What serving a stream over a stack comes to, lastingly or not: all replies that stand, and then how it ends."""
 
-    def __init__(self, images, stream, strict=False, is_lasting=False):
-        session = Session(stack_of(images, strict), is_lasting)
+    def __init__(self, stack, stream, is_lasting=False):
+        session = Session(stack, is_lasting)
         messages, rest = split(stream)
         self.parts = [session.reply(message) for message in messages]
         self.replies, self.stop, self.balances = b"".join(self.parts), None, session.balances
@@ -55,3 +55,10 @@ class Served:
     def balance_lines(self):
         """The file of balances, which stays empty where the stream breaks off."""
         return [] if self.stop else ["%d %d" % pair for pair in enumerate(self.balances, 1)]
+
+
+class Served(Answered):
+    """The same over images."""
+
+    def __init__(self, images, stream, strict=False, is_lasting=False):
+        super().__init__(stack_of(images, strict), stream, is_lasting)

@@ -126,6 +126,7 @@ class Session:
         self.stack, self.is_lasting = stack, is_lasting
         self.ready, self.said = False, 0
         self.balances = [0] * (len(stack.places) - 1)
+        self.lists = {}  # the rows that were read once, by what was asked for
 
     def may_last(self, flag):
         """Whether a lasting session's client said this flag."""
@@ -235,18 +236,28 @@ class Session:
         return dict(self.stack.children(node)).get(name)
 
     def read_rows(self, node, offset, size, plus):
-        """The rows after the first `offset` ones, as many as fit whole."""
+        """The rows after the first `offset` ones, as many as fit whole; each child among those of READDIRPLUS is looked up."""
+        asked = node, offset, size, plus
+        if asked not in self.lists:
+            self.lists[asked] = self.rows_that_fit(*asked)
+        data, children = self.lists[asked]
+        for number in children if plus else ():
+            self.move(number, 1)
+        return data
+
+    def rows_that_fit(self, node, offset, size, plus):
+        """These rows, and the children among them."""
         rows = [(b".", node), (b"..", self.stack.parent(node)), *self.stack.children(node)]
-        data = b""
-        for off, (name, number) in list(enumerate(rows, 1))[offset:]:
+        parts, length, found = [], 0, []
+        for off, (name, number) in enumerate(rows[offset:], offset + 1):
             is_child = off > 2
             row = dirent(number, off, self.stack.mode(number) >> 12, name)
             if plus:
                 row = (entry_out(number, self.attr(number)) if is_child else bytes(128)) + row
-            if len(data) + len(row) > size:
-                refuse_if(not data, "EINVAL")
+            if length + len(row) > size:
+                refuse_if(not parts, "EINVAL")
                 break
-            data += row
-            if plus and is_child:
-                self.move(number, 1)
-        return data
+            parts.append(row)
+            length += len(row)
+            found += [number] * is_child
+        return b"".join(parts), found

@@ -4,7 +4,7 @@ import struct
 from build import header, init, name_bytes, request, seal, volume
 from images import Item, laid_out
 from messages import OPCODES
-from plain_images import DIRECTORY
+from plain_images import DIRECTORY, fault
 
 NAMES = [b"a", b"b", b"c", b"d", b".", b"..", b"", b"a/b", b".wh.a", b"fifteen-letters", b"sixteen-letters-", b"x" * 255]
 EDGES = [0, 15, 16, 32, 40, 80, 4095, 4096, 0x10000003, 0x0fff0001, 2 ** 31, 2 ** 32 - 1]
@@ -101,9 +101,31 @@ def random_layer(rng):
     return mutated(rng, data) if rng.random() < 0.03 else data
 
 
+def others_of(rng):
+    """Sound images of another layout that may stand in a stack, or none."""
+    return [data for data in [mutated(rng, random_image(rng)) for _ in range(4)] if fault(data) is None]
+
+
 def random_stack(rng, others):
     """Some layers, and sometimes images of another layout among them."""
     return [rng.choice(others) if others and rng.random() < 0.2 else random_layer(rng) for _ in range(rng.randrange(1, 7))]
+
+
+def long_stack(rng):
+    """One to three layers over a folder of hundreds or thousands of names: some are replaced above, some taken away."""
+    width, here = rng.choice([0, 0, 0, 4, 9, 60, 240]), (b"d",)
+    names = [b"%x" % at + b"n" * rng.randrange(width + 1) for at in range(rng.choice([600, 1500, 3000]))]
+    layers = []
+    for number in range(rng.choice([1, 1, 2, 3])):
+        items = [Item(here, "directory", True)]
+        shown = names if number == 0 else rng.sample(names, rng.randrange(len(names)))
+        for name in shown:
+            kind = rng.choice(["fifo", "socket", "regular", "directory", "symlink"])
+            items.append(Item(here + (name,), kind, rng.random() < 0.5, data=b"target" * (kind in ("regular", "symlink"))))
+        gone = [] if number == 0 else rng.sample([name for name in names if len(name) <= 251], 20)
+        items += [Item(here + (b".wh." + name,), "regular", False) for name in gone]
+        layers.append(laid_out(b"v", items))
+    return layers
 
 
 # --- requests ---
@@ -200,7 +222,11 @@ def random_stream(rng, stack):
         parts.append(random_message(rng, unique, stack))
         if rng.random() < 0.02:
             parts.append(init(unique, flags=random_flags(rng)))
-    stream = b"".join(parts)
+    return broken_off(rng, b"".join(parts))
+
+
+def broken_off(rng, stream):
+    """A stream, which in one case of three breaks off somewhere, or says a bad length."""
     ending = rng.randrange(9)
     if ending == 0:
         stream = stream[:rng.randrange(len(stream) + 1)]
@@ -209,6 +235,35 @@ def random_stream(rng, stack):
     elif ending == 2:
         stream += rng.choice([bytes(rng.randrange(0, 4)), struct.pack("<I", 1052672) + bytes(rng.randrange(0, 70))])
     return stream
+
+
+# the most bytes of replies of a long stream
+MOST_LONG = 8 << 20
+
+
+def list_sizes(rng, rows):
+    """A few sizes of lists, most of which so many rows fill or nearly fill: only then are workers started."""
+    sizes = [32 * rows, 32 * rows, 16 * rows, 60 * rows, 8192, rng.randrange(5000, 140000), 2 ** 20]
+    return [max(5000, near(rng, rng.choice(sizes))) for _ in range(rng.choice([1, 1, 2, 4]))]
+
+
+def long_stream(rng, stack):
+    """Requests many of which are for long lists, so many at a time that workers are started for them."""
+    node = max(range(1, len(stack.places)), key=lambda number: len(stack.children(number)))
+    lengths = [24 + (len(name) + 7) // 8 * 8 for name, _ in stack.children(node)]
+    sizes, share = list_sizes(rng, len(lengths)), rng.choice([1.0, 0.97, 0.8, 0.5])
+    offsets = [rng.choice([0, 0, 0, len(lengths) // 2, near(rng, len(lengths))]) for _ in range(2)]
+    parts, left = [init(1, flags=random_flags(rng))], MOST_LONG
+    for unique in range(2, rng.choice([200, 400, 1000])):
+        if rng.random() < share and left > 0:
+            size = rng.choice(sizes)
+            left -= min(size, sum(lengths))
+            parts.append(request(OPCODES["READDIR"], unique, node, read_body(rng.choice(offsets), size)))
+        else:
+            parts.append(random_message(rng, unique, stack))
+        if rng.random() < 0.01:
+            parts.append(init(unique, flags=random_flags(rng)))
+    return broken_off(rng, b"".join(parts))
 
 
 def kinds_of(stack):

@@ -120,10 +120,11 @@ def replies_of(lines):
 
 def single(data):
     """The single replies of some bytes."""
-    parts = []
-    while data:
-        size = struct.unpack_from("<I", data)[0]
-        parts, data = [*parts, data[:size]], data[size:]
+    parts, at = [], 0
+    while at < len(data):
+        size = struct.unpack_from("<I", data, at)[0]
+        parts.append(data[at:at + size])
+        at += size
     return parts
 
 
