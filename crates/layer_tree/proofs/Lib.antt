@@ -2,6 +2,7 @@ pub mod Plain
 pub mod Stepping
 pub mod Removing
 pub mod Clashing
+pub mod Meeting
 pub mod Joining
 pub mod Keyed
 pub mod ByName

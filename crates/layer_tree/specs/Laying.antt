@@ -98,6 +98,16 @@ pub record AreRootClashes {T : Type 0} (m : T → Mark) (file other : Shoot T)
   pub uncut : mark.value.cut ≡ false
   pub at : Clash (marked m (whole file)) (marked m (whole other)) (at_path (whole mark))
 
+-- the branches of two directories clash nowhere, whichever of them are the files
+pub record AreApart {T : Type 0} (m : T → Mark) (lows highs : List (Shoot T)) : Type 0 where
+  pub low_files : AreClashes m lows highs []
+  pub high_files : AreClashes m highs lows []
+
+-- the same of two branches
+pub record IsApart {T : Type 0} (m : T → Mark) (low high : Shoot T) : Type 0 where
+  pub low_file : Clash (marked m (whole low)) (marked m (whole high)) (λ q. None)
+  pub high_file : Clash (marked m (whole high)) (marked m (whole low)) (λ q. None)
+
 -- no branch has a name that comes before this one
 abbrev pub NoneBefore : {T : Type 0} → List ℕ → List (Shoot T) → Type 0
 NoneBefore name [] = Unit {0}

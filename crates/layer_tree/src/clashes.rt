@@ -1,13 +1,14 @@
 //! Where one tree has a file, and another one a directory or something below.
 //!
 //! Both trees are gone through in step, in the order of names, and only as far down as both have
-//! directories. Most trees that are laid on one another have no such path, and then there is no
-//! mark but that of the root.
+//! directories. Most trees that are laid on one another have no such path (`apart`), and then there
+//! is no mark but that of the root.
 
-ghost use Rattle.std.specs.Prelude.{◌≡◌, true, false, IfOk, IsTrue};
+ghost use Rattle.std.specs.Prelude.{◌≡◌, [], true, false, IfOk, IsTrue};
 ghost use Rattle.path_tree.specs.Rows.{IsForest};
 ghost use Rattle.layer_tree.specs.Laying.{AreClashes, HasClash, AreRootClashes, IsBare};
 
+use crate::apart::are_apart;
 use crate::laying::seek;
 use crate::reading::{CUT, UNCUT, leaf};
 use path_tree::{Branch, Name};
@@ -16,7 +17,7 @@ use std::alloc::{AllocError, Allocator};
 
 /// The marks of all paths at which a tree has a file, and another one a directory or something
 /// below. Both roots are directories.
-pub(crate) fn clashes<T: Cuts, A: Allocator + Copy>(
+fn clashes<T: Cuts, A: Allocator + Copy>(
     alloc: A,
     files: &Branch<T, A>,
     others: &Branch<T, A>,
@@ -27,6 +28,40 @@ pub(crate) fn clashes<T: Cuts, A: Allocator + Copy>(
     let marks = clashes_below(alloc, files.children(), others.children())?;
     let name = Name::of(alloc, files.name())?;
     Ok(Branch::new(name, UNCUT, marks))
+}
+
+/// The same both ways: of the files of the upper tree, and of those of the lower one. Both roots are
+/// directories.
+pub(crate) fn clashes_both_ways<T: Cuts, A: Allocator + Copy>(
+    alloc: A,
+    low: &Branch<T, A>,
+    high: &Branch<T, A>,
+) -> Result<(Branch<Mark, A>, Branch<Mark, A>), AllocError>
+    requires low { (T.removed low.now.value).cut ≡ false }
+    requires high { (T.removed high.now.value).cut ≡ false }
+    ensures hidden { IfOk result (λ marks. AreRootClashes T.removed high.now low.now marks.0) }
+    ensures replaced { IfOk result (λ marks. AreRootClashes T.removed low.now high.now marks.1) }
+{
+    if are_apart(low.children(), high.children()) {
+        let none = no_marks(alloc)?;
+        let no_others = no_marks(alloc)?;
+        return Ok((none, no_others));
+    }
+    let hidden = clashes(alloc, high, low)?;
+    let replaced = clashes(alloc, low, high)?;
+    Ok((hidden, replaced))
+}
+
+/// A root of marks that cuts nothing, with none below.
+fn no_marks<A: Allocator + Copy>(alloc: A) -> Result<Branch<Mark, A>, AllocError>
+    ensures { IfOk result (λ root. root ≡ record {
+      name = [];
+      value = record { cut = false; opaque = false };
+      below = [];
+    }) }
+{
+    let name = Name::of(alloc, &[])?;
+    Ok(leaf(alloc, name, UNCUT))
 }
 
 /// The same of the branches of two directories.
@@ -93,7 +128,7 @@ fn file_clash<T: Cuts, A: Allocator + Copy>(
 }
 
 /// Whether a branch is no directory and has nothing below it.
-fn is_bare<T: Cuts, A: Allocator>(branch: &Branch<T, A>) -> bool
+pub(crate) fn is_bare<T: Cuts, A: Allocator>(branch: &Branch<T, A>) -> bool
     ensures { IsTrue result → IsBare T.removed branch.now }
 {
     branch.value().mark().cut && branch.children().is_empty()

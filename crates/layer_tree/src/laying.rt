@@ -10,7 +10,7 @@ ghost use Rattle.path_tree.specs.Rows.{NamesRise, IsForest, IsFirstNamed};
 ghost use Rattle.shown_tree.specs.Trees.{IsTreeOf};
 ghost use Rattle.layer_tree.specs.Laying.{AreKept, IsKept, IsLeft, IsFrom, Lays};
 
-use crate::clashes::clashes;
+use crate::clashes::clashes_both_ways;
 use path_tree::{Branch, cover};
 use shown_tree::{Mark, Tree};
 use std::alloc::{AllocError, Allocator};
@@ -108,8 +108,7 @@ fn kept_inside<T: Copy + Drop, A: Allocator + Copy>(
 fn laid<A: Allocator + Copy>(alloc: A, low: Tree<A>, high: Tree<A>) -> Result<Tree<A>, AllocError>
     ensures { IfOk result (λ tree. Lays low high tree) }
 {
-    let hidden = clashes(alloc, &high.entries, &low.entries)?;
-    let replaced = clashes(alloc, &low.entries, &high.entries)?;
+    let (hidden, replaced) = clashes_both_ways(alloc, &low.entries, &high.entries)?;
     let unmarked = kept_inside(alloc, low.entries, &high.marks)?;
     let kept = kept_inside(alloc, unmarked, &hidden)?;
     let entries = cover(alloc, kept, high.entries)?;

@@ -9,6 +9,7 @@
 #![tactic(auto)]
 
 mod ahead;
+mod apart;
 mod clashes;
 pub mod laws;
 mod laying;

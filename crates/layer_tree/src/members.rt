@@ -16,6 +16,9 @@ use shown_tree::is_marker;
 use std::alloc::{AllocError, Allocator};
 use std::cmp::Ordering;
 
+/// How many members a directory gets room for at once: most have no more.
+const FEW: usize = 16;
+
 /// A member with its name.
 #[derive(Clone, Copy)]
 pub(crate) struct Named<'a> {
@@ -51,7 +54,7 @@ fn named_members<'a, A: Allocator + Copy>(
     requires { All (λ head. IsGiven image.now head) members }
     ensures { IfOk result (λ named. AreNamed image.now members.entry named.items) }
 {
-    let mut named = Vec::new(alloc);
+    let mut named = Vec::with_capacity(alloc, FEW)?;
     for head in members {
         let name = image.name(&head);
         let key = key_of(name);

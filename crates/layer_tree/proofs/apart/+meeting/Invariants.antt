@@ -1,0 +1,16 @@
+use Rattle.std.proofs.Common.{length, ◌+◌, ◌*◌}
+use Rattle.path_tree.specs.Rows.{spread}
+use Rattle.layer_tree.proofs.Meeting.{IsMeeting}
+use Rattle.layer_tree.proofs.apart.+meeting.Given as goal
+
+abbrev pub decreases-is_apart : goal.decreases-is_apart
+decreases-is_apart g l = 2 * length l.low.now.below + 1
+
+abbrev pub decreases-are_apart : goal.decreases-are_apart
+decreases-are_apart g l = 2 * length (spread l.lows.now)
+
+abbrev pub invariant-are_apart-loop-low : goal.invariant-are_apart-loop-low
+invariant-are_apart-loop-low g l = IsMeeting g.T.Cuts.removed l.fn.lows l.left l.fn.highs l.rest
+
+abbrev pub decreases-are_apart-loop-low : goal.decreases-are_apart-loop-low
+decreases-are_apart-loop-low g l = length l.left
