@@ -4,3 +4,4 @@ pub mod Added
 pub mod Halves
 pub mod Narrow
 pub mod Places
+mod Sames

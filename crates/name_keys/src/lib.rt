@@ -44,6 +44,7 @@ mod guesses;
 mod key;
 mod named;
 mod run;
+mod same;
 mod search;
 
 pub use adding::add_keys;
