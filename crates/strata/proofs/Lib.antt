@@ -7,3 +7,4 @@ pub mod AtSocket
 pub mod Listed
 pub mod Statuses
 pub mod Mounts
+pub mod Blames

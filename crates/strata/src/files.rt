@@ -107,8 +107,8 @@ fn read_image<R: Files, A: Allocator>(
 ) -> Result<Vec<u8, A>, Fault>
     ensures { IfErr result (λ fault. (fault ≡ Fault.ImageFile image) ⊎ (fault ≡ out_of_memory)) }
 {
-    let mut file = fs::open(rt, path).map_err(|_| Fault::ImageFile { image })?;
-    match read_file(alloc, &mut file) {
+    let file = fs::open(rt, path).map_err(|_| Fault::ImageFile { image })?;
+    match read_file(alloc, file) {
         Ok(bytes) => Ok(bytes),
         Err(ReadFault::Failed) => Err(Fault::ImageFile { image }),
         Err(ReadFault::Memory) => Err(Fault::Stopped(Stop::Memory)),

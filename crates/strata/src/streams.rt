@@ -1,22 +1,21 @@
-//! Open files that are read whole, and lines that are put whole.
+//! Files that are read whole, and lines that are put whole.
 
-ghost use Rattle.std.specs.Prelude.{◌≡◌, ◌<◌, ◌^◌, ◌++◌, IfSome, OnOk, IfOk, IfErr};
+ghost use Rattle.std.specs.Prelude.{◌≡◌, ◌<◌, ◌^◌, IfSome, OnOk, IfOk, IfErr};
 ghost use Rattle.std.specs.Io.KnownBytes.{IsAtEnd};
+ghost use Rattle.devices.specs.Counting.{no_pulls};
 ghost use Rattle.strata.specs.declared.streams.ReadFault.TheVariants.{Memory};
 ghost use Rattle.strata.specs.Ending.{ArePut, IsLost};
+ghost use Rattle.strata.specs.Reading.{IsReadThrough};
 
 use crate::faults::Fault;
-use devices::{Sink, hand_on};
-use serve_core::Stop;
+use devices::{Sink, Source, Tap, hand_on};
+use serve_core::{MAX_TURNS, Stop};
 use std::alloc::{AllocError, Allocator};
 use std::fs::OpenFile;
 use std::io::Read;
 
 // How many bytes a read asks for.
 const ROOM: usize = 65_536;
-
-// How many reads are made of one file. It ends by then, or counts as unreadable.
-const READS: u64 = 1 << 40;
 
 /// Why there are no bytes.
 #[derive(Clone, Copy, Debug, PartialEq, Eq)]
@@ -35,18 +34,15 @@ impl From<AllocError> for ReadFault {
     }
 }
 
-/// All that an open file has. Where the file tells its length, memory is taken once.
-pub fn read_file<F: Read + OpenFile, A: Allocator>(
+/// All that a file has. Where it tells its length, memory is taken once.
+pub fn read_file<F: Read + OpenFile + Drop, A: Allocator>(
     alloc: A,
-    file: &mut F,
+    file: F,
 ) -> Result<Vec<u8, A>, ReadFault>
-    ensures bytes { IfOk result (λ bytes.
-        IfSome (F.remaining file.old) (λ known. bytes.items ≡ known)) }
-    ensures end { OnOk result (IsAtEnd (F.remaining file.new)) }
+    ensures { IfOk result (λ bytes. IfSome (F.remaining file) (λ known. bytes.items ≡ known)) }
 {
-    let mut bytes = Vec::with_capacity(alloc, told_length(file))?;
-    read_to_end(file, &mut bytes)?;
-    Ok(bytes)
+    let length = told_length(&file);
+    read_all(alloc, &mut Tap::new(file), length)
 }
 
 /// Puts lines to a sink, and flushes it where there are any.
@@ -58,19 +54,24 @@ pub fn put_lines<K: Sink>(sink: &mut K, lines: &[u8]) -> Result<(), Fault>
     hand_on(sink, lines).map_err(|_| Fault::Stopped(Stop::Write))
 }
 
-// Appends what the reader has up to its end.
-fn read_to_end<R: Read, A: Allocator>(
-    reader: &mut R,
-    bytes: &mut Vec<u8, A>,
-) -> Result<(), ReadFault>
-    ensures bytes { OnOk result (IfSome (R.remaining reader.old)
-        (λ known. bytes.new.items ≡ bytes.old.items ++ known)) }
-    ensures end { OnOk result (IsAtEnd (R.remaining reader.new)) }
+// All that a new source has. `Failed` comes where the last pull failed, or where 2^40 pulls met no
+// end. Memory is taken once, where the source has no more than `length` bytes.
+fn read_all<S: Source, A: Allocator>(
+    alloc: A,
+    source: &mut S,
+    length: usize,
+) -> Result<Vec<u8, A>, ReadFault>
+    requires { (S.state source.old).counts ≡ no_pulls }
+    ensures bytes { IfOk result (λ bytes.
+        IfSome (S.state source.old).left (λ known. bytes.items ≡ known)) }
+    ensures end { OnOk result (IsAtEnd (S.state source.new).left) }
+    ensures pulls { IsReadThrough (S.state source.new).counts result }
 {
+    let mut bytes = Vec::with_capacity(alloc, length)?;
     let mut room = [0u8; ROOM];
-    for _ in 0..READS {
-        match reader.read(&mut room) {
-            Ok(0) => return Ok(()),
+    for _pull in 0..MAX_TURNS {
+        match source.pull(&mut room) {
+            Ok(0) => return Ok(bytes),
             Ok(count) => bytes.extend_from_slice(&room[..count])?,
             Err(_) => return Err(ReadFault::Failed),
         }
