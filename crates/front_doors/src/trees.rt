@@ -3,7 +3,7 @@
 ghost use Rattle.std.specs.Prelude.{◌≤◌, length};
 
 pub use layer_tree::{Child, Entry, OfLayer, Place, Tree, lay};
-pub use node_table::{Attr, Node, Row, Table};
+pub use node_table::{Attr, Node, OfTree, Row, Table};
 use romfs_image::Image;
 pub use stack_core::{FreePass, Gate, Work, shown, stack};
 use std::alloc::{AllocError, Allocator};

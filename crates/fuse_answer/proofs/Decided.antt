@@ -9,7 +9,7 @@ use Rattle.fuse_wire.specs.declared.errno.Errno.TheVariants.{EINVAL, ENOTDIR, ES
 use Rattle.fuse_wire.specs.declared.limits.TheConstants.{MAX_DATA_SIZE}
 use Rattle.stack_model.specs.Attributes.{is_directory, is_directory_at, kind_at}
 use Rattle.stack_model.specs.Numbers.{Place, node_of}
-use Rattle.node_table.specs.Stacked.{Stacked}
+use Rattle.stack_table.specs.Stacked.{Stacked}
 use Rattle.reply_model.specs.declared.session.Agreement.{Agreement}
 use Rattle.reply_model.specs.Services.{refuse_if}
 use Rattle.reply_model.specs.Refusals.{first_refusal, refused_at}

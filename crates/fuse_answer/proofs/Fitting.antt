@@ -4,7 +4,7 @@ use Rattle.std.specs.Prelude.{nat_le}
 use Rattle.std.specs.List.{flat_map}
 use Rattle.std.proofs.lemmas.Bool.{le-leb, lt-leb, ltb-true, ltb-false}
 use Rattle.std.proofs.lemmas.List.{drop-map, drop_more, drop_all, length-map, length-append}
-use Rattle.node_table.specs.Rows.{Line}
+use Rattle.stack_table.specs.Rows.{Line}
 use Rattle.reply_model.specs.Rows.{Row, fitting, is_too_small}
 use Rattle.fuse_answer.specs.Listings.{Fits, fit_count, fit_size, name_lengths, row_size, row_sizes}
 

@@ -11,10 +11,10 @@ use Rattle.fuse_wire.proofs.Sizes.{length-dirent, length-direntplus}
 use Rattle.stack_model.specs.Listing.{Entry}
 use Rattle.stack_model.specs.Attributes.{is_directory_at, mode}
 use Rattle.stack_model.specs.Numbers.{Place, Child, number, node_of, parent, children}
-use Rattle.node_table.specs.declared.node.Attr.{Attr as Held}
-use Rattle.node_table.specs.Rows.{Line}
-use Rattle.node_table.specs.Stacked.{Stacked}
-use Rattle.node_table.specs.Readers.{attr_of, parent_at, rows_at}
+use Rattle.stack_table.specs.declared.node.Attr.{Attr as Held}
+use Rattle.stack_table.specs.Rows.{Line}
+use Rattle.stack_table.specs.Stacked.{Stacked}
+use Rattle.stack_table.specs.Readers.{attr_of, parent_at, rows_at}
 use Rattle.reply_model.specs.declared.moves.Move.{Move}
 use Rattle.reply_model.specs.Services.{give}
 use Rattle.reply_model.specs.Rows.{Row, fitting, is_child, is_too_small, rows, rows_after, dirent_of, direntplus_of}

@@ -10,7 +10,7 @@ use Rattle.std.proofs.lemmas.Option.{slice_get-get_or}
 use Rattle.fuse_wire.specs.declared.forget.Forget.{Forget}
 use Rattle.fuse_wire.specs.declared.limits.TheConstants.{MAX_FORGETS}
 use Rattle.stack_model.specs.Numbers.{Place, node_of}
-use Rattle.node_table.specs.Stacked.{Stacked}
+use Rattle.stack_table.specs.Stacked.{Stacked}
 use Rattle.reply_model.specs.declared.moves.Move.{Move}
 use Rattle.reply_model.specs.Moves.{take_back}
 use Rattle.lookup_balances.specs.Balances.{AreWithin, IsMoved, weight}

@@ -10,8 +10,8 @@ use Rattle.std.proofs.lemmas.List.FromFn.{length-enumerate_from}
 use Rattle.std.proofs.lemmas.Option.{get_or_from_slice_get, slice_get-get_or}
 use Rattle.fuse_wire.specs.Replies.{reply_head, reply_with}
 use Rattle.fuse_wire.proofs.Sizes.{length-dirent, length-direntplus, length-head}
-use Rattle.node_table.specs.Rows.{Line}
-use Rattle.node_table.specs.Stacked.{Stacked}
+use Rattle.stack_table.specs.Rows.{Line}
+use Rattle.stack_table.specs.Stacked.{Stacked}
 use Rattle.fuse_answer.specs.declared.listing.Listing.{Listing}
 use Rattle.fuse_answer.specs.Listings.{IsWhole, NumberedLine, line_bytes, lines_of, listed_data, row_bytes_at, row_size, type_at, wired_at}
 

@@ -3,7 +3,7 @@ use Rattle.std.specs.Prelude.{◌≡◌, ℕ, ◌+◌, ◌<◌, ◌≤◌, ◌^�
 use Rattle.std.specs.List.{All}
 use Rattle.std.specs.declared.vec.Vec.{Vec}
 use Rattle.fuse_wire.specs.Requests.{Asked}
-use Rattle.node_table.specs.Stacked.{Stacked}
+use Rattle.stack_table.specs.Stacked.{Stacked}
 use Rattle.reply_model.specs.declared.moves.Move.{Move}
 use Rattle.reply_model.specs.declared.session.Session.{Session}
 use Rattle.reply_model.specs.Replies.{reply}

@@ -11,7 +11,7 @@ use crate::listing::Listing;
 use crate::rows::line_at;
 use fuse_wire::forget::{Forget, Forgets};
 use lookup_balances::add_move;
-use node_table::Table;
+use stack_table::Table;
 use std::alloc::Allocator;
 
 /// Adds what an answer gives and takes to the balances, in which node n has the place n - 1.

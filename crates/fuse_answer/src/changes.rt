@@ -12,8 +12,8 @@ use crate::listing::Listing;
 use crate::rows::line_at;
 use fuse_wire::Request;
 use fuse_wire::forget::{Forget, Forgets};
-use node_table::Table;
 use reply_model::{Move, Session};
+use stack_table::Table;
 use std::alloc::{AllocError, Allocator};
 
 /// Appends what a request gives and takes, in order: one lookup for the entry of a LOOKUP and for

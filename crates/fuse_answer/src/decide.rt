@@ -11,8 +11,8 @@ use crate::lookup::look_up;
 use crate::node::{get_attr, open_directory, open_file, read, read_link};
 use crate::sessions::{agreement_of, is_spoken};
 use fuse_wire::{Errno, InitOut, Op, Request, opcode};
-use node_table::Table;
 use reply_model::{Agreement, Session};
+use stack_table::Table;
 use std::alloc::Allocator;
 
 /// What is decided about a request.

@@ -13,9 +13,9 @@ use crate::content::Answer;
 use crate::node::kind_of;
 use fuse_wire::limits::MAX_DATA_SIZE;
 use fuse_wire::{Errno, dirent_size};
-use node_table::{Row, Table};
 use reply_model::Agreement;
 use romfs_format::Kind;
+use stack_table::{Row, Table};
 use std::alloc::Allocator;
 
 /// The bytes of a `struct fuse_entry_out`, which stands before each row of READDIRPLUS.

@@ -9,9 +9,9 @@ use crate::content::Answer;
 use crate::node::{kind_of, wired};
 use fuse_wire::Errno;
 use fuse_wire::limits::MAX_NAME_SIZE;
-use node_table::Table;
 use reply_model::Agreement;
 use romfs_format::Kind;
+use stack_table::Table;
 use std::alloc::Allocator;
 
 /// What LOOKUP is answered. In a session with `FUSE_EXPORT_SUPPORT` the name `.` finds the node

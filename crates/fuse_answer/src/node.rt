@@ -10,9 +10,9 @@ use crate::content::Answer;
 use fuse_wire::flags::{FOPEN_CACHE_DIR, FOPEN_KEEP_CACHE};
 use fuse_wire::limits::MAX_DATA_SIZE;
 use fuse_wire::{Attr, Errno};
-use node_table::Table;
 use reply_model::Agreement;
 use romfs_format::Kind;
+use stack_table::Table;
 use std::alloc::Allocator;
 
 /// What GETATTR is answered.
@@ -124,7 +124,7 @@ fn part(bytes: &[u8], offset: u64, size: u32) -> &[u8]
 }
 
 // A table's attributes as a reply has them.
-pub(crate) fn wired(attr: node_table::Attr) -> Attr
+pub(crate) fn wired(attr: stack_table::Attr) -> Attr
     ensures { result ≡ wired attr }
 {
     Attr {

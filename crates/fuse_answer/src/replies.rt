@@ -12,8 +12,8 @@ use crate::content::Answer;
 use crate::decide::decide;
 use crate::write::write;
 use fuse_wire::{Errno, Op, Request, opcode, put_error};
-use node_table::Table;
 use reply_model::Session;
+use stack_table::Table;
 use std::alloc::{AllocError, Allocator};
 
 /// Appends the reply to a request: nothing for FORGET, BATCH_FORGET and INTERRUPT, else a header

@@ -9,7 +9,7 @@ use crate::rows::put_rows;
 use fuse_wire::{
     put_attr, put_data, put_entry, put_head, put_init, put_negative_entry, put_open, put_statfs,
 };
-use node_table::Table;
+use stack_table::Table;
 use std::alloc::{AllocError, Allocator};
 
 /// Appends the reply with an answer.

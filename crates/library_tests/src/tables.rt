@@ -1,6 +1,6 @@
 //! The table of the sample image: `big` 2, `d` 3, `d/x` 4, `l` 5, `null` 6.
 
-use node_table::Table;
+use node_table::{OfTree, Table};
 use romfs_image::sample::BuildFault;
 use stack_core::{FreePass, stack};
 use std::alloc::Allocator;

@@ -13,12 +13,12 @@ use Rattle.romfs_format.specs.declared.head.Head.{Head}
 use Rattle.romfs_format.specs.Heads.{head_of}
 use Rattle.romfs_reader.specs.declared.parts.Part.{Part}
 use Rattle.romfs_reader.specs.Readers.{IsDataPart}
-use Rattle.node_table.specs.declared.node.Node.{Node}
-use Rattle.node_table.specs.declared.directory.Directory.{Directory as Folder}
+use Rattle.stack_table.specs.declared.node.Node.{Node}
+use Rattle.stack_table.specs.declared.directory.Directory.{Directory as Folder}
 use Rattle.shown_tree.specs.declared.place.Place.{Place}
 use Rattle.shown_tree.specs.declared.place.Entry.{Entry}
 use Rattle.name_keys.specs.Names.{Rise}
-use Rattle.node_table.specs.Rows.{Line, names}
+use Rattle.stack_table.specs.Rows.{Line, names}
 use Rattle.node_table.specs.Walks.{Spot}
 use Rattle.node_table.specs.Building.{line_in, directories, IsPosted, AreFollowing, AddsRows, AddsLinked, AddsNothing, AddsByKind, IsReadFrom, AddsNode}
 use Rattle.node_table.proofs.Walking.{longer_front}

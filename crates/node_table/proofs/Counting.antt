@@ -10,7 +10,7 @@ use Rattle.stack_model.specs.Numbers.{Place as ModelPlace, place, same_place, no
 use Rattle.stack_model.proofs.Numbering.{number_used, number_listed, entries_numbered}
 use Rattle.shown_tree.specs.declared.place.Place.{Place}
 use Rattle.shown_tree.specs.declared.place.Entry.{Entry}
-use Rattle.node_table.specs.Readers.{placed}
+use Rattle.stack_table.specs.Readers.{placed}
 use Rattle.node_table.specs.Walks.{Spot}
 use Rattle.node_table.specs.Firsts.{IsFirstOf, AreFirsts}
 use Rattle.node_table.specs.Numbering.{place_key, key_of, one_more, spot_place, bare, seen, paths_of, IsFirstSpot, AreKeys, IsNumbered}

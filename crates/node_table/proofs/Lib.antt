@@ -1,5 +1,3 @@
-pub mod Names
-pub mod Nodes
 pub mod Paths
 pub mod Walking
 pub mod Seating

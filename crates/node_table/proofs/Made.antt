@@ -12,17 +12,17 @@ use Rattle.stack_model.specs.Attributes.{is_directory, is_directory_at, kind_at,
 use Rattle.shown_tree.specs.declared.place.Place.{Place}
 use Rattle.shown_tree.specs.declared.place.Entry.{Entry}
 use Rattle.path_tree.specs.Rows.{Shoot}
-use Rattle.node_table.specs.declared.node.Node.{Node}
-use Rattle.node_table.specs.declared.directory.Directory.{Directory as Folder}
+use Rattle.stack_table.specs.declared.node.Node.{Node}
+use Rattle.stack_table.specs.declared.directory.Directory.{Directory as Folder}
 use Rattle.name_keys.specs.Keys.{key}
 use Rattle.name_keys.specs.Keyed.{AreKeyed}
-use Rattle.node_table.specs.Rows.{Line, names}
-use Rattle.node_table.specs.Readers.{placed}
+use Rattle.stack_table.specs.Rows.{Line, names}
+use Rattle.stack_table.specs.Readers.{placed}
 use Rattle.node_table.specs.Walks.{Spot}
 use Rattle.node_table.specs.Numbering.{spot_place}
 use Rattle.node_table.specs.Building.{line_in, IsReadFrom, IsMade, AddsLinked, AddsByKind, AddsNode, completed}
 use Rattle.node_table.specs.Seeds.{AreSeedlings, IsSeed, AreSeeds, AreMade}
-use Rattle.node_table.specs.Held.{IsHeldDirectory, HoldsDirectory, IsNode, AreNodes, IsSomeTable}
+use Rattle.stack_table.specs.Held.{IsHeldDirectory, HoldsDirectory, IsNode, AreNodes, IsSomeTable}
 
 -- how far the making of nodes has come
 pub record Making (layers : List (List ℕ)) (entries : List Listed) (held : List Node) (folders : List Folder) (rows : List Line) (keys : List ℕ) (i : ℕ) : Type 0 where

@@ -12,7 +12,7 @@ use Rattle.path_tree.specs.Rows.{Shoot, Rows, prefixed, spread, whole, NamesRise
 use Rattle.shown_tree.specs.declared.place.Entry.{Entry}
 use Rattle.shown_tree.specs.Trees.{TreeRows, IsTreeOf, listed}
 use Rattle.shown_tree.proofs.Listed.{is_listing}
-use Rattle.node_table.specs.Readers.{placed}
+use Rattle.stack_table.specs.Readers.{placed}
 use Rattle.node_table.specs.Walks.{Spot, under, IsLocated, AreWalked, spot_size, AreAbove, AddsWalk}
 use Rattle.node_table.specs.Numbering.{spot_place, bare, seen, paths_of, number_among, IsFirstSpot, IsNumbered}
 use Rattle.node_table.specs.Building.{line_in, IsPosted, AreFollowing, ArePosts}

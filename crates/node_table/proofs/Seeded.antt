@@ -12,7 +12,7 @@ use Rattle.stack_model.specs.Numbers.{Place as ModelPlace, Child, place, same_pl
 use Rattle.path_tree.specs.Rows.{Shoot, Rows, prefixed, spread, whole, IsForest, IsRising, name_cmp}
 use Rattle.shown_tree.specs.declared.place.Entry.{Entry}
 use Rattle.shown_tree.specs.Trees.{listed}
-use Rattle.node_table.specs.Readers.{placed}
+use Rattle.stack_table.specs.Readers.{placed}
 use Rattle.node_table.specs.Walks.{Spot, under, extends, AreApart, IsLocated}
 use Rattle.node_table.specs.Numbering.{spot_place, bare, seen, IsFirstSpot}
 use Rattle.node_table.proofs.Paths.{same_itself as name_itself}

@@ -28,7 +28,7 @@ use Rattle.shown_tree.specs.declared.place.Entry.{Entry}
 use Rattle.shown_tree.specs.Trees.{TreeRows, IsTreeOf, listed, listing}
 use Rattle.romfs_reader.proofs.Paths.{leads_to}
 use Rattle.shown_tree.proofs.Listed.{is_listing}
-use Rattle.node_table.specs.Readers.{placed}
+use Rattle.stack_table.specs.Readers.{placed}
 
 -- an entry's place is in an image of the stack, which gives its header, and its kind is that header's
 pub record IsPlaced (layers : List (List ℕ)) (e : Entry) : Type 0 where

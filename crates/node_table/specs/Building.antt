@@ -7,10 +7,10 @@ use Rattle.stack_model.specs.Attributes.{is_directory, mode_of, rdev_of}
 use Rattle.path_tree.specs.Rows.{Shoot, spread, whole, IsForest}
 use Rattle.shown_tree.specs.declared.place.Place.{Place}
 use Rattle.shown_tree.specs.declared.place.Entry.{Entry}
-use Rattle.node_table.specs.declared.node.Node.{Node}
-use Rattle.node_table.specs.declared.directory.Directory.{Directory}
+use Rattle.stack_table.specs.declared.node.Node.{Node}
+use Rattle.stack_table.specs.declared.directory.Directory.{Directory}
 use Rattle.name_keys.specs.Keyed.{AddsKeys}
-use Rattle.node_table.specs.Rows.{Line, names}
+use Rattle.stack_table.specs.Rows.{Line, names}
 use Rattle.node_table.specs.Walks.{Spot}
 
 -- the row of a child

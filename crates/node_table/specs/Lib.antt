@@ -1,7 +1,3 @@
-pub mod Stacked
-pub mod Rows
-pub mod Readers
-pub mod Held
 pub mod Walks
 pub mod Firsts
 pub mod Numbering

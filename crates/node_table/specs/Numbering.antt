@@ -4,7 +4,7 @@ use Rattle.stack_model.specs.Listing.{Entry as Listed}
 use Rattle.stack_model.specs.Numbers.{Place as ModelPlace, place, same_place, nodes, number_of}
 use Rattle.shown_tree.specs.declared.place.Place.{Place}
 use Rattle.shown_tree.specs.declared.place.Entry.{Entry}
-use Rattle.node_table.specs.Readers.{placed}
+use Rattle.stack_table.specs.Readers.{placed}
 use Rattle.node_table.specs.Walks.{Spot}
 
 -- a place as one number

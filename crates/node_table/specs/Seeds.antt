@@ -7,13 +7,13 @@ use Rattle.stack_model.specs.Attributes.{kind_at, is_directory_at, nlink, data_o
 use Rattle.path_tree.specs.Rows.{Shoot, spread, IsForest}
 use Rattle.shown_tree.specs.declared.place.Place.{Place as Seat}
 use Rattle.shown_tree.specs.declared.place.Entry.{Entry}
-use Rattle.node_table.specs.declared.node.Node.{Node}
-use Rattle.node_table.specs.declared.directory.Directory.{Directory}
-use Rattle.node_table.specs.Rows.{Line}
+use Rattle.stack_table.specs.declared.node.Node.{Node}
+use Rattle.stack_table.specs.declared.directory.Directory.{Directory}
+use Rattle.stack_table.specs.Rows.{Line}
 use Rattle.node_table.specs.Walks.{Spot}
 use Rattle.node_table.specs.Numbering.{spot_place, number_among}
 use Rattle.node_table.specs.Building.{line_in, directories, IsSeat, ArePosts, completed}
-use Rattle.node_table.specs.Held.{AreNodes}
+use Rattle.stack_table.specs.Held.{AreNodes}
 
 -- the row of a shown child
 abbrev pub shown_line : List Listed → Child → Line

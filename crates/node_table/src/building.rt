@@ -9,14 +9,12 @@ ghost use Rattle.node_table.specs.Building.{AddsRows, AddsDirectory, AddsNode, I
 ghost use Rattle.node_table.specs.Seeds.{AreSeated, AreMade};
 
 use crate::ahead::Ahead;
-use crate::directory::{Directories, Directory};
-use crate::node::Node;
 use crate::numbering::Numbered;
-use crate::row::Row;
 use crate::walk::{Spot, Walked};
 use name_keys::add_keys;
 use romfs_reader::{Head, Image, Kind};
 use shown_tree::{Child, Entry};
+use stack_table::{Directories, Directory, Node, Row};
 use std::alloc::{AllocError, Allocator};
 
 /// What a table is made of beside its images.

@@ -6,9 +6,9 @@ ghost use Rattle.romfs_reader.specs.Images.{IsImage};
 ghost use Rattle.stack_model.specs.Attributes.{blocks_all, mode_of, rdev_of};
 ghost use Rattle.node_table.specs.Building.{completed};
 
-use crate::node::Node;
 use rayon::prelude::*;
 use romfs_reader::{Image, Kind};
+use stack_table::Node;
 use std::alloc::Allocator;
 use std::thread::Threads;
 

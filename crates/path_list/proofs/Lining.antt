@@ -3,9 +3,9 @@ use Rattle.std.proofs.Common.{◌≡◌, ℕ, [], ◌∷◌, ◌++◌, Some, ref
 use Rattle.std.specs.Fmt.{decimal}
 use Rattle.stack_model.specs.Stack.{Path}
 use Rattle.stack_model.specs.Numbers.{Place, node_of}
-use Rattle.node_table.specs.declared.node.Attr.{Attr}
-use Rattle.node_table.specs.Stacked.{Stacked}
-use Rattle.node_table.specs.Readers.{attr_of, attr_at}
+use Rattle.stack_table.specs.declared.node.Attr.{Attr}
+use Rattle.stack_table.specs.Stacked.{Stacked}
+use Rattle.stack_table.specs.Readers.{attr_of, attr_at}
 use Rattle.path_list.specs.Lines.{spaced, mode_text, path_text, line_of}
 use Rattle.path_list.specs.Walks.{line_at}
 

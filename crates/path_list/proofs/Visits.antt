@@ -8,9 +8,9 @@ use Rattle.stack_model.specs.Listing.{Entry, Rises, IsAmong}
 use Rattle.stack_model.specs.Numbers.{Place, Child, place, same_place, number_of, number, node_of, name_below, child_in, children}
 use Rattle.stack_model.specs.Attributes.{is_directory_at}
 use Rattle.stack_model.proofs.Numbering.{number_used, entries_numbered}
-use Rattle.node_table.specs.Stacked.{Stacked}
-use Rattle.node_table.specs.Rows.{Line}
-use Rattle.node_table.specs.Readers.{rows_at}
+use Rattle.stack_table.specs.Stacked.{Stacked}
+use Rattle.stack_table.specs.Rows.{Line}
+use Rattle.stack_table.specs.Readers.{rows_at}
 use Rattle.path_list.specs.Below.{after, is_below, below}
 use Rattle.path_list.specs.Walks.{lines_below, piece_at, IsVisited}
 use Rattle.path_list.proofs.Paths.{not_itself, after_is, is_after, below_name, below_none, below_top, only_name, name_is, later}

@@ -7,8 +7,8 @@ use Rattle.devices.specs.States.{SinkState}
 use Rattle.stack_model.specs.Stack.{Path}
 use Rattle.stack_model.specs.Listing.{Entry, IsAmong}
 use Rattle.stack_model.specs.Numbers.{place, number, node_of}
-use Rattle.node_table.specs.Stacked.{Stacked}
-use Rattle.node_table.specs.Rows.{Line}
+use Rattle.stack_table.specs.Stacked.{Stacked}
+use Rattle.stack_table.specs.Rows.{Line}
 use Rattle.path_list.specs.Lines.{name_text, line_of, line}
 use Rattle.path_list.specs.Below.{below, AreTree}
 

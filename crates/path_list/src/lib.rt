@@ -13,7 +13,7 @@
 //! stands on what the layers are: nothing is shown below what is no directory, and a directory has
 //! one path (`laws`).
 //!
-//! The crate stands on `node_table`, and on `devices` for its sink.
+//! The crate stands on `stack_table`, and on `devices` for its sink.
 #![tactic(auto)]
 
 pub mod examples;

@@ -11,8 +11,8 @@ use crate::room::{drain, put_byte};
 use crate::text::{put_mode, put_number, put_path};
 use crate::trail::Trail;
 use devices::{Failed, Sink};
-use node_table::Table;
 use romfs_reader::Image;
+use stack_table::Table;
 use std::alloc::{AllocError, Allocator};
 
 // How many bytes of lines wait before they are written.

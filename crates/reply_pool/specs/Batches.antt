@@ -3,7 +3,7 @@ use Rattle.std.specs.Prelude.{◌≡◌, ℕ, ◌+◌, ◌-◌, ◌*◌, ◌/◌
 use Rattle.std.specs.List.{All, flat_map, range_with_len}
 use Rattle.std.specs.List.Sorted.{IsPermutation, IsNonDecreasingBy}
 use Rattle.draw_board.specs.Positions.{times}
-use Rattle.node_table.specs.Stacked.{Stacked}
+use Rattle.stack_table.specs.Stacked.{Stacked}
 use Rattle.lookup_balances.specs.Balances.{weight}
 use Rattle.reply_pool.specs.declared.jobs.Rounded.{Rounded}
 use Rattle.reply_pool.specs.declared.pieces.Piece.{Piece}

@@ -11,7 +11,7 @@
 
 use fuse_wire::limits::MAX_ROUND_MESSAGES;
 use fuse_wire::{Framed, frame, glance};
-use node_table::{Row, Table};
+use stack_table::{Row, Table};
 use std::alloc::Allocator;
 
 /// What was read ahead.

@@ -9,8 +9,8 @@ ghost use Rattle.reply_pool.specs.Jobs.{HasFewItems, IsRounded, moved_by, reply_
 use crate::sums::sums;
 use fuse_answer::{answer, moves};
 use fuse_wire::{Op, Request};
-use node_table::Table;
 use reply_model::{Move, Session};
+use stack_table::Table;
 use std::alloc::{AllocError, Allocator};
 
 /// What a round comes to.

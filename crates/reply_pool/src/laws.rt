@@ -10,8 +10,8 @@ ghost use Rattle.reply_pool.specs.Workers.{AreWhole, IsLast, WorksAlone};
 use crate::pieces::Piece;
 use draw_board::{Board, Hand};
 use fuse_wire::Request;
-use node_table::Table;
 use reply_model::Session;
+use stack_table::Table;
 use std::alloc::Allocator;
 
 /// Moves have one list of sums.

@@ -12,8 +12,8 @@ ghost use Rattle.std.specs.Prelude.{◌≤◌, ◌^◌, IfSome};
 
 use fuse_wire::limits::{MAX_DATA_SIZE, MAX_ROUND_MESSAGES, OUT_HEADER_SIZE};
 use fuse_wire::{Framed, Op, Request, frame};
-use node_table::Table;
 use romfs_format::Kind;
+use stack_table::Table;
 use std::alloc::Allocator;
 
 /// A round is worth workers that one thread answers in so many nanoseconds. Within 4 MiB of replies

@@ -2,7 +2,7 @@
 use Rattle.std.specs.Prelude.{◌≡◌, ℕ, ◌⊎◌, List, [], length, Result, Err}
 use Rattle.romfs_format.specs.declared.rule.Profile.{Profile}
 use Rattle.stack_model.specs.Numbers.{nodes}
-use Rattle.node_table.specs.Stacked.{Stacked}
+use Rattle.stack_table.specs.Stacked.{Stacked}
 use Rattle.reply_model.specs.declared.session.Session.{Session}
 use Rattle.reply_pool.specs.Answers.{answering}
 use Rattle.serve_loop.specs.declared.stop.Stop.{Stop}

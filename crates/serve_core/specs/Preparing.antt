@@ -6,7 +6,7 @@ use Rattle.romfs_format.specs.Rules.{IsFaultAs, IsSoundAs}
 use Rattle.romfs_format.specs.declared.rule.Profile.{Profile}
 use Rattle.romfs_format.specs.declared.rule.ImageFault.{ImageFault}
 use Rattle.stack_model.specs.Listing.{IsListing}
-use Rattle.node_table.specs.Stacked.{Stacked}
+use Rattle.stack_table.specs.Stacked.{Stacked}
 use Rattle.serve_loop.specs.declared.stop.Stop.{Stop}
 use Rattle.serve_loop.specs.declared.stop.Stop.TheVariants.{Layer, Layers, Memory}
 

@@ -4,7 +4,7 @@ ghost use Rattle.std.specs.Prelude.{IfOk, IfErr};
 ghost use Rattle.serve_core.specs.Preparing.{contents_of, AreStacked, AreRefused};
 
 use crate::checking::check_all;
-use node_table::Table;
+use node_table::{OfTree, Table};
 use romfs_format::Profile;
 use serve_loop::Stop;
 use stack_core::stack;

@@ -2,7 +2,7 @@
 use Rattle.std.proofs.Common.{◌≡◌, inl, inr, ℕ, List, Result, Ok, Err, IfErr, IsErrAnd}
 use Rattle.devices.specs.States.{SinkState}
 use Rattle.romfs_format.specs.declared.rule.Profile.{Profile}
-use Rattle.node_table.specs.Stacked.{Stacked}
+use Rattle.stack_table.specs.Stacked.{Stacked}
 use Rattle.serve_loop.specs.declared.stop.Stop.TheVariants as stops
 use Rattle.serve_core.specs.Preparing.{AreStacked}
 use Rattle.path_list.specs.declared.walk.ListFault.{ListFault}

@@ -7,7 +7,7 @@ use Rattle.devices.specs.Counting.{no_pulls, no_pushes}
 use Rattle.devices.specs.Pushing.{HasFlushed}
 use Rattle.devices.specs.States.{SourceState, SinkState, Devices}
 use Rattle.fuse_wire.specs.declared.limits.TheConstants.{MAX_TURNS}
-use Rattle.node_table.specs.Stacked.{Stacked}
+use Rattle.stack_table.specs.Stacked.{Stacked}
 use Rattle.serve_loop.specs.declared.stop.Stop.{Stop}
 use Rattle.serve_loop.specs.declared.done.Done.{Done}
 use Rattle.serve_core.specs.Preparing.{AreStacked, AreRefused}

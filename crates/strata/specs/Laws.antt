@@ -3,7 +3,7 @@ use Rattle.std.specs.Prelude.{◌≡◌, ◌<◌, ℕ, ◌⊎◌, List, ◌∷�
 use Rattle.std.specs.List.{AllByRecursion}
 use Rattle.romfs_format.specs.declared.rule.Profile.{Profile}
 use Rattle.romfs_format.specs.Rules.{IsSoundAs}
-use Rattle.node_table.specs.Stacked.{Stacked}
+use Rattle.stack_table.specs.Stacked.{Stacked}
 use Rattle.reply_model.specs.declared.session.Session.{Session}
 use Rattle.serve_loop.specs.declared.stop.Stop.{Stop}
 use Rattle.serve_loop.specs.declared.done.Done.{Done}

@@ -9,8 +9,8 @@ ghost use Rattle.strata.specs.Sessions.{fault_of, status_at, EndWith, IsSession,
 
 use crate::faults::Fault;
 use devices::{Spout, Tap};
-use node_table::Table;
 use serve_core::{Done, FreePass, MAX_TURNS, Plan, Session, Stop, run_from};
+use stack_table::Table;
 use std::alloc::Allocator;
 use std::io::Write;
 use std::os::unix::net::{UnixListener, UnixStream};

@@ -4,7 +4,7 @@ ghost use Rattle.std.specs.Prelude.{◌≡◌, ◌≤◌, ◌⊎◌, ℕ, List};
 ghost use Rattle.command_line.specs.CommandLine.{IsTaken, IsMisnumbered, IsCrossed};
 ghost use Rattle.devices.specs.States.{Devices};
 ghost use Rattle.strata.specs.Ending.{EndsWith};
-ghost use Rattle.node_table.specs.Stacked.{Stacked};
+ghost use Rattle.stack_table.specs.Stacked.{Stacked};
 ghost use Rattle.reply_model.specs.declared.session.Session.{Session};
 ghost use Rattle.strata.specs.Sessions.{EndWith};
 ghost use Rattle.strata.specs.Laws.{AreToBlame, TellsOfSessions};

@@ -1,6 +1,6 @@
 //! The table of the sample image.
 
-use node_table::Table;
+use node_table::{OfTree, Table};
 use stack_core::{FreePass, stack};
 use std::alloc::Allocator;
 use std::thread::Threads;

@@ -4,7 +4,7 @@ use Rattle.std.proofs.lemmas.List.{get_or_default}
 use Rattle.name_keys.specs.Names.{Rise}
 use Rattle.name_keys.specs.Keyed.{AddsKeys}
 use Rattle.node_table.specs.Numbering.{number_among}
-use Rattle.node_table.specs.Rows.{Line, names}
+use Rattle.stack_table.specs.Rows.{Line, names}
 use Rattle.node_table.specs.Building.{line_in}
 use Rattle.node_table.proofs.Built.{fresh_lines, names_rise}
 use Rattle.node_table.proofs.building.add_directory.Goals as goal

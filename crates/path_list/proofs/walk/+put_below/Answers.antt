@@ -1,5 +1,5 @@
 use Rattle.std.proofs.Common.{rules, ◌≡◌, ◌<◌, ◌^◌, ◌∙◌, ap, subst, sym, ℕ, List}
-use Rattle.node_table.specs.Rows.{Line}
+use Rattle.stack_table.specs.Rows.{Line}
 use Rattle.path_list.specs.Walks.{way}
 use Rattle.path_list.proofs.Gaining.{gains_same}
 use Rattle.path_list.proofs.Visits.{goes_on, walked}

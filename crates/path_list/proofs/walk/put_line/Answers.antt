@@ -1,4 +1,4 @@
-use Rattle.node_table.specs.Readers.{placed}
+use Rattle.stack_table.specs.Readers.{placed}
 use Rattle.path_list.specs.Walks.{way, line_at}
 use Rattle.path_list.proofs.Gaining.{gains_more, gains_on}
 use Rattle.path_list.proofs.Lining.{line_is}

@@ -1,0 +1,101 @@
+//! A table made of a tree.
+
+ghost use Rattle.std.specs.Prelude.{◌≤◌, length, IfOk};
+ghost use Rattle.std.specs.List.{AllByRecursion};
+ghost use Rattle.romfs_reader.specs.Images.{IsImage};
+ghost use Rattle.shown_tree.specs.Trees.{IsTreeOf};
+ghost use Rattle.stack_table.specs.Stacked.{IsTableOf};
+ghost use Rattle.node_table.specs.Seeds.{AreMade};
+
+use crate::building::{Parts, make};
+use crate::completing::{blocks_of, complete_all};
+use crate::numbering::number_places;
+use crate::walk::{Walked, count_branches, walk};
+use romfs_reader::Image;
+use shown_tree::Tree;
+use stack_table::Table;
+use std::alloc::{AllocError, Allocator};
+use std::thread::Threads;
+
+/// What is made of the tree of a stack.
+pub trait OfTree: Sized {
+    /// Where memory comes from.
+    type Memory;
+
+    /// The tree.
+    type Tree;
+
+    /// The images of the layers, the lowest first.
+    type Images;
+
+    ghost use Rattle.std.specs.Thread.{IsSync};
+
+    // Holds of a tree and the images whose tree it is.
+    ghost fits: { Self.Tree → Self.Images → Type 0 };
+
+    /// What is made of this tree and these images.
+    fn of<R: Threads + Sync>(
+        rt: &R,
+        alloc: Self::Memory,
+        tree: Self::Tree,
+        images: Self::Images,
+    ) -> Result<Self, AllocError>
+        requires threads { IsSync R.row }
+        requires fits { fits tree images };
+}
+
+impl<A: Allocator + Copy> OfTree for Table<A> {
+    type Memory = A;
+
+    type Tree = Tree<A>;
+
+    type Images = Vec<Image<A>, A>;
+
+    ghost use Rattle.std.specs.Prelude.{◌≤◌, length};
+    ghost use Rattle.std.specs.Thread.{IsSync};
+    ghost use Rattle.shown_tree.specs.Trees.{IsTreeOf};
+
+    ghost fits = { λ tree images. IsTreeOf 0 images.items tree × (length images.items ≤ 128) };
+
+    /// The table of a stack of images, from its tree. The images are the layers, the lowest first.
+    ///
+    /// It takes n log n steps in the paths that the stack shows. Attributes are worked out in
+    /// several threads where there are many. An error comes only where memory was refused.
+    fn of<R: Threads + Sync>(
+        rt: &R,
+        alloc: A,
+        tree: Tree<A>,
+        images: Vec<Image<A>, A>,
+    ) -> Result<Table<A>, AllocError>
+        requires threads { IsSync R.row }
+        requires tree { IsTreeOf 0 images.items tree }
+        requires few { length images.items ≤ 128 }
+        ensures { IfOk result (λ table. IsTableOf images.items table) }
+    {
+        let blocks = blocks_of(&images);
+        let Parts {
+            mut nodes,
+            directories,
+        } = parts_of(alloc, &tree, &images)?;
+        complete_all(rt, &mut nodes);
+        Table::of_parts(alloc, images, nodes, directories, blocks)
+    }
+}
+
+// The nodes of a tree, but for what their headers say, their rows, and the rows' keys.
+fn parts_of<A: Allocator + Copy>(
+    alloc: A,
+    tree: &Tree<A>,
+    images: &[Image<A>],
+) -> Result<Parts<A>, AllocError>
+    requires tree { IsTreeOf 0 images.now tree.now }
+    requires sound { AllByRecursion IsImage images.now }
+    ensures { IfOk result (λ made. AreMade images.now made.nodes.items
+        made.directories.all.items made.directories.rows.items made.directories.keys.items) }
+{
+    let root = tree.root();
+    let mut all = Walked::with_room(alloc, count_branches(root))?;
+    walk(root, root.value(), 0, &mut all)?;
+    let numbered = number_places(alloc, &all.spots)?;
+    make(alloc, images, &all, &numbered)
+}

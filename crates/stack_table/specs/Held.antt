@@ -1,0 +1,99 @@
+-- What a table holds, and what of it agrees with the listing of its layers.
+use Rattle.std.specs.Prelude.{◌≡◌, ℕ, zero, suc, ◌≤◌, List, length, slice_get, slice_range, Option, Some, None, true, if◌then◌else◌}
+use Rattle.std.specs.Option.{option_and_then}
+use Rattle.romfs_reader.specs.Readers.{bytes_at, IsPart}
+use Rattle.stack_model.specs.Listing.{Entry, IsListing}
+use Rattle.stack_model.specs.Numbers.{Place, nodes, number, parent}
+use Rattle.stack_model.specs.Attributes.{is_directory, kind_at, mode, size_at, rdev, nlink, blocks_of, blocks_all, data_of}
+use Rattle.stack_table.specs.declared.node.Attr.{Attr}
+use Rattle.stack_table.specs.declared.node.Node.{Node}
+use Rattle.stack_table.specs.declared.directory.Directory.{Directory}
+use Rattle.name_keys.specs.Keyed.{AreKeyed}
+use Rattle.stack_table.specs.Rows.{Line, names}
+use Rattle.stack_table.specs.Readers.{placed, rows_of}
+
+-- the node of a number, counted from 1
+abbrev pub held_at : List Node → ℕ → Option Node
+held_at held zero = None
+held_at held (suc k) = slice_get held k
+
+-- what is held of a node that is a directory
+abbrev pub kept_of : List Directory → Node → Option Directory
+kept_of directories node =
+    if is_directory node.kind then slice_get directories node.directory else None
+
+-- the directory of a number
+abbrev pub directory_held : List Node → List Directory → ℕ → Option Directory
+directory_held held directories n = option_and_then (kept_of directories) (held_at held n)
+
+-- the attributes that a node holds
+abbrev pub attr_held : ℕ → Node → Attr
+attr_held n node = record {
+  ino = n;
+  size = node.part.len;
+  blocks = blocks_of node.part.len;
+  mode = node.mode;
+  nlink = node.nlink;
+  rdev = node.rdev;
+}
+
+-- the data that the node holds lie in the place's layer, and are the place's
+pub record HoldsData (layers : List (List ℕ)) (layer : ℕ) (node : Node) (p : Place) : Type 0 where
+  pub image : List ℕ
+  pub is : slice_get layers layer ≡ Some image
+  pub lies : IsPart image node.part
+  pub data_is : bytes_at image node.part.start node.part.len ≡ data_of layers p
+
+-- a directory holds the number of the one above, and its rows with their keys
+pub record IsHeldDirectory (layers : List (List ℕ)) (entries : List Entry) (rows : List Line)
+    (keys : List ℕ) (directory : Directory) (p : Place) : Type 0 where
+  pub parent_is : directory.parent ≡ number entries (parent entries p)
+  pub start : directory.rows_start ≤ directory.rows_end
+  pub end : directory.rows_end ≤ length rows
+  pub rows_are : slice_range rows directory.rows_start directory.rows_end ≡ rows_of layers entries p
+  pub keyed : AreKeyed directory.shared (slice_range keys directory.rows_start directory.rows_end)
+      (names (slice_range rows directory.rows_start directory.rows_end))
+
+-- the directory of this node is held, and is the place's
+pub record HoldsDirectory (layers : List (List ℕ)) (entries : List Entry)
+    (directories : List Directory)
+    (rows : List Line) (keys : List ℕ) (node : Node) (p : Place) : Type 0 where
+  pub directory : Directory
+  pub is : slice_get directories node.directory ≡ Some directory
+  pub holds : IsHeldDirectory layers entries rows keys directory p
+
+-- the node holds what the definitions say of its place
+pub record IsNode (layers : List (List ℕ)) (entries : List Entry) (directories : List Directory)
+    (rows : List Line) (keys : List ℕ) (node : Node) (p : Place) : Type 0 where
+  pub place : placed node.place ≡ p
+  pub holds : HoldsData layers node.place.layer node p
+  pub kind : node.kind ≡ kind_at layers p
+  pub size : node.part.len ≡ size_at layers p
+  pub mode_is : node.mode ≡ mode layers p
+  pub nlink_is : node.nlink ≡ nlink layers entries p
+  pub rdev_is : node.rdev ≡ rdev layers p
+  pub directory_is : is_directory node.kind ≡ true
+      → HoldsDirectory layers entries directories rows keys node p
+
+-- the nodes in the order of their numbers, what is held of the directories, and a key beside each
+-- row
+pub record AreNodes (layers : List (List ℕ)) (entries : List Entry) (held : List Node)
+    (directories : List Directory) (rows : List Line) (keys : List ℕ) : Type 0 where
+  pub level : length held ≡ length (nodes entries)
+  pub keys_level : length keys ≡ length rows
+  pub each : (k : ℕ) (node : Node) (p : Place) → slice_get held k ≡ Some node
+      → slice_get (nodes entries) k ≡ Some p
+      → IsNode layers entries directories rows keys node p
+
+-- a table of these layers and their listing
+pub record IsTable (layers : List (List ℕ)) (entries : List Entry) (held : List Node)
+    (directories : List Directory) (rows : List Line) (keys : List ℕ) (blocks : ℕ) : Type 0 where
+  pub listing : IsListing layers entries
+  pub are : AreNodes layers entries held directories rows keys
+  pub blocks_are : blocks ≡ blocks_all layers
+
+-- some listing of the layers makes it a table
+abbrev pub IsSomeTable : List (List ℕ) → List Node → List Directory → List Line → List ℕ → ℕ
+    → Type 0
+IsSomeTable layers held directories rows keys blocks =
+    (entries : List Entry) × IsTable layers entries held directories rows keys blocks

@@ -1,0 +1,40 @@
+//! A child of a directory.
+
+ghost use Rattle.std.specs.Prelude.{◌≡◌};
+
+use name_keys::Named;
+use path_tree::Name;
+use std::alloc::Allocator;
+use std::marker::Model;
+
+/// A child of a directory: its number, and its name there. A short name stands in the row itself.
+#[derive(Drop)]
+pub struct Row<A: Allocator> {
+    pub number: u64,
+    pub name: Name<A>,
+}
+
+impl<A: Allocator> Model for Row<A> {
+    ghost use Rattle.stack_table.specs.Rows.{Line};
+
+    ghost Value = { Line };
+
+    ghost view = { λ row. record { number = row.number; name = row.name } };
+}
+
+impl<A: Allocator> Row<A> {
+    /// The child's name in its directory.
+    pub fn name(&self) -> &[u8]
+        ensures { result.now ≡ self.now.name }
+    {
+        self.name.as_slice()
+    }
+}
+
+impl<A: Allocator> Named for Row<A> {
+    ghost name = { λ row. row.name };
+
+    fn name(&self) -> &[u8] {
+        self.name.as_slice()
+    }
+}

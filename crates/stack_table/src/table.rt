@@ -1,0 +1,184 @@
+//! The table of a stack.
+
+ghost use Rattle.std.specs.Prelude.{◌≡◌, ◌<◌, ◌+◌, ◌^◌, length, IfOk};
+ghost use Rattle.stack_model.specs.Listing.{IsListing};
+ghost use Rattle.stack_model.specs.Numbers.{nodes};
+ghost use Rattle.stack_model.specs.Attributes.{blocks_all};
+ghost use Rattle.stack_table.specs.Stacked.{Listed, listed_once, IsTableOf};
+ghost use Rattle.stack_table.specs.Held.{IsSomeTable};
+ghost use Rattle.stack_table.specs.Readers.{TellsNode, attr_at, parent_at, child_at, rows_at, data_of_number};
+
+use crate::directory::{Directories, Directory};
+use crate::lookup::{attr_of, directory_at, guesses_of, keys_of, node_at, number_named, rows_of};
+use crate::node::{Attr, Node};
+use crate::row::Row;
+use name_keys::Guesses;
+use romfs_reader::Image;
+use std::alloc::{AllocError, Allocator, Global};
+use std::marker::Model;
+
+/// The nodes of a stack of layers, by number: attributes, rows and data.
+///
+/// A clause sees the layers and their listing. Each node and row takes at most 96 bytes beside a
+/// name of more than 22 (16 of them for guesses of where names stand), and a directory 32 more. No
+/// reader takes memory, and each answers for every number: 1 is the root, and a number that is not
+/// in use has nothing.
+#[derive(Drop)]
+pub struct Table<A: Allocator> {
+    images: Vec<Image<A>, A>,
+    nodes: Vec<Node, A>,
+    directories: Directories<A>,
+    guesses: Guesses<A>,
+    blocks: u64,
+    ghost listing: { Listed images.items } by { listed_once images.items },
+}
+
+const _: () = prove!(size_of::<Node>() <= 40);
+
+const _: () = prove!(size_of::<Node>() + size_of::<Row<Global>>() + size_of::<u64>() <= 80);
+
+const _: () = prove!(size_of::<Directory>() <= 32);
+
+impl<A: Allocator> Model for Table<A> {
+    ghost use Rattle.stack_table.specs.Stacked.{Stacked};
+    ghost use Rattle.stack_table.specs.Held.{IsTable};
+
+    ghost Value = { Stacked };
+
+    ghost view = { λ held. record { layers = held.images.items; entries = held.listing.0 } };
+
+    ghost invariant = { λ held. IsTable held.images.items held.listing.0 held.nodes.items
+        held.directories.all.items held.directories.rows.items held.directories.keys.items
+        held.blocks };
+}
+
+impl<A: Allocator + Copy> Table<A> {
+    /// The table of images, the lowest layer first, from what it holds of their nodes and
+    /// directories. An error comes only where memory was refused.
+    pub fn of_parts(
+        alloc: A,
+        images: Vec<Image<A>, A>,
+        nodes: Vec<Node, A>,
+        directories: Directories<A>,
+        blocks: u64,
+    ) -> Result<Self, AllocError>
+        requires { IsSomeTable images.items nodes.items directories.all.items
+            directories.rows.items directories.keys.items blocks }
+        ensures { IfOk result (λ table. IsTableOf images.items table) }
+    {
+        let guesses = guesses_of(alloc, &nodes, &directories)?;
+        Ok(Table {
+            images,
+            nodes,
+            directories,
+            guesses,
+            blocks,
+        })
+    }
+}
+
+impl<A: Allocator> Table<A> {
+    /// How many nodes there are. They have the numbers from 1 on.
+    pub fn len(&self) -> u64
+        ensures value { result ≡ length (nodes self.now.entries) }
+        ensures listing { IsListing self.now.layers self.now.entries }
+    {
+        self.nodes.len() as u64
+    }
+
+    /// The images of the layers, the lowest first.
+    pub fn images(&self) -> &[Image<A>]
+        ensures { result.now ≡ self.now.layers }
+    {
+        self.images.as_slice()
+    }
+
+    /// The node of a number; none where the number is not in use.
+    pub fn node(&self, number: u64) -> Option<&Node>
+        ensures { TellsNode self.now number result }
+    {
+        node_at(&self.nodes, number)
+    }
+
+    /// The number of the child with this name in a directory; none where the number is no directory
+    /// that shows such a child. Names compare byte by byte, and neither `.` nor `..` is a child.
+    ///
+    /// Where the row is guessed it looks at one row, or at few. Else it takes as many steps over
+    /// the keys of the directory's rows as their number has binary digits, and where many names
+    /// have one key at most as many over these names again.
+    pub fn child(&self, number: u64, name: &[u8]) -> Option<u64>
+        ensures { result ≡ child_at self.now number name.now }
+    {
+        let directory = directory_at(&self.nodes, &self.directories.all, number)?;
+        let rows = rows_of(&self.directories.rows, directory);
+        let keys = keys_of(&self.directories.keys, directory);
+        number_named(rows, keys, &self.guesses, number, directory, name)
+    }
+
+    /// Where the row of a directory's child may stand among all rows. It is a guess, for whoever
+    /// reads ahead: no answer follows from it.
+    pub fn guess(&self, number: u64, name: &[u8]) -> Option<usize> {
+        let place = self.guesses.first(number, name)?;
+        let directory = directory_at(&self.nodes, &self.directories.all, number)?;
+        if place < directory.rows_end {
+            Some(place)
+        } else {
+            None
+        }
+    }
+
+    /// The row that stands at a guessed place among all rows.
+    pub fn guessed(&self, place: usize) -> Option<&Row<A>> {
+        self.directories.rows.get(place)
+    }
+
+    /// The children of a directory in the order of their names, without `.` and `..`; empty where
+    /// the number is no directory.
+    pub fn rows(&self, number: u64) -> &[Row<A>]
+        ensures { result.now ≡ rows_at self.now number }
+    {
+        match directory_at(&self.nodes, &self.directories.all, number) {
+            Some(directory) => rows_of(&self.directories.rows, directory),
+            None => &[],
+        }
+    }
+
+    /// The number of the directory above a directory, that of the root being the root's; none where
+    /// the number is no directory.
+    pub fn parent(&self, number: u64) -> Option<u64>
+        ensures { result ≡ parent_at self.now number }
+    {
+        let directory = directory_at(&self.nodes, &self.directories.all, number)?;
+        Some(directory.parent)
+    }
+
+    /// The attributes of a node; none where the number is not in use.
+    pub fn attr(&self, number: u64) -> Option<Attr>
+        ensures { result ≡ attr_at self.now number }
+    {
+        let node = node_at(&self.nodes, number)?;
+        Some(attr_of(number, node))
+    }
+
+    /// The data of a regular file, or the target of a symbolic link; empty where the number is
+    /// neither. A reply's header can say how many they are.
+    pub fn bytes(&self, number: u64) -> &[u8]
+        ensures value { result.now ≡ data_of_number self.now number }
+        ensures short { 16 + length result.now < 2 ^ 32 }
+    {
+        match node_at(&self.nodes, number) {
+            Some(node) => {
+                let image = &self.images[node.place.layer as usize];
+                image.part(node.part)
+            }
+            None => &[],
+        }
+    }
+
+    /// The full sizes of all layers in blocks of 512 bytes, each rounded up, then summed.
+    pub fn blocks_all(&self) -> u64
+        ensures { result ≡ blocks_all self.now.layers }
+    {
+        self.blocks
+    }
+}
