@@ -1,3 +1,1 @@
-pub mod Checks
-pub mod Refusals
 pub mod Texts

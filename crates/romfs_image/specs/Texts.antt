@@ -1,15 +1,7 @@
--- Refusals in words, as they are printed.
+-- Why images are not built, in words, as they are printed.
 use Rattle.std.specs.Prelude.{ℕ, List, codes}
-use Rattle.romfs_format.specs.Texts.{text_of}
-use Rattle.romfs_image.specs.declared.refusal.CheckFault.{CheckFault}
-use Rattle.romfs_image.specs.declared.refusal.CheckFault.TheVariants.{Broken, Memory}
 use Rattle.romfs_image.specs.declared.sample.BuildFault.{BuildFault}
 use Rattle.romfs_image.specs.declared.sample.BuildFault.TheVariants as build
-
--- why an image is refused
-abbrev pub refusal_text : CheckFault → List ℕ
-refusal_text (Broken fault) = text_of fault.rule
-refusal_text Memory = codes "out of memory"
 
 -- why an image cannot be built
 abbrev pub build_text : BuildFault → List ℕ

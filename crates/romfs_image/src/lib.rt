@@ -1,8 +1,7 @@
-//! romfs images: whether bytes are one, and what is read from it.
+//! romfs images: whether bytes are one, what is read from it, and images made for tests.
 //!
-//! - [`Image::check`](Check::check) keeps the accessible bytes of an image that breaks no rule, and
-//!   else names the rule that is broken first, and where. It answers for every list of bytes.
-//!   [`Image::check_as`](Check::check_as) takes the strict profile too.
+//! - [`Image::check`](Check::check) and [`Image::check_as`](Check::check_as), as `romfs_check` has
+//!   them.
 //! - [`Image`] gives headers, names and data, as `romfs_reader` has them.
 //! - [`sample`] makes images for tests and examples.
 //!
@@ -15,18 +14,12 @@
 //! }
 //! ```
 //!
-//! What a check promises is said by the definitions of `romfs_format`, and in `specs/`: what bytes
-//! are that it takes (`Checks`), and why it refuses others (`Refusals`, in words `Texts`).
-//!
-//! The crate stands on `romfs_rules` for the check and `romfs_reader` for what is read. It is apart
-//! from both, so that what stands on images is proved beside the rules, and not after them.
+//! The crate has the names of `romfs_check` and `romfs_reader`, and stands on `romfs_format` for
+//! what it makes. The program stands on those alone.
 #![tactic(auto)]
 
-mod check;
-pub mod refusal;
 pub mod sample;
 
-pub use check::Check;
-pub use refusal::CheckFault;
-pub use romfs_format::{Head, ImageFault, Kind, Profile, Rule};
-pub use romfs_reader::{Ends, Image, Members, Part};
+pub use romfs_check::{
+    Check, CheckFault, Ends, Head, Image, ImageFault, Kind, Members, Part, Profile, Rule,
+};

@@ -9,8 +9,8 @@ ghost use Rattle.serve_core.specs.Preparing.{contents_of, AreLayers, AreRefused,
 ghost use Rattle.serve_core.specs.Checking.{Checks};
 ghost use denote.Param.Send.{IsSync, IsSend, Frees};
 
+use romfs_check::{Check, CheckFault, Image};
 use romfs_format::Profile;
-use romfs_image::{Check, CheckFault, Image};
 use serve_loop::Stop;
 use std::alloc::Allocator;
 use std::thread::{Threads, join};

@@ -11,7 +11,7 @@ ghost use Rattle.strata.specs.Ending.{AreGood, AreNotGood};
 use crate::faults::Fault;
 use crate::streams::put_lines;
 use devices::Sink;
-use romfs_image::{Check, CheckFault, Image, Profile};
+use romfs_check::{Check, CheckFault, Image, Profile};
 use serve_core::Stop;
 use std::alloc::{AllocError, Allocator};
 use std::io::Write;

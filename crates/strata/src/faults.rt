@@ -7,7 +7,7 @@ ghost use Rattle.strata.specs.Texts.{fault_text, stop_text};
 
 use command_line::LineFault;
 use path_list::ListFault;
-use romfs_image::ImageFault;
+use romfs_check::ImageFault;
 use serve_core::Stop;
 use std::alloc::{AllocError, AllocFailed};
 use std::io::Write;

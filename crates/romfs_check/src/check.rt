@@ -1,8 +1,8 @@
 //! Whether bytes are an image.
 
 ghost use Rattle.std.specs.Prelude.{IfOk, IfErr};
-ghost use Rattle.romfs_image.specs.Checks.{IsChecked, IsCheckedAs};
-ghost use Rattle.romfs_image.specs.Refusals.{IsRefusal, IsRefusalAs};
+ghost use Rattle.romfs_check.specs.Checks.{IsChecked, IsCheckedAs};
+ghost use Rattle.romfs_check.specs.Refusals.{IsRefusal, IsRefusalAs};
 
 use crate::refusal::CheckFault;
 use romfs_format::Profile;

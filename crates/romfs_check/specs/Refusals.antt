@@ -1,7 +1,7 @@
 -- What a refused image is refused for.
 use Rattle.std.specs.Prelude.{ℕ, List}
-use Rattle.romfs_image.specs.declared.refusal.CheckFault.{CheckFault}
-use Rattle.romfs_image.specs.declared.refusal.CheckFault.TheVariants.{Broken, Memory}
+use Rattle.romfs_check.specs.declared.refusal.CheckFault.{CheckFault}
+use Rattle.romfs_check.specs.declared.refusal.CheckFault.TheVariants.{Broken, Memory}
 use Rattle.romfs_format.specs.declared.rule.Profile.{Profile}
 use Rattle.romfs_format.specs.declared.rule.Profile.TheVariants.{Usual}
 use Rattle.romfs_format.specs.Rules.{IsFaultAs}

@@ -1,7 +1,7 @@
 //! Why bytes are not taken for an image.
 
 ghost use Rattle.std.specs.Prelude.{◌≡◌};
-ghost use Rattle.romfs_image.specs.declared.refusal.CheckFault.TheVariants.{Memory};
+ghost use Rattle.romfs_check.specs.declared.refusal.CheckFault.TheVariants.{Memory};
 
 use romfs_format::ImageFault;
 use std::alloc::{AllocError, AllocFailed};
@@ -19,7 +19,7 @@ pub enum CheckFault {
 
 impl fmt::Display for CheckFault {
     ghost use Rattle.std.specs.Prelude.{Some};
-    ghost use Rattle.romfs_image.specs.Texts.{refusal_text};
+    ghost use Rattle.romfs_check.specs.Texts.{refusal_text};
 
     ghost output = { λ fault. Some (refusal_text fault) };
 

@@ -1,0 +1,3 @@
+pub mod Checks
+pub mod Refusals
+pub mod Texts
