@@ -6,9 +6,15 @@ build/logs/CRATE. The program is build/strata.
 
 rt lets one run work in a crate and in all that it stands on, so two crates that share one would wait for each other.
 Each is proved in a copy of its own.
+
+The last crate waits for the longest chain of crates that stand on each other. So of crates that can begin, the one with
+the longest chain above it begins first; the first of all gets two processors or more, and the others let it go before.
+What a crate costs is read from docs/GATE.md.
 """
 import os
+import re
 import shutil
+import signal
 import subprocess
 import sys
 import tempfile
@@ -19,7 +25,11 @@ from trials import ROOT, copied, crates_below
 PROGRAM = "strata_main"
 CORES = len(os.sched_getaffinity(0))
 BEGUN = time.monotonic()
-MEMORY, DISK = 4 << 30, 8 << 30  # bytes: of the largest proofs, and of what all of them leave behind
+GIB = 1 << 30
+MEMORY = 4 * GIB  # bytes, for the largest proofs
+EACH = 3 * GIB // 2  # for each proof beside others
+KEPT, COPIES = 8 * GIB, 2 * GIB  # what all proofs leave behind, and what they write on the way
+COST = re.compile(r"\| `(\w+)` \| \d+ \| (\d+)\b")
 
 
 def clock(seconds):
@@ -43,8 +53,8 @@ def linked(source, target):
 class Proving:
     """The proof of one crate, under way."""
 
-    def __init__(self, crate, below, jobs):
-        self.crate, self.jobs, self.begun = crate, jobs, time.monotonic()
+    def __init__(self, crate, below, jobs, is_first):
+        self.crate, self.begun = crate, time.monotonic()
         self.log = "%s/build/logs/%s" % (ROOT, crate)
         self.room = tempfile.TemporaryDirectory(prefix="strata-%s-" % crate)
         self.folder = "%s/crates/%s" % (self.room.name, crate)
@@ -52,9 +62,10 @@ class Proving:
         words = ["rt", "lib", "--jobs", str(jobs)]
         if crate == PROGRAM:
             words = ["rt", "run", "--", "check", "data/e.img"]
+        words = words if is_first else ["nice", "-n", "5", *words]
         with open(self.log, "w", encoding="utf-8") as out:
             self.process = subprocess.Popen(words, cwd=self.folder, stdin=subprocess.DEVNULL, stdout=out,
-                                            stderr=subprocess.STDOUT)
+                                            stderr=subprocess.STDOUT, start_new_session=True)
         say("%s begins" % crate)
 
     def is_ended(self):
@@ -63,7 +74,7 @@ class Proving:
     def close(self):
         """Ends it, and keeps what it has done; whether all was."""
         if not self.is_ended():
-            self.process.terminate()
+            os.killpg(self.process.pid, signal.SIGTERM)
         well = self.process.wait() == 0
         if os.path.isdir(self.folder + "/out"):
             kept = "%s/crates/%s/out" % (ROOT, self.crate)
@@ -75,35 +86,43 @@ class Proving:
 
 
 class Left:
-    """How much is left to prove, by the sizes of sources, and how long it takes at the speed so far."""
+    """What is left to prove, and how long it takes at the speed so far."""
 
     def __init__(self, below):
-        self.below, self.left = below, {it: size_of(it) for it in below}
+        self.below, self.left = below, costs_of(below)
         self.work, self.seconds = 0, 0
 
     def done(self, it):
         self.work += self.left.pop(it.crate)
-        self.seconds += it.seconds * it.jobs
+        self.seconds += it.seconds
 
-    def longest(self):
-        """The work of the longest chain of crates that stand on each other."""
-        chains = {}
-        for name in sorted(self.left, key=lambda it: len(self.below[it])):
-            chains[name] = self.left[name] + max([chains[it] for it in self.below[name] if it in chains], default=0)
-        return max(chains.values(), default=0)
+    def chains(self):
+        """For each crate what the longest chain costs that begins with it."""
+        found = {}
+        for name in sorted(self.left, key=lambda it: -len(self.below[it])):
+            found[name] = self.left[name] + max((found[it] for it in found if name in self.below[it]), default=0)
+        return found
 
     def told(self):
         if not self.left:
             return ""
-        work = max(self.longest() / min(2, CORES), sum(self.left.values()) / CORES)
+        work = max(max(self.chains().values()) / min(1.5, CORES), sum(self.left.values()) / CORES)
         return "; %d left, some %d minutes" % (len(self.left), work * self.seconds / self.work / 60 + 1)
+
+
+def costs_of(crates):
+    """What a check of each crate costs: its seconds of docs/GATE.md, and else what crates of its size cost."""
+    with open(ROOT + "/docs/GATE.md", encoding="utf-8") as page:
+        told = {name: int(seconds) for name, seconds in COST.findall(page.read()) if name in crates}
+    sizes = {name: size_of(name) for name in crates}
+    rate = sum(told.values()) / max(1, sum(sizes[name] for name in told)) or 1
+    return {name: told.get(name) or rate * sizes[name] for name in crates}
 
 
 def size_of(crate):
     """The bytes of the sources of a crate."""
     return sum(os.path.getsize(os.path.join(folder, name))
-               for part in ("src", "specs", "proofs")
-               for folder, _, names in os.walk("%s/crates/%s/%s" % (ROOT, crate, part)) for name in names)
+               for folder, _, names in os.walk("%s/crates/%s/src" % (ROOT, crate)) for name in names)
 
 
 def tail_of(path):
@@ -111,26 +130,41 @@ def tail_of(path):
         return "".join(log.readlines()[-20:])
 
 
-def hold_room():
-    """Ends where there is too little memory or disk for the proofs."""
-    memory = os.sysconf("SC_AVPHYS_PAGES") * os.sysconf("SC_PAGE_SIZE")
+def free_memory():
     with open("/proc/meminfo", encoding="utf-8") as lines:
         told = dict(line.split(":") for line in lines)
-    memory = max(memory, int(told.get("MemAvailable", "0 kB").split()[0]) << 10)
-    for kind, there, wanted in (("memory", memory, MEMORY), ("disk", shutil.disk_usage(ROOT).free, DISK)):
+    return int(told["MemAvailable"].split()[0]) << 10
+
+
+def hold_room():
+    """Ends where something that the proofs want is missing."""
+    if not shutil.which("rt"):
+        sys.exit("the proofs want the command rt of the Rattle kit on the path")
+    if not os.access(ROOT, os.W_OK):
+        sys.exit("the proofs want to write to %s" % ROOT)
+    temporary = tempfile.gettempdir()
+    for kind, there, wanted in (("memory", free_memory(), MEMORY),
+                                ("disk below %s" % ROOT, shutil.disk_usage(ROOT).free, KEPT),
+                                ("disk below %s" % temporary, shutil.disk_usage(temporary).free, COPIES)):
         if there < wanted:
-            sys.exit("the proofs want %d GiB of %s, and %.1f are free" % (wanted >> 30, kind, there / (1 << 30)))
+            sys.exit("the proofs want %d GiB of %s, and %.1f are free" % (wanted // GIB, kind, there / GIB))
 
 
 def prove_all(below, running):
     """Proves all crates, and tells each end."""
-    wanted = sorted(below, key=lambda name: -sum(name in others for others in below.values()))  # what most stand on
     proved, left = set(), Left(below)
+    places = max(1, min(CORES, free_memory() // EACH))
+    chains = left.chains()
+    wanted = sorted(below, key=lambda name: -chains[name])  # so each stands behind all that it stands on
     while len(proved) < len(wanted):
         started = proved | {it.crate for it in running}
         ready = [name for name in wanted if name not in started and proved.issuperset(below[name])]
-        for name in ready[:CORES - len(running)]:
-            running.append(Proving(name, below[name], max(1, CORES // (len(running) + len(ready)))))
+        first = next(name for name in wanted if name not in proved)
+        for name in ready[:places - len(running)]:
+            share = -(-places // (len(running) + len(ready)))
+            jobs = min(places, max(share, 2 if name == first else 1))
+            running.append(Proving(name, below[name], jobs, name == first))
+            ready.remove(name)
         for it in [it for it in running if it.is_ended()]:
             running.remove(it)
             if not it.close():
