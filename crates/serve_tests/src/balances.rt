@@ -1,7 +1,7 @@
 //! What a stream of lookups leaves: the balance of each node, by every plan.
 
-use crate::outcomes::ran;
-use crate::runs::sample_table;
+use serve_kit::outcomes::ran;
+use serve_kit::runs::sample_table;
 use stack_core::FreePass;
 use std::test::Fail;
 use test_kit::script::lookups;

@@ -1,9 +1,9 @@
 //! Images are checked at the same time, and each piece of work passes its gate once.
 
-use crate::long::{Long, stream};
-use crate::outcomes::{long_table, ran};
-use crate::runs::sample_table;
 use serve_core::prepare;
+use serve_kit::long::{Long, stream};
+use serve_kit::outcomes::{long_table, ran};
+use serve_kit::runs::sample_table;
 use stack_core::{Gate, Work};
 use std::sync::atomic::{AtomicU64, Ordering};
 use std::test::Fail;

@@ -1,7 +1,7 @@
 //! The longest round takes no more memory than a short one.
 
-use crate::long::{mebibyte, reads};
-use crate::outcomes::{ran, table_of};
+use serve_kit::long::{mebibyte, reads};
+use serve_kit::outcomes::{ran, table_of};
 use stack_core::FreePass;
 use std::test::Fail;
 use test_kit::refusing::Refusing;

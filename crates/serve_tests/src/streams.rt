@@ -1,8 +1,8 @@
 //! The twelve-request script over the sample image, however it comes and goes, and a long stream
 //! without a reply.
 
-use crate::runs::{Outcome, Run, Seen, Stream, TURNS, WHOLE, run_of, serve_lastingly};
 use serve_core::Stop;
+use serve_kit::runs::{Outcome, Run, Seen, Stream, TURNS, WHOLE, run_of, serve_lastingly};
 use std::test::Fail;
 use test_kit::sample_images::{alone, sample};
 

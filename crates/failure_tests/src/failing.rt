@@ -1,7 +1,7 @@
 //! Devices that fail at each place in turn.
 
-use crate::runs::{Run, WHOLE, run_over, sample_table};
 use serve_core::Stop;
+use serve_kit::runs::{Run, WHOLE, run_over, sample_table};
 use std::test::Fail;
 use test_kit::script::{script, script_replies};
 

@@ -1,9 +1,9 @@
 //! Each request for memory of a call is refused in turn.
 
-use crate::runs::{Run, Seen, Stream, WHOLE, run_of, serve_of};
 use romfs_format::Profile;
 use romfs_image::sample::BuildFault;
 use serve_core::{Stop, prepare};
+use serve_kit::runs::{Run, Seen, Stream, WHOLE, run_of, serve_of};
 use stack_core::FreePass;
 use std::alloc::Global;
 use std::test::Fail;

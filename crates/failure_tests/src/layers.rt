@@ -1,9 +1,9 @@
 //! Images that are refused, and the strict profile.
 
-use crate::runs::{Outcome, Run, Seen, WHOLE, serve_of};
 use romfs_format::{ImageFault, Profile, Rule};
 use romfs_image::sample::{BuildFault, seal};
 use serve_core::{Stop, prepare_as};
+use serve_kit::runs::{Outcome, Run, Seen, WHOLE, serve_of};
 use stack_core::FreePass;
 use std::alloc::{AllocError, Global};
 use std::test::Fail;
