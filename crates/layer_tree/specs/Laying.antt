@@ -4,11 +4,11 @@
 use Rattle.std.specs.Prelude.{◌≡◌, ◌≢◌, ℕ, ◌⊎◌, List, [], ◌∷◌, ◌++◌, Bool, true, false, not, ◌||◌, Option, Some, None, MatchOption, if◌then◌else◌}
 use Rattle.path_tree.specs.Rows.{Shoot, name_cmp, named, NamesRise, spread, whole, at_path, IsRising, IsForest, PathsRise}
 use Rattle.std.specs.declared.cmp.Ordering.TheVariants.{Less}
-use Rattle.path_tree.specs.Laying.{laid_at}
+use Rattle.path_tree.specs.Laying.{laid_at, IsLaid}
 use Rattle.stack_model.specs.Stack.{Path}
 use Rattle.shown_tree.specs.declared.place.Entry.{Entry}
 use Rattle.shown_tree.specs.declared.place.Mark.{Mark}
-use Rattle.shown_tree.specs.Marks.{upper, cuts_itself, cut_by, marked}
+use Rattle.shown_tree.specs.Marks.{upper, united, cuts_itself, cut_by, marked}
 use Rattle.shown_tree.specs.Trees.{TreeRows, entry_at, removes}
 
 -- the value, unless it is cut
@@ -47,6 +47,22 @@ pub record Lays (low high out : TreeRows) : Type 0 where
       → entry_at out path
       ≡ laid_at upper (unless (removes high path) (entry_at low path)) (entry_at high path)
   pub removed : (path : Path) → removes out path ≡ (removes low path || removes high path)
+
+-- what two marks leave of the lower tree's entries, one after the other, is covered by the upper
+-- one's
+pub record CoverTheKept (low high : Shoot Entry) (marks hidden : Shoot Mark)
+    (out : Shoot Entry) : Type 0 where
+  pub unmarked : Shoot Entry
+  pub kept : Shoot Entry
+  pub unmarked_is : IsKept low marks unmarked
+  pub kept_is : IsKept unmarked hidden kept
+  pub covered : IsLaid upper kept high out
+
+-- the marks of both trees, and those of what was replaced
+pub record AreUnited (low replaced high out : Shoot Mark) : Type 0 where
+  pub above : Shoot Mark
+  pub above_is : IsLaid united replaced high above
+  pub united_is : IsLaid united low above out
 
 -- whether something stands there that does not cut itself
 abbrev pub is_uncut : Option Mark → Bool

@@ -8,11 +8,11 @@
 ghost use Rattle.std.specs.Prelude.{◌≡◌, ◌+◌, ◌++◌, ℕ, List, length, IfOk, false};
 ghost use Rattle.path_tree.specs.Rows.{NamesRise, IsForest, IsFirstNamed};
 ghost use Rattle.shown_tree.specs.Trees.{IsTreeOf};
-ghost use Rattle.layer_tree.specs.Laying.{AreKept, IsKept, IsLeft, IsFrom, Lays};
+ghost use Rattle.layer_tree.specs.Laying.{AreKept, AreUnited, CoverTheKept, IsKept, IsLeft, IsFrom, Lays};
 
 use crate::clashes::clashes_both_ways;
 use path_tree::{Branch, cover};
-use shown_tree::{Mark, Tree};
+use shown_tree::{Child, Mark, Tree};
 use std::alloc::{AllocError, Allocator};
 use std::cmp::Ordering;
 use std::collections::VecDeque;
@@ -104,16 +104,45 @@ fn kept_inside<T: Copy + Drop, A: Allocator + Copy>(
     Ok(Branch::new(name, entry, children))
 }
 
+/// What two marks leave of the lower entries, covered by the upper ones.
+fn entries_laid<A: Allocator + Copy>(
+    alloc: A,
+    low: Child<A>,
+    high: Child<A>,
+    marks: &Branch<Mark, A>,
+    hidden: &Branch<Mark, A>,
+) -> Result<Child<A>, AllocError>
+    requires marks { marks.now.value.cut ≡ false }
+    requires hidden { hidden.now.value.cut ≡ false }
+    ensures { IfOk result (CoverTheKept low high marks.now hidden.now) }
+{
+    let unmarked = kept_inside(alloc, low, marks)?;
+    let kept = kept_inside(alloc, unmarked, hidden)?;
+    let entries = cover(alloc, kept, high)?;
+    Ok(entries)
+}
+
+/// The marks of both trees, and those of what was replaced.
+fn marks_laid<A: Allocator + Copy>(
+    alloc: A,
+    low: Branch<Mark, A>,
+    replaced: Branch<Mark, A>,
+    high: Branch<Mark, A>,
+) -> Result<Branch<Mark, A>, AllocError>
+    ensures { IfOk result (AreUnited low replaced high) }
+{
+    let above = cover(alloc, replaced, high)?;
+    let marks = cover(alloc, low, above)?;
+    Ok(marks)
+}
+
 /// One tree laid on another.
 fn laid<A: Allocator + Copy>(alloc: A, low: Tree<A>, high: Tree<A>) -> Result<Tree<A>, AllocError>
     ensures { IfOk result (λ tree. Lays low high tree) }
 {
     let (hidden, replaced) = clashes_both_ways(alloc, &low.entries, &high.entries)?;
-    let unmarked = kept_inside(alloc, low.entries, &high.marks)?;
-    let kept = kept_inside(alloc, unmarked, &hidden)?;
-    let entries = cover(alloc, kept, high.entries)?;
-    let above = cover(alloc, replaced, high.marks)?;
-    let marks = cover(alloc, low.marks, above)?;
+    let entries = entries_laid(alloc, low.entries, high.entries, &high.marks, &hidden)?;
+    let marks = marks_laid(alloc, low.marks, replaced, high.marks)?;
     Ok(Tree { entries, marks })
 }
 

@@ -5,6 +5,7 @@ ghost use Rattle.romfs_format.specs.Fields.{root as root_of, image};
 ghost use Rattle.romfs_format.specs.Rules.{IsVolume};
 ghost use Rattle.romfs_rules.specs.InChains.{AreChains};
 ghost use Rattle.romfs_rules.specs.SameNames.{HaveSameNamesIfAlone};
+ghost use Rattle.romfs_rules.specs.Twice.{AreTwice};
 ghost use Rattle.romfs_rules.specs.Judge.{IsHeaderFault};
 ghost use Rattle.romfs_format.specs.Rules.{IsFaultOfAs};
 
@@ -38,6 +39,34 @@ fn same_names_below<A: Allocator + Copy>(
     }
 }
 
+// The first breach of a rule of file headers, by these sets, and by those of hard links.
+fn header_fault_by<A: Allocator + Copy>(
+    alloc: A,
+    image: &Volume,
+    profile: Profile,
+    chains: &Chains<A>,
+    same_names: &[u32],
+    twice: &[u32],
+) -> Result<Option<ImageFault>, AllocError>
+    requires chains { AreChains image.now.bytes.now chains.now }
+    requires same_names { HaveSameNamesIfAlone image.now.bytes.now same_names.now }
+    requires twice { AreTwice image.now.bytes.now twice.now }
+    ensures { IfOk result (IsHeaderFault profile image.now.bytes.now) }
+{
+    let targets = mark_targets(alloc, image, chains)?;
+    let ends = find_ends(alloc, image, &targets)?;
+    let sets = Sets {
+        image,
+        chains,
+        targets: &targets,
+        twice,
+        same_names,
+        ends: &ends,
+        outside: find_outside(image, chains, &targets),
+    };
+    Ok(sets.header_fault(profile))
+}
+
 // The first breach of a rule of file headers.
 fn header_fault_in<A: Allocator + Copy>(
     alloc: A,
@@ -49,18 +78,7 @@ fn header_fault_in<A: Allocator + Copy>(
     let chains = find_chains(alloc, image)?;
     let same_names = same_names_below(alloc, image, &chains)?;
     let twice = find_twice(alloc, image, &chains)?;
-    let targets = mark_targets(alloc, image, &chains)?;
-    let ends = find_ends(alloc, image, &targets)?;
-    let sets = Sets {
-        image,
-        chains: &chains,
-        targets: &targets,
-        twice: &twice,
-        same_names: &same_names,
-        ends: &ends,
-        outside: find_outside(image, &chains, &targets),
-    };
-    Ok(sets.header_fault(profile))
+    header_fault_by(alloc, image, profile, &chains, &same_names, &twice)
 }
 
 // The fault of an image that keeps the rules of the volume header, by its accessible bytes; none

@@ -1,4 +1,4 @@
-use Rattle.std.proofs.Common.{◌≡◌, ◌++◌, length, map, drop, ap, ◌∙◌, arith}
+use Rattle.std.proofs.Common.{◌≡◌, length, map, drop, ap, ◌∙◌, arith}
 use Rattle.stack_model.specs.Attributes.{blocks_all}
 use Rattle.node_table.specs.Building.{completed}
 use Rattle.node_table.proofs.Made.{table_made}
