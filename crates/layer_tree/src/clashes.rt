@@ -30,8 +30,8 @@ fn clashes<T: Cuts, A: Allocator + Copy>(
     Ok(Branch::new(name, UNCUT, marks))
 }
 
-/// The same both ways: of the files of the upper tree, and of those of the lower one. Both roots are
-/// directories.
+/// The same both ways: of the files of the upper tree, and of those of the lower one. Both roots
+/// are directories.
 pub(crate) fn clashes_both_ways<T: Cuts, A: Allocator + Copy>(
     alloc: A,
     low: &Branch<T, A>,

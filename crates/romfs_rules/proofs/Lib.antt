@@ -1,6 +1,7 @@
 pub mod Slots
 pub mod Standing
 pub mod Leads
+pub mod Dots
 pub mod Lists
 pub mod Links
 pub mod RootWalk

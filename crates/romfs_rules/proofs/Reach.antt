@@ -1,12 +1,12 @@
 -- The least headers outside the image that are reached.
 use Rattle.std.proofs.Common.{◌≡◌, ◌≢◌, sym, ap, subst, ℕ, ◌+◌, ◌*◌, ◌/◌, ◌<◌, ◌≤◌, ◌⊎◌, inl, inr, List, length, Bool, false, Option, Some, None, refl, arith, leb}
 use Rattle.std.proofs.lemmas.Bool.{cases_eq, cases_lt, le-leb}
-use Rattle.romfs_format.specs.Fields.{root, IsInside, cleared}
+use Rattle.romfs_format.specs.Fields.{root, word, IsInside, cleared}
 use Rattle.romfs_format.specs.Chains.{IsSomeMember}
 use Rattle.romfs_format.specs.Links.{Field, first_of, next_of, IsLink, IsHardLink, destination, IsDestination, here, there, IsTarget, IsReached}
 use Rattle.romfs_rules.specs.Marks.{IsVolumeImage, AreMarks}
 use Rattle.romfs_rules.specs.Leads.{IsTheOne}
-use Rattle.romfs_rules.specs.Outside.{NamesDestination, Names, IsLeast, lesser, Notes}
+use Rattle.romfs_rules.specs.Outside.{NamesDestination, NamesBySpec, Names, IsLeast, lesser, Notes}
 use Rattle.romfs_rules.proofs.Slots.{cleared_root, cleared_in_chain, inside_opened, cleared_opened, cleared_destination, outside_set}
 use Rattle.slot_sets.specs.Sets.{IsClear}
 use Rattle.romfs_rules.specs.Leads.{IsInSomeChain}
@@ -128,14 +128,29 @@ then_of V W Q before middle after m n = record {
     onward : (h g : ℕ) → middle ≡ Some g → g ≤ h → (k : ℕ) × (after ≡ Some k) × (k ≤ h)
     onward h g e l = let x = n.old g e in (x.0, x.1, omega arith)
 
+-- what spec.info leads to is not outside where it lies in the image
+pub noted_inside : (a : List ℕ) (at : ℕ) (Q : ℕ → Type 0) (found : Option ℕ) → IsInside a (cleared (word a (at + 4)))
+    → ((h : ℕ) → IsInside a h → ¬ Q h) → Notes (NamesBySpec a at) Q found found
+noted_inside a at Q found i n = record { is = λ h e. inl e; old = λ h e. (h, e, omega arith); new = λ h w q. absurd (n h (named h w) q) }
+  where
+    named : (h : ℕ) → NamesBySpec a at h → IsInside a h
+    named h (inl x) = subst (IsInside a) (sym x.1.0) i
+    named h (inr x) = subst (IsInside a) (sym x.2) i
+
+-- what spec.info leads to is noted, word by word
+pub noted_spec : (a : List ℕ) (at : ℕ) (Q : ℕ → Type 0) (first hard before with_first after : Option ℕ)
+    → IsTheOne (IsLink a (first_of at)) first → IsTheOne (NamesDestination a at) hard
+    → Notes (λ h. first ≡ Some h) Q before with_first → Notes (λ h. hard ≡ Some h) Q with_first after
+    → Notes (NamesBySpec a at) Q before after
+noted_spec a at Q first hard before with_first after y z m n =
+    then_of (IsLink a (first_of at)) (NamesDestination a at) Q before with_first after (of_one _ Q _ first _ y m) (of_one _ Q _ hard _ z n)
+
 -- what a header leads to is noted, word by word
-pub noted_named : (a : List ℕ) (at : ℕ) (Q : ℕ → Type 0) (next first hard before with_next with_first after : Option ℕ)
-    → IsTheOne (IsLink a (next_of at)) next → IsTheOne (IsLink a (first_of at)) first → IsTheOne (NamesDestination a at) hard
-    → Notes (λ h. next ≡ Some h) Q before with_next → Notes (λ h. first ≡ Some h) Q with_next with_first → Notes (λ h. hard ≡ Some h) Q with_first after
+pub noted_named : (a : List ℕ) (at : ℕ) (Q : ℕ → Type 0) (next before with_next after : Option ℕ)
+    → IsTheOne (IsLink a (next_of at)) next → Notes (λ h. next ≡ Some h) Q before with_next → Notes (NamesBySpec a at) Q with_next after
     → Notes (Names a at) Q before after
-noted_named a at Q next first hard before with_next with_first after x y z l m n =
-    let late = then_of (IsLink a (first_of at)) (NamesDestination a at) Q with_next with_first after (of_one _ Q _ first _ y m) (of_one _ Q _ hard _ z n) in
-    then_of (IsLink a (next_of at)) (λ g. IsLink a (first_of at) g ⊎ NamesDestination a at g) Q before with_next after (of_one _ Q _ next _ x l) late
+noted_named a at Q next before with_next after x l m =
+    then_of (IsLink a (next_of at)) (NamesBySpec a at) Q before with_next after (of_one _ Q _ next _ x l) m
 
 -- what was found is the least of P, and with the notes also of W
 least_more : (P W Q : ℕ → Type 0) (before after : Option ℕ) → IsLeast (λ g. P g × Q g) before → Notes W Q before after → IsLeast (λ g. (P g ⊎ W g) × Q g) after

@@ -9,9 +9,13 @@ use Rattle.romfs_format.specs.Links.{first_of, next_of, IsLink, IsHardLink, dest
 abbrev pub NamesDestination : List ℕ → ℕ → ℕ → Type 0
 NamesDestination a h g = (IsSomeMember a h ⊎ IsTarget a h) × IsHardLink a h × (g ≡ destination a h)
 
+-- spec.info of the header h names g, as the first header or as a destination
+abbrev pub NamesBySpec : List ℕ → ℕ → ℕ → Type 0
+NamesBySpec a h g = IsLink a (first_of h) g ⊎ NamesDestination a h g
+
 -- a field of the header h names g, or h leads to g as a hard link
 abbrev pub Names : List ℕ → ℕ → ℕ → Type 0
-Names a h g = IsLink a (next_of h) g ⊎ IsLink a (first_of h) g ⊎ NamesDestination a h g
+Names a h g = IsLink a (next_of h) g ⊎ NamesBySpec a h g
 
 -- the number is the least of P; there is none where nothing is of P
 pub record IsLeast (P : ℕ → Type 0) (least : Option ℕ) : Type 0 where

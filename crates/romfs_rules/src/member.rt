@@ -29,12 +29,25 @@ fn is_dotted_by(image: &Volume, at: usize, name: Option<&[u8]>) -> bool
     }
 }
 
+// Whether a header's name begins with a dot. Most do not, and then its end is not looked for.
+#[inline(always)]
+fn begins_with_dot(image: &Volume, at: usize) -> bool
+    requires inside { IsInside image.now.bytes.now at }
+    ensures { IsDotted image.now.bytes.now at → IsTrue result }
+{
+    at + HEAD_SIZE < image.bytes.len() && image.bytes[at + HEAD_SIZE] == b'.'
+}
+
 /// Whether a header is named `.` or `..`.
 pub(crate) fn is_dotted(image: &Volume, at: usize) -> bool
     requires inside { IsInside image.now.bytes.now at }
     ensures { IsTrue result ↔ IsDotted image.now.bytes.now at }
 {
-    is_dotted_by(image, at, text_at(image.bytes, at + HEAD_SIZE))
+    if begins_with_dot(image, at) {
+        is_dotted_by(image, at, text_at(image.bytes, at + HEAD_SIZE))
+    } else {
+        false
+    }
 }
 
 /// Whether a header opens as a directory wherever it is a member.

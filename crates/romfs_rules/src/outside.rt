@@ -7,15 +7,16 @@ ghost use Rattle.romfs_rules.specs.Targets.{AreTargets};
 ghost use Rattle.romfs_rules.specs.Marks.{HasSlot};
 ghost use Rattle.romfs_rules.specs.InChains.{AreChains};
 ghost use Rattle.romfs_rules.specs.Leads.{IsTheOne};
-ghost use Rattle.romfs_rules.specs.Outside.{IsLeastBelow, IsLeastPastEnd, Names, NamesDestination, IsBelow, IsPastEnd, lesser, Notes};
+ghost use Rattle.romfs_rules.specs.Outside.{IsLeastBelow, IsLeastPastEnd, Names, NamesBySpec, NamesDestination, IsBelow, IsPastEnd, lesser, Notes};
 
 use crate::chains::Chains;
 use crate::lead::destination_of;
 use crate::link::{first_link, next_link};
 use crate::member::is_some_member;
-use crate::slot::is_hard_link;
+use crate::slot::{is_hard_link, is_inside};
 use crate::volume::Volume;
 use romfs_format::limits::HEAD_SIZE;
+use romfs_format::read::{cleared, word};
 use slot_sets::SlotSet;
 use std::alloc::Allocator;
 
@@ -105,6 +106,33 @@ fn note(found: Outside, image: &Volume, word: Option<u32>) -> Outside
     }
 }
 
+// What is found with the headers more that a header's spec.info leads to. Most lie in the image,
+// and then it is not asked whether it leads there.
+#[inline(always)]
+fn note_spec<A: Allocator>(
+    found: Outside,
+    image: &Volume,
+    at: usize,
+    chains: &Chains<A>,
+    targets: &SlotSet<A>,
+) -> Outside
+    requires slot { HasSlot image.now.bytes.now at }
+    requires chains { AreChains image.now.bytes.now chains.now }
+    requires targets { AreTargets image.now.bytes.now targets.now }
+    ensures below { Notes (NamesBySpec image.now.bytes.now at) (IsBelow image.now.bytes.now)
+        found.below result.below }
+    ensures above { Notes (NamesBySpec image.now.bytes.now at) (IsPastEnd image.now.bytes.now)
+        found.above result.above }
+{
+    if is_inside(image, cleared(word(image.bytes, at + 4)) as usize) {
+        return found;
+    }
+    let first = first_link(image, at, chains);
+    let destination = named_destination(image, at, chains, targets);
+    let with_first = note(found, image, first);
+    note(with_first, image, destination)
+}
+
 // What is found with the headers more that a header leads to.
 #[inline(always)]
 fn note_named<A: Allocator>(
@@ -123,11 +151,8 @@ fn note_named<A: Allocator>(
         found.above result.above }
 {
     let next = next_link(image, at, chains);
-    let first = first_link(image, at, chains);
-    let destination = named_destination(image, at, chains, targets);
     let with_next = note(found, image, next);
-    let with_first = note(with_next, image, first);
-    note(with_first, image, destination)
+    note_spec(with_next, image, at, chains, targets)
 }
 
 /// Finds the least headers outside the image that are reached, on either side.

@@ -1,0 +1,38 @@
+-- A header that is named . or .. has a dot as the first byte of its name.
+use Rattle.std.proofs.Common.{◌≡◌, ◌∙◌, sym, ap, ℕ, zero, suc, ◌+◌, ◌<◌, inl, inr, List, [], ◌∷◌, length, take, drop, get_or, Bool, true, false, Option, Some, None, refl, arith, leb, cond}
+use Rattle.std.specs.Option.{option_map}
+use Rattle.std.proofs.lemmas.List.{get_or-take, get_or-drop, length-take, length-drop}
+use Rattle.romfs_format.specs.Fields.{text_at, text_end, if_within, ended, name_field}
+use Rattle.romfs_format.specs.Chains.{IsDotted}
+
+-- a text begins as the bytes do that it stands in
+first : (xs t : List ℕ) (c : ℕ) → ended xs ≡ Some (c ∷ t) → (0 < length xs) × (get_or xs 0 0 ≡ c)
+unfolding ended
+first [] t c e = absurd (cc)
+first (zero ∷ xs) t c e = absurd (cc)
+first (suc n ∷ xs) t c e = (omega arith, pick (ended xs) e)
+  where
+    pick : (o : Option (List ℕ)) → option_map (λ text. suc n ∷ text) o ≡ Some (c ∷ t) → suc n ≡ c
+    pick None e = absurd (cc)
+    pick (Some u) e = cc
+
+within : (n p : ℕ) (o : Option (List ℕ)) (t : List ℕ) → if_within n p o ≡ Some t → o ≡ Some t
+within n p None t e = absurd (cc)
+within n p (Some u) t e = test (leb (text_end p u) n) e
+  where
+    test : (b : Bool) → cond b (Some u) None ≡ Some t → Some u ≡ Some t
+    test true e = e
+    test false e = absurd (cc)
+
+-- the first byte of a text stands where its field begins
+first_byte : (a t : List ℕ) (p c : ℕ) → text_at a p ≡ Some (c ∷ t) → (p < length a) × (get_or a p 0 ≡ c)
+unfolding name_field
+first_byte a t p c e =
+    let f = first (take 256 (drop p a)) t c (within (length a) p (ended (name_field a p)) (c ∷ t) e) in
+    let l : 0 < length (drop p a) = omega (arith, length-take 256 (drop p a), f.0) in
+    let z : p ≡ p + 0 = omega arith in
+    (omega (arith, length-drop p a, l),
+        ap (λ k. get_or a k 0) z ∙ sym (get_or-drop p a 0 0) ∙ sym (get_or-take 256 (drop p a) 0 0 (omega arith)) ∙ f.1)
+
+pub dot_first : (a : List ℕ) (h : ℕ) → IsDotted a h → (h + 16 < length a) × (get_or a (h + 16) 0 ≡ 46)
+dot_first a h d = elim d.1 [ inl x ↦ first_byte a [] (h + 16) 46 x | inr x ↦ first_byte a (46 ∷ []) (h + 16) 46 x ]
