@@ -1,6 +1,8 @@
 //! `fuse_wire` and `fuse_answer`: messages, requests, replies. `draw_board` and `reply_pool`:
 //! batches.
 
+ghost use Rattle.draw_board.specs.Hands.{IsHandOf};
+
 pub use draw_board::{Board, Few, Hand};
 pub use fuse_answer::{Move, Session, after, answer, moves};
 pub use fuse_wire::{
@@ -46,4 +48,13 @@ pub fn drawn<A: Allocator>(alloc: A) -> Result<(Option<u32>, u64), AllocError> {
     let (board, mut hand) = Board::start(alloc, 1, 1)?;
     let number = board.draw(&mut hand);
     Ok((number, board.close(hand)))
+}
+
+/// So many of a hand's misses in a hand of their own, and back again.
+pub fn shared<A: Allocator>(board: &Board<A>, hand: &mut Hand, misses: u32) -> Result<(), Few>
+    requires { IsHandOf board.now hand.old }
+{
+    let other = board.split(hand, misses)?;
+    board.rejoin(hand, other);
+    Ok(())
 }

@@ -1,3 +1,5 @@
 //! `strata`: the program, its command line, and sessions at a socket.
 
-pub use strata::{Fault, Line, LineFault, command, line, sessions, sessions_from};
+pub use strata::{
+    Fault, Line, LineFault, command, command_on_device, line, sessions, sessions_from,
+};
