@@ -1,4 +1,4 @@
-# make test: the merge gate. It proves every crate from nothing, tries the wrong bodies, and runs all tests and cases.
+# make test: the merge gate. It holds the public calls against their table, proves every crate from nothing, tries the wrong bodies, and runs all tests and cases.
 # make build: the proved program, as build/strata. make demo: shows it at work.
 # make cases: the cases alone, on build/strata. make plant: sees that the cases notice wrong lines.
 # make mounted [STRATA=PROGRAM]: real mounts, looked at through the kernel.
@@ -13,6 +13,7 @@
 PYTHON = python3 -B
 
 test: needed
+	$(PYTHON) tools/doors.py
 	rt ci
 	@mkdir -p build
 	@cp crates/strata_main/out/strata_main build/strata

@@ -1,5 +1,7 @@
 //! `romfs_image`: one image.
 
+ghost use Rattle.romfs_format.specs.Rules.{IsSound};
+
 pub use romfs_image::sample::{BuildFault, Item, What, build, seal};
 pub use romfs_image::{Check, CheckFault, Head, Image, ImageFault, Kind, Members, Profile, Rule};
 use std::alloc::Allocator;
@@ -14,6 +16,13 @@ pub fn checked<A: Allocator + Copy>(
         Some(profile) => Image::check_as(alloc, bytes, profile),
         None => Image::check(alloc, bytes),
     }
+}
+
+/// The image of bytes that keep all rules.
+pub fn sound<A: Allocator>(bytes: Vec<u8, A>) -> Image<A>
+    requires { IsSound bytes.items }
+{
+    Image::of_sound(bytes)
 }
 
 /// The rule that an image breaks, and the place of the fault.

@@ -26,3 +26,17 @@ pub fn prepared<R: Threads + Sync, A: Allocator + Copy + Send + Sync>(
         None => prepare(rt, alloc, images, &FreePass),
     }
 }
+
+/// A byte from a source to a sink, if there is one, and a flush.
+pub fn passed_on<S: Source, K: Sink>(source: &mut S, sink: &mut K) -> Result<usize, Failed> {
+    let mut room = [0; 1];
+    let got = source.pull(&mut room)?;
+    let taken = sink.push(&room[..got])?;
+    sink.flush()?;
+    Ok(taken)
+}
+
+/// The gate at which nothing waits, passed.
+pub fn let_through(number: u32) {
+    FreePass.pass(Work::Batch, number);
+}

@@ -74,3 +74,8 @@ pub fn numbered<A: Allocator>(
 pub fn found<A: Allocator>(table: &Table<A>, number: u64, name: &[u8]) -> (Option<u64>, u64, u64) {
     (table.child(number, name), table.len(), table.blocks_all())
 }
+
+/// The name of a row.
+pub fn name_of<A: Allocator>(row: &Row<A>) -> &[u8] {
+    row.name()
+}

@@ -4,6 +4,8 @@
 //! - `clients`: clients of a socket that are served, are gone, or can't be accepted.
 //! - `failing`: readers and writers that fail.
 //! - `memory`: each request for memory is refused in turn.
+//! - `mounted`: devices like those of an open `/dev/fuse`, and refused memory.
+//! - `serving`: `serve` by itself, with refused memory and too few turns.
 //!
 //! What they share: `program`, which names files of the test's own.
 #![tactic(auto)]
@@ -15,4 +17,8 @@ mod failing;
 #[cfg(test)]
 mod memory;
 #[cfg(test)]
+mod mounted;
+#[cfg(test)]
 mod program;
+#[cfg(test)]
+mod serving;

@@ -1,0 +1,73 @@
+//! `serve` over images, by the usual rules and in a usual session.
+
+use devices::{Spout, Tap};
+use serve_core::{FreePass, Plan, Stop, serve};
+use std::alloc::Global;
+use std::test::Fail;
+use std::thread::Threads;
+use test_kit::refusing::{Refusing, refuse_each};
+use test_kit::sample_images::{alone, sample};
+use test_kit::script::{script, script_replies};
+
+/// How many messages and bytes of replies there were, or why it stopped; and how many bytes were
+/// written.
+type Ended = (Result<(u64, u128), Stop>, usize);
+
+/// How the script over the sample image ends, in memory of `alloc` and in so many pulls, where what
+/// is written is the first of the replies.
+fn end_of<'a, R: Threads + Sync>(
+    rt: &R,
+    global: Global,
+    plain: &'a Refusing<Global>,
+    alloc: &'a Refusing<Global>,
+    turns: u32,
+) -> Option<Ended> {
+    let images = alone(plain, sample(plain).ok()?).ok()?;
+    let stream = script(global).ok()?;
+    let replies = script_replies(global).ok()?;
+    let mut output = Vec::new(global);
+    let done = serve(
+        rt,
+        alloc,
+        images,
+        &mut Tap::new(stream.as_slice()),
+        &mut Spout::new(&mut output),
+        Plan::new(2, 3)?,
+        u64::from(turns),
+        &FreePass,
+    );
+    let end = match done {
+        Ok(done) => Ok((done.messages, done.written)),
+        Err(stop) => Err(stop),
+    };
+    replies.starts_with(&output).then_some((end, output.len()))
+}
+
+#[test]
+fn a_script_is_served_over_an_image(rt: HostRuntime) -> Result<(), Fail> {
+    let plain = Refusing::new(rt.alloc(), 0);
+    let requests = refuse_each(rt.alloc(), |refusing, refuse_at| {
+        let seen = end_of(&rt, rt.alloc(), &plain, refusing, 2);
+        let is_right = match seen {
+            Some((Err(Stop::Memory), _)) => refusing.refused(),
+            Some(seen) => !refusing.refused() && seen == (Ok((12, 1531)), 1531),
+            None => false,
+        };
+        if is_right {
+            Ok(())
+        } else {
+            Err(Fail::new(format_args!("at {refuse_at}")))
+        }
+    })?;
+    assert!(rt; 20 < requests);
+    Ok(())
+}
+
+#[test]
+fn too_few_turns_are_told(rt: HostRuntime) {
+    let memory = Refusing::new(rt.alloc(), 0);
+    for (turns, put) in [(0, 0), (1, 1531)] {
+        let seen = end_of(&rt, rt.alloc(), &memory, &memory, turns);
+        assert!(rt; seen == Some((Err(Stop::Turns), put)), "{turns}");
+    }
+}
