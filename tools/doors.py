@@ -16,6 +16,8 @@ LAYERS = ("romfs_image", "layer_tree", "stack_core", "node_table", "fuse_wire", 
           "serve_core", "strata")
 # A module of a layer whose functions callers name, too.
 MODULES = ("romfs_image/src/sample.rt",)
+# What tests share.
+KITS = ("test_kit", "serve_kit")
 
 
 def read(path):
@@ -106,7 +108,7 @@ class Row:
             elif module and "#[test]" not in read(path):
                 yield "%s has no test, and is to show %s" % (path, self.calls[0])
             if module:
-                seen |= called(source(crate) + source("test_kit"))
+                seen |= called("\n".join(map(source, (crate, *KITS))))
         if not self.tests:
             yield "no test shows %s" % ", ".join(self.calls)
         yield from ("no test of the row of %s calls %s" % (self.calls[0], name) for name in self.wanted() if name not in seen)
