@@ -46,5 +46,6 @@ pub const ENOUGH_REPLIES: usize = 262_144;
 /// The most bytes of one pull from a source: 64 KiB. This project's.
 pub const PULL_SIZE: usize = 65_536;
 
-/// The most pulls of one run, so that all bytes of a stream are counted in 64 bits. This project's.
+/// The most pulls of one run, so that all bytes of a stream are counted in 64 bits, and of one file
+/// that is read whole. This project's.
 pub const MAX_TURNS: u64 = 1 << 40;

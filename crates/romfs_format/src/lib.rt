@@ -4,8 +4,8 @@
 //! `specs/` restates the document: the fields of headers (`Fields`, `Heads`), which headers stand
 //! in which directory (`Chains`), what they lead to (`Links`), the rules of an image and the one
 //! fault of an image that breaks some (`Rules`, in words `Texts`). [`limits`] has its sizes and
-//! limits. [`read`] reads words, names and headers where they lie within the image; no call takes
-//! memory. [`laws`] says that an image has at most one fault, [`examples`] the numbers of the limits.
+//! limits, and [`examples`] the number of each. [`read`] reads words, names and headers where they
+//! lie within the image; no call takes memory. [`laws`] says that an image has at most one fault.
 //!
 //! The crate stands on `byteorder` for words and `memchr` for the ends of names.
 #![tactic(auto)]

@@ -92,20 +92,29 @@ broken_high first next profile lows highs xs Write up low b = absurd b
 broken_high first next profile lows highs xs Turns up low b = absurd b
 
 -- why the first of two halves stopped is why the run did
-stopped_first : {A : Type 0} (first next : ℕ) (profile : Profile) (lows highs : List (List ℕ)) (low high : Result (Vec (List ℕ) A) Stop) (stop : Stop)
-    → next ≡ first + length lows → Checks first profile lows low → Checks next profile highs high → IsFirstStop low high stop → IsBroken first profile (lows ++ highs) stop
-stopped_first first next profile lows highs (Err s) high stop up a b is = subst (IsBroken first profile (lows ++ highs)) (sym is) (broken_low first profile lows highs s a.1)
-stopped_first first next profile lows highs (Ok xs) (Err s) stop up a b is = subst (IsBroken first profile (lows ++ highs)) (sym is) (broken_high first next profile lows highs _ s up a.0 b.1)
+stopped_first : {A : Type 0} (first next : ℕ) (profile : Profile) (lows highs : List (List ℕ))
+    (low high : Result (Vec (List ℕ) A) Stop) (stop : Stop) → next ≡ first + length lows
+    → Checks first profile lows low → Checks next profile highs high → IsFirstStop low high stop
+    → IsBroken first profile (lows ++ highs) stop
+stopped_first first next profile lows highs (Err s) high stop up a b is =
+    subst (IsBroken first profile (lows ++ highs)) (sym is) (broken_low first profile lows highs s a.1)
+stopped_first first next profile lows highs (Ok xs) (Err s) stop up a b is =
+    subst (IsBroken first profile (lows ++ highs)) (sym is) (broken_high first next profile lows highs _ s up a.0 b.1)
 stopped_first first next profile lows highs (Ok xs) (Ok ys) stop up a b is = absurd is
 
 -- what two halves come to is what the run does
-pub joined : {A : Type 0} (first next : ℕ) (profile : Profile) (lows highs : List (List ℕ)) (low high result : Result (Vec (List ℕ) A) Stop)
-    → next ≡ first + length lows → Checks first profile lows low → Checks next profile highs high → Joins low high result → Checks first profile (lows ++ highs) result
-joined first next profile lows highs (Ok xs) (Ok ys) (Ok all) up a b is = (subst (AreChecked profile (lows ++ highs)) (sym is) (whole profile lows highs _ _ a.0 b.0), tt)
+pub joined : {A : Type 0} (first next : ℕ) (profile : Profile) (lows highs : List (List ℕ))
+    (low high result : Result (Vec (List ℕ) A) Stop) → next ≡ first + length lows
+    → Checks first profile lows low → Checks next profile highs high → Joins low high result
+    → Checks first profile (lows ++ highs) result
+joined first next profile lows highs (Ok xs) (Ok ys) (Ok all) up a b is =
+    (subst (AreChecked profile (lows ++ highs)) (sym is) (whole profile lows highs _ _ a.0 b.0), tt)
 joined first next profile lows highs (Ok xs) (Err s) (Ok all) up a b is = absurd is
 joined first next profile lows highs (Err s) high (Ok all) up a b is = absurd is
-joined first next profile lows highs low high (Err stop) up a b (inl memory) = (tt, subst (IsBroken first profile (lows ++ highs)) (sym memory) tt)
-joined first next profile lows highs low high (Err stop) up a b (inr is) = (tt, stopped_first first next profile lows highs low high stop up a b is)
+joined first next profile lows highs low high (Err stop) up a b (inl memory) =
+    (tt, subst (IsBroken first profile (lows ++ highs)) (sym memory) tt)
+joined first next profile lows highs low high (Err stop) up a b (inr is) =
+    (tt, stopped_first first next profile lows highs low high stop up a b is)
 
 -- of all images
 pub as_layers : {X : Type 0} (v : X → List ℕ) (profile : Profile) (all : List X) (layers : List (List ℕ)) → IsFew (length all) → AreChecked profile (map v all) layers → AreLayers profile (map v all) layers
