@@ -171,7 +171,7 @@ def available():
 
 
 def largest(soak):
-    """An image of 2^32 - 1 bytes, most of which is one file, with 100 MiB of memory more."""
+    """An image of 2^32 - 1 bytes, most of which is one file, with 105 MiB of memory more."""
     if available() < 10000:
         raise LeftOut("less than 10,000 MiB of memory")
     front = laid_out(b"v", [Item((b"x",), "regular", False)])
@@ -187,9 +187,9 @@ def largest(soak):
     wanted = {"check": b"layer 0: 4294967295 bytes\n", "serve": replies,
               "list": b"1 040755 2 0 0 /\n2 100644 1 %d 0 /x\n" % size}
     for command, output in wanted.items():
-        done = soak.run([command, "image"], MOST_FULL // MIB + 100, soak.folder + "/requests")
+        done = soak.run([command, "image"], MOST_FULL // MIB + 105, soak.folder + "/requests")
         hold("strata %s" % command, (0, output, b""), (done.status, done.output, done.errors))
-    return "checked, listed and served in %d MiB of address space" % (MOST_FULL // MIB + 100)
+    return "checked, listed and served in %d MiB of address space" % (MOST_FULL // MIB + 105)
 
 
 # --- all parts ---
