@@ -30,9 +30,10 @@ unfolding name_field
 first_byte a t p c e =
     let f = first (take 256 (drop p a)) t c (within (length a) p (ended (name_field a p)) (c ∷ t) e) in
     let l : 0 < length (drop p a) = omega (arith, length-take 256 (drop p a), f.0) in
-    let z : p ≡ p + 0 = omega arith in
-    (omega (arith, length-drop p a, l),
-        ap (λ k. get_or a k 0) z ∙ sym (get_or-drop p a 0 0) ∙ sym (get_or-take 256 (drop p a) 0 0 (omega arith)) ∙ f.1)
+    let z : p ≡ p + 0 = omega arith in (
+      omega (arith, length-drop p a, l),
+      ap (λ k. get_or a k 0) z ∙ sym (get_or-drop p a 0 0) ∙ sym (get_or-take 256 (drop p a) 0 0 (omega arith)) ∙ f.1,
+    )
 
 pub dot_first : (a : List ℕ) (h : ℕ) → IsDotted a h → (h + 16 < length a) × (get_or a (h + 16) 0 ≡ 46)
 dot_first a h d = elim d.1 [ inl x ↦ first_byte a [] (h + 16) 46 x | inr x ↦ first_byte a (46 ∷ []) (h + 16) 46 x ]
