@@ -3,7 +3,6 @@
 
 ghost use Rattle.std.specs.Prelude.{true, false};
 ghost use Rattle.fuse_wire.specs.Reads.{asked_of};
-ghost use Rattle.fuse_wire.specs.Requests.{at_node, getattr, lookup, readdirplus};
 ghost use Rattle.fuse_answer.specs.Answers.{Decides, DecidesIn};
 
 use crate::content::Answer;
@@ -28,64 +27,6 @@ pub(crate) fn decide<'a, A: Allocator>(
     match session {
         Session::Fresh | Session::LastingFresh => begin(table, agreed, request),
         Session::Ready { .. } | Session::LastingReady { .. } => go_on(table, agreed, request),
-    }
-}
-
-/// What is decided about a LOOKUP.
-#[inline(always)]
-pub(crate) fn decide_lookup<'a, A: Allocator>(
-    table: &'a Table<A>,
-    session: Session,
-    node: u64,
-    name: &[u8],
-) -> Result<Answer<'a, A>, Errno>
-    ensures { (unique : _) → Decides table.now session
-        (record { unique = unique; node = node; op = at_node (lookup name.now) }) result }
-{
-    let agreed = agreement_of(session);
-    match session {
-        Session::Fresh | Session::LastingFresh => Err(Errno::EIO),
-        Session::Ready { .. } | Session::LastingReady { .. } => {
-            look_up(table, agreed, node, name)
-        }
-    }
-}
-
-/// What is decided about a GETATTR.
-#[inline(always)]
-pub(crate) fn decide_getattr<'a, A: Allocator>(
-    table: &'a Table<A>,
-    session: Session,
-    node: u64,
-) -> Result<Answer<'a, A>, Errno>
-    ensures { (unique : _) → Decides table.now session
-        (record { unique = unique; node = node; op = at_node getattr }) result }
-{
-    let agreed = agreement_of(session);
-    match session {
-        Session::Fresh | Session::LastingFresh => Err(Errno::EIO),
-        Session::Ready { .. } | Session::LastingReady { .. } => get_attr(table, agreed, node),
-    }
-}
-
-/// What is decided about a READDIRPLUS.
-#[inline(always)]
-pub(crate) fn decide_readdirplus<'a, A: Allocator>(
-    table: &'a Table<A>,
-    session: Session,
-    node: u64,
-    offset: u64,
-    size: u32,
-) -> Result<Answer<'a, A>, Errno>
-    ensures { (unique : _) → Decides table.now session
-        (record { unique = unique; node = node; op = at_node (readdirplus offset size) }) result }
-{
-    let agreed = agreement_of(session);
-    match session {
-        Session::Fresh | Session::LastingFresh => Err(Errno::EIO),
-        Session::Ready { .. } | Session::LastingReady { .. } => {
-            list(table, agreed, node, offset, size, true)
-        }
     }
 }
 

@@ -36,7 +36,6 @@ pub(crate) struct Listing<'a, A: Allocator> {
 
 /// What READDIR is answered, or READDIRPLUS, where rows come with entries: the rows after the first
 /// `offset` ones, as many as fit whole in the size.
-#[inline(always)]
 pub(crate) fn list<'a, A: Allocator>(
     table: &'a Table<A>,
     agreed: Agreement,
@@ -62,7 +61,6 @@ pub(crate) fn list<'a, A: Allocator>(
 
 // The rows after the first `offset` ones that fit in the size; none where the number is no
 // directory.
-#[inline(always)]
 fn listed<'a, A: Allocator>(
     table: &'a Table<A>,
     number: u64,

@@ -9,7 +9,7 @@ ghost use Rattle.fuse_answer.specs.Puts.{PutsReply, AddsMoves};
 
 use crate::balances::add_moves;
 use crate::content::Answer;
-use crate::decide::{decide, decide_getattr, decide_lookup, decide_readdirplus};
+use crate::decide::decide;
 use crate::write::write;
 use fuse_wire::{Errno, Op, Request, opcode, put_error};
 use reply_model::Session;
@@ -55,45 +55,7 @@ pub fn answer_and_move<A: Allocator, O: Allocator>(
     ensures moves { AddsMoves table.now session (asked_of request.now) result
         balances.old balances.new }
 {
-    let node = request.node;
-    match request.op {
-        Op::Lookup { name } => {
-            let decided = decide_lookup(table, session, node, name);
-            finish(table, session, request, decided, out, balances)
-        }
-        Op::Getattr => {
-            let decided = decide_getattr(table, session, node);
-            finish(table, session, request, decided, out, balances)
-        }
-        Op::Readdirplus { offset, size } => {
-            let decided = decide_readdirplus(table, session, node, offset, size);
-            finish(table, session, request, decided, out, balances)
-        }
-        _ => {
-            let decided = decide(table, session, request);
-            finish(table, session, request, decided, out, balances)
-        }
-    }
-}
-
-// Appends the reply to a request on which this was decided, and adds what the request gives and
-// takes. It is inlined wherever it is called, so that what is decided about the most frequent
-// requests goes from the table to the reply in registers.
-#[inline(always)]
-fn finish<A: Allocator, O: Allocator>(
-    table: &Table<A>,
-    session: Session,
-    request: &Request<'_>,
-    decided: Result<Answer<'_, A>, Errno>,
-    out: &mut Vec<u8, O>,
-    balances: &mut [i128],
-) -> Result<(), AllocError>
-    requires decided { Decides table.now session (asked_of request.now) decided }
-    requires within { AreWithin (2 ^ 123) balances.old }
-    ensures reply { PutsReply table.now session (asked_of request.now) result out.old out.new }
-    ensures moves { AddsMoves table.now session (asked_of request.now) result
-        balances.old balances.new }
-{
+    let decided = decide(table, session, request);
     tell(table, session, request, &decided, out)?;
     if let Ok(answer) = decided {
         add_moves(table, &answer, balances);
@@ -102,7 +64,6 @@ fn finish<A: Allocator, O: Allocator>(
 }
 
 // Appends the reply to a request on which this was decided.
-#[inline(always)]
 fn tell<A: Allocator, O: Allocator>(
     table: &Table<A>,
     session: Session,

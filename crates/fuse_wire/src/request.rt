@@ -8,7 +8,7 @@ ghost use Rattle.fuse_wire.specs.Reads.{asked_of};
 use crate::body::read_op;
 use crate::forget::Forgets;
 use crate::limits::HEADER_SIZE;
-use crate::opcode::{GETATTR, LOOKUP};
+use crate::opcode::LOOKUP;
 use byteorder::{ByteOrder, LittleEndian};
 
 /// Where `opcode` lies in a `struct fuse_in_header`.
@@ -138,17 +138,12 @@ impl<'a> Request<'a> {
     }
 }
 
-/// The node and the name of a LOOKUP at a glance, and the node of a GETATTR with an empty name, for
-/// whoever reads ahead: no answer follows from it. None of any other message. The name is not
-/// looked at but for its length.
+/// The node and the name of a LOOKUP at a glance, for whoever reads ahead: no answer follows from
+/// it. None of any other message. The name is not looked at but for its length.
 pub fn glance(message: &[u8]) -> Option<(u64, &[u8])> {
-    if message.len() < HEADER_SIZE + 2 {
+    if message.len() < HEADER_SIZE + 2 || LittleEndian::read_u32(&message[OPCODE..]) != LOOKUP {
         return None;
     }
     let node = LittleEndian::read_u64(&message[NODEID..]);
-    match LittleEndian::read_u32(&message[OPCODE..]) {
-        LOOKUP => Some((node, &message[HEADER_SIZE..message.len() - 1])),
-        GETATTR => Some((node, &[])),
-        _ => None,
-    }
+    Some((node, &message[HEADER_SIZE..message.len() - 1]))
 }

@@ -4,4 +4,3 @@ pub mod Added
 pub mod Halves
 pub mod Narrow
 pub mod Places
-mod Sames

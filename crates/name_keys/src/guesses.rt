@@ -5,7 +5,6 @@ ghost use Rattle.name_keys.specs.Names.{Rise, place_of};
 
 use crate::key::key_of;
 use crate::named::Named;
-use crate::same::is_same;
 use std::alloc::{AllocError, Allocator};
 
 /// How many slots are looked at for one name.
@@ -86,7 +85,7 @@ impl<A: Allocator> Guesses<A> {
             }
             if let Some(place) = self.place_in(slot, mixed.tag) {
                 let at = place.wrapping_sub(start);
-                if at < rows.len() && is_same(rows[at].name(), name) {
+                if at < rows.len() && rows[at].name() == name {
                     return Some(at);
                 }
             }

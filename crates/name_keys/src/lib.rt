@@ -44,7 +44,6 @@ mod guesses;
 mod key;
 mod named;
 mod run;
-mod same;
 mod search;
 
 pub use adding::add_keys;
