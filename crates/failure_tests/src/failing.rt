@@ -2,6 +2,7 @@
 
 use serve_core::Stop;
 use serve_kit::runs::{Run, WHOLE, run_over, sample_table};
+use stack_table::Table;
 use std::alloc::Global;
 use std::test::Fail;
 use std::thread::Threads;
@@ -41,10 +42,10 @@ fn replies_to(given: usize) -> usize {
 fn source_fails<R: Threads + Sync>(
     rt: &R,
     global: Global,
+    table: &Table<Global>,
     streams: (&[u8], &[u8]),
     given: usize,
 ) -> Result<(), Fail> {
-    let table = sample_table(rt, global).ok_or("a table")?;
     for plan in PLANS {
         let row = Run {
             plan,
@@ -53,7 +54,7 @@ fn source_fails<R: Threads + Sync>(
             breaks: true,
             ..WHOLE
         };
-        let seen = run_over(rt, global, global, &table, streams, row, None).ok_or("a run")?;
+        let seen = run_over(rt, global, global, table, streams, row, None).ok_or("a run")?;
         if seen.end != Err(Stop::Read) || seen.put != Some(replies_to(given)) {
             return Err(Fail::new(format_args!("{plan:?}, {given}: {seen:?}")));
         }
@@ -64,10 +65,11 @@ fn source_fails<R: Threads + Sync>(
 #[test]
 fn a_source_fails_at_each_byte(rt: HostRuntime) -> Result<(), Fail> {
     let global = rt.alloc();
+    let table = sample_table(&rt, global).ok_or("a table")?;
     let (stream, replies) = (script(global)?, script_replies(global)?);
     let streams = (stream.as_slice(), replies.as_slice());
     for given in 0..=652 {
-        source_fails(&rt, global, streams, given)?;
+        source_fails(&rt, global, &table, streams, given)?;
     }
     Ok(())
 }
@@ -76,10 +78,10 @@ fn a_source_fails_at_each_byte(rt: HostRuntime) -> Result<(), Fail> {
 fn sink_fails<R: Threads + Sync>(
     rt: &R,
     global: Global,
+    table: &Table<Global>,
     streams: (&[u8], &[u8]),
     room: usize,
 ) -> Result<(), Fail> {
-    let table = sample_table(rt, global).ok_or("a table")?;
     let end = if room == 1531 {
         Ok((12, 1531))
     } else {
@@ -92,7 +94,7 @@ fn sink_fails<R: Threads + Sync>(
             most: 5,
             ..WHOLE
         };
-        let seen = run_over(rt, global, global, &table, streams, row, None).ok_or("a run")?;
+        let seen = run_over(rt, global, global, table, streams, row, None).ok_or("a run")?;
         if seen.end != end || seen.put != Some(room) {
             return Err(Fail::new(format_args!("{plan:?}, {room}: {seen:?}")));
         }
@@ -103,10 +105,11 @@ fn sink_fails<R: Threads + Sync>(
 #[test]
 fn a_sink_fails_at_each_byte(rt: HostRuntime) -> Result<(), Fail> {
     let global = rt.alloc();
+    let table = sample_table(&rt, global).ok_or("a table")?;
     let (stream, replies) = (script(global)?, script_replies(global)?);
     let streams = (stream.as_slice(), replies.as_slice());
     for room in 0..=1531 {
-        sink_fails(&rt, global, streams, room)?;
+        sink_fails(&rt, global, &table, streams, room)?;
     }
     Ok(())
 }
@@ -131,11 +134,11 @@ const FLUSHES: [(u64, usize); 11] = [
 fn flush_fails<R: Threads + Sync>(
     rt: &R,
     global: Global,
+    table: &Table<Global>,
     streams: (&[u8], &[u8]),
     flushes: u64,
     put: usize,
 ) -> Result<(), Fail> {
-    let table = sample_table(rt, global).ok_or("a table")?;
     let (end, writes) = if flushes == 10 {
         (Ok((12, 1531)), 20)
     } else {
@@ -151,7 +154,7 @@ fn flush_fails<R: Threads + Sync>(
             flushes,
             ..WHOLE
         };
-        let seen = run_over(rt, global, global, &table, streams, row, None).ok_or("a run")?;
+        let seen = run_over(rt, global, global, table, streams, row, None).ok_or("a run")?;
         if seen.end != end || seen.put != Some(put) || seen.writes != writes {
             return Err(Fail::new(format_args!("{plan:?}, {flushes}: {seen:?}")));
         }
@@ -162,10 +165,11 @@ fn flush_fails<R: Threads + Sync>(
 #[test]
 fn each_flush_fails_alone(rt: HostRuntime) -> Result<(), Fail> {
     let global = rt.alloc();
+    let table = sample_table(&rt, global).ok_or("a table")?;
     let (stream, replies) = (script(global)?, script_replies(global)?);
     let streams = (stream.as_slice(), replies.as_slice());
     for (flushes, put) in FLUSHES {
-        flush_fails(&rt, global, streams, flushes, put)?;
+        flush_fails(&rt, global, &table, streams, flushes, put)?;
     }
     Ok(())
 }
