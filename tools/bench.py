@@ -192,7 +192,7 @@ def main(words):
     parser = argparse.ArgumentParser(description="Times strata, and hostile inputs against honest ones.")
     parser.add_argument("program", type=os.path.abspath)
     parser.add_argument("--quick", action="store_true")
-    parser.add_argument("parts", nargs="*", metavar="PART", help=", ".join(PARTS))
+    runs.add_parts(parser, PARTS)
     asked = parser.parse_intermixed_args(words)
     if asked.quick:
         inputs.divide(QUICK)

@@ -32,6 +32,7 @@ from images import EMPTY
 from mutations import Made, demo_images, has_genromfs, mutated_image, mutated_stream, recorded
 from random_inputs import kinds_of, long_stack, long_stream, mutated, others_of, random_image, random_stack, random_stream
 from replies import single
+from runs import add_parts
 
 # what a read of /dev/fuse gives at most
 MOST_PACKET = 131072
@@ -294,7 +295,7 @@ def main(words):
     parser.add_argument("--seed", type=int, default=1)
     parser.add_argument("--tries", type=int)
     parser.add_argument("--minutes", type=float)
-    parser.add_argument("parts", nargs="*", metavar="PART", help=", ".join(PARTS))
+    add_parts(parser, PARTS)
     asked = parser.parse_intermixed_args(words)
     parts = asked.parts or list(PARTS)
     if "made" in parts and not has_genromfs():

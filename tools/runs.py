@@ -3,6 +3,7 @@
 What a run takes is its own processor time, so that it tells the same beside busy neighbours. The clock judges nothing: it
 only ends what hangs, after a minute.
 """
+import argparse
 import concurrent.futures
 import fcntl
 import os
@@ -64,3 +65,13 @@ def feed(pieces, pipe):
             os.close(pipe)
 
     threading.Thread(target=write, daemon=True).start()
+
+
+def add_parts(parser, known):
+    """Lets a tool be asked for some of its parts by their names."""
+    def part(name):
+        if name not in known:
+            raise argparse.ArgumentTypeError("no such part: %s" % name)
+        return name
+
+    parser.add_argument("parts", nargs="*", type=part, metavar="PART", help=", ".join(known))

@@ -234,7 +234,7 @@ def main(words):
     parser.add_argument("program")
     parser.add_argument("--minutes", type=float, default=20)
     parser.add_argument("--quick", action="store_true")
-    parser.add_argument("parts", nargs="*", metavar="PART", help=", ".join(PARTS))
+    runs.add_parts(parser, PARTS)
     asked = parser.parse_intermixed_args(words)
     is_well = True
     for name in asked.parts or PARTS:
