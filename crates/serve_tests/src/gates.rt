@@ -106,8 +106,8 @@ fn each_layer_is_checked_and_read_once(rt: HostRuntime) -> Result<(), Fail> {
     Ok(())
 }
 
-/// Twelve messages in batches of three and of one; and a round of 17 messages by one thread and one
-/// of 254 by workers, in batches of 16.
+/// Twelve messages in batches of three and of one; and a round of 17 messages by one thread and two
+/// of 127 by workers, in batches of 16.
 #[test]
 fn each_batch_is_begun_once(rt: HostRuntime) -> Result<(), Fail> {
     let global = rt.alloc();
@@ -125,6 +125,6 @@ fn each_batch_is_begun_once(rt: HostRuntime) -> Result<(), Fail> {
     let lists = stream(global, Long::Readdir, 270)?;
     let gate = Recording::new();
     let done = ran(&rt, global, global, &table, &lists, (4, 16), &gate).ok_or("a run")?;
-    assert!(rt; done.end.is_ok() && gate.seen() == (0, 0, 0x1111_1111_1111_1122));
+    assert!(rt; done.end.is_ok() && gate.seen() == (0, 0, 0x2222_2233));
     Ok(())
 }
