@@ -8,12 +8,14 @@ use Rattle.clap.specs.declared.builder.command.Command.{Command}
 use Rattle.clap.proofs.SimpleLemmas.{plain_fields}
 
 -- an argument of this rule
-pub added_rule : (old : Command) (arg : Arg) (new : Command) (a : App) (r : Rule) → AddsArg old arg new → app_of old ≡ a → rule_of arg ≡ r → arg.global ≡ false
+pub added_rule : (old : Command) (arg : Arg) (new : Command) (a : App) (r : Rule) → AddsArg old arg new → app_of old ≡ a → rule_of arg ≡ r
+    → arg.global ≡ false
     → app_of new ≡ with_rule a r
 added_rule old arg new a r added old_is rule_is local = added.shape local ∙ ap₂ with_rule old_is rule_is
 
 -- a command without global arguments
-pub added_command : (old sub new : Command) (a s : App) → AddsSubcommand old sub new → app_of old ≡ a → app_of sub ≡ s → s.top.is_plain ≡ true
+pub added_command : (old sub new : Command) (a s : App) → AddsSubcommand old sub new → app_of old ≡ a → app_of sub ≡ s
+    → s.top.is_plain ≡ true
     → app_of new ≡ with_subcommand a s.top
 added_command old sub new a s added old_is sub_is plain =
     let local = plain_fields sub (ap (λ (x : App). x.top.is_plain) sub_is ∙ plain) in

@@ -47,8 +47,10 @@ faultless : (words : List Text) (line : Line) (fault : LineFault) → IsLineOf w
 faultless words line Memory is told = refl
 faultless words line (Usage text) is told = elim told [
   | inl refused ↦ absurd (refused is.taken)
-  | inr (inl bad) ↦ absurd (bad.wrong (subst HaveNumbersInRange (same_rows (command_in words) _ _ is.rows bad.rows is.command bad.command) is.holds.numbered))
-  | inr (inr bad) ↦ absurd (is.holds.apart (subst AreCrossed (same_rows (command_in words) _ _ bad.rows is.rows bad.command is.command) bad.crossed))
+  | inr (inl bad) ↦ absurd (bad.wrong (subst HaveNumbersInRange (same_rows (command_in words) _ _ is.rows bad.rows is.command bad.command)
+        is.holds.numbered))
+  | inr (inr bad) ↦ absurd (is.holds.apart (subst AreCrossed (same_rows (command_in words) _ _ bad.rows is.rows bad.command is.command)
+        bad.crossed))
 ]
 
 pub lines_are_faultless : LinesAreFaultless

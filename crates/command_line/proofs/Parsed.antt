@@ -41,7 +41,8 @@ unfolding faults_in
 parsed_taken a words is kinds = ap (λ x. fault_of x words) (sym is) ∙ kinds (ap is_simple_and_free is ∙ program_is_free)
 
 -- and they have the command that the words name
-pub parsed_command : (a : App) (words : List Text) (m : ArgMatches) → a ≡ program → HasMatchesOf a words m → subcommand_rows_of m ≡ command_in words
+pub parsed_command : (a : App) (words : List Text) (m : ArgMatches) → a ≡ program → HasMatchesOf a words m → subcommand_rows_of m
+    ≡ command_in words
 unfolding command_in
 parsed_command a words m is matches = (matches (ap is_simple is ∙ program_is_simple)).1 ∙ ap (λ x. subcommand_of x words) is
 
@@ -65,7 +66,8 @@ parsed_fault a words error (Usage text) is kinds told = inl (λ taken. elim (kin
 -- ---- what the matches give
 
 -- the images, where there are any
-pub some_images : (f : Found) (o : Option (Bor (List (Bor Text)))) → option_map (λ s. texts s.now) o ≡ option_map raw_values (matched_of f (codes "image"))
+pub some_images : (f : Found) (o : Option (Bor (List (Bor Text)))) → option_map (λ s. texts s.now) o ≡ option_map raw_values
+    (matched_of f (codes "image"))
     → IsFilled (rows_of f) → is_some o ≡ true
 some_images f o are filled = some_of_text (λ s. texts s.now) o _ (are ∙ (raw_values-rows f (codes "image") ∙ filled.images)) refl
 
@@ -75,7 +77,8 @@ pub images_are : (f : Found) (o : Option (Bor (List (Bor Text)))) (s : Bor (List
 images_are f o s are is = ap (option_map (λ s. texts s.now)) (sym is) ∙ (are ∙ raw_values-rows f (codes "image"))
 
 -- one or more
-pub one_or_more : (rows : List Row) (images : List (Bor Text)) → IsFilled rows → Some (texts images) ≡ all_of (codes "image") rows → 1 ≤ length images
+pub one_or_more : (rows : List Row) (images : List (Bor Text)) → IsFilled rows → Some (texts images) ≡ all_of (codes "image") rows
+    → 1 ≤ length images
 one_or_more rows images filled are =
     let same : texts images ≡ filled.first ∷ filled.rest = ap (λ o. unwrap_or o []) (are ∙ filled.images) in
     omega (arith, length-map {A = Bor Text} images (λ s. s.now), ap length same)
@@ -95,7 +98,8 @@ flag_is f id flag filled absent is_true is_false =
 -- ---- the command
 
 module _ {Z : Type 0} where
-  name_in_rows : (sub : Option (Box SubCommand Z)) → option_map (λ b. (out-SubCommand (box_value b)).name.now) sub ≡ option_map (λ p. p.0) (subcommand_rows sub)
+  name_in_rows : (sub : Option (Box SubCommand Z)) → option_map (λ b. (out-SubCommand (box_value b)).name.now) sub ≡ option_map (λ p. p.0)
+      (subcommand_rows sub)
   name_in_rows None = refl
   name_in_rows (Some b) = refl
 
@@ -106,15 +110,18 @@ both_parts (Some p) name rows e f = ap₂ (λ n r. Some (n, r)) (ap (λ o. unwra
 
 -- the command that was met, by its name and its rows
 pub met_command : (m : ArgMatches) (words : List Text) (o : Option (Bor Text × Bor ArgMatches)) (p : Bor Text × Bor ArgMatches)
-    → option_map (λ p. p.0.now) o ≡ subcommand_name_of m → option_map (λ p. rows_of (found_of p.1.now)) o ≡ option_map (λ p. p.1) (subcommand_rows_of m)
+    → option_map (λ p. p.0.now) o ≡ subcommand_name_of m → option_map (λ p. rows_of (found_of p.1.now)) o ≡ option_map (λ p. p.1)
+        (subcommand_rows_of m)
     → o ≡ Some p → subcommand_rows_of m ≡ command_in words → command_in words ≡ Some (p.0.now, rows_of (found_of p.1.now))
 met_command m words o p name_is rows_are some is =
-    let name = ap (option_map (λ (q : Bor Text × Bor ArgMatches). q.0.now)) (sym some) ∙ name_is ∙ name_in_rows (out-ArgMatches m).subcommand in
+    let name = ap (option_map (λ (q : Bor Text × Bor ArgMatches). q.0.now)) (sym some) ∙ name_is
+        ∙ name_in_rows (out-ArgMatches m).subcommand in
     let rows = ap (option_map (λ (q : Bor Text × Bor ArgMatches). rows_of (found_of q.1.now))) (sym some) ∙ rows_are in
     sym is ∙ both_parts (subcommand_rows_of m) p.0.now (rows_of (found_of p.1.now)) name rows
 
 -- its rows are filled
-pub command_filled : (words : List Text) (name : Text) (rows : List Row) → IsTaken words → command_in words ≡ Some (name, rows) → IsFilled rows
+pub command_filled : (words : List Text) (name : Text) (rows : List Row) → IsTaken words → command_in words ≡ Some (name, rows)
+    → IsFilled rows
 command_filled words name rows taken is =
     let names = taken_names words taken in
     let rows_are : names.rows ≡ rows = ap (λ o. unwrap_or (option_map (λ (p : Text × List Row). p.1) o) rows) (sym names.is ∙ is) in
@@ -137,7 +144,8 @@ command_verb words name rows taken is =
     let names = taken_names words taken in
     go names.verb (ap (λ o. unwrap_or (option_map (λ (p : Text × List Row). p.0) o) name) (sym is ∙ names.is))
   where
-    go : (verb : Verb) → name ≡ verb_word verb → (name ≡ codes "serve") ⊎ (name ≡ codes "socket") ⊎ (name ≡ codes "check") ⊎ (name ≡ codes "list")
+    go : (verb : Verb) → name ≡ verb_word verb → (name ≡ codes "serve") ⊎ (name ≡ codes "socket") ⊎ (name ≡ codes "check")
+        ⊎ (name ≡ codes "list")
     go verbs.Serve same = inl same
     go verbs.Socket same = inr (inl same)
     go verbs.Check same = inr (inr (inl same))
@@ -153,7 +161,8 @@ some_command m words taken is =
 
 -- the numbers, as the rows give them
 pub numbers_are : (f : Found) (workers batch sessions : ℕ) → IsNumberOf most_workers 4 (first_value f (codes "workers")) workers
-    → IsNumberOf most_batch 16 (first_value f (codes "batch")) batch → IsNumberOf most_sessions 1 (first_value f (codes "sessions")) sessions
+    → IsNumberOf most_batch 16 (first_value f (codes "batch")) batch
+        → IsNumberOf most_sessions 1 (first_value f (codes "sessions")) sessions
     → HaveNumbersInRange (rows_of f) × (workers ≡ number_or 4 (first_of (codes "workers") (rows_of f)))
     × (batch ≡ number_or 16 (first_of (codes "batch") (rows_of f))) × (sessions ≡ number_or 1 (first_of (codes "sessions") (rows_of f)))
 numbers_are f workers batch sessions w b s =
@@ -171,7 +180,8 @@ numbers_are f workers batch sessions w b s =
     )
 
 -- and a fault of one of them
-pub workers_fault : (f : Found) (fault : LineFault) → (fault ≡ Memory) ⊎ (¬ IfSome (first_value f (codes "workers")) (IsNumberTo most_workers))
+pub workers_fault : (f : Found) (fault : LineFault) → (fault ≡ Memory)
+    ⊎ (¬ IfSome (first_value f (codes "workers")) (IsNumberTo most_workers))
     → (fault ≡ Memory) ⊎ ((¬ HaveNumbersInRange (rows_of f)) ⊎ AreCrossed (rows_of f))
 workers_fault f fault (inl memory) = inl memory
 workers_fault f fault (inr bad) = inr (inl (λ numbered. bad
@@ -181,12 +191,16 @@ workers_fault f fault (inr bad) = inr (inl (λ numbered. bad
 pub batch_fault : (f : Found) (fault : LineFault) → (fault ≡ Memory) ⊎ (¬ IfSome (first_value f (codes "batch")) (IsNumberTo most_batch))
     → (fault ≡ Memory) ⊎ ((¬ HaveNumbersInRange (rows_of f)) ⊎ AreCrossed (rows_of f))
 batch_fault f fault (inl memory) = inl memory
-batch_fault f fault (inr bad) = inr (inl (λ numbered. bad (subst (λ o. IfSome o (IsNumberTo most_batch)) (sym (first_value-rows f (codes "batch"))) numbered.batch)))
+batch_fault f fault (inr bad) = inr (inl
+      (λ numbered. bad (subst (λ o. IfSome o (IsNumberTo most_batch)) (sym (first_value-rows f (codes "batch"))) numbered.batch)))
 
-pub sessions_fault : (f : Found) (fault : LineFault) → (fault ≡ Memory) ⊎ (¬ IfSome (first_value f (codes "sessions")) (IsNumberTo most_sessions))
+pub sessions_fault : (f : Found) (fault : LineFault) → (fault ≡ Memory)
+    ⊎ (¬ IfSome (first_value f (codes "sessions")) (IsNumberTo most_sessions))
     → (fault ≡ Memory) ⊎ ((¬ HaveNumbersInRange (rows_of f)) ⊎ AreCrossed (rows_of f))
 sessions_fault f fault (inl memory) = inl memory
-sessions_fault f fault (inr bad) = inr (inl (λ numbered. bad (subst (λ o. IfSome o (IsNumberTo most_sessions)) (sym (first_value-rows f (codes "sessions"))) numbered.sessions)))
+sessions_fault f fault (inr bad) = inr
+    (inl (λ numbered. bad (subst (λ o. IfSome o (IsNumberTo most_sessions)) (sym (first_value-rows f (codes "sessions")))
+      numbered.sessions)))
 
 -- an option that is given, as the line has it
 some_named : (o : Option (Bor Text)) (p : Option Text) → option_map (λ file. file.now) o ≡ p → is_some o ≡ is_some p
@@ -201,10 +215,12 @@ names_socket verb rows listen gives listen_is is = some_named listen (first_of (
 -- the line names a file beside the device where the rows do
 pub names_as : (rows : List Row) (line : Line) → Says line (parts_of line.verb rows) → names_both line ≡ names_both_of rows
 names_as rows line says =
-    rw (says.device, some_named line.requests _ says.requests, some_named line.replies _ says.replies, some_named line.balances _ says.balances) refl
+    rw (says.device, some_named line.requests _ says.requests, some_named line.replies _ says.replies,
+          some_named line.balances _ says.balances) refl
 
 -- a line that says what the rows give, and names no file beside the device, holds them
-pub held : (rows : List Row) (line : Line) → HaveNumbersInRange rows → Says line (parts_of line.verb rows) → names_both line ≡ false → HoldsRows rows line
+pub held : (rows : List Row) (line : Line) → HaveNumbersInRange rows → Says line (parts_of line.verb rows) → names_both line ≡ false
+    → HoldsRows rows line
 held rows line numbered says apart = record {
   numbered = numbered;
   apart = λ crossed. true≢false (sym crossed ∙ sym (names_as rows line says) ∙ apart);
@@ -228,7 +244,8 @@ line_is words name rows verb (Ok line) taken command named verb_is holds = recor
 line_is words name rows verb (Err fault) taken command named verb_is holds = tt
 
 -- and a fault of its numbers is a fault of the words
-pub fault_is : (words : List Text) (name : Text) (rows : List Row) (fault : LineFault) → IsTaken words → command_in words ≡ Some (name, rows)
+pub fault_is : (words : List Text) (name : Text) (rows : List Row) (fault : LineFault) → IsTaken words
+    → command_in words ≡ Some (name, rows)
     → (fault ≡ Memory) ⊎ ((¬ HaveNumbersInRange rows) ⊎ AreCrossed rows) → IsLineFault words fault
 fault_is words name rows Memory taken command told = tt
 fault_is words name rows (Usage text) taken command told = elim told [

@@ -47,7 +47,8 @@ leaf_rows s words kept fit plain e =
     (defaults_filled s.rules (settled s.rules end).rows plain rows, check_on.1)
 
 -- are filled, where it wants an image
-leaf_filled : (s : Shape) (rows : List Row) → Wants (codes "image") s → (all_filled rows ≡ true) × (check_fault s rows false ≡ []) → IsFilled rows
+leaf_filled : (s : Shape) (rows : List Row) → Wants (codes "image") s → (all_filled rows ≡ true) × (check_fault s rows false ≡ [])
+    → IsFilled rows
 leaf_filled s rows wants e = rows_filled rows e.0 (wanted_given (codes "image") s rows wants e.1)
 
 -- ---- the program
@@ -69,10 +70,13 @@ abbrev listed : Shape
 listed = slice_index_or made.subs 3 help_shape
 
 serve_filled : (words : List Text) → level_fault served [] nothing_held words false [] ≡ [] → IsFilled (rows_after served.rules [] words)
-serve_filled words e = leaf_filled served (rows_after served.rules [] words) (λ rows none. rw none refl) (leaf_rows served words used_filled refl refl e)
+serve_filled words e = leaf_filled served (rows_after served.rules [] words) (λ rows none. rw none refl)
+    (leaf_rows served words used_filled refl refl e)
 
-socket_filled : (words : List Text) → level_fault listening [] nothing_held words false [] ≡ [] → IsFilled (rows_after listening.rules [] words)
-socket_filled words e = leaf_filled listening (rows_after listening.rules [] words) wants (leaf_rows listening words used_filled refl refl e)
+socket_filled : (words : List Text) → level_fault listening [] nothing_held words false [] ≡ []
+    → IsFilled (rows_after listening.rules [] words)
+socket_filled words e = leaf_filled listening (rows_after listening.rules [] words) wants
+    (leaf_rows listening words used_filled refl refl e)
   where
     wants : Wants (codes "image") listening
     wants rows none = go (is_given (codes "listen") rows) refl
@@ -89,10 +93,12 @@ socket_given words e =
     some_value (codes "listen") rows refl made.0 (wanted_given (codes "listen") listening rows (λ rows none. rw none refl) made.1)
 
 check_filled : (words : List Text) → level_fault checked [] nothing_held words false [] ≡ [] → IsFilled (rows_after checked.rules [] words)
-check_filled words e = leaf_filled checked (rows_after checked.rules [] words) (λ rows none. rw none refl) (leaf_rows checked words used_filled refl refl e)
+check_filled words e = leaf_filled checked (rows_after checked.rules [] words) (λ rows none. rw none refl)
+    (leaf_rows checked words used_filled refl refl e)
 
 list_filled : (words : List Text) → level_fault listed [] nothing_held words false [] ≡ [] → IsFilled (rows_after listed.rules [] words)
-list_filled words e = leaf_filled listed (rows_after listed.rules [] words) (λ rows none. rw none refl) (leaf_rows listed words used_filled refl refl e)
+list_filled words e = leaf_filled listed (rows_after listed.rules [] words) (λ rows none. rw none refl)
+    (leaf_rows listed words used_filled refl refl e)
 
 -- a command of the program, with rows that are filled
 pub record NamesCommand (o : Option (Text × List Row)) : Type 0 where
@@ -104,10 +110,12 @@ pub record NamesCommand (o : Option (Text × List Row)) : Type 0 where
 
 -- the command that is met, by which name its word is
 abbrev met : Bool → Bool → Bool → Bool → Bool → Option Shape
-met a b c d f = cond a (Some served) (cond b (Some listening) (cond c (Some checked) (cond d (Some listed) (cond f (Some (slice_index_or made.subs 4 served)) None))))
+met a b c d f = cond a (Some served) (cond b (Some listening)
+      (cond c (Some checked) (cond d (Some listed) (cond f (Some (slice_index_or made.subs 4 served)) None))))
 
 -- the command that was entered is one of the four
-entered_names : (p : Text × List Text) → stop_helps (Some p) ≡ false → entered_fault made (Some p) ≡ [] → is_some (entered made (Some p)) ≡ true
+entered_names : (p : Text × List Text) → stop_helps (Some p) ≡ false → entered_fault made (Some p) ≡ [] → is_some (entered made (Some p))
+    ≡ true
     → NamesCommand (entered made (Some p))
 entered_names p helps e some =
     go (answers_to p.0 (label_of served)) (answers_to p.0 (label_of listening)) (answers_to p.0 (label_of checked))
@@ -115,10 +123,14 @@ entered_names p helps e some =
   where
     go : (a b c d f : Bool) → f ≡ false → option_map_or (λ s. level_fault s [] nothing_held p.1 false []) (met a b c d f) [] ≡ []
         → is_some (option_map (λ s. rows_at s p.1) (met a b c d f)) ≡ true → NamesCommand (option_map (λ s. rows_at s p.1) (met a b c d f))
-    go true b c d f none e some = record { verb = verbs.Serve; rows = rows_after served.rules [] p.1; is = refl; filled = serve_filled p.1 e; gives = λ same. absurd (cc) }
-    go false true c d f none e some = record { verb = verbs.Socket; rows = rows_after listening.rules [] p.1; is = refl; filled = socket_filled p.1 e; gives = λ _. socket_given p.1 e }
-    go false false true d f none e some = record { verb = verbs.Check; rows = rows_after checked.rules [] p.1; is = refl; filled = check_filled p.1 e; gives = λ same. absurd (cc) }
-    go false false false true f none e some = record { verb = verbs.List; rows = rows_after listed.rules [] p.1; is = refl; filled = list_filled p.1 e; gives = λ same. absurd (cc) }
+    go true b c d f none e some = record { verb = verbs.Serve; rows = rows_after served.rules [] p.1; is = refl; filled =
+          serve_filled p.1 e; gives = λ same. absurd (cc) }
+    go false true c d f none e some = record { verb = verbs.Socket; rows = rows_after listening.rules [] p.1; is = refl; filled =
+          socket_filled p.1 e; gives = λ _. socket_given p.1 e }
+    go false false true d f none e some = record { verb = verbs.Check; rows = rows_after checked.rules [] p.1; is = refl; filled =
+          check_filled p.1 e; gives = λ same. absurd (cc) }
+    go false false false true f none e some = record { verb = verbs.List; rows = rows_after listed.rules [] p.1; is = refl; filled =
+          list_filled p.1 e; gives = λ same. absurd (cc) }
     go false false false false true none e some = absurd (true≢false none)
     go false false false false false none e some = absurd (true≢false (sym some))
 
@@ -131,7 +143,8 @@ entered_names p helps e some =
     no_help : answers_to p.0 (codes "help", []) ≡ false
     no_help = other_way (bytes_eq (codes "help") p.0) refl
 
-some_entered : (stop : Option (Text × List Text)) → stop_helps stop ≡ false → entered_fault made stop ≡ [] → is_some (entered made stop) ≡ true
+some_entered : (stop : Option (Text × List Text)) → stop_helps stop ≡ false → entered_fault made stop ≡ [] → is_some (entered made stop)
+    ≡ true
     → NamesCommand (entered made stop)
 some_entered None helps e some = absurd (true≢false (sym some))
 some_entered (Some p) helps e some = entered_names p helps e some
@@ -151,4 +164,5 @@ taken_names words e =
     let check_on = neither _ _ settle_on.1 in
     let stop = (walk made.top.rules (names_of made) nothing_held words).stopped in
     let helps = walk_no_help made.top refl (names_of made) (walk_from nothing_held) words walk_on.0 refl in
-    some_entered stop helps below_on.0 (one_wanted (rows_after made.top.rules (names_of made) words) (is_some (entered made stop)) check_on.1)
+    some_entered stop helps below_on.0 (one_wanted (rows_after made.top.rules (names_of made) words) (is_some (entered made stop))
+          check_on.1)

@@ -64,7 +64,8 @@ all_filled = list_all is_filled
 -- ---- a row more, or more values of a row
 
 -- where there is no such row, one comes at the end
-at_row_none : (id : Text) (change : Row → List Row) (missing rows : List Row) → has_row id rows ≡ false → at_row id change missing rows ≡ rows ++ missing
+at_row_none : (id : Text) (change : Row → List Row) (missing rows : List Row) → has_row id rows ≡ false → at_row id change missing rows
+    ≡ rows ++ missing
 at_row_none id change missing [] none = refl
 at_row_none id change missing (r ∷ rs) none = go (bytes_eq r.id id) none (at_row_none id change missing rs)
   where
@@ -87,9 +88,11 @@ added_filled id how s values rows none new filled =
     ∙ list_all-append is_filled rows (new_row id how s values ∷ []) ∙ and_true _ _ filled (and_true _ _ new refl)
 
 set_filled : (id : Text) (how : Reading) (s : ValueSource) (values : List Text) (rows : List Row) → has_row id rows ≡ false
-    → is_filled (new_row id how s values) ≡ true → all_filled rows ≡ true → all_filled (with_values id how s values (without id rows)) ≡ true
+    → is_filled (new_row id how s values) ≡ true → all_filled rows ≡ true → all_filled (with_values id how s values (without id rows))
+        ≡ true
 set_filled id how s values rows none new filled =
-    subst (λ rs. all_filled (with_values id how s values rs) ≡ true) (sym (without_none id rows none)) (added_filled id how s values rows none new filled)
+    subst (λ rs. all_filled (with_values id how s values rs) ≡ true) (sym (without_none id rows none))
+        (added_filled id how s values rows none new filled)
 
 some_more : (old : List Text) (v : Text) (vs : List Text) → some_text (old ++ v ∷ vs) ≡ true
 some_more [] v vs = refl
@@ -164,10 +167,12 @@ not_repeated id rows e = go (has_row id rows) e
 pub used_filled : (a : Rule) (vs : List Text) (rows : List Row) → fills a ≡ true → use_fault false a vs rows ≡ [] → all_filled rows ≡ true
     → all_filled (used a vs rows) ≡ true
 used_filled a vs rows fit e filled =
-    let parts = neither (range_kinds (least a) (most_values a) (length vs)) (action_fault (action_of a) false a (values_or_missing a vs) rows) e in
+    let parts = neither (range_kinds (least a) (most_values a) (length vs))
+        (action_fault (action_of a) false a (values_or_missing a vs) rows) e in
     go (action_of a) (names_flag a.id) refl fit parts.0 parts.1
   where
-    no_range : (vs : List Text) → (least a == 0 && most_values a == 0) ≡ true → range_kinds (least a) (most_values a) (length vs) ≡ [] → length vs ≡ 0
+    no_range : (vs : List Text) → (least a == 0 && most_values a == 0) ≡ true → range_kinds (least a) (most_values a) (length vs) ≡ []
+        → length vs ≡ 0
     no_range vs ends range =
         let P : ℕ → ℕ → Type 0 = λ low high. range_kinds low high (length vs) ≡ [] in
         let tests = both (least a == 0) (most_values a == 0) ends in
@@ -175,7 +180,8 @@ used_filled a vs rows fit e filled =
         no_values (length vs) (subst (λ low. P low 0) (eqb-true (least a) 0 tests.0) high_is)
 
     flag : (vs : List Text) → names_flag a.id ≡ true → is_flag_rule a ≡ true → range_kinds (least a) (most_values a) (length vs) ≡ []
-        → has_row a.id rows ≡ false → all_filled (with_values a.id (reading_by a) CommandLine (values_or_missing a vs) (without a.id rows)) ≡ true
+        → has_row a.id rows ≡ false → all_filled (with_values a.id (reading_by a) CommandLine (values_or_missing a vs) (without a.id rows))
+            ≡ true
     flag [] is fit range none = set_filled a.id (reading_by a) CommandLine a.missing rows none
         (rw is (both (least a == 0 && most_values a == 0) _ fit).1) filled
     flag (v ∷ vs) is fit range none =
@@ -188,7 +194,8 @@ used_filled a vs rows fit e filled =
         cc
 
     set : (vs : List Text) → names_flag a.id ≡ false → nat_lt 0 (least a) ≡ true → range_kinds (least a) (most_values a) (length vs) ≡ []
-        → has_row a.id rows ≡ false → all_filled (with_values a.id (reading_by a) CommandLine (values_or_missing a vs) (without a.id rows)) ≡ true
+        → has_row a.id rows ≡ false → all_filled (with_values a.id (reading_by a) CommandLine (values_or_missing a vs) (without a.id rows))
+            ≡ true
     set [] is asks range none = absurd (no_value asks range)
     set (v ∷ vs) is asks range none = set_filled a.id (reading_by a) CommandLine (v ∷ vs) rows none (rw is refl) filled
 
@@ -207,7 +214,8 @@ used_filled a vs rows fit e filled =
     go action.Help b is fit range e = filled
     go action.SetTrue true is fit range e = flag vs is fit range
         (repeats (neither (repeat_fault false a.id rows) (values_fault a (values_or_missing a vs)) e).0)
-    go action.Set false is fit range e = set vs is fit range (repeats (neither (repeat_fault false a.id rows) (values_fault a (values_or_missing a vs)) e).0)
+    go action.Set false is fit range e = set vs is fit range
+        (repeats (neither (repeat_fault false a.id rows) (values_fault a (values_or_missing a vs)) e).0)
     go action.Append false is fit range e = append vs is fit range
     go _ true is fit range e = absurd (true≢false (sym fit))
     go _ false is fit range e = absurd (true≢false (sym fit))
@@ -241,7 +249,8 @@ found_filled : (id : Text) (rows : List Row) → all_filled rows ≡ true
 found_filled id [] filled = refl
 found_filled id (r ∷ rest) filled = go (bytes_eq r.id id) refl (found_filled id rest (both _ _ filled).1)
   where
-    go : (b : Bool) → bytes_eq r.id id ≡ b → option_map_or (λ r. bytes_eq r.id id && is_filled r) (find (λ r. bytes_eq r.id id) rest) true ≡ true
+    go : (b : Bool) → bytes_eq r.id id ≡ b → option_map_or (λ r. bytes_eq r.id id && is_filled r) (find (λ r. bytes_eq r.id id) rest) true
+        ≡ true
         → option_map_or (λ r. bytes_eq r.id id && is_filled r) (cond b (Some r) (find (λ r. bytes_eq r.id id) rest)) true ≡ true
     go true same later = and_true _ _ same (both _ _ filled).0
     go false same later = later
@@ -258,7 +267,8 @@ given_value id other (Some r) passes given = go r.values value
         let tests = both (bytes_eq r.id id) _ passes in
         let id_is : r.id ≡ id = (bytes_eq-Decides r.id id).0 tests.0 in
         let is : names_flag r.id ≡ false = ap (λ t. names_flag t) id_is ∙ other in
-        let P : Bool → Type 0 = λ b. cond b (is_as_written r.reading && is_only (bool_text (explicit_source r.source)) r.values) (some_text r.values) ≡ true in
+        let P : Bool → Type 0 = λ b. cond b (is_as_written r.reading && is_only (bool_text (explicit_source r.source)) r.values)
+            (some_text r.values) ≡ true in
         subst P is tests.1
 
     go : (vs : List Text) → some_text vs ≡ true → (first : Text) × (rest : List Text) × (Some vs ≡ Some (first ∷ rest))
@@ -271,7 +281,8 @@ first_value None first rest e = ap (λ o. is_some o) e
 first_value (Some r) first rest e = ap (λ o. is_some (slice_get (unwrap_or o []) 0)) e
 
 -- another option than a flag has a value, where it is given
-pub some_value : (id : Text) (rows : List Row) → names_flag id ≡ false → all_filled rows ≡ true → is_given id rows ≡ true → is_some (first_of id rows) ≡ true
+pub some_value : (id : Text) (rows : List Row) → names_flag id ≡ false → all_filled rows ≡ true → is_given id rows ≡ true
+    → is_some (first_of id rows) ≡ true
 some_value id rows other filled given =
     let value = given_value id other (find (λ r. bytes_eq r.id id) rows) (found_filled id rows filled) given in
     first_value (find (λ r. bytes_eq r.id id) rows) value.0 value.1 value.2
@@ -281,7 +292,8 @@ abbrev ReadsFlag : Option Row → Type 0
 ReadsFlag o = MatchOption (option_and_then row_text o) (option_map_or (λ r. explicit_source r.source) o false ≡ false)
     (λ text. text ≡ bool_text (option_map_or (λ r. explicit_source r.source) o false))
 
-flag_text : (id : Text) → names_flag id ≡ true → (o : Option Row) → option_map_or (λ r. bytes_eq r.id id && is_filled r) o true ≡ true → ReadsFlag o
+flag_text : (id : Text) → names_flag id ≡ true → (o : Option Row) → option_map_or (λ r. bytes_eq r.id id && is_filled r) o true ≡ true
+    → ReadsFlag o
 flag_text id flag None passes = refl
 flag_text id flag (Some r) passes = text r.reading r.values (explicit_source r.source) truth
   where
@@ -290,7 +302,8 @@ flag_text id flag (Some r) passes = text r.reading r.values (explicit_source r.s
         let tests = both (bytes_eq r.id id) _ passes in
         let id_is : r.id ≡ id = (bytes_eq-Decides r.id id).0 tests.0 in
         let is : names_flag r.id ≡ true = ap (λ t. names_flag t) id_is ∙ flag in
-        let P : Bool → Type 0 = λ b. cond b (is_as_written r.reading && is_only (bool_text (explicit_source r.source)) r.values) (some_text r.values) ≡ true in
+        let P : Bool → Type 0 = λ b. cond b (is_as_written r.reading && is_only (bool_text (explicit_source r.source)) r.values)
+            (some_text r.values) ≡ true in
         subst P is tests.1
 
     text : (how : Reading) (vs : List Text) (given : Bool) → (is_as_written how && is_only (bool_text given) vs) ≡ true
@@ -303,12 +316,16 @@ flag_text id flag (Some r) passes = text r.reading r.values (explicit_source r.s
 -- rows that are filled, where an image is given
 pub rows_filled : (rows : List Row) → all_filled rows ≡ true → is_given (codes "image") rows ≡ true → IsFilled rows
 rows_filled rows filled given =
-    let image = given_value (codes "image") refl (find (λ r. bytes_eq r.id (codes "image")) rows) (found_filled (codes "image") rows filled) given in
+    let image = given_value (codes "image") refl (find (λ r. bytes_eq r.id (codes "image")) rows) (found_filled (codes "image") rows filled)
+        given in
     record {
       first = image.0;
       rest = image.1;
       images = image.2;
-      strict = flag_text (codes "strict") refl (find (λ r. bytes_eq r.id (codes "strict")) rows) (found_filled (codes "strict") rows filled);
-      device = flag_text (codes "device") refl (find (λ r. bytes_eq r.id (codes "device")) rows) (found_filled (codes "device") rows filled);
-      lasting = flag_text (codes "lasting") refl (find (λ r. bytes_eq r.id (codes "lasting")) rows) (found_filled (codes "lasting") rows filled);
+      strict = flag_text (codes "strict") refl (find (λ r. bytes_eq r.id (codes "strict")) rows)
+          (found_filled (codes "strict") rows filled);
+      device = flag_text (codes "device") refl (find (λ r. bytes_eq r.id (codes "device")) rows)
+          (found_filled (codes "device") rows filled);
+      lasting = flag_text (codes "lasting") refl (find (λ r. bytes_eq r.id (codes "lasting")) rows)
+          (found_filled (codes "lasting") rows filled);
     }

@@ -31,7 +31,8 @@ plain_rows c (option id) word h = go (arg_by_id c id)
     go None = refl
     go (Some a) = refl
 
-after_rows : (c : List Rule) (waiting : Waiting) (word : Text) (h : Held) (met : Outcome) → (after_flag c waiting word h met).0.rows ≡ h.rows
+after_rows : (c : List Rule) (waiting : Waiting) (word : Text) (h : Held) (met : Outcome) → (after_flag c waiting word h met).0.rows
+    ≡ h.rows
 after_rows c waiting word h done = refl
 after_rows c waiting word h (waits id) = refl
 after_rows c waiting word h plain = plain_rows c waiting word h
@@ -61,7 +62,8 @@ module _ (test : Row → Bool) (fits : Rule → Bool) (s : Shape)
   by_id_kept None vs rows one e before = before
   by_id_kept (Some a) vs rows one e before = kept a vs rows one e before
 
-  pub settle_kept : (h : Held) → settle_fault s.rules s.args_override_self h ≡ [] → list_all test h.rows ≡ true → list_all test (settled s.rules h).rows ≡ true
+  pub settle_kept : (h : Held) → settle_fault s.rules s.args_override_self h ≡ [] → list_all test h.rows ≡ true
+      → list_all test (settled s.rules h).rows ≡ true
   settle_kept h e before = go h.pending e
     where
       go : (o : Option (Text × List Text))
@@ -71,13 +73,15 @@ module _ (test : Row → Bool) (fits : Rule → Bool) (s : Shape)
       go None e = before
       go (Some p) e = by_id_kept (arg_by_id s.rules p.0) p.1 h.rows (found_fits _ s.rules fit) e before
 
-  react_kept : (a : Rule) (vs : List Text) (h : Held) → fits a ≡ true → react_fault s.rules s.args_override_self a vs h ≡ [] → list_all test h.rows ≡ true
+  react_kept : (a : Rule) (vs : List Text) (h : Held) → fits a ≡ true → react_fault s.rules s.args_override_self a vs h ≡ []
+      → list_all test h.rows ≡ true
       → list_all test (reacted s.rules a vs h).rows ≡ true
   react_kept a vs h one e before =
       let n = neither _ _ e in
       kept a vs (settled s.rules h).rows one n.1 (settle_kept h n.0 before)
 
-  option_kept : (a : Rule) (v : Option Text) (h : Held) → fits a ≡ true → option_fault s.rules s.args_override_self a v h ≡ [] → list_all test h.rows ≡ true
+  option_kept : (a : Rule) (v : Option Text) (h : Held) → fits a ≡ true → option_fault s.rules s.args_override_self a v h ≡ []
+      → list_all test h.rows ≡ true
       → list_all test (option_met s.rules a v h).0.rows ≡ true
   option_kept a (Some v) h one e before = react_kept a (v ∷ []) h one e before
   option_kept a None h one e before = settle_kept h e before
@@ -104,7 +108,8 @@ module _ (test : Row → Bool) (fits : Rule → Bool) (s : Shape)
 
   short_kept : (o : Option Rule) (rest : Text) (h : Held) (on : Held → Held × Outcome) (fault : Held → Kinds) → fits_if_found o ≡ true
       → ((g : Held) → fault g ≡ [] → list_all test g.rows ≡ true → list_all test (on g).0.rows ≡ true)
-      → short_fault s.rules s.args_override_self o rest h fault ≡ [] → list_all test h.rows ≡ true → list_all test (short_met s.rules o rest h on).0.rows ≡ true
+      → short_fault s.rules s.args_override_self o rest h fault ≡ [] → list_all test h.rows ≡ true
+          → list_all test (short_met s.rules o rest h on).0.rows ≡ true
   short_kept None rest h on fault one after e before = before
   short_kept (Some a) rest h on fault one after e before = go (takes_values a) e
     where
@@ -153,7 +158,8 @@ module _ (test : Row → Bool) (fits : Rule → Bool) (s : Shape)
           ap (list_all test) (after_rows s.rules waiting word met.0 met.1)
           ∙ flags_kept (length flags) flags h.skip plain (record h { skip = 0 }) e before
 
-  other_kept : (o : Option Text) (waiting : Waiting) (position : ℕ) (word : Text) (h : Held) → other_fault s o word h ≡ [] → list_all test h.rows ≡ true
+  other_kept : (o : Option Text) (waiting : Waiting) (position : ℕ) (word : Text) (h : Held) → other_fault s o word h ≡ []
+      → list_all test h.rows ≡ true
       → list_all test (subcommand_or_other s.rules o waiting position word h).0.rows ≡ true
   other_kept (Some name) waiting position word h e before = before
   other_kept None waiting position word h e before = go (bytes_eq word (45 ∷ 45 ∷ [])) e
@@ -227,7 +233,8 @@ plain_no_help c idle word h = refl
 plain_no_help c positional word h = refl
 plain_no_help c (option id) word h = refl
 
-after_no_help : (c : List Rule) (waiting : Waiting) (word : Text) (h : Held) (met : Outcome) → step_helps (after_flag c waiting word h met).1 ≡ false
+after_no_help : (c : List Rule) (waiting : Waiting) (word : Text) (h : Held) (met : Outcome)
+    → step_helps (after_flag c waiting word h met).1 ≡ false
 after_no_help c waiting word h done = refl
 after_no_help c waiting word h (waits id) = refl
 after_no_help c waiting word h plain = plain_no_help c waiting word h
@@ -258,7 +265,8 @@ module _ (s : Shape) (helps : s.disable_help_subcommand ≡ false) where
       go false = flag_word_no_help s.rules waiting word (long_of word) h
 
   word_no_help : (names : Names) (is_trailing : Bool) (waiting : Waiting) (position : ℕ) (word : Text) (h : Held)
-      → word_fault s names is_trailing waiting word h ≡ [] → step_helps (word_met s.rules names is_trailing waiting position word h).1 ≡ false
+      → word_fault s names is_trailing waiting word h ≡ [] → step_helps (word_met s.rules names is_trailing waiting position word h).1
+          ≡ false
   word_no_help names true waiting position word h e = refl
   word_no_help names false waiting position word h e = other_no_help (subcommand_met names waiting word) waiting position word h e
 

@@ -33,14 +33,16 @@ digits_passed (c ∷ cs) e =
 
 number_passes : (most : ℕ) (text : Text) → IsNumberTo most text → is_number most text ≡ true
 number_passes most text is =
-    rw (lt-ltb 0 (length text) is.0.0, digits_pass text is.0.1, le-leb 1 (digits_value 10 text) is.1.0, le-leb (digits_value 10 text) most is.1.1) refl
+    rw (lt-ltb 0 (length text) is.0.0, digits_pass text is.0.1, le-leb 1 (digits_value 10 text) is.1.0,
+          le-leb (digits_value 10 text) most is.1.1) refl
 
 number_passed : (most : ℕ) (text : Text) → is_number most text ≡ true → IsNumberTo most text
 number_passed most text e =
     let some = both (nat_lt 0 (length text)) _ e in
     let digits = both (all_digits text) _ some.1 in
     let ends = both (nat_le 1 (digits_value 10 text)) (nat_le (digits_value 10 text) most) digits.1 in
-    ((ltb-true 0 (length text) some.0, digits_passed text digits.0), (leb-true 1 (digits_value 10 text) ends.0, leb-true (digits_value 10 text) most ends.1))
+    ((ltb-true 0 (length text) some.0, digits_passed text digits.0), (leb-true 1 (digits_value 10 text) ends.0,
+          leb-true (digits_value 10 text) most ends.1))
 
 -- the same, where there is a text
 abbrev passes : ℕ → Option Text → Bool
@@ -61,7 +63,8 @@ is_numbered rows = passes most_workers (first_of (codes "workers") rows)
 
 -- ---- what a text says, by the command that its words name and what its rows give
 
-reads : (text : Text) (verb : Verb) (rows : List Row) (parts : Parts) → IsTaken (words_of text) → command_in (words_of text) ≡ Some (verb_word verb, rows)
+reads : (text : Text) (verb : Verb) (rows : List Row) (parts : Parts) → IsTaken (words_of text) → command_in (words_of text)
+    ≡ Some (verb_word verb, rows)
     → is_numbered rows ≡ true → names_both_of rows ≡ false → parts_of verb rows ≡ parts → ReadsAs text parts
 reads text verb rows parts taken command numbers apart are = record {
   taken = taken;
@@ -74,18 +77,22 @@ reads text verb rows parts taken command numbers apart are = record {
         sessions = given_passed most_sessions _ others.1;
       } in
       bad.wrong (subst HaveNumbersInRange (same_rows (command_in (words_of text)) _ _ rows bad.rows command bad.command) numbered);
-  apart = λ bad. true≢false (sym (subst AreCrossed (same_rows (command_in (words_of text)) _ _ bad.rows rows bad.command command) bad.crossed) ∙ apart);
+  apart = λ bad. true≢false (sym (subst AreCrossed (same_rows (command_in (words_of text)) _ _ bad.rows rows bad.command command)
+        bad.crossed) ∙ apart);
   says = λ line is.
       let verb_is = one_word line.verb verb (one_name (command_in (words_of text)) _ _ is.rows rows is.command command) in
       let rows_are = same_rows (command_in (words_of text)) _ _ is.rows rows is.command command in
-      subst (Says line) are (subst (λ v. Says line (parts_of v rows)) verb_is (subst (λ rows. Says line (parts_of line.verb rows)) rows_are is.holds.says));
+      subst (Says line) are (subst (λ v. Says line (parts_of v rows)) verb_is (subst (λ rows. Says line (parts_of line.verb rows)) rows_are
+            is.holds.says));
 }
 
 crosses : (text : Text) (verb : Verb) (rows : List Row) → IsTaken (words_of text) → command_in (words_of text) ≡ Some (verb_word verb, rows)
     → names_both_of rows ≡ true → IsCrossed (words_of text)
-crosses text verb rows taken command crossed = record { taken = taken; name = verb_word verb; rows = rows; command = command; crossed = crossed }
+crosses text verb rows taken command crossed = record { taken = taken; name = verb_word verb; rows = rows; command = command; crossed =
+      crossed }
 
-misnumbers : (text : Text) (verb : Verb) (rows : List Row) → IsTaken (words_of text) → command_in (words_of text) ≡ Some (verb_word verb, rows)
+misnumbers : (text : Text) (verb : Verb) (rows : List Row) → IsTaken (words_of text) → command_in (words_of text) ≡ Some (verb_word verb,
+      rows)
     → is_numbered rows ≡ false → IsMisnumbered (words_of text)
 misnumbers text verb rows taken command numbers = record {
   taken = taken;
@@ -113,12 +120,17 @@ taken_lines = record {
   list_one = reads (codes "list f.img") verbs.List (rows_in (codes "list f.img")) _ refl refl refl refl refl;
   list_strict = reads (codes "list a b --strict") verbs.List (rows_in (codes "list a b --strict")) _ refl refl refl refl refl;
   serve_one = reads (codes "serve f.img") verbs.Serve (rows_in (codes "serve f.img")) _ refl refl refl refl refl;
-  serve_device = reads (codes "serve --device --workers 2 f") verbs.Serve (rows_in (codes "serve --device --workers 2 f")) _ refl refl refl refl refl;
+  serve_device = reads (codes "serve --device --workers 2 f") verbs.Serve (rows_in (codes "serve --device --workers 2 f")) _ refl refl refl
+      refl refl;
   serve_layers = reads (codes "serve --replies r f g e") verbs.Serve (rows_in (codes "serve --replies r f g e")) _ refl refl refl refl refl;
-  all_options = reads (codes "serve --workers 2 --batch 3 --requests q --replies r --balances b --strict --lasting f") verbs.Serve (rows_in (codes "serve --workers 2 --batch 3 --requests q --replies r --balances b --strict --lasting f")) _ refl refl refl refl refl;
-  attached = reads (codes "serve --workers=5 --requests=q f") verbs.Serve (rows_in (codes "serve --workers=5 --requests=q f")) _ refl refl refl refl refl;
-  least_numbers = reads (codes "serve --workers 1 --batch 1 f") verbs.Serve (rows_in (codes "serve --workers 1 --batch 1 f")) _ refl refl refl refl refl;
-  most_numbers = reads (codes "serve --workers 64 --batch 256 f") verbs.Serve (rows_in (codes "serve --workers 64 --batch 256 f")) _ refl refl refl refl refl;
+  all_options = reads (codes "serve --workers 2 --batch 3 --requests q --replies r --balances b --strict --lasting f") verbs.Serve
+      (rows_in (codes "serve --workers 2 --batch 3 --requests q --replies r --balances b --strict --lasting f")) _ refl refl refl refl refl;
+  attached = reads (codes "serve --workers=5 --requests=q f") verbs.Serve (rows_in (codes "serve --workers=5 --requests=q f")) _ refl refl
+      refl refl refl;
+  least_numbers = reads (codes "serve --workers 1 --batch 1 f") verbs.Serve (rows_in (codes "serve --workers 1 --batch 1 f")) _ refl refl
+      refl refl refl;
+  most_numbers = reads (codes "serve --workers 64 --batch 256 f") verbs.Serve (rows_in (codes "serve --workers 64 --batch 256 f")) _ refl
+      refl refl refl refl;
   leading_zeros = reads (codes "serve --workers 0008 --batch 00000000000000000000256 f") verbs.Serve
       (rows_in (codes "serve --workers 0008 --batch 00000000000000000000256 f")) _ refl refl refl refl refl;
   options_last = reads (codes "serve f g --balances b") verbs.Serve (rows_in (codes "serve f g --balances b")) _ refl refl refl refl refl;
@@ -128,7 +140,8 @@ taken_lines = record {
   socket_one = reads (codes "socket --listen s f") verbs.Socket (rows_in (codes "socket --listen s f")) _ refl refl refl refl refl;
   socket_options = reads (codes "socket --workers 2 --batch 3 --listen s --sessions 5 --lasting --strict f g") verbs.Socket
       (rows_in (codes "socket --workers 2 --batch 3 --listen s --sessions 5 --lasting --strict f g")) _ refl refl refl refl refl;
-  most_sessions = reads (codes "socket f --sessions 65535 --listen=s") verbs.Socket (rows_in (codes "socket f --sessions 65535 --listen=s")) _ refl refl refl refl refl;
+  most_sessions = reads (codes "socket f --sessions 65535 --listen=s") verbs.Socket (rows_in (codes "socket f --sessions 65535 --listen=s"))
+      _ refl refl refl refl refl;
 }
 
 pub refused_lines : RefusedLines
@@ -151,9 +164,12 @@ refused_lines = record {
   option_without_file = refl;
   device_of_check = refl;
   lasting_list = refl;
-  requests_and_device = crosses (codes "serve --requests q --device a") verbs.Serve (rows_in (codes "serve --requests q --device a")) refl refl refl;
-  replies_and_device = crosses (codes "serve --device --replies r a") verbs.Serve (rows_in (codes "serve --device --replies r a")) refl refl refl;
-  balances_and_device = crosses (codes "serve a --device --balances b") verbs.Serve (rows_in (codes "serve a --device --balances b")) refl refl refl;
+  requests_and_device = crosses (codes "serve --requests q --device a") verbs.Serve (rows_in (codes "serve --requests q --device a")) refl
+      refl refl;
+  replies_and_device = crosses (codes "serve --device --replies r a") verbs.Serve (rows_in (codes "serve --device --replies r a")) refl refl
+      refl;
+  balances_and_device = crosses (codes "serve a --device --balances b") verbs.Serve (rows_in (codes "serve a --device --balances b")) refl
+      refl refl;
   no_socket = refl;
   no_image_at_socket = refl;
   requests_of_socket = refl;
@@ -170,13 +186,17 @@ misnumbered_lines = record {
   many_workers = misnumbers (codes "serve --workers 65 a") verbs.Serve (rows_in (codes "serve --workers 65 a")) refl refl refl;
   no_batch = misnumbers (codes "serve --batch 0 a") verbs.Serve (rows_in (codes "serve --batch 0 a")) refl refl refl;
   large_batch = misnumbers (codes "serve --batch 257 a") verbs.Serve (rows_in (codes "serve --batch 257 a")) refl refl refl;
-  no_sessions = misnumbers (codes "socket --listen s --sessions 0 a") verbs.Socket (rows_in (codes "socket --listen s --sessions 0 a")) refl refl refl;
-  many_sessions = misnumbers (codes "socket --listen s --sessions 65536 a") verbs.Socket (rows_in (codes "socket --listen s --sessions 65536 a")) refl refl refl;
+  no_sessions = misnumbers (codes "socket --listen s --sessions 0 a") verbs.Socket (rows_in (codes "socket --listen s --sessions 0 a")) refl
+      refl refl;
+  many_sessions = misnumbers (codes "socket --listen s --sessions 65536 a") verbs.Socket
+      (rows_in (codes "socket --listen s --sessions 65536 a")) refl refl refl;
   plus = misnumbers (codes "serve --workers +4 a") verbs.Serve (rows_in (codes "serve --workers +4 a")) refl refl refl;
   minus = misnumbers (codes "serve --workers=-4 a") verbs.Serve (rows_in (codes "serve --workers=-4 a")) refl refl refl;
   no_digits = misnumbers (codes "serve --batch= a") verbs.Serve (rows_in (codes "serve --batch= a")) refl refl refl;
   another_digit = misnumbers (codes "serve --batch 0x10 a") verbs.Serve (rows_in (codes "serve --batch 0x10 a")) refl refl refl;
   fraction = misnumbers (codes "serve --batch 16.0 a") verbs.Serve (rows_in (codes "serve --batch 16.0 a")) refl refl refl;
-  past_32_bits = misnumbers (codes "serve --workers 4294967300 a") verbs.Serve (rows_in (codes "serve --workers 4294967300 a")) refl refl refl;
-  past_64_bits = misnumbers (codes "serve --batch 18446744073709551632 a") verbs.Serve (rows_in (codes "serve --batch 18446744073709551632 a")) refl refl refl;
+  past_32_bits = misnumbers (codes "serve --workers 4294967300 a") verbs.Serve (rows_in (codes "serve --workers 4294967300 a")) refl refl
+      refl;
+  past_64_bits = misnumbers (codes "serve --batch 18446744073709551632 a") verbs.Serve
+      (rows_in (codes "serve --batch 18446744073709551632 a")) refl refl refl;
 }

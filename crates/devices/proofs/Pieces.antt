@@ -32,7 +32,8 @@ goes_on bytes rest done old mid new n u b z a e = record {
       ∙ sym (append_assoc done (take n rest) (drop n rest))
       ∙ ap (λ l. (done ++ take n rest) ++ l) (sym (take_rest rest n));
   held = Appends-trans _ _ _ _ _ u.held a;
-  late = (let l = length-append done (take n rest) in let t = length-take n rest in let k = u.late in let s = ap (λ (p : Pushes). p.unflushed) e in omega arith);
+  late = (let l = length-append done (take n rest) in let t = length-take n rest in let k = u.late in let s =
+        ap (λ (p : Pushes). p.unflushed) e in omega arith);
   well = ap (λ (p : Pushes). p.failures) e ∙ taken n _ _ z ∙ u.well;
   flushes = ap (λ (p : Pushes). p.flushes) e ∙ u.flushes;
 }

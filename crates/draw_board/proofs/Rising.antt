@@ -68,7 +68,8 @@ rises-push a (x ∷ xs) b p r h = (r.0, rises-push (suc x) xs b p r.1 h)
 
 none_below : (a : ℕ) (l : List ℕ) (b x : ℕ) → RisesWithin a l b → x < a → times x l ≡ 0
 none_below a [] b x r h = refl
-none_below a (y ∷ ys) b x r h = let p = r.0 in omega (arith, times-cons x y ys, one-other y x (λ e. omega arith), none_below (suc y) ys b x r.1 (omega arith))
+none_below a (y ∷ ys) b x r h = let p = r.0 in omega (arith, times-cons x y ys, one-other y x (λ e. omega arith),
+      none_below (suc y) ys b x r.1 (omega arith))
 
 pub none_above : (a : ℕ) (l : List ℕ) (b x : ℕ) → RisesWithin a l b → b ≤ x → times x l ≡ 0
 none_above a [] b x r h = refl
@@ -93,7 +94,8 @@ rises-inserted x a (y ∷ ys) b r h g z = let c = times-cons x y ys in put (λ l
     strict : (y x : ℕ) → y ≢ x → y ≤ x → y < x
     strict y x n le = dite (dec_le x y) (λ d. absurd (n (omega arith))) (λ d. lt_of_not-le d)
 
-pub rises-merged : (a : ℕ) (l m : List ℕ) (b : ℕ) → RisesWithin a l b → RisesWithin a m b → ((x : ℕ) → times x l + times x m ≤ 1) → RisesWithin a (merged l m) b
+pub rises-merged : (a : ℕ) (l m : List ℕ) (b : ℕ) → RisesWithin a l b → RisesWithin a m b → ((x : ℕ) → times x l + times x m ≤ 1)
+    → RisesWithin a (merged l m) b
 rises-merged a [] m b r s once = s
 rises-merged a (x ∷ xs) m b r s once = let lower = r.0 in let here = once x in let c = times-cons x x xs in
     let o = one-same x x refl in let t = times-merged x xs m in let p = rises-span (suc x) xs b r.1 in
@@ -103,7 +105,8 @@ rises-merged a (x ∷ xs) m b r s once = let lower = r.0 in let here = once x in
 -- a rising list that fills its range
 pub rises-whole : (a : ℕ) (l : List ℕ) (b : ℕ) → RisesWithin a l b → b ≤ a + length l → l ≡ range_with_len a (length l)
 rises-whole a [] b r h = refl
-rises-whole a (x ∷ xs) b r h = let p = r.0 in let s = rises-span (suc x) xs b r.1 in let same : x ≡ a = omega arith in let next : suc x ≡ a + 1 = omega arith in
+rises-whole a (x ∷ xs) b r h = let p = r.0 in let s = rises-span (suc x) xs b r.1 in let same : x ≡ a = omega arith in
+    let next : suc x ≡ a + 1 = omega arith in
     λ i. same i ∷ (rises-whole (suc x) xs b r.1 (omega arith) ∙ ap (λ (z : ℕ). range_with_len z (length xs)) next) i
 
 -- a merged list that rises is of two lists with no position in common

@@ -43,7 +43,8 @@ sound_after : (v : View) (p : ℕ) → 1 ≤ v.left → IsSoundView v → v.seen
 sound_after v p some_left s unseen = let fits = s.within_share in let miss = s.missed in record {
   rises = rises-push 0 v.positions v.seen p s.rises unseen;
   within_share = ⊎_elim (λ t. omega (arith, t.1)) (λ t. omega (arith, t.1)) (charged v p some_left);
-  missed = ⊎_elim (λ (t : (p < v.total) × ((after_draw v p).left ≡ v.left)). λ h. let same = t.1 in let m = miss (omega arith) in omega arith)
+  missed = ⊎_elim (λ (t : (p < v.total) × ((after_draw v p).left ≡ v.left)). λ h. let same = t.1 in let m = miss (omega arith) in
+        omega arith)
       (λ (t : (v.total ≤ p) × ((after_draw v p).left + 1 ≡ v.left)). λ h. let d = t.0 in omega arith) (charged v p some_left);
 }
 
@@ -103,14 +104,16 @@ draws key slots id me some_left live s r _ at small = (
 
     -- nobody has a position that the word has not reached
     free : (x : ℕ) → n ≤ x → sum_by (held x) s.views ≡ 0
-    free x h = all_zero (held x) s.views (λ j u e. let o = r.each j u e in let p = o.passed in none_above 0 u.positions u.seen x o.sound.rises (omega arith))
+    free x h = all_zero (held x) s.views (λ j u e. let o = r.each j u e in let p = o.passed in
+          none_above 0 u.positions u.seen x o.sound.rises (omega arith))
 
     once : (x : ℕ) → sum_by (held x) (set s.views id w) ≤ 1
     once x = let sum = sum_by-set (held x) s.views id v w at in let t = times-push x n v.positions in let before = r.once x in
         dite (ℕ_discrete n x) (λ e. omega (arith, free x (omega arith), one-same n x e)) (λ ne. omega (arith, one-other n x ne))
 
     all_drawn : sum_by drawn (set s.views id w) ≡ n + 1
-    all_drawn = let sum = sum_by-set drawn s.views id v w at in let before = r.all_drawn in omega (arith, length-append v.positions (n ∷ []))
+    all_drawn = let sum = sum_by-set drawn s.views id v w at in let before = r.all_drawn in
+        omega (arith, length-append v.positions (n ∷ []))
 
     all_shares : sum_by shared (set s.views id w) ≡ key.1
     all_shares = let sum = sum_by-set shared s.views id v w at in let before = r.all_shares in omega arith
@@ -135,7 +138,8 @@ draws key slots id me some_left live s r _ at small = (
 -- a step after which the word is the same, and the view has the same positions, misses and share
 unmoved : (key : Key) (s : Table) (r : IsSoundBoard key s) (id : ℕ) (me : Seated) (w : View)
     → get_elem? s.views id ≡ some me.0 → FitsBoard key (get_or s.words 0 0) w
-    → w.positions ≡ me.0.positions → w.left ≡ me.0.left → w.share ≡ me.0.share → IsSoundBoard key (stepped s 0 (get_or s.words 0 0) id me.1 w keeps)
+    → w.positions ≡ me.0.positions → w.left ≡ me.0.left → w.share ≡ me.0.share
+        → IsSoundBoard key (stepped s 0 (get_or s.words 0 0) id me.1 w keeps)
 unmoved key s r id me w at fits same left share = let v : View = me.0 in moved key s r (get_or s.words 0 0) id me w (omega arith) fits
     (λ x. let sum = sum_by-set (held x) s.views id v w at in let t = ap (times x) same in let before = r.once x in omega arith)
     (let sum = sum_by-set drawn s.views id v w at in let t = ap length same in let before = r.all_drawn in omega arith)
@@ -144,7 +148,8 @@ unmoved key s r id me w at fits same left share = let v : View = me.0 in moved k
 
 pub announces : (key : Key) (slots id : ℕ) (me : Seated) (k : ℕ)
     → Allows (IsSoundBoard key) slots id me 0 (λ n. either (eqb n k) k n) (announced (step slots 0 k k none) me)
-announces key slots id me k s r _ at small = let fits = r.each id me.0 at in let n : ℕ = get_or s.words 0 0 in let w : View = record me.0 { asked = k } in
+announces key slots id me k s r _ at small = let fits = r.each id me.0 at in let n : ℕ = get_or s.words 0 0 in let w : View =
+    record me.0 { asked = k } in
     let kept = unmoved key s r id me w at (record {
       sound = record
           { rises = fits.sound.rises; within_share = fits.sound.within_share; missed = fits.sound.missed };
@@ -160,7 +165,8 @@ announces key slots id me k s r _ at small = let fits = r.each id me.0 at in let
       refl,
     )
 
-pub looks : (key : Key) (slots id : ℕ) (me : Seated) → 1 ≤ me.0.share → Allows (IsSoundBoard key) slots id me 0 (λ n. n) (looked (step slots 0 0 0 none) me)
+pub looks : (key : Key) (slots id : ℕ) (me : Seated) → 1 ≤ me.0.share → Allows (IsSoundBoard key) slots id me 0 (λ n. n)
+    (looked (step slots 0 0 0 none) me)
 looks key slots id me live s r _ at small = let fits = r.each id me.0 at in let told = fits.told live in
     let le = term_le shared s.views id me.0 at in let shares = r.all_shares in let of = told.1 in
     (me.0, keeps, tt, unmoved key s r id me me.0 at fits refl refl refl, (refl, fits.sound, omega arith))
@@ -214,7 +220,8 @@ pub joins : (key : Key) (id : ℕ) (v : View) (other : ℕ) (w : View) → 1 ≤
 joins key id v other w live live' s r at apart at' = record {
   one_word = r.one_word;
   room = r.room;
-  each = each_after key (set s.views id u) n n other spent_view (each_after key s.views n n id u r.each (omega arith) joined_fits) (omega arith) spent_fits;
+  each = each_after key (set s.views id u) n n other spent_view (each_after key s.views n n id u r.each (omega arith) joined_fits)
+      (omega arith) spent_fits;
   once = λ x. let t = times-merged x v.positions w.positions in let sum = sums (held x) in let before = r.once x in omega arith;
   all_drawn = let t = length-merged v.positions w.positions in let sum = sums drawn in let before = r.all_drawn in omega arith;
   all_shares = let sum = sums shared in let before = r.all_shares in omega arith;

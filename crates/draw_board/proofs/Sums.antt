@@ -40,7 +40,8 @@ module _ {A : Type 0} where
     pub all_here : (l : List A) (i : ℕ) (v : A) → get_elem? l i ≡ some v → sum_by g l ≡ g v
         → ((j : ℕ) (w : A) → get_elem? l j ≡ some w → g w ≡ 0 → f w ≡ 0) → sum_by f l ≡ f v
     all_here [] i v e all h = absurd (some-ne-none v (sym e))
-    all_here (x ∷ xs) zero v e all h = let same = some-injective x v e in let p = ap f same in let q = ap g same in let s = sum_by-cons g x xs in
+    all_here (x ∷ xs) zero v e all h = let same = some-injective x v e in let p = ap f same in let q = ap g same in let s =
+        sum_by-cons g x xs in
         omega (arith, none_left xs (omega arith) (λ j w. h (suc j) w), sum_by-cons f x xs)
     all_here (x ∷ xs) (suc i) v e all h = let le = term_le g xs i v e in let s = sum_by-cons g x xs in let none : g x ≡ 0 = omega arith in
         omega (arith, h 0 x refl none, all_here xs i v e (omega arith) (λ j w. h (suc j) w), sum_by-cons f x xs)

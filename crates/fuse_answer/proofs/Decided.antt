@@ -38,7 +38,8 @@ cut directory large small d s = rw (d, s) (either large)
     either false = refl
 
 module _ {A : Type 0} (stack : Stacked) (agreed : Agreement) (n offset size : ℕ) where
-  whole : (plus : Bool) (l : Listing A) → AreListed stack n offset size plus l → size ≤ MAX_DATA_SIZE → l.size ≡ length (listed_data stack l) → IsWhole stack l
+  whole : (plus : Bool) (l : Listing A) → AreListed stack n offset size plus l → size ≤ MAX_DATA_SIZE
+      → l.size ≡ length (listed_data stack l) → IsWhole stack l
   whole plus l listed small same = record {
     in_order = (let e = listed.fits.until_is in omega arith);
     within = listed.fits.within;
@@ -54,7 +55,9 @@ module _ {A : Type 0} (stack : Stacked) (agreed : Agreement) (n offset size : �
       let good = plain stack in
       let bytes = data_same stack false form good n offset size p is directory l listed in
       record {
-        taken = free (is_directory_at stack.layers p) (nat_lt MAX_DATA_SIZE size) (is_too_small form size (rows_after stack.entries p offset)) directory large (sym (cut_same stack false form good n offset size p is directory l listed) ∙ whole_rows);
+        taken = free (is_directory_at stack.layers p) (nat_lt MAX_DATA_SIZE size)
+            (is_too_small form size (rows_after stack.entries p offset)) directory large
+            (sym (cut_same stack false form good n offset size p is directory l listed) ∙ whole_rows);
         data_is = bytes;
         moves_are = rw listed.entries_are refl;
         sized = whole false l listed small (size_same stack false form good n offset size p is directory l listed);
@@ -64,7 +67,9 @@ module _ {A : Type 0} (stack : Stacked) (agreed : Agreement) (n offset size : �
       let good = with_entries stack in
       let bytes = data_same stack true form good n offset size p is directory l listed in
       record {
-        taken = free (is_directory_at stack.layers p) (nat_lt MAX_DATA_SIZE size) (is_too_small form size (rows_after stack.entries p offset)) directory large (sym (cut_same stack true form good n offset size p is directory l listed) ∙ whole_rows);
+        taken = free (is_directory_at stack.layers p) (nat_lt MAX_DATA_SIZE size)
+            (is_too_small form size (rows_after stack.entries p offset)) directory large
+            (sym (cut_same stack true form good n offset size p is directory l listed) ∙ whole_rows);
         data_is = bytes;
         moves_are = rw listed.entries_are (moves_same stack true form good n offset size p is directory l listed);
         sized = whole true l listed small (size_same stack true form good n offset size p is directory l listed);
@@ -75,23 +80,27 @@ module _ {A : Type 0} (stack : Stacked) (agreed : Agreement) (n offset size : �
       → refused_at stack.layers stack.entries agreed (listing_op plus offset size) p ≡ Some EINVAL
   cut_at_place false l p is directory listed short =
       let form = dirent_of stack.layers stack.entries in
-      cut (is_directory_at stack.layers p) (nat_lt MAX_DATA_SIZE size) (is_too_small form size (rows_after stack.entries p offset)) directory
+      cut (is_directory_at stack.layers p) (nat_lt MAX_DATA_SIZE size) (is_too_small form size (rows_after stack.entries p offset))
+          directory
       (sym (cut_same stack false form (plain stack) n offset size p is directory l listed) ∙ short)
   cut_at_place true l p is directory listed short =
       let form = direntplus_of stack.layers stack.entries in
-      cut (is_directory_at stack.layers p) (nat_lt MAX_DATA_SIZE size) (is_too_small form size (rows_after stack.entries p offset)) directory
+      cut (is_directory_at stack.layers p) (nat_lt MAX_DATA_SIZE size) (is_too_small form size (rows_after stack.entries p offset))
+          directory
       (sym (cut_same stack true form (with_entries stack) n offset size p is directory l listed) ∙ short)
 
   -- what is decided at a directory
   at_directory : (plus : Bool) (r : Result (Answer A) Errno) → TellsKind stack n (told_kind Directory)
       → ((p : Place) → node_of stack.entries n ≡ Some p → is_directory_at stack.layers p ≡ true
-      → MatchResult r (IsAnswerAt stack agreed (listing_op plus offset size) p) (λ errno. refused_at stack.layers stack.entries agreed (listing_op plus offset size) p ≡ Some errno))
+      → MatchResult r (IsAnswerAt stack agreed (listing_op plus offset size) p) (λ errno. refused_at stack.layers stack.entries agreed
+            (listing_op plus offset size) p ≡ Some errno))
       → DecidesAt stack agreed n (listing_op plus offset size) r
   at_directory plus r kind each = go (node_of stack.entries n) refl kind
     where
       go : (o : Option Place) → node_of stack.entries n ≡ o
           → MatchOption o (told_kind Directory ≡ Err ESTALE) (λ p. told_kind Directory ≡ Ok (kind_at stack.layers p))
-          → MatchOption o (r ≡ Err ESTALE) (λ p. MatchResult r (IsAnswerAt stack agreed (listing_op plus offset size) p) (λ errno. refused_at stack.layers stack.entries agreed (listing_op plus offset size) p ≡ Some errno))
+          → MatchOption o (r ≡ Err ESTALE) (λ p. MatchResult r (IsAnswerAt stack agreed (listing_op plus offset size) p)
+                (λ errno. refused_at stack.layers stack.entries agreed (listing_op plus offset size) p ≡ Some errno))
       go None is kind = absurd (cc)
       go (Some p) is kind = let kind_is : kind_at stack.layers p ≡ Directory = cc in each p is (ap is_directory kind_is)
 

@@ -132,20 +132,24 @@ module _ (form : Row → List ℕ) where
   rows_size room [] = refl
   rows_size room (r ∷ rows) = go (nat_le (length (form r)) room) (rows_size (room - length (form r)) rows)
     where
-      go : (b : Bool) → fit_size (room - length (form r)) (sizes_of rows) ≡ length (flat_map form (fitting form (room - length (form r)) rows))
+      go : (b : Bool) → fit_size (room - length (form r)) (sizes_of rows)
+          ≡ length (flat_map form (fitting form (room - length (form r)) rows))
           → cond b (length (form r) + fit_size (room - length (form r)) (sizes_of rows)) 0
           ≡ length (flat_map form (cond b (r ∷ fitting form (room - length (form r)) rows) []))
-      go true e = ap (λ n. length (form r) + n) e ∙ sym (length-append (form r) (flat_map form (fitting form (room - length (form r)) rows)))
+      go true e = ap (λ n. length (form r) + n) e
+          ∙ sym (length-append (form r) (flat_map form (fitting form (room - length (form r)) rows)))
       go false e = refl
 
   -- a first row does not fit exactly where there is one and none is answered
-  pub too_small : (room : ℕ) (rows : List Row) → is_too_small form room rows ≡ true → (fit_count room (sizes_of rows) ≡ 0) × (0 < length rows)
+  pub too_small : (room : ℕ) (rows : List Row) → is_too_small form room rows ≡ true → (fit_count room (sizes_of rows) ≡ 0)
+      × (0 < length rows)
   too_small room [] is = absurd (cc)
   too_small room (r ∷ rows) is =
       let lt : room < length (form r) = ltb-true room (length (form r)) is in
       ((fits_none room (length (form r)) (sizes_of rows) lt).0, omega arith)
 
-  pub not_too_small : (room : ℕ) (rows : List Row) → is_too_small form room rows ≡ false → 0 < length rows → 0 < fit_count room (sizes_of rows)
+  pub not_too_small : (room : ℕ) (rows : List Row) → is_too_small form room rows ≡ false → 0 < length rows
+      → 0 < fit_count room (sizes_of rows)
   not_too_small room [] is some = absurd (omega arith)
   not_too_small room (r ∷ rows) is some =
       let le : length (form r) ≤ room = ltb-false room (length (form r)) is in

@@ -52,14 +52,16 @@ numbered_rest entries (suc k) (r ∷ rs) all = numbered_rest entries k rs all.1
 numbered_fitting : (entries : List Entry) (form : Row → List ℕ) (room : ℕ) (rs : List Row) → AreNumbered entries rs
     → AreNumbered entries (fitting form room rs)
 numbered_fitting entries form room [] all = tt
-numbered_fitting entries form room (r ∷ rs) all = go (nat_le (length (form r)) room) (numbered_fitting entries form (room - length (form r)) rs all.1)
+numbered_fitting entries form room (r ∷ rs) all =
+    go (nat_le (length (form r)) room) (numbered_fitting entries form (room - length (form r)) rs all.1)
   where
     go : (b : Bool) → AreNumbered entries (fitting form (room - length (form r)) rs)
         → AreNumbered entries (cond b (r ∷ fitting form (room - length (form r)) rs) [])
     go true later = (all.0, later)
     go false later = tt
 
-numbered_rows : (entries : List Entry) (n : ℕ) (p : Place) (offset : ℕ) → node_of entries n ≡ Some p → AreNumbered entries (rows_after entries p offset)
+numbered_rows : (entries : List Entry) (n : ℕ) (p : Place) (offset : ℕ) → node_of entries n ≡ Some p
+    → AreNumbered entries (rows_after entries p offset)
 unfolding rows_after rows
 numbered_rows entries n p offset is =
     let all : AllByRecursion (λ c. IsNumbered entries c.place) (rows entries p) =
@@ -68,15 +70,19 @@ numbered_rows entries n p offset is =
 
 -- what the rows give
 given_rows : (layers : List (List ℕ)) (entries : List Entry) (rs : List Row)
-    → map (λ (r : NumberedLine). let m : Move = record { node = r.1.number; amount = pos 1 } in m) (filter is_child_line (map (line_of entries) rs))
+    → map (λ (r : NumberedLine). let m : Move = record { node = r.1.number; amount = pos 1 } in
+          m) (filter is_child_line (map (line_of entries) rs))
     ≡ map (λ r. give layers entries r.1.place) (filter is_child rs)
 given_rows layers entries [] = refl
 given_rows layers entries (r ∷ rs) = go (nat_lt 2 r.0) (given_rows layers entries rs)
   where
     go : (b : Bool)
-        → map (λ (r : NumberedLine). let m : Move = record { node = r.1.number; amount = pos 1 } in m) (filter is_child_line (map (line_of entries) rs))
+        → map (λ (r : NumberedLine). let m : Move = record { node = r.1.number; amount = pos 1 } in
+              m) (filter is_child_line (map (line_of entries) rs))
         ≡ map (λ r. give layers entries r.1.place) (filter is_child rs)
-        → map (λ (r : NumberedLine). let m : Move = record { node = r.1.number; amount = pos 1 } in m) (cond b (line_of entries r ∷ filter is_child_line (map (line_of entries) rs)) (filter is_child_line (map (line_of entries) rs)))
+        → map (λ (r : NumberedLine). let m : Move = record { node = r.1.number; amount = pos 1 } in
+              m) (cond b (line_of entries r ∷ filter is_child_line (map (line_of entries) rs))
+              (filter is_child_line (map (line_of entries) rs)))
         ≡ map (λ r. give layers entries r.1.place) (cond b (r ∷ filter is_child rs) (filter is_child rs))
     go true e = ap (λ t. give layers entries r.1.place ∷ t) e
     go false e = e
@@ -90,14 +96,18 @@ pub plain : (stack : Stacked) → IsForm stack false (dirent_of stack.layers sta
 unfolding dirent_of
 plain stack = record {
   sized = λ r. (let e = length-dirent (number stack.entries r.1.place) r.0 (mode stack.layers r.1.place / 2 ^ 12) r.1.name in omega arith);
-  written = λ r numbered. ap (λ o. dirent (number stack.entries r.1.place) r.0 (option_map_or (λ (a : Held). a.mode / 2 ^ 12) (option_map (attr_of stack.layers stack.entries) o) 0) r.1.name) numbered;
+  written = λ r numbered. ap (λ o. dirent (number stack.entries r.1.place) r.0 (option_map_or (λ (a : Held). a.mode / 2 ^ 12)
+        (option_map (attr_of stack.layers stack.entries) o) 0) r.1.name) numbered;
 }
 
 pub with_entries : (stack : Stacked) → IsForm stack true (direntplus_of stack.layers stack.entries)
 unfolding direntplus_of
 with_entries stack = record {
-  sized = λ r. (let e = length-direntplus (cond (nat_lt 2 r.0) (Some (wired (attr_of stack.layers stack.entries r.1.place))) None) (number stack.entries r.1.place) r.0 (mode stack.layers r.1.place / 2 ^ 12) r.1.name in omega arith);
-  written = λ r numbered. ap (λ o. direntplus (cond (nat_lt 2 r.0) (option_map wired (option_map (attr_of stack.layers stack.entries) o)) None) (number stack.entries r.1.place) r.0 (option_map_or (λ (a : Held). a.mode / 2 ^ 12) (option_map (attr_of stack.layers stack.entries) o) 0) r.1.name) numbered;
+  sized = λ r. (let e = length-direntplus (cond (nat_lt 2 r.0) (Some (wired (attr_of stack.layers stack.entries r.1.place))) None)
+        (number stack.entries r.1.place) r.0 (mode stack.layers r.1.place / 2 ^ 12) r.1.name in omega arith);
+  written = λ r numbered. ap (λ o. direntplus (cond (nat_lt 2 r.0) (option_map wired (option_map (attr_of stack.layers stack.entries) o))
+        None) (number stack.entries r.1.place) r.0 (option_map_or (λ (a : Held). a.mode / 2 ^ 12)
+        (option_map (attr_of stack.layers stack.entries) o) 0) r.1.name) numbered;
 }
 
 module _ {A : Type 0} (stack : Stacked) (plus : Bool) (form : Row → List ℕ) (good : IsForm stack plus form) (n offset size : ℕ) (p : Place)
@@ -143,11 +153,13 @@ module _ {A : Type 0} (stack : Stacked) (plus : Bool) (form : Row → List ℕ) 
       omega arith
 
   -- the sizes of rows, off their names
-  names_of : (k : ℕ) (lines : List Line) → map (λ (r : NumberedLine). row_size plus (length r.1.name)) (enumerate_from k lines) ≡ map (row_size plus) (map (λ (line : Line). length line.name) lines)
+  names_of : (k : ℕ) (lines : List Line) → map (λ (r : NumberedLine). row_size plus (length r.1.name)) (enumerate_from k lines)
+      ≡ map (row_size plus) (map (λ (line : Line). length line.name) lines)
   names_of k [] = refl
   names_of k (line ∷ lines) = ap (λ t. row_size plus (length line.name) ∷ t) (names_of (k + 1) lines)
 
-  sizes_same : (rs : List Row) → map (λ (r : NumberedLine). row_size plus (length r.1.name)) (map (line_of stack.entries) rs) ≡ sizes_of form rs
+  sizes_same : (rs : List Row) → map (λ (r : NumberedLine). row_size plus (length r.1.name)) (map (line_of stack.entries) rs)
+      ≡ sizes_of form rs
   sizes_same [] = refl
   sizes_same (r ∷ rs) =
       ap (λ k. k ∷ map (λ (r : NumberedLine). row_size plus (length r.1.name)) (map (line_of stack.entries) rs)) (sym (good.sized r))
@@ -171,7 +183,8 @@ module _ {A : Type 0} (stack : Stacked) (plus : Bool) (form : Row → List ℕ) 
       ∙ take-map (line_of stack.entries) (fit_count size (sizes_of form rest)) rest
       ∙ ap (map (line_of stack.entries)) (first_rows form size rest)
 
-  bytes_same : (rs : List Row) → AreNumbered stack.entries rs → flat_map (line_bytes stack plus) (map (line_of stack.entries) rs) ≡ flat_map form rs
+  bytes_same : (rs : List Row) → AreNumbered stack.entries rs → flat_map (line_bytes stack plus) (map (line_of stack.entries) rs)
+      ≡ flat_map form rs
   bytes_same [] all = refl
   bytes_same (r ∷ rs) all =
       ap (λ b. b ++ flat_map (line_bytes stack plus) (map (line_of stack.entries) rs)) (good.written r all.0)
@@ -190,10 +203,12 @@ module _ {A : Type 0} (stack : Stacked) (plus : Bool) (form : Row → List ℕ) 
       ∙ rows_size form size rest
       ∙ ap length (sym data_same)
 
-  pub moves_same : map (λ (r : NumberedLine). let m : Move = record { node = r.1.number; amount = pos 1 } in m) (filter is_child_line (lines_answered l))
+  pub moves_same : map (λ (r : NumberedLine). let m : Move = record { node = r.1.number; amount = pos 1 } in
+        m) (filter is_child_line (lines_answered l))
       ≡ map (λ r. give stack.layers stack.entries r.1.place) (filter is_child (fitting form size rest))
   moves_same =
-      ap (λ t. map (λ (r : NumberedLine). let m : Move = record { node = r.1.number; amount = pos 1 } in m) (filter is_child_line t)) answered_same
+      ap (λ t. map (λ (r : NumberedLine). let m : Move = record { node = r.1.number; amount = pos 1 } in m) (filter is_child_line t))
+          answered_same
       ∙ given_rows stack.layers stack.entries (fitting form size rest)
 
   pub cut_same : is_cut_short l ≡ is_too_small form size rest

@@ -27,16 +27,19 @@ numbered_found : (stack : Stacked) (export : Bool) (n : ℕ) (p : Place) (name :
     → looked_up stack.entries export p name ≡ Some c → IsNumbered stack.entries c
 numbered_found stack export n p name c is found = go (is_itself export name) (is_parent export name) found
   where
-    go : (itself above : Bool) → (if itself then Some p else if above then Some (parent stack.entries p) else child stack.entries p name) ≡ Some c → IsNumbered stack.entries c
+    go : (itself above : Bool) → (if itself then Some p else if above then Some (parent stack.entries p) else child stack.entries p name)
+        ≡ Some c → IsNumbered stack.entries c
     go true above found = let same : p ≡ c = cc in subst (IsNumbered stack.entries) same (numbered_node stack.entries n p is)
-    go false true found = let same : parent stack.entries p ≡ c = cc in subst (IsNumbered stack.entries) same (numbered_parent stack.entries n p is)
+    go false true found = let same : parent stack.entries p ≡ c = cc in
+        subst (IsNumbered stack.entries) same (numbered_parent stack.entries n p is)
     go false false found = numbered_child stack.entries p name c found
 
 abbrev told_kind : Kind → Result Kind Errno
 told_kind k = Ok k
 
 free : (k : Kind) (itself long lasting : Bool) (o : Option Place) (c : Place) → k ≡ Directory → long ≡ false → o ≡ Some c
-    → first_refusal ((if itself then None else unless_directory k) ∷ (if long then Some ENAMETOOLONG else refuse_if (is_none o && not lasting) ENOENT) ∷ []) ≡ None
+    → first_refusal ((if itself then None else unless_directory k) ∷ (if long then Some ENAMETOOLONG else refuse_if
+          (is_none o && not lasting) ENOENT) ∷ []) ≡ None
 free k itself long lasting o c kind short found = rw (kind, short, found) (either itself)
   where
     either : (b : Bool) → first_refusal ((if b then None else None) ∷ None ∷ []) ≡ None
@@ -44,10 +47,13 @@ free k itself long lasting o c kind short found = rw (kind, short, found) (eithe
     either false = refl
 
 module _ {A : Type 0} (stack : Stacked) (agreed : Agreement) (n : ℕ) (name : List ℕ) (f : ℕ) (r : Result (Answer A) Errno) where
-  entry_at : (p c : Place) → kind_at stack.layers p ≡ Directory → is_itself agreed.export name ≡ false → nat_lt MAX_NAME_SIZE (length name) ≡ false
-      → looked_up stack.entries agreed.export p name ≡ Some c → IsAnswerAt {A = A} stack agreed (lookup name) p (Entry (wired (attr_of stack.layers stack.entries c)))
+  entry_at : (p c : Place) → kind_at stack.layers p ≡ Directory → is_itself agreed.export name ≡ false → nat_lt MAX_NAME_SIZE (length name)
+      ≡ false
+      → looked_up stack.entries agreed.export p name ≡ Some c → IsAnswerAt {A = A} stack agreed (lookup name) p
+          (Entry (wired (attr_of stack.layers stack.entries c)))
   entry_at p c kind other short found = record {
-    taken = free (kind_at stack.layers p) (is_itself agreed.export name) (nat_lt MAX_NAME_SIZE (length name)) agreed.lasting (looked_up stack.entries agreed.export p name) c kind short found;
+    taken = free (kind_at stack.layers p) (is_itself agreed.export name) (nat_lt MAX_NAME_SIZE (length name)) agreed.lasting
+        (looked_up stack.entries agreed.export p name) c kind short found;
     data_is = rw found refl;
     sized = tt;
     moves_are = rw found refl;
@@ -57,13 +63,17 @@ module _ {A : Type 0} (stack : Stacked) (agreed : Agreement) (n : ℕ) (name : L
       → FindsBelow stack agreed.export n name (Some f) → TellsEntry stack f r → DecidesAt stack agreed n (lookup name) r
   found_below kind other short finds entry = go (node_of stack.entries n) refl kind finds
     where
-      done : (p c : Place) → kind_at stack.layers p ≡ Directory → looked_up stack.entries agreed.export p name ≡ Some c → r ≡ Ok (Entry (wired (attr_of stack.layers stack.entries c)))
-          → MatchResult r (IsAnswerAt stack agreed (lookup name) p) (λ errno. refused_at stack.layers stack.entries agreed (lookup name) p ≡ Some errno)
+      done : (p c : Place) → kind_at stack.layers p ≡ Directory → looked_up stack.entries agreed.export p name ≡ Some c
+          → r ≡ Ok (Entry (wired (attr_of stack.layers stack.entries c)))
+          → MatchResult r (IsAnswerAt stack agreed (lookup name) p) (λ errno. refused_at stack.layers stack.entries agreed (lookup name) p
+                ≡ Some errno)
       done p c kind found is =
-          subst (λ r. MatchResult r (IsAnswerAt stack agreed (lookup name) p) (λ errno. refused_at stack.layers stack.entries agreed (lookup name) p ≡ Some errno)) (sym is)
+          subst (λ r. MatchResult r (IsAnswerAt stack agreed (lookup name) p) (λ errno. refused_at stack.layers stack.entries agreed
+                (lookup name) p ≡ Some errno)) (sym is)
           (entry_at p c kind other short found)
 
-      told : (c : Place) → IsNumbered stack.entries c → number stack.entries c ≡ f → r ≡ Ok (Entry (wired (attr_of stack.layers stack.entries c)))
+      told : (c : Place) → IsNumbered stack.entries c → number stack.entries c ≡ f
+          → r ≡ Ok (Entry (wired (attr_of stack.layers stack.entries c)))
       told c numbered same =
           let P : Option Attr → Type 0 = λ o. MatchOption o (r ≡ Err ENOENT) (λ attr. r ≡ Ok (Entry attr)) in
           let held : wired_at stack f ≡ Some (wired (attr_of stack.layers stack.entries c)) =
@@ -72,7 +82,8 @@ module _ {A : Type 0} (stack : Stacked) (agreed : Agreement) (n : ℕ) (name : L
 
       below : (p : Place) (o : Option Place) → node_of stack.entries n ≡ Some p → kind_at stack.layers p ≡ Directory
           → looked_up stack.entries agreed.export p name ≡ o → Some f ≡ option_map (number stack.entries) o
-          → MatchResult r (IsAnswerAt stack agreed (lookup name) p) (λ errno. refused_at stack.layers stack.entries agreed (lookup name) p ≡ Some errno)
+          → MatchResult r (IsAnswerAt stack agreed (lookup name) p) (λ errno. refused_at stack.layers stack.entries agreed (lookup name) p
+                ≡ Some errno)
       below p None is kind found same = absurd (cc)
       below p (Some c) is kind found same =
           let number_same : number stack.entries c ≡ f = cc in
@@ -82,7 +93,8 @@ module _ {A : Type 0} (stack : Stacked) (agreed : Agreement) (n : ℕ) (name : L
           → MatchOption o (told_kind Directory ≡ Err ESTALE) (λ p. told_kind Directory ≡ Ok (kind_at stack.layers p))
           → MatchOption o (Some f ≡ None) (λ p. is_directory_at stack.layers p ≡ true → is_itself agreed.export name ≡ false
           → Some f ≡ option_map (number stack.entries) (looked_up stack.entries agreed.export p name))
-          → MatchOption o (r ≡ Err ESTALE) (λ p. MatchResult r (IsAnswerAt stack agreed (lookup name) p) (λ errno. refused_at stack.layers stack.entries agreed (lookup name) p ≡ Some errno))
+          → MatchOption o (r ≡ Err ESTALE) (λ p. MatchResult r (IsAnswerAt stack agreed (lookup name) p)
+                (λ errno. refused_at stack.layers stack.entries agreed (lookup name) p ≡ Some errno))
       go None is kind finds = absurd (cc)
       go (Some p) is kind finds =
           let kind_is : kind_at stack.layers p ≡ Directory = cc in

@@ -27,15 +27,18 @@ given_on [] ys = refl
 given_on (x ∷ xs) ys = go (nat_lt 2 x.0) (given_on xs ys)
   where
     go : (b : Bool) → lines_given (xs ++ ys) ≡ lines_given xs ++ lines_given ys
-        → map (λ (r : NumberedLine). let m : Move = record { node = r.1.number; amount = pos 1 } in m) (cond b (x ∷ filter is_child_line (xs ++ ys)) (filter is_child_line (xs ++ ys)))
-        ≡ map (λ (r : NumberedLine). let m : Move = record { node = r.1.number; amount = pos 1 } in m) (cond b (x ∷ filter is_child_line xs) (filter is_child_line xs)) ++ lines_given ys
+        → map (λ (r : NumberedLine). let m : Move = record { node = r.1.number; amount = pos 1 } in
+              m) (cond b (x ∷ filter is_child_line (xs ++ ys)) (filter is_child_line (xs ++ ys)))
+        ≡ map (λ (r : NumberedLine). let m : Move = record { node = r.1.number; amount = pos 1 } in
+              m) (cond b (x ∷ filter is_child_line xs) (filter is_child_line xs)) ++ lines_given ys
     go true e = ap (λ t. let m : Move = record { node = x.1.number; amount = pos 1 } in m ∷ t) e
     go false e = e
 
 weight_row : (r : NumberedLine) → weight (lines_given (r ∷ [])) ≤ 1
 weight_row r = go (nat_lt 2 r.0)
   where
-    go : (b : Bool) → weight (map (λ (r : NumberedLine). let m : Move = record { node = r.1.number; amount = pos 1 } in m) (cond b (r ∷ []) [])) ≤ 1
+    go : (b : Bool) → weight (map (λ (r : NumberedLine). let m : Move = record { node = r.1.number; amount = pos 1 } in
+          m) (cond b (r ∷ []) [])) ≤ 1
     go true = omega arith
     go false = omega arith
 
@@ -66,8 +69,10 @@ module _ {A : Type 0} (l : Listing A) where
       let there : i < length (drop l.from (lines_of l)) = omega arith in
       let same : l.from + i ≡ index = omega arith in
       let r = get_or (lines_of l) index nothing in
-      let read : get_or (drop l.from (lines_of l)) i nothing ≡ r = get_or-drop l.from (lines_of l) i nothing ∙ ap (λ k. get_or (lines_of l) k nothing) same in
-      let row : row_given l index ≡ lines_given (r ∷ []) = ap (λ o. option_map_or (λ r. lines_given (r ∷ [])) o []) (slice_get-get_or (lines_of l) index nothing (omega arith)) in
+      let read : get_or (drop l.from (lines_of l)) i nothing ≡ r = get_or-drop l.from (lines_of l) i nothing
+          ∙ ap (λ k. get_or (lines_of l) k nothing) same in
+      let row : row_given l index ≡ lines_given (r ∷ []) = ap (λ o. option_map_or (λ r. lines_given (r ∷ [])) o [])
+          (slice_get-get_or (lines_of l) index nothing (omega arith)) in
       ap (λ n. lines_given (take n (drop l.from (lines_of l)))) succ
       ∙ ap lines_given (take_more (drop l.from (lines_of l)) i nothing there)
       ∙ given_on (take i (drop l.from (lines_of l))) (get_or (drop l.from (lines_of l)) i nothing ∷ [])
@@ -78,7 +83,8 @@ module _ {A : Type 0} (l : Listing A) where
   weight_given index there =
       let len = length-enumerate_from 3 l.children.now in
       let r = get_or (lines_of l) index nothing in
-      let row : row_given l index ≡ lines_given (r ∷ []) = ap (λ o. option_map_or (λ r. lines_given (r ∷ [])) o []) (slice_get-get_or (lines_of l) index nothing (omega arith)) in
+      let row : row_given l index ≡ lines_given (r ∷ []) = ap (λ o. option_map_or (λ r. lines_given (r ∷ [])) o [])
+          (slice_get-get_or (lines_of l) index nothing (omega arith)) in
       let w = weight_row r in
       let e = ap weight row in
       omega arith
@@ -88,7 +94,8 @@ module _ {A : Type 0} (l : Listing A) where
   row_added index old now next from there so_far step =
       let light = weight_given index there in
       record {
-        moved = subst (λ m. IsMoved m old next) (sym (given_next index from there)) (moved_on (given index) (row_given l index) old now next so_far.moved step);
+        moved = subst (λ m. IsMoved m old next) (sym (given_next index from there))
+            (moved_on (given index) (row_given l index) old now next so_far.moved step);
         within = within_less (2 ^ 123 + (index - l.from) + weight (row_given l index)) (2 ^ 123 + (index + 1 - l.from)) next (omega arith)
             (within_moved (2 ^ 123 + (index - l.from)) (row_given l index) now next so_far.within step);
       }
@@ -106,7 +113,8 @@ taken_on stack (x ∷ xs) ys = go (take_back stack.layers stack.entries x) (take
 weight_forget : (stack : Stacked) (f : Forget) → f.nlookup < 2 ^ 64 → weight (taken_back stack (f ∷ [])) ≤ 2 ^ 64
 weight_forget stack f small = go (node_of stack.entries f.node)
   where
-    go : (o : Option Place) → weight (cons_option (option_map (λ p. let m : Move = record { node = f.node; amount = neg_ℤ (pos f.nlookup) } in m) o) []) ≤ 2 ^ 64
+    go : (o : Option Place) → weight (cons_option
+          (option_map (λ p. let m : Move = record { node = f.node; amount = neg_ℤ (pos f.nlookup) } in m) o) []) ≤ 2 ^ 64
     go None = omega arith
     go (Some p) = omega (arith, ints)
 
@@ -140,7 +148,8 @@ one_taken stack all rest later f count old now next small is so_far step =
       count_is = omega arith;
       moved = subst (λ m. IsMoved m old next) (sym (taken_on stack so_far.done (f ∷ [])))
           (moved_on (taken_back stack so_far.done) (taken_back stack (f ∷ [])) old now next so_far.moved step);
-      within = within_less (2 ^ 123 + 2 ^ 64 * count + weight (taken_back stack (f ∷ []))) (2 ^ 123 + 2 ^ 64 * (count + 1)) next (omega arith)
+      within = within_less (2 ^ 123 + 2 ^ 64 * count + weight (taken_back stack (f ∷ []))) (2 ^ 123 + 2 ^ 64 * (count + 1)) next
+          (omega arith)
           (within_moved (2 ^ 123 + 2 ^ 64 * count) (taken_back stack (f ∷ [])) now next so_far.within step);
     }
 
@@ -151,7 +160,8 @@ none_left stack all rest count old new none so_far =
     let same : so_far.done ≡ all = sym (append-nil so_far.done) ∙ ap (λ t. so_far.done ++ t) (sym none) ∙ so_far.split in
     subst (λ fs. IsMoved (taken_back stack fs) old new) same so_far.moved
 
-pub room_left : (count most : ℕ) (now : List ℤ) → count < most → most ≤ MAX_FORGETS → AreWithin (2 ^ 123 + 2 ^ 64 * count) now → AreWithin (2 ^ 124) now
+pub room_left : (count most : ℕ) (now : List ℤ) → count < most → most ≤ MAX_FORGETS → AreWithin (2 ^ 123 + 2 ^ 64 * count) now
+    → AreWithin (2 ^ 124) now
 room_left count most now less few within = within_less (2 ^ 123 + 2 ^ 64 * count) (2 ^ 124) now (omega arith) within
 
 -- where all were taken back, none is left
@@ -173,7 +183,8 @@ none_given l before =
     let e : l.from - l.from ≡ 0 = omega arith in
     sym (append-nil before) ∙ ap (λ n. before ++ lines_given (take n (drop l.from (lines_of l)))) (sym e)
 
-pub row_appended : {A : Type 0} (l : Listing A) (index : ℕ) (before now next : List Move) → l.from ≤ index → index < 2 + length l.children.now
+pub row_appended : {A : Type 0} (l : Listing A) (index : ℕ) (before now next : List Move) → l.from ≤ index
+    → index < 2 + length l.children.now
     → now ≡ before ++ given l index → next ≡ now ++ row_given l index → next ≡ before ++ given l (index + 1)
 row_appended l index before now next from there so_far is =
     is ∙ ap (λ m. m ++ row_given l index) so_far ∙ append_assoc before (given l index) (row_given l index)
@@ -199,8 +210,10 @@ given_less l index later le =
     let n = later - l.from in
     let more : k ≤ n = omega arith in
     let rest = drop k (take n rows) in
-    let parts : take k rows ++ rest ≡ take n rows = ap (λ t. t ++ rest) (sym (take-take k n rows more)) ∙ take-append-drop k (take n rows) in
-    let both : lines_given (take n rows) ≡ lines_given (take k rows) ++ lines_given rest = ap lines_given (sym parts) ∙ given_on (take k rows) rest in
+    let parts : take k rows ++ rest ≡ take n rows = ap (λ t. t ++ rest) (sym (take-take k n rows more))
+        ∙ take-append-drop k (take n rows) in
+    let both : lines_given (take n rows) ≡ lines_given (take k rows) ++ lines_given rest = ap lines_given (sym parts)
+        ∙ given_on (take k rows) rest in
     let len = ap length both in
     let sum = length-append (lines_given (take k rows)) (lines_given rest) in
     omega arith

@@ -70,8 +70,10 @@ found_with P test x (y ∷ ys) each is = go (test y) is (found_with P test x ys 
 pub numbered_child : (entries : List Entry) (p : Place) (name : List ℕ) (c : Place) → child entries p name ≡ Some c → IsNumbered entries c
 numbered_child entries p name c is = go (find (λ c. same_name name c.name) (children entries p)) refl is
   where
-    go : (o : Option Child) → find (λ c. same_name name c.name) (children entries p) ≡ o → option_map (λ c. c.place) o ≡ Some c → IsNumbered entries c
+    go : (o : Option Child) → find (λ c. same_name name c.name) (children entries p) ≡ o → option_map (λ c. c.place) o ≡ Some c
+        → IsNumbered entries c
     go None found is = absurd (cc)
     go (Some d) found is =
         let same : d.place ≡ c = cc in
-        subst (IsNumbered entries) same (found_with (λ c. IsNumbered entries c.place) (λ c. same_name name c.name) d (children entries p) (numbered_children entries p) found)
+        subst (IsNumbered entries) same (found_with (λ c. IsNumbered entries c.place) (λ c. same_name name c.name) d (children entries p)
+              (numbered_children entries p) found)

@@ -40,7 +40,8 @@ line_there own upper children (suc (suc k)) line big small is =
 length-line_bytes : (stack : Stacked) (plus : Bool) (r : NumberedLine) → length (line_bytes stack plus r) ≡ row_size plus (length r.1.name)
 length-line_bytes stack false r = let e = length-dirent r.1.number r.0 (type_at stack r.1.number) r.1.name in omega arith
 length-line_bytes stack true r =
-    let e = length-direntplus (cond (nat_lt 2 r.0) (wired_at stack r.1.number) None) r.1.number r.0 (type_at stack r.1.number) r.1.name in omega arith
+    let e = length-direntplus (cond (nat_lt 2 r.0) (wired_at stack r.1.number) None) r.1.number r.0 (type_at stack r.1.number) r.1.name in
+        omega arith
 
 -- the rows that were written before an index
 abbrev pub written : {A : Type 0} → Stacked → Listing A → ℕ → List ℕ
@@ -56,7 +57,8 @@ module _ {A : Type 0} (stack : Stacked) (l : Listing A) (whole : IsWhole stack l
   none_written : written stack l l.from ≡ []
   none_written = let e : l.from - l.from ≡ 0 = omega arith in ap (λ n. flat_map bytes_of (take n (drop l.from (lines_of l)))) e
 
-  one_written : (index : ℕ) → l.from ≤ index → index < l.until → written stack l (index + 1) ≡ written stack l index ++ row_bytes_at stack l index
+  one_written : (index : ℕ) → l.from ≤ index → index < l.until → written stack l (index + 1) ≡ written stack l index
+      ++ row_bytes_at stack l index
   one_written index from until =
       let within = whole.within in
       let len = length-lines in
@@ -66,8 +68,10 @@ module _ {A : Type 0} (stack : Stacked) (l : Listing A) (whole : IsWhole stack l
       let there : i < length (drop l.from (lines_of l)) = omega arith in
       let same : l.from + i ≡ index = omega arith in
       let r = get_or (lines_of l) index nothing in
-      let read : get_or (drop l.from (lines_of l)) i nothing ≡ r = get_or-drop l.from (lines_of l) i nothing ∙ ap (λ k. get_or (lines_of l) k nothing) same in
-      let got : row_bytes_at stack l index ≡ bytes_of r = ap (λ o. option_map_or bytes_of o []) (slice_get-get_or (lines_of l) index nothing (omega arith)) in
+      let read : get_or (drop l.from (lines_of l)) i nothing ≡ r = get_or-drop l.from (lines_of l) i nothing
+          ∙ ap (λ k. get_or (lines_of l) k nothing) same in
+      let got : row_bytes_at stack l index ≡ bytes_of r =
+          ap (λ o. option_map_or bytes_of o []) (slice_get-get_or (lines_of l) index nothing (omega arith)) in
       ap (λ n. flat_map bytes_of (take n (drop l.from (lines_of l)))) next
       ∙ ap (flat_map bytes_of) (take_more (drop l.from (lines_of l)) i nothing there)
       ∙ flat_map-append bytes_of (take i (drop l.from (lines_of l))) (get_or (drop l.from (lines_of l)) i nothing ∷ [])
@@ -75,7 +79,8 @@ module _ {A : Type 0} (stack : Stacked) (l : Listing A) (whole : IsWhole stack l
       ∙ ap (λ b. written stack l index ++ b) (append-nil (bytes_of r) ∙ sym got)
 
   -- a row that is written has a short name
-  pub short_name : (index : ℕ) (r : NumberedLine) → l.from ≤ index → index < l.until → slice_get (lines_of l) index ≡ Some r → length r.1.name < 2 ^ 32
+  pub short_name : (index : ℕ) (r : NumberedLine) → l.from ≤ index → index < l.until → slice_get (lines_of l) index ≡ Some r
+      → length r.1.name < 2 ^ 32
   short_name index r from until is =
       let within = whole.within in
       let len = length-lines in
@@ -103,15 +108,18 @@ module _ {A : Type 0} (stack : Stacked) (l : Listing A) (whole : IsWhole stack l
       let n = l.until - l.from in
       let less : k ≤ n = omega arith in
       let rest = drop k (take n rows) in
-      let parts : take k rows ++ rest ≡ take n rows = ap (λ t. t ++ rest) (sym (take-take k n rows less)) ∙ take-append-drop k (take n rows) in
-      let both : listed_data stack l ≡ written stack l index ++ flat_map bytes_of rest = ap (flat_map bytes_of) (sym parts) ∙ flat_map-append bytes_of (take k rows) rest in
+      let parts : take k rows ++ rest ≡ take n rows = ap (λ t. t ++ rest) (sym (take-take k n rows less))
+          ∙ take-append-drop k (take n rows) in
+      let both : listed_data stack l ≡ written stack l index ++ flat_map bytes_of rest = ap (flat_map bytes_of) (sym parts)
+          ∙ flat_map-append bytes_of (take k rows) rest in
       let len = ap length both in
       let sum = length-append (written stack l index) (flat_map bytes_of rest) in
       let all = whole.size_is in
       omega arith
 
   -- where all have room, each row has
-  pub row_has_room : (unique index : ℕ) (before now : List ℕ) → l.from ≤ index → index < l.until → now ≡ before ++ (reply_head unique l.size ++ written stack l index)
+  pub row_has_room : (unique index : ℕ) (before now : List ℕ) → l.from ≤ index → index < l.until
+      → now ≡ before ++ (reply_head unique l.size ++ written stack l index)
       → length now + length (row_bytes_at stack l index) ≤ length before + (16 + l.size)
   row_has_room unique index before now from until so_far =
       let w = written stack l index in
@@ -141,7 +149,8 @@ module _ {A : Type 0} (stack : Stacked) (l : Listing A) (whole : IsWhole stack l
       is ∙ ap (λ b. b ++ r) so_far ∙ append_assoc before (h ++ w) r
       ∙ ap (λ b. before ++ b) (append_assoc h w r ∙ ap (λ b. h ++ b) (sym (one_written index from until)))
 
-  pub all_rows : (unique index : ℕ) (before now : List ℕ) → index ≡ l.until → IsSoFar unique before index now → now ≡ before ++ reply_with unique (listed_data stack l)
+  pub all_rows : (unique index : ℕ) (before now : List ℕ) → index ≡ l.until → IsSoFar unique before index now
+      → now ≡ before ++ reply_with unique (listed_data stack l)
   unfolding reply_with
   all_rows unique index before now end so_far =
       so_far

@@ -14,7 +14,8 @@ open_short [] short = inl refl
 open_short (b ∷ bytes) short = inr (omega arith, inl short)
 
 -- fewer than they say
-pub open_unfinished : (bytes : List ℕ) → 4 ≤ length bytes → HEADER_SIZE ≤ said_length bytes → said_length bytes ≤ MAX_MESSAGE_SIZE → length bytes < said_length bytes → IsOpen bytes
+pub open_unfinished : (bytes : List ℕ) → 4 ≤ length bytes → HEADER_SIZE ≤ said_length bytes → said_length bytes ≤ MAX_MESSAGE_SIZE
+    → length bytes < said_length bytes → IsOpen bytes
 open_unfinished bytes long low high fewer = inr (omega arith, inr ((low, high), fewer))
 
 pub bad_low : (bytes : List ℕ) → 4 ≤ length bytes → said_length bytes < HEADER_SIZE → IsBad bytes (said_length bytes)
@@ -23,7 +24,8 @@ bad_low bytes long low = record { long = long; says = refl; bad = λ g. let g0 =
 pub bad_high : (bytes : List ℕ) → 4 ≤ length bytes → MAX_MESSAGE_SIZE < said_length bytes → IsBad bytes (said_length bytes)
 bad_high bytes long high = record { long = long; says = refl; bad = λ g. let g1 = g.1 in omega arith }
 
-pub begins : (bytes : List ℕ) → HEADER_SIZE ≤ said_length bytes → said_length bytes ≤ MAX_MESSAGE_SIZE → said_length bytes ≤ length bytes → BeginsMessage bytes (said_length bytes)
+pub begins : (bytes : List ℕ) → HEADER_SIZE ≤ said_length bytes → said_length bytes ≤ MAX_MESSAGE_SIZE → said_length bytes ≤ length bytes
+    → BeginsMessage bytes (said_length bytes)
 begins bytes low high enough =
     let n = said_length bytes in
     let t : length (take n bytes) ≡ n = length-take-le n bytes enough in
@@ -65,7 +67,8 @@ one_frame bytes More (Whole k) f g = absurd (not_rest bytes k g (inl f))
 one_frame bytes More (Bad k) f g = absurd (not_bad bytes k f g)
 one_frame bytes More More f g = refl
 
-pub split_first : (bytes rest : List ℕ) (n : ℕ) (ms : List (List ℕ)) → BeginsMessage bytes n → IsSplit (drop n bytes) ms rest → IsSplit bytes (take n bytes ∷ ms) rest
+pub split_first : (bytes rest : List ℕ) (n : ℕ) (ms : List (List ℕ)) → BeginsMessage bytes n → IsSplit (drop n bytes) ms rest
+    → IsSplit bytes (take n bytes ∷ ms) rest
 split_first bytes rest n ms b s =
     let t : take n bytes ≡ b.message = ap (take n) b.is ∙ take_at b.message b.after n b.sized in
     let m : IsMessage (take n bytes) = subst IsMessage (sym t) b.whole in

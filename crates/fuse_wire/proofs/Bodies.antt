@@ -14,7 +14,8 @@ is_malformed (malformed opcode) = true
 is_malformed _ = false
 
 -- an opcode that asks one thing with a body of n bytes, and else is malformed
-needs : (opcode n : ℕ) (op : List ℕ → Op) → ((body : List ℕ) → op_of opcode body ≡ cond (nat_lt (length body) n) (malformed opcode) (op body)) → ((body : List ℕ) → op body ≢ malformed opcode) → Needs opcode n
+needs : (opcode n : ℕ) (op : List ℕ → Op) → ((body : List ℕ) → op_of opcode body ≡ cond (nat_lt (length body) n) (malformed opcode)
+      (op body)) → ((body : List ℕ) → op body ≢ malformed opcode) → Needs opcode n
 needs opcode n op is good = record {
   short = λ body l. is body ∙ ap (λ b. cond b (malformed opcode) (op body)) (lt-ltb (length body) n l);
   whole = λ body l e. good body (sym (is body ∙ ap (λ b. cond b (malformed opcode) (op body)) (le-ltb (length body) n l)) ∙ e);
@@ -27,7 +28,8 @@ body_sizes = record {
   getattr = needs 3 16 (λ body. at_node getattr) (λ body. refl) (λ body e. absurd (cc));
   open_file = needs 14 8 (λ body. at_node (open_file (field 4 0 body))) (λ body. refl) (λ body e. absurd (cc));
   read = needs 15 40 (λ body. at_node (read (field 8 8 body) (field 4 16 body))) (λ body. refl) (λ body e. absurd (cc));
-  init = needs 26 16 (λ body. init (field 4 0 body) (field 4 4 body) (field 4 8 body) (field 4 12 body)) (λ body. refl) (λ body e. absurd (cc));
+  init = needs 26 16 (λ body. init (field 4 0 body) (field 4 4 body) (field 4 8 body) (field 4 12 body)) (λ body. refl)
+      (λ body e. absurd (cc));
   opendir = needs 27 8 (λ body. at_node opendir) (λ body. refl) (λ body e. absurd (cc));
   readdir = needs 28 40 (λ body. at_node (readdir (field 8 8 body) (field 4 16 body))) (λ body. refl) (λ body e. absurd (cc));
   batch_forget = needs 42 8 (λ body. silent (batch_forget (forgets_of body))) (λ body. refl) (λ body e. absurd (cc));
@@ -35,7 +37,8 @@ body_sizes = record {
 }
 
 pub reply_sizes : ReplySizes
-reply_sizes = record { version = length-version; terms = length-terms; entry = length-entry_out; negative_entry = length-negative_entry_out; attr = length-attr_out; open_file = length-open_out; statfs = length-statfs_out }
+reply_sizes = record { version = length-version; terms = length-terms; entry = length-entry_out; negative_entry = length-negative_entry_out;
+      attr = length-attr_out; open_file = length-open_out; statfs = length-statfs_out }
 
 pub row_sizes : RowSizes
 row_sizes = record {

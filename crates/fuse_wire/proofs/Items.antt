@@ -18,12 +18,15 @@ pub front_items : (k : ℕ) (bytes : List ℕ) → forgets_in k (take (16 * k) b
 front_items zero bytes = refl
 front_items (suc k) bytes =
     let more : 16 * suc k ≡ 16 + 16 * k = omega arith in
-    let first : forget_one (take (16 * suc k) bytes) ≡ forget_one bytes = ap (λ (n : ℕ). forget_one (take n bytes)) more ∙ one_taken (16 * k) bytes in
-    let rest : drop 16 (take (16 * suc k) bytes) ≡ take (16 * k) (drop 16 bytes) = ap (λ (n : ℕ). drop 16 (take n bytes)) more ∙ drop-take 16 (16 * k) bytes in
+    let first : forget_one (take (16 * suc k) bytes) ≡ forget_one bytes = ap (λ (n : ℕ). forget_one (take n bytes)) more
+        ∙ one_taken (16 * k) bytes in
+    let rest : drop 16 (take (16 * suc k) bytes) ≡ take (16 * k) (drop 16 bytes) = ap (λ (n : ℕ). drop 16 (take n bytes)) more
+        ∙ drop-take 16 (16 * k) bytes in
     rw (first, rest, front_items k (drop 16 bytes)) refl
 
 -- the bytes that hold the first count items, or as many as are whole
-pub whole_items : (count : ℕ) (bytes : List ℕ) → forgets_in (length (take (16 * min count (length bytes / 16)) bytes) / 16) (take (16 * min count (length bytes / 16)) bytes) ≡ forgets_in (min count (length bytes / 16)) bytes
+pub whole_items : (count : ℕ) (bytes : List ℕ) → forgets_in (length (take (16 * min count (length bytes / 16)) bytes) / 16)
+    (take (16 * min count (length bytes / 16)) bytes) ≡ forgets_in (min count (length bytes / 16)) bytes
 whole_items count bytes = go (min count (length bytes / 16)) (omega arith)
   where
     go : (k : ℕ) → 16 * k ≤ length bytes → forgets_in (length (take (16 * k) bytes) / 16) (take (16 * k) bytes) ≡ forgets_in k bytes
@@ -37,7 +40,8 @@ counted zero bytes = refl
 counted (suc n) bytes = ap (λ (k : ℕ). suc k) (counted n (drop 16 bytes))
 
 -- the first item of bytes that hold some whole ones, and those after it
-pub first_item : (bytes : List ℕ) → 16 ≤ length bytes → forgets_in (length bytes / 16) bytes ≡ forget_one (take 16 bytes) ∷ forgets_in (length (drop 16 bytes) / 16) (drop 16 bytes)
+pub first_item : (bytes : List ℕ) → 16 ≤ length bytes → forgets_in (length bytes / 16) bytes ≡ forget_one (take 16 bytes) ∷ forgets_in
+    (length (drop 16 bytes) / 16) (drop 16 bytes)
 first_item bytes l =
     let d = length-drop 16 bytes in
     let e : length bytes / 16 ≡ suc (length (drop 16 bytes) / 16) = omega arith in

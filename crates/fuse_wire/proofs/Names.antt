@@ -19,7 +19,10 @@ take_next n b body = let e : 1 + n ≡ suc n = omega arith in rw e refl
 drop_next : (n b : ℕ) (body : List ℕ) → drop (1 + n + 1) (b ∷ body) ≡ drop (n + 1) body
 drop_next n b body = let e : 1 + n + 1 ≡ suc (n + 1) = omega arith in rw e refl
 
-cut_step : (b : ℕ) (body : List ℕ) (t : Bool) → cond (not t) (1 + before body) 0 < suc (length body) → (before body < length body → cut_at_zero body ≡ Some (take (before body) body, drop (before body + 1) body)) → cond {A = Option (List ℕ × List ℕ)} t (Some ([], body)) (option_map (λ cut. (b ∷ cut.0, cut.1)) (cut_at_zero body)) ≡ Some (take (cond (not t) (1 + before body) 0) (b ∷ body), drop (cond (not t) (1 + before body) 0 + 1) (b ∷ body))
+cut_step : (b : ℕ) (body : List ℕ) (t : Bool) → cond (not t) (1 + before body) 0 < suc (length body)
+    → (before body < length body → cut_at_zero body ≡ Some (take (before body) body, drop (before body + 1) body))
+    → cond {A = Option (List ℕ × List ℕ)} t (Some ([], body)) (option_map (λ cut. (b ∷ cut.0, cut.1)) (cut_at_zero body))
+    ≡ Some (take (cond (not t) (1 + before body) 0) (b ∷ body), drop (cond (not t) (1 + before body) 0 + 1) (b ∷ body))
 cut_step b body true h ih = refl
 cut_step b body false h ih = rw (ih (omega arith), take_next (before body) b body, drop_next (before body) b body) refl
 
@@ -27,7 +30,9 @@ cut_at : (body : List ℕ) → before body < length body → cut_at_zero body �
 cut_at [] h = absurd (omega arith)
 cut_at (b ∷ body) h = cut_step b body (b == 0) h (cut_at body)
 
-uncut_step : (b : ℕ) (body : List ℕ) (t : Bool) → suc (length body) ≤ cond (not t) (1 + before body) 0 → (length body ≤ before body → cut_at_zero body ≡ None) → cond {A = Option (List ℕ × List ℕ)} t (Some ([], body)) (option_map (λ cut. (b ∷ cut.0, cut.1)) (cut_at_zero body)) ≡ None
+uncut_step : (b : ℕ) (body : List ℕ) (t : Bool) → suc (length body) ≤ cond (not t) (1 + before body) 0
+    → (length body ≤ before body → cut_at_zero body ≡ None) → cond {A = Option (List ℕ × List ℕ)} t (Some ([], body))
+    (option_map (λ cut. (b ∷ cut.0, cut.1)) (cut_at_zero body)) ≡ None
 uncut_step b body true h ih = absurd (omega arith)
 uncut_step b body false h ih = rw (ih (omega arith)) refl
 
@@ -53,11 +58,13 @@ is_not : (b : ℕ) → b ≢ 0 → (b == 0) ≡ false
 is_not b h = grind (arith, nat_tests)
 
 first_at : (body : List ℕ) (e : ℕ) → e < length body → Clear body e → get_or body e 0 ≡ 0 → before body ≡ e
-first_at body e l clear z = position_or_len_is (λ byte. byte == 0) body e 0 (omega arith) (λ k h. is_not (get_or body k 0) (clear k h)) (λ _. ap (λ v. v == 0) z)
+first_at body e l clear z = position_or_len_is (λ byte. byte == 0) body e 0 (omega arith) (λ k h. is_not (get_or body k 0) (clear k h))
+    (λ _. ap (λ v. v == 0) z)
 
 first_none : (body : List ℕ) → Clear body (length body) → length body ≤ before body
 first_none body clear =
-    let e : before body ≡ length body = position_or_len_is (λ byte. byte == 0) body (length body) 0 (omega arith) (λ k h. is_not (get_or body k 0) (clear k h)) (λ h. absurd (omega arith)) in
+    let e : before body ≡ length body = position_or_len_is (λ byte. byte == 0) body (length body) 0 (omega arith)
+        (λ k h. is_not (get_or body k 0) (clear k h)) (λ h. absurd (omega arith)) in
     omega (arith, e)
 
 first_by : (body : List ℕ) (k : ℕ) → get_or body k 0 ≡ 0 → before body ≤ k
@@ -77,10 +84,12 @@ name_short (b ∷ []) h = alone (b == 0)
 name_short (b ∷ c ∷ body) h = absurd (omega arith)
 
 -- the last byte is zero, and no other
-ended : (body : List ℕ) (e : ℕ) → Clear body e → get_or body e 0 ≡ 0 → 0 < e → e + 1 ≡ length body → Some (take e body) ≡ body_name (cut_at_zero body)
+ended : (body : List ℕ) (e : ℕ) → Clear body e → get_or body e 0 ≡ 0 → 0 < e → e + 1 ≡ length body
+    → Some (take e body) ≡ body_name (cut_at_zero body)
 ended body e clear z some last =
     let at : before body ≡ e = first_at body e (omega arith) clear z in
-    let cut : cut_at_zero body ≡ Some (take e body, drop (e + 1) body) = subst (λ (v : ℕ). cut_at_zero body ≡ Some (take v body, drop (v + 1) body)) at (cut_at body (omega (arith, at))) in
+    let cut : cut_at_zero body ≡ Some (take e body, drop (e + 1) body) =
+        subst (λ (v : ℕ). cut_at_zero body ≡ Some (take v body, drop (v + 1) body)) at (cut_at body (omega (arith, at))) in
     let t : length (take e body) ≡ e = length-take-le e body (omega arith) in
     sym (ap body_name cut ∙ name_whole (take e body) (drop (e + 1) body) (omega arith) (drop_all (e + 1) body (omega arith)))
 
@@ -98,7 +107,8 @@ unended body e clear other last = sym (ap body_name (uncut body (first_none body
 broken : (body : List ℕ) (e k : ℕ) → get_or body k 0 ≡ 0 → k < e → e + 1 ≡ length body → None ≡ body_name (cut_at_zero body)
 broken body e k z low last =
     let f = first_by body k z in
-    sym (ap body_name (cut_at body (omega (arith, f))) ∙ unnamed (take (before body) body) (drop (before body + 1) body) (let l = length-drop (before body + 1) body in omega (arith, f)))
+    sym (ap body_name (cut_at body (omega (arith, f))) ∙ unnamed (take (before body) body) (drop (before body + 1) body) (let l =
+          length-drop (before body + 1) body in omega (arith, f)))
 
 -- the search through a message, whose body stands behind the first h bytes
 module _ (message body : List ℕ) (h e : ℕ) (rest : body ≡ drop h message) (last : e + 1 ≡ length body) where
@@ -124,16 +134,19 @@ module _ (message body : List ℕ) (h e : ℕ) (rest : body ≡ drop h message) 
       let there : h + (p - h) ≡ p = omega arith in
       broken body e (p - h) (sym (same (p - h) below) ∙ ap (λ v. get_or searched v 0) there ∙ eqb-true _ _ found.1) below last
 
-  pub name_ends_none : IsLastByte (is_byte 0) (take (h + e) message) None → get_or body e 0 ≡ 0 → 0 < e → Some (take e body) ≡ body_name (cut_at_zero body)
+  pub name_ends_none : IsLastByte (is_byte 0) (take (h + e) message) None → get_or body e 0 ≡ 0 → 0 < e
+      → Some (take e body) ≡ body_name (cut_at_zero body)
   name_ends_none none z some = ended body e (clear_none none) z some last
 
-  pub name_ends_some : (p : ℕ) → IsLastByte (is_byte 0) (take (h + e) message) (Some p) → p < h → get_or body e 0 ≡ 0 → 0 < e → Some (take e body) ≡ body_name (cut_at_zero body)
+  pub name_ends_some : (p : ℕ) → IsLastByte (is_byte 0) (take (h + e) message) (Some p) → p < h → get_or body e 0 ≡ 0 → 0 < e
+      → Some (take e body) ≡ body_name (cut_at_zero body)
   name_ends_some p found low z some = ended body e (clear_some p found low) z some last
 
   pub name_open_none : IsLastByte (is_byte 0) (take (h + e) message) None → get_or body e 0 ≢ 0 → None ≡ body_name (cut_at_zero body)
   name_open_none none other = unended body e (clear_none none) other last
 
-  pub name_open_some : (p : ℕ) → IsLastByte (is_byte 0) (take (h + e) message) (Some p) → p < h → get_or body e 0 ≢ 0 → None ≡ body_name (cut_at_zero body)
+  pub name_open_some : (p : ℕ) → IsLastByte (is_byte 0) (take (h + e) message) (Some p) → p < h → get_or body e 0 ≢ 0
+      → None ≡ body_name (cut_at_zero body)
   name_open_some p found low other = unended body e (clear_some p found low) other last
 
 pub ruleset named = (name_short, name_holds_zero, name_ends_none, name_ends_some, name_open_none, name_open_some)

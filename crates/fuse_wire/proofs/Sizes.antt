@@ -19,7 +19,8 @@ length-error_reply unique errno = refl
 
 pub length-reply_with : (unique : ℕ) (bytes : List ℕ) → length (reply_with unique bytes) ≡ 16 + length bytes
 unfolding reply_with
-length-reply_with unique bytes = length-append (reply_head unique (length bytes)) bytes ∙ ap (λ n. n + length bytes) (length-head unique (length bytes))
+length-reply_with unique bytes = length-append (reply_head unique (length bytes)) bytes
+    ∙ ap (λ n. n + length bytes) (length-head unique (length bytes))
 
 -- INIT's reply has 24 bytes for clients of minor versions below 23, else 64
 pub length-version : length (init_out Version) ≡ 64
@@ -30,11 +31,13 @@ pub length-init_out_22 : (lasting : Bool) (readahead flags : ℕ) → length (in
 unfolding init_out_22 u16 u32
 length-init_out_22 lasting readahead flags = refl
 
-pub length-terms : (lasting : Bool) (minor readahead flags : ℕ) → length (init_out (Terms lasting minor readahead flags)) ≡ cond (nat_lt minor 23) 24 64
+pub length-terms : (lasting : Bool) (minor readahead flags : ℕ) → length (init_out (Terms lasting minor readahead flags))
+    ≡ cond (nat_lt minor 23) 24 64
 unfolding init_out init_out_22 init_out_rest u16 u32 zeros
 length-terms lasting minor readahead flags = either (nat_lt minor 23)
   where
-    either : (b : Bool) → length (cond b (init_out_22 lasting readahead flags) (init_out_22 lasting readahead flags ++ init_out_rest lasting flags)) ≡ cond b 24 64
+    either : (b : Bool) → length (cond b (init_out_22 lasting readahead flags) (init_out_22 lasting readahead flags
+          ++ init_out_rest lasting flags)) ≡ cond b 24 64
     either true = refl
     either false = refl
 
@@ -83,7 +86,8 @@ length-dirent ino off file_type name =
     let padded = length-append (dirent_front ino off file_type name ++ name) (zeros (dirent_size (length name) - (24 + length name))) in
     omega arith
 
-pub length-direntplus : (entry : Option Attr) (ino off file_type : ℕ) (name : List ℕ) → length (direntplus entry ino off file_type name) ≡ 128 + dirent_size (length name)
+pub length-direntplus : (entry : Option Attr) (ino off file_type : ℕ) (name : List ℕ) → length (direntplus entry ino off file_type name)
+    ≡ 128 + dirent_size (length name)
 unfolding direntplus
 length-direntplus entry ino off file_type name =
     length-append (option_map_or entry_out entry (zeros 128)) (dirent ino off file_type name)
@@ -93,7 +97,9 @@ length-direntplus entry ino off file_type name =
     given None = length-zeros 128
     given (Some a) = length-entry_out a
 
-pub ruleset sizes = (length-head, length-error_reply, length-reply_with, length-version, length-init_out_22, length-terms, length-attr, length-entry_out, length-negative_entry_out, length-attr_out, length-open_out, length-statfs_out, length-zeros, length-dirent_front, length-dirent, length-direntplus)
+pub ruleset sizes = (length-head, length-error_reply, length-reply_with, length-version, length-init_out_22, length-terms, length-attr,
+      length-entry_out, length-negative_entry_out, length-attr_out, length-open_out, length-statfs_out, length-zeros, length-dirent_front,
+      length-dirent, length-direntplus)
 
 -- the parts of a row of READDIRPLUS, as they are put one after another, are its bytes
 pub plus_row_is : (entry : Option Attr) (row : Dirent) (head front : List ℕ)

@@ -28,8 +28,10 @@ no_rest m x rest g e r =
 
 one_first : (m n x y : List ℕ) → IsMessage m → IsMessage n → m ++ x ≡ n ++ y → (m ≡ n) × (x ≡ y)
 one_first m n x y g k e =
-    let s : length m ≡ length n = sym (sym (ap said_length e ∙ said_more n y (omega (arith, k.good.0)) ∙ k.says) ∙ said_more m x (omega (arith, g.good.0)) ∙ g.says) in
-    (sym (take_at m x (length m) refl) ∙ ap (take (length m)) e ∙ take_at n y (length m) (sym s), sym (drop_at m x (length m) refl) ∙ ap (drop (length m)) e ∙ drop_at n y (length m) (sym s))
+    let s : length m ≡ length n = sym (sym (ap said_length e ∙ said_more n y (omega (arith, k.good.0)) ∙ k.says)
+          ∙ said_more m x (omega (arith, g.good.0)) ∙ g.says) in
+    (sym (take_at m x (length m) refl) ∙ ap (take (length m)) e ∙ take_at n y (length m) (sym s), sym (drop_at m x (length m) refl)
+          ∙ ap (drop (length m)) e ∙ drop_at n y (length m) (sym s))
 
 pub one_split : (stream : List ℕ) (ms ns : List (List ℕ)) (r q : List ℕ) → IsSplit stream ms r → IsSplit stream ns q → (ms ≡ ns) × (r ≡ q)
 one_split stream [] [] r q x y = (refl, sym x.whole ∙ y.whole)
@@ -37,7 +39,8 @@ one_split stream [] (n ∷ ns) r q x y = absurd (no_rest n _ r y.each.0 (sym x.w
 one_split stream (m ∷ ms) [] r q x y = absurd (no_rest m _ q x.each.0 (sym y.whole ∙ x.whole ∙ append_assoc m _ r) y.tail)
 one_split stream (m ∷ ms) (n ∷ ns) r q x y =
     let f = one_first m n _ _ x.each.0 y.each.0 (sym (append_assoc m _ r) ∙ sym x.whole ∙ y.whole ∙ append_assoc n _ q) in
-    let t = one_split (flat_map (λ m. m) ms ++ r) ms ns r q (record { whole = refl; each = x.each.1; tail = x.tail }) (record { whole = f.1; each = y.each.1; tail = y.tail }) in
+    let t = one_split (flat_map (λ m. m) ms ++ r) ms ns r q (record { whole = refl; each = x.each.1; tail = x.tail })
+        (record { whole = f.1; each = y.each.1; tail = y.tail }) in
     let f0 = f.0 in let t0 = t.0 in (cc, t.1)
 
 pub said_front : (xs : List ℕ) (n : ℕ) → 4 ≤ n → n ≤ length xs → said_length (take n xs) ≡ said_length xs
@@ -65,13 +68,16 @@ first_cut xs = elim (cases_lt (length xs) 4) [
     begun [] l = inl refl
     begun (b ∷ bs) l = inr (omega arith, inl l)
 
-    whole : HEADER_SIZE ≤ said_length xs → said_length xs ≤ MAX_MESSAGE_SIZE → said_length xs ≤ length xs → (m y : List ℕ) × (xs ≡ m ++ y) × IsMessage m
+    whole : HEADER_SIZE ≤ said_length xs → said_length xs ≤ MAX_MESSAGE_SIZE → said_length xs ≤ length xs → (m y : List ℕ) × (xs ≡ m ++ y)
+        × IsMessage m
     whole low high enough =
         let n = said_length xs in
         let t : length (take n xs) ≡ n = length-take-le n xs enough in
-        (take n xs, drop n xs, sym (take-append-drop n xs), record { good = (omega arith, omega arith); says = said_front xs n (omega arith) enough ∙ sym t })
+        (take n xs, drop n xs, sym (take-append-drop n xs), record { good = (omega arith, omega arith); says =
+              said_front xs n (omega arith) enough ∙ sym t })
 
-put_first : (stream m y : List ℕ) → stream ≡ m ++ y → IsMessage m → ((ms : List (List ℕ)) × (rest : List ℕ) × IsSplit y ms rest) → (ms : List (List ℕ)) × (rest : List ℕ) × IsSplit stream ms rest
+put_first : (stream m y : List ℕ) → stream ≡ m ++ y → IsMessage m → ((ms : List (List ℕ)) × (rest : List ℕ) × IsSplit y ms rest)
+    → (ms : List (List ℕ)) × (rest : List ℕ) × IsSplit stream ms rest
 put_first stream m y e g (ms, rest, s) = (
   m ∷ ms,
   rest,
@@ -87,16 +93,19 @@ split_within zero [] short = ([], [], record { whole = refl; each = tt; tail = i
 split_within zero (b ∷ bs) short = absurd (omega arith)
 split_within (suc room) stream short = elim (first_cut stream) [
   | inl r ↦ ([], stream, record { whole = refl; each = tt; tail = r })
-  | inr c ↦ put_first stream c.0 c.1 c.2 c.3 (split_within room c.1 (let l = ap length c.2 ∙ length-append c.0 c.1 in let g = c.3.good.0 in omega arith))
+  | inr c ↦ put_first stream c.0 c.1 c.2 c.3 (split_within room c.1 (let l = ap length c.2 ∙ length-append c.0 c.1 in let g = c.3.good.0 in
+        omega arith))
 ]
 
 pub some_split : (stream : List ℕ) → (ms : List (List ℕ)) × (rest : List ℕ) × IsSplit stream ms rest
 some_split stream = split_within (length stream) stream (omega arith)
 
 -- messages go on where a rest stopped
-pub split_goes_on : (x y rest end : List ℕ) (ms ns : List (List ℕ)) → IsSplit x ms rest → IsSplit (rest ++ y) ns end → IsSplit (x ++ y) (ms ++ ns) end
+pub split_goes_on : (x y rest end : List ℕ) (ms ns : List (List ℕ)) → IsSplit x ms rest → IsSplit (rest ++ y) ns end
+    → IsSplit (x ++ y) (ms ++ ns) end
 split_goes_on x y rest end ms ns s t = record {
-  whole = ap (λ v. v ++ y) s.whole ∙ append_assoc (flat_map (λ m. m) ms) rest y ∙ ap (λ v. flat_map (λ m. m) ms ++ v) t.whole ∙ sym (append_assoc (flat_map (λ m. m) ms) (flat_map (λ m. m) ns) end) ∙ ap (λ v. v ++ end) (sym (flat_map-append (λ m. m) ms ns));
+  whole = ap (λ v. v ++ y) s.whole ∙ append_assoc (flat_map (λ m. m) ms) rest y ∙ ap (λ v. flat_map (λ m. m) ms ++ v) t.whole
+      ∙ sym (append_assoc (flat_map (λ m. m) ms) (flat_map (λ m. m) ns) end) ∙ ap (λ v. v ++ end) (sym (flat_map-append (λ m. m) ms ns));
   each = both ms ns s.each t.each;
   tail = t.tail;
 }
@@ -107,4 +116,5 @@ split_goes_on x y rest end ms ns s t = record {
 
 -- a bad rest stays bad, whatever comes after it
 pub bad_stays : (rest y : List ℕ) (n : ℕ) → IsBad rest n → IsBad (rest ++ y) n
-bad_stays rest y n b = record { long = (let e = length-append rest y in omega (arith, b.long)); says = said_more rest y b.long ∙ b.says; bad = b.bad }
+bad_stays rest y n b = record { long = (let e = length-append rest y in omega (arith, b.long)); says = said_more rest y b.long ∙ b.says;
+      bad = b.bad }

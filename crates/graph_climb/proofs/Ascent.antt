@@ -21,7 +21,8 @@ top_of bottom (s ∷ steps) = s.at
 
 pub data Tower (next class cycle : List ℕ) (bottom : ℕ) : List Step → Type 0 where
   bare : Tower next class cycle bottom []
-  over : {s : Step} {steps : List Step} → Tower next class cycle bottom steps → s.at < length next → get_or next s.at 0 ≡ top_of bottom steps
+  over : {s : Step} {steps : List Step} → Tower next class cycle bottom steps → s.at < length next
+      → get_or next s.at 0 ≡ top_of bottom steps
       → IsLowest class (path cycle steps) (length class) (get_or class s.at 0) s.low → Tower next class cycle bottom (s ∷ steps)
 
 -- x is on the list that one of the steps has still to come to
@@ -77,12 +78,14 @@ pub no_steps : {X : Type 0} (xs : List X) → length xs ≡ 0 → reverse xs ≡
 no_steps [] e = refl
 no_steps (x ∷ xs) e = absurd (omega arith)
 
-pub keeps : (before entered : List Bool) (at : ℕ) → at < length entered → AreMarksKept before entered → AreMarksKept before (set entered at true)
+pub keeps : (before entered : List Bool) (at : ℕ) → at < length entered → AreMarksKept before entered
+    → AreMarksKept before (set entered at true)
 keeps before entered at l k = record {
   each = λ x m. still_set entered at x l (k.each x m);
 }
 
-pub step_fits : {next class first sibling cycle rest : List ℕ} {bottom from : ℕ} {s : Step} {steps : List Step} {entered noted : List Bool} {low : List ℕ}
+pub step_fits : {next class first sibling cycle rest : List ℕ} {bottom from : ℕ} {s : Step} {steps : List Step} {entered noted : List Bool}
+    {low : List ℕ}
     → IsUnderWay next class first sibling cycle rest bottom from (s ∷ steps) entered noted low → s.at < length next
 step_fits {next = next} {class = class} {cycle = cycle} {bottom = bottom} {s = s} {steps = steps} w = go w.tower
   where
@@ -137,7 +140,8 @@ module _ (next class first sibling cycle : List ℕ) (graph : IsGraph next class
       around (more e a) o = around a (subst (λ z. On cycle z) e (is.round _ o))
 
   -- what comes after a point that leads to the top is the path
-  covers : {steps : List Step} → Tower next class cycle bottom steps → (u : ℕ) → get_or next u 0 ≡ top_of bottom steps → Covers next (path cycle steps) u
+  covers : {steps : List Step} → Tower next class cycle bottom steps → (u : ℕ) → get_or next u 0 ≡ top_of bottom steps
+      → Covers next (path cycle steps) u
   covers bare u e = covers_ring u e
   covers (over {s = s} {steps = steps} t i e l) u f = covers_next next (path cycle steps) s.at u f (covers t s.at e)
 
@@ -180,7 +184,8 @@ module _ (next class first sibling cycle : List ℕ) (graph : IsGraph next class
       ];
     }
 
-    pub enters : (at old : ℕ) (steps : List Step) (entered noted noted' : List Bool) (low low' : List ℕ) (s : Step) → s.at ≡ at → s.low ≡ old
+    pub enters : (at old : ℕ) (steps : List Step) (entered noted noted' : List Bool) (low low' : List ℕ) (s : Step) → s.at ≡ at
+        → s.low ≡ old
         → at < length next → old ≡ get_or low (get_or class at 0) 0
         → low' ≡ set low (get_or class at 0) (min old at) → IsNoted noted noted' (length class) old at
         → IsUnderWay next class first sibling cycle rest bottom at steps entered noted low
@@ -201,8 +206,10 @@ module _ (next class first sibling cycle : List ℕ) (graph : IsGraph next class
           tower = over w.tower (rw sa fits) (rw sa here_next) (rw (sa, sl) lowest);
           lowest = rw (sa, lows, o) (low_enters class low (path cycle steps) at (omega arith) known w.lowest);
           spare = rw sa spare;
-          compared = compared_enters next class (path cycle steps) at old noted noted' (omega arith) lowest made cover entered (omega arith) w.compared spare;
-          lower = lower_enters next class (path cycle steps) at old noted noted' (omega arith) lowest made (λ y p. inl (cover.after y p)) w.lower;
+          compared = compared_enters next class (path cycle steps) at old noted noted' (omega arith) lowest made cover entered
+              (omega arith) w.compared spare;
+          lower = lower_enters next class (path cycle steps) at old noted noted' (omega arith) lowest made (λ y p. inl (cover.after y p))
+              w.lower;
           leads = λ x a. rw sa (graph.lists.same at x fits a);
           closed = λ x l m. elim (cases_eq (get_or next x 0) at) [
             | inl e ↦ inr (inl (subst (λ t. Ahead sibling (get_or first t 0) x) e (graph.lists.whole x l)))
@@ -220,11 +227,13 @@ module _ (next class first sibling cycle : List ℕ) (graph : IsGraph next class
 
     pub leaves : (at : ℕ) (s : Step) (steps : List Step) (entered noted : List Bool) (low : List ℕ) → length next ≤ at
         → IsUnderWay next class first sibling cycle rest bottom at (s ∷ steps) entered noted low
-        → IsUnderWay next class first sibling cycle rest bottom (get_or sibling s.at 0) steps entered noted (set low (get_or class s.at 0) s.low)
+        → IsUnderWay next class first sibling cycle rest bottom (get_or sibling s.at 0) steps entered noted
+            (set low (get_or class s.at 0) s.low)
     leaves at s steps entered noted low past w = go w.tower
       where
         go : Tower next class cycle bottom (s ∷ steps)
-            → IsUnderWay next class first sibling cycle rest bottom (get_or sibling s.at 0) steps entered noted (set low (get_or class s.at 0) s.low)
+            → IsUnderWay next class first sibling cycle rest bottom (get_or sibling s.at 0) steps entered noted
+                (set low (get_or class s.at 0) s.low)
         go (over t i e l) =
             let sized = graph.classes.sized in
             let siblings = graph.lists.siblings in

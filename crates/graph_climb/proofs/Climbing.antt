@@ -39,7 +39,8 @@ module _ (class low path : List ℕ) (u : ℕ) (fits : u < length class) (named 
   low_fits w = let s = w.sized in omega arith
 
   -- u is put on the path
-  lowest_enters : (v : ℕ) → IsLowest class path (length class) (get_or class u 0) v → IsLowest class (u ∷ path) (length class) (get_or class u 0) (min v u)
+  lowest_enters : (v : ℕ) → IsLowest class path (length class) (get_or class u 0) v
+      → IsLowest class (u ∷ path) (length class) (get_or class u 0) (min v u)
   lowest_enters v l = record {
     there = elim (cases_order v u) [
       | inl e ↦ (let m : min v u ≡ u = omega arith in rw m (inr (top, refl)))
@@ -91,7 +92,8 @@ module _ (class low path : List ℕ) (u : ℕ) (fits : u < length class) (named 
     each = λ c l. elim (cases_eq c (get_or class u 0)) [
       | inl e ↦ rw e (subst (λ v. IsLowest class path (length class) (get_or class u 0) v)
           (sym (get_or-set_same low (get_or class u 0) old 0 (let s = w.sized in omega arith))) o)
-      | inr d ↦ subst (λ v. IsLowest class path (length class) c v) (sym (get_or-set_other low (get_or class u 0) c old 0 d)) (lowest_leaves c _ d (w.each c l))
+      | inr d ↦ subst (λ v. IsLowest class path (length class) c v) (sym (get_or-set_other low (get_or class u 0) c old 0 d))
+          (lowest_leaves c _ d (w.each c l))
     ];
   }
 

@@ -12,9 +12,11 @@ missing marked = cond (not marked) 1 0
 unfoldable pub unmarked : List Bool → ℕ
 unmarked marks = sum_by missing marks
 
-pub marks_fall : (marks : List Bool) (k : ℕ) → k < length marks → get_or marks k false ≡ false → unmarked (set marks k true) + 1 ≡ unmarked marks
+pub marks_fall : (marks : List Bool) (k : ℕ) → k < length marks → get_or marks k false ≡ false → unmarked (set marks k true) + 1
+    ≡ unmarked marks
 unfolding unmarked
-marks_fall marks k l e = let s = sum_by-set missing marks k true false l in let u : missing (get_or marks k false) ≡ 1 = ap missing e in omega arith
+marks_fall marks k l e = let s = sum_by-set missing marks k true false l in let u : missing (get_or marks k false) ≡ 1 = ap missing e in
+    omega arith
 
 pub few_marks : (marks : List Bool) → unmarked marks ≤ length marks
 unfolding unmarked

@@ -59,10 +59,12 @@ module _ (next : List ℕ) where
     ];
   }
 
-  pub sets_out : (entered visited : List Bool) (from : ℕ) → AreMarksKept visited entered → get_or entered from false ≡ false → IsFreshWalk next entered visited from from
+  pub sets_out : (entered visited : List Bool) (from : ℕ) → AreMarksKept visited entered → get_or entered from false ≡ false
+      → IsFreshWalk next entered visited from from
   sets_out entered visited from k f = record { fresh = f; leads = inl refl; left = λ x m. inl (k.each x m) }
 
-  pub meets : (entered visited : List Bool) (from at : ℕ) → get_or visited at false ≡ true → IsFreshWalk next entered visited from at → After next at at
+  pub meets : (entered visited : List Bool) (from at : ℕ) → get_or visited at false ≡ true → IsFreshWalk next entered visited from at
+      → After next at at
   meets entered visited from at m w = elim (w.left at m) [ inl e ↦ absurd (clash _ e w.fresh) | inr a ↦ a ]
 
   -- what leads to a point that is entered is entered
@@ -71,11 +73,13 @@ module _ (next : List ℕ) where
   leads_in entered b c {x = x} l (one e) m = c.each x l (rw e m)
   leads_in entered b c {x = x} l (more e a) m = c.each x l (rw e (leads_in entered b c (rw (← e) (b.each x l)) a m))
 
-pub closed : {next class cycle : List ℕ} {entered noted : List Bool} {low : List ℕ} → IsFound next class cycle [] entered noted low → IsClosed next entered
+pub closed : {next class cycle : List ℕ} {entered noted : List Bool} {low : List ℕ} → IsFound next class cycle [] entered noted low
+    → IsClosed next entered
 closed f = record { each = λ x l m. elim (f.closed x l m) [ inl e ↦ e | inr o ↦ absurd (elim o [ ]) ] }
 
 -- the entering of a cycle that is under way, at `at`, with the last point entered first in `path`
-pub record IsRounding (next class : List ℕ) (first entered : List Bool) (from at : ℕ) (path : List ℕ) (noted : List Bool) (low : List ℕ) : Type 0 where
+pub record IsRounding (next class : List ℕ) (first entered : List Bool) (from at : ℕ) (path : List ℕ) (noted : List Bool)
+    (low : List ℕ) : Type 0 where
   pub lowest : IsLow class low path
   pub spare : IsSpare class path noted
   pub compared : IsCompared next class first noted
@@ -134,7 +138,8 @@ module _ (next class : List ℕ) (few : length class ≡ length next) (leads : A
           low = λ x y m a e l. made.kept x (w.compared.low x y m a e l);
           high = λ x y m a e l. made.kept y (w.compared.high x y m a e l);
         };
-        lower = lower_enters next class path at old noted noted' (omega arith) lowest made (λ y p. inl (tied at y w.leads (w.led y p))) w.lower;
+        lower = lower_enters next class path at old noted noted' (omega arith) lowest made (λ y p. inl (tied at y w.leads (w.led y p)))
+            w.lower;
         closed = w.closed;
         each = λ x m. elim (was_set entered at x m) [
           | inl e ↦ inr (subst (λ z. On (at ∷ path) z) (sym e) top)
@@ -159,7 +164,8 @@ module _ (next class : List ℕ) (few : length class ≡ length next) (leads : A
       → IsGathered next class from xs entered noted low
   gathered first entered noted at xs low sized m w =
       let here : On (reverse xs) at = elim (w.each at m) [ inl e ↦ absurd (clash _ e w.fresh) | inr p ↦ p ] in
-      let round : (x : ℕ) → On (reverse xs) x → On (reverse xs) (get_or next x 0) = λ x p. elim (w.on x p) [ inl q ↦ q | inr e ↦ subst (λ z. On (reverse xs) z) (sym e) here ] in
+      let round : (x : ℕ) → On (reverse xs) x → On (reverse xs) (get_or next x 0) =
+          λ x p. elim (w.on x p) [ inl q ↦ q | inr e ↦ subst (λ z. On (reverse xs) z) (sym e) here ] in
       record {
         start = elim w.start [ inl s ↦ on_reversed xs (subst (λ z. On (reverse xs) z) s.0 here) | inr p ↦ on_reversed xs p ];
         is = record {
@@ -172,11 +178,14 @@ module _ (next class : List ℕ) (few : length class ≡ length next) (leads : A
           spare = w.spare;
           compared = record {
             sized = sized;
-            low = λ x y n a e l. elim (w.each x n) [ inl f ↦ w.compared.low x y f a e l | inr p ↦ w.spare.each x y p (goes_round round a p) e l ];
-            high = λ x y n a e l. elim (w.each x n) [ inl f ↦ w.compared.high x y f a e l | inr p ↦ w.spare.each y x (goes_round round a p) p (sym e) l ];
+            low = λ x y n a e l. elim (w.each x n) [ inl f ↦ w.compared.low x y f a e l | inr p ↦ w.spare.each x y p (goes_round round a p)
+                  e l ];
+            high = λ x y n a e l. elim (w.each x n) [ inl f ↦ w.compared.high x y f a e l | inr p ↦ w.spare.each y x (goes_round round a p)
+                  p (sym e) l ];
           };
           lower = w.lower;
-          closed = λ x l n. elim (w.each (get_or next x 0) n) [ inl e ↦ inl (w.kept.each x (w.closed.each x l e)) | inr p ↦ inr (on_reversed xs p) ];
+          closed = λ x l n. elim (w.each (get_or next x 0) n) [ inl e ↦ inl (w.kept.each x (w.closed.each x l e)) | inr p ↦ inr
+                (on_reversed xs p) ];
         };
         all = λ x p. w.all x (on_reverse p);
       }

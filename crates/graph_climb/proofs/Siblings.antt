@@ -13,7 +13,8 @@ pub record AreListed (next first sibling : List ℕ) (from : ℕ) : Type 0 where
   pub same : (t x : ℕ) → t < length next → Ahead sibling (get_or first t 0) x → get_or next x 0 ≡ t
   pub whole : (x : ℕ) → from ≤ x → x < length next → Ahead sibling (get_or first (get_or next x 0) 0) x
 
-module _ (next first sibling : List ℕ) (at : ℕ) (fits : at < length next) (b : AreBelow next (length next)) (w : AreListed next first sibling (at + 1)) where
+module _ (next first sibling : List ℕ) (at : ℕ) (fits : at < length next) (b : AreBelow next (length next))
+    (w : AreListed next first sibling (at + 1)) where
   more_sibling : List ℕ
   more_sibling = set sibling at (get_or first (get_or next at 0) 0)
 
@@ -40,7 +41,8 @@ module _ (next first sibling : List ℕ) (at : ℕ) (fits : at < length next) (b
   back {from = from} {x = x} l (later k a) =
       let s = sized in
       let r = w.rising from (let e = w.siblings in omega arith) in
-      later (omega arith) (subst (λ y. Ahead sibling y x) (kept from (omega arith)) (back (let e = kept from (omega arith) in omega arith) a))
+      later (omega arith) (subst (λ y. Ahead sibling y x) (kept from (omega arith)) (back (let e = kept from (omega arith) in
+            omega arith) a))
 
   mine : get_or more_sibling at 0 ≡ get_or first (get_or next at 0) 0
   unfolding more_sibling
@@ -50,8 +52,10 @@ module _ (next first sibling : List ℕ) (at : ℕ) (fits : at < length next) (b
   unfolding more_first
   listed_here =
       let to : get_or next at 0 < length next = b.each at fits in
-      let here_first : get_or more_first (get_or next at 0) 0 ≡ at = get_or-set_same first (get_or next at 0) at 0 (let e = w.firsts in omega arith) in
-      let other_first : (t : ℕ) → t ≢ get_or next at 0 → get_or more_first t 0 ≡ get_or first t 0 = λ t d. get_or-set_other first (get_or next at 0) t at 0 d in
+      let here_first : get_or more_first (get_or next at 0) 0 ≡ at = get_or-set_same first (get_or next at 0) at 0 (let e = w.firsts in
+            omega arith) in
+      let other_first : (t : ℕ) → t ≢ get_or next at 0 → get_or more_first t 0 ≡ get_or first t 0 =
+          λ t d. get_or-set_other first (get_or next at 0) t at 0 d in
       let here_sibling : get_or more_sibling at 0 ≡ get_or first (get_or next at 0) 0 = mine in
       let past : (t : ℕ) → t < length next → at < get_or first t 0 = λ t l. (let k = w.past t l in omega arith) in
       record {

@@ -10,7 +10,8 @@ use Rattle.layer_tree.proofs.Joining.{some_and}
 use Rattle.shown_tree.proofs.Listed.{one_end}
 
 -- a header has one entry in a run
-one_entry : (first : ℕ) (layers : List (List ℕ)) (i h : ℕ) (e f : Entry) → IsEntryOf first layers i h e → IsEntryOf first layers i h f → e ≡ f
+one_entry : (first : ℕ) (layers : List (List ℕ)) (i h : ℕ) (e f : Entry) → IsEntryOf first layers i h e → IsEntryOf first layers i h f
+    → e ≡ f
 one_entry first layers i h e f w x =
     let z : Some w.end.0 ≡ Some x.end.0 = sym w.end.1 ∙ x.end.1 in
     let b : w.end.0 ≡ x.end.0 = cc in

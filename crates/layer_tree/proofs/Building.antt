@@ -22,7 +22,8 @@ use Rattle.layer_tree.proofs.Layered.{leads_on}
 
 -- members from the i-th on are left
 pub record Building (a : List ℕ) (layer : ℕ) (all left : List Named) (es : List (Shoot Entry)) (ks : List (Shoot Mark)) : Type 0 where
-  pub more : (es' : List (Shoot Entry)) (ks' : List (Shoot Mark)) → AreBuilt a layer left es' ks' → AreBuilt a layer all (es ++ es') (ks ++ ks')
+  pub more : (es' : List (Shoot Entry)) (ks' : List (Shoot Mark)) → AreBuilt a layer left es' ks'
+      → AreBuilt a layer all (es ++ es') (ks ++ ks')
 
 pub record Whitening (all left : List Named) (ks : List (Shoot Mark)) : Type 0 where
   pub more : (ks' : List (Shoot Mark)) → AreWhiteouts left ks' → AreWhiteouts all (ks ++ ks')
@@ -50,7 +51,8 @@ next all i l = rw add-one (drop-cons all i nothing l)
 module _ (a : List ℕ) (layer : ℕ) (all : List Named) (i : ℕ) (es : List (Shoot Entry))
     (ks : List (Shoot Mark)) (l : i < length all) (w : Building a layer all (drop i all) es ks) where
   pub build_hidden : IsMarker (at_index all i).name.now → Building a layer all (drop (i + 1) all) es ks
-  build_hidden h = record { more = λ es' ks' b. w.more es' ks' (rw (next all i l) (hidden (at_index all i) (drop (i + 1) all) es' ks' h b)) }
+  build_hidden h = record { more = λ es' ks' b.
+        w.more es' ks' (rw (next all i l) (hidden (at_index all i) (drop (i + 1) all) es' ks' h b)) }
 
   pub build_alone : (e : Shoot Entry) (es' : List (Shoot Entry)) → ¬ IsMarker (at_index all i).name.now
       → IsBranchAlone a layer (at_index all i).head.offset (at_index all i).name.now e → es' ≡ es ++ e ∷ []
@@ -93,7 +95,8 @@ module _ (all : List Named) (i : ℕ) (ks : List (Shoot Mark)) (l : i < length a
         (ap (λ (x : Shoot Mark). x.below) f) c))));
   }
 
-pub whitening_ended : (all : List Named) (i : ℕ) (ks : List (Shoot Mark)) → length all ≤ i → Whitening all (drop i all) ks → AreWhiteouts all ks
+pub whitening_ended : (all : List Named) (i : ℕ) (ks : List (Shoot Mark)) → length all ≤ i → Whitening all (drop i all) ks
+    → AreWhiteouts all ks
 whitening_ended all i ks l w = subst (AreWhiteouts all) (append-nil ks) (w.more [] (rw (drop_all i all l) none_white))
 
 all_at : (P : Named → Type 0) (ms : List Named) (i : ℕ) (d : Named) → AllByRecursion P ms → i < length ms → P (get_or ms i d)
@@ -131,7 +134,8 @@ before_built : (a : List ℕ) (layer : ℕ) {ms : List Named} {es : List (Shoot 
 before_built a layer none_built m r = (tt, tt)
 before_built a layer (hidden x ms es ks h b) m r = before_built a layer b m r.1
 before_built a layer (alone x ms e es ks n w b) m r = let t = before_built a layer b m r.1 in ((rw w.name r.0, t.0), t.1)
-before_built a layer (built x ms e es k ks n w b) m r = let t = before_built a layer b m r.1 in ((rw w.entry_name r.0, t.0), (rw w.mark_name r.0, t.1))
+before_built a layer (built x ms e es k ks n w b) m r = let t = before_built a layer b m r.1 in
+    ((rw w.entry_name r.0, t.0), (rw w.mark_name r.0, t.1))
 
 pub forests : (a : List ℕ) (layer : ℕ) {ms : List Named} {es : List (Shoot Entry)} {ks : List (Shoot Mark)}
     → AreBuilt a layer ms es ks → NamedRise ms → IsForest es × IsForest ks
@@ -175,7 +179,8 @@ white_forest (white m ms k ks f c d b) r =
     record { names = (before_white b m k.name f r.0, w.names); each = (leaf_rises k d, w.each) }
 
 -- the branches that the name n has, and its member
-pub data FoundBuilt (a : List ℕ) (layer d : ℕ) (n : List ℕ) (ms : List Named) (es : List (Shoot Entry)) (ks : List (Shoot Mark)) : Type 0 where
+pub data FoundBuilt (a : List ℕ) (layer d : ℕ) (n : List ℕ) (ms : List Named) (es : List (Shoot Entry)) (ks : List (Shoot Mark)) : Type 0
+    where
   nowhere : named n es ≡ None → named n ks ≡ None
       → ((j : ℕ) (m : Named) → slice_get ms j ≡ Some m → m.name.now ≡ n → IsMarker n)
       → FoundBuilt a layer d n ms es ks
@@ -210,9 +215,11 @@ module _ (a : List ℕ) (layer d : ℕ) (n : List ℕ) where
   find_built (alone m ms e es ks h w b) p r = elim (same_or_not m.name.now n) [
     | inl x ↦ (
         let f : named n (e ∷ es) ≡ Some e = rw (w.name, x.1) refl in
-        let g : named n ks ≡ None = named_below n ks (subst (λ y. AllByRecursion (λ t. name_cmp y t.name ≡ Less) ks) x.0 (before_built a layer b m r.0).1) in
+        let g : named n ks ≡ None = named_below n ks (subst (λ y. AllByRecursion (λ t. name_cmp y t.name ≡ Less) ks) x.0
+              (before_built a layer b m r.0).1) in
         somewhere m e None f g x.0 (subst (λ y. ¬ IsMarker y) x.0 h) p.0 w.entries w.exact)
-    | inr x ↦ found_later m ms es (e ∷ es) ks ks x.0 (let f : named n (e ∷ es) ≡ named n es = rw (w.name, x.1) refl in f) refl (find_built b p.1 r.1)
+    | inr x ↦ found_later m ms es (e ∷ es) ks ks x.0 (let f : named n (e ∷ es) ≡ named n es = rw (w.name, x.1) refl in f) refl
+        (find_built b p.1 r.1)
   ]
   find_built (built m ms e es k ks h w b) p r = elim (same_or_not m.name.now n) [
     | inl x ↦ (

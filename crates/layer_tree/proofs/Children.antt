@@ -21,4 +21,5 @@ pub same_children : (first : ℕ) (layers : List (List ℕ)) (s t : TreeRows) �
     → IsTreeOf first layers t → (path : Path) (cs ds : List (Shoot Entry)) → AreChildren s path cs
     → AreChildren t path ds → (name : List ℕ) (q : Path)
     → at_path (spread cs) (name ∷ q) ≡ at_path (spread ds) (name ∷ q)
-same_children first layers s t is it path cs ds c d name q = sym (c.at name q) ∙ same_entries first layers s t is it (path ++ name ∷ q) ∙ d.at name q
+same_children first layers s t is it path cs ds c d name q = sym (c.at name q) ∙ same_entries first layers s t is it (path ++ name ∷ q)
+    ∙ d.at name q

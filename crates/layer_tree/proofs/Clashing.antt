@@ -82,7 +82,8 @@ module _ {T : Type 0} (m : T → Mark) where
       → Clash (marked m (whole f)) (marked m (whole o)) (at_path (whole (record { name = n; value = mark; below = spread ks })))
   folders f o fs os ks n mark ef eo d uncut clear w = record { sound = sound; whole = into }
     where
-      sound : (path : Path) → cut_by (at_path (whole (record { name = n; value = mark; below = spread ks }))) path ≡ true → cut_by (marked m (whole f)) path ≡ true
+      sound : (path : Path) → cut_by (at_path (whole (record { name = n; value = mark; below = spread ks }))) path ≡ true
+          → cut_by (marked m (whole f)) path ≡ true
       sound [] e = absurd (cc)
       sound (k ∷ p) e =
           let x : cut_by (λ q. at_path (spread ks) (k ∷ q)) p ≡ true = rw (uncut, clear) at e in
@@ -105,7 +106,8 @@ module _ {T : Type 0} (m : T → Mark) where
       (at_path (whole (record { name = []; value = record { cut = false; opaque = false }; below = [] }))) none
       (folders f o fs os [] [] (record { cut = false; opaque = false }) ef eo d refl refl (subst (λ k. AreClashes m fs os k) e w))
     where
-      none : (path : Path) → cut_by (at_path (whole (record { name = []; value = record { cut = false; opaque = false }; below = [] }))) path ≡ false
+      none : (path : Path) → cut_by (at_path (whole (record { name = []; value = record { cut = false; opaque = false }; below = [] })))
+          path ≡ false
       none [] = refl
       none (n ∷ path) = nothing_cut path
 
@@ -145,7 +147,8 @@ module _ {T : Type 0} (m : T → Mark) (os : List (Shoot T)) where
   found none_left r n = no_files (marked_in m (named n os))
   found (apart f fs ks w c) r n = elim (same_or_not f.name n) [
     | inl x ↦ (
-        let none : named n ks ≡ None = named_below n ks (subst (λ i. AllByRecursion (λ t. name_cmp i t.name ≡ Less) ks) x.0 (above c f.name r.0)) in
+        let none : named n ks ≡ None = named_below n ks (subst (λ i. AllByRecursion (λ t. name_cmp i t.name ≡ Less) ks) x.0
+              (above c f.name r.0)) in
         rw (x.1, none) (subst (λ i. Clash (marked m (whole f)) (marked_in m (named i os)) (λ q. None)) x.0 w))
     | inr x ↦ rw x.1 (found c r.1 n)
   ]
@@ -154,7 +157,8 @@ module _ {T : Type 0} (m : T → Mark) (os : List (Shoot T)) where
     | inr x ↦ rw (e, x.1) (found c r.1 n)
   ]
 
-  pub are_clashes : {fs : List (Shoot T)} {ks : List (Shoot Mark)} → Clashing m os fs ks → NamesRise fs → NamesRise os → AreClashes m fs os ks
+  pub are_clashes : {fs : List (Shoot T)} {ks : List (Shoot Mark)} → Clashing m os fs ks → NamesRise fs → NamesRise os
+      → AreClashes m fs os ks
   are_clashes {fs} {ks} c r s = record {
     forest = record { names = rise c r; each = each c };
     at = λ n. clash_same (marked_in m (named n fs)) (λ q. marked m (spread fs) (n ∷ q)) (marked_in m (named n os))
@@ -190,7 +194,8 @@ module _ {T : Type 0} (m : T → Mark) (files later others rest rest' : List (Sh
   pub nothing_there : named f.name rest' ≡ None → IsClashing m files later others rest' marks
   nothing_there n = on marks (λ more c. inv.clashing more (apart f later more (rw (sym at_other ∙ n) (no_others (marked m (whole f)))) c))
 
-  pub no_clash : (o : Shoot T) → named f.name rest' ≡ Some o → Clash (marked m (whole f)) (marked m (whole o)) (λ q. None) → IsClashing m files later others rest' marks
+  pub no_clash : (o : Shoot T) → named f.name rest' ≡ Some o → Clash (marked m (whole f)) (marked m (whole o)) (λ q. None)
+      → IsClashing m files later others rest' marks
   no_clash o n w = on marks (λ more c. inv.clashing more (apart f later more (rw (sym at_other ∙ n) w) c))
 
   pub one_clash : (o : Shoot T) (k : Shoot Mark) → named f.name rest' ≡ Some o → IsClashMark m f o k
@@ -222,7 +227,8 @@ unless_none false = refl
 -- what the upper one does not remove, as far as it does not cover it itself
 module _ (el eh one two eo : Path → Option Entry) (mh hidden : Path → Option Mark)
     (first : (q : Path) → one q ≡ unless (cut_by mh q) (el q)) (second : (q : Path) → two q ≡ unless (cut_by hidden q) (one q))
-    (over : (q : Path) → eo q ≡ laid_at upper (two q) (eh q)) (c : Clash (λ q. option_map mark_of (eh q)) (λ q. option_map mark_of (el q)) hidden) where
+    (over : (q : Path) → eo q ≡ laid_at upper (two q) (eh q)) (c : Clash (λ q. option_map mark_of (eh q)) (λ q. option_map mark_of (el q))
+          hidden) where
   abbrev Goal : Path → Type 0
   Goal path = eo path ≡ laid_at upper (unless (removed_by mh eh path) (el path)) (eh path)
 
@@ -236,7 +242,8 @@ module _ (el eh one two eo : Path → Option Entry) (mh hidden : Path → Option
 
   low : (path : Path) → eh path ≡ None → (a b d : Bool) → cut_by mh path ≡ a → cut_by hidden path ≡ b → covered_by eh path ≡ d
       → two path ≡ unless (a || d) (el path)
-  low path e true b d p q r = second path ∙ ap (λ x. unless x (one path)) q ∙ ap (unless b) (first path ∙ ap (λ x. unless x (el path)) p) ∙ unless_none b
+  low path e true b d p q r = second path ∙ ap (λ x. unless x (one path)) q ∙ ap (unless b) (first path ∙ ap (λ x. unless x (el path)) p)
+      ∙ unless_none b
   low path e false true true p q r = second path ∙ ap (λ x. unless x (one path)) q
   low path e false true false p q r = absurd (let x = sym r ∙ c.sound path q in cc)
   low path e false false false p q r = second path ∙ ap (λ x. unless x (one path)) q ∙ first path ∙ ap (λ x. unless x (el path)) p
@@ -262,7 +269,8 @@ module _ (el eh one two eo : Path → Option Entry) (mh hidden : Path → Option
 -- both trees together remove what each of them removes
 module _ (el eh eo : Path → Option Entry) (ml mh replaced mo : Path → Option Mark)
     (over : (q : Path) → eo q ≡ laid_at upper (unless (removed_by mh eh q) (el q)) (eh q))
-    (all : (q : Path) → cut_by mo q ≡ (cut_by ml q || (cut_by replaced q || cut_by mh q))) (c : Clash (λ q. option_map mark_of (el q)) (λ q. option_map mark_of (eh q)) replaced) where
+    (all : (q : Path) → cut_by mo q ≡ (cut_by ml q || (cut_by replaced q || cut_by mh q))) (c : Clash (λ q. option_map mark_of (el q))
+          (λ q. option_map mark_of (eh q)) replaced) where
   upper_stays : (q : Path) (x : Entry) → eh q ≡ Some x → eo q ≡ Some x
   upper_stays q x e = over q ∙ ap (laid_at upper (unless (removed_by mh eh q) (el q))) e ∙ top (unless (removed_by mh eh q) (el q))
     where
@@ -300,7 +308,8 @@ module _ (el eh eo : Path → Option Entry) (ml mh replaced mo : Path → Option
     where
       kept : (path q r : Path) (o : Option Entry) (b : Bool) → path ≡ q ++ r → eh q ≡ o → removed_by mh eh q ≡ b
           → is_uncut (option_map mark_of o) ≡ false → IsFile (el q) → removed_by mo eo path ≡ true
-      kept path q r (Some y) b i e f l x = by_file path q r i (file_here q (Some y) (sym (upper_stays q y e)) (not_not (not (is_directory y.kind)) l))
+      kept path q r (Some y) b i e f l x = by_file path q r i (file_here q (Some y) (sym (upper_stays q y e))
+            (not_not (not (is_directory y.kind)) l))
       kept path q r None true i e f l x = removed_extends mo eo path q r i (of_high q f)
       kept path q r None false i e f l x = by_file path q r i (file_here q (el q) (sym (lower_stays q false e f)) x)
 

@@ -62,7 +62,8 @@ pub first_or_later : {X : Type 0} (x y : X) (xs : List X) → Contains (x ∷ xs
 first_or_later x y xs (zero, l, e) = inl e
 first_or_later x y xs (suc k, l, e) = inr (k, omega arith, e)
 
-some_decided : {X : Type 0} (P : X → Type 0) (xs : List X) → ((x : X) → Contains xs x → IsDecided (P x)) → IsDecided ((x : X) × Contains xs x × P x)
+some_decided : {X : Type 0} (P : X → Type 0) (xs : List X) → ((x : X) → Contains xs x → IsDecided (P x))
+    → IsDecided ((x : X) × Contains xs x × P x)
 some_decided P [] f = inr (λ s. let l = s.1.1 in omega arith)
 some_decided P (x ∷ xs) f = elim (f x (zero, omega arith, refl)) [
   | inl p ↦ inl (x, (zero, omega arith, refl), p)
@@ -87,7 +88,8 @@ module _ (a : List ℕ) (i : IsImage a) where
   ]
 
   -- the members of a directory are few, so what is decided of each is decided of some
-  member_decided : (d : ℕ) → IsOpened a d → (P : ℕ → Type 0) → ((c : ℕ) → IsMember a d c → IsDecided (P c)) → IsDecided ((c : ℕ) × IsMember a d c × P c)
+  member_decided : (d : ℕ) → IsOpened a d → (P : ℕ → Type 0) → ((c : ℕ) → IsMember a d c → IsDecided (P c))
+      → IsDecided ((c : ℕ) × IsMember a d c × P c)
   member_decided d o P f = elim (first_or_none d) [
     | inr none ↦ inr (λ s. let g = at_before a d s.1.in_chain.0 0 s.0 (omega arith) s.1.in_chain.1 in none g.0 g.1)
     | inl first ↦ (
@@ -120,7 +122,8 @@ module _ (a : List ℕ) (i : IsImage a) where
 
   cuts_decided : (path : Path) (d : ℕ) → IsDecided (IsOpened a d) → IsDecided (CutsFrom a d path)
   cuts_decided [] d o = inr (λ x. x)
-  cuts_decided (n ∷ path) d (inr shut) = inr (λ x. elim x [ inl y ↦ shut y.1.opened | inr (inl y) ↦ shut y.1.opened | inr (inr y) ↦ shut y.1.opened ])
+  cuts_decided (n ∷ path) d (inr shut) =
+      inr (λ x. elim x [ inl y ↦ shut y.1.opened | inr (inl y) ↦ shut y.1.opened | inr (inr y) ↦ shut y.1.opened ])
   cuts_decided (n ∷ path) d (inl o) =
       either_decided (named_decided d o (marker ++ n)) (either_decided (named_decided d o opaque)
       (decided_as (λ s. (s.0, s.1, s.2.0, s.2.1), λ s. (s.0, s.1, (s.2, s.3)))
@@ -151,5 +154,6 @@ module _ (a : List ℕ) (i : IsImage a) where
   -- hard links from a path end
   pub has_end : (path : Path) (h : ℕ) → Has a path h → (e : ℕ) × IsFinal a h e
   has_end path h x =
-      let out = sets_out a i (head_of a h) (record { is = refl; from = elim (leads_to a path (root a) h x) [ inl r ↦ inl (sym r) | inr m ↦ inr (inl m) ] }) in
+      let out = sets_out a i (head_of a h) (record { is = refl; from =
+            elim (leads_to a path (root a) h x) [ inl r ↦ inl (sym r) | inr m ↦ inr (inl m) ] }) in
       end_within (suc (count a (places a) h)) h out.leaves (omega arith)

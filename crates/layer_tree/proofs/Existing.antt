@@ -31,7 +31,8 @@ equal_paths [] (n ∷ q) e = absurd (cc)
 equal_paths (m ∷ p) [] e = absurd (cc)
 equal_paths (m ∷ p) (n ∷ q) e = go (equal_paths p q) (slice_cmp nat_cmp m n) refl e
   where
-    go : (path_cmp p q ≡ Equal → p ≡ q) → (o : Ordering) → slice_cmp nat_cmp m n ≡ o → ordering_then o (path_cmp p q) ≡ Equal → m ∷ p ≡ n ∷ q
+    go : (path_cmp p q ≡ Equal → p ≡ q) → (o : Ordering) → slice_cmp nat_cmp m n ≡ o → ordering_then o (path_cmp p q) ≡ Equal
+        → m ∷ p ≡ n ∷ q
     go rest Equal f g = ap (λ x. x ∷ p) (equal m n f) ∙ ap (λ r. n ∷ r) (rest g)
     go rest Less f g = absurd (cc)
     go rest Greater f g = absurd (cc)
@@ -63,7 +64,8 @@ record IsInserted (e : Entry) (entries out : List Entry) : Type 0 where
   rising : Rises out
   among : (f : Entry) → IsAmong f out ↔ ((f ≡ e) ⊎ IsAmong f entries)
 
-inserted : (e : Entry) (es : List Entry) → Rises es → ((f : Entry) → IsAmong f es → e.path ≡ f.path → e ≡ f) → (out : List Entry) × IsInserted e es out
+inserted : (e : Entry) (es : List Entry) → Rises es → ((f : Entry) → IsAmong f es → e.path ≡ f.path → e ≡ f) → (out : List Entry)
+    × IsInserted e es out
 inserted e [] r one = (e ∷ [], record { rising = (tt, tt); among = λ f. (λ m. m, λ m. m) })
 inserted e (f ∷ fs) r one = elim (path_cases e.path f.path) [
   | inl l ↦ (e ∷ f ∷ fs, record { rising = ((l, all_after e.path f.path fs l r.0), r); among = λ g. (λ m. m, λ m. m) })
@@ -91,7 +93,8 @@ inserted e (f ∷ fs) r one = elim (path_cases e.path f.path) [
 free_decided : (layers : List (List ℕ)) → AreImages layers → (path : Path) → IsDecided (IsFree layers path)
 free_decided [] im path = inl tt
 free_decided (a ∷ above) im path =
-    both_decided (both_decided (not_decided (has_decided a im.0 path)) (not_decided (cut_decided a im.0 path))) (free_decided above im.1 path)
+    both_decided (both_decided (not_decided (has_decided a im.0 path)) (not_decided (cut_decided a im.0 path)))
+        (free_decided above im.1 path)
 
 no_top : (a : List ℕ) (above : List (List ℕ)) (path : Path) → ¬ (IsIn a path × IsFree above path)
     → ¬ ((i h : ℕ) × IsTop above path i h) → (i h : ℕ) → ¬ IsTop (a ∷ above) path i h
@@ -109,7 +112,8 @@ top_decided (a ∷ above) im path = elim (top_decided above im.1 path) [
 ]
 
 -- a run shows a path in one place
-one_top : (layers : List (List ℕ)) → AreImages layers → (path : Path) (i h j g : ℕ) → IsTop layers path i h → IsTop layers path j g → (i ≡ j) × (h ≡ g)
+one_top : (layers : List (List ℕ)) → AreImages layers → (path : Path) (i h j g : ℕ) → IsTop layers path i h → IsTop layers path j g
+    → (i ≡ j) × (h ≡ g)
 one_top [] im path i h j g t u = absurd t
 one_top (a ∷ above) im path zero h zero g t u = (refl, one_header a im.0 path (root a) h g t.0 u.0)
 one_top (a ∷ above) im path zero h (suc j) g t u = absurd (top_in above path j g u t.1)
@@ -137,7 +141,8 @@ module _ (layers : List (List ℕ)) (im : AreImages layers) where
       let r = one_top layers im f.path e.layer h f.layer g (subst (λ x. IsTop layers x e.layer h) same t) u in
       let z : Some a ≡ Some b = sym at ∙ ap (slice_get layers) r.0 ∙ at' in
       let w : a ≡ b = cc in
-      let header : e.header ≡ f.header = one_end b g e.header f.header (subst (λ x. IsFinal b x e.header) r.1 (subst (λ x. IsFinal x h e.header) w end)) end' in
+      let header : e.header ≡ f.header = one_end b g e.header f.header
+          (subst (λ x. IsFinal b x e.header) r.1 (subst (λ x. IsFinal x h e.header) w end)) end' in
       ap (λ (x : Path). record { path = x; layer = e.layer; header = e.header }) same
       ∙ ap (λ (x : ℕ). record { path = f.path; layer = x; header = e.header }) r.0
       ∙ ap (λ (x : ℕ). record { path = f.path; layer = f.layer; header = x }) header
@@ -167,7 +172,8 @@ module _ (layers : List (List ℕ)) (im : AreImages layers) where
               record {
                 rising = t.1.rising;
                 shown = λ e m. elim ((t.1.among e).0 m) [ inl z ↦ subst (IsShown layers) (sym z) s | inr y ↦ r.1.shown e y ];
-                whole = λ e h c. (t.1.among e).1 (elim (first_or_later p e.path ps c) [ inl z ↦ inl (one_shown e x h s (sym z ∙ sym q)) | inr d ↦ inr (r.1.whole e h d) ]);
+                whole = λ e h c. (t.1.among e).1 (elim (first_or_later p e.path ps c) [ inl z ↦ inl (one_shown e x h s (sym z ∙ sym q)) |
+                      inr d ↦ inr (r.1.whole e h d) ]);
               },
             ))
       ]

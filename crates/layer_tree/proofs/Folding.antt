@@ -51,7 +51,8 @@ single a i layer h n entry other file w = record {
   exact = λ path p. (
     (λ t. inl other),
     (λ c. or_right (cut_by (λ q. None) path) (covered_by (at_path (whole (record { name = n; value = entry; below = [] }))) path)
-        (file_covers (at_path (whole (record { name = n; value = entry; below = [] }))) path [] path refl (ap not (not_folder entry.kind file)))),
+        (file_covers (at_path (whole (record { name = n; value = entry; below = [] }))) path [] path refl
+              (ap not (not_folder entry.kind file)))),
   );
 }
   where
@@ -78,7 +79,8 @@ module _ (a : List ℕ) (i : IsImage a) (layer h : ℕ) (ms : List Named) (es : 
       let g : Some w.1.name.now ≡ Some n = sym e.name ∙ ap (name a) w.3 ∙ f in
       (w.0, w.1, w.2, w.3, (let q : w.1.name.now ≡ n = cc in q))
     where
-      each_at : (xs : List Named) (j : ℕ) (m : Named) → AllByRecursion (IsNamedMember a h) xs → slice_get xs j ≡ Some m → IsNamedMember a h m
+      each_at : (xs : List Named) (j : ℕ) (m : Named) → AllByRecursion (IsNamedMember a h) xs → slice_get xs j ≡ Some m
+          → IsNamedMember a h m
       each_at [] j m p e = absurd (cc)
       each_at (x ∷ xs) zero m p e = (let s : x ≡ m = cc in subst (IsNamedMember a h) s p.0)
       each_at (x ∷ xs) (suc j) m p e = each_at xs j m p.1 e
@@ -86,7 +88,8 @@ module _ (a : List ℕ) (i : IsImage a) (layer h : ℕ) (ms : List Named) (es : 
   has_at : (j : ℕ) (m : Named) → slice_get ms j ≡ Some m → IsNamedMember a h m
   has_at j m e = each_at ms j m members.each e
     where
-      each_at : (xs : List Named) (j : ℕ) (m : Named) → AllByRecursion (IsNamedMember a h) xs → slice_get xs j ≡ Some m → IsNamedMember a h m
+      each_at : (xs : List Named) (j : ℕ) (m : Named) → AllByRecursion (IsNamedMember a h) xs → slice_get xs j ≡ Some m
+          → IsNamedMember a h m
       each_at [] j m p e = absurd (cc)
       each_at (x ∷ xs) zero m p e = (let s : x ≡ m = cc in subst (IsNamedMember a h) s p.0)
       each_at (x ∷ xs) (suc j) m p e = each_at xs j m p.1 e
@@ -112,25 +115,30 @@ module _ (a : List ℕ) (i : IsImage a) (layer h : ℕ) (ms : List Named) (es : 
       let w = v.only path e (rw f at x) in
       ((s, w.0), (w.1.0, (m.head.offset, t.member, t.name ∙ ap Some r, w.1.1), w.1.2))
 
-  pub entries_of : (n : List ℕ) (entry : Entry) → IsEntryIn a layer h entry → IsBranchOf a layer h (record { name = n; value = entry; below = spread es })
+  pub entries_of : (n : List ℕ) (entry : Entry) → IsEntryIn a layer h entry
+      → IsBranchOf a layer h (record { name = n; value = entry; below = spread es })
   entries_of n entry w = record { rising = branch_rises n entry es entries_forest; shown = shown; only = only }
     where
       shown : (path : Path) (g : ℕ) → IsPlain path → Leads a h path g
           → IsSomeAnd (at_path (whole (record { name = n; value = entry; below = spread es })) path)
           (λ e. IsEntryIn a layer g e)
       shown [] g p l = subst (λ x. IsEntryIn a layer x entry) l w
-      shown (m ∷ path) g p l = rw (at_spread es entries_forest.names m path) (shown_below m path g p l (find_built a layer h m b members.each members.rising))
+      shown (m ∷ path) g p l = rw (at_spread es entries_forest.names m path)
+          (shown_below m path g p l (find_built a layer h m b members.each members.rising))
 
       only : (path : Path) (e : Entry) → at_path (whole
           (record { name = n; value = entry; below = spread es })) path ≡ Some e
           → IsPlain path × ((g : ℕ) × Leads a h path g × IsEntryIn a layer g e)
       only [] e f = (let s : entry ≡ e = cc in (tt, (h, refl, subst (IsEntryIn a layer h) s w)))
-      only (m ∷ path) e f = only_below m path e (sym (at_spread es entries_forest.names m path) ∙ f) (find_built a layer h m b members.each members.rising)
+      only (m ∷ path) e f = only_below m path e (sym (at_spread es entries_forest.names m path) ∙ f)
+          (find_built a layer h m b members.each members.rising)
 
   -- a marker's mark stands for a marker among the members
   white_is : (n : List ℕ) (path : Path) → FoundWhite n ms ws → (cut_through (named n ws) path ≡ true) ↔ HasNamed a h (marker ++ n)
-  white_is n path (unmarked f q) = (λ e. (let y = rw f at e in absurd (cc)), λ x. (let m = member_at (marker ++ n) x.0 x.1 x.2 in absurd (q m.0 m.1 m.2 m.4)))
-  white_is n path (marked j m k f c s e) = (λ y. (let t = has_at j m s in (m.head.offset, t.member, t.name ∙ ap Some e)), λ x. rw f ((all_cut k c).cut path))
+  white_is n path (unmarked f q) = (λ e. (let y = rw f at e in absurd (cc)), λ x. (let m = member_at (marker ++ n) x.0 x.1 x.2 in
+        absurd (q m.0 m.1 m.2 m.4)))
+  white_is n path (marked j m k f c s e) = (λ y. (let t = has_at j m s in (m.head.offset, t.member, t.name ∙ ap Some e)),
+        λ x. rw f ((all_cut k c).cut path))
 
   -- what is removed below a name is what the layer cuts from the member of that name
   below_is : (n : List ℕ) (path : Path) → IsPlain (n ∷ path) → FoundBuilt a layer h n ms es mm
@@ -148,11 +156,13 @@ module _ (a : List ℕ) (i : IsImage a) (layer h : ℕ) (ms : List Named) (es : 
   )
 
   -- what the marks of the whole directory say: it is opaque, or a name in it is cut
-  cut_name : (n : List ℕ) (path : Path) → cut_by (λ q. at_path (spread out) (n ∷ q)) path ≡ (cut_through (named n mm) path || cut_through (named n ws) path)
+  cut_name : (n : List ℕ) (path : Path) → cut_by (λ q. at_path (spread out) (n ∷ q)) path
+      ≡ (cut_through (named n mm) path || cut_through (named n ws) path)
   cut_name n path =
       let f = (forests a layer b members.rising).1 in
       let w = white_forest wh members.rising in
-      cut_united (λ q. at_path (spread out) (n ∷ q)) (λ q. at_path (spread mm) (n ∷ q)) (λ q. at_path (spread ws) (n ∷ q)) (λ q. laid.at n q) path
+      cut_united (λ q. at_path (spread out) (n ∷ q)) (λ q. at_path (spread mm) (n ∷ q)) (λ q. at_path (spread ws) (n ∷ q))
+          (λ q. laid.at n q) path
       ∙ ap (λ x. x || cut_by (λ q. at_path (spread ws) (n ∷ q)) path) (by_name mm f.names n path)
       ∙ ap (λ x. cut_through (named n mm) path || x) (by_name ws w.names n path)
 
@@ -202,7 +212,8 @@ module _ (a : List ℕ) (i : IsImage a) (layer h : ℕ) (ms : List Named) (es : 
     in_turn false false y z true e = absurd (cc)
 
     covered_name : (n : List ℕ) (path : Path) → covered_by (λ q. at_path (spread es) (n ∷ q)) path ≡ covered_by (through (named n es)) path
-    covered_name n path = cut_same (λ q. option_map mark_of (at_path (spread es) (n ∷ q))) (λ q. option_map mark_of (through (named n es) q))
+    covered_name n path = cut_same (λ q. option_map mark_of (at_path (spread es) (n ∷ q)))
+        (λ q. option_map mark_of (through (named n es) q))
         (λ q. ap (λ x. option_map mark_of x) (at_spread es entries_forest.names n q)) path
 
     -- what the branch and the mark of the directory remove
@@ -211,11 +222,14 @@ module _ (a : List ℕ) (i : IsImage a) (layer h : ℕ) (ms : List Named) (es : 
         (at_path (whole (record { name = k; value = entry; below = spread es }))) (n ∷ path)
         ≡ (whole_cut || (removed_by (through (named n mm)) (through (named n es)) path || cut_through (named n ws) path))
     removed_name k n path =
-        ap (λ x. (whole_cut || x) || ((not (is_directory entry.kind) || false) || covered_by (λ q. at_path (spread es) (n ∷ q)) path)) (cut_name n path)
-        ∙ ap (λ x. (whole_cut || (cut_through (named n mm) path || cut_through (named n ws) path)) || ((not (is_directory entry.kind) || false) || x)) (covered_name n path)
+        ap (λ x. (whole_cut || x) || ((not (is_directory entry.kind) || false) || covered_by (λ q. at_path (spread es) (n ∷ q)) path))
+            (cut_name n path)
+        ∙ ap (λ x. (whole_cut || (cut_through (named n mm) path || cut_through (named n ws) path))
+              || ((not (is_directory entry.kind) || false) || x)) (covered_name n path)
         ∙ in_turn whole_cut (cut_through (named n mm) path) (cut_through (named n ws) path) (covered_by (through (named n es)) path)
         (not (is_directory entry.kind)) (ap not is_folder)
-        ∙ ap (λ x. whole_cut || ((x || covered_by (through (named n es)) path) || cut_through (named n ws) path)) (sym (by_through (named n mm) path))
+        ∙ ap (λ x. whole_cut || ((x || covered_by (through (named n es)) path) || cut_through (named n ws) path))
+            (sym (by_through (named n mm) path))
 
     pub removes_of : (n : List ℕ) → RemovesFrom a h
         (at_path (whole (record { name = n; value = record { cut = false; opaque = whole_cut }; below = spread out })))

@@ -72,7 +72,8 @@ and_some : (P : Entry → Type 0) (o : Option Entry) (e : Entry) → o ≡ Some 
 and_some P o e f p = subst (λ x. IsSomeAnd x P) (sym f) p
 
 -- a run leaves a plain path free where it neither shows nor cuts it
-free_if : (layers : List (List ℕ)) (path : Path) → IsPlain path → ((i h : ℕ) → ¬ Shows layers path i h) → ¬ IsCut layers path → IsFree layers path
+free_if : (layers : List (List ℕ)) (path : Path) → IsPlain path → ((i h : ℕ) → ¬ Shows layers path i h) → ¬ IsCut layers path
+    → IsFree layers path
 free_if [] path p s c = tt
 free_if (a ∷ above) path p s c =
     let up : IsFree above path = free_if above path p (λ i h t. s (suc i) h (t.0, t.1)) (λ x. c (inr x)) in
@@ -89,7 +90,8 @@ module _ (first : ℕ) (ls hs : List (List ℕ)) (low high out : TreeRows) (l : 
   entry_low i k e w = record { layer = w.layer; end = (w.end.0, get_low ls hs i w.end.0 w.end.1, w.end.2, w.end.3) }
 
   entry_high : (i j k : ℕ) (e : Entry) → i ≡ length ls + j → IsEntryOf (first + length ls) hs j k e → IsEntryOf first (ls ++ hs) i k e
-  entry_high i j k e d w = record { layer = omega (arith, w.layer); end = (w.end.0, get_high ls hs i j w.end.0 d w.end.1, w.end.2, w.end.3) }
+  entry_high i j k e d w = record { layer = omega (arith, w.layer); end = (w.end.0, get_high ls hs i j w.end.0 d w.end.1, w.end.2,
+        w.end.3) }
 
   uncut : (path : Path) → IsPlain path → ¬ IsCut hs path → (b : Bool) → removes high path ≡ b → b ≡ false
   uncut path p c false e = refl
@@ -181,7 +183,8 @@ module _ (first : ℕ) (ls hs : List (List ℕ)) (low high out : TreeRows) (l : 
   tree_of_both = record {
     rising = lays.rising;
     shown = shows;
-    only = λ path e f. decided path e (entry_at high path) (entry_at low path) (removes high path) refl refl refl (sym (lays.entries path) ∙ f);
+    only = λ path e f. decided path e (entry_at high path) (entry_at low path) (removes high path) refl refl refl (sym (lays.entries path)
+          ∙ f);
     cuts = cuts_exactly;
   }
 

@@ -13,7 +13,8 @@ use Rattle.layer_tree.specs.declared.members.Named.{Named}
 use Rattle.layer_tree.specs.Members.{IsKeyed, IsByName}
 
 -- where names rise keys do not fall
-less_by_both : (x y : Named) → IsKeyed x → IsKeyed y → name_cmp x.name.now y.name.now ≡ Less → name_cmp (x.key ∷ x.name.now) (y.key ∷ y.name.now) ≡ Less
+less_by_both : (x y : Named) → IsKeyed x → IsKeyed y → name_cmp x.name.now y.name.now ≡ Less
+    → name_cmp (x.key ∷ x.name.now) (y.key ∷ y.name.now) ≡ Less
 less_by_both x y p q c =
     let le : key 8 x.name.now ≤ key 8 y.name.now = key_order 8 x.name.now y.name.now (each_byte x.name.now p.1) c in
     let keys : x.key ≤ y.key = rw (p.0, q.0) le in

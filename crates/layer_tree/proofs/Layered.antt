@@ -23,7 +23,8 @@ final_directory a h e (stays n) k = k
 final_directory a h e (follows l f) k = absurd (let m = l.1 in cc)
 
 -- one name more
-pub leads_on : (a : List ℕ) (d : ℕ) (q : Path) (e : ℕ) (n : List ℕ) (c : ℕ) → Leads a d q e → IsMember a e c → name a c ≡ Some n → Leads a d (q ++ n ∷ []) c
+pub leads_on : (a : List ℕ) (d : ℕ) (q : Path) (e : ℕ) (n : List ℕ) (c : ℕ) → Leads a d q e → IsMember a e c → name a c ≡ Some n
+    → Leads a d (q ++ n ∷ []) c
 leads_on a d [] e n c l m f = (c, subst (λ x. IsMember a x c) (sym l) m, f, refl)
 leads_on a d (k ∷ q) e n c (x, m', f', l) m f = (x, m', f', leads_on a x q e n c l m f)
 
@@ -42,9 +43,12 @@ module _ (a : List ℕ) where
 
   -- what is removed is cut, from every directory above
   removed_cut : (d : ℕ) (q : Path) (y : List ℕ) (rest : Path) → Removes d q y → CutsFrom a d (q ++ y ∷ rest)
-  removed_cut d [] y rest (inl x) = let r = last_member a d [] (marker ++ y) x.0 x.1 in inl (x.0, subst (λ e. IsMember a e x.0) (sym r.1) r.2, r.3)
-  removed_cut d [] y rest (inr (inl x)) = let r = last_member a d [] opaque x.0 x.1 in inr (inl (x.0, subst (λ e. IsMember a e x.0) (sym r.1) r.2, r.3))
-  removed_cut d [] y rest (inr (inr x)) = let r = last_member a d [] y x.0 x.1 in inr (inr (x.0, subst (λ e. IsMember a e x.0) (sym r.1) r.2, r.3, inl x.2))
+  removed_cut d [] y rest (inl x) = let r = last_member a d [] (marker ++ y) x.0 x.1 in
+      inl (x.0, subst (λ e. IsMember a e x.0) (sym r.1) r.2, r.3)
+  removed_cut d [] y rest (inr (inl x)) = let r = last_member a d [] opaque x.0 x.1 in
+      inr (inl (x.0, subst (λ e. IsMember a e x.0) (sym r.1) r.2, r.3))
+  removed_cut d [] y rest (inr (inr x)) = let r = last_member a d [] y x.0 x.1 in
+      inr (inr (x.0, subst (λ e. IsMember a e x.0) (sym r.1) r.2, r.3, inl x.2))
   removed_cut d (k ∷ q) y rest (inl (c, (x, m, f, l))) = inr (inr (x, m, f, inr (removed_cut x q y rest (inl (c, l)))))
   removed_cut d (k ∷ q) y rest (inr (inl (c, (x, m, f, l)))) = inr (inr (x, m, f, inr (removed_cut x q y rest (inr (inl (c, l))))))
   removed_cut d (k ∷ q) y rest (inr (inr (c, (x, m, f, l), n))) = inr (inr (x, m, f, inr (removed_cut x q y rest (inr (inr (c, l, n))))))
@@ -115,20 +119,23 @@ module _ (a : List ℕ) (i : IsImage a) where
         (c.0, (r.above, r.first, r.rest, r.is, ((r.inside.0, r.inside.1, opened_directory a i r.inside.2), r.removes)))),
   )
 
-  module _ (layer : ℕ) (e : Shoot Entry) (k : Shoot Mark) (b : IsBranchOf a layer (root a) e) (m : RemovesFrom a (root a) (at_path (whole k)) e) where
+  module _ (layer : ℕ) (e : Shoot Entry) (k : Shoot Mark) (b : IsBranchOf a layer (root a) e)
+      (m : RemovesFrom a (root a) (at_path (whole k)) e) where
     in_run : (h : ℕ) (x : Entry) → IsEntryIn a layer h x → IsEntryOf layer (a ∷ []) 0 h x
     in_run h x w = record { layer = omega (arith, w.number); end = (a, refl, w.final, w.kind) }
 
     is_shown : (path : Path) (j h : ℕ) → Shows (a ∷ []) path j h → IsSomeAnd (at_path (whole e) path) (λ x. IsEntryOf layer (a ∷ []) j h x)
     is_shown path j h s =
         let t = (alone a path j h).0 s in
-        weaker (at_path (whole e) path) (λ x w. subst (λ n. IsEntryOf layer (a ∷ []) n h x) (sym t.1) (in_run h x w)) (b.shown path h t.0 t.2)
+        weaker (at_path (whole e) path) (λ x w. subst (λ n. IsEntryOf layer (a ∷ []) n h x) (sym t.1) (in_run h x w))
+            (b.shown path h t.0 t.2)
       where
         weaker : {P Q : Entry → Type 0} (o : Option Entry) → ((x : Entry) → P x → Q x) → IsSomeAnd o P → IsSomeAnd o Q
         weaker None f p = p
         weaker (Some x) f p = f x p
 
-    is_only : (path : Path) (x : Entry) → at_path (whole e) path ≡ Some x → (j h : ℕ) × Shows (a ∷ []) path j h × IsEntryOf layer (a ∷ []) j h x
+    is_only : (path : Path) (x : Entry) → at_path (whole e) path ≡ Some x → (j h : ℕ) × Shows (a ∷ []) path j h
+        × IsEntryOf layer (a ∷ []) j h x
     is_only path x f =
         let w = b.only path x f in
         (0, w.1.0, (alone a path 0 w.1.0).1 (w.0, refl, w.1.1), in_run w.1.0 x w.1.2)
@@ -154,7 +161,8 @@ module _ (a : List ℕ) (i : IsImage a) where
 
     -- the root's entry is a directory
     pub root_stays : e.value.kind ≡ Directory
-    root_stays = let w = b.shown [] (root a) tt refl in w.kind ∙ final_directory a (root a) e.value.place.header w.final (root_directory a i)
+    root_stays = let w = b.shown [] (root a) tt refl in w.kind ∙ final_directory a (root a) e.value.place.header w.final
+        (root_directory a i)
 
     -- no mark cuts the root
     pub root_kept : k.value.cut ≡ false

@@ -27,12 +27,14 @@ last_name [] = inl refl
 last_name (m ∷ q) = elim (last_name q) [ inl e ↦ inr ([], m, ap (λ r. m ∷ r) e) | inr (p, y, e) ↦ inr (m ∷ p, y, ap (λ r. m ∷ r) e) ]
 
 -- a path that is no directory cuts what would stand below it
-other_cuts : (a : List ℕ) → IsImage a → (q : Path) (n : List ℕ) (g : ℕ) → IsPlain (q ++ n ∷ []) → Has a q g → kind a g ≢ Directory → Cuts a (q ++ n ∷ [])
+other_cuts : (a : List ℕ) → IsImage a → (q : Path) (n : List ℕ) (g : ℕ) → IsPlain (q ++ n ∷ []) → Has a q g → kind a g ≢ Directory
+    → Cuts a (q ++ n ∷ [])
 other_cuts a i q n g p has other = elim (last_name q) [
   | inl e ↦ absurd (let f : root a ≡ g = subst (λ r. Has a r g) e has in other (subst (λ h. kind a h ≡ Directory) f (root_directory a i)))
   | inr (r, y, e) ↦ (
       let in_a : Has a (r ++ y ∷ []) g = subst (λ s. Has a s g) e has in
-      (p, (r, y, n ∷ [], ap (λ s. s ++ n ∷ []) e ∙ append_assoc r (y ∷ []) (n ∷ []), (above_has a i r y (g, in_a), inr (inr (g, in_a, other))))))
+      (p, (r, y, n ∷ [], ap (λ s. s ++ n ∷ []) e ∙ append_assoc r (y ∷ []) (n ∷ []),
+            (above_has a i r y (g, in_a), inr (inr (g, in_a, other))))))
 ]
 
 -- what is cut is so with a name more
@@ -56,7 +58,8 @@ clash (b ∷ above) im q n zero h (suc j) g a p t u s k = free_clash above im.1 
   where
     free_clash : (run : List (List ℕ)) → AreImages run → (j : ℕ) → IsFree run (q ++ n ∷ []) → IsTop run q j g → slice_get run j ≡ Some a → ⊥
     free_clash [] im j f u s = u
-    free_clash (c ∷ run) im zero f u s = f.0.1 (other_cuts c im.0 q n g p u.0 (let z : c ≡ a = cc in subst (λ x. kind x g ≢ Directory) (sym z) k))
+    free_clash (c ∷ run) im zero f u s = f.0.1 (other_cuts c im.0 q n g p u.0 (let z : c ≡ a = cc in
+          subst (λ x. kind x g ≢ Directory) (sym z) k))
     free_clash (c ∷ run) im (suc j) f u s = free_clash run im.1 j f.1 u s
 clash (b ∷ above) im q n (suc i) h zero g a p t u s k = has_clash above im.1 i t u.1
   where
@@ -70,7 +73,8 @@ clash (b ∷ above) im q n (suc i) h (suc j) g a p t u s k = clash above im.1 q 
 gap : (layers : List (List ℕ)) → AreImages layers → (q : Path) (n : List ℕ) (i h : ℕ) → IsPlain (q ++ n ∷ [])
     → IsTop layers (q ++ n ∷ []) i h → ((j g : ℕ) → ¬ IsTop layers q j g) → ⊥
 gap [] im q n i h p t none = t
-gap (a ∷ above) im q n zero h p t none = let d = above_has a im.0 q n (h, t.0) in none zero d.0 (d.1, free above im.1 (λ j g u. none (suc j) g u) t.1)
+gap (a ∷ above) im q n zero h p t none = let d = above_has a im.0 q n (h, t.0) in
+    none zero d.0 (d.1, free above im.1 (λ j g u. none (suc j) g u) t.1)
   where
     free : (run : List (List ℕ)) → AreImages run → ((j g : ℕ) → ¬ IsTop run q j g) → IsFree run (q ++ n ∷ []) → IsFree run q
     free [] im none f = tt

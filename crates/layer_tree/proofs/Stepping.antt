@@ -95,7 +95,8 @@ module _ {T : Type 0} (marks : List (Shoot Mark)) where
   found (Left_out l ls out m e c k) r n p = elim (same_or_not l.name n) [
     | inl x ↦ (
         let f : named n marks ≡ Some m = subst (λ i. named i marks ≡ Some m) x.0 e in
-        let none : named n out ≡ None = named_below n out (subst (λ i. AllByRecursion (λ t. name_cmp i t.name ≡ Less) out) x.0 (above k l.name r.0)) in
+        let none : named n out ≡ None = named_below n out (subst (λ i. AllByRecursion (λ t. name_cmp i t.name ≡ Less) out) x.0
+              (above k l.name r.0)) in
         rw (none, x.1, f) (sym (cut_off (cut_by (at_path (whole m)) p) (at_path (whole l) p) (c.cut p))))
     | inr x ↦ rw x.1 (found k r.1 n p)
   ]
@@ -127,7 +128,8 @@ pub still_same : {T U : Type 0} (name : List ℕ) (rest rest' all : List (Shoot 
     → AllByRecursion (λ k. named k.name rest ≡ named k.name all) ls
     → AllByRecursion (λ k. named k.name rest' ≡ named k.name all) ls
 still_same name rest rest' all from [] a s = tt
-still_same name rest rest' all from (k ∷ ks) a s = (from.same k.name (not_less name k.name a.0) ∙ s.0, still_same name rest rest' all from ks a.1 s.1)
+still_same name rest rest' all from (k ∷ ks) a s = (from.same k.name (not_less name k.name a.0) ∙ s.0,
+      still_same name rest rest' all from ks a.1 s.1)
 
 -- lows are gone through up to ls, with the marks up to rest
 pub record Keeping {T : Type 0} (lows ls out : List (Shoot T)) (marks rest : List (Shoot Mark)) : Type 0 where
@@ -185,7 +187,8 @@ module _ {T : Type 0} (lows ls out : List (Shoot T)) (marks rest rest' : List (S
 pub keeping_ended : {T : Type 0} (lows ls out : List (Shoot T)) (marks rest : List (Shoot Mark))
     → Keeping lows ls out marks rest → ls ≡ [] → IsForest lows → NamesRise marks
     → AreKept lows marks out
-keeping_ended lows ls out marks rest inv e f r = are_kept marks (subst (Keeps marks lows) (append-nil out) (inv.kept [] (rw e None_left))) f r
+keeping_ended lows ls out marks rest inv e f r = are_kept marks (subst (Keeps marks lows) (append-nil out) (inv.kept [] (rw e None_left))) f
+    r
 
 -- a mark that cuts its branch leaves nothing
 pub all_cut : (mark : Shoot Mark) → mark.value.cut ≡ true → IsLeftOut mark

@@ -15,7 +15,8 @@ at fallen s = get_or fallen s More
 pub record Fell (keys : List ℕ) (slots : ℕ) (fallen : List Fallen) (i : ℕ) : Type 0 where
   pub level : length fallen ≡ slots
   pub some : (a : ℕ) → a < i → at fallen (slot_of (slice_index keys a) slots) ≢ Nothing
-  pub many : (a b : ℕ) → a < b → b < i → slot_of (slice_index keys a) slots ≡ slot_of (slice_index keys b) slots → at fallen (slot_of (slice_index keys b) slots) ≢ One
+  pub many : (a b : ℕ) → a < b → b < i → slot_of (slice_index keys a) slots ≡ slot_of (slice_index keys b) slots
+      → at fallen (slot_of (slice_index keys b) slots) ≢ One
 
 pub fell_none : (keys : List ℕ) (slots : ℕ) (fallen : List Fallen) → length fallen ≡ slots → Fell keys slots fallen 0
 fell_none keys slots fallen l = record { level = l; some = λ a m. absurd (omega arith); many = λ a b m n. absurd (omega arith) }
@@ -36,7 +37,9 @@ past (x ∷ xs) zero l = absurd (omega arith)
 past (x ∷ xs) (suc s) l = past xs s (omega arith)
 
 -- with one key more
-module _ (keys : List ℕ) (slots : ℕ) (fallen fallen' : List Fallen) (i : ℕ) (f : Fell keys slots fallen i) (level : length fallen' ≡ slots) (here : at fallen' (slot_of (slice_index keys i) slots) ≡ and_one (at fallen (slot_of (slice_index keys i) slots))) (apart : (t : ℕ) → t ≢ slot_of (slice_index keys i) slots → at fallen' t ≡ at fallen t) where
+module _ (keys : List ℕ) (slots : ℕ) (fallen fallen' : List Fallen) (i : ℕ) (f : Fell keys slots fallen i) (level : length fallen' ≡ slots)
+    (here : at fallen' (slot_of (slice_index keys i) slots) ≡ and_one (at fallen (slot_of (slice_index keys i) slots))) (apart : (t : ℕ)
+      → t ≢ slot_of (slice_index keys i) slots → at fallen' t ≡ at fallen t) where
   same_or_not : (t s : ℕ) → (t ≡ s) ⊎ (t ≢ s)
   same_or_not t s = elim (cases_order t s) [
     | inl q ↦ inl q
@@ -47,18 +50,22 @@ module _ (keys : List ℕ) (slots : ℕ) (fallen fallen' : List Fallen) (i : ℕ
   some : (a : ℕ) → a < i + 1 → at fallen' (slot_of (slice_index keys a) slots) ≢ Nothing
   some a l e = by (same_or_not (slot_of (slice_index keys a) slots) (slot_of (slice_index keys i) slots)) (below_or_at a i l)
     where
-      by : (slot_of (slice_index keys a) slots ≡ slot_of (slice_index keys i) slots) ⊎ (slot_of (slice_index keys a) slots ≢ slot_of (slice_index keys i) slots) → (a < i) ⊎ (a ≡ i) → ⊥
+      by : (slot_of (slice_index keys a) slots ≡ slot_of (slice_index keys i) slots)
+          ⊎ (slot_of (slice_index keys a) slots ≢ slot_of (slice_index keys i) slots) → (a < i) ⊎ (a ≡ i) → ⊥
       by (inl s) _ = not_nothing _ (sym here ∙ ap (at fallen') (sym s) ∙ e)
       by (inr n) (inl m) = f.some a m (sym (apart _ n) ∙ e)
       by (inr n) (inr m) = n (ap (λ x. slot_of (slice_index keys x) slots) m)
 
-  many : (a b : ℕ) → a < b → b < i + 1 → slot_of (slice_index keys a) slots ≡ slot_of (slice_index keys b) slots → at fallen' (slot_of (slice_index keys b) slots) ≢ One
+  many : (a b : ℕ) → a < b → b < i + 1 → slot_of (slice_index keys a) slots ≡ slot_of (slice_index keys b) slots
+      → at fallen' (slot_of (slice_index keys b) slots) ≢ One
   many a b m l q e = by (same_or_not (slot_of (slice_index keys b) slots) (slot_of (slice_index keys i) slots)) (below_or_at b i l)
     where
-      held : slot_of (slice_index keys b) slots ≡ slot_of (slice_index keys i) slots → at fallen (slot_of (slice_index keys i) slots) ≢ Nothing
+      held : slot_of (slice_index keys b) slots ≡ slot_of (slice_index keys i) slots
+          → at fallen (slot_of (slice_index keys i) slots) ≢ Nothing
       held s n = f.some a (omega arith) (ap (at fallen) (q ∙ s) ∙ n)
 
-      by : (slot_of (slice_index keys b) slots ≡ slot_of (slice_index keys i) slots) ⊎ (slot_of (slice_index keys b) slots ≢ slot_of (slice_index keys i) slots) → (b < i) ⊎ (b ≡ i) → ⊥
+      by : (slot_of (slice_index keys b) slots ≡ slot_of (slice_index keys i) slots)
+          ⊎ (slot_of (slice_index keys b) slots ≢ slot_of (slice_index keys i) slots) → (b < i) ⊎ (b ≡ i) → ⊥
       by (inl s) _ = not_one _ (held s) (sym here ∙ ap (at fallen') (sym s) ∙ e)
       by (inr n) (inl o) = f.many a b m o q (sym (apart _ n) ∙ e)
       by (inr n) (inr o) = n (ap (λ x. slot_of (slice_index keys x) slots) o)
@@ -66,14 +73,18 @@ module _ (keys : List ℕ) (slots : ℕ) (fallen fallen' : List Fallen) (i : ℕ
   pub more : Fell keys slots fallen' (i + 1)
   more = record { level = level; some = some; many = many }
 
-pub fell_within : (keys : List ℕ) (slots : ℕ) (fallen fallen' : List Fallen) (i s : ℕ) → Fell keys slots fallen i → s ≡ slot_of (slice_index keys i) slots → s < slots → fallen' ≡ slice_set fallen s (and_one (at fallen s)) → Fell keys slots fallen' (i + 1)
+pub fell_within : (keys : List ℕ) (slots : ℕ) (fallen fallen' : List Fallen) (i s : ℕ) → Fell keys slots fallen i
+    → s ≡ slot_of (slice_index keys i) slots → s < slots → fallen' ≡ slice_set fallen s (and_one (at fallen s))
+    → Fell keys slots fallen' (i + 1)
 fell_within keys slots fallen fallen' i s f e l set =
     let level = f.level in
     more keys slots fallen fallen' i f (ap length set ∙ simp length-set f.level)
-    (subst (λ x. at fallen' x ≡ and_one (at fallen x)) e (ap (λ xs. at xs s) set ∙ get_or-set_same fallen s (and_one (at fallen s)) More (omega arith)))
+    (subst (λ x. at fallen' x ≡ and_one (at fallen x)) e (ap (λ xs. at xs s) set ∙ get_or-set_same fallen s (and_one (at fallen s)) More
+          (omega arith)))
     (λ t n. ap (λ xs. at xs t) set ∙ get_or-set_other fallen s t (and_one (at fallen s)) More (λ q. n (q ∙ e)))
 
-pub fell_beyond : (keys : List ℕ) (slots : ℕ) (fallen : List Fallen) (i s : ℕ) → Fell keys slots fallen i → s ≡ slot_of (slice_index keys i) slots → slots ≤ s → Fell keys slots fallen (i + 1)
+pub fell_beyond : (keys : List ℕ) (slots : ℕ) (fallen : List Fallen) (i s : ℕ) → Fell keys slots fallen i
+    → s ≡ slot_of (slice_index keys i) slots → slots ≤ s → Fell keys slots fallen (i + 1)
 fell_beyond keys slots fallen i s f e l =
     let level = f.level in
     let m = past fallen s (omega arith) in
@@ -81,13 +92,17 @@ fell_beyond keys slots fallen i s f e l =
     (subst (λ x. at fallen x ≡ and_one (at fallen x)) e (m ∙ sym (ap and_one m)))
     (λ t n. refl)
 
-pub all_fell : (keys : List ℕ) (slots : ℕ) (fallen : List Fallen) (i : ℕ) → length keys ≤ i → slots ≤ 2 ^ 32 → Fell keys slots fallen i → HaveFallen keys fallen
+pub all_fell : (keys : List ℕ) (slots : ℕ) (fallen : List Fallen) (i : ℕ) → length keys ≤ i → slots ≤ 2 ^ 32 → Fell keys slots fallen i
+    → HaveFallen keys fallen
 all_fell keys slots fallen i l few f = record {
   few = subst (λ n. n ≤ 2 ^ 32) (sym f.level) few;
-  once = λ k m alone j n e. one k m (get_or_from_slice_get fallen _ One More (subst (λ n. slice_get fallen (slot_of (slice_index keys k) n) ≡ Some One) f.level alone)) j n e (cases_order j k);
+  once = λ k m alone j n e. one k m (get_or_from_slice_get fallen _ One More (subst (λ n. slice_get fallen (slot_of (slice_index keys k) n)
+        ≡ Some One) f.level alone)) j n e (cases_order j k);
 }
   where
-    one : (k : ℕ) → k < length keys → at fallen (slot_of (slice_index keys k) slots) ≡ One → (j : ℕ) → j < length keys → slice_index keys j ≡ slice_index keys k → (j ≡ k) ⊎ ((j < k) ⊎ (k < j)) → j ≡ k
+    one : (k : ℕ) → k < length keys → at fallen (slot_of (slice_index keys k) slots) ≡ One → (j : ℕ) → j < length keys
+        → slice_index keys j ≡ slice_index keys k → (j ≡ k) ⊎ ((j < k) ⊎ (k < j)) → j ≡ k
     one k m alone j n e (inl q) = q
     one k m alone j n e (inr (inl q)) = absurd (f.many j k q (omega arith) (ap (λ x. slot_of x slots) e) alone)
-    one k m alone j n e (inr (inr q)) = absurd (f.many k j q (omega arith) (ap (λ x. slot_of x slots) (sym e)) (ap (λ x. at fallen (slot_of x slots)) e ∙ alone))
+    one k m alone j n e (inr (inr q)) = absurd (f.many k j q (omega arith) (ap (λ x. slot_of x slots) (sym e))
+          (ap (λ x. at fallen (slot_of x slots)) e ∙ alone))

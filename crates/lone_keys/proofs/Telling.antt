@@ -17,17 +17,20 @@ pub record Told (keys : List ℕ) (once : List Bool) (i : ℕ) : Type 0 where
 pub told_none : (keys : List ℕ) (once : List Bool) → once ≡ [] → Told keys once 0
 told_none keys once e = record { level = ap length e; each = λ k l. absurd (omega arith) }
 
-pub told_more : (keys : List ℕ) (once once' : List Bool) (i : ℕ) (is : Bool) → once' ≡ once ++ is ∷ [] → (is ≡ true → IsOnce keys i) → Told keys once i → Told keys once' (i + 1)
+pub told_more : (keys : List ℕ) (once once' : List Bool) (i : ℕ) (is : Bool) → once' ≡ once ++ is ∷ [] → (is ≡ true → IsOnce keys i)
+    → Told keys once i → Told keys once' (i + 1)
 told_more keys once once' i is p own t = record {
   level = ap length p ∙ length-append once (is ∷ []) ∙ ap (λ n. n + 1) t.level;
   each = λ k l e. one k e (below_or_at k i l);
 }
   where
     one : (k : ℕ) → get_or once' k false ≡ true → (k < i) ⊎ (k ≡ i) → IsOnce keys k
-    one k e (inl m) = t.each k m (sym (get_or_append_left once (is ∷ []) false k (let n = t.level in omega arith)) ∙ ap (λ xs. get_or xs k false) (sym p) ∙ e)
+    one k e (inl m) = t.each k m (sym (get_or_append_left once (is ∷ []) false k (let n = t.level in omega arith))
+          ∙ ap (λ xs. get_or xs k false) (sym p) ∙ e)
     one k e (inr m) =
         let at : k ≡ length once = m ∙ sym t.level in
-        subst (IsOnce keys) (sym m) (own (sym (get_or_at once is [] false (length once) refl) ∙ ap (λ n. get_or (once ++ is ∷ []) n false) (sym at) ∙ ap (λ xs. get_or xs k false) (sym p) ∙ e))
+        subst (IsOnce keys) (sym m) (own (sym (get_or_at once is [] false (length once) refl) ∙ ap (λ n. get_or (once ++ is ∷ []) n false)
+              (sym at) ∙ ap (λ xs. get_or xs k false) (sym p) ∙ e))
 
 pub all_told : (keys : List ℕ) (once : List Bool) (i : ℕ) → i ≡ length keys → Told keys once i → AreSeenOnce keys once
 all_told keys once i e t = record { level = t.level ∙ e; each = λ k l o. t.each k (let m = e in omega arith) o }

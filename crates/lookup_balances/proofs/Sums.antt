@@ -22,7 +22,8 @@ none_moved b = record { same = refl; each = λ i h. omega (arith, ints) }
 pub moved_on : (xs ys : List Move) (a b c : List ℤ) → IsMoved xs a b → IsMoved ys b c → IsMoved (xs ++ ys) a c
 moved_on xs ys a b c m n = record {
   same = n.same ∙ m.same;
-  each = λ i h. (let s = m.same in let e = m.each i h in let f = n.each i (omega arith) in let g = balance_append (i + 1) xs ys in omega (arith, ints));
+  each = λ i h. (let s = m.same in let e = m.each i h in let f = n.each i (omega arith) in let g = balance_append (i + 1) xs ys in
+        omega (arith, ints));
 }
 
 weighed_one : (b : Bool) (x : ℤ) → unsigned_abs (cond b x (pos 0)) ≤ unsigned_abs x
@@ -38,7 +39,8 @@ weighed node (m ∷ moves) =
     omega arith
 
 -- balances get further from 0 by no more than the moves' weight
-pub within_moved : (limit : ℕ) (moves : List Move) (a b : List ℤ) → AreWithin limit a → IsMoved moves a b → AreWithin (limit + weight moves) b
+pub within_moved : (limit : ℕ) (moves : List Move) (a b : List ℤ) → AreWithin limit a → IsMoved moves a b
+    → AreWithin (limit + weight moves) b
 within_moved limit moves a b w m = record {
   each = λ i h. (
       let s = m.same in
@@ -82,15 +84,18 @@ module _ (b : List ℤ) (place : ℕ) (amount : ℤ) (l : place < length b) wher
   one_moved = record { same = length-set b place _; each = λ i h. at_place i (place + 1 == i + 1) refl }
 
 -- a move of a node that has no balance
-pub none_there : (b : List ℤ) (node : ℕ) (amount : ℤ) → (node ≡ 0) ⊎ (length b < node) → IsMoved (record { node = node; amount = amount } ∷ []) b b
+pub none_there : (b : List ℤ) (node : ℕ) (amount : ℤ) → (node ≡ 0) ⊎ (length b < node)
+    → IsMoved (record { node = node; amount = amount } ∷ []) b b
 none_there b node amount o = record { same = refl; each = λ i h. elsewhere i h (node == i + 1) refl }
   where
-    elsewhere : (i : ℕ) → i < length b → (t : Bool) → (node == i + 1) ≡ t → balance_at b i ≡ balance_at b i +ℤ (cond t amount (pos 0) +ℤ pos 0)
+    elsewhere : (i : ℕ) → i < length b → (t : Bool) → (node == i + 1) ≡ t
+        → balance_at b i ≡ balance_at b i +ℤ (cond t amount (pos 0) +ℤ pos 0)
     elsewhere i h true e = let p = eqb-true node (i + 1) e in absurd (elim o [ inl z ↦ omega arith | inr z ↦ omega arith ])
     elsewhere i h false e = omega (arith, ints)
 
 -- the sum of a balance and an amount that are not far from 0, as 128 bits hold them
-module _ (b : List ℤ) (node : ℕ) (amount : ℤ) (w : AreWithin (2 ^ 125) b) (s : unsigned_abs amount ≤ 2 ^ 125) (l : node - 1 < length b) where
+module _ (b : List ℤ) (node : ℕ) (amount : ℤ) (w : AreWithin (2 ^ 125) b) (s : unsigned_abs amount ≤ 2 ^ 125) (l : node - 1 < length b)
+    where
   abbrev held : ℤ → ℤ
   held z = to_z w128 (of_z w128 z)
 
@@ -116,4 +121,5 @@ module _ (b : List ℤ) (node : ℕ) (amount : ℤ) (w : AreWithin (2 ^ 125) b) 
       let e : held (held old +ℤ held amount) ≡ old +ℤ amount = ap held parts ∙ as_held (old +ℤ amount) small_sum in
       let k : node - 1 + 1 ≡ node = omega (arith, n) in
       subst (λ (z : ℤ). IsMoved (record { node = node; amount = amount } ∷ []) b (set b (node - 1) z)) (sym e)
-      (subst (λ (i : ℕ). IsMoved (record { node = i; amount = amount } ∷ []) b (set b (node - 1) (old +ℤ amount))) k (one_moved b (node - 1) amount l))
+      (subst (λ (i : ℕ). IsMoved (record { node = i; amount = amount } ∷ []) b (set b (node - 1) (old +ℤ amount))) k
+            (one_moved b (node - 1) amount l))

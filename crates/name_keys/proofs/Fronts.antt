@@ -55,14 +55,16 @@ pub share : {X : Type 0} (f : X → List ℕ) (rows : List X) (n : ℕ) (first l
 share f rows n first last a b rise some is_first is_last at bt l e =
     let m = length-map rows f in
     let x : first_of (map f rows) ≡ a = get_or-map f rows 0 first [] some ∙ ap f (sym is_first) ∙ sym at in
-    let y : slice_index_or (map f rows) (length rows - 1) [] ≡ b = get_or-map f rows (length rows - 1) last [] (omega arith) ∙ ap f (sym is_last) ∙ sym bt in
+    let y : slice_index_or (map f rows) (length rows - 1) [] ≡ b = get_or-map f rows (length rows - 1) last [] (omega arith)
+        ∙ ap f (sym is_last) ∙ sym bt in
     record { long = rw x l; same = all_alike n (map f rows) rise (rw (m, x, y) e) }
 
 pub share_none : (names : List (List ℕ)) → ShareFront 0 names
 share_none names = record { long = omega arith; same = λ k d l. refl }
 
 -- each name has the bytes that all share
-pub long_each : (n : ℕ) (names : List (List ℕ)) → ShareFront n names → (k : ℕ) (d : List ℕ) → k < length names → n ≤ length (slice_index_or names k d)
+pub long_each : (n : ℕ) (names : List (List ℕ)) → ShareFront n names → (k : ℕ) (d : List ℕ) → k < length names
+    → n ≤ length (slice_index_or names k d)
 long_each n names b k d l =
     let s = ap length (b.same k d l) in
     let t = length-take-le n (first_of names) b.long in

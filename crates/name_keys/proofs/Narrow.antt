@@ -20,8 +20,10 @@ module _ (shared : ℕ) (keys : List ℕ) (names : List (List ℕ)) (is : AreKey
   pub key_at : (k : ℕ) (d : List ℕ) (e : ℕ) → k < length names → slice_index_or keys k e ≡ key 8 (drop shared (slice_index_or names k d))
   key_at k d e l = ap (λ (xs : List ℕ). slice_index_or xs k e) is.made ∙ get_or-map (λ name. key 8 (drop shared name)) names k d e l
 
-  split : (k : ℕ) (d : List ℕ) → k < length names → slice_index_or names k d ≡ take shared (first_of names) ++ drop shared (slice_index_or names k d)
-  split k d l = let name = slice_index_or names k d in sym (take-append-drop shared name) ∙ ap (λ (xs : List ℕ). xs ++ drop shared name) (is.front.same k d l)
+  split : (k : ℕ) (d : List ℕ) → k < length names → slice_index_or names k d ≡ take shared (first_of names)
+      ++ drop shared (slice_index_or names k d)
+  split k d l = let name = slice_index_or names k d in sym (take-append-drop shared name) ∙ ap (λ (xs : List ℕ). xs ++ drop shared name)
+      (is.front.same k d l)
 
   rest_bytes : (k : ℕ) (d : List ℕ) → k < length names → Bytes (drop shared (slice_index_or names k d))
   rest_bytes k d l = bytes-drop shared _ (each_byte _ (is.bytes k d l))
@@ -35,13 +37,16 @@ module _ (shared : ℕ) (keys : List ℕ) (names : List (List ℕ)) (is : AreKey
         let front = take shared (first_of names) in
         let x = slice_index_or names i [] in
         let y = slice_index_or names j [] in
-        let c : slice_cmp nat_cmp (front ++ drop shared x) (front ++ drop shared y) ≡ Less = rw (← split i [] (omega arith), ← split j [] (omega arith)) (is.rise i j [] q (omega arith)) in
-        rw (key_at i [] e (omega arith), key_at j [] e (omega arith)) (key_order 8 (drop shared x) (drop shared y) (rest_bytes i [] (omega arith)) (sym (cmp-front front (drop shared x) (drop shared y)) ∙ c))
+        let c : slice_cmp nat_cmp (front ++ drop shared x) (front ++ drop shared y) ≡ Less =
+            rw (← split i [] (omega arith), ← split j [] (omega arith)) (is.rise i j [] q (omega arith)) in
+        rw (key_at i [] e (omega arith), key_at j [] e (omega arith)) (key_order 8 (drop shared x) (drop shared y)
+              (rest_bytes i [] (omega arith)) (sym (cmp-front front (drop shared x) (drop shared y)) ∙ c))
     | inr (inr q) ↦ absurd (omega arith)
   ]
 
   -- where the key is another, the name is
-  other_key : (name : List ℕ) (k : ℕ) (d : List ℕ) → k < length names → slice_index_or keys k 0 ≢ key 8 (drop shared name) → slice_index_or names k d ≢ name
+  other_key : (name : List ℕ) (k : ℕ) (d : List ℕ) → k < length names → slice_index_or keys k 0 ≢ key 8 (drop shared name)
+      → slice_index_or names k d ≢ name
   other_key name k d l n e = n (key_at k d 0 l ∙ ap (λ (x : List ℕ). key 8 (drop shared x)) e)
 
   pub narrows : (name : List ℕ) (t low high : ℕ) → t ≡ key 8 (drop shared name) → IsKeyRun keys t low high → Narrows names name low high

@@ -33,7 +33,8 @@ not_directory Character f = refl
 not_directory Socket f = refl
 not_directory Fifo f = refl
 
-map_last : (tell : Place → ℕ) (cs : List (Shoot Entry)) (c : Shoot Entry) → map (line_in tell) (cs ++ c ∷ []) ≡ map (line_in tell) cs ++ line_in tell c ∷ []
+map_last : (tell : Place → ℕ) (cs : List (Shoot Entry)) (c : Shoot Entry) → map (line_in tell) (cs ++ c ∷ []) ≡ map (line_in tell) cs
+    ++ line_in tell c ∷ []
 map_last tell [] c = refl
 map_last tell (x ∷ cs) c = ap (λ r. line_in tell x ∷ r) (map_last tell cs c)
 
@@ -43,33 +44,44 @@ pub record Rowing (tell : Place → ℕ) (cs : List (Shoot Entry)) (old new : Li
   pub count : n ≡ directories (take i cs)
   pub few : n ≤ i
 
-module _ (tell : Place → ℕ) (cs : List (Shoot Entry)) (old new new' : List Line) (n i : ℕ) (c : Shoot Entry) (lt : i < length cs) (at : c ≡ get_or cs i c) (r : Rowing tell cs old new n i) (line : Line) (is : line ≡ line_in tell c) (pushed : new' ≡ new ++ line ∷ []) where
+module _ (tell : Place → ℕ) (cs : List (Shoot Entry)) (old new new' : List Line) (n i : ℕ) (c : Shoot Entry) (lt : i < length cs)
+    (at : c ≡ get_or cs i c) (r : Rowing tell cs old new n i) (line : Line) (is : line ≡ line_in tell c) (pushed : new' ≡ new ++ line ∷ [])
+    where
   rows_now : new' ≡ old ++ map (line_in tell) (take (i + 1) cs)
   rows_now =
       pushed ∙ ap (λ x. x ++ line ∷ []) r.rows ∙ append_assoc old (map (line_in tell) (take i cs)) (line ∷ [])
-      ∙ ap (λ x. old ++ x) (ap (λ l. map (line_in tell) (take i cs) ++ l ∷ []) is ∙ sym (ap (map (line_in tell)) (longer_front cs i c lt at) ∙ map_last tell (take i cs) c))
+      ∙ ap (λ x. old ++ x) (ap (λ l. map (line_in tell) (take i cs) ++ l ∷ []) is ∙ sym (ap (map (line_in tell)) (longer_front cs i c lt at)
+            ∙ map_last tell (take i cs) c))
 
   pub directory : c.value.kind ≡ Directory → Rowing tell cs old new' (n + 1) (i + 1)
   directory k =
-      let d : is_directory (get_or cs i c).value.kind ≡ true = ap (λ (s : Shoot Entry). is_directory s.value.kind) (sym at) ∙ ap is_directory k in
+      let d : is_directory (get_or cs i c).value.kind ≡ true = ap (λ (s : Shoot Entry). is_directory s.value.kind) (sym at)
+          ∙ ap is_directory k in
       let m = count_by_more_yes (λ (s : Shoot Entry). is_directory s.value.kind) cs i c lt d in
       let few = r.few in
       record { rows = rows_now; count = ap (λ k. k + 1) r.count ∙ sym m; few = omega arith }
 
   pub other : (c.value.kind ≡ Directory → ⊥) → Rowing tell cs old new' n (i + 1)
   other k =
-      let d : is_directory (get_or cs i c).value.kind ≡ false = ap (λ (s : Shoot Entry). is_directory s.value.kind) (sym at) ∙ not_directory c.value.kind k in
+      let d : is_directory (get_or cs i c).value.kind ≡ false = ap (λ (s : Shoot Entry). is_directory s.value.kind) (sym at)
+          ∙ not_directory c.value.kind k in
       let m = count_by_more_no (λ (s : Shoot Entry). is_directory s.value.kind) cs i c lt d in
       let few = r.few in
       record { rows = rows_now; count = r.count ∙ sym m; few = omega arith }
 
 -- the child at a place, and those after it
-pub follows : (tell : Place → ℕ) (numbers sizes : List ℕ) (at : ℕ) (cs : List (Shoot Entry)) (i : ℕ) (c : Shoot Entry) → i < length cs → c ≡ get_or cs i c → AreFollowing tell numbers sizes at (drop i cs) → IsPosted tell numbers sizes at c × AreFollowing tell numbers sizes (at + length (whole c)) (drop (i + 1) cs)
-follows tell numbers sizes at cs i c l e f = let n : suc i ≡ i + 1 = omega arith in let r = go cs i l e f in (r.0, subst (λ n. AreFollowing tell numbers sizes (at + length (whole c)) (drop n cs)) n r.1)
+pub follows : (tell : Place → ℕ) (numbers sizes : List ℕ) (at : ℕ) (cs : List (Shoot Entry)) (i : ℕ) (c : Shoot Entry) → i < length cs
+    → c ≡ get_or cs i c → AreFollowing tell numbers sizes at (drop i cs) → IsPosted tell numbers sizes at c
+    × AreFollowing tell numbers sizes (at + length (whole c)) (drop (i + 1) cs)
+follows tell numbers sizes at cs i c l e f = let n : suc i ≡ i + 1 = omega arith in let r = go cs i l e f in
+    (r.0, subst (λ n. AreFollowing tell numbers sizes (at + length (whole c)) (drop n cs)) n r.1)
   where
-    go : (cs : List (Shoot Entry)) (i : ℕ) → i < length cs → c ≡ get_or cs i c → AreFollowing tell numbers sizes at (drop i cs) → IsPosted tell numbers sizes at c × AreFollowing tell numbers sizes (at + length (whole c)) (drop (suc i) cs)
+    go : (cs : List (Shoot Entry)) (i : ℕ) → i < length cs → c ≡ get_or cs i c → AreFollowing tell numbers sizes at (drop i cs)
+        → IsPosted tell numbers sizes at c × AreFollowing tell numbers sizes (at + length (whole c)) (drop (suc i) cs)
     go [] i l e f = absurd (omega arith)
-    go (x ∷ cs) zero l e f = subst (λ (y : Shoot Entry). IsPosted tell numbers sizes at y × AreFollowing tell numbers sizes (at + length (whole y)) (drop 0 cs)) (sym e) (f.0, subst (AreFollowing tell numbers sizes (at + length (whole x))) (sym (all cs)) f.1)
+    go (x ∷ cs) zero l e f = subst (λ (y : Shoot Entry). IsPosted tell numbers sizes at y × AreFollowing tell numbers sizes
+          (at + length (whole y)) (drop 0 cs)) (sym e) (f.0, subst (AreFollowing tell numbers sizes (at + length (whole x)))
+          (sym (all cs)) f.1)
       where
         all : (cs : List (Shoot Entry)) → drop 0 cs ≡ cs
         all [] = refl
@@ -83,7 +95,8 @@ starts tell cs old = record { rows = sym (none old); count = refl; few = omega a
     none [] = refl
     none (x ∷ xs) = ap (λ r. x ∷ r) (none xs)
 
-pub ends : (tell : Place → ℕ) (cs : List (Shoot Entry)) (old new : List Line) (n i : ℕ) → length cs ≤ i → Rowing tell cs old new n i → AddsRows tell cs old new n
+pub ends : (tell : Place → ℕ) (cs : List (Shoot Entry)) (old new : List Line) (n i : ℕ) → length cs ≤ i → Rowing tell cs old new n i
+    → AddsRows tell cs old new n
 ends tell cs old new n i le r = record {
   rows_are = r.rows ∙ ap (λ x. old ++ map (line_in tell) x) (all cs i le);
   count_is = r.count ∙ ap directories (all cs i le);
@@ -106,7 +119,8 @@ names_rise tell [] r i j d l m = absurd (omega arith)
 names_rise tell (c ∷ cs) r zero zero d l m = absurd (omega arith)
 names_rise tell (c ∷ cs) r zero (suc j) d l m = after cs r.0 j (omega arith)
   where
-    after : (cs : List (Shoot Entry)) → AllByRecursion (λ (s : Shoot Entry). name_cmp c.name s.name ≡ Less) cs → (j : ℕ) → j < length (names (map (line_in tell) cs)) → name_cmp c.name (get_or (names (map (line_in tell) cs)) j d) ≡ Less
+    after : (cs : List (Shoot Entry)) → AllByRecursion (λ (s : Shoot Entry). name_cmp c.name s.name ≡ Less) cs → (j : ℕ)
+        → j < length (names (map (line_in tell) cs)) → name_cmp c.name (get_or (names (map (line_in tell) cs)) j d) ≡ Less
     after [] a j m = absurd (omega arith)
     after (s ∷ cs) a zero m = a.0
     after (s ∷ cs) a (suc j) m = after cs a.1 j (omega arith)
@@ -114,7 +128,10 @@ names_rise tell (c ∷ cs) r (suc i) zero d l m = absurd (omega arith)
 names_rise tell (c ∷ cs) r (suc i) (suc j) d l m = names_rise tell cs r.1 i j d (omega arith) (omega arith)
 
 -- the node of a branch
-module _ (layers : List (List ℕ)) (tell : Place → ℕ) (spot : Spot Entry) (paths : ℕ) (v : Entry) (is : v ≡ spot.0.now.value) (image : List ℕ) (index : image ≡ get_or layers v.place.layer image) (head : Head) (headed : head ≡ head_of image v.place.header) (part : Part) (lies : IsDataPart image head.offset part) (held held' : List Folder) (old new : List Line) (keys keys' : List ℕ) (nlink at : ℕ) (stands : at ≡ length held) where
+module _ (layers : List (List ℕ)) (tell : Place → ℕ) (spot : Spot Entry) (paths : ℕ) (v : Entry) (is : v ≡ spot.0.now.value)
+    (image : List ℕ) (index : image ≡ get_or layers v.place.layer image) (head : Head) (headed : head ≡ head_of image v.place.header)
+    (part : Part) (lies : IsDataPart image head.offset part) (held held' : List Folder) (old new : List Line) (keys keys' : List ℕ)
+    (nlink at : ℕ) (stands : at ≡ length held) where
   abbrev node : Node
   node = record { kind = v.kind; place = v.place; exec = head.exec; part = part; mode = 0; nlink = nlink; rdev = head.spec; directory = at }
 
@@ -125,7 +142,8 @@ module _ (layers : List (List ℕ)) (tell : Place → ℕ) (spot : Spot Entry) (
     spec_is = ap (λ (x : Head). x.spec) headed;
   }
 
-  pub made : AddsByKind tell spot paths (is_directory v.kind) nlink held held' old new keys keys' → AddsNode layers tell spot paths held held' old new keys keys' node
+  pub made : AddsByKind tell spot paths (is_directory v.kind) nlink held held' old new keys keys'
+      → AddsNode layers tell spot paths held held' old new keys keys' node
   made adds = record {
     kind_is = ap (λ (e : Entry). e.kind) is;
     place_is = ap (λ (e : Entry). e.place) is;
@@ -135,15 +153,19 @@ module _ (layers : List (List ℕ)) (tell : Place → ℕ) (spot : Spot Entry) (
   }
 
 -- what a directory adds, and what any other branch does
-module _ (tell : Place → ℕ) (spot : Spot Entry) (paths : ℕ) (kind : Kind) (nlink : ℕ) (held held' : List Folder) (old new : List Line) (keys keys' : List ℕ) where
-  pub added_directory : kind ≡ Directory → AddsLinked tell spot nlink held held' old new keys keys' → AddsByKind tell spot paths (is_directory kind) nlink held held' old new keys keys'
+module _ (tell : Place → ℕ) (spot : Spot Entry) (paths : ℕ) (kind : Kind) (nlink : ℕ) (held held' : List Folder) (old new : List Line)
+    (keys keys' : List ℕ) where
+  pub added_directory : kind ≡ Directory → AddsLinked tell spot nlink held held' old new keys keys'
+      → AddsByKind tell spot paths (is_directory kind) nlink held held' old new keys keys'
   added_directory k a = rw (ap is_directory k) a
 
-  pub added_other : (kind ≡ Directory → ⊥) → AddsNothing paths nlink held held' old new keys keys' → AddsByKind tell spot paths (is_directory kind) nlink held held' old new keys keys'
+  pub added_other : (kind ≡ Directory → ⊥) → AddsNothing paths nlink held held' old new keys keys'
+      → AddsByKind tell spot paths (is_directory kind) nlink held held' old new keys keys'
   added_other k a = rw (not_directory kind k) a
 
 -- the rows from where the old ones end, as the code cuts them
-pub fresh_lines : (old new more seen : List Line) (start : ℕ) → new ≡ old ++ more → start ≡ length old → seen ≡ new → take (length seen - start) (drop start seen) ≡ more
+pub fresh_lines : (old new more seen : List Line) (start : ℕ) → new ≡ old ++ more → start ≡ length old → seen ≡ new
+    → take (length seen - start) (drop start seen) ≡ more
 fresh_lines old new more seen start e s is = take_rest seen start ∙ ap (drop start) (is ∙ e) ∙ drop_at old more start (sym s)
 
 pub start_within : (old new more seen : List Line) (start : ℕ) → new ≡ old ++ more → start ≡ length old → seen ≡ new → start ≤ length seen

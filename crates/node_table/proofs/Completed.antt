@@ -23,7 +23,8 @@ module _ {X : Type 0} (f : X → X) where
   default (z ∷ xs) zero a b l = refl
   default (z ∷ xs) (suc k) a b l = default xs k a b (omega arith)
 
-  pub goes_on : (old now now' : List X) (i : ℕ) (x y : X) → Changing f old now i → i < length now → x ≡ get_or now i x → y ≡ f x → now' ≡ slice_set now i y → length now' ≡ length now → Changing f old now' (i + 1)
+  pub goes_on : (old now now' : List X) (i : ℕ) (x y : X) → Changing f old now i → i < length now → x ≡ get_or now i x → y ≡ f x
+      → now' ≡ slice_set now i y → length now' ≡ length now → Changing f old now' (i + 1)
   goes_on old now now' i x y c lt at e s len = record {
     level = len ∙ c.level;
     done = λ k d l m. elim (cases_order k i) [
@@ -43,11 +44,13 @@ module _ {X : Type 0} (f : X → X) where
           let was : x ≡ get_or old i d = at ∙ default now i x d lt ∙ c.left i d (omega arith) in
           subst (λ j. get_or now' j d ≡ f (get_or old j d)) (sym q) (here ∙ e ∙ ap f was)
 
-  pub all_changed : (old now : List X) → length now ≡ length old → ((k : ℕ) (d : X) → k < length old → get_or now k d ≡ f (get_or old k d)) → now ≡ map f old
+  pub all_changed : (old now : List X) → length now ≡ length old → ((k : ℕ) (d : X) → k < length old → get_or now k d ≡ f (get_or old k d))
+      → now ≡ map f old
   all_changed [] [] l g = refl
   all_changed [] (y ∷ now) l g = absurd (omega arith)
   all_changed (x ∷ old) [] l g = absurd (omega arith)
-  all_changed (x ∷ old) (y ∷ now) l g = ap (λ z. z ∷ now) (g 0 y (omega arith)) ∙ ap (λ zs. f x ∷ zs) (all_changed old now (omega arith) (λ k d m. g (suc k) d (omega arith)))
+  all_changed (x ∷ old) (y ∷ now) l g = ap (λ z. z ∷ now) (g 0 y (omega arith))
+      ∙ ap (λ zs. f x ∷ zs) (all_changed old now (omega arith) (λ k d m. g (suc k) d (omega arith)))
 
   pub ends : (old now : List X) (i : ℕ) → length now ≤ i → Changing f old now i → now ≡ map f old
   ends old now i le c = all_changed old now c.level (λ k d m. let l = c.level in c.done k d (omega arith) m)
@@ -62,26 +65,33 @@ pub sums_nothing : (images : List (List ℕ)) → Summing images 0 0
 sums_nothing [] = record { value = refl; few = omega arith; sound = tt }
 sums_nothing (a ∷ images) = record { value = refl; few = omega arith; sound = tt }
 
-pub sums_on : (images : List (List ℕ)) (blocks i full : ℕ) (a : List ℕ) → Summing images blocks i → i < length images → a ≡ get_or images i a → full ≡ length a → IsImage a → Summing images (blocks + (full + 511) / 512) (i + 1)
+pub sums_on : (images : List (List ℕ)) (blocks i full : ℕ) (a : List ℕ) → Summing images blocks i → i < length images
+    → a ≡ get_or images i a → full ≡ length a → IsImage a → Summing images (blocks + (full + 511) / 512) (i + 1)
 sums_on images blocks i full a s lt at f image =
     let m = sum_by_more (λ (a : List ℕ). blocks_of (length a)) images i a lt in
-    let n : (full + 511) / 512 ≡ blocks_of (length (get_or images i a)) = ap (λ k. (k + 511) / 512) f ∙ ap (λ (x : List ℕ). blocks_of (length x)) at in
+    let n : (full + 511) / 512 ≡ blocks_of (length (get_or images i a)) = ap (λ k. (k + 511) / 512) f
+        ∙ ap (λ (x : List ℕ). blocks_of (length x)) at in
     record {
       value = ap (λ b. b + (full + 511) / 512) s.value ∙ ap (λ k. blocks_all (take i images) + k) n ∙ sym m;
       few = (let few = s.few in let small = image.small in omega arith);
       sound = next images i s.sound lt at;
     }
   where
-    next : (images : List (List ℕ)) (i : ℕ) → AllByRecursion IsImage (take i images) → i < length images → a ≡ get_or images i a → AllByRecursion IsImage (take (i + 1) images)
-    next images i s lt at = let n : suc i ≡ i + 1 = omega arith in subst (λ n. AllByRecursion IsImage (take n images)) n (go images i s lt at)
+    next : (images : List (List ℕ)) (i : ℕ) → AllByRecursion IsImage (take i images) → i < length images → a ≡ get_or images i a
+        → AllByRecursion IsImage (take (i + 1) images)
+    next images i s lt at = let n : suc i ≡ i + 1 = omega arith in subst (λ n. AllByRecursion IsImage (take n images)) n
+        (go images i s lt at)
       where
-        go : (images : List (List ℕ)) (i : ℕ) → AllByRecursion IsImage (take i images) → i < length images → a ≡ get_or images i a → AllByRecursion IsImage (take (suc i) images)
+        go : (images : List (List ℕ)) (i : ℕ) → AllByRecursion IsImage (take i images) → i < length images → a ≡ get_or images i a
+            → AllByRecursion IsImage (take (suc i) images)
         go [] i s lt at = absurd (omega arith)
         go (x ∷ images) zero s lt at = (subst IsImage at image, tt)
         go (x ∷ images) (suc i) s lt at = (s.0, go images i s.1 (omega arith) at)
 
-pub sums_all : (images : List (List ℕ)) (blocks i : ℕ) → Summing images blocks i → length images ≤ i → (blocks ≡ blocks_all images) × AllByRecursion IsImage images
-sums_all images blocks i s le = let w = whole images i le in (s.value ∙ ap blocks_all w, subst (λ (x : List (List ℕ)). AllByRecursion IsImage x) w s.sound)
+pub sums_all : (images : List (List ℕ)) (blocks i : ℕ) → Summing images blocks i → length images ≤ i → (blocks ≡ blocks_all images)
+    × AllByRecursion IsImage images
+sums_all images blocks i s le = let w = whole images i le in
+    (s.value ∙ ap blocks_all w, subst (λ (x : List (List ℕ)). AllByRecursion IsImage x) w s.sound)
   where
     whole : (xs : List (List ℕ)) (i : ℕ) → length xs ≤ i → take i xs ≡ xs
     whole [] zero l = refl

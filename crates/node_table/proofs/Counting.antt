@@ -33,7 +33,8 @@ same_or_other p q = go (same_place p q) refl
     go false e = inr e
 
 -- positions among places
-step : (n : ℕ) (t : ModelPlace → Bool) (q : ModelPlace) (qs : List ModelPlace) (b : Bool) → t q ≡ b → position_from t n (q ∷ qs) ≡ cond b (Some n) (position_from t (n + 1) qs)
+step : (n : ℕ) (t : ModelPlace → Bool) (q : ModelPlace) (qs : List ModelPlace) (b : Bool) → t q ≡ b → position_from t n (q ∷ qs)
+    ≡ cond b (Some n) (position_from t (n + 1) qs)
 step n t q qs true e = rw e refl
 step n t q qs false e = rw e refl
 
@@ -53,15 +54,18 @@ none_any n t (q ∷ qs) e = go (t q) refl (none_any (n + 1) t qs)
     go true f later = absurd (let z : Some n ≡ None = sym (step n t q qs true f) ∙ e in cc)
     go false f later = rw f (later (sym (step n t q qs false f) ∙ e))
 
-last_here : (n : ℕ) (t : ModelPlace → Bool) (qs : List ModelPlace) (p : ModelPlace) → t p ≡ true → position_from t n qs ≡ None → position_from t n (qs ++ p ∷ []) ≡ Some (n + length qs)
+last_here : (n : ℕ) (t : ModelPlace → Bool) (qs : List ModelPlace) (p : ModelPlace) → t p ≡ true → position_from t n qs ≡ None
+    → position_from t n (qs ++ p ∷ []) ≡ Some (n + length qs)
 last_here n t [] p f e = step n t p [] true f ∙ ap Some (omega arith)
 last_here n t (q ∷ qs) p f e = go (t q) refl (last_here (n + 1) t qs p f)
   where
-    go : (b : Bool) → t q ≡ b → (position_from t (n + 1) qs ≡ None → position_from t (n + 1) (qs ++ p ∷ []) ≡ Some (n + 1 + length qs)) → position_from t n (q ∷ qs ++ p ∷ []) ≡ Some (n + length (q ∷ qs))
+    go : (b : Bool) → t q ≡ b → (position_from t (n + 1) qs ≡ None → position_from t (n + 1) (qs ++ p ∷ []) ≡ Some (n + 1 + length qs))
+        → position_from t n (q ∷ qs ++ p ∷ []) ≡ Some (n + length (q ∷ qs))
     go true g later = absurd (let z : Some n ≡ None = sym (step n t q qs true g) ∙ e in cc)
     go false g later = step n t q (qs ++ p ∷ []) false g ∙ later (sym (step n t q qs false g) ∙ e) ∙ ap Some (omega arith)
 
-last_other : (n : ℕ) (t : ModelPlace → Bool) (qs : List ModelPlace) (p : ModelPlace) → t p ≡ false → position_from t n (qs ++ p ∷ []) ≡ position_from t n qs
+last_other : (n : ℕ) (t : ModelPlace → Bool) (qs : List ModelPlace) (p : ModelPlace) → t p ≡ false → position_from t n (qs ++ p ∷ [])
+    ≡ position_from t n qs
 last_other n t [] p f = step n t p [] false f
 last_other n t (q ∷ qs) p f = ap (λ o. cond (t q) (Some n) o) (last_other (n + 1) t qs p f)
 
@@ -97,14 +101,16 @@ pub number_by : (es fs : List Listed) (q : ModelPlace) → nodes es ≡ nodes fs
 unfolding number_of
 number_by es fs q e = ap (position_from (same_place q) 1) e
 
-pub number_new : (es : List Listed) (e : Listed) → number_of es (place e) ≡ None → number_of (es ++ e ∷ []) (place e) ≡ Some (length (nodes es) + 1)
+pub number_new : (es : List Listed) (e : Listed) → number_of es (place e) ≡ None → number_of (es ++ e ∷ []) (place e)
+    ≡ Some (length (nodes es) + 1)
 unfolding number_of
 number_new es e k =
     ap (position_from (same_place (place e)) 1) (nodes_new es e k)
     ∙ last_here 1 (same_place (place e)) (nodes es) (place e) (same_itself (place e)) k
     ∙ ap Some (omega arith)
 
-pub number_other : (es : List Listed) (e : Listed) (q : ModelPlace) → number_of es (place e) ≡ None → same_place q (place e) ≡ false → number_of (es ++ e ∷ []) q ≡ number_of es q
+pub number_other : (es : List Listed) (e : Listed) (q : ModelPlace) → number_of es (place e) ≡ None → same_place q (place e) ≡ false
+    → number_of (es ++ e ∷ []) q ≡ number_of es q
 unfolding number_of
 number_other es e q k f = ap (position_from (same_place q) 1) (nodes_new es e k) ∙ last_other 1 (same_place q) (nodes es) (place e) f
 
@@ -124,12 +130,14 @@ count_last t [] x = go (t x)
     go false = refl
 count_last t (y ∷ xs) x = go (t y) (count_last t xs x)
   where
-    go : (b : Bool) → count t (xs ++ x ∷ []) ≡ count t xs + cond (t x) 1 0 → cond b (1 + count t (xs ++ x ∷ [])) (count t (xs ++ x ∷ [])) ≡ cond b (1 + count t xs) (count t xs) + cond (t x) 1 0
+    go : (b : Bool) → count t (xs ++ x ∷ []) ≡ count t xs + cond (t x) 1 0 → cond b (1 + count t (xs ++ x ∷ [])) (count t (xs ++ x ∷ []))
+        ≡ cond b (1 + count t xs) (count t xs) + cond (t x) 1 0
     go true i = omega arith
     go false i = i
 
 -- how many entries have a place
-paths_last : (es : List Listed) (e : Listed) (p : ModelPlace) → paths_of (es ++ e ∷ []) p ≡ paths_of es p + cond (same_place p (place e)) 1 0
+paths_last : (es : List Listed) (e : Listed) (p : ModelPlace) → paths_of (es ++ e ∷ []) p ≡ paths_of es p
+    + cond (same_place p (place e)) 1 0
 paths_last es e p =
     let t = (λ (f : Listed). same_place p (place f)) in
     sym (counted t (es ++ e ∷ [])) ∙ count_last t es e ∙ ap (λ n. n + cond (same_place p (place e)) 1 0) (counted t es)
@@ -138,35 +146,45 @@ paths_last es e p =
 pub not_among : (es : List Listed) (p : ModelPlace) → number_of es p ≡ None → (e : Listed) → IsAmong e es → same_place p (place e) ≡ false
 not_among es p k e a = elim (same_or_other p (place e)) [
   | inr f ↦ f
-  | inl x ↦ absurd (let s : IsSome (number_of es (place e)) = (entries_numbered es e e a a).0 in let t : IsSome (number_of es p) = subst (λ q. IsSome (number_of es q)) (sym x.0) s in let u = rw k at t in cc)
+  | inl x ↦ absurd (let s : IsSome (number_of es (place e)) = (entries_numbered es e e a a).0 in let t : IsSome (number_of es p) =
+        subst (λ q. IsSome (number_of es q)) (sym x.0) s in let u = rw k at t in cc)
 ]
 
 none_paths : (es : List Listed) (p : ModelPlace) → ((e : Listed) → IsAmong e es → same_place p (place e) ≡ false) → paths_of es p ≡ 0
 none_paths es p f = sym (counted (λ (e : Listed). same_place p (place e)) es) ∙ go es f
   where
-    go : (es : List Listed) → ((e : Listed) → IsAmong e es → same_place p (place e) ≡ false) → count (λ (e : Listed). same_place p (place e)) es ≡ 0
+    go : (es : List Listed) → ((e : Listed) → IsAmong e es → same_place p (place e) ≡ false)
+        → count (λ (e : Listed). same_place p (place e)) es ≡ 0
     go [] f = refl
     go (e ∷ es) f = rw (f e (inl refl)) (go es (λ g a. f g (inr a)))
 
 -- one more spot
-seen_last : (spots : List (Spot Entry)) (i : ℕ) (spot : Spot Entry) → i < length spots → spot ≡ get_or spots i spot → seen spots (i + 1) ≡ seen spots i ++ bare spot ∷ []
-seen_last spots i spot l e = let n : suc i ≡ i + 1 = omega arith in subst (λ n. seen spots n ≡ seen spots i ++ bare spot ∷ []) n (go spots i l e)
+seen_last : (spots : List (Spot Entry)) (i : ℕ) (spot : Spot Entry) → i < length spots → spot ≡ get_or spots i spot
+    → seen spots (i + 1) ≡ seen spots i ++ bare spot ∷ []
+seen_last spots i spot l e = let n : suc i ≡ i + 1 = omega arith in subst (λ n. seen spots n ≡ seen spots i ++ bare spot ∷ []) n
+    (go spots i l e)
   where
-    go : (spots : List (Spot Entry)) (i : ℕ) → i < length spots → spot ≡ get_or spots i spot → seen spots (suc i) ≡ seen spots i ++ bare spot ∷ []
+    go : (spots : List (Spot Entry)) (i : ℕ) → i < length spots → spot ≡ get_or spots i spot → seen spots (suc i) ≡ seen spots i
+        ++ bare spot ∷ []
     go [] i l e = absurd (omega arith)
     go (x ∷ spots) zero l e = ap (λ (y : Spot Entry). bare y ∷ []) (sym e)
     go (x ∷ spots) (suc i) l e = ap (λ r. bare x ∷ r) (go spots i (omega arith) e)
 
-taken_last : (spots : List (Spot Entry)) (i : ℕ) (spot : Spot Entry) → i < length spots → spot ≡ get_or spots i spot → take (i + 1) spots ≡ take i spots ++ spot ∷ []
-taken_last spots i spot l e = let n : suc i ≡ i + 1 = omega arith in subst (λ n. take n spots ≡ take i spots ++ spot ∷ []) n (go spots i l e)
+taken_last : (spots : List (Spot Entry)) (i : ℕ) (spot : Spot Entry) → i < length spots → spot ≡ get_or spots i spot
+    → take (i + 1) spots ≡ take i spots ++ spot ∷ []
+taken_last spots i spot l e = let n : suc i ≡ i + 1 = omega arith in subst (λ n. take n spots ≡ take i spots ++ spot ∷ []) n
+    (go spots i l e)
   where
-    go : (spots : List (Spot Entry)) (i : ℕ) → i < length spots → spot ≡ get_or spots i spot → take (suc i) spots ≡ take i spots ++ spot ∷ []
+    go : (spots : List (Spot Entry)) (i : ℕ) → i < length spots → spot ≡ get_or spots i spot → take (suc i) spots ≡ take i spots
+        ++ spot ∷ []
     go [] i l e = absurd (omega arith)
     go (x ∷ spots) zero l e = ap (λ y. y ∷ []) (sym e)
     go (x ∷ spots) (suc i) l e = ap (λ r. x ∷ r) (go spots i (omega arith) e)
 
 -- one more key
-pub keys_more : (spots : List (Spot Entry)) (i : ℕ) (spot : Spot Entry) (keys keys' : List ℕ) (k : ℕ) → i < length spots → spot ≡ get_or spots i spot → AreKeys (take i spots) keys → k ≡ key_of spot → spot.0.now.value.place.header < 2 ^ 32 → keys' ≡ keys ++ k ∷ [] → AreKeys (take (i + 1) spots) keys'
+pub keys_more : (spots : List (Spot Entry)) (i : ℕ) (spot : Spot Entry) (keys keys' : List ℕ) (k : ℕ) → i < length spots
+    → spot ≡ get_or spots i spot → AreKeys (take i spots) keys → k ≡ key_of spot → spot.0.now.value.place.header < 2 ^ 32
+    → keys' ≡ keys ++ k ∷ [] → AreKeys (take (i + 1) spots) keys'
 keys_more spots i spot keys keys' k l e a k_is small p = subst (λ x. AreKeys x keys') (sym (taken_last spots i spot l e)) (record {
   are = p ∙ ap (λ x. x ++ k ∷ []) a.are ∙ ap (λ n. map key_of (take i spots) ++ n ∷ []) k_is ∙ sym (last (take i spots));
   small = All-push (λ (s : Spot Entry). s.0.now.value.place.header < 2 ^ 32) (take i spots) spot a.small small;
@@ -176,12 +194,14 @@ keys_more spots i spot keys keys' k l e a k_is small p = subst (λ x. AreKeys x 
     last [] = refl
     last (x ∷ xs) = ap (λ r. key_of x ∷ r) (last xs)
 
-spot_there : (spots : List (Spot Entry)) (i : ℕ) (spot : Spot Entry) → i < length spots → spot ≡ get_or spots i spot → slice_get spots i ≡ Some spot
+spot_there : (spots : List (Spot Entry)) (i : ℕ) (spot : Spot Entry) → i < length spots → spot ≡ get_or spots i spot
+    → slice_get spots i ≡ Some spot
 spot_there [] i spot l e = absurd (omega arith)
 spot_there (x ∷ spots) zero spot l e = ap Some (sym e)
 spot_there (x ∷ spots) (suc i) spot l e = spot_there spots i spot (omega arith) e
 
-get_map : (spots : List (Spot Entry)) (k : ℕ) (spot : Spot Entry) → slice_get spots k ≡ Some spot → slice_get (map spot_place spots) k ≡ Some (spot_place spot)
+get_map : (spots : List (Spot Entry)) (k : ℕ) (spot : Spot Entry) → slice_get spots k ≡ Some spot → slice_get (map spot_place spots) k
+    ≡ Some (spot_place spot)
 get_map [] k spot e = absurd (cc)
 get_map (x ∷ spots) zero spot e = let f : x ≡ spot = cc in ap (λ (y : Spot Entry). Some (spot_place y)) f
 get_map (x ∷ spots) (suc k) spot e = get_map spots k spot e
@@ -192,7 +212,8 @@ get_below (y ∷ xs) zero x e = omega arith
 get_below (y ∷ xs) (suc k) x e = let l = get_below xs k x e in omega arith
 
 -- the last of a list, or one before it
-get_last : {X : Type 0} (xs : List X) (y : X) (k : ℕ) (x : X) → slice_get (xs ++ y ∷ []) k ≡ Some x → (slice_get xs k ≡ Some x) ⊎ ((k ≡ length xs) × (y ≡ x))
+get_last : {X : Type 0} (xs : List X) (y : X) (k : ℕ) (x : X) → slice_get (xs ++ y ∷ []) k ≡ Some x → (slice_get xs k ≡ Some x)
+    ⊎ ((k ≡ length xs) × (y ≡ x))
 get_last [] y zero x e = inr (refl, (let f : y ≡ x = cc in f))
 get_last [] y (suc k) x e = absurd (cc)
 get_last (z ∷ xs) y zero x e = inl e
@@ -211,7 +232,8 @@ length_map : (spots : List (Spot Entry)) → length (map spot_place spots) ≡ l
 length_map [] = refl
 length_map (x ∷ spots) = ap suc (length_map spots)
 
-map_more : (spots : List (Spot Entry)) (spot : Spot Entry) → map spot_place (spots ++ spot ∷ []) ≡ map spot_place spots ++ spot_place spot ∷ []
+map_more : (spots : List (Spot Entry)) (spot : Spot Entry) → map spot_place (spots ++ spot ∷ []) ≡ map spot_place spots
+    ++ spot_place spot ∷ []
 map_more [] spot = refl
 map_more (x ∷ spots) spot = ap (λ r. spot_place x ∷ r) (map_more spots spot)
 
@@ -222,7 +244,8 @@ key_tells q r l m e =
     let b : q.header ≡ r.header = omega arith in
     cc
 
-pub begins : (spots first : List (Spot Entry)) (starts paths numbers : List ℕ) → first ≡ [] → starts ≡ [] → paths ≡ [] → numbers ≡ [] → IsNumbered spots 0 first starts paths numbers
+pub begins : (spots first : List (Spot Entry)) (starts paths numbers : List ℕ) → first ≡ [] → starts ≡ [] → paths ≡ [] → numbers ≡ []
+    → IsNumbered spots 0 first starts paths numbers
 unfolding number_of nodes
 begins spots first starts paths numbers e d f n = record {
   places = ap (map spot_place) e ∙ empty;
@@ -248,13 +271,15 @@ below_or_at zero (suc i) l = inl (omega arith)
 below_or_at (suc k) zero l = absurd (omega arith)
 below_or_at (suc k) (suc i) l = elim (below_or_at k i (omega arith)) [ inl m ↦ inl (omega arith) | inr m ↦ inr (ap suc m) ]
 
-module _ (spots : List (Spot Entry)) (i : ℕ) (spot : Spot Entry) (first : List (Spot Entry)) (starts paths numbers : List ℕ) (lt : i < length spots) (here : spot ≡ get_or spots i spot) (inv : IsNumbered spots i first starts paths numbers) where
+module _ (spots : List (Spot Entry)) (i : ℕ) (spot : Spot Entry) (first : List (Spot Entry)) (starts paths numbers : List ℕ)
+    (lt : i < length spots) (here : spot ≡ get_or spots i spot) (inv : IsNumbered spots i first starts paths numbers) where
   more : seen spots (i + 1) ≡ seen spots i ++ bare spot ∷ []
   more = seen_last spots i spot lt here
 
   -- the number of the place of a first spot
   number_of_first : (k : ℕ) (x : Spot Entry) → slice_get first k ≡ Some x → number_of (seen spots i) (spot_place x) ≡ Some (suc k)
-  number_of_first k x e = (number_used (seen spots i) (suc k) (spot_place x)).1 (subst (λ ps. slice_get ps k ≡ Some (spot_place x)) inv.places (get_map first k x e))
+  number_of_first k x e = (number_used (seen spots i) (suc k) (spot_place x)).1
+      (subst (λ ps. slice_get ps k ≡ Some (spot_place x)) inv.places (get_map first k x e))
 
   pub number_positive : (n : ℕ) → number_of (seen spots i) (spot_place spot) ≡ Some n → (1 ≤ n) × (n - 1 < length paths)
   number_positive zero f = absurd (let z = (number_used (seen spots i) 0 (spot_place spot)).0 f in cc)
@@ -274,7 +299,10 @@ module _ (spots : List (Spot Entry)) (i : ℕ) (spot : Spot Entry) (first : List
   held a b c d e f g = omega arith
 
   -- the numbers of the spots before this one, and its own
-  knows : (n : ℕ) → ((k : ℕ) (x : Spot Entry) → k < i → slice_get spots k ≡ Some x → number_of (seen spots (i + 1)) (spot_place x) ≡ Some (slice_index numbers k)) → number_of (seen spots (i + 1)) (spot_place spot) ≡ Some n → (k : ℕ) (x : Spot Entry) → slice_get spots k ≡ Some x → (k < i) ⊎ (k ≡ i) → number_of (seen spots (i + 1)) (spot_place x) ≡ Some (slice_index (numbers ++ n ∷ []) k)
+  knows : (n : ℕ) → ((k : ℕ) (x : Spot Entry) → k < i → slice_get spots k ≡ Some x → number_of (seen spots (i + 1)) (spot_place x)
+        ≡ Some (slice_index numbers k)) → number_of (seen spots (i + 1)) (spot_place spot) ≡ Some n → (k : ℕ) (x : Spot Entry)
+      → slice_get spots k ≡ Some x → (k < i) ⊎ (k ≡ i) → number_of (seen spots (i + 1)) (spot_place x)
+      ≡ Some (slice_index (numbers ++ n ∷ []) k)
   knows n before own k x e (inl l) = before k x l e ∙ ap Some (sym (index_last numbers n k (let v = inv.numbers_level in omega arith)))
   knows n before own k x e (inr l) =
       let z : Some spot ≡ Some x = sym (spot_there spots i spot lt here) ∙ ap (slice_get spots) (sym l) ∙ e in
@@ -282,7 +310,9 @@ module _ (spots : List (Spot Entry)) (i : ℕ) (spot : Spot Entry) (first : List
       ap (λ (y : Spot Entry). number_of (seen spots (i + 1)) (spot_place y)) (sym same) ∙ own
       ∙ ap Some (sym (ap (slice_index (numbers ++ n ∷ [])) (l ∙ sym inv.numbers_level) ∙ index_end numbers n))
 
-  pub was_known : (n : ℕ) (paths' numbers' : List ℕ) → number_of (seen spots i) (spot_place spot) ≡ Some n → paths' ≡ slice_set paths (n - 1) (one_more (slice_index paths (n - 1))) → numbers' ≡ numbers ++ n ∷ [] → IsNumbered spots (i + 1) first starts paths' numbers'
+  pub was_known : (n : ℕ) (paths' numbers' : List ℕ) → number_of (seen spots i) (spot_place spot) ≡ Some n
+      → paths' ≡ slice_set paths (n - 1) (one_more (slice_index paths (n - 1))) → numbers' ≡ numbers ++ n ∷ []
+      → IsNumbered spots (i + 1) first starts paths' numbers'
   was_known n paths' numbers' k0 s m = record {
     places = inv.places ∙ sym same;
     each = inv.each;
@@ -292,13 +322,15 @@ module _ (spots : List (Spot Entry)) (i : ℕ) (spot : Spot Entry) (first : List
     counted = counts;
     numbers_level = ap length m ∙ length_more numbers n ∙ ap (λ k. k + 1) inv.numbers_level;
     known = λ k x l e. subst (λ xs. number_of (seen spots (i + 1)) (spot_place x) ≡ Some (slice_index xs k)) (sym m)
-        (knows n (λ k x l e. number_by (seen spots (i + 1)) (seen spots i) (spot_place x) same ∙ inv.known k x l e) (number_by (seen spots (i + 1)) (seen spots i) (spot_place spot) same ∙ k0) k x e (below_or_at k i l));
+        (knows n (λ k x l e. number_by (seen spots (i + 1)) (seen spots i) (spot_place x) same ∙ inv.known k x l e)
+              (number_by (seen spots (i + 1)) (seen spots i) (spot_place spot) same ∙ k0) k x e (below_or_at k i l));
   }
     where
       same : nodes (seen spots (i + 1)) ≡ nodes (seen spots i)
       same = ap nodes more ∙ nodes_known (seen spots i) (bare spot) n k0
 
-      counts : (k : ℕ) (x : Spot Entry) → slice_get first k ≡ Some x → slice_index paths' k ≡ min (paths_of (seen spots (i + 1)) (spot_place x)) (2 ^ 32 - 1)
+      counts : (k : ℕ) (x : Spot Entry) → slice_get first k ≡ Some x → slice_index paths' k
+          ≡ min (paths_of (seen spots (i + 1)) (spot_place x)) (2 ^ 32 - 1)
       counts k x f = elim (same_or_other (spot_place x) (spot_place spot)) [
         | inl (q, t) ↦
             let z : Some (suc k) ≡ Some n = sym (number_of_first k x f) ∙ ap (number_of (seen spots i)) q ∙ k0 in
@@ -307,13 +339,17 @@ module _ (spots : List (Spot Entry)) (i : ℕ) (spot : Spot Entry) (first : List
             let b = number_positive n k0 in
             let b1 = b.1 in
             let lt : k < length paths = omega arith in
-            let set_is : paths' ≡ slice_set paths k (one_more (slice_index paths k)) = subst (λ m. paths' ≡ slice_set paths m (one_more (slice_index paths m))) j s in
+            let set_is : paths' ≡ slice_set paths k (one_more (slice_index paths k)) =
+                subst (λ m. paths' ≡ slice_set paths m (one_more (slice_index paths m))) j s in
             let at : slice_index paths' k ≡ one_more (slice_index paths k) = ap (λ xs. slice_index xs k) set_is ∙ rw get_or-set_same refl in
-            held (paths_of (seen spots i) (spot_place x)) (paths_of (seen spots (i + 1)) (spot_place x)) (slice_index paths k) (slice_index paths' k) at (inv.counted k x f) (paths_more (spot_place x) ∙ ap (λ c. paths_of (seen spots i) (spot_place x) + cond c 1 0) t)
+            held (paths_of (seen spots i) (spot_place x)) (paths_of (seen spots (i + 1)) (spot_place x)) (slice_index paths k)
+                (slice_index paths' k) at (inv.counted k x f) (paths_more (spot_place x)
+                  ∙ ap (λ c. paths_of (seen spots i) (spot_place x) + cond c 1 0) t)
         | inr t ↦
             let ne : k ≢ n - 1 = apart k x f t in
             let at : slice_index paths' k ≡ slice_index paths k = ap (λ xs. slice_index xs k) s ∙ rw get_or-set_other refl in
-            at ∙ inv.counted k x f ∙ ap (λ c. min c (2 ^ 32 - 1)) (sym (paths_more (spot_place x) ∙ ap (λ c. paths_of (seen spots i) (spot_place x) + cond c 1 0) t ∙ omega arith))
+            at ∙ inv.counted k x f ∙ ap (λ c. min c (2 ^ 32 - 1))
+                (sym (paths_more (spot_place x) ∙ ap (λ c. paths_of (seen spots i) (spot_place x) + cond c 1 0) t ∙ omega arith))
       ]
         where
           apart : (k : ℕ) (x : Spot Entry) → slice_get first k ≡ Some x → same_place (spot_place x) (spot_place spot) ≡ false → k ≢ n - 1
@@ -324,10 +360,13 @@ module _ (spots : List (Spot Entry)) (i : ℕ) (spot : Spot Entry) (first : List
               let v = (number_used (seen spots i) (suc k) (spot_place x)).0 (number_of_first k x f) in
               let w : Some (spot_place x) ≡ Some (spot_place spot) = sym v ∙ ap (node_of (seen spots i)) y ∙ u in
               let z : spot_place x ≡ spot_place spot = cc in
-              let r : same_place (spot_place x) (spot_place spot) ≡ true = ap (λ q. same_place q (spot_place spot)) z ∙ same_itself (spot_place spot) in
+              let r : same_place (spot_place x) (spot_place spot) ≡ true = ap (λ q. same_place q (spot_place spot)) z
+                  ∙ same_itself (spot_place spot) in
               cc
 
-  pub is_new : (n : ℕ) (first' : List (Spot Entry)) (starts' paths' numbers' : List ℕ) → number_of (seen spots i) (spot_place spot) ≡ None → n ≡ length first + 1 → first' ≡ first ++ spot ∷ [] → starts' ≡ starts ++ i ∷ [] → paths' ≡ paths ++ 1 ∷ [] → numbers' ≡ numbers ++ n ∷ [] → IsNumbered spots (i + 1) first' starts' paths' numbers'
+  pub is_new : (n : ℕ) (first' : List (Spot Entry)) (starts' paths' numbers' : List ℕ) → number_of (seen spots i) (spot_place spot) ≡ None
+      → n ≡ length first + 1 → first' ≡ first ++ spot ∷ [] → starts' ≡ starts ++ i ∷ [] → paths' ≡ paths ++ 1 ∷ []
+      → numbers' ≡ numbers ++ n ∷ [] → IsNumbered spots (i + 1) first' starts' paths' numbers'
   is_new n first' starts' paths' numbers' k0 l m d o u = record {
     places = ap (map spot_place) m ∙ map_more first spot ∙ ap (λ ps. ps ++ spot_place spot ∷ []) inv.places ∙ sym grown;
     each = λ k x f. elim (get_last first spot k x (subst (λ xs. slice_get xs k ≡ Some x) m f)) [
@@ -335,11 +374,13 @@ module _ (spots : List (Spot Entry)) (i : ℕ) (spot : Spot Entry) (first : List
       | inr (a, b) ↦ subst (IsFirstSpot spots) b (record { at = i; is = spot_there spots i spot lt here; new = k0 })
     ];
     starts_level = ap length d ∙ length_more starts i ∙ ap (λ k. k + 1) inv.starts_level ∙ sym (ap length m ∙ length_more first spot);
-    starts_are = λ k x f. subst (λ xs. slice_get spots (slice_index xs k) ≡ Some x) (sym d) (starting k x (get_last first spot k x (subst (λ xs. slice_get xs k ≡ Some x) m f)));
+    starts_are = λ k x f. subst (λ xs. slice_get spots (slice_index xs k) ≡ Some x) (sym d)
+        (starting k x (get_last first spot k x (subst (λ xs. slice_get xs k ≡ Some x) m f)));
     level = ap length o ∙ length_more paths 1 ∙ ap (λ k. k + 1) inv.level ∙ sym (ap length m ∙ length_more first spot);
     counted = λ k x f. counts k x (get_last first spot k x (subst (λ xs. slice_get xs k ≡ Some x) m f));
     numbers_level = ap length u ∙ length_more numbers n ∙ ap (λ k. k + 1) inv.numbers_level;
-    known = λ k x l e. subst (λ xs. number_of (seen spots (i + 1)) (spot_place x) ≡ Some (slice_index xs k)) (sym u) (knows n before own k x e (below_or_at k i l));
+    known = λ k x l e. subst (λ xs. number_of (seen spots (i + 1)) (spot_place x) ≡ Some (slice_index xs k)) (sym u)
+        (knows n before own k x e (below_or_at k i l));
   }
     where
       grown : nodes (seen spots (i + 1)) ≡ nodes (seen spots i) ++ spot_place spot ∷ []
@@ -351,26 +392,33 @@ module _ (spots : List (Spot Entry)) (i : ℕ) (spot : Spot Entry) (first : List
       own : number_of (seen spots (i + 1)) (spot_place spot) ≡ Some n
       own = ap (λ es. number_of es (spot_place spot)) more ∙ number_new (seen spots i) (bare spot) k0 ∙ ap Some (sym n_is)
 
-      before : (k : ℕ) (x : Spot Entry) → k < i → slice_get spots k ≡ Some x → number_of (seen spots (i + 1)) (spot_place x) ≡ Some (slice_index numbers k)
+      before : (k : ℕ) (x : Spot Entry) → k < i → slice_get spots k ≡ Some x → number_of (seen spots (i + 1)) (spot_place x)
+          ≡ Some (slice_index numbers k)
       before k x l e = elim (same_or_other (spot_place x) (spot_place spot)) [
-        | inl q ↦ absurd (let z : Some (slice_index numbers k) ≡ None = sym (inv.known k x l e) ∙ ap (number_of (seen spots i)) q.0 ∙ k0 in cc)
-        | inr t ↦ ap (λ es. number_of es (spot_place x)) more ∙ number_other (seen spots i) (bare spot) (spot_place x) k0 t ∙ inv.known k x l e
+        | inl q ↦ absurd (let z : Some (slice_index numbers k) ≡ None = sym (inv.known k x l e) ∙ ap (number_of (seen spots i)) q.0 ∙ k0 in
+              cc)
+        | inr t ↦ ap (λ es. number_of es (spot_place x)) more ∙ number_other (seen spots i) (bare spot) (spot_place x) k0 t
+            ∙ inv.known k x l e
       ]
 
-      starting : (k : ℕ) (x : Spot Entry) → (slice_get first k ≡ Some x) ⊎ ((k ≡ length first) × (spot ≡ x)) → slice_get spots (slice_index (starts ++ i ∷ []) k) ≡ Some x
+      starting : (k : ℕ) (x : Spot Entry) → (slice_get first k ≡ Some x) ⊎ ((k ≡ length first) × (spot ≡ x))
+          → slice_get spots (slice_index (starts ++ i ∷ []) k) ≡ Some x
       starting k x (inl f) =
           let b = get_below first k x f in
           let v = inv.starts_level in
           ap (slice_get spots) (index_last starts i k (omega arith)) ∙ inv.starts_are k x f
-      starting k x (inr (a, b)) = ap (slice_get spots) (ap (slice_index (starts ++ i ∷ [])) (a ∙ sym inv.starts_level) ∙ index_end starts i) ∙ spot_there spots i spot lt here ∙ ap Some b
+      starting k x (inr (a, b)) = ap (slice_get spots) (ap (slice_index (starts ++ i ∷ [])) (a ∙ sym inv.starts_level) ∙ index_end starts i)
+          ∙ spot_there spots i spot lt here ∙ ap Some b
 
-      counts : (k : ℕ) (x : Spot Entry) → (slice_get first k ≡ Some x) ⊎ ((k ≡ length first) × (spot ≡ x)) → slice_index paths' k ≡ min (paths_of (seen spots (i + 1)) (spot_place x)) (2 ^ 32 - 1)
+      counts : (k : ℕ) (x : Spot Entry) → (slice_get first k ≡ Some x) ⊎ ((k ≡ length first) × (spot ≡ x)) → slice_index paths' k
+          ≡ min (paths_of (seen spots (i + 1)) (spot_place x)) (2 ^ 32 - 1)
       counts k x (inl f) =
           let b = get_below first k x f in
           let v = inv.level in
           let t : same_place (spot_place x) (spot_place spot) ≡ false = other k x f in
           ap (λ xs. slice_index xs k) o ∙ index_last paths 1 k (omega arith) ∙ inv.counted k x f
-          ∙ ap (λ c. min c (2 ^ 32 - 1)) (sym (paths_more (spot_place x) ∙ ap (λ c. paths_of (seen spots i) (spot_place x) + cond c 1 0) t ∙ omega arith))
+          ∙ ap (λ c. min c (2 ^ 32 - 1)) (sym (paths_more (spot_place x) ∙ ap (λ c. paths_of (seen spots i) (spot_place x) + cond c 1 0) t
+                ∙ omega arith))
         where
           other : (k : ℕ) (x : Spot Entry) → slice_get first k ≡ Some x → same_place (spot_place x) (spot_place spot) ≡ false
           other k x f = elim (same_or_other (spot_place x) (spot_place spot)) [
@@ -378,14 +426,19 @@ module _ (spots : List (Spot Entry)) (i : ℕ) (spot : Spot Entry) (first : List
             | inl q ↦ absurd (let z : Some (suc k) ≡ None = sym (number_of_first k x f) ∙ ap (number_of (seen spots i)) q.0 ∙ k0 in cc)
           ]
       counts k x (inr (a, b)) =
-          let zero_paths : paths_of (seen spots i) (spot_place spot) ≡ 0 = none_paths (seen spots i) (spot_place spot) (not_among (seen spots i) (spot_place spot) k0) in
-          let one : paths_of (seen spots (i + 1)) (spot_place spot) ≡ 1 = paths_more (spot_place spot) ∙ ap (λ c. paths_of (seen spots i) (spot_place spot) + cond c 1 0) (same_itself (spot_place spot)) ∙ ap (λ c. c + 1) zero_paths in
+          let zero_paths : paths_of (seen spots i) (spot_place spot) ≡ 0 = none_paths (seen spots i) (spot_place spot)
+              (not_among (seen spots i) (spot_place spot) k0) in
+          let one : paths_of (seen spots (i + 1)) (spot_place spot) ≡ 1 = paths_more (spot_place spot)
+              ∙ ap (λ c. paths_of (seen spots i) (spot_place spot) + cond c 1 0) (same_itself (spot_place spot))
+              ∙ ap (λ c. c + 1) zero_paths in
           let j : k ≡ length paths = a ∙ sym inv.level in
           ap (λ xs. slice_index xs k) o ∙ ap (slice_index (paths ++ 1 ∷ [])) j ∙ index_end paths 1
-          ∙ sym (ap (λ (y : Spot Entry). min (paths_of (seen spots (i + 1)) (spot_place y)) (2 ^ 32 - 1)) (sym b) ∙ ap (λ c. min c (2 ^ 32 - 1)) one)
+          ∙ sym (ap (λ (y : Spot Entry). min (paths_of (seen spots (i + 1)) (spot_place y)) (2 ^ 32 - 1)) (sym b)
+                ∙ ap (λ c. min c (2 ^ 32 - 1)) one)
 
 -- what is among the first spots
-among_seen : (spots : List (Spot Entry)) (i : ℕ) (e : Listed) → IsAmong e (map bare (take i spots)) → (j : ℕ) × (s : Spot Entry) × (j < i) × (slice_get spots j ≡ Some s) × (e ≡ bare s)
+among_seen : (spots : List (Spot Entry)) (i : ℕ) (e : Listed) → IsAmong e (map bare (take i spots)) → (j : ℕ) × (s : Spot Entry) × (j < i)
+    × (slice_get spots j ≡ Some s) × (e ≡ bare s)
 among_seen [] zero e a = absurd a
 among_seen [] (suc i) e a = absurd a
 among_seen (x ∷ spots) zero e a = absurd a
@@ -422,11 +475,14 @@ module _ (spots : List (Spot Entry)) (keys firsts : List ℕ) (are : AreKeys spo
   key_is k s e = ap (λ xs. slice_index xs k) are.are ∙ key_at spots k s e
 
   small : (k : ℕ) (s : Spot Entry) → slice_get spots k ≡ Some s → s.0.now.value.place.header < 2 ^ 32
-  small k s e = subst (λ (x : Spot Entry). x.0.now.value.place.header < 2 ^ 32) (get_or_is spots k s s e) (are.small k s (get_below spots k s e))
+  small k s e = subst (λ (x : Spot Entry). x.0.now.value.place.header < 2 ^ 32) (get_or_is spots k s s e)
+      (are.small k s (get_below spots k s e))
 
   -- spots with one key have one place
-  one_place : (j k : ℕ) (s t : Spot Entry) → slice_get spots j ≡ Some s → slice_get spots k ≡ Some t → slice_index keys j ≡ slice_index keys k → spot_place s ≡ spot_place t
-  one_place j k s t d e q = key_tells s.0.now.value.place t.0.now.value.place (small j s d) (small k t e) (sym (key_is j s d) ∙ q ∙ key_is k t e)
+  one_place : (j k : ℕ) (s t : Spot Entry) → slice_get spots j ≡ Some s → slice_get spots k ≡ Some t
+      → slice_index keys j ≡ slice_index keys k → spot_place s ≡ spot_place t
+  one_place j k s t d e q = key_tells s.0.now.value.place t.0.now.value.place (small j s d) (small k t e) (sym (key_is j s d) ∙ q
+        ∙ key_is k t e)
 
   module _ (i : ℕ) (spot : Spot Entry) (lt : i < length spots) (here : spot ≡ get_or spots i spot) where
     told : IsFirstOf keys (slice_index keys i) (slice_index firsts i)
@@ -439,7 +495,9 @@ module _ (spots : List (Spot Entry)) (keys firsts : List ℕ) (are : AreKeys spo
     not_after l = told.before i l refl
 
     -- a place that stands before has a number
-    pub has_number : (first : List (Spot Entry)) (starts paths numbers : List ℕ) → IsNumbered spots i first starts paths numbers → slice_index firsts i ≢ i → (slice_index firsts i < i) × (number_of (seen spots i) (spot_place spot) ≡ Some (slice_index numbers (slice_index firsts i)))
+    pub has_number : (first : List (Spot Entry)) (starts paths numbers : List ℕ) → IsNumbered spots i first starts paths numbers
+        → slice_index firsts i ≢ i → (slice_index firsts i < i)
+        × (number_of (seen spots i) (spot_place spot) ≡ Some (slice_index numbers (slice_index firsts i)))
     has_number first starts paths numbers inv ne =
         let x = spot_below spots (slice_index firsts i) first_within in
         let same = one_place (slice_index firsts i) i x.0 spot x.1 (spot_there spots i spot lt here) told.at in
@@ -468,8 +526,13 @@ module _ (spots : List (Spot Entry)) (keys firsts : List ℕ) (are : AreKeys spo
             told.before b.0 (let l = b.2 in omega arith) (key_is b.0 b.1 b.3 ∙ k ∙ sym (key_is i spot (spot_there spots i spot lt here))))
 
     -- as the code finds it
-    pub known_before : (first : List (Spot Entry)) (starts paths numbers : List ℕ) → IsNumbered spots i first starts paths numbers → (before n : ℕ) → before ≡ slice_index firsts i → n ≡ slice_index numbers before → before ≢ i → number_of (seen spots i) (spot_place spot) ≡ Some n
-    known_before first starts paths numbers inv before n b m ne = (has_number first starts paths numbers inv (λ e. ne (b ∙ e))).1 ∙ ap Some (sym (m ∙ ap (slice_index numbers) b))
+    pub known_before : (first : List (Spot Entry)) (starts paths numbers : List ℕ) → IsNumbered spots i first starts paths numbers
+        → (before n : ℕ) → before ≡ slice_index firsts i → n ≡ slice_index numbers before → before ≢ i
+        → number_of (seen spots i) (spot_place spot) ≡ Some n
+    known_before first starts paths numbers inv before n b m ne = (has_number first starts paths numbers inv (λ e. ne (b ∙ e))).1
+        ∙ ap Some (sym (m ∙ ap (slice_index numbers) b))
 
-    pub is_before : (first : List (Spot Entry)) (starts paths numbers : List ℕ) → IsNumbered spots i first starts paths numbers → (before : ℕ) → before ≡ slice_index firsts i → before ≢ i → before < i
-    is_before first starts paths numbers inv before b ne = let l = (has_number first starts paths numbers inv (λ e. ne (b ∙ e))).0 in omega arith
+    pub is_before : (first : List (Spot Entry)) (starts paths numbers : List ℕ) → IsNumbered spots i first starts paths numbers
+        → (before : ℕ) → before ≡ slice_index firsts i → before ≢ i → before < i
+    is_before first starts paths numbers inv before b ne = let l = (has_number first starts paths numbers inv (λ e. ne (b ∙ e))).0 in
+        omega arith

@@ -25,17 +25,20 @@ use Rattle.node_table.specs.Seeds.{AreSeedlings, IsSeed, AreSeeds, AreMade}
 use Rattle.stack_table.specs.Held.{IsHeldDirectory, HoldsDirectory, IsNode, AreNodes, IsSomeTable}
 
 -- how far the making of nodes has come
-pub record Making (layers : List (List ℕ)) (entries : List Listed) (held : List Node) (folders : List Folder) (rows : List Line) (keys : List ℕ) (i : ℕ) : Type 0 where
+pub record Making (layers : List (List ℕ)) (entries : List Listed) (held : List Node) (folders : List Folder) (rows : List Line)
+    (keys : List ℕ) (i : ℕ) : Type 0 where
   pub level : length held ≡ i
   pub keys_level : length keys ≡ length rows
-  pub each : (k : ℕ) (node : Node) (p : ModelPlace) → slice_get held k ≡ Some node → slice_get (nodes entries) k ≡ Some p → IsNode layers entries folders rows keys (completed node) p
+  pub each : (k : ℕ) (node : Node) (p : ModelPlace) → slice_get held k ≡ Some node → slice_get (nodes entries) k ≡ Some p
+      → IsNode layers entries folders rows keys (completed node) p
 
 get_map : {X Y : Type 0} (f : X → Y) (xs : List X) (k : ℕ) (x : X) → slice_get xs k ≡ Some x → slice_get (map f xs) k ≡ Some (f x)
 get_map f [] k x e = absurd (cc)
 get_map f (y ∷ xs) zero x e = let g : y ≡ x = cc in ap (λ z. Some (f z)) g
 get_map f (y ∷ xs) (suc k) x e = get_map f xs k x e
 
-get_of_map : {X Y : Type 0} (f : X → Y) (xs : List X) (k : ℕ) (y : Y) → slice_get (map f xs) k ≡ Some y → (x : X) × (slice_get xs k ≡ Some x) × (f x ≡ y)
+get_of_map : {X Y : Type 0} (f : X → Y) (xs : List X) (k : ℕ) (y : Y) → slice_get (map f xs) k ≡ Some y
+    → (x : X) × (slice_get xs k ≡ Some x) × (f x ≡ y)
 get_of_map f [] k y e = absurd (cc)
 get_of_map f (x ∷ xs) zero y e = (x, refl, (let g : f x ≡ y = cc in g))
 get_of_map f (x ∷ xs) (suc k) y e = get_of_map f xs k y e
@@ -49,7 +52,8 @@ get_there [] k x l e = absurd (omega arith)
 get_there (y ∷ xs) zero x l e = ap Some (sym e)
 get_there (y ∷ xs) (suc k) x l e = get_there xs k x (omega arith) e
 
-get_last : {X : Type 0} (xs : List X) (y : X) (k : ℕ) (x : X) → slice_get (xs ++ y ∷ []) k ≡ Some x → (slice_get xs k ≡ Some x) ⊎ ((k ≡ length xs) × (y ≡ x))
+get_last : {X : Type 0} (xs : List X) (y : X) (k : ℕ) (x : X) → slice_get (xs ++ y ∷ []) k ≡ Some x → (slice_get xs k ≡ Some x)
+    ⊎ ((k ≡ length xs) × (y ≡ x))
 get_last [] y zero x e = inr (refl, (let f : y ≡ x = cc in f))
 get_last [] y (suc k) x e = absurd (cc)
 get_last (z ∷ xs) y zero x e = inl e
@@ -71,8 +75,10 @@ range_stays xs ys zero b l m = go xs ys b m
   where
     go : {X : Type 0} (xs ys : List X) (b : ℕ) → b ≤ length xs → slice_range (xs ++ ys) 0 b ≡ slice_range xs 0 b
     go [] [] b m = refl
-    go [] (y ∷ ys) b m = let z : b - 0 ≡ b = omega arith in ap (λ n. take n (y ∷ ys)) z ∙ front_stays [] (y ∷ ys) b m ∙ sym (ap (λ n. take n []) z)
-    go (x ∷ xs) ys b m = let z : b - 0 ≡ b = omega arith in ap (λ n. take n (x ∷ xs ++ ys)) z ∙ front_stays (x ∷ xs) ys b m ∙ sym (ap (λ n. take n (x ∷ xs)) z)
+    go [] (y ∷ ys) b m = let z : b - 0 ≡ b = omega arith in ap (λ n. take n (y ∷ ys)) z ∙ front_stays [] (y ∷ ys) b m
+        ∙ sym (ap (λ n. take n []) z)
+    go (x ∷ xs) ys b m = let z : b - 0 ≡ b = omega arith in ap (λ n. take n (x ∷ xs ++ ys)) z ∙ front_stays (x ∷ xs) ys b m
+        ∙ sym (ap (λ n. take n (x ∷ xs)) z)
 range_stays [] ys (suc a) b l m = absurd (omega arith)
 range_stays (x ∷ xs) ys (suc a) zero l m = absurd (omega arith)
 range_stays (x ∷ xs) ys (suc a) (suc b) l m =
@@ -87,11 +93,14 @@ take_all (y ∷ ys) = ap (λ r. y ∷ r) (take_all ys)
 range_last : {X : Type 0} (xs ys : List X) → slice_range (xs ++ ys) (length xs) (length (xs ++ ys)) ≡ ys
 range_last [] [] = refl
 range_last [] (y ∷ ys) = let z : length (y ∷ ys) - 0 ≡ length (y ∷ ys) = omega arith in ap (λ n. take n (y ∷ ys)) z ∙ take_all (y ∷ ys)
-range_last (x ∷ xs) ys = let z : suc (length (xs ++ ys)) - suc (length xs) ≡ length (xs ++ ys) - length xs = omega arith in ap (λ n. take n (drop (length xs) (xs ++ ys))) z ∙ range_last xs ys
+range_last (x ∷ xs) ys = let z : suc (length (xs ++ ys)) - suc (length xs) ≡ length (xs ++ ys) - length xs = omega arith in
+    ap (λ n. take n (drop (length xs) (xs ++ ys))) z ∙ range_last xs ys
 
 -- the same keys are those of the same rows
-keyed_by : (shared : ℕ) (keys keys' : List ℕ) (rows rows' : List Line) → keys ≡ keys' → rows ≡ rows' → AreKeyed shared keys (names rows) → AreKeyed shared keys' (names rows')
-keyed_by shared keys keys' rows rows' k r a = subst (λ (x : List ℕ). AreKeyed shared x (names rows')) k (subst (λ (x : List Line). AreKeyed shared keys (names x)) r a)
+keyed_by : (shared : ℕ) (keys keys' : List ℕ) (rows rows' : List Line) → keys ≡ keys' → rows ≡ rows' → AreKeyed shared keys (names rows)
+    → AreKeyed shared keys' (names rows')
+keyed_by shared keys keys' rows rows' k r a = subst (λ (x : List ℕ). AreKeyed shared x (names rows')) k
+    (subst (λ (x : List Line). AreKeyed shared keys (names x)) r a)
 
 sizes_agree : (k : Kind) (n : ℕ) → data_size k n ≡ size_of k n
 sizes_agree HardLink n = refl
@@ -117,7 +126,9 @@ get_new : {X : Type 0} (xs : List X) (y : X) → slice_get (xs ++ y ∷ []) (len
 get_new [] y = refl
 get_new (x ∷ xs) y = get_new xs y
 
-grown_directory : (layers : List (List ℕ)) (entries : List Listed) (rows more : List Line) (keys more_keys : List ℕ) (d : Folder) (p : ModelPlace) → length keys ≡ length rows → IsHeldDirectory layers entries rows keys d p → IsHeldDirectory layers entries (rows ++ more) (keys ++ more_keys) d p
+grown_directory : (layers : List (List ℕ)) (entries : List Listed) (rows more : List Line) (keys more_keys : List ℕ) (d : Folder)
+    (p : ModelPlace) → length keys ≡ length rows → IsHeldDirectory layers entries rows keys d p
+    → IsHeldDirectory layers entries (rows ++ more) (keys ++ more_keys) d p
 grown_directory layers entries rows more keys more_keys d p level n =
     let r = range_stays rows more d.rows_start d.rows_end n.start n.end in
     let k = range_stays keys more_keys d.rows_start d.rows_end n.start (let e = n.end in omega arith) in
@@ -129,7 +140,9 @@ grown_directory layers entries rows more keys more_keys d p level n =
       keyed = keyed_by d.shared _ _ _ _ (sym k) (sym r) n.keyed;
     }
 
-grown : (layers : List (List ℕ)) (entries : List Listed) (folders : List Folder) (d : Folder) (rows more : List Line) (keys more_keys : List ℕ) (node : Node) (p : ModelPlace) → length keys ≡ length rows → IsNode layers entries folders rows keys node p → IsNode layers entries (folders ++ d ∷ []) (rows ++ more) (keys ++ more_keys) node p
+grown : (layers : List (List ℕ)) (entries : List Listed) (folders : List Folder) (d : Folder) (rows more : List Line)
+    (keys more_keys : List ℕ) (node : Node) (p : ModelPlace) → length keys ≡ length rows → IsNode layers entries folders rows keys node p
+    → IsNode layers entries (folders ++ d ∷ []) (rows ++ more) (keys ++ more_keys) node p
 grown layers entries folders d rows more keys more_keys node p level n = record {
   place = n.place;
   holds = n.holds;
@@ -146,7 +159,8 @@ grown layers entries folders d rows more keys more_keys node p level n = record 
 }
 
 -- a directory that was added last is the place's
-module _ (layers : List (List ℕ)) (entries : List Listed) (tell : Place → ℕ) (spot : Spot Entry) (old new : List Line) (keys keys' : List ℕ) (level : length keys ≡ length old) (cs : List (Shoot Entry)) (d : Folder) (m : IsMade tell spot cs old new keys keys' d) where
+module _ (layers : List (List ℕ)) (entries : List Listed) (tell : Place → ℕ) (spot : Spot Entry) (old new : List Line) (keys keys' : List ℕ)
+    (level : length keys ≡ length old) (cs : List (Shoot Entry)) (d : Folder) (m : IsMade tell spot cs old new keys keys' d) where
   -- a key was added for each row
   pub level_made : length keys' ≡ length new
   level_made =
@@ -170,16 +184,20 @@ module _ (layers : List (List ℕ)) (entries : List Listed) (tell : Place → �
       ∙ ap (λ xs. slice_range xs (length keys) (length xs)) m.keys_are.is
       ∙ range_last keys m.keys_are.keys
 
-  pub is_made : (p : ModelPlace) → is_directory_at layers p ≡ true → tell spot.1.place ≡ number entries (parent entries p) → AreSeedlings layers entries tell p cs → IsHeldDirectory layers entries new keys' d p
+  pub is_made : (p : ModelPlace) → is_directory_at layers p ≡ true → tell spot.1.place ≡ number entries (parent entries p)
+      → AreSeedlings layers entries tell p cs → IsHeldDirectory layers entries new keys' d p
   is_made p e above below = record {
     parent_is = m.parent_is ∙ above;
-    start = (let s = m.start_is in let e = m.end_is in let r = ap length m.rows_are in omega (arith, length-append old (map (line_in tell) cs)));
+    start = (let s = m.start_is in let e = m.end_is in let r = ap length m.rows_are in
+          omega (arith, length-append old (map (line_in tell) cs)));
     end = (let e = m.end_is in omega arith);
     rows_are = range_is ∙ below.rows_are ∙ sym (rw e refl);
     keyed = keyed_by d.shared _ _ _ _ (sym keys_range_is) (sym range_is) m.keys_are.keyed;
   }
 
-module _ (layers : List (List ℕ)) (entries : List Listed) (tell : Place → ℕ) (paths : ℕ) (spot : Spot Entry) (seed : IsSeed layers entries tell paths spot) (folders folders' : List Folder) (old new : List Line) (keys keys' : List ℕ) (level : length keys ≡ length old) (node : Node) (a : AddsNode layers tell spot paths folders folders' old new keys keys' node) where
+module _ (layers : List (List ℕ)) (entries : List Listed) (tell : Place → ℕ) (paths : ℕ) (spot : Spot Entry)
+    (seed : IsSeed layers entries tell paths spot) (folders folders' : List Folder) (old new : List Line) (keys keys' : List ℕ)
+    (level : length keys ≡ length old) (node : Node) (a : AddsNode layers tell spot paths folders folders' old new keys keys' node) where
   p : ModelPlace
   p = spot_place spot
 
@@ -205,39 +223,50 @@ module _ (layers : List (List ℕ)) (entries : List Listed) (tell : Place → �
   directory_is = ap is_directory kind_is
 
   size_is : node.part.len ≡ size_at layers (spot_place spot)
-  size_is = read.data_is.size_is ∙ sizes_agree (kind seed.seat.image spot.0.now.value.place.header) _ ∙ ap (λ x. size_of (kind x spot.0.now.value.place.header) (size x spot.0.now.value.place.header)) (sym layer)
+  size_is = read.data_is.size_is ∙ sizes_agree (kind seed.seat.image spot.0.now.value.place.header) _
+      ∙ ap (λ x. size_of (kind x spot.0.now.value.place.header) (size x spot.0.now.value.place.header)) (sym layer)
 
   mode_is : mode_of node.kind node.exec ≡ mode layers (spot_place spot)
-  mode_is = ap (λ k. mode_of k node.exec) kind_is ∙ ap (mode_of (kind_at layers (spot_place spot))) read.exec_is ∙ ap (λ x. mode_of (kind_at layers (spot_place spot)) (exec x spot.0.now.value.place.header)) (sym layer)
+  mode_is = ap (λ k. mode_of k node.exec) kind_is ∙ ap (mode_of (kind_at layers (spot_place spot))) read.exec_is
+      ∙ ap (λ x. mode_of (kind_at layers (spot_place spot)) (exec x spot.0.now.value.place.header)) (sym layer)
 
   rdev_is : rdev_of node.kind node.rdev ≡ rdev layers (spot_place spot)
-  rdev_is = ap (λ k. rdev_of k node.rdev) kind_is ∙ ap (rdev_of (kind_at layers (spot_place spot))) read.spec_is ∙ ap (λ x. rdev_of (kind_at layers (spot_place spot)) (spec x spot.0.now.value.place.header)) (sym layer)
+  rdev_is = ap (λ k. rdev_of k node.rdev) kind_is ∙ ap (rdev_of (kind_at layers (spot_place spot))) read.spec_is
+      ∙ ap (λ x. rdev_of (kind_at layers (spot_place spot)) (spec x spot.0.now.value.place.header)) (sym layer)
 
   -- what a directory adds
-  module _ (d : is_directory_at layers (spot_place spot) ≡ true) (l : AddsLinked tell spot node.nlink folders folders' old new keys keys') where
+  module _ (d : is_directory_at layers (spot_place spot) ≡ true) (l : AddsLinked tell spot node.nlink folders folders' old new keys keys')
+      where
     below : AreSeedlings layers entries tell (spot_place spot) l.added.children
     below = seed.below l.added.children l.added.below l.added.forest
 
     nlink_directory : node.nlink ≡ nlink layers entries (spot_place spot)
     nlink_directory =
         l.nlink_is ∙ ap (λ n. min (2 + n) (2 ^ 32 - 1)) (l.added.count_is ∙ below.count_is)
-        ∙ sym (ap (λ b. min (cond b (2 + count_by (λ (c : Child). is_directory_at layers c.place) (children entries (spot_place spot))) (count_by (λ (f : Listed). same_place (spot_place spot) (place f)) entries)) (2 ^ 32 - 1)) d)
+        ∙ sym (ap (λ b. min (cond b (2 + count_by (λ (c : Child). is_directory_at layers c.place) (children entries (spot_place spot)))
+              (count_by (λ (f : Listed). same_place (spot_place spot) (place f)) entries)) (2 ^ 32 - 1)) d)
 
     has_directory : HoldsDirectory layers entries folders' new keys' (completed node) (spot_place spot)
     has_directory = record {
       directory = l.added.directory;
-      is = ap (λ (x : List Folder). slice_get x node.directory) l.added.is ∙ ap (slice_get (folders ++ l.added.directory ∷ [])) a.directory_is ∙ get_new folders l.added.directory;
-      holds = is_made layers entries tell spot old new keys keys' level l.added.children l.added.directory l.added.made (spot_place spot) d seed.parent_is below;
+      is = ap (λ (x : List Folder). slice_get x node.directory) l.added.is
+          ∙ ap (slice_get (folders ++ l.added.directory ∷ [])) a.directory_is ∙ get_new folders l.added.directory;
+      holds = is_made layers entries tell spot old new keys keys' level l.added.children l.added.directory l.added.made
+          (spot_place spot) d seed.parent_is below;
     }
 
   -- how often it is linked, and its directory
-  held_by : (b : Bool) → is_directory_at layers (spot_place spot) ≡ b → AddsByKind tell spot paths b node.nlink folders folders' old new keys keys' →
-      (node.nlink ≡ nlink layers entries (spot_place spot)) × (is_directory_at layers (spot_place spot) ≡ true → HoldsDirectory layers entries folders' new keys' (completed node) (spot_place spot))
+  held_by : (b : Bool) → is_directory_at layers (spot_place spot) ≡ b → AddsByKind tell spot paths b node.nlink folders folders' old new
+      keys keys' →
+      (node.nlink ≡ nlink layers entries (spot_place spot)) × (is_directory_at layers (spot_place spot) ≡ true
+            → HoldsDirectory layers entries folders' new keys' (completed node) (spot_place spot))
   held_by true e l = (nlink_directory e l, λ d. has_directory e l)
   held_by false e n = (n.nlink_is ∙ seed.paths_are e, λ d. absurd (let f : true ≡ false = sym d ∙ e in cc))
 
-  holds_both : (node.nlink ≡ nlink layers entries (spot_place spot)) × (is_directory_at layers (spot_place spot) ≡ true → HoldsDirectory layers entries folders' new keys' (completed node) (spot_place spot))
-  holds_both = held_by (is_directory_at layers (spot_place spot)) refl (subst (λ b. AddsByKind tell spot paths b node.nlink folders folders' old new keys keys') directory_is a.adds)
+  holds_both : (node.nlink ≡ nlink layers entries (spot_place spot)) × (is_directory_at layers (spot_place spot) ≡ true
+        → HoldsDirectory layers entries folders' new keys' (completed node) (spot_place spot))
+  holds_both = held_by (is_directory_at layers (spot_place spot)) refl
+      (subst (λ b. AddsByKind tell spot paths b node.nlink folders folders' old new keys keys') directory_is a.adds)
 
   level_by : (b : Bool) → AddsByKind tell spot paths b node.nlink folders folders' old new keys keys' → length keys' ≡ length new
   level_by true l = level_made layers entries tell spot old new keys keys' level l.added.children l.added.directory l.added.made
@@ -247,12 +276,14 @@ module _ (layers : List (List ℕ)) (entries : List Listed) (tell : Place → �
   pub level_still : length keys' ≡ length new
   level_still = level_by (is_directory node.kind) a.adds
 
-  grown_by : (b : Bool) → AddsByKind tell spot paths b node.nlink folders folders' old new keys keys' → (n : Node) (q : ModelPlace) → IsNode layers entries folders old keys n q → IsNode layers entries folders' new keys' n q
+  grown_by : (b : Bool) → AddsByKind tell spot paths b node.nlink folders folders' old new keys keys' → (n : Node) (q : ModelPlace)
+      → IsNode layers entries folders old keys n q → IsNode layers entries folders' new keys' n q
   grown_by true l n q i =
       let m = l.added.made in
       subst (λ (x : List Folder). IsNode layers entries x new keys' n q) (sym l.added.is)
       (subst (λ (x : List Line). IsNode layers entries (folders ++ l.added.directory ∷ []) x keys' n q) (sym m.rows_are)
-      (subst (λ (x : List ℕ). IsNode layers entries (folders ++ l.added.directory ∷ []) (old ++ map (line_in tell) l.added.children) x n q) (sym m.keys_are.is)
+      (subst (λ (x : List ℕ). IsNode layers entries (folders ++ l.added.directory ∷ []) (old ++ map (line_in tell) l.added.children) x n q)
+            (sym m.keys_are.is)
       (grown layers entries folders l.added.directory old (map (line_in tell) l.added.children) keys m.keys_are.keys n q level i)))
   grown_by false o n q i =
       subst (λ (x : List Folder). IsNode layers entries x new keys' n q) (sym o.held_are)
@@ -280,33 +311,48 @@ module _ (layers : List (List ℕ)) (entries : List Listed) (tell : Place → �
     directory_is = λ d. holds_both.1 (sym directory_is ∙ d);
   }
 
-pub begins : (layers : List (List ℕ)) (entries : List Listed) (held : List Node) (folders : List Folder) (rows : List Line) (keys : List ℕ) → held ≡ [] → rows ≡ [] → keys ≡ [] → Making layers entries held folders rows keys 0
-begins layers entries held folders rows keys e r k = record { level = ap length e; keys_level = ap length k ∙ sym (ap length r); each = λ k node p f g. absurd (let h = rw e at f in cc) }
+pub begins : (layers : List (List ℕ)) (entries : List Listed) (held : List Node) (folders : List Folder) (rows : List Line) (keys : List ℕ)
+    → held ≡ [] → rows ≡ [] → keys ≡ [] → Making layers entries held folders rows keys 0
+begins layers entries held folders rows keys e r k = record { level = ap length e; keys_level = ap length k ∙ sym (ap length r); each =
+      λ k node p f g. absurd (let h = rw e at f in cc) }
 
-pub goes_on : (layers : List (List ℕ)) (entries : List Listed) (tell : Place → ℕ) (first : List (Spot Entry)) (paths : List ℕ) (s : AreSeeds layers entries tell first paths) (held held' : List Node) (folders folders' : List Folder) (rows rows' : List Line) (keys keys' : List ℕ) (i : ℕ) (spot : Spot Entry) → i < length first → spot ≡ get_or first i spot → Making layers entries held folders rows keys i → (node : Node) → AddsNode layers tell spot (slice_index paths i) folders folders' rows rows' keys keys' node → held' ≡ held ++ node ∷ [] → Making layers entries held' folders' rows' keys' (i + 1)
+pub goes_on : (layers : List (List ℕ)) (entries : List Listed) (tell : Place → ℕ) (first : List (Spot Entry)) (paths : List ℕ)
+    (s : AreSeeds layers entries tell first paths) (held held' : List Node) (folders folders' : List Folder) (rows rows' : List Line)
+    (keys keys' : List ℕ) (i : ℕ) (spot : Spot Entry) → i < length first → spot ≡ get_or first i spot
+    → Making layers entries held folders rows keys i → (node : Node) → AddsNode layers tell spot (slice_index paths i) folders folders' rows
+    rows' keys keys' node → held' ≡ held ++ node ∷ [] → Making layers entries held' folders' rows' keys' (i + 1)
 goes_on layers entries tell first paths s held held' folders folders' rows rows' keys keys' i spot lt at m node a push =
     let h = get_there first i spot lt at in
     record {
       level = (let l = ap length push in let v = m.level in omega (arith, length-append held (node ∷ [])));
-      keys_level = level_still layers entries tell (slice_index paths i) spot (s.each i spot h) folders folders' rows rows' keys keys' m.keys_level node a;
+      keys_level = level_still layers entries tell (slice_index paths i) spot (s.each i spot h) folders folders' rows rows' keys keys'
+          m.keys_level node a;
       each = λ k n p e f. elim (get_last held node k n (subst (λ x. slice_get x k ≡ Some n) push e)) [
-        | inl g ↦ stays layers entries tell (slice_index paths i) spot (s.each i spot h) folders folders' rows rows' keys keys' m.keys_level node a (completed n) p (m.each k n p g f)
+        | inl g ↦ stays layers entries tell (slice_index paths i) spot (s.each i spot h) folders folders' rows rows' keys keys' m.keys_level
+            node a (completed n) p (m.each k n p g f)
         | inr (j, g) ↦
             let k_is : k ≡ i = j ∙ m.level in
-            let z : Some p ≡ Some (spot_place spot) = sym f ∙ ap (slice_get (nodes entries)) k_is ∙ subst (λ ps. slice_get ps i ≡ Some (spot_place spot)) s.places (get_map spot_place first i spot h) in
+            let z : Some p ≡ Some (spot_place spot) = sym f ∙ ap (slice_get (nodes entries)) k_is
+                ∙ subst (λ ps. slice_get ps i ≡ Some (spot_place spot)) s.places (get_map spot_place first i spot h) in
             let p_is : spot_place spot ≡ p = cc in
-            subst (λ (x : Node). IsNode layers entries folders' rows' keys' (completed x) p) g (subst (IsNode layers entries folders' rows' keys' (completed node)) p_is (is_node layers entries tell (slice_index paths i) spot (s.each i spot h) folders folders' rows rows' keys keys' m.keys_level node a))
+            subst (λ (x : Node). IsNode layers entries folders' rows' keys' (completed x) p) g
+                (subst (IsNode layers entries folders' rows' keys' (completed node)) p_is
+                  (is_node layers entries tell (slice_index paths i) spot (s.each i spot h) folders folders' rows rows' keys keys'
+                  m.keys_level node a))
       ];
     }
 
-pub ends : (layers : List (List ℕ)) (entries : List Listed) (tell : Place → ℕ) (first : List (Spot Entry)) (paths : List ℕ) (s : AreSeeds layers entries tell first paths) (held : List Node) (folders : List Folder) (rows : List Line) (keys : List ℕ) (i : ℕ) → i ≡ length first → Making layers entries held folders rows keys i → AreMade layers held folders rows keys
+pub ends : (layers : List (List ℕ)) (entries : List Listed) (tell : Place → ℕ) (first : List (Spot Entry)) (paths : List ℕ)
+    (s : AreSeeds layers entries tell first paths) (held : List Node) (folders : List Folder) (rows : List Line) (keys : List ℕ) (i : ℕ)
+    → i ≡ length first → Making layers entries held folders rows keys i → AreMade layers held folders rows keys
 ends layers entries tell first paths s held folders rows keys i e m = (
   entries,
   s.listing,
   record {
     level = length_map completed held ∙ m.level ∙ e ∙ sym (length_map spot_place first) ∙ ap length s.places;
     keys_level = m.keys_level;
-    each = λ k node p f g. let x = get_of_map completed held k node f in subst (λ (n : Node). IsNode layers entries folders rows keys n p) x.2 (m.each k x.0 p x.1 g);
+    each = λ k node p f g. let x = get_of_map completed held k node f in subst (λ (n : Node). IsNode layers entries folders rows keys n p)
+        x.2 (m.each k x.0 p x.1 g);
   },
 )
 
@@ -318,7 +364,9 @@ front_whole xs tail n e = ap (λ k. take k (xs ++ tail)) e ∙ go xs tail
     go [] tail = nothing tail
     go (x ∷ xs) tail = ap (λ r. x ∷ r) (go xs tail)
 
-pub table_made : (layers : List (List ℕ)) (held new tail : List Node) (folders : List Folder) (rows : List Line) (keys : List ℕ) (n blocks : ℕ) → AreMade layers held folders rows keys → new ≡ map completed held → n ≡ length new → blocks ≡ blocks_all layers → IsSomeTable layers (take n (new ++ tail)) folders rows keys blocks
+pub table_made : (layers : List (List ℕ)) (held new tail : List Node) (folders : List Folder) (rows : List Line) (keys : List ℕ)
+    (n blocks : ℕ) → AreMade layers held folders rows keys → new ≡ map completed held → n ≡ length new → blocks ≡ blocks_all layers
+    → IsSomeTable layers (take n (new ++ tail)) folders rows keys blocks
 table_made layers held new tail folders rows keys n blocks (entries, listing, are) e l b = (
   entries,
   record {

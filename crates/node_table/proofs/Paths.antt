@@ -92,16 +92,19 @@ module _ {T : Type 0} where
   apart_prefixed top n m (x ∷ xs) d = (other_name top n m x.0 d, apart_prefixed top n m xs d)
 
   -- branches of other names
-  pub apart_spread : (top : Path) (n : List ℕ) (ss : List (Shoot T)) → AllByRecursion (λ s. n ≢ s.name) ss → AreApart (top ++ n ∷ []) (under top (spread ss))
+  pub apart_spread : (top : Path) (n : List ℕ) (ss : List (Shoot T)) → AllByRecursion (λ s. n ≢ s.name) ss
+      → AreApart (top ++ n ∷ []) (under top (spread ss))
   apart_spread top n [] a = tt
   apart_spread top n (s ∷ ss) a = (
     other_name top n s.name [] a.0,
     rw (under_append top (prefixed s.name s.below) (spread ss))
-        (apart_append (top ++ n ∷ []) (under top (prefixed s.name s.below)) (under top (spread ss)) (apart_prefixed top n s.name s.below a.0) (apart_spread top n ss a.1)),
+        (apart_append (top ++ n ∷ []) (under top (prefixed s.name s.below)) (under top (spread ss))
+              (apart_prefixed top n s.name s.below a.0) (apart_spread top n ss a.1)),
   )
 
   -- the branches beside one have other names
-  pub before_differs : (ls : List (Shoot T)) (c : Shoot T) (bs : List (Shoot T)) → NamesRise (ls ++ c ∷ bs) → AllByRecursion (λ s. c.name ≢ s.name) ls
+  pub before_differs : (ls : List (Shoot T)) (c : Shoot T) (bs : List (Shoot T)) → NamesRise (ls ++ c ∷ bs)
+      → AllByRecursion (λ s. c.name ≢ s.name) ls
   before_differs [] c bs r = tt
   before_differs (a ∷ ls) c bs r = ((λ e. below_differs a.name c.name (among ls r.0) (sym e)), before_differs ls c bs r.1)
     where
@@ -109,7 +112,8 @@ module _ {T : Type 0} where
       among [] l = l.0
       among (x ∷ ls) l = among ls l.1
 
-  pub after_differs : (ls : List (Shoot T)) (c : Shoot T) (bs : List (Shoot T)) → NamesRise (ls ++ c ∷ bs) → AllByRecursion (λ s. c.name ≢ s.name) bs
+  pub after_differs : (ls : List (Shoot T)) (c : Shoot T) (bs : List (Shoot T)) → NamesRise (ls ++ c ∷ bs)
+      → AllByRecursion (λ s. c.name ≢ s.name) bs
   after_differs [] c bs r = later bs r.0
     where
       later : (bs : List (Shoot T)) → AllByRecursion (λ t. name_cmp c.name t.name ≡ Less) bs → AllByRecursion (λ s. c.name ≢ s.name) bs
@@ -117,7 +121,8 @@ module _ {T : Type 0} where
       later (b ∷ bs) l = (below_differs c.name b.name l.0, later bs l.1)
   after_differs (a ∷ ls) c bs r = after_differs ls c bs r.1
 
-  find_at : (top : Path) (before : Rows T) (v : T) (rest : Rows T) → AreApart top before → find (λ row. same_path top row.0) (before ++ (top ++ [], v) ∷ rest) ≡ Some (top ++ [], v)
+  find_at : (top : Path) (before : Rows T) (v : T) (rest : Rows T) → AreApart top before
+      → find (λ row. same_path top row.0) (before ++ (top ++ [], v) ∷ rest) ≡ Some (top ++ [], v)
   find_at top [] v rest a = rw (same_top top) refl
   find_at top (x ∷ before) v rest a = rw (not_same top x.0 a.0) (find_at top before v rest a.1)
 
@@ -128,7 +133,9 @@ module _ {T : Type 0} where
       ∙ sym (append_assoc (a ++ r ∷ b) c (d ++ e) ∙ append_assoc a (r ∷ b) (c ++ (d ++ e)))
 
   -- a child of a branch that is located
-  pub child_located : (rows : Rows T) (j : ℕ) (s : Shoot T) (above : T) → IsLocated rows j s above → (ls : List (Shoot T)) (c : Shoot T) (bs : List (Shoot T)) → s.below ≡ spread (ls ++ c ∷ bs) → NamesRise (ls ++ c ∷ bs) → IsLocated rows (j + suc (length (spread ls))) c s.value
+  pub child_located : (rows : Rows T) (j : ℕ) (s : Shoot T) (above : T) → IsLocated rows j s above
+      → (ls : List (Shoot T)) (c : Shoot T) (bs : List (Shoot T)) → s.below ≡ spread (ls ++ c ∷ bs) → NamesRise (ls ++ c ∷ bs)
+      → IsLocated rows (j + suc (length (spread ls))) c s.value
   child_located rows j s above l ls c bs e r =
       let top = l.top in
       let inner : Rows T = under top (spread ls) in
@@ -138,23 +145,28 @@ module _ {T : Type 0} where
       let below_is : under top s.below ≡ inner ++ (mine ++ last) =
       ap (under top) (e ∙ spread_append ls (c ∷ bs))
       ∙ under_append top (spread ls) (spread (c ∷ bs))
-      ∙ ap (λ x. inner ++ x) (under_append top (prefixed c.name (whole c)) (spread bs) ∙ ap (λ x. x ++ last) (under_prefixed top c.name (whole c))) in
+      ∙ ap (λ x. inner ++ x) (under_append top (prefixed c.name (whole c)) (spread bs)
+            ∙ ap (λ x. x ++ last) (under_prefixed top c.name (whole c))) in
       record {
         top = top ++ c.name ∷ [];
         before = l.before ++ row ∷ inner;
         after = last ++ l.after;
         is = l.is ∙ ap (λ x. (l.before ++ row ∷ x) ++ l.after) below_is ∙ regroup l.before row inner mine last l.after;
         at = lengths l.before row (spread ls) top j l.at;
-        apart_before = apart_append (top ++ c.name ∷ []) l.before (row ∷ inner) (apart_more top c.name l.before l.apart_before) (longer top c.name, apart_spread top c.name ls (before_differs ls c bs r));
-        apart_after = apart_append (top ++ c.name ∷ []) last l.after (apart_spread top c.name bs (after_differs ls c bs r)) (apart_more top c.name l.after l.apart_after);
-        above_is = rw (upper top c.name, l.is, append_assoc l.before (row ∷ under top s.below) l.after) (ap (option_map (λ (x : Path × T). x.1)) (find_at top l.before s.value (under top s.below ++ l.after) l.apart_before));
+        apart_before = apart_append (top ++ c.name ∷ []) l.before (row ∷ inner) (apart_more top c.name l.before l.apart_before)
+            (longer top c.name, apart_spread top c.name ls (before_differs ls c bs r));
+        apart_after = apart_append (top ++ c.name ∷ []) last l.after (apart_spread top c.name bs (after_differs ls c bs r))
+            (apart_more top c.name l.after l.apart_after);
+        above_is = rw (upper top c.name, l.is, append_assoc l.before (row ∷ under top s.below) l.after)
+            (ap (option_map (λ (x : Path × T). x.1)) (find_at top l.before s.value (under top s.below ++ l.after) l.apart_before));
       }
     where
       count_under : (top : Path) (xs : Rows T) → length (under top xs) ≡ length xs
       count_under top [] = refl
       count_under top (x ∷ xs) = ap suc (count_under top xs)
 
-      lengths : (before : Rows T) (row : Path × T) (xs : Rows T) (top : Path) (j : ℕ) → length before ≡ j → length (before ++ row ∷ under top xs) ≡ j + suc (length xs)
+      lengths : (before : Rows T) (row : Path × T) (xs : Rows T) (top : Path) (j : ℕ) → length before ≡ j
+          → length (before ++ row ∷ under top xs) ≡ j + suc (length xs)
       lengths [] row xs top j e = omega (arith, count_under top xs)
       lengths (x ∷ before) row xs top zero e = absurd (omega arith)
       lengths (x ∷ before) row xs top (suc j) e = omega (arith, lengths before row xs top j (omega arith))

@@ -77,12 +77,15 @@ there [] k l = absurd (omega arith)
 there (x ∷ xs) zero l = (x, refl)
 there (x ∷ xs) (suc k) l = there xs k (omega arith)
 
-module _ (layers : List (List ℕ)) (t : TreeRows) (is : IsTreeOf 0 layers t) (sound : AllByRecursion IsImage layers) (root : Shoot Entry) (whole_is : t.entries ≡ whole root) (spots : List (Spot Entry)) (walked : AreWalked root root.value spots) (first : List (Spot Entry)) (starts paths numbers : List ℕ) (num : IsNumbered spots (length spots) first starts paths numbers) where
+module _ (layers : List (List ℕ)) (t : TreeRows) (is : IsTreeOf 0 layers t) (sound : AllByRecursion IsImage layers) (root : Shoot Entry)
+    (whole_is : t.entries ≡ whole root) (spots : List (Spot Entry)) (walked : AreWalked root root.value spots) (first : List (Spot Entry))
+    (starts paths numbers : List ℕ) (num : IsNumbered spots (length spots) first starts paths numbers) where
   level : length spots ≡ length t.entries
   level = walked.level ∙ ap length (sym whole_is)
 
   at : (k : ℕ) (spot : Spot Entry) → slice_get spots k ≡ Some spot → IsLocated t.entries k spot.0.now spot.1
-  at k spot e = subst (λ rows. IsLocated rows k spot.0.now spot.1) (sym whole_is) (let n : 0 + k ≡ k = omega arith in subst (λ n. IsLocated (whole root) n spot.0.now spot.1) n (walked.each (whole root) 0 (root_located root) k spot e))
+  at k spot e = subst (λ rows. IsLocated rows k spot.0.now spot.1) (sym whole_is) (let n : 0 + k ≡ k = omega arith in
+        subst (λ n. IsLocated (whole root) n spot.0.now spot.1) n (walked.each (whole root) 0 (root_located root) k spot e))
 
   abbrev entries : List Listed
   entries = map listed t.entries
@@ -98,9 +101,11 @@ module _ (layers : List (List ℕ)) (t : TreeRows) (is : IsTreeOf 0 layers t) (s
   numbered e = ap (λ o. unwrap_or o 0) (number_of_by (seen spots (length spots)) (map listed t.entries) (placed e.place) (sym places_are))
 
   spot_placed : (k : ℕ) (spot : Spot Entry) → slice_get spots k ≡ Some spot → IsPlaced layers spot.0.now.value
-  spot_placed k spot e = let l = at k spot e in all_get (λ (r : Path × Entry). IsPlaced layers r.1) t.entries k (l.top ++ [], spot.0.now.value) all_placed (row_at t.entries k spot.0.now spot.1 l)
+  spot_placed k spot e = let l = at k spot e in all_get (λ (r : Path × Entry). IsPlaced layers r.1) t.entries k (l.top ++ [],
+        spot.0.now.value) all_placed (row_at t.entries k spot.0.now spot.1 l)
 
-  children_placed : (k : ℕ) (spot : Spot Entry) → slice_get spots k ≡ Some spot → (cs : List (Shoot Entry)) → spot.0.now.below ≡ spread cs → AllByRecursion (λ (c : Shoot Entry). IsPlaced layers c.value) cs
+  children_placed : (k : ℕ) (spot : Spot Entry) → slice_get spots k ≡ Some spot → (cs : List (Shoot Entry)) → spot.0.now.below ≡ spread cs
+      → AllByRecursion (λ (c : Shoot Entry). IsPlaced layers c.value) cs
   children_placed k spot e cs below =
       let l = at k spot e in
       let P : Path × Entry → Type 0 = λ (r : Path × Entry). IsPlaced layers r.1 in
@@ -109,39 +114,57 @@ module _ (layers : List (List ℕ)) (t : TreeRows) (is : IsTreeOf 0 layers t) (s
       let tail = all_back P l.before (row ∷ (under l.top (spread cs) ++ l.after)) (subst (AllByRecursion P) s all_placed) in
       go l.top cs (all_front P (under l.top (spread cs)) l.after tail.1)
     where
-      go : (top : Path) (cs : List (Shoot Entry)) → AllByRecursion (λ (r : Path × Entry). IsPlaced layers r.1) (under top (spread cs)) → AllByRecursion (λ (c : Shoot Entry). IsPlaced layers c.value) cs
+      go : (top : Path) (cs : List (Shoot Entry)) → AllByRecursion (λ (r : Path × Entry). IsPlaced layers r.1) (under top (spread cs))
+          → AllByRecursion (λ (c : Shoot Entry). IsPlaced layers c.value) cs
       go top [] a = tt
-      go top (c ∷ cs) a = (a.0, go top cs (all_back (λ (r : Path × Entry). IsPlaced layers r.1) (under top (prefixed c.name c.below)) (under top (spread cs)) (subst (AllByRecursion (λ (r : Path × Entry). IsPlaced layers r.1)) (seeded.under_append top (prefixed c.name c.below) (spread cs)) a.1)))
+      go top (c ∷ cs) a = (a.0, go top cs (all_back (λ (r : Path × Entry). IsPlaced layers r.1) (under top (prefixed c.name c.below))
+            (under top (spread cs)) (subst (AllByRecursion (λ (r : Path × Entry). IsPlaced layers r.1))
+            (seeded.under_append top (prefixed c.name c.below) (spread cs)) a.1)))
 
-  seedlings : (k : ℕ) (spot : Spot Entry) (f : IsFirstSpot spots spot) (cs : List (Shoot Entry)) → spot.0.now.below ≡ spread cs → IsForest cs → AreSeedlings layers (map listed t.entries) (number_among spots) (spot_place spot) cs
+  seedlings : (k : ℕ) (spot : Spot Entry) (f : IsFirstSpot spots spot) (cs : List (Shoot Entry)) → spot.0.now.below ≡ spread cs
+      → IsForest cs → AreSeedlings layers (map listed t.entries) (number_among spots) (spot_place spot) cs
   seedlings k spot f cs below forest =
       let c = seeded.children_are t.entries spots level at spot f cs below forest in
       let p = children_placed f.at spot f.is cs below in
       record {
         rows_are = lines cs p ∙ ap (map (shown_line (map listed t.entries))) (sym c);
-        count_is = sym (counted (λ (c : Shoot Entry). is_directory c.value.kind) cs) ∙ kinds cs p ∙ counted (λ (c : Child). is_directory_at layers c.place) (map child_of cs) ∙ ap (count_by (λ (c : Child). is_directory_at layers c.place)) (sym c);
+        count_is = sym (counted (λ (c : Shoot Entry). is_directory c.value.kind) cs) ∙ kinds cs p
+            ∙ counted (λ (c : Child). is_directory_at layers c.place) (map child_of cs)
+            ∙ ap (count_by (λ (c : Child). is_directory_at layers c.place)) (sym c);
       }
     where
-      lines : (cs : List (Shoot Entry)) → AllByRecursion (λ (c : Shoot Entry). IsPlaced layers c.value) cs → map (line_in (number_among spots)) cs ≡ map (shown_line (map listed t.entries)) (map child_of cs)
+      lines : (cs : List (Shoot Entry)) → AllByRecursion (λ (c : Shoot Entry). IsPlaced layers c.value) cs
+          → map (line_in (number_among spots)) cs ≡ map (shown_line (map listed t.entries)) (map child_of cs)
       lines [] a = refl
-      lines (c ∷ cs) a = ap (λ (n : ℕ). record { number = n; name = c.name } ∷ map (line_in (number_among spots)) cs) (numbered c.value) ∙ ap (λ r. record { number = number (map listed t.entries) (placed c.value.place); name = c.name } ∷ r) (lines cs a.1)
+      lines (c ∷ cs) a = ap (λ (n : ℕ). record { number = n; name = c.name } ∷ map (line_in (number_among spots)) cs) (numbered c.value)
+          ∙ ap (λ r. record { number = number (map listed t.entries) (placed c.value.place); name = c.name } ∷ r) (lines cs a.1)
 
-      kinds : (cs : List (Shoot Entry)) → AllByRecursion (λ (c : Shoot Entry). IsPlaced layers c.value) cs → count (λ (c : Shoot Entry). is_directory c.value.kind) cs ≡ count (λ (c : Child). is_directory_at layers c.place) (map child_of cs)
+      kinds : (cs : List (Shoot Entry)) → AllByRecursion (λ (c : Shoot Entry). IsPlaced layers c.value) cs
+          → count (λ (c : Shoot Entry). is_directory c.value.kind) cs ≡ count (λ (c : Child). is_directory_at layers c.place)
+          (map child_of cs)
       kinds [] a = refl
-      kinds (c ∷ cs) a = ap (λ b. cond b (1 + count (λ (c : Shoot Entry). is_directory c.value.kind) cs) (count (λ (c : Shoot Entry). is_directory c.value.kind) cs)) (ap is_directory (kind_placed layers c.value a.0)) ∙ ap (λ n. cond (is_directory_at layers (placed c.value.place)) (1 + n) n) (kinds cs a.1)
+      kinds (c ∷ cs) a = ap (λ b. cond b (1 + count (λ (c : Shoot Entry). is_directory c.value.kind) cs)
+            (count (λ (c : Shoot Entry). is_directory c.value.kind) cs)) (ap is_directory (kind_placed layers c.value a.0))
+          ∙ ap (λ n. cond (is_directory_at layers (placed c.value.place)) (1 + n) n) (kinds cs a.1)
 
-  seed : (k : ℕ) (spot : Spot Entry) → slice_get first k ≡ Some spot → IsSeed layers (map listed t.entries) (number_among spots) (slice_index paths k) spot
+  seed : (k : ℕ) (spot : Spot Entry) → slice_get first k ≡ Some spot → IsSeed layers (map listed t.entries) (number_among spots)
+      (slice_index paths k) spot
   seed k spot e =
       let f = num.each k spot e in
       let v = spot.0.now.value in
       let p = spot_placed f.at spot f.is in
       record {
         seat = record { image = p.image; is = p.is; given = p.given };
-        data_is = λ image s. let z : Some p.image ≡ Some image = sym p.is ∙ s in let q : p.image ≡ image = cc in subst (λ x. data_in x v.place.header ≡ data_of layers (spot_place spot)) q (data_placed layers v p);
+        data_is = λ image s. let z : Some p.image ≡ Some image = sym p.is ∙ s in let q : p.image ≡ image = cc in
+            subst (λ x. data_in x v.place.header ≡ data_of layers (spot_place spot)) q (data_placed layers v p);
         kind_is = kind_placed layers v p;
         parent_is = numbered spot.1 ∙ ap (number (map listed t.entries)) (sym (seeded.parent_is t.entries spots level at spot f));
         below = seedlings k spot f;
-        paths_are = λ other. num.counted k spot e ∙ ap (λ c. min c (2 ^ 32 - 1)) (paths_by (seen spots (length spots)) (map listed t.entries) (spot_place spot) (sym places_are)) ∙ ap (λ b. min (cond b (2 + count_by (λ (c : Child). is_directory_at layers c.place) (children (map listed t.entries) (spot_place spot))) (paths_of (map listed t.entries) (spot_place spot))) (2 ^ 32 - 1)) (sym other);
+        paths_are = λ other. num.counted k spot e
+            ∙ ap (λ c. min c (2 ^ 32 - 1)) (paths_by (seen spots (length spots)) (map listed t.entries) (spot_place spot) (sym places_are))
+            ∙ ap (λ b. min (cond b (2 + count_by (λ (c : Child). is_directory_at layers c.place)
+              (children (map listed t.entries) (spot_place spot))) (paths_of (map listed t.entries) (spot_place spot))) (2 ^ 32 - 1))
+            (sym other);
       }
 
   pub seeds : AreSomeSeeds layers (number_among spots) first paths
@@ -167,7 +190,8 @@ module _ (layers : List (List ℕ)) (t : TreeRows) (is : IsTreeOf 0 layers t) (s
     size_at : (k : ℕ) (spot : Spot Entry) → slice_get spots k ≡ Some spot → (k < length sizes) × (slice_index sizes k ≡ spot_size spot)
     size_at k spot e = (rw sized (go spots k spot e).0, rw sized (go spots k spot e).1)
       where
-        go : (xs : List (Spot Entry)) (k : ℕ) (spot : Spot Entry) → slice_get xs k ≡ Some spot → (k < length (map spot_size xs)) × (slice_index (map spot_size xs) k ≡ spot_size spot)
+        go : (xs : List (Spot Entry)) (k : ℕ) (spot : Spot Entry) → slice_get xs k ≡ Some spot → (k < length (map spot_size xs))
+            × (slice_index (map spot_size xs) k ≡ spot_size spot)
         go [] k spot e = absurd (cc)
         go (x ∷ xs) zero spot e = let f : x ≡ spot = cc in (omega arith, ap (λ (y : Spot Entry). spot_size y) f)
         go (x ∷ xs) (suc k) spot e = let r = go xs k spot e in (let l = r.0 in omega arith, r.1)
@@ -184,18 +208,22 @@ module _ (layers : List (List ℕ)) (t : TreeRows) (is : IsTreeOf 0 layers t) (s
         record {
           within = omega arith;
           sized = size.0;
-          number_is = tells j x.0 x.1 ∙ ap (λ (e : Entry). number_among spots e.place) (same_value t.entries j x.0.0.now c x.0.1 above l' l);
+          number_is = tells j x.0 x.1 ∙ ap (λ (e : Entry). number_among spots e.place)
+              (same_value t.entries j x.0.0.now c x.0.1 above l' l);
           size_is = size.1 ∙ same_size t.entries j x.0.0.now c x.0.1 above l' l;
           ends = omega arith;
         }
 
-    following : (j : ℕ) (s : Shoot Entry) (above : Entry) → IsLocated t.entries j s above → (ls cs : List (Shoot Entry)) → s.below ≡ spread (ls ++ cs) → NamesRise (ls ++ cs) → AreFollowing (number_among spots) numbers sizes (j + suc (length (spread ls))) cs
+    following : (j : ℕ) (s : Shoot Entry) (above : Entry) → IsLocated t.entries j s above → (ls cs : List (Shoot Entry))
+        → s.below ≡ spread (ls ++ cs) → NamesRise (ls ++ cs) → AreFollowing (number_among spots) numbers sizes
+        (j + suc (length (spread ls))) cs
     following j s above l ls [] below rise = tt
     following j s above l ls (c ∷ cs) below rise =
         let here = child_located t.entries j s above l ls c cs below rise in
         let again = append_assoc ls (c ∷ []) cs in
         let rest = following j s above l (ls ++ c ∷ []) cs (below ∙ ap spread (sym again)) (subst NamesRise (sym again) rise) in
-        (posted (j + suc (length (spread ls))) c s.value here, subst (λ n. AreFollowing (number_among spots) numbers sizes n cs) longer rest)
+        (posted (j + suc (length (spread ls))) c s.value here, subst (λ n. AreFollowing (number_among spots) numbers sizes n cs) longer
+              rest)
       where
         longer : j + suc (length (spread (ls ++ c ∷ []))) ≡ j + suc (length (spread ls)) + length (whole c)
         longer =
@@ -232,10 +260,13 @@ module _ (layers : List (List ℕ)) (t : TreeRows) (is : IsTreeOf 0 layers t) (s
     }
 
 -- a walk that began with nothing
-pub walked_all : (root : Shoot Entry) (above : Entry) (old out : List (Spot Entry)) (places places' sizes sizes' : List ℕ) → old ≡ [] → places ≡ [] → sizes ≡ [] → above ≡ root.value → AddsWalk root above old out places places' sizes sizes' → AreWalked root root.value out × AreAbove out out places' × (sizes' ≡ map spot_size out)
+pub walked_all : (root : Shoot Entry) (above : Entry) (old out : List (Spot Entry)) (places places' sizes sizes' : List ℕ) → old ≡ []
+    → places ≡ [] → sizes ≡ [] → above ≡ root.value → AddsWalk root above old out places places' sizes sizes'
+    → AreWalked root root.value out × AreAbove out out places' × (sizes' ≡ map spot_size out)
 walked_all root above old out places places' sizes sizes' none no_places no_sizes same a =
     let is : out ≡ a.spots = a.is ∙ ap (λ x. x ++ a.spots) none in (
       subst (λ v. AreWalked root v out) same (subst (AreWalked root above) (sym is) a.walked),
-      subst (λ (x : List (Spot Entry)). AreAbove out x places') (sym is) (subst (AreAbove out a.spots) (sym (a.places_are ∙ ap (λ x. x ++ a.more) no_places)) a.stand),
+      subst (λ (x : List (Spot Entry)). AreAbove out x places') (sym is)
+          (subst (AreAbove out a.spots) (sym (a.places_are ∙ ap (λ x. x ++ a.more) no_places)) a.stand),
       a.sizes_are ∙ ap (λ x. x ++ map spot_size a.spots) no_sizes ∙ ap (map spot_size) (sym is),
     )

@@ -36,7 +36,8 @@ below_or_at zero (suc i) l = inl (omega arith)
 below_or_at (suc k) zero l = absurd (omega arith)
 below_or_at (suc k) (suc i) l = elim (below_or_at k i (omega arith)) [ inl m ↦ inl (omega arith) | inr m ↦ inr (ap suc m) ]
 
-further : (keys : List ℕ) (seats : List (ℕ × ℕ)) (i : ℕ) → All (λ seat. (seat.1 < i) × (slice_index keys seat.1 ≡ seat.0)) seats → All (λ seat. (seat.1 < i + 1) × (slice_index keys seat.1 ≡ seat.0)) seats
+further : (keys : List ℕ) (seats : List (ℕ × ℕ)) (i : ℕ) → All (λ seat. (seat.1 < i) × (slice_index keys seat.1 ≡ seat.0)) seats
+    → All (λ seat. (seat.1 < i + 1) × (slice_index keys seat.1 ≡ seat.0)) seats
 further keys seats i own k d l = let o = own k d l in (let m = o.0 in omega arith, o.1)
 
 pub seats_same : (keys : List ℕ) (seats : List (ℕ × ℕ)) (i : ℕ) → Seating keys seats i → IsOnce keys i → Seating keys seats (i + 1)
@@ -49,31 +50,38 @@ seats_same keys seats i s o = record {
     one k (inl m) = s.every k m
     one k (inr m) = inr (subst (IsOnce keys) (sym m) o)
 
-pub seats_more : (keys : List ℕ) (seats seats' : List (ℕ × ℕ)) (i key : ℕ) → key ≡ slice_index keys i → seats' ≡ seats ++ (key, i) ∷ [] → Seating keys seats i → Seating keys seats' (i + 1)
+pub seats_more : (keys : List ℕ) (seats seats' : List (ℕ × ℕ)) (i key : ℕ) → key ≡ slice_index keys i → seats' ≡ seats ++ (key, i) ∷ []
+    → Seating keys seats i → Seating keys seats' (i + 1)
 seats_more keys seats seats' i key e p s = record {
-  own = λ k d l. at k d l (below_or_at k (length seats) (let m : length seats' ≡ length seats + 1 = ap length p ∙ length-append seats ((key, i) ∷ []) in omega arith));
+  own = λ k d l. at k d l (below_or_at k (length seats) (let m : length seats' ≡ length seats + 1 = ap length p
+        ∙ length-append seats ((key, i) ∷ []) in omega arith));
   every = λ k l. one k (below_or_at k i l);
 }
   where
-    at : (k : ℕ) (d : ℕ × ℕ) → k < length seats' → (k < length seats) ⊎ (k ≡ length seats) → ((get_or seats' k d).1 < i + 1) × (slice_index keys (get_or seats' k d).1 ≡ (get_or seats' k d).0)
+    at : (k : ℕ) (d : ℕ × ℕ) → k < length seats' → (k < length seats) ⊎ (k ≡ length seats) → ((get_or seats' k d).1 < i + 1)
+        × (slice_index keys (get_or seats' k d).1 ≡ (get_or seats' k d).0)
     at k d l (inl m) =
         let g : get_or seats' k d ≡ get_or seats k d = ap (λ x. get_or x k d) p ∙ get_front seats (key, i) k d m in
         subst (λ (x : ℕ × ℕ). (x.1 < i + 1) × (slice_index keys x.1 ≡ x.0)) (sym g) (further keys seats i s.own k d m)
     at k d l (inr m) =
-        let g : get_or seats' k d ≡ (key, i) = ap (λ x. get_or x k d) p ∙ ap (λ n. get_or (seats ++ (key, i) ∷ []) n d) m ∙ get_end seats (key, i) d in
+        let g : get_or seats' k d ≡ (key, i) = ap (λ x. get_or x k d) p ∙ ap (λ n. get_or (seats ++ (key, i) ∷ []) n d) m
+            ∙ get_end seats (key, i) d in
         subst (λ (x : ℕ × ℕ). (x.1 < i + 1) × (slice_index keys x.1 ≡ x.0)) (sym g) (omega arith, sym e)
 
     here : Contains seats' (slice_index keys i, i)
-    here = (length seats, (let m : length seats' ≡ length seats + 1 = ap length p ∙ length-append seats ((key, i) ∷ []) in omega arith), ap (λ x. get_or x (length seats) (slice_index keys i, i)) p ∙ get_end seats (key, i) (slice_index keys i, i) ∙ ap (λ x. (x, i)) e)
+    here = (length seats, (let m : length seats' ≡ length seats + 1 = ap length p ∙ length-append seats ((key, i) ∷ []) in omega arith),
+          ap (λ x. get_or x (length seats) (slice_index keys i, i)) p ∙ get_end seats (key, i) (slice_index keys i, i) ∙ ap (λ x. (x, i)) e)
 
     there : (x : ℕ × ℕ) → Contains seats x → Contains seats' x
-    there x (j, m, q) = (j, (let n : length seats' ≡ length seats + 1 = ap length p ∙ length-append seats ((key, i) ∷ []) in omega arith), ap (λ y. get_or y j x) p ∙ get_front seats (key, i) j x m ∙ q)
+    there x (j, m, q) = (j, (let n : length seats' ≡ length seats + 1 = ap length p ∙ length-append seats ((key, i) ∷ []) in omega arith),
+          ap (λ y. get_or y j x) p ∙ get_front seats (key, i) j x m ∙ q)
 
     one : (k : ℕ) → (k < i) ⊎ (k ≡ i) → Contains seats' (slice_index keys k, k) ⊎ IsOnce keys k
     one k (inl m) = elim (s.every k m) [ inl c ↦ inl (there _ c) | inr o ↦ inr o ]
     one k (inr m) = inl (subst (λ n. Contains seats' (slice_index keys n, n)) (sym m) here)
 
-pub seated : (keys : List ℕ) (seats seats' : List (ℕ × ℕ)) → Seating keys seats (length keys) → IsPermutation seats seats' → IsSorted (λ x y. ordering_then (nat_cmp x.0 y.0) (nat_cmp x.1 y.1)) seats' → AreSeats keys seats'
+pub seated : (keys : List ℕ) (seats seats' : List (ℕ × ℕ)) → Seating keys seats (length keys) → IsPermutation seats seats'
+    → IsSorted (λ x y. ordering_then (nat_cmp x.0 y.0) (nat_cmp x.1 y.1)) seats' → AreSeats keys seats'
 seated keys seats seats' s p r = record {
   own = All-permutation (λ seat. (seat.1 < length keys) × (slice_index keys seat.1 ≡ seat.0)) seats seats' p s.own;
   every = λ k l. elim (s.every k l) [ inl c ↦ inl (Contains-permutation seats seats' (slice_index keys k, k) p c) | inr o ↦ inr o ];
@@ -104,7 +112,8 @@ module _ (seats : List (ℕ × ℕ)) (r : IsSorted (λ x y. ordering_then (nat_c
       joined x y z (inr a) (inr b) = let c = a.1 in let d = b.1 in inr (a.0 ∙ b.0, omega arith)
 
   pub ordered : (i j : ℕ) (d : ℕ × ℕ) → i ≤ j → j < length seats → Before (get_or seats i d) (get_or seats j d)
-  ordered i j d l m = let n : i + (j - i) ≡ j = omega arith in subst (λ n. Before (get_or seats i d) (get_or seats n d)) n (far i (j - i) d (omega arith))
+  ordered i j d l m = let n : i + (j - i) ≡ j = omega arith in subst (λ n. Before (get_or seats i d) (get_or seats n d)) n
+      (far i (j - i) d (omega arith))
 
 -- below the length it does not matter what stands for a place beyond it
 pub default : {X : Type 0} (xs : List X) (k : ℕ) (a b : X) → k < length xs → get_or xs k a ≡ get_or xs k b
@@ -128,7 +137,8 @@ pub record Filling (keys : List ℕ) (seats : List (ℕ × ℕ)) (firsts : List 
   pub head : 0 < i → IsFirstOf keys group.0 group.1
   pub last : 0 < i → (seat_at seats (i - 1)).0 ≡ group.0
 
-pub fills_none : (keys : List ℕ) (seats : List (ℕ × ℕ)) (firsts : List ℕ) (group : ℕ × ℕ) → AreSeats keys seats → AreThemselves (length keys) firsts → Filling keys seats firsts group 0
+pub fills_none : (keys : List ℕ) (seats : List (ℕ × ℕ)) (firsts : List ℕ) (group : ℕ × ℕ) → AreSeats keys seats
+    → AreThemselves (length keys) firsts → Filling keys seats firsts group 0
 fills_none keys seats firsts group s t = record {
   seated = s;
   level = t.level;
@@ -140,7 +150,8 @@ fills_none keys seats firsts group s t = record {
     alone : (k : ℕ) → k < length keys → IsOnce keys k → IsFirstOf keys (slice_index keys k) k
     alone k l o = record { within = l; at = refl; before = λ j m e. absurd (let same = o j (omega arith) e in omega arith) }
 
-    one : (k : ℕ) → k < length keys → Contains seats (slice_index keys k, k) ⊎ IsOnce keys k → IsFirstOf keys (slice_index keys k) (slice_index firsts k) ⊎ IsWaiting keys seats 0 k
+    one : (k : ℕ) → k < length keys → Contains seats (slice_index keys k, k) ⊎ IsOnce keys k
+        → IsFirstOf keys (slice_index keys k) (slice_index firsts k) ⊎ IsWaiting keys seats 0 k
     one k l (inl (j, m, at)) = inr (j, omega arith, m, default seats j (0, 0) (slice_index keys k, k) m ∙ at)
     one k l (inr o) = inl (subst (IsFirstOf keys (slice_index keys k)) (sym (t.each k l)) (alone k l o))
 
@@ -158,7 +169,8 @@ squeezed x y z (inl a) (inl b) e = absurd (omega arith)
 squeezed x y z (inl a) (inr b) e = sym b.0
 squeezed x y z (inr a) b e = sym e ∙ a.0
 
-module _ (keys : List ℕ) (seats : List (ℕ × ℕ)) (firsts : List ℕ) (group : ℕ × ℕ) (i : ℕ) (f : Filling keys seats firsts group i) (lt : i < length seats) where
+module _ (keys : List ℕ) (seats : List (ℕ × ℕ)) (firsts : List ℕ) (group : ℕ × ℕ) (i : ℕ) (f : Filling keys seats firsts group i)
+    (lt : i < length seats) where
   pub within : (seat_at seats i).1 < length firsts
   within = let o = (f.seated.own i (0, 0) lt).0 in let level = f.level in omega arith
 
@@ -173,7 +185,8 @@ module _ (keys : List ℕ) (seats : List (ℕ × ℕ)) (firsts : List ℕ) (grou
     before = λ k l e. earlier k l e (f.seated.every k (let o = (f.seated.own i (0, 0) lt).0 in omega arith));
   }
     where
-      placed : (k j : ℕ) → k < (seat_at seats i).1 → slice_index keys k ≡ (seat_at seats i).0 → j < length seats → seat_at seats j ≡ (slice_index keys k, k) → (j < i) ⊎ (i ≤ j) → (i ≡ 0) ⊎ ((seat_at seats i).0 ≢ group.0) → ⊥
+      placed : (k j : ℕ) → k < (seat_at seats i).1 → slice_index keys k ≡ (seat_at seats i).0 → j < length seats
+          → seat_at seats j ≡ (slice_index keys k, k) → (j < i) ⊎ (i ≤ j) → (i ≡ 0) ⊎ ((seat_at seats i).0 ≢ group.0) → ⊥
       placed k j l e m at (inl o) (inl z) = absurd (omega arith)
       placed k j l e m at (inl o) (inr other) =
           let a = ordered seats f.seated.rising j (i - 1) (0, 0) (omega arith) (omega arith) in
@@ -182,14 +195,17 @@ module _ (keys : List ℕ) (seats : List (ℕ × ℕ)) (firsts : List ℕ) (grou
           other (squeezed (seat_at seats j) (seat_at seats (i - 1)) (seat_at seats i) a b same ∙ f.last (omega arith))
       placed k j l e m at (inr o) n =
           let a = ordered seats f.seated.rising i j (0, 0) o m in
-          after (seat_at seats i) (seat_at seats j) a (ap (λ (x : ℕ × ℕ). x.0) at ∙ e) (subst (λ (x : ℕ × ℕ). x.1 < (seat_at seats i).1) (sym at) l)
+          after (seat_at seats i) (seat_at seats j) a (ap (λ (x : ℕ × ℕ). x.0) at ∙ e) (subst (λ (x : ℕ × ℕ). x.1 < (seat_at seats i).1)
+                (sym at) l)
 
-      earlier : (k : ℕ) → k < (seat_at seats i).1 → slice_index keys k ≡ (seat_at seats i).0 → Contains seats (slice_index keys k, k) ⊎ IsOnce keys k → ⊥
+      earlier : (k : ℕ) → k < (seat_at seats i).1 → slice_index keys k ≡ (seat_at seats i).0 → Contains seats (slice_index keys k, k)
+          ⊎ IsOnce keys k → ⊥
       earlier k l e (inl (j, m, at)) = placed k j l e m (default seats j (0, 0) (slice_index keys k, k) m ∙ at) (below_or_from j i) n
       earlier k l e (inr o) = let same = o (seat_at seats i).1 (f.seated.own i (0, 0) lt).0 (own ∙ sym e) in omega arith
 
   -- once the first place of the key is written
-  told : (group' : ℕ × ℕ) (firsts' : List ℕ) → group'.0 ≡ (seat_at seats i).0 → IsFirstOf keys group'.0 group'.1 → firsts' ≡ slice_set firsts (seat_at seats i).1 group'.1 → Filling keys seats firsts' group' (i + 1)
+  told : (group' : ℕ × ℕ) (firsts' : List ℕ) → group'.0 ≡ (seat_at seats i).0 → IsFirstOf keys group'.0 group'.1
+      → firsts' ≡ slice_set firsts (seat_at seats i).1 group'.1 → Filling keys seats firsts' group' (i + 1)
   told group' firsts' k first set = record {
     seated = f.seated;
     level = ap length set ∙ simp length-set f.level;
@@ -200,37 +216,48 @@ module _ (keys : List ℕ) (seats : List (ℕ × ℕ)) (firsts : List ℕ) (grou
     where
       here : IsFirstOf keys (seat_at seats i).0 (slice_index firsts' (seat_at seats i).1)
       here =
-          let at : slice_index firsts' (seat_at seats i).1 ≡ group'.1 = ap (λ xs. slice_index xs (seat_at seats i).1) set ∙ (let w = within in rw get_or-set_same refl) in
+          let at : slice_index firsts' (seat_at seats i).1 ≡ group'.1 = ap (λ xs. slice_index xs (seat_at seats i).1) set
+              ∙ (let w = within in rw get_or-set_same refl) in
           subst (IsFirstOf keys (seat_at seats i).0) (sym at) (subst (λ x. IsFirstOf keys x group'.1) k first)
 
       alike : (m : ℕ) → m ≡ (seat_at seats i).1 → IsFirstOf keys (slice_index keys m) (slice_index firsts' m)
-      alike m e = subst (λ n. IsFirstOf keys (slice_index keys n) (slice_index firsts' n)) (sym e) (subst (λ x. IsFirstOf keys x (slice_index firsts' (seat_at seats i).1)) (sym own) here)
+      alike m e = subst (λ n. IsFirstOf keys (slice_index keys n) (slice_index firsts' n)) (sym e)
+          (subst (λ x. IsFirstOf keys x (slice_index firsts' (seat_at seats i).1)) (sym own) here)
 
-      later_still : (m j : ℕ) → i ≤ j → seat_at seats j ≡ (slice_index keys m, m) → m ≢ (seat_at seats i).1 → (i ≡ j) ⊎ ((i < j) ⊎ (j < i)) → i + 1 ≤ j
+      later_still : (m j : ℕ) → i ≤ j → seat_at seats j ≡ (slice_index keys m, m) → m ≢ (seat_at seats i).1 → (i ≡ j) ⊎ ((i < j) ⊎ (j < i))
+          → i + 1 ≤ j
       later_still m j from at ne (inl q) = absurd (ne (sym (ap (λ n. (seat_at seats n).1) q ∙ ap (λ (x : ℕ × ℕ). x.1) at)))
       later_still m j from at ne (inr (inl q)) = omega arith
       later_still m j from at ne (inr (inr q)) = absurd (omega arith)
 
-      apart : (m : ℕ) → m ≢ (seat_at seats i).1 → IsFirstOf keys (slice_index keys m) (slice_index firsts m) ⊎ IsWaiting keys seats i m → IsFirstOf keys (slice_index keys m) (slice_index firsts' m) ⊎ IsWaiting keys seats (i + 1) m
+      apart : (m : ℕ) → m ≢ (seat_at seats i).1 → IsFirstOf keys (slice_index keys m) (slice_index firsts m) ⊎ IsWaiting keys seats i m
+          → IsFirstOf keys (slice_index keys m) (slice_index firsts' m) ⊎ IsWaiting keys seats (i + 1) m
       apart m ne (inl d) =
           let at : slice_index firsts' m ≡ slice_index firsts m = ap (λ xs. slice_index xs m) set ∙ rw get_or-set_other refl in
           inl (subst (IsFirstOf keys (slice_index keys m)) (sym at) d)
       apart m ne (inr (j, from, to, at)) = inr (j, later_still m j from at ne (cases_order i j), to, at)
 
-      one : (m : ℕ) → (m ≡ (seat_at seats i).1) ⊎ ((m < (seat_at seats i).1) ⊎ ((seat_at seats i).1 < m)) → IsFirstOf keys (slice_index keys m) (slice_index firsts m) ⊎ IsWaiting keys seats i m → IsFirstOf keys (slice_index keys m) (slice_index firsts' m) ⊎ IsWaiting keys seats (i + 1) m
+      one : (m : ℕ) → (m ≡ (seat_at seats i).1) ⊎ ((m < (seat_at seats i).1) ⊎ ((seat_at seats i).1 < m))
+          → IsFirstOf keys (slice_index keys m) (slice_index firsts m) ⊎ IsWaiting keys seats i m
+          → IsFirstOf keys (slice_index keys m) (slice_index firsts' m) ⊎ IsWaiting keys seats (i + 1) m
       one m (inl q) d = inl (alike m q)
       one m (inr (inl q)) d = apart m (λ e. omega arith) d
       one m (inr (inr q)) d = apart m (λ e. omega arith) d
 
-  pub goes_on : (firsts' : List ℕ) → firsts' ≡ slice_set firsts (seat_at seats i).1 group.1 → 0 < i → (seat_at seats i).0 ≡ group.0 → Filling keys seats firsts' group (i + 1)
+  pub goes_on : (firsts' : List ℕ) → firsts' ≡ slice_set firsts (seat_at seats i).1 group.1 → 0 < i → (seat_at seats i).0 ≡ group.0
+      → Filling keys seats firsts' group (i + 1)
   goes_on firsts' set l e = told group firsts' (sym e) (f.head l) set
 
-  pub begins_anew : (group' : ℕ × ℕ) (firsts' : List ℕ) → group' ≡ seat_at seats i → firsts' ≡ slice_set firsts (seat_at seats i).1 group'.1 → (i ≡ 0) ⊎ ((seat_at seats i).0 ≢ group.0) → Filling keys seats firsts' group' (i + 1)
-  begins_anew group' firsts' g set n = told group' firsts' (ap (λ (x : ℕ × ℕ). x.0) g) (subst (λ (x : ℕ × ℕ). IsFirstOf keys x.0 x.1) (sym g) (begins n)) set
+  pub begins_anew : (group' : ℕ × ℕ) (firsts' : List ℕ) → group' ≡ seat_at seats i → firsts' ≡ slice_set firsts (seat_at seats i).1 group'.1
+      → (i ≡ 0) ⊎ ((seat_at seats i).0 ≢ group.0) → Filling keys seats firsts' group' (i + 1)
+  begins_anew group' firsts' g set n = told group' firsts' (ap (λ (x : ℕ × ℕ). x.0) g) (subst (λ (x : ℕ × ℕ). IsFirstOf keys x.0 x.1)
+        (sym g) (begins n)) set
 
-pub all_told : (keys : List ℕ) (seats : List (ℕ × ℕ)) (firsts : List ℕ) (group : ℕ × ℕ) (i : ℕ) → length seats ≤ i → Filling keys seats firsts group i → AreFirsts keys firsts
+pub all_told : (keys : List ℕ) (seats : List (ℕ × ℕ)) (firsts : List ℕ) (group : ℕ × ℕ) (i : ℕ) → length seats ≤ i
+    → Filling keys seats firsts group i → AreFirsts keys firsts
 all_told keys seats firsts group i l f = record { level = f.level; each = λ k m. one k (f.done k m) }
   where
-    one : (k : ℕ) → IsFirstOf keys (slice_index keys k) (slice_index firsts k) ⊎ IsWaiting keys seats i k → IsFirstOf keys (slice_index keys k) (slice_index firsts k)
+    one : (k : ℕ) → IsFirstOf keys (slice_index keys k) (slice_index firsts k) ⊎ IsWaiting keys seats i k
+        → IsFirstOf keys (slice_index keys k) (slice_index firsts k)
     one k (inl d) = d
     one k (inr (j, from, to, at)) = absurd (omega arith)

@@ -19,7 +19,8 @@ use Rattle.node_table.proofs.Paths.{same_itself as name_itself}
 use Rattle.node_table.proofs.Counting.{not_among, same_itself as place_itself}
 
 -- lists with the same elements at each place
-ext : {X : Type 0} (xs ys : List X) → length xs ≡ length ys → ((k : ℕ) (y : X) → slice_get ys k ≡ Some y → slice_get xs k ≡ Some y) → xs ≡ ys
+ext : {X : Type 0} (xs ys : List X) → length xs ≡ length ys → ((k : ℕ) (y : X) → slice_get ys k ≡ Some y → slice_get xs k ≡ Some y)
+    → xs ≡ ys
 ext [] [] l f = refl
 ext [] (y ∷ ys) l f = absurd (omega arith)
 ext (x ∷ xs) [] l f = absurd (omega arith)
@@ -33,7 +34,8 @@ get_map f [] k x e = absurd (cc)
 get_map f (y ∷ xs) zero x e = let g : y ≡ x = cc in ap (λ z. Some (f z)) g
 get_map f (y ∷ xs) (suc k) x e = get_map f xs k x e
 
-get_of_map : {X Y : Type 0} (f : X → Y) (xs : List X) (k : ℕ) (y : Y) → slice_get (map f xs) k ≡ Some y → (x : X) × (slice_get xs k ≡ Some x) × (f x ≡ y)
+get_of_map : {X Y : Type 0} (f : X → Y) (xs : List X) (k : ℕ) (y : Y) → slice_get (map f xs) k ≡ Some y
+    → (x : X) × (slice_get xs k ≡ Some x) × (f x ≡ y)
 get_of_map f [] k y e = absurd (cc)
 get_of_map f (x ∷ xs) zero y e = (x, refl, (let g : f x ≡ y = cc in g))
 get_of_map f (x ∷ xs) (suc k) y e = get_of_map f xs k y e
@@ -69,22 +71,29 @@ abbrev located_place : Path × Entry → ModelPlace
 located_place r = place (listed r)
 
 -- the row of a branch that is located
-pub row_at : (rows : Rows Entry) (j : ℕ) (s : Shoot Entry) (above : Entry) (l : IsLocated rows j s above) → slice_get rows j ≡ Some (l.top ++ [], s.value)
-row_at rows j s above l = subst (λ n. slice_get rows n ≡ Some (l.top ++ [], s.value)) l.at (subst (λ x. slice_get x (length l.before) ≡ Some (l.top ++ [], s.value)) (sym (l.is ∙ append_assoc l.before (under l.top (whole s)) l.after)) (there l.before))
+pub row_at : (rows : Rows Entry) (j : ℕ) (s : Shoot Entry) (above : Entry) (l : IsLocated rows j s above)
+    → slice_get rows j ≡ Some (l.top ++ [], s.value)
+row_at rows j s above l = subst (λ n. slice_get rows n ≡ Some (l.top ++ [], s.value)) l.at
+    (subst (λ x. slice_get x (length l.before) ≡ Some (l.top ++ [], s.value))
+      (sym (l.is ∙ append_assoc l.before (under l.top (whole s)) l.after)) (there l.before))
   where
     there : (before : Rows Entry) → slice_get (before ++ (under l.top (whole s) ++ l.after)) (length before) ≡ Some (l.top ++ [], s.value)
     there [] = refl
     there (x ∷ before) = there before
 
 -- the rows of a walk have the places of its spots
-pub places_same : (rows : Rows Entry) (spots : List (Spot Entry)) → length spots ≡ length rows → ((k : ℕ) (spot : Spot Entry) → slice_get spots k ≡ Some spot → IsLocated rows k spot.0.now spot.1) → map place (map listed rows) ≡ map spot_place spots
-places_same rows spots level at = ext (map place (map listed rows)) (map spot_place spots) (length_map place (map listed rows) ∙ length_map listed rows ∙ sym level ∙ sym (length_map spot_place spots)) one
+pub places_same : (rows : Rows Entry) (spots : List (Spot Entry)) → length spots ≡ length rows
+    → ((k : ℕ) (spot : Spot Entry) → slice_get spots k ≡ Some spot → IsLocated rows k spot.0.now spot.1) → map place (map listed rows)
+    ≡ map spot_place spots
+places_same rows spots level at = ext (map place (map listed rows)) (map spot_place spots) (length_map place (map listed rows)
+      ∙ length_map listed rows ∙ sym level ∙ sym (length_map spot_place spots)) one
   where
     one : (k : ℕ) (y : ModelPlace) → slice_get (map spot_place spots) k ≡ Some y → slice_get (map place (map listed rows)) k ≡ Some y
     one k y e =
         let x = get_of_map spot_place spots k y e in
         let l = at k x.0 x.1 in
-        get_map place (map listed rows) k (listed (l.top ++ [], x.0.0.now.value)) (get_map listed rows k (l.top ++ [], x.0.0.now.value) (row_at rows k x.0.0.now x.0.1 l)) ∙ ap Some x.2
+        get_map place (map listed rows) k (listed (l.top ++ [], x.0.0.now.value)) (get_map listed rows k (l.top ++ [], x.0.0.now.value)
+              (row_at rows k x.0.0.now x.0.1 l)) ∙ ap Some x.2
 
 pub bare_places : (spots : List (Spot Entry)) → map place (map bare spots) ≡ map spot_place spots
 bare_places [] = refl
@@ -99,15 +108,18 @@ unfolding number_of nodes
 number_of_by es fs p e = ap (λ x. position_from (same_place p) 1 (fold noted [] x)) e
 
 -- nothing before the first branch of a place has the place
-find_past : (p : ModelPlace) (es fs : List Listed) (e : Listed) → ((f : Listed) → IsAmong f es → same_place p (place f) ≡ false) → same_place p (place e) ≡ true → find (λ f. same_place p (place f)) (es ++ e ∷ fs) ≡ Some e
+find_past : (p : ModelPlace) (es fs : List Listed) (e : Listed) → ((f : Listed) → IsAmong f es → same_place p (place f) ≡ false)
+    → same_place p (place e) ≡ true → find (λ f. same_place p (place f)) (es ++ e ∷ fs) ≡ Some e
 find_past p [] fs e none at = rw at refl
 find_past p (f ∷ es) fs e none at = rw (none f (inl refl)) (find_past p es fs e (λ g a. none g (inr a)) at)
 
-find_map : (t : Path → Bool) (rows : Rows Entry) → find (λ (e : Listed). t e.path) (map listed rows) ≡ option_map listed (find (λ r. t r.0) rows)
+find_map : (t : Path → Bool) (rows : Rows Entry) → find (λ (e : Listed). t e.path) (map listed rows)
+    ≡ option_map listed (find (λ r. t r.0) rows)
 find_map t [] = refl
 find_map t (x ∷ rows) = go (t x.0) refl (find_map t rows)
   where
-    go : (b : Bool) → t x.0 ≡ b → find (λ (e : Listed). t e.path) (map listed rows) ≡ option_map listed (find (λ r. t r.0) rows) → find (λ (e : Listed). t e.path) (map listed (x ∷ rows)) ≡ option_map listed (find (λ r. t r.0) (x ∷ rows))
+    go : (b : Bool) → t x.0 ≡ b → find (λ (e : Listed). t e.path) (map listed rows) ≡ option_map listed (find (λ r. t r.0) rows)
+        → find (λ (e : Listed). t e.path) (map listed (x ∷ rows)) ≡ option_map listed (find (λ r. t r.0) (x ∷ rows))
     go true e i = rw e refl
     go false e i = rw e i
 
@@ -137,7 +149,8 @@ filter_append : {X Y : Type 0} (f : X → Option Y) (xs ys : List X) → filter_
 filter_append f [] ys = refl
 filter_append {Y = Y} f (x ∷ xs) ys = go (f x) (filter_append f xs ys)
   where
-    go : (o : Option Y) → filter_map f (xs ++ ys) ≡ filter_map f xs ++ filter_map f ys → cons_option o (filter_map f (xs ++ ys)) ≡ cons_option o (filter_map f xs) ++ filter_map f ys
+    go : (o : Option Y) → filter_map f (xs ++ ys) ≡ filter_map f xs ++ filter_map f ys → cons_option o (filter_map f (xs ++ ys))
+        ≡ cons_option o (filter_map f xs) ++ filter_map f ys
     go None e = e
     go (Some y) e = ap (λ r. y ∷ r) e
 
@@ -147,15 +160,18 @@ child_of c = record { name = c.name; place = placed c.value.place }
 
 none_apart : (top : Path) (xs : Rows Entry) → AreApart top xs → filter_map (child_in top) (map listed xs) ≡ []
 none_apart top [] a = refl
-none_apart top (x ∷ xs) a = ap (λ o. cons_option (option_map (λ n. record { name = n; place = place (listed x) }) o) (filter_map (child_in top) (map listed xs))) (below_none top x.0 a.0) ∙ none_apart top xs a.1
+none_apart top (x ∷ xs) a = ap (λ o. cons_option (option_map (λ n. record { name = n; place = place (listed x) }) o)
+      (filter_map (child_in top) (map listed xs))) (below_none top x.0 a.0) ∙ none_apart top xs a.1
 
 -- rows below a child
 abbrev AreLong : Rows Entry → Type 0
 AreLong xs = AllByRecursion (λ (y : Path × Entry). slice_cmp name_cmp [] y.0 ≡ Less) xs
 
-none_long : (top : Path) (n : List ℕ) (xs : Rows Entry) → AreLong xs → filter_map (child_in top) (map listed (under top (prefixed n xs))) ≡ []
+none_long : (top : Path) (n : List ℕ) (xs : Rows Entry) → AreLong xs → filter_map (child_in top) (map listed (under top (prefixed n xs)))
+    ≡ []
 none_long top n [] a = refl
-none_long top n (x ∷ xs) a = ap (λ o. cons_option (option_map (λ m. record { name = m; place = place (listed x) }) o) (filter_map (child_in top) (map listed (under top (prefixed n xs))))) (one x.0 a.0) ∙ none_long top n xs a.1
+none_long top n (x ∷ xs) a = ap (λ o. cons_option (option_map (λ m. record { name = m; place = place (listed x) }) o)
+      (filter_map (child_in top) (map listed (under top (prefixed n xs))))) (one x.0 a.0) ∙ none_long top n xs a.1
   where
     one : (q : Path) → slice_cmp name_cmp [] q ≡ Less → name_below top (top ++ n ∷ q) ≡ None
     one [] e = absurd (cc)
@@ -164,10 +180,12 @@ none_long top n (x ∷ xs) a = ap (λ o. cons_option (option_map (λ m. record {
 pub under_append : (top : Path) (xs ys : Rows Entry) → under top (xs ++ ys) ≡ under top xs ++ under top ys
 under_append top xs ys = map_append (λ (row : Path × Entry). (top ++ row.0, row.1)) xs ys
 
-pub children_under : (top : Path) (cs : List (Shoot Entry)) → AllByRecursion IsRising cs → filter_map (child_in top) (map listed (under top (spread cs))) ≡ map child_of cs
+pub children_under : (top : Path) (cs : List (Shoot Entry)) → AllByRecursion IsRising cs
+    → filter_map (child_in top) (map listed (under top (spread cs))) ≡ map child_of cs
 children_under top [] a = refl
 children_under top (c ∷ cs) a =
-    ap (λ o. cons_option (option_map (λ n. record { name = n; place = placed c.value.place }) o) (filter_map (child_in top) (map listed (under top (prefixed c.name c.below ++ spread cs))))) (below_one top c.name)
+    ap (λ o. cons_option (option_map (λ n. record { name = n; place = placed c.value.place }) o)
+          (filter_map (child_in top) (map listed (under top (prefixed c.name c.below ++ spread cs))))) (below_one top c.name)
     ∙ ap (λ r. record { name = c.name; place = placed c.value.place } ∷ r) (
     ap (λ xs. filter_map (child_in top) (map listed xs)) (under_append top (prefixed c.name c.below) (spread cs))
     ∙ ap (filter_map (child_in top)) (map_append listed (under top (prefixed c.name c.below)) (under top (spread cs)))
@@ -175,15 +193,18 @@ children_under top (c ∷ cs) a =
     ∙ ap (λ x. x ++ filter_map (child_in top) (map listed (under top (spread cs)))) (none_long top c.name c.below a.0.rises.0)
     ∙ children_under top cs a.1)
 
-module _ (rows : Rows Entry) (spots : List (Spot Entry)) (level : length spots ≡ length rows) (at : (k : ℕ) (spot : Spot Entry) → slice_get spots k ≡ Some spot → IsLocated rows k spot.0.now spot.1) where
+module _ (rows : Rows Entry) (spots : List (Spot Entry)) (level : length spots ≡ length rows) (at : (k : ℕ) (spot : Spot Entry)
+      → slice_get spots k ≡ Some spot → IsLocated rows k spot.0.now spot.1) where
   pub entries : List Listed
   entries = map listed rows
 
-  pub split : (j : ℕ) (s : Shoot Entry) (above : Entry) (l : IsLocated rows j s above) → rows ≡ l.before ++ (l.top ++ [], s.value) ∷ (under l.top s.below ++ l.after)
+  pub split : (j : ℕ) (s : Shoot Entry) (above : Entry) (l : IsLocated rows j s above) → rows ≡ l.before ++ (l.top ++ [], s.value) ∷
+      (under l.top s.below ++ l.after)
   split j s above l = l.is ∙ append_assoc l.before (under l.top (whole s)) l.after
 
   -- the places before a branch are those of the spots before it
-  places_before : (j : ℕ) (s : Shoot Entry) (above : Entry) (l : IsLocated rows j s above) → map place (map listed l.before) ≡ map place (seen spots j)
+  places_before : (j : ℕ) (s : Shoot Entry) (above : Entry) (l : IsLocated rows j s above) → map place (map listed l.before)
+      ≡ map place (seen spots j)
   places_before j s above l =
       sym (ap (λ x. map place (map listed x)) front)
       ∙ sym (ap (map place) (take_map listed j rows)) ∙ sym (take_map place j (map listed rows))
@@ -191,7 +212,8 @@ module _ (rows : Rows Entry) (spots : List (Spot Entry)) (level : length spots �
       ∙ take_map spot_place j spots ∙ sym (bare_places (take j spots))
     where
       front : take j rows ≡ l.before
-      front = ap (take j) (split j s above l) ∙ subst (λ n. take n (l.before ++ (l.top ++ [], s.value) ∷ (under l.top s.below ++ l.after)) ≡ l.before) l.at (take_front l.before ((l.top ++ [], s.value) ∷ (under l.top s.below ++ l.after)))
+      front = ap (take j) (split j s above l) ∙ subst (λ n. take n (l.before ++ (l.top ++ [], s.value) ∷ (under l.top s.below ++ l.after))
+            ≡ l.before) l.at (take_front l.before ((l.top ++ [], s.value) ∷ (under l.top s.below ++ l.after)))
 
   pub path_is : (spot : Spot Entry) (f : IsFirstSpot spots spot) → path_of (map listed rows) (spot_place spot) ≡ (at f.at spot f.is).top
   path_is spot f =
@@ -199,25 +221,31 @@ module _ (rows : Rows Entry) (spots : List (Spot Entry)) (level : length spots �
       let s = spot.0.now in
       let p = spot_place spot in
       let e : Listed = listed (l.top ++ [], s.value) in
-      let none : number_of (map listed l.before) p ≡ None = number_of_by (map listed l.before) (seen spots f.at) p (places_before f.at s spot.1 l) ∙ f.new in
+      let none : number_of (map listed l.before) p ≡ None = number_of_by (map listed l.before) (seen spots f.at) p
+          (places_before f.at s spot.1 l) ∙ f.new in
       let found : find (λ (e : Listed). same_place p (place e)) (map listed rows) ≡ Some e =
-      ap (λ x. find (λ (e : Listed). same_place p (place e)) x) (ap (map listed) (split f.at s spot.1 l) ∙ map_append listed l.before ((l.top ++ [], s.value) ∷ (under l.top s.below ++ l.after)))
-      ∙ find_past p (map listed l.before) (map listed (under l.top s.below ++ l.after)) e (λ g a. not_among (map listed l.before) p none g a) (place_itself p) in
+      ap (λ x. find (λ (e : Listed). same_place p (place e)) x) (ap (map listed) (split f.at s spot.1 l)
+            ∙ map_append listed l.before ((l.top ++ [], s.value) ∷ (under l.top s.below ++ l.after)))
+      ∙ find_past p (map listed l.before) (map listed (under l.top s.below ++ l.after)) e
+          (λ g a. not_among (map listed l.before) p none g a) (place_itself p) in
       ap (λ o. option_map_or (λ (e : Listed). e.path) o []) found ∙ nil_right l.top
 
   pub parent_is : (spot : Spot Entry) (f : IsFirstSpot spots spot) → parent (map listed rows) (spot_place spot) ≡ placed spot.1.place
   unfolding parent
   parent_is spot f =
       let l = at f.at spot f.is in
-      ap (λ (q : Path). option_map_or place (find (λ (e : Listed). same_path (take (length q - 1) q) e.path) (map listed rows)) (spot_place spot)) (path_is spot f)
+      ap (λ (q : Path). option_map_or place (find (λ (e : Listed). same_path (take (length q - 1) q) e.path) (map listed rows))
+            (spot_place spot)) (path_is spot f)
       ∙ ap (λ o. option_map_or place o (spot_place spot)) (find_map (same_path (take (length l.top - 1) l.top)) rows)
       ∙ above (find (λ (r : Path × Entry). same_path (take (length l.top - 1) l.top) r.0) rows) l.above_is
     where
-      above : (o : Option (Path × Entry)) → option_map (λ r. r.1) o ≡ Some spot.1 → option_map_or place (option_map listed o) (spot_place spot) ≡ placed spot.1.place
+      above : (o : Option (Path × Entry)) → option_map (λ r. r.1) o ≡ Some spot.1 → option_map_or place (option_map listed o)
+          (spot_place spot) ≡ placed spot.1.place
       above None e = absurd (cc)
       above (Some r) e = let g : r.1 ≡ spot.1 = cc in ap (λ (v : Entry). placed v.place) g
 
-  pub children_are : (spot : Spot Entry) (f : IsFirstSpot spots spot) (cs : List (Shoot Entry)) → spot.0.now.below ≡ spread cs → IsForest cs → children (map listed rows) (spot_place spot) ≡ map child_of cs
+  pub children_are : (spot : Spot Entry) (f : IsFirstSpot spots spot) (cs : List (Shoot Entry)) → spot.0.now.below ≡ spread cs → IsForest cs
+      → children (map listed rows) (spot_place spot) ≡ map child_of cs
   unfolding children
   children_are spot f cs below forest =
       let l = at f.at spot f.is in
@@ -226,11 +254,13 @@ module _ (rows : Rows Entry) (spots : List (Spot Entry)) (level : length spots �
       let row : Path × Entry = (l.top ++ [], s.value) in
       let mine = under l.top (spread cs) in
       ap (λ (q : Path). filter_map (child_in q) (map listed rows)) (path_is spot f)
-      ∙ ap (λ x. filter_map (child_in top) (map listed x)) (split f.at s spot.1 l ∙ ap (λ b. l.before ++ row ∷ (under l.top b ++ l.after)) below)
+      ∙ ap (λ x. filter_map (child_in top) (map listed x)) (split f.at s spot.1 l
+            ∙ ap (λ b. l.before ++ row ∷ (under l.top b ++ l.after)) below)
       ∙ ap (filter_map (child_in top)) (map_append listed l.before (row ∷ (mine ++ l.after)))
       ∙ filter_append (child_in top) (map listed l.before) (map listed (row ∷ (mine ++ l.after)))
       ∙ ap (λ x. x ++ filter_map (child_in top) (map listed (row ∷ (mine ++ l.after)))) (none_apart top l.before l.apart_before)
-      ∙ ap (λ o. cons_option (option_map (λ n. record { name = n; place = placed s.value.place }) o) (filter_map (child_in top) (map listed (mine ++ l.after)))) (below_itself top)
+      ∙ ap (λ o. cons_option (option_map (λ n. record { name = n; place = placed s.value.place }) o)
+            (filter_map (child_in top) (map listed (mine ++ l.after)))) (below_itself top)
       ∙ ap (filter_map (child_in top)) (map_append listed mine l.after)
       ∙ filter_append (child_in top) (map listed mine) (map listed l.after)
       ∙ ap (λ x. filter_map (child_in top) (map listed mine) ++ x) (none_apart top l.after l.apart_after)

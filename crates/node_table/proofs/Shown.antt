@@ -39,14 +39,17 @@ pub record IsPlaced (layers : List (List ℕ)) (e : Entry) : Type 0 where
   pub kind_is : e.kind ≡ kind image e.place.header
 
 given_at : (a : List ℕ) (i : IsImage a) (path : Path) (h e : ℕ) → Has a path h → IsFinal a h e → IsGiven a (head_of a e)
-given_at a i path h e l f = record { is = refl; from = elim (leads_to a path (root a) h l) [ inl r ↦ at_root h e r f | inr m ↦ inr (inr (h, m, f)) ] }
+given_at a i path h e l f = record { is = refl; from =
+      elim (leads_to a path (root a) h l) [ inl r ↦ at_root h e r f | inr m ↦ inr (inr (h, m, f)) ] }
   where
     at_root : (h e : ℕ) → root a ≡ h → IsFinal a h e → From a e
     at_root h e r (stays n) = inl (sym r)
-    at_root h e r (follows l g) = absurd (let k : kind a h ≡ Directory = subst (λ x. kind a x ≡ Directory) r (root_directory a i) in let m = l.1 in cc)
+    at_root h e r (follows l g) = absurd (let k : kind a h ≡ Directory = subst (λ x. kind a x ≡ Directory) r (root_directory a i) in let m =
+          l.1 in cc)
 
 not_before_itself : (p : Path) → slice_cmp name_cmp p p ≡ Less → ⊥
-not_before_itself p e = let s = (lists_total nat_list_cmp_total).antisymm p p in let r : Less ≡ Greater = sym e ∙ s ∙ ap ordering_reverse e in cc
+not_before_itself p e = let s = (lists_total nat_list_cmp_total).antisymm p p in let r : Less ≡ Greater = sym e ∙ s
+    ∙ ap ordering_reverse e in cc
 
 -- in rising rows each row is found at its path
 abbrev AreAt : Rows Entry → Rows Entry → Type 0
@@ -59,7 +62,8 @@ own_at (x ∷ rows) r = (first x.0, more rows rows r.0 (own_at rows r.1))
     first : (p : Path) → at_path ((p, x.1) ∷ rows) p ≡ Some x.1
     first p = elim (same_path_or_not p p) [ inl s ↦ rw s.1 refl | inr s ↦ absurd (s.0 refl) ]
 
-    more : (all ys : Rows Entry) → AllByRecursion (λ (y : Path × Entry). slice_cmp name_cmp x.0 y.0 ≡ Less) ys → AreAt all ys → AreAt (x ∷ all) ys
+    more : (all ys : Rows Entry) → AllByRecursion (λ (y : Path × Entry). slice_cmp name_cmp x.0 y.0 ≡ Less) ys → AreAt all ys
+        → AreAt (x ∷ all) ys
     more all [] l a = tt
     more all (y ∷ ys) l a = (
       elim (same_path_or_not x.0 y.0) [
@@ -69,11 +73,14 @@ own_at (x ∷ rows) r = (first x.0, more rows rows r.0 (own_at rows r.1))
       more all ys l.1 a.1,
     )
 
-among_listed : (rows : Rows Entry) (P : Path × Entry → Type 0) → ((r : Path × Entry) → IsAmong (listed r) (map listed rows) → P r) → (all : Rows Entry) → ((r : Path × Entry) → IsAmong (listed r) (map listed all) → IsAmong (listed r) (map listed rows)) → AllByRecursion P all
+among_listed : (rows : Rows Entry) (P : Path × Entry → Type 0) → ((r : Path × Entry) → IsAmong (listed r) (map listed rows) → P r)
+    → (all : Rows Entry) → ((r : Path × Entry) → IsAmong (listed r) (map listed all) → IsAmong (listed r) (map listed rows))
+    → AllByRecursion P all
 among_listed rows P f [] g = tt
 among_listed rows P f (x ∷ all) g = (f x (g x (inl refl)), among_listed rows P f all (λ r a. g r (inr a)))
 
-both : {X : Type 0} (P Q R : X → Type 0) → ((x : X) → P x → Q x → R x) → (xs : List X) → AllByRecursion P xs → AllByRecursion Q xs → AllByRecursion R xs
+both : {X : Type 0} (P Q R : X → Type 0) → ((x : X) → P x → Q x → R x) → (xs : List X) → AllByRecursion P xs → AllByRecursion Q xs
+    → AllByRecursion R xs
 both P Q R f [] a b = tt
 both P Q R f (x ∷ xs) a b = (f x a.0 b.0, both P Q R f xs a.1 b.1)
 
@@ -83,8 +90,11 @@ image_of (x ∷ layers) zero a s e = let f : x ≡ a = cc in subst IsImage f s.0
 image_of (x ∷ layers) (suc k) a s e = image_of layers k a s.1 e
 
 -- each row's entry is placed
-pub rows_placed : (layers : List (List ℕ)) (t : TreeRows) → IsTreeOf 0 layers t → AllByRecursion IsImage layers → AllByRecursion (λ (r : Path × Entry). IsPlaced layers r.1) t.entries
-rows_placed layers t is sound = both (λ (r : Path × Entry). at_path t.entries r.0 ≡ Some r.1) (λ (r : Path × Entry). IsAmong (listed r) (listing t)) (λ (r : Path × Entry). IsPlaced layers r.1) one t.entries (own_at t.entries is.rising) (among_listed t.entries (λ r. IsAmong (listed r) (listing t)) (λ r a. a) t.entries (λ r a. a))
+pub rows_placed : (layers : List (List ℕ)) (t : TreeRows) → IsTreeOf 0 layers t → AllByRecursion IsImage layers
+    → AllByRecursion (λ (r : Path × Entry). IsPlaced layers r.1) t.entries
+rows_placed layers t is sound = both (λ (r : Path × Entry). at_path t.entries r.0 ≡ Some r.1) (λ (r : Path × Entry).
+      IsAmong (listed r) (listing t)) (λ (r : Path × Entry). IsPlaced layers r.1) one t.entries (own_at t.entries is.rising)
+    (among_listed t.entries (λ r. IsAmong (listed r) (listing t)) (λ r a. a) t.entries (λ r a. a))
   where
     one : (r : Path × Entry) → at_path t.entries r.0 ≡ Some r.1 → IsAmong (listed r) (listing t) → IsPlaced layers r.1
     one r at among =
@@ -123,7 +133,8 @@ same_data a h i f = go (kind a h) refl
     apart : (k : Kind) → kind a h ≡ k → (k ≡ Directory → ⊥) → h ≢ root a
     apart k e n q = n (sym e ∙ subst (λ x. kind a x ≡ Directory) (sym q) (root_directory a i))
 
-    has_data : (k : Kind) → kind a h ≡ k → (k ≡ Directory → ⊥) → take (size a h) (drop (data_at h (name_of a h)) a) ≡ take (size a h) (drop (option_map_or (data_at h) (name a h) 0) a)
+    has_data : (k : Kind) → kind a h ≡ k → (k ≡ Directory → ⊥) → take (size a h) (drop (data_at h (name_of a h)) a)
+        ≡ take (size a h) (drop (option_map_or (data_at h) (name a h) 0) a)
     has_data k e n = ap (λ d. take (size a h) (drop d a)) (named (name a h) (from_named a i h f (apart k e n)))
 
     go : (k : Kind) → kind a h ≡ k → data_of_kind k a h ≡ take (size_of k (size a h)) (drop (option_map_or (data_at h) (name a h) 0) a)
@@ -156,4 +167,5 @@ module _ (layers : List (List ℕ)) (e : Entry) (p : IsPlaced layers e) where
 
   pub data_placed : data_in p.image e.place.header ≡ data_of layers (placed e.place)
   unfolding data_of
-  data_placed = subst (λ x. data_in p.image e.place.header ≡ data_by x e.place.header) (sym layer_is) (same_data p.image e.place.header p.sound p.given.from)
+  data_placed = subst (λ x. data_in p.image e.place.header ≡ data_by x e.place.header) (sym layer_is)
+      (same_data p.image e.place.header p.sound p.given.from)

@@ -17,7 +17,8 @@ count_append : (top : Path) (xs ys : Rows Entry) → count top (xs ++ ys) ≡ co
 count_append top [] ys = omega arith
 count_append top (x ∷ xs) ys = go (extends top x.0) (count_append top xs ys)
   where
-    go : (b : Bool) → count top (xs ++ ys) ≡ count top xs + count top ys → cond b (1 + count top (xs ++ ys)) (count top (xs ++ ys)) ≡ cond b (1 + count top xs) (count top xs) + count top ys
+    go : (b : Bool) → count top (xs ++ ys) ≡ count top xs + count top ys → cond b (1 + count top (xs ++ ys)) (count top (xs ++ ys))
+        ≡ cond b (1 + count top xs) (count top xs) + count top ys
     go true e = omega arith
     go false e = e
 
@@ -33,7 +34,8 @@ count_under : (top : Path) (xs : Rows Entry) → count top (under top xs) ≡ le
 count_under top [] = refl
 count_under top (x ∷ xs) = rw (extends_on top x.0) (let e = count_under top xs in omega arith)
 
-rows_below : (rows : Rows Entry) (j : ℕ) (s : Shoot Entry) (above : Entry) (l : IsLocated rows j s above) → count l.top rows ≡ length (whole s)
+rows_below : (rows : Rows Entry) (j : ℕ) (s : Shoot Entry) (above : Entry) (l : IsLocated rows j s above)
+    → count l.top rows ≡ length (whole s)
 rows_below rows j s above l =
     ap (count l.top) l.is ∙ count_append l.top (l.before ++ under l.top (whole s)) l.after
     ∙ ap (λ n. n + count l.top l.after) (count_append l.top l.before (under l.top (whole s)))
@@ -43,7 +45,8 @@ rows_below rows j s above l =
     sums a b c e f g = omega arith
 
 -- branches that stand at one place have as many rows below them, and one value
-module _ (rows : Rows Entry) (j : ℕ) (s s' : Shoot Entry) (above above' : Entry) (l : IsLocated rows j s above) (l' : IsLocated rows j s' above') where
+module _ (rows : Rows Entry) (j : ℕ) (s s' : Shoot Entry) (above above' : Entry) (l : IsLocated rows j s above)
+    (l' : IsLocated rows j s' above') where
   tops : (a b : Path × Entry) → slice_get rows j ≡ Some a → slice_get rows j ≡ Some b → a ≡ b
   tops a b e f = let g : Some a ≡ Some b = sym e ∙ f in cc
 
@@ -55,11 +58,13 @@ module _ (rows : Rows Entry) (j : ℕ) (s s' : Shoot Entry) (above above' : Entr
 
   pub same_size : length (whole s) ≡ length (whole s')
   same_size =
-      let top = sym (nil_right l.top) ∙ ap (λ (r : Path × Entry). r.0) (rows_are (l.top ++ [], s.value) (l'.top ++ [], s'.value) refl refl) ∙ nil_right l'.top in
+      let top = sym (nil_right l.top) ∙ ap (λ (r : Path × Entry). r.0) (rows_are (l.top ++ [], s.value) (l'.top ++ [], s'.value) refl refl)
+          ∙ nil_right l'.top in
       sym (rows_below rows j s above l) ∙ ap (λ t. count t rows) top ∙ rows_below rows j s' above' l'
 
 -- a branch ends within the rows
-pub ends_within : (rows : Rows Entry) (j : ℕ) (s : Shoot Entry) (above : Entry) → IsLocated rows j s above → j + length (whole s) ≤ length rows
+pub ends_within : (rows : Rows Entry) (j : ℕ) (s : Shoot Entry) (above : Entry) → IsLocated rows j s above → j + length (whole s)
+    ≤ length rows
 ends_within rows j s above l =
     let a = ap length l.is in
     let b = length-append (l.before ++ under l.top (whole s)) l.after in

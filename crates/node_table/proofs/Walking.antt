@@ -23,7 +23,8 @@ index_front (x ∷ xs) ys (suc k) l = index_front xs ys k (omega arith)
 
 index_back : (xs ys : List ℕ) (k : ℕ) → slice_index (xs ++ ys) (length xs + k) ≡ slice_index ys k
 index_back [] ys k = let n : 0 + k ≡ k = omega arith in ap (slice_index ys) n
-index_back (x ∷ xs) ys k = let n : suc (length xs) + k ≡ suc (length xs + k) = omega arith in ap (slice_index (x ∷ xs ++ ys)) n ∙ index_back xs ys k
+index_back (x ∷ xs) ys k = let n : suc (length xs) + k ≡ suc (length xs + k) = omega arith in ap (slice_index (x ∷ xs ++ ys)) n
+    ∙ index_back xs ys k
 
 below : {X : Type 0} (xs : List X) (k : ℕ) (x : X) → slice_get xs k ≡ Some x → k < length xs
 below [] k x e = absurd (cc)
@@ -36,7 +37,8 @@ written (z ∷ xs) ys x y = ap (λ r. z ∷ r) (written xs ys x y)
 
 module _ {T : Type 0} where
   -- what stands where in two lists one after another
-  get_append : (xs ys : List (Spot T)) (k : ℕ) (x : Spot T) → slice_get (xs ++ ys) k ≡ Some x → (slice_get xs k ≡ Some x) ⊎ ((m : ℕ) × (k ≡ length xs + m) × (slice_get ys m ≡ Some x))
+  get_append : (xs ys : List (Spot T)) (k : ℕ) (x : Spot T) → slice_get (xs ++ ys) k ≡ Some x → (slice_get xs k ≡ Some x)
+      ⊎ ((m : ℕ) × (k ≡ length xs + m) × (slice_get ys m ≡ Some x))
   get_append [] ys k x e = inr (k, omega arith, e)
   get_append (y ∷ xs) ys zero x e = inl e
   get_append (y ∷ xs) ys (suc k) x e = elim (get_append xs ys k x e) [ inl f ↦ inl f | inr f ↦ inr (f.0, omega (arith, f.1), f.2) ]
@@ -56,7 +58,8 @@ module _ {T : Type 0} where
       go (x ∷ cs) (suc i) l e = ap (λ r. x ∷ r) (go cs i (omega arith) e)
 
   -- a child has fewer rows below it
-  pub falls : (cs : List (Shoot T)) (below : Rows T) (i : ℕ) (c : Shoot T) → below ≡ spread cs → i < length cs → c ≡ get_or cs i c → length c.below < length below
+  pub falls : (cs : List (Shoot T)) (below : Rows T) (i : ℕ) (c : Shoot T) → below ≡ spread cs → i < length cs → c ≡ get_or cs i c
+      → length c.below < length below
   falls cs below i c e l f = rw e (go cs i l f)
     where
       go : (cs : List (Shoot T)) (i : ℕ) → i < length cs → c ≡ get_or cs i c → length c.below < length (spread cs)
@@ -75,14 +78,17 @@ module _ {T : Type 0} where
   stands_more all more place value s = record { spot = s.spot; is = get_stays all more place s.spot s.is; value_is = s.value_is }
 
   above_more : (all more spots : List (Spot T)) (places : List ℕ) → AreAbove all spots places → AreAbove (all ++ more) spots places
-  above_more all more spots places a = record { level = a.level; each = λ k spot e. stands_more all more (slice_index places k) spot.1 (a.each k spot e) }
+  above_more all more spots places a = record { level = a.level; each = λ k spot e. stands_more all more (slice_index places k) spot.1
+        (a.each k spot e) }
 
   above_joined : (all xs ys : List (Spot T)) (ps qs : List ℕ) → AreAbove all xs ps → AreAbove all ys qs → AreAbove all (xs ++ ys) (ps ++ qs)
   above_joined all xs ys ps qs a b = record {
     level = length-append ps qs ∙ ap (λ n. n + length qs) a.level ∙ ap (λ n. length xs + n) b.level ∙ sym (length-append xs ys);
     each = λ k spot e. elim (get_append xs ys k spot e) [
-      | inl f ↦ subst (λ n. StandsAt all n spot.1) (sym (index_front ps qs k (let l = below xs k spot f in let level = a.level in omega arith))) (a.each k spot f)
-      | inr (m, f, g) ↦ subst (λ n. StandsAt all n spot.1) (sym (ap (slice_index (ps ++ qs)) (f ∙ ap (λ n. n + m) (sym a.level)) ∙ index_back ps qs m)) (b.each m spot g)
+      | inl f ↦ subst (λ n. StandsAt all n spot.1) (sym (index_front ps qs k (let l = below xs k spot f in let level = a.level in
+            omega arith))) (a.each k spot f)
+      | inr (m, f, g) ↦ subst (λ n. StandsAt all n spot.1) (sym (ap (slice_index (ps ++ qs)) (f ∙ ap (λ n. n + m) (sym a.level))
+            ∙ index_back ps qs m)) (b.each m spot g)
     ];
   }
 
@@ -96,20 +102,25 @@ module _ {T : Type 0} where
 
   -- how far a walk has come: the branch, and the children below the place i with all below them; its size is not yet
   -- written
-  pub record Walking (branch : Shoot T) (above : T) (cs : List (Shoot T)) (old out : List (Spot T)) (places places' sizes sizes' : List ℕ) (i : ℕ) : Type 0 where
+  pub record Walking (branch : Shoot T) (above : T) (cs : List (Shoot T)) (old out : List (Spot T)) (places places' sizes sizes' : List ℕ)
+      (i : ℕ) : Type 0 where
     pub first : Bor (Shoot T)
     pub first_is : first.now ≡ branch
     pub rest : List (Spot T)
     pub is : out ≡ old ++ (first, above) ∷ rest
     pub level : length rest ≡ length (spread (take i cs))
-    pub each : (rows : Rows T) (j : ℕ) → IsLocated rows j branch above → (k : ℕ) (spot : Spot T) → slice_get ((first, above) ∷ rest) k ≡ Some spot → IsLocated rows (j + k) spot.0.now spot.1
+    pub each : (rows : Rows T) (j : ℕ) → IsLocated rows j branch above → (k : ℕ) (spot : Spot T) → slice_get ((first, above) ∷ rest) k
+        ≡ Some spot → IsLocated rows (j + k) spot.0.now spot.1
     pub more : List ℕ
     pub places_are : places' ≡ places ++ more
     pub stand : AreAbove out ((first, above) ∷ rest) more
     pub sizes_are : sizes' ≡ sizes ++ 0 ∷ map spot_size rest
     pub sizes_level : length sizes ≡ length old
 
-  pub begins : (branch : Bor (Shoot T)) (above : T) (place : ℕ) (cs : List (Shoot T)) (old out : List (Spot T)) (places places' sizes sizes' : List ℕ) → StandsAt old place above ⊎ ((place ≡ length old) × (branch.now.value ≡ above)) → length sizes ≡ length old → out ≡ old ++ (branch, above) ∷ [] → places' ≡ places ++ place ∷ [] → sizes' ≡ sizes ++ 0 ∷ [] → Walking branch.now above cs old out places places' sizes sizes' 0
+  pub begins : (branch : Bor (Shoot T)) (above : T) (place : ℕ) (cs : List (Shoot T)) (old out : List (Spot T))
+      (places places' sizes sizes' : List ℕ) → StandsAt old place above ⊎ ((place ≡ length old) × (branch.now.value ≡ above))
+      → length sizes ≡ length old → out ≡ old ++ (branch, above) ∷ [] → places' ≡ places ++ place ∷ [] → sizes' ≡ sizes ++ 0 ∷ []
+      → Walking branch.now above cs old out places places' sizes sizes' 0
   begins branch above place cs old out places places' sizes sizes' up level e p s = record {
     first = branch;
     first_is = refl;
@@ -124,15 +135,18 @@ module _ {T : Type 0} where
     sizes_level = level;
   }
     where
-      first : (rows : Rows T) (j : ℕ) → IsLocated rows j branch.now above → (k : ℕ) (spot : Spot T) → slice_get ((branch, above) ∷ []) k ≡ Some spot → IsLocated rows (j + k) spot.0.now spot.1
+      first : (rows : Rows T) (j : ℕ) → IsLocated rows j branch.now above → (k : ℕ) (spot : Spot T) → slice_get ((branch, above) ∷ []) k
+          ≡ Some spot → IsLocated rows (j + k) spot.0.now spot.1
       first rows j l zero spot f =
           let s : (branch, above) ≡ spot = cc in
           subst (λ (x : Spot T). IsLocated rows (j + 0) x.0.now x.1) s (subst (λ n. IsLocated rows n branch.now above) (omega arith) l)
       first rows j l (suc k) spot f = absurd (cc)
 
-      here : StandsAt old place above ⊎ ((place ≡ length old) × (branch.now.value ≡ above)) → StandsAt (old ++ (branch, above) ∷ []) place above
+      here : StandsAt old place above ⊎ ((place ≡ length old) × (branch.now.value ≡ above))
+          → StandsAt (old ++ (branch, above) ∷ []) place above
       here (inl s) = stands_more old ((branch, above) ∷ []) place above s
-      here (inr (a, b)) = record { spot = (branch, above); is = ap (slice_get (old ++ (branch, above) ∷ [])) a ∙ get_end old [] (branch, above); value_is = b }
+      here (inr (a, b)) = record { spot = (branch, above); is = ap (slice_get (old ++ (branch, above) ∷ [])) a
+            ∙ get_end old [] (branch, above); value_is = b }
 
       one : (k : ℕ) (spot : Spot T) → slice_get ((branch, above) ∷ []) k ≡ Some spot → StandsAt out (slice_index (place ∷ []) k) spot.1
       one zero spot f =
@@ -141,21 +155,26 @@ module _ {T : Type 0} where
       one (suc k) spot f = absurd (cc)
 
   -- the branch stands where it was put
-  pub stands : (branch : Shoot T) (above : T) (cs : List (Shoot T)) (old out : List (Spot T)) (places places' sizes sizes' : List ℕ) (i : ℕ) (value : T) → value ≡ branch.value → Walking branch above cs old out places places' sizes sizes' i → StandsAt out (length old) value
+  pub stands : (branch : Shoot T) (above : T) (cs : List (Shoot T)) (old out : List (Spot T)) (places places' sizes sizes' : List ℕ) (i : ℕ)
+      (value : T) → value ≡ branch.value → Walking branch above cs old out places places' sizes sizes' i → StandsAt out (length old) value
   stands branch above cs old out places places' sizes sizes' i value e w = record {
     spot = (w.first, above);
     is = ap (λ (x : List (Spot T)). slice_get x (length old)) w.is ∙ get_end old w.rest (w.first, above);
     value_is = ap (λ (s : Shoot T). s.value) w.first_is ∙ sym e;
   }
 
-  pub levels : (branch : Shoot T) (above : T) (cs : List (Shoot T)) (old out : List (Spot T)) (places places' sizes sizes' : List ℕ) (i : ℕ) → Walking branch above cs old out places places' sizes sizes' i → length sizes' ≡ length out
+  pub levels : (branch : Shoot T) (above : T) (cs : List (Shoot T)) (old out : List (Spot T)) (places places' sizes sizes' : List ℕ) (i : ℕ)
+      → Walking branch above cs old out places places' sizes sizes' i → length sizes' ≡ length out
   levels branch above cs old out places places' sizes sizes' i w =
       let a = ap length w.sizes_are in
       let b = ap length w.is in
       let level = w.sizes_level in
       omega (arith, length-append sizes (0 ∷ map spot_size w.rest), length-append old ((w.first, above) ∷ w.rest), map_length w.rest)
 
-  pub goes_on : (branch : Shoot T) (above : T) (cs : List (Shoot T)) (old out out' : List (Spot T)) (places p p' sizes s s' : List ℕ) (i : ℕ) (c : Shoot T) → branch.below ≡ spread cs → IsForest cs → i < length cs → c ≡ get_or cs i c → Walking branch above cs old out places p sizes s i → AddsWalk c branch.value out out' p p' s s' → Walking branch above cs old out' places p' sizes s' (i + 1)
+  pub goes_on : (branch : Shoot T) (above : T) (cs : List (Shoot T)) (old out out' : List (Spot T)) (places p p' sizes s s' : List ℕ)
+      (i : ℕ) (c : Shoot T) → branch.below ≡ spread cs → IsForest cs → i < length cs → c ≡ get_or cs i c
+      → Walking branch above cs old out places p sizes s i → AddsWalk c branch.value out out' p p' s s'
+      → Walking branch above cs old out' places p' sizes s' (i + 1)
   goes_on branch above cs old out out' places p p' sizes s s' i c below forest lt at w a = record {
     first = w.first;
     first_is = w.first_is;
@@ -164,20 +183,26 @@ module _ {T : Type 0} where
     level = longer_now;
     each = λ rows j l k spot f. elim (get_append ((w.first, above) ∷ w.rest) a.spots k spot f) [
       | inl g ↦ w.each rows j l k spot g
-      | inr (m, e, g) ↦ subst (λ n. IsLocated rows n spot.0.now spot.1) (omega (arith, w.level)) (a.walked.each rows (j + suc (length (spread (take i cs)))) (child rows j l) m spot g)
+      | inr (m, e, g) ↦ subst (λ n. IsLocated rows n spot.0.now spot.1) (omega (arith, w.level))
+          (a.walked.each rows (j + suc (length (spread (take i cs)))) (child rows j l) m spot g)
     ];
     more = w.more ++ a.more;
     places_are = a.places_are ∙ ap (λ x. x ++ a.more) w.places_are ∙ append_assoc places w.more a.more;
-    stand = above_joined out' ((w.first, above) ∷ w.rest) a.spots w.more a.more (subst (λ (x : List (Spot T)). AreAbove x ((w.first, above) ∷ w.rest) w.more) (sym a.is) (above_more out a.spots ((w.first, above) ∷ w.rest) w.more w.stand)) a.stand;
-    sizes_are = a.sizes_are ∙ ap (λ x. x ++ map spot_size a.spots) w.sizes_are ∙ append_assoc sizes (0 ∷ map spot_size w.rest) (map spot_size a.spots) ∙ ap (λ x. sizes ++ 0 ∷ x) (sym (map_append w.rest a.spots));
+    stand = above_joined out' ((w.first, above) ∷ w.rest) a.spots w.more a.more
+        (subst (λ (x : List (Spot T)). AreAbove x ((w.first, above) ∷ w.rest) w.more) (sym a.is)
+          (above_more out a.spots ((w.first, above) ∷ w.rest) w.more w.stand)) a.stand;
+    sizes_are = a.sizes_are ∙ ap (λ x. x ++ map spot_size a.spots) w.sizes_are ∙ append_assoc sizes (0 ∷ map spot_size w.rest)
+        (map spot_size a.spots) ∙ ap (λ x. sizes ++ 0 ∷ x) (sym (map_append w.rest a.spots));
     sizes_level = w.sizes_level;
   }
     where
       split : cs ≡ take i cs ++ c ∷ drop (suc i) cs
       split = parted cs i c lt at
 
-      child : (rows : Rows T) (j : ℕ) → IsLocated rows j branch above → IsLocated rows (j + suc (length (spread (take i cs)))) c branch.value
-      child rows j l = child_located rows j branch above l (take i cs) c (drop (suc i) cs) (below ∙ ap spread split) (subst NamesRise split forest.names)
+      child : (rows : Rows T) (j : ℕ) → IsLocated rows j branch above
+          → IsLocated rows (j + suc (length (spread (take i cs)))) c branch.value
+      child rows j l = child_located rows j branch above l (take i cs) c (drop (suc i) cs) (below ∙ ap spread split)
+          (subst NamesRise split forest.names)
 
       longer_now : length (w.rest ++ a.spots) ≡ length (spread (take (i + 1) cs))
       longer_now =
@@ -191,7 +216,9 @@ module _ {T : Type 0} where
           let q = length-append (prefixed c.name c.below) [] in
           omega arith
 
-  pub ends : (branch : Shoot T) (above : T) (cs : List (Shoot T)) (old out : List (Spot T)) (places places' sizes s s' : List ℕ) (i at size : ℕ) → branch.below ≡ spread cs → length cs ≤ i → at ≡ length old → size ≡ length out - at → s' ≡ slice_set s at size → Walking branch above cs old out places places' sizes s i → AddsWalk branch above old out places places' sizes s'
+  pub ends : (branch : Shoot T) (above : T) (cs : List (Shoot T)) (old out : List (Spot T)) (places places' sizes s s' : List ℕ)
+      (i at size : ℕ) → branch.below ≡ spread cs → length cs ≤ i → at ≡ length old → size ≡ length out - at → s' ≡ slice_set s at size
+      → Walking branch above cs old out places places' sizes s i → AddsWalk branch above old out places places' sizes s'
   ends branch above cs old out places places' sizes s s' i at size below le at_is size_is set w = record {
     spots = (w.first, above) ∷ w.rest;
     is = w.is;
@@ -200,7 +227,8 @@ module _ {T : Type 0} where
     places_are = w.places_are;
     stand = w.stand;
     sizes_are =
-        set ∙ ap (λ x. slice_set x at size) w.sizes_are ∙ ap (λ n. slice_set (sizes ++ 0 ∷ map spot_size w.rest) n size) (at_is ∙ sym w.sizes_level)
+        set ∙ ap (λ x. slice_set x at size) w.sizes_are ∙ ap (λ n. slice_set (sizes ++ 0 ∷ map spot_size w.rest) n size) (at_is
+              ∙ sym w.sizes_level)
         ∙ written sizes (map spot_size w.rest) 0 size ∙ ap (λ n. sizes ++ n ∷ map spot_size w.rest) mine;
   }
     where

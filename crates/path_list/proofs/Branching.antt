@@ -55,10 +55,12 @@ module _ (layers : List (List ℕ)) (entries : List Entry) (top : Path) where
   no_kid : (e : Entry) (es : List Entry) → name_below top e.path ≡ None → kids (e ∷ es) ≡ kids es
   no_kid e es f = rw f refl
 
-  one_kid : (e : Entry) (es : List Entry) (n : List ℕ) → name_below top e.path ≡ Some n → kids (e ∷ es) ≡ record { name = n; place = place e } ∷ kids es
+  one_kid : (e : Entry) (es : List Entry) (n : List ℕ) → name_below top e.path ≡ Some n → kids (e ∷ es) ≡ record { name = n; place =
+        place e } ∷ kids es
   one_kid e es n f = rw f refl
 
-  same_current : (cur : Option (List ℕ)) (e : Entry) (es : List Entry) → ((x : List ℕ) → is_below (top ++ x ∷ []) e.path ≡ false) → current cur (e ∷ es) ≡ current cur es
+  same_current : (cur : Option (List ℕ)) (e : Entry) (es : List Entry) → ((x : List ℕ) → is_below (top ++ x ∷ []) e.path ≡ false)
+      → current cur (e ∷ es) ≡ current cur es
   same_current None e es f = refl
   same_current (Some m) e es f = no_more (top ++ m ∷ []) e es (f m)
 
@@ -71,18 +73,24 @@ module _ (layers : List (List ℕ)) (entries : List Entry) (top : Path) where
   record IsLeft (cur : Option (List ℕ)) (es : List Entry) : Type 0 where
     pub rises : Rises es
     pub late : (m : List ℕ) → cur ≡ Some m → (e : Entry) → IsAmong e es → path_cmp (top ++ m ∷ []) e.path ≡ Less
-    pub closed : (e : Entry) → IsAmong e es → (n k : List ℕ) (r : Path) → after top e.path ≡ Some (n ∷ k ∷ r) → (cur ≡ Some n) ⊎ ((d : Entry) × IsAmong d es × (d.path ≡ top ++ n ∷ []))
-    pub whole : (d : Entry) → IsAmong d es → (x : List ℕ) → d.path ≡ top ++ x ∷ [] → below entries (top ++ x ∷ []) ≡ below es (top ++ x ∷ [])
+    pub closed : (e : Entry) → IsAmong e es → (n k : List ℕ) (r : Path) → after top e.path ≡ Some (n ∷ k ∷ r) → (cur ≡ Some n)
+        ⊎ ((d : Entry) × IsAmong d es × (d.path ≡ top ++ n ∷ []))
+    pub whole : (d : Entry) → IsAmong d es → (x : List ℕ) → d.path ≡ top ++ x ∷ [] → below entries (top ++ x ∷ [])
+        ≡ below es (top ++ x ∷ [])
 
   -- all that is left is below the child that the walk is in, or is one of the other children and what is below it
   abbrev IsSpread : Option (List ℕ) → List Entry → Type 0
-  IsSpread cur es = flat_map (line layers entries) (below es top) ≡ flat_map (line layers entries) (current cur es) ++ flat_map piece (kids es)
+  IsSpread cur es = flat_map (line layers entries) (below es top) ≡ flat_map (line layers entries) (current cur es)
+      ++ flat_map piece (kids es)
 
   not_kid : (e d : Entry) (n k x : List ℕ) (r : Path) → after top e.path ≡ Some (n ∷ k ∷ r) → e ≡ d → d.path ≡ top ++ x ∷ [] → ⊥
-  not_kid e d n k x r f i p = let g : after top e.path ≡ Some (x ∷ []) = rw (i, p) (is_after top (x ∷ [])) in let h : Some (n ∷ k ∷ r) ≡ Some (x ∷ []) = sym f ∙ g in cc
+  not_kid e d n k x r f i p = let g : after top e.path ≡ Some (x ∷ []) = rw (i, p) (is_after top (x ∷ [])) in let h : Some (n ∷ k ∷ r)
+      ≡ Some (x ∷ []) = sym f ∙ g in cc
 
   -- an entry that is not below the directory
-  outside : (cur : Option (List ℕ)) (e : Entry) (es : List Entry) → ((x : List ℕ) → is_below (top ++ x ∷ []) e.path ≡ false) → is_below top e.path ≡ false → only_name (after top e.path) ≡ None → IsLeft cur (e ∷ es) → (IsLeft cur es → IsSpread cur es) → IsSpread cur (e ∷ es)
+  outside : (cur : Option (List ℕ)) (e : Entry) (es : List Entry) → ((x : List ℕ) → is_below (top ++ x ∷ []) e.path ≡ false)
+      → is_below top e.path ≡ false → only_name (after top e.path) ≡ None → IsLeft cur (e ∷ es) → (IsLeft cur es → IsSpread cur es)
+      → IsSpread cur (e ∷ es)
   outside cur e es apart out name l on =
       let rest : IsLeft cur es = record {
         rises = l.rises.1;
@@ -90,7 +98,8 @@ module _ (layers : List (List ℕ)) (entries : List Entry) (top : Path) where
         closed = λ f a n k r g. elim (l.closed f (inr a) n k r g) [
           | inl i ↦ inl i
           | inr (d, b, p) ↦ elim b [
-            | inl i ↦ absurd (let h : after top e.path ≡ Some (n ∷ []) = rw (sym i, p) (is_after top (n ∷ [])) in let z = rw h at name in cc)
+            | inl i ↦ absurd (let h : after top e.path ≡ Some (n ∷ []) = rw (sym i, p) (is_after top (n ∷ [])) in let z = rw h at name in
+                  cc)
             | inr b ↦ inr (d, b, p)
           ]
         ];
@@ -99,11 +108,13 @@ module _ (layers : List (List ℕ)) (entries : List Entry) (top : Path) where
       rw (no_more top e es out, same_current cur e es apart, no_kid e es (name_is top e.path ∙ name)) (on rest)
 
   -- a child
-  child : (cur : Option (List ℕ)) (e : Entry) (es : List Entry) (n : List ℕ) → after top e.path ≡ Some (n ∷ []) → IsLeft cur (e ∷ es) → (IsLeft (Some n) es → IsSpread (Some n) es) → IsSpread cur (e ∷ es)
+  child : (cur : Option (List ℕ)) (e : Entry) (es : List Entry) (n : List ℕ) → after top e.path ≡ Some (n ∷ []) → IsLeft cur (e ∷ es)
+      → (IsLeft (Some n) es → IsSpread (Some n) es) → IsSpread cur (e ∷ es)
   child cur e es n f l on =
       let p : e.path ≡ top ++ n ∷ [] = after_is top e.path (n ∷ []) f in
       let at : path_cmp (top ++ n ∷ []) (top ++ n ∷ []) ≡ path_cmp (top ++ n ∷ []) (top ++ n ∷ []) = refl in
-      let no : (x : List ℕ) → is_below (top ++ x ∷ []) e.path ≡ false = λ x. elim (same_or_not x n) [ inl s ↦ (below_name top e.path [] x n f).0 s.0 | inr s ↦ (below_name top e.path [] x n f).1 s.0 ] in
+      let no : (x : List ℕ) → is_below (top ++ x ∷ []) e.path ≡ false =
+          λ x. elim (same_or_not x n) [ inl s ↦ (below_name top e.path [] x n f).0 s.0 | inr s ↦ (below_name top e.path [] x n f).1 s.0 ] in
       let after_e : (g : Entry) → IsAmong g es → path_cmp (top ++ n ∷ []) g.path ≡ Less = λ g a. rw (sym p) (later e es g l.rises.0 a) in
       let never : (m : List ℕ) → cur ≡ Some m → (g : Entry) → IsAmong g es → (r : Path) → g.path ≡ top ++ m ∷ r → ⊥ = λ m i g a r q.
       between m n r
@@ -115,23 +126,29 @@ module _ (layers : List (List ℕ)) (entries : List Entry) (top : Path) where
         closed = λ g a m k r h. elim (l.closed g (inr a) m k r h) [
           | inl i ↦ absurd (never m i g a (k ∷ r) (after_is top g.path (m ∷ k ∷ r) h))
           | inr (d, b, q) ↦ elim b [
-            | inl i ↦ inl (let j : after top e.path ≡ Some (m ∷ []) = rw (sym i, q) (is_after top (m ∷ [])) in let z : Some (n ∷ []) ≡ Some (m ∷ []) = sym f ∙ j in cc)
+            | inl i ↦ inl (let j : after top e.path ≡ Some (m ∷ []) = rw (sym i, q) (is_after top (m ∷ [])) in let z : Some (n ∷ [])
+                  ≡ Some (m ∷ []) = sym f ∙ j in cc)
             | inr b ↦ inr (d, b, q)
           ]
         ];
         whole = λ d a x q. l.whole d (inr a) x q ∙ no_more (top ++ x ∷ []) e es (no x);
       } in
       let none : current cur es ≡ [] = empty cur never in
-      let same : below entries (top ++ n ∷ []) ≡ below es (top ++ n ∷ []) = l.whole e (inl refl) n p ∙ no_more (top ++ n ∷ []) e es (no n) in
+      let same : below entries (top ++ n ∷ []) ≡ below es (top ++ n ∷ []) = l.whole e (inl refl) n p
+          ∙ no_more (top ++ n ∷ []) e es (no n) in
       let text : line layers entries e ≡ line_of layers entries (place e) (top ++ n ∷ []) = ap (line_of layers entries (place e)) p in
-      rw (one_more top e es (rw f refl), same_current cur e es no, none, one_kid e es n (name_is top e.path ∙ rw f refl), same, text, on rest)
-      (sym (append_assoc (line_of layers entries (place e) (top ++ n ∷ [])) (flat_map (line layers entries) (below es (top ++ n ∷ []))) (flat_map piece (kids es))))
+      rw (one_more top e es (rw f refl), same_current cur e es no, none, one_kid e es n (name_is top e.path ∙ rw f refl), same, text,
+            on rest)
+      (sym (append_assoc (line_of layers entries (place e) (top ++ n ∷ [])) (flat_map (line layers entries) (below es (top ++ n ∷ [])))
+            (flat_map piece (kids es))))
     where
-      empty : (cur : Option (List ℕ)) → ((m : List ℕ) → cur ≡ Some m → (g : Entry) → IsAmong g es → (r : Path) → g.path ≡ top ++ m ∷ r → ⊥) → current cur es ≡ []
+      empty : (cur : Option (List ℕ)) → ((m : List ℕ) → cur ≡ Some m → (g : Entry) → IsAmong g es → (r : Path) → g.path ≡ top ++ m ∷ r → ⊥)
+          → current cur es ≡ []
       empty None never = refl
       empty (Some m) never = nothing_below (top ++ m ∷ []) es (λ g a. not_in (after top g.path) g refl (λ r. never m refl g a r))
         where
-          not_in : (o : Option Path) (g : Entry) → after top g.path ≡ o → ((r : Path) → g.path ≡ top ++ m ∷ r → ⊥) → is_below (top ++ m ∷ []) g.path ≡ false
+          not_in : (o : Option Path) (g : Entry) → after top g.path ≡ o → ((r : Path) → g.path ≡ top ++ m ∷ r → ⊥)
+              → is_below (top ++ m ∷ []) g.path ≡ false
           not_in None g f n = below_none top g.path m f
           not_in (Some []) g f n = below_top top g.path m f
           not_in (Some (k ∷ r)) g f n = elim (same_or_not m k) [
@@ -140,7 +157,8 @@ module _ (layers : List (List ℕ)) (entries : List Entry) (top : Path) where
           ]
 
   -- an entry below a child
-  deeper : (cur : Option (List ℕ)) (e : Entry) (es : List Entry) (n k : List ℕ) (r : Path) → after top e.path ≡ Some (n ∷ k ∷ r) → IsLeft cur (e ∷ es) → cur ≡ Some n → (IsLeft cur es → IsSpread cur es) → IsSpread cur (e ∷ es)
+  deeper : (cur : Option (List ℕ)) (e : Entry) (es : List Entry) (n k : List ℕ) (r : Path) → after top e.path ≡ Some (n ∷ k ∷ r)
+      → IsLeft cur (e ∷ es) → cur ≡ Some n → (IsLeft cur es → IsSpread cur es) → IsSpread cur (e ∷ es)
   deeper None e es n k r f l i on = absurd (cc)
   deeper (Some m) e es n k r f l i on =
       let s : m ≡ n = cc in
@@ -159,11 +177,14 @@ module _ (layers : List (List ℕ)) (entries : List Entry) (top : Path) where
               | inr u ↦ (below_name top e.path (k ∷ r) x n f).1 u.0
             ]);
       } in
-      rw (one_more top e es (rw f refl), one_more (top ++ m ∷ []) e es ((below_name top e.path (k ∷ r) m n f).0 s), no_kid e es (name_is top e.path ∙ rw f refl), on rest)
+      rw (one_more top e es (rw f refl), one_more (top ++ m ∷ []) e es ((below_name top e.path (k ∷ r) m n f).0 s),
+            no_kid e es (name_is top e.path ∙ rw f refl), on rest)
       (sym (append_assoc (line layers entries e) (flat_map (line layers entries) (below es (top ++ m ∷ []))) (flat_map piece (kids es))))
     where
-      child_first : (es : List Entry) (e d : Entry) (n k : List ℕ) (r : Path) → e.path ≡ top ++ n ∷ k ∷ r → path_cmp e.path d.path ≡ Less → d.path ≡ top ++ n ∷ [] → ⊥
-      child_first es e d n k r p c t = not_both (top ++ n ∷ k ∷ r) (top ++ n ∷ []) (rw (p, t) at c) (under_same top (n ∷ []) (n ∷ k ∷ r) ∙ comes_later (n ∷ []) r k)
+      child_first : (es : List Entry) (e d : Entry) (n k : List ℕ) (r : Path) → e.path ≡ top ++ n ∷ k ∷ r → path_cmp e.path d.path ≡ Less
+          → d.path ≡ top ++ n ∷ [] → ⊥
+      child_first es e d n k r p c t = not_both (top ++ n ∷ k ∷ r) (top ++ n ∷ []) (rw (p, t) at c) (under_same top (n ∷ []) (n ∷ k ∷ r)
+            ∙ comes_later (n ∷ []) r k)
 
   nothing_left : flat_map (line layers entries) (below [] top) ≡ []
   unfolding below
@@ -186,14 +207,17 @@ module _ (layers : List (List ℕ)) (entries : List Entry) (top : Path) where
         | inl i ↦ deeper cur e es n k r f l i (on cur)
         | inr (d, b, p) ↦ elim b [
           | inl i ↦ absurd (not_kid e d n k n r f (sym i) p)
-          | inr b ↦ absurd (not_both (top ++ n ∷ k ∷ r) (top ++ n ∷ []) (rw (after_is top e.path (n ∷ k ∷ r) f, p) at (later e es d l.rises.0 b)) (under_same top (n ∷ []) (n ∷ k ∷ r) ∙ comes_later (n ∷ []) r k))
+          | inr b ↦ absurd (not_both (top ++ n ∷ k ∷ r) (top ++ n ∷ []) (rw (after_is top e.path (n ∷ k ∷ r) f, p) at
+                (later e es d l.rises.0 b)) (under_same top (n ∷ []) (n ∷ k ∷ r) ∙ comes_later (n ∷ []) r k))
         ]
       ]
 
-  pub all_below : AreTree layers entries → flat_map (line layers entries) (below entries top) ≡ flat_map piece (filter_map (child_in top) entries)
+  pub all_below : AreTree layers entries → flat_map (line layers entries) (below entries top)
+      ≡ flat_map piece (filter_map (child_in top) entries)
   all_below t = spread None entries (record {
     rises = t.rising;
     late = λ m i e a. absurd (cc);
-    closed = λ e a n k r f. let d = t.above e (top ++ n ∷ []) r k a (after_is top e.path (n ∷ k ∷ r) f ∙ sym (append_assoc top (n ∷ []) (k ∷ r))) in inr (d.0, d.1, d.2);
+    closed = λ e a n k r f. let d = t.above e (top ++ n ∷ []) r k a (after_is top e.path (n ∷ k ∷ r) f
+          ∙ sym (append_assoc top (n ∷ []) (k ∷ r))) in inr (d.0, d.1, d.2);
     whole = λ d a x p. refl;
   })

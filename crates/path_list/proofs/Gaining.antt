@@ -13,29 +13,35 @@ pub gains_none : (w : SinkState) (r : List ℕ) → Gains w r w r []
 gains_none w r = record { gained = Appends-nil (append_known w.held r) }
 
 pub gains_more : {u v w : SinkState} {r s t xs ys : List ℕ} → Gains u r v s xs → Gains v s w t ys → Gains u r w t (xs ++ ys)
-gains_more {u} {v} {w} {r} {s} {t} {xs} {ys} x y = record { gained = Appends-trans (append_known u.held r) (append_known v.held s) (append_known w.held t) xs ys x.gained y.gained }
+gains_more {u} {v} {w} {r} {s} {t} {xs} {ys} x y =
+    record { gained = Appends-trans (append_known u.held r) (append_known v.held s) (append_known w.held t) xs ys x.gained y.gained }
 
 pub gains_same : {u w : SinkState} {r t xs ys : List ℕ} → xs ≡ ys → Gains u r w t xs → Gains u r w t ys
 gains_same e x = rw (sym e) x
 
-pub one_more : {X : Type 0} (f : X → List ℕ) (xs : List X) (i : ℕ) (d : X) → i < length xs → flat_map f (take (i + 1) xs) ≡ flat_map f (take i xs) ++ f (get_or xs i d)
+pub one_more : {X : Type 0} (f : X → List ℕ) (xs : List X) (i : ℕ) (d : X) → i < length xs → flat_map f (take (i + 1) xs)
+    ≡ flat_map f (take i xs) ++ f (get_or xs i d)
 one_more f [] i d l = absurd (omega arith)
 one_more f (x ∷ xs) zero d l = append-nil (f x)
-one_more f (x ∷ xs) (suc i) d l = rw add-one (ap (λ r. f x ++ r) (sym (ap (λ k. flat_map f (take k xs)) (add-one i)) ∙ one_more f xs i d (omega arith)) ∙ sym (append_assoc (f x) (flat_map f (take i xs)) (f (get_or xs i d))))
+one_more f (x ∷ xs) (suc i) d l = rw add-one (ap (λ r. f x ++ r) (sym (ap (λ k. flat_map f (take k xs)) (add-one i))
+      ∙ one_more f xs i d (omega arith)) ∙ sym (append_assoc (f x) (flat_map f (take i xs)) (f (get_or xs i d))))
 
-pub name_more : (name : List ℕ) (i : ℕ) → i < length name → name_text (take i name) ++ escaped (get_or name i 0) ≡ name_text (take (i + 1) name)
+pub name_more : (name : List ℕ) (i : ℕ) → i < length name → name_text (take i name) ++ escaped (get_or name i 0)
+    ≡ name_text (take (i + 1) name)
 unfolding name_text
 name_more name i l = sym (one_more escaped name i 0 l)
 
 -- a way with a name more
 pub way_more : (path : Path) (n : List ℕ) → names_text path ++ 47 ∷ name_text n ≡ names_text (path ++ n ∷ [])
-way_more path n = ap (λ r. names_text path ++ r) (sym (append-nil (47 ∷ name_text n))) ∙ sym (flat_map-append (λ name. 47 ∷ name_text name) path (n ∷ []))
+way_more path n = ap (λ r. names_text path ++ r) (sym (append-nil (47 ∷ name_text n)))
+    ∙ sym (flat_map-append (λ name. 47 ∷ name_text name) path (n ∷ []))
 
 pub path_more : (path : Path) (n : List ℕ) → names_text path ++ 47 ∷ name_text n ≡ path_text (path ++ n ∷ [])
 path_more [] n = way_more [] n
 path_more (m ∷ path) n = way_more (m ∷ path) n
 
 -- a text that is put where a call succeeds
-pub gains_on : {A E : Type 0} (r : Result A E) {u v : SinkState} {a b xs : List ℕ} (w : SinkState) (c ys zs : List ℕ) → Gains u a v b xs → OnOk r (Gains v b w c ys) → xs ++ ys ≡ zs → OnOk r (Gains u a w c zs)
+pub gains_on : {A E : Type 0} (r : Result A E) {u v : SinkState} {a b xs : List ℕ} (w : SinkState) (c ys zs : List ℕ) → Gains u a v b xs
+    → OnOk r (Gains v b w c ys) → xs ++ ys ≡ zs → OnOk r (Gains u a w c zs)
 gains_on (Ok x) w c ys zs p q e = gains_same e (gains_more p q)
 gains_on (Err x) w c ys zs p q e = tt

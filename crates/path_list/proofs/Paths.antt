@@ -50,12 +50,15 @@ is_after [] r = refl
 is_after (m ∷ top) r = rw (same_is_true m) (is_after top r)
 
 -- what is below a name below the path
-pub below_name : (top path r : Path) (x n : List ℕ) → after top path ≡ Some (n ∷ r) → (x ≡ n → is_below (top ++ x ∷ []) path ≡ is_some_name (Some r)) × (x ≢ n → is_below (top ++ x ∷ []) path ≡ false)
+pub below_name : (top path r : Path) (x n : List ℕ) → after top path ≡ Some (n ∷ r)
+    → (x ≡ n → is_below (top ++ x ∷ []) path ≡ is_some_name (Some r)) × (x ≢ n → is_below (top ++ x ∷ []) path ≡ false)
 below_name top path r x n e = rw (after_is top path (n ∷ r) e) (go top)
   where
-    go : (top : Path) → (x ≡ n → is_below (top ++ x ∷ []) (top ++ n ∷ r) ≡ is_some_name (Some r)) × (x ≢ n → is_below (top ++ x ∷ []) (top ++ n ∷ r) ≡ false)
+    go : (top : Path) → (x ≡ n → is_below (top ++ x ∷ []) (top ++ n ∷ r) ≡ is_some_name (Some r))
+        × (x ≢ n → is_below (top ++ x ∷ []) (top ++ n ∷ r) ≡ false)
     go (m ∷ top) = rw (same_is_true m) (go top)
-    go [] = elim (same_or_not x n) [ inl s ↦ ((λ i. rw s.1 refl), (λ f. absurd (f s.0))) | inr s ↦ ((λ i. absurd (s.0 i)), (λ f. rw s.1 refl)) ]
+    go [] = elim (same_or_not x n) [ inl s ↦ ((λ i. rw s.1 refl), (λ f. absurd (f s.0))) | inr s ↦ ((λ i. absurd (s.0 i)),
+          (λ f. rw s.1 refl)) ]
 
 pub below_none : (top path : Path) (x : List ℕ) → after top path ≡ None → is_below (top ++ x ∷ []) path ≡ false
 below_none [] path x e = absurd (cc)
@@ -82,7 +85,8 @@ name_is (m ∷ top) [] = refl
 name_is (m ∷ top) (n ∷ path) = elim (same_or_not m n) [ inl s ↦ rw s.1 (name_is top path) | inr s ↦ rw s.1 refl ]
 
 -- an entry after all of these is not one of them
-pub later : (e : Entry) (fs : List Entry) (f : Entry) → AllByRecursion (λ f. path_cmp e.path f.path ≡ Less) fs → IsAmong f fs → path_cmp e.path f.path ≡ Less
+pub later : (e : Entry) (fs : List Entry) (f : Entry) → AllByRecursion (λ f. path_cmp e.path f.path ≡ Less) fs → IsAmong f fs
+    → path_cmp e.path f.path ≡ Less
 later e [] f l m = elim m [ ]
 later e (g ∷ gs) f (l, ls) (inl i) = rw i l
 later e (g ∷ gs) f (l, ls) (inr m) = later e gs f ls m

@@ -26,7 +26,8 @@ run_more name i l e run =
 
 pub run_all : (name : List ℕ) (i n : ℕ) → length name ≤ i → n ≡ length name → IsRun name i → IsRun name n
 run_all name i n l e run =
-    ap (λ xs. name_text xs) (all_of n (omega (arith, e))) ∙ sym (ap name_text (all_of i l)) ∙ run ∙ all_of i l ∙ sym (all_of n (omega (arith, e)))
+    ap (λ xs. name_text xs) (all_of n (omega (arith, e))) ∙ sym (ap name_text (all_of i l)) ∙ run ∙ all_of i l
+        ∙ sym (all_of n (omega (arith, e)))
   where
     all_of : (k : ℕ) → length name ≤ k → take k name ≡ name
     all_of k l = take_all k name l
@@ -69,5 +70,6 @@ unfolding name_text
 none_text [] z = refl
 none_text (byte ∷ rest) z = absurd (omega (arith, z))
 
-pub none_left : {u w : SinkState} {r t name rest : List ℕ} → length rest ≡ 0 → GainsAllBut u r w t name rest → Gains u r w t (name_text name)
+pub none_left : {u w : SinkState} {r t name rest : List ℕ} → length rest ≡ 0 → GainsAllBut u r w t name rest
+    → Gains u r w t (name_text name)
 none_left {rest = rest} z g = gains_same (sym (append-nil g.text) ∙ ap (λ t. g.text ++ t) (sym (none_text rest z)) ∙ g.whole) g.gains

@@ -21,7 +21,8 @@ short [] k a e = absurd (cc)
 short (b ∷ layers) zero a e = omega arith
 short (b ∷ layers) (suc k) a e = let l = short layers k a e in omega arith
 
-pub one_yet : (layers : List (List ℕ)) (i : ℕ) (b : List ℕ) → b ≡ get_or layers i b → IsImage b → AreImagesTo layers i → AreImagesTo layers (i + 1)
+pub one_yet : (layers : List (List ℕ)) (i : ℕ) (b : List ℕ) → b ≡ get_or layers i b → IsImage b → AreImagesTo layers i
+    → AreImagesTo layers (i + 1)
 one_yet layers i b e s t = record {
   each = λ k a l f. elim (cases_lt k i) [
     | inl m ↦ t.each k a m f

@@ -53,7 +53,8 @@ indexed (b ∷ layers) zero a e = cc
 indexed (b ∷ layers) (suc i) a e = indexed layers i a e
 
 -- what shows a path has it
-top_has : (layers : List (List ℕ)) (path : Path) (i h : ℕ) → IsTop layers path i h → (a : List ℕ) × (slice_get layers i ≡ Some a) × Has a path h
+top_has : (layers : List (List ℕ)) (path : Path) (i h : ℕ) → IsTop layers path i h → (a : List ℕ) × (slice_get layers i ≡ Some a)
+    × Has a path h
 top_has [] path i h t = absurd t
 top_has (a ∷ above) path zero h t = (a, refl, t.0)
 top_has (a ∷ above) path (suc i) h t = top_has above path i h t
@@ -92,7 +93,8 @@ module _ (top path : Path) (n : List ℕ) where
   IsTopDirectory layers j g = (a : List ℕ) × (slice_get layers j ≡ Some a) × Has a top g × (kind a g ≡ Directory)
 
   -- what is shown above is a directory
-  directory_above : (layers : List (List ℕ)) → AreImages layers → IsPlain full → (i h j g : ℕ) → IsTop layers full i h → IsTop layers top j g → IsTopDirectory layers j g
+  directory_above : (layers : List (List ℕ)) → AreImages layers → IsPlain full → (i h j g : ℕ) → IsTop layers full i h
+      → IsTop layers top j g → IsTopDirectory layers j g
   directory_above [] s p i h j g t u = absurd t
   directory_above (a ∷ above) s p zero h zero g t u =
       let image = s.each 0 a refl in
@@ -116,7 +118,8 @@ module _ (top path : Path) (n : List ℕ) where
   directory_above (a ∷ above) s p (suc i) h (suc j) g t u = directory_above above (later a above s) p i h j g t u
 
   -- what leaves the path free leaves the path above free, or shows it
-  free_or_shown : (layers : List (List ℕ)) → IsPlain full → IsFree layers full → (IsFree layers top → ⊥) → ((j g : ℕ) → IsTop layers top j g → ⊥) → ⊥
+  free_or_shown : (layers : List (List ℕ)) → IsPlain full → IsFree layers full → (IsFree layers top → ⊥)
+      → ((j g : ℕ) → IsTop layers top j g → ⊥) → ⊥
   free_or_shown [] p f x y = x tt
   free_or_shown (a ∷ above) p f x y =
       free_or_shown above p f.1
@@ -124,7 +127,8 @@ module _ (top path : Path) (n : List ℕ) where
       (λ j g t. y (suc j) g t)
 
   -- the path above is shown
-  shown_above : (layers : List (List ℕ)) → AreImages layers → IsPlain full → (i h : ℕ) → IsTop layers full i h → ((j g : ℕ) → IsTop layers top j g → ⊥) → ⊥
+  shown_above : (layers : List (List ℕ)) → AreImages layers → IsPlain full → (i h : ℕ) → IsTop layers full i h
+      → ((j g : ℕ) → IsTop layers top j g → ⊥) → ⊥
   shown_above [] s p i h t y = t
   shown_above (a ∷ above) s p zero h t y =
       let d = upper a (s.each 0 a refl) top path n h t.0 in
@@ -157,10 +161,12 @@ module _ (layers : List (List ℕ)) (entries : List Entry) (s : AreImages layers
       let same : b ≡ t.0 = cc in
       record { bytes = t.0; first = h; is = t.1; has = t.2; ends = subst (λ a. IsFinal a h e.header) same f }
 
-  kind_from : (e : Entry) (a : List ℕ) → slice_get layers e.layer ≡ Some a → is_directory_at layers (place e) ≡ is_directory (kind a e.header)
+  kind_from : (e : Entry) (a : List ℕ) → slice_get layers e.layer ≡ Some a → is_directory_at layers (place e)
+      ≡ is_directory (kind a e.header)
   kind_from e a i = rw (indexed layers e.layer a i) refl
 
-  once : (d e : Entry) → IsAmong d entries → IsAmong e entries → place d ≡ place e → is_directory_at layers (place d) ≡ true → d.path ≡ e.path
+  once : (d e : Entry) → IsAmong d entries → IsAmong e entries → place d ≡ place e → is_directory_at layers (place d) ≡ true
+      → d.path ≡ e.path
   once d e x y p k =
       let f = from d ((l.exact d).0 x) in
       let r = from e ((l.exact e).0 y) in
@@ -189,7 +195,8 @@ module _ (layers : List (List ℕ)) (entries : List Entry) (s : AreImages layers
           let c = w.2 in
           let z : Some c.0 ≡ Some t.0 = sym c.1 ∙ t.1 in
           let same : c.0 ≡ t.0 = cc in
-          let stays : d.header ≡ w.0 = directory_stays t.0 (s.each d.layer t.0 t.1) w.0 d.header t.3 (subst (λ x. IsFinal x w.0 d.header) same c.2) in
+          let stays : d.header ≡ w.0 = directory_stays t.0 (s.each d.layer t.0 t.1) w.0 d.header t.3
+              (subst (λ x. IsFinal x w.0 d.header) same c.2) in
           kind_from d t.0 t.1 ∙ ap is_directory (ap (kind t.0) stays ∙ t.3)
 
       none : ((d : Entry) → IsAmong d entries → d.path ≢ top) → ⊥

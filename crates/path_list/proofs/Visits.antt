@@ -20,14 +20,18 @@ same_itself : (p : Place) → same_place p p ≡ true
 same_itself p = rw (eq-eqb p.0 p.0 refl, eq-eqb p.1 p.1 refl) refl
 
 same_is : (p q : Place) → same_place p q ≡ true → p ≡ q
-same_is p q e = let b = and_parts (nat_eq p.0 q.0) (nat_eq p.1 q.1) e in let f = eqb-true p.0 q.0 b.0 in let g = eqb-true p.1 q.1 b.1 in ap (λ x. (x, p.1)) f ∙ ap (λ y. (q.0, y)) g
+same_is p q e = let b = and_parts (nat_eq p.0 q.0) (nat_eq p.1 q.1) e in let f = eqb-true p.0 q.0 b.0 in let g = eqb-true p.1 q.1 b.1 in
+    ap (λ x. (x, p.1)) f ∙ ap (λ y. (q.0, y)) g
 
 -- the first entry with a place
-first_entry : (p : Place) (es : List Entry) (e : Entry) → IsAmong e es → place e ≡ p → (f : Entry) × (find (λ d. same_place p (place d)) es ≡ Some f) × IsAmong f es × (place f ≡ p)
+first_entry : (p : Place) (es : List Entry) (e : Entry) → IsAmong e es → place e ≡ p
+    → (f : Entry) × (find (λ d. same_place p (place d)) es ≡ Some f) × IsAmong f es × (place f ≡ p)
 first_entry p [] e a i = elim a [ ]
 first_entry p (d ∷ es) e a i = go (same_place p (place d)) refl a (λ b. first_entry p es e b i)
   where
-    go : (b : Bool) → same_place p (place d) ≡ b → IsAmong e (d ∷ es) → (IsAmong e es → (f : Entry) × (find (λ d. same_place p (place d)) es ≡ Some f) × IsAmong f es × (place f ≡ p)) → (f : Entry) × (find (λ d. same_place p (place d)) (d ∷ es) ≡ Some f) × IsAmong f (d ∷ es) × (place f ≡ p)
+    go : (b : Bool) → same_place p (place d) ≡ b → IsAmong e (d ∷ es)
+        → (IsAmong e es → (f : Entry) × (find (λ d. same_place p (place d)) es ≡ Some f) × IsAmong f es × (place f ≡ p))
+        → (f : Entry) × (find (λ d. same_place p (place d)) (d ∷ es) ≡ Some f) × IsAmong f (d ∷ es) × (place f ≡ p)
     go true s a on = (d, rw s refl, inl refl, sym (same_is p (place d) s))
     go false s (inl j) on = absurd (let z : same_place p (place d) ≡ true = rw (sym i, j) (same_itself (place d)) in cc)
     go false s (inr b) on = let r = on b in (r.0, rw s r.1, inr r.2, r.3)
@@ -43,7 +47,8 @@ one_entry (f ∷ es) r d e (inr a) (inr b) p = one_entry es r.1 d e a b p
 pub numbered : (entries : List Entry) (e : Entry) → IsAmong e entries → node_of entries (number entries (place e)) ≡ Some (place e)
 numbered entries e a = go (number_of entries (place e)) refl (entries_numbered entries e e a a).0
   where
-    go : (o : Option ℕ) → number_of entries (place e) ≡ o → IsSome (number_of entries (place e)) → node_of entries (number entries (place e)) ≡ Some (place e)
+    go : (o : Option ℕ) → number_of entries (place e) ≡ o → IsSome (number_of entries (place e))
+        → node_of entries (number entries (place e)) ≡ Some (place e)
     go None f s = absurd (let z = rw f at s in cc)
     go (Some m) f s = rw f ((number_used entries m (place e)).0 f)
 
@@ -54,7 +59,8 @@ name_path top path n e = go (after top path) refl (sym (name_is top path) ∙ e)
     go : (o : Option Path) → after top path ≡ o → only_name (after top path) ≡ Some n → path ≡ top ++ n ∷ []
     go None f g = absurd (let z = rw f at g in cc)
     go (Some []) f g = absurd (let z = rw f at g in cc)
-    go (Some (m ∷ [])) f g = let z : Some m ≡ Some n = rw f at g in let s : m ≡ n = cc in after_is top path (m ∷ []) f ∙ ap (λ k. top ++ k ∷ []) s
+    go (Some (m ∷ [])) f g = let z : Some m ≡ Some n = rw f at g in let s : m ≡ n = cc in after_is top path (m ∷ []) f
+        ∙ ap (λ k. top ++ k ∷ []) s
     go (Some (m ∷ k ∷ r)) f g = absurd (let z = rw f at g in cc)
 
 -- what is below a name below a path is below the path
@@ -71,13 +77,15 @@ unfolding below
 fewer top x [] = omega arith
 fewer top x (e ∷ es) = go (is_below (top ++ x ∷ []) e.path) (is_below top e.path) refl refl (fewer top x es)
   where
-    go : (b c : Bool) → is_below (top ++ x ∷ []) e.path ≡ b → is_below top e.path ≡ c → length (below es (top ++ x ∷ [])) ≤ length (below es top) → length (below (e ∷ es) (top ++ x ∷ [])) ≤ length (below (e ∷ es) top)
+    go : (b c : Bool) → is_below (top ++ x ∷ []) e.path ≡ b → is_below top e.path ≡ c → length (below es (top ++ x ∷ []))
+        ≤ length (below es top) → length (below (e ∷ es) (top ++ x ∷ [])) ≤ length (below (e ∷ es) top)
     go true true f g l = rw (f, g) (omega arith)
     go false true f g l = rw (f, g) (omega arith)
     go false false f g l = rw (f, g) l
     go true false f g l = absurd (let z = less_below top e.path x true false f g refl in cc)
 
-fewer_by : (top : Path) (x : List ℕ) (es : List Entry) (d : Entry) → IsAmong d es → d.path ≡ top ++ x ∷ [] → length (below es (top ++ x ∷ [])) < length (below es top)
+fewer_by : (top : Path) (x : List ℕ) (es : List Entry) (d : Entry) → IsAmong d es → d.path ≡ top ++ x ∷ []
+    → length (below es (top ++ x ∷ [])) < length (below es top)
 unfolding below
 fewer_by top x [] d a p = elim a [ ]
 fewer_by top x (e ∷ es) d (inl i) p =
@@ -89,7 +97,8 @@ fewer_by top x (e ∷ es) d (inl i) p =
     rw (f, g) (omega arith)
 fewer_by top x (e ∷ es) d (inr a) p = go (is_below (top ++ x ∷ []) e.path) (is_below top e.path) refl refl (fewer_by top x es d a p)
   where
-    go : (b c : Bool) → is_below (top ++ x ∷ []) e.path ≡ b → is_below top e.path ≡ c → length (below es (top ++ x ∷ [])) < length (below es top) → length (below (e ∷ es) (top ++ x ∷ [])) < length (below (e ∷ es) top)
+    go : (b c : Bool) → is_below (top ++ x ∷ []) e.path ≡ b → is_below top e.path ≡ c → length (below es (top ++ x ∷ []))
+        < length (below es top) → length (below (e ∷ es) (top ++ x ∷ [])) < length (below (e ∷ es) top)
     go true true f g l = rw (f, g) (omega arith)
     go false true f g l = rw (f, g) (omega arith)
     go false false f g l = rw (f, g) l
@@ -115,22 +124,28 @@ module _ (stack : Stacked) (n : ℕ) (path : Path) (v : IsVisited stack n path) 
     pub path_is : entry.path ≡ path ++ row.name ∷ []
     pub number_is : row.number ≡ number entries (place entry)
 
-  row_in : (es : List Entry) → ((e : Entry) → IsAmong e es → IsAmong e entries) → (i : ℕ) (d : Line) → i < length (rows_in es) → IsRow (get_or (rows_in es) i d)
+  row_in : (es : List Entry) → ((e : Entry) → IsAmong e es → IsAmong e entries) → (i : ℕ) (d : Line) → i < length (rows_in es)
+      → IsRow (get_or (rows_in es) i d)
   row_in [] s i d l = absurd (omega arith)
   row_in (e ∷ es) s i d l = go (name_below path e.path) refl i l (λ j k. row_in es (λ f a. s f (inr a)) j d k)
     where
-      go : (o : Option (List ℕ)) → name_below path e.path ≡ o → (i : ℕ) → i < length (rows_in (e ∷ es)) → ((j : ℕ) → j < length (rows_in es) → IsRow (get_or (rows_in es) j d)) → IsRow (get_or (rows_in (e ∷ es)) i d)
+      go : (o : Option (List ℕ)) → name_below path e.path ≡ o → (i : ℕ) → i < length (rows_in (e ∷ es))
+          → ((j : ℕ) → j < length (rows_in es) → IsRow (get_or (rows_in es) j d)) → IsRow (get_or (rows_in (e ∷ es)) i d)
       go None f i l on = rw f (on i (rw f at l))
       go (Some m) f zero l on = rw f (record { entry = e; among = s e (inl refl); path_is = name_path path e.path m f; number_is = refl })
       go (Some m) f (suc i) l on = rw f (on i (let k : suc i < suc (length (rows_in es)) = rw f at l in omega arith))
 
-  pieces_in : (es : List Entry) → ((e : Entry) → IsAmong e es → IsAmong e entries) → flat_map (piece_at stack path) (rows_in es) ≡ flat_map (piece layers entries path) (filter_map (child_in path) es)
+  pieces_in : (es : List Entry) → ((e : Entry) → IsAmong e es → IsAmong e entries) → flat_map (piece_at stack path) (rows_in es)
+      ≡ flat_map (piece layers entries path) (filter_map (child_in path) es)
   pieces_in [] s = refl
   pieces_in (e ∷ es) s = go (name_below path e.path) refl (pieces_in es (λ f a. s f (inr a)))
     where
-      go : (o : Option (List ℕ)) → name_below path e.path ≡ o → flat_map (piece_at stack path) (rows_in es) ≡ flat_map (piece layers entries path) (filter_map (child_in path) es) → flat_map (piece_at stack path) (rows_in (e ∷ es)) ≡ flat_map (piece layers entries path) (filter_map (child_in path) (e ∷ es))
+      go : (o : Option (List ℕ)) → name_below path e.path ≡ o → flat_map (piece_at stack path) (rows_in es)
+          ≡ flat_map (piece layers entries path) (filter_map (child_in path) es) → flat_map (piece_at stack path) (rows_in (e ∷ es))
+          ≡ flat_map (piece layers entries path) (filter_map (child_in path) (e ∷ es))
       go None f on = rw f on
-      go (Some m) f on = rw (f, numbered entries e (s e (inl refl))) (ap (λ r. piece layers entries path (record { name = m; place = place e }) ++ r) on)
+      go (Some m) f on = rw (f, numbered entries e (s e (inl refl)))
+          (ap (λ r. piece layers entries path (record { name = m; place = place e }) ++ r) on)
 
   at_node : node_of entries n ≡ Some (place v.entry)
   at_node = rw v.number_is (numbered entries v.entry v.among)
@@ -173,7 +188,8 @@ module _ (stack : Stacked) (n : ℕ) (path : Path) (v : IsVisited stack n path) 
   pub all_rows : flat_map (piece_at stack path) (rows_at stack n) ≡ lines_below stack path
   all_rows = go (is_directory_at layers (place v.entry)) refl
     where
-      go : (b : Bool) → is_directory_at layers (place v.entry) ≡ b → flat_map (piece_at stack path) (rows_at stack n) ≡ lines_below stack path
+      go : (b : Bool) → is_directory_at layers (place v.entry) ≡ b → flat_map (piece_at stack path) (rows_at stack n)
+          ≡ lines_below stack path
       go true k = rw (rows_there k) (pieces_in entries (λ e a. a) ∙ sym (all_below layers entries path v.tree))
       go false k = rw (none_there k, empty_there k) refl
 
@@ -185,7 +201,8 @@ module _ (stack : Stacked) (n : ℕ) (path : Path) (v : IsVisited stack n path) 
   fewer_below row r = fewer_by path row.name entries r.entry r.among r.path_is
 
   -- the walk goes on to the row at i, and less is below that
-  pub goes_on : (rows : List Line) (i : ℕ) (d : Line) (m : ℕ) (name : List ℕ) → rows ≡ rows_at stack n → i < length rows → d ≡ get_or rows i d → record { number = m; name = name } ≡ d →
+  pub goes_on : (rows : List Line) (i : ℕ) (d : Line) (m : ℕ) (name : List ℕ) → rows ≡ rows_at stack n → i < length rows
+      → d ≡ get_or rows i d → record { number = m; name = name } ≡ d →
       IsVisited stack m (path ++ name ∷ []) × (length (below entries (path ++ name ∷ [])) < length (below entries path))
   goes_on rows i d m name e l f s =
       let k : i < length (rows_at stack n) = subst (λ r. i < length r) e l in
@@ -193,10 +210,12 @@ module _ (stack : Stacked) (n : ℕ) (path : Path) (v : IsVisited stack n path) 
       let r : IsRow d = subst (λ x. IsRow x) same (row_at i d k) in
       let number_same : d.number ≡ m = ap (λ (x : Line). x.number) (sym s) in
       let name_same : d.name ≡ name = ap (λ (x : Line). x.name) (sym s) in (
-        subst (λ x. IsVisited stack m (path ++ x ∷ [])) name_same (subst (λ x. IsVisited stack x (path ++ d.name ∷ [])) number_same (visit_row d r)),
+        subst (λ x. IsVisited stack m (path ++ x ∷ [])) name_same (subst (λ x. IsVisited stack x (path ++ d.name ∷ [])) number_same
+              (visit_row d r)),
         subst (λ x. length (below entries (path ++ x ∷ [])) < length (below entries path)) name_same (fewer_below d r),
       )
 
   -- all rows are walked
-  pub walked : (rows : List Line) (i : ℕ) → rows ≡ rows_at stack n → length rows ≤ i → flat_map (piece_at stack path) (take i rows) ≡ lines_below stack path
+  pub walked : (rows : List Line) (i : ℕ) → rows ≡ rows_at stack n → length rows ≤ i → flat_map (piece_at stack path) (take i rows)
+      ≡ lines_below stack path
   walked rows i e l = ap (flat_map (piece_at stack path)) (take_all i rows l ∙ e) ∙ all_rows

@@ -45,17 +45,20 @@ pub record IsBegun (stack : Stacked) : Type 0 where
   pub visit : IsVisited stack 1 []
   pub all : line_at stack 1 [] ++ lines_below stack [] ≡ lines stack.layers stack.entries
 
-begins : (layers : List (List ℕ)) (entries : List Entry) → AreTree layers entries → IsListing layers entries → (length (nodes entries) ≡ 0 → ⊥) → IsBegun (record { layers = layers; entries = entries })
+begins : (layers : List (List ℕ)) (entries : List Entry) → AreTree layers entries → IsListing layers entries
+    → (length (nodes entries) ≡ 0 → ⊥) → IsBegun (record { layers = layers; entries = entries })
 unfolding below nodes
 begins layers [] t l z = absurd (z refl)
 begins layers (e ∷ es) t l z =
     let p = root e.path refl in
     let one : number_of (e ∷ es) (place e) ≡ Some 1 = root_first layers (e ∷ es) e l (inl refl) p in
     let n : 1 ≡ number (e ∷ es) (place e) = sym (ap (λ o. unwrap_or o 0) one) in
-    let at : node_of (e ∷ es) 1 ≡ Some (place e) = subst (λ k. node_of (e ∷ es) k ≡ Some (place e)) (sym n) (numbered (e ∷ es) e (inl refl)) in
+    let at : node_of (e ∷ es) 1 ≡ Some (place e) = subst (λ k. node_of (e ∷ es) k ≡ Some (place e)) (sym n)
+        (numbered (e ∷ es) e (inl refl)) in
     let text = line layers (e ∷ es) in
     let first = ap (λ o. option_map_or (λ q. line_of layers (e ∷ es) q []) o []) at ∙ ap (line_of layers (e ∷ es) (place e)) (sym p) in
-    let second : below (e ∷ es) [] ≡ es = rw (root_out e.path p) (all_after es (subst (λ q. AllByRecursion (λ f. path_cmp q f.path ≡ Less) es) p l.rising.0)) in
+    let second : below (e ∷ es) [] ≡ es =
+        rw (root_out e.path p) (all_after es (subst (λ q. AllByRecursion (λ f. path_cmp q f.path ≡ Less) es) p l.rising.0)) in
     record {
       visit = record { tree = t; entry = e; among = inl refl; path_is = p; number_is = n };
       all = ap (λ x. x ++ flat_map text (below (e ∷ es) [])) first ∙ ap (λ y. text e ++ flat_map text y) second;
@@ -67,7 +70,9 @@ begins layers (e ∷ es) t l z =
       where
         no_other : (d : Entry) (n : List ℕ) (q : Path) → e.path ≡ n ∷ q → IsAmong d (e ∷ es) → d.path ≡ [] → ⊥
         no_other d n q f (inl i) p = let g : (n ∷ q) ≡ [] = sym f ∙ ap (λ (k : Entry). k.path) (sym i) ∙ p in cc
-        no_other d n q f (inr a) p = let g : path_cmp (n ∷ q) [] ≡ Less = subst (λ r. path_cmp (n ∷ q) r ≡ Less) p (subst (λ r. path_cmp r d.path ≡ Less) f (later e es d l.rising.0 a)) in cc
+        no_other d n q f (inr a) p = let g : path_cmp (n ∷ q) [] ≡ Less =
+            subst (λ r. path_cmp (n ∷ q) r ≡ Less) p (subst (λ r. path_cmp r d.path ≡ Less) f (later e es d l.rising.0 a)) in cc
 
-pub begun : (stack : Stacked) (n : ℕ) → AreImages stack.layers → IsListing stack.layers stack.entries → n ≡ length (nodes stack.entries) → (n ≡ 0 → ⊥) → IsBegun stack
+pub begun : (stack : Stacked) (n : ℕ) → AreImages stack.layers → IsListing stack.layers stack.entries → n ≡ length (nodes stack.entries)
+    → (n ≡ 0 → ⊥) → IsBegun stack
 begun stack n i l e z = begins stack.layers stack.entries (are_tree stack.layers stack.entries i l) l (λ f. z (e ∙ f))

@@ -16,9 +16,12 @@ use Rattle.path_tree.proofs.Rising.{branch_rises}
 pub data Merges {T : Type 0} (f : T → T → T) : List (Shoot T) → List (Shoot T) → List (Shoot T) → Type 0 where
   Lows_left : (ls : List (Shoot T)) → Merges f ls [] ls
   Highs_left : (hs : List (Shoot T)) → Merges f [] hs hs
-  Low : (l h : Shoot T) (ls hs out : List (Shoot T)) → name_cmp l.name h.name ≡ Less → Merges f ls (h ∷ hs) out → Merges f (l ∷ ls) (h ∷ hs) (l ∷ out)
-  High : (l h : Shoot T) (ls hs out : List (Shoot T)) → name_cmp h.name l.name ≡ Less → Merges f (l ∷ ls) hs out → Merges f (l ∷ ls) (h ∷ hs) (h ∷ out)
-  Both : (l h b : Shoot T) (ls hs out : List (Shoot T)) → l.name ≡ h.name → IsLaid f l h b → Merges f ls hs out → Merges f (l ∷ ls) (h ∷ hs) (b ∷ out)
+  Low : (l h : Shoot T) (ls hs out : List (Shoot T)) → name_cmp l.name h.name ≡ Less → Merges f ls (h ∷ hs) out
+      → Merges f (l ∷ ls) (h ∷ hs) (l ∷ out)
+  High : (l h : Shoot T) (ls hs out : List (Shoot T)) → name_cmp h.name l.name ≡ Less → Merges f (l ∷ ls) hs out
+      → Merges f (l ∷ ls) (h ∷ hs) (h ∷ out)
+  Both : (l h b : Shoot T) (ls hs out : List (Shoot T)) → l.name ≡ h.name → IsLaid f l h b → Merges f ls hs out
+      → Merges f (l ∷ ls) (h ∷ hs) (b ∷ out)
 
 laid_none : {T : Type 0} (f : T → T → T) (x : Option T) → laid_at f None x ≡ x
 laid_none f None = refl
@@ -72,7 +75,8 @@ module _ {T : Type 0} (f : T → T → T) where
         s.1,
   )
 
-  each : {ls hs out : List (Shoot T)} → Merges f ls hs out → AllByRecursion IsRising ls → AllByRecursion IsRising hs → AllByRecursion IsRising out
+  each : {ls hs out : List (Shoot T)} → Merges f ls hs out → AllByRecursion IsRising ls → AllByRecursion IsRising hs
+      → AllByRecursion IsRising out
   each (Lows_left ls) r s = r
   each (Highs_left hs) r s = s
   each (Low l h ls hs out lt m) r s = (r.0, each m r.1 s)
@@ -91,7 +95,8 @@ module _ {T : Type 0} (f : T → T → T) where
   pub branch_laid : (low high : Shoot T) (ls hs out : List (Shoot T)) → low.below ≡ spread ls
       → high.below ≡ spread hs → AreLaid f ls hs out
       → IsLaid f low high (record { name = high.name; value = f low.value high.value; below = spread out })
-  branch_laid low high ls hs out e d a = record { name = refl; rising = branch_rises high.name (f low.value high.value) out a.forest; at = at }
+  branch_laid low high ls hs out e d a = record { name = refl; rising = branch_rises high.name (f low.value high.value) out a.forest; at =
+        at }
     where
       at : (path : List (List ℕ)) → at_path (whole (record
           { name = high.name; value = f low.value high.value; below = spread out })) path ≡ laid_at f

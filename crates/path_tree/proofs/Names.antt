@@ -47,7 +47,8 @@ all_above n m (s ∷ ss) l a = (nat_list_cmp_total.trans n m s.name l a.0, all_a
 -- no branch has a name that comes before them all
 pub named_below : {T : Type 0} (n : List ℕ) (ss : List (Shoot T)) → AllByRecursion (λ t. name_cmp n t.name ≡ Less) ss → named n ss ≡ None
 named_below n [] a = refl
-named_below n (s ∷ ss) a = elim (same_or_not s.name n) [ inl x ↦ absurd (below_differs n s.name a.0 (sym x.0)) | inr x ↦ rw x.1 (named_below n ss a.1) ]
+named_below n (s ∷ ss) a = elim (same_or_not s.name n) [ inl x ↦ absurd (below_differs n s.name a.0 (sym x.0)) | inr x ↦ rw x.1
+      (named_below n ss a.1) ]
 
 all_at : {T : Type 0} (n : List ℕ) (ss : List (Shoot T)) → AllByRecursion (λ t. name_cmp n t.name ≡ Less) ss
     → (i : ℕ) (d : Shoot T) → i < length ss → name_cmp n (get_or ss i d).name ≡ Less
@@ -86,21 +87,24 @@ named_between n ss i p = named_nowhere n ss (λ k d l e. elim (cases_lt k i) [
   | inr ge ↦ absurd (let f = p.1 k d ge l in cc)
 ])
 
-keeps : (a b n : List ℕ) → name_cmp a b ≡ Less → (o p : Ordering) → o ≡ name_cmp a n → p ≡ name_cmp b n → ordering_index o ≤ ordering_index p
+keeps : (a b n : List ℕ) → name_cmp a b ≡ Less → (o p : Ordering) → o ≡ name_cmp a n → p ≡ name_cmp b n
+    → ordering_index o ≤ ordering_index p
 keeps a b n l Less p d e = omega arith
 keeps a b n l Equal Less d e = absurd (not_below_itself b
     (nat_list_cmp_total.trans b a b (subst (λ x. name_cmp b x ≡ Less) (sym (exact_bytes a n (sym d))) (sym e))
     l))
 keeps a b n l Equal Equal d e = omega arith
 keeps a b n l Equal Greater d e = omega arith
-keeps a b n l Greater Less d e = absurd (not_below_itself a (nat_list_cmp_total.trans a b a l (nat_list_cmp_total.trans b n a (sym e) (above_of a n (sym d)))))
+keeps a b n l Greater Less d e = absurd
+    (not_below_itself a (nat_list_cmp_total.trans a b a l (nat_list_cmp_total.trans b n a (sym e) (above_of a n (sym d)))))
 keeps a b n l Greater Equal d e = absurd (not_below_itself a
     (nat_list_cmp_total.trans a b a l (subst (λ x. name_cmp x a ≡ Less) (sym (exact_bytes b n (sym e)))
     (above_of a n (sym d)))))
 keeps a b n l Greater Greater d e = omega arith
 
 -- seen from any name, branches in order go from those before it to those after it
-pub from_name : {T : Type 0} (n : List ℕ) (ss : List (Shoot T)) → NamesRise ss → IsNonDecreasingBy (λ s. ordering_index (name_cmp s.name n)) ss
+pub from_name : {T : Type 0} (n : List ℕ) (ss : List (Shoot T)) → NamesRise ss
+    → IsNonDecreasingBy (λ s. ordering_index (name_cmp s.name n)) ss
 from_name n [] r i j d le lt = absurd (omega arith)
 from_name n (s ∷ ss) r zero zero d le lt = omega arith
 from_name n (s ∷ ss) r zero (suc j) d le lt = keeps s.name (get_or ss j d).name n (all_at s.name ss r.0 j d (omega arith)) _ _ refl refl

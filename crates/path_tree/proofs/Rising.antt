@@ -22,7 +22,8 @@ module _ {T : Type 0} where
   above_other n m p [] l = tt
   above_other n m p (x ∷ xs) l = (rw l, above_other n m p xs l)
 
-  above_spread : (n : List ℕ) (p : List (List ℕ)) (ss : List (Shoot T)) → AllByRecursion (λ t. name_cmp n t.name ≡ Less) ss → Above (n ∷ p) (spread ss)
+  above_spread : (n : List ℕ) (p : List (List ℕ)) (ss : List (Shoot T)) → AllByRecursion (λ t. name_cmp n t.name ≡ Less) ss
+      → Above (n ∷ p) (spread ss)
   above_spread n p [] a = tt
   above_spread n p (s ∷ ss) a = (
     rw a.0,

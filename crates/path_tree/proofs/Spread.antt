@@ -46,7 +46,8 @@ module _ {T : Type 0} where
   at_none n [] p e = refl
   at_none n (s ∷ ss) p e = elim (same_or_not s.name n) [
     | inl x ↦ absurd (let f = rw x.1 at e in cc)
-    | inr x ↦ rw (x.1, at_append (prefixed s.name s.below) (spread ss) (n ∷ p), at_prefixed_other s.name n x.0 s.below p) (at_none n ss p (rw x.1 at e))
+    | inr x ↦ rw (x.1, at_append (prefixed s.name s.below) (spread ss) (n ∷ p), at_prefixed_other s.name n x.0 s.below p)
+        (at_none n ss p (rw x.1 at e))
   ]
 
   here : (s : Shoot T) (ss : List (Shoot T)) (p : List (List ℕ)) → at_path (spread ss) (s.name ∷ p) ≡ None
@@ -60,12 +61,14 @@ module _ {T : Type 0} where
     g,
   ) (or_none (at_path s.below (m ∷ p)))
 
-  pub at_spread : (ss : List (Shoot T)) → NamesRise ss → (n : List ℕ) (p : List (List ℕ)) → at_path (spread ss) (n ∷ p) ≡ through (named n ss) p
+  pub at_spread : (ss : List (Shoot T)) → NamesRise ss → (n : List ℕ) (p : List (List ℕ)) → at_path (spread ss) (n ∷ p)
+      ≡ through (named n ss) p
   at_spread [] r n p = refl
   at_spread (s ∷ ss) r n p = elim (same_or_not s.name n) [
     | inl x ↦
         let k : named n (s ∷ ss) ≡ Some s = rw x.1 in
         subst (λ m. at_path (spread (s ∷ ss)) (m ∷ p) ≡ at_path (whole s) p) x.0
         (here s ss p (at_none s.name ss p (named_below s.name ss r.0))) ∙ sym (ap (λ o. through o p) k)
-    | inr x ↦ rw (x.1, at_append (prefixed s.name s.below) (spread ss) (n ∷ p), at_prefixed_other s.name n x.0 s.below p) (at_spread ss r.1 n p)
+    | inr x ↦ rw (x.1, at_append (prefixed s.name s.below) (spread ss) (n ∷ p), at_prefixed_other s.name n x.0 s.below p)
+        (at_spread ss r.1 n p)
   ]

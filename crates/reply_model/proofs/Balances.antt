@@ -18,7 +18,8 @@ replies-append answered s (q ∷ qs) rs = ap (λ v. answered s q ++ v)
 pub moves-append : (moved : Session → Asked → List Move) (s : Session) (qs rs : List Asked)
     → moves_by moved s (qs ++ rs) ≡ moves_by moved s qs ++ moves_by moved (session_at s qs) rs
 moves-append moved s [] rs = refl
-moves-append moved s (q ∷ qs) rs = ap (λ v. moved s q ++ v) (moves-append moved (session_after s q.op) qs rs) ∙ sym (append_assoc (moved s q) _ _)
+moves-append moved s (q ∷ qs) rs = ap (λ v. moved s q ++ v) (moves-append moved (session_after s q.op) qs rs)
+    ∙ sym (append_assoc (moved s q) _ _)
 
 pub balance-append : (node : ℕ) (ms ns : List Move) → balance node (ms ++ ns) ≡ balance node ms +ℤ balance node ns
 balance-append node [] ns = sym (+ℤ_idl (balance node ns))

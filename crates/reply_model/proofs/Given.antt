@@ -37,7 +37,8 @@ module _ (layers : List (List ℕ)) (entries : List Entry) where
       found e p is None n = inl (rw (e, is, n) refl, rw (e, is, n) refl)
       found e p is (Some c) n = inr (c, rw (e, is, n) refl, rw (e, is, n) refl)
 
-      go : (o : Option Errno) → refusal layers entries s node (at_node (lookup name)) ≡ o → GivesEntry layers entries s (looking unique node name)
+      go : (o : Option Errno) → refusal layers entries s node (at_node (lookup name)) ≡ o
+          → GivesEntry layers entries s (looking unique node name)
       go (Some errno) e = inl ((errno, rw (e) refl), rw (e) refl)
       go None e =
           let f = node_found layers entries s node (lookup name) e in
@@ -46,7 +47,8 @@ module _ (layers : List (List ℕ)) (entries : List Entry) where
   pub readdirplus_gives : (s : Session) (unique node offset size : ℕ) → GivesRows layers entries s (listing unique node offset size)
   readdirplus_gives s unique node offset size = go (refusal layers entries s node (at_node (readdirplus offset size))) refl
     where
-      go : (o : Option Errno) → refusal layers entries s node (at_node (readdirplus offset size)) ≡ o → GivesRows layers entries s (listing unique node offset size)
+      go : (o : Option Errno) → refusal layers entries s node (at_node (readdirplus offset size)) ≡ o
+          → GivesRows layers entries s (listing unique node offset size)
       go (Some errno) e = inl ((errno, rw (e) refl), rw (e) refl)
       go None e =
           let f = node_found layers entries s node (readdirplus offset size) e in
@@ -93,7 +95,8 @@ module _ (layers : List (List ℕ)) (entries : List Entry) where
       ≡ balance node (moves_by (moves layers entries) s qs)
   balances_stay s qs q node e =
       let moved_by = moves_by (moves layers entries) s qs in
-      ap (balance node) (moves-append (moves layers entries) s qs (q ∷ []) ∙ rw (others_move_nothing (session_at s qs) q e) (append-nil moved_by))
+      ap (balance node) (moves-append (moves layers entries) s qs (q ∷ []) ∙ rw (others_move_nothing (session_at s qs) q e)
+            (append-nil moved_by))
 
   pub destroy_leaves : (s : Session) (qs : List Asked) (unique node n : ℕ)
       → balance n (moves_by (moves layers entries) s

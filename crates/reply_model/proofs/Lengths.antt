@@ -48,7 +48,8 @@ short_init : (o : InitOut) → length (init_out o) ≤ 64
 short_init Version = let l = length-version in omega arith
 short_init (Terms lasting minor readahead flags) = either (nat_lt minor 23) (length-terms lasting minor readahead flags)
   where
-    either : (b : Bool) → length (init_out (Terms lasting minor readahead flags)) ≡ cond b 24 64 → length (init_out (Terms lasting minor readahead flags)) ≤ 64
+    either : (b : Bool) → length (init_out (Terms lasting minor readahead flags)) ≡ cond b 24 64
+        → length (init_out (Terms lasting minor readahead flags)) ≤ 64
     either true e = omega arith
     either false e = omega arith
 
@@ -66,13 +67,15 @@ is_link SymLink e = refl
 is_link _ e = absurd (cc)
 
 -- a layer is the accessible bytes of a sound image
-sound_layer : (bs : List (List ℕ)) (i : ℕ) (a : List ℕ) → All IsSound bs → slice_get (map image bs) i ≡ Some a → (b : List ℕ) × IsSound b × (a ≡ image b)
+sound_layer : (bs : List (List ℕ)) (i : ℕ) (a : List ℕ) → All IsSound bs → slice_get (map image bs) i ≡ Some a → (b : List ℕ) × IsSound b
+    × (a ≡ image b)
 sound_layer [] i a s e = absurd (cc)
 sound_layer (b ∷ bs) zero a s e = (b, All-head IsSound b bs s, (let q : image b ≡ a = cc in sym q))
 sound_layer (b ∷ bs) (suc i) a s e = sound_layer bs i a (All-tail IsSound b bs s) e
 
 -- the data of a symbolic link is no longer than its header says
-link_data : (layers : List (List ℕ)) (p : Place) (n : ℕ) → kind_at layers p ≡ SymLink → size (layer_of layers p) p.1 ≤ n → length (data_of layers p) ≤ n
+link_data : (layers : List (List ℕ)) (p : Place) (n : ℕ) → kind_at layers p ≡ SymLink → size (layer_of layers p) p.1 ≤ n
+    → length (data_of layers p) ≤ n
 unfolding data_of
 link_data layers p n k l =
     let s : size_at layers p ≡ size (layer_of layers p) p.1 = rw k refl in
@@ -90,7 +93,8 @@ module _ (bs : List (List ℕ)) (entries : List Entry) (sound : All IsSound bs) 
   layers = map image bs
 
   -- a symbolic link with a number has a short target
-  short_link : (node : ℕ) (p : Place) → node_of entries node ≡ Some p → kind_at layers p ≡ SymLink → length (data_of layers p) ≤ MAX_TARGET_SIZE
+  short_link : (node : ℕ) (p : Place) → node_of entries node ≡ Some p → kind_at layers p ≡ SymLink → length (data_of layers p)
+      ≤ MAX_TARGET_SIZE
   short_link node p e k =
       let m = number_listed entries node p e in
       let t = subst (λ q. IsLedTo layers q.0 q.1) m.2 (led_to layers entries m.0 l m.1) in
@@ -102,14 +106,18 @@ module _ (bs : List (List ℕ)) (entries : List Entry) (sound : All IsSound bs) 
       link_data layers p MAX_TARGET_SIZE k (subst (λ a. size a p.1 ≤ MAX_TARGET_SIZE) (sym here) short)
 
   -- what is not refused at a node is refused neither by its kind nor by the arguments
-  by_kind : (x : Agreement) (op : NodeOp) (p : Place) → refused_at layers entries x op p ≡ None → (service layers entries x op).by_kind (kind_at layers p) ≡ None
+  by_kind : (x : Agreement) (op : NodeOp) (p : Place) → refused_at layers entries x op p ≡ None
+      → (service layers entries x op).by_kind (kind_at layers p) ≡ None
   by_kind x op p r = let asked = service layers entries x op in (both_none (asked.by_kind (kind_at layers p)) (asked.by_arguments p) r).0
 
-  by_arguments : (x : Agreement) (op : NodeOp) (p : Place) → refused_at layers entries x op p ≡ None → (service layers entries x op).by_arguments p ≡ None
-  by_arguments x op p r = let asked = service layers entries x op in (both_none (asked.by_kind (kind_at layers p)) (asked.by_arguments p) r).1
+  by_arguments : (x : Agreement) (op : NodeOp) (p : Place) → refused_at layers entries x op p ≡ None
+      → (service layers entries x op).by_arguments p ≡ None
+  by_arguments x op p r = let asked = service layers entries x op in
+      (both_none (asked.by_kind (kind_at layers p)) (asked.by_arguments p) r).1
 
   -- rows that are answered fit in 1 MiB
-  short_rows : (form : Row → List ℕ) (rows : List Row) (n : ℕ) → refused_rows form n rows ≡ None → length (flat_map form (fitting form n rows)) ≤ MAX_DATA_SIZE
+  short_rows : (form : Row → List ℕ) (rows : List Row) (n : ℕ) → refused_rows form n rows ≡ None
+      → length (flat_map form (fitting form n rows)) ≤ MAX_DATA_SIZE
   short_rows form rows n r = let a = not_large n (or_parts _ _ (if_none _ _ r)).0 in let f = (front form n rows).fits in omega arith
 
   -- the answer at a place that has a number
@@ -117,7 +125,8 @@ module _ (bs : List (List ℕ)) (entries : List Entry) (sound : All IsSound bs) 
       → length (answer_at layers entries x op p) ≤ MAX_DATA_SIZE
   short_at x node (lookup name) p e r = found (looked_up entries x.export p name)
     where
-      found : (o : Option Place) → length (option_map_or (λ c. entry_out (reply_attr layers entries c)) o negative_entry_out) ≤ MAX_DATA_SIZE
+      found : (o : Option Place) → length (option_map_or (λ c. entry_out (reply_attr layers entries c)) o negative_entry_out)
+          ≤ MAX_DATA_SIZE
       found None = let l = length-negative_entry_out in omega arith
       found (Some c) = let l = length-entry_out (reply_attr layers entries c) in omega arith
   short_at x node getattr p e r = let l = length-attr_out (reply_attr layers entries p) in omega arith
@@ -139,8 +148,10 @@ module _ (bs : List (List ℕ)) (entries : List Entry) (sound : All IsSound bs) 
   short_node x node op (Some p) e r = short_at x node op p e r
 
   -- the answer to a request that is not refused
-  short_answer : (x : Agreement) (node : ℕ) (op : Op) → refused_by_itself layers entries x node op ≡ None → length (answer layers entries x node op) ≤ MAX_DATA_SIZE
-  short_answer x node (init major minor readahead flags) r = let l = short_init (cond (nat_lt 7 major) Version (Terms x.lasting minor readahead flags)) in omega arith
+  short_answer : (x : Agreement) (node : ℕ) (op : Op) → refused_by_itself layers entries x node op ≡ None
+      → length (answer layers entries x node op) ≤ MAX_DATA_SIZE
+  short_answer x node (init major minor readahead flags) r = let l =
+      short_init (cond (nat_lt 7 major) Version (Terms x.lasting minor readahead flags)) in omega arith
   short_answer x node (at_node op) r = short_node x node op (node_of entries node) refl r
   short_answer x node statfs r = let l = length-statfs_out (blocks_all layers) (length (nodes entries)) in omega arith
   short_answer x node _ r = lit≤ tt
@@ -166,8 +177,10 @@ module _ (bs : List (List ℕ)) (entries : List Entry) (sound : All IsSound bs) 
       silent false = replied (refusal layers entries s q.node q.op) refl
 
   -- so it says its length
-  pub said : (s : Session) (q : Asked) → (reply layers entries s q ≡ []) ⊎ (said_length (reply layers entries s q) ≡ length (reply layers entries s q))
+  pub said : (s : Session) (q : Asked) → (reply layers entries s q ≡ [])
+      ⊎ (said_length (reply layers entries s q) ≡ length (reply layers entries s q))
   said s q = elim (headed layers entries s q) [
     | inl e ↦ inl e
-    | inr h ↦ inr (let x = short s q in ap said_length h.is ∙ said_header (length (reply layers entries s q)) h.error q.unique h.rest (omega arith))
+    | inr h ↦ inr (let x = short s q in ap said_length h.is ∙ said_header (length (reply layers entries s q)) h.error q.unique h.rest
+          (omega arith))
   ]

@@ -54,7 +54,8 @@ word_fits a p b =
     let b3 = at 3 in
     omega arith
 
-pub attributes_fit : (layers : List (List ℕ)) (entries : List Entry) (p : Place) → AreLayersOfBytes layers → FitsFields (reply_attr layers entries p)
+pub attributes_fit : (layers : List (List ℕ)) (entries : List Entry) (p : Place) → AreLayersOfBytes layers
+    → FitsFields (reply_attr layers entries p)
 attributes_fit layers entries p b =
     let a = layer_of layers p in
     let s = size_fits (kind_at layers p) (size a p.1) (word_fits a (p.1 + 8) (b.each p.0)) in

@@ -13,7 +13,8 @@ use Rattle.reply_pool.specs.declared.pieces.Piece.{Piece}
 use Rattle.reply_pool.proofs.Summing.{nothing, weight_append}
 
 -- balances stay within a limit and the weight of what was added
-pub still_within : (limit most : ℕ) (moves : List Move) (a b : List ℤ) → AreWithin limit a → IsMoved moves a b → limit + weight moves ≤ most → AreWithin most b
+pub still_within : (limit most : ℕ) (moves : List Move) (a b : List ℤ) → AreWithin limit a → IsMoved moves a b → limit + weight moves ≤ most
+    → AreWithin most b
 still_within limit most moves a b w m h = within_less (limit + weight moves) most b h (within_moved limit moves a b w m)
 
 -- a small amount is as 128 bits hold it
@@ -21,10 +22,12 @@ pub as_held : (z : ℤ) → unsigned_abs z ≤ 2 ^ 112 → to_z w128 (of_z w128 
 as_held z h = to_z-of_z w128 z (fits_signed_from_abs w128 z (omega arith))
 
 -- one move more was added
-pub one_more_move : (xs : List Move) (i : ℕ) (a b c : List ℤ) → i < length xs → IsMoved (take i xs) a b → IsMoved (get_or xs i nothing ∷ []) b c
+pub one_more_move : (xs : List Move) (i : ℕ) (a b c : List ℤ) → i < length xs → IsMoved (take i xs) a b
+    → IsMoved (get_or xs i nothing ∷ []) b c
     → IsMoved (take (i + 1) xs) a c
 one_more_move xs i a b c there m n =
-    subst (λ (ms : List Move). IsMoved ms a c) (sym (take_more xs i nothing there)) (moved_on (take i xs) (get_or xs i nothing ∷ []) a b c m n)
+    subst (λ (ms : List Move). IsMoved ms a c) (sym (take_more xs i nothing there))
+        (moved_on (take i xs) (get_or xs i nothing ∷ []) a b c m n)
 
 module _ {A : Type 0} where
   abbrev pub moves_of : List (Piece A) → List Move
@@ -43,7 +46,8 @@ module _ {A : Type 0} where
   next_light ps i p there is =
       let e = ap weight (told_next (λ (q : Piece A). q.moves.items) ps i p there is) in
       let f = weight_append (moves_of (take i ps)) p.moves.items in
-      let g = ap weight (sym (ap moves_of (take-append-drop (i + 1) ps)) ∙ flat_map-append (λ (q : Piece A). q.moves.items) (take (i + 1) ps) (drop (i + 1) ps)) in
+      let g = ap weight (sym (ap moves_of (take-append-drop (i + 1) ps)) ∙ flat_map-append (λ (q : Piece A). q.moves.items)
+            (take (i + 1) ps) (drop (i + 1) ps)) in
       let h = weight_append (moves_of (take (i + 1) ps)) (moves_of (drop (i + 1) ps)) in
       omega arith
 

@@ -23,11 +23,13 @@ times-cons x y l = sum_by-cons (λ z. one z x) y l
 -- no number outside a range stands in it
 outside : (x a n : ℕ) → x < a → times x (range_with_len a n) ≡ 0
 outside x a zero h = refl
-outside x a (suc n) h = omega (arith, times-cons x a (range_with_len (a + 1) n), one-other a x (λ e. omega arith), outside x (a + 1) n (omega arith))
+outside x a (suc n) h = omega (arith, times-cons x a (range_with_len (a + 1) n), one-other a x (λ e. omega arith),
+      outside x (a + 1) n (omega arith))
 
 beyond : (x a n : ℕ) → a + n ≤ x → times x (range_with_len a n) ≡ 0
 beyond x a zero h = refl
-beyond x a (suc n) h = omega (arith, times-cons x a (range_with_len (a + 1) n), one-other a x (λ e. omega arith), beyond x (a + 1) n (omega arith))
+beyond x a (suc n) h = omega (arith, times-cons x a (range_with_len (a + 1) n), one-other a x (λ e. omega arith),
+      beyond x (a + 1) n (omega arith))
 
 module _ {P : Type 0} (number : P → ℕ) where
   -- a number below the first of a list that does not fall does not stand in it
@@ -43,8 +45,10 @@ module _ {P : Type 0} (number : P → ℕ) where
       → map number l ≡ range_with_len a n
   in_order [] a zero up once = refl
   in_order [] a (suc n) up once = let here = once a in absurd (omega (arith, times-cons a a (range_with_len (a + 1) n), one-same a a refl))
-  in_order (p ∷ l) a zero up once = let here = once (number p) in absurd (omega (arith, times-cons (number p) (number p) (map number l), one-same (number p) (number p) refl))
-  in_order (p ∷ l) a (suc n) up once = λ i. first i ∷ in_order l (a + 1) n (λ i j d le lt. up (suc i) (suc j) d (omega arith) (omega arith)) rest i
+  in_order (p ∷ l) a zero up once = let here = once (number p) in
+      absurd (omega (arith, times-cons (number p) (number p) (map number l), one-same (number p) (number p) refl))
+  in_order (p ∷ l) a (suc n) up once = λ i. first i ∷ in_order l (a + 1) n (λ i j d le lt. up (suc i) (suc j) d (omega arith) (omega arith))
+      rest i
     where
       not_above : number p ≤ a
       not_above = dite (dec_le (number p) a) (λ d. d) (λ d. let gt : a < number p = lt_of_not-le d in

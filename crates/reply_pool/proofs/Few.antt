@@ -77,7 +77,8 @@ module _ (layers : List (List ℕ)) (entries : List Entry) (agreed : Agreement) 
   few_moved (at_node (read offset size)) h = none_moved (node_of entries node)
   few_moved (at_node opendir) h = none_moved (node_of entries node)
   few_moved (at_node (readdir offset size)) h = none_moved (node_of entries node)
-  few_moved (silent (forget nlookup)) h = let one : Forget = record { node = node; nlookup = nlookup } in let f = few_kept (take_back layers entries) (one ∷ []) in omega arith
+  few_moved (silent (forget nlookup)) h = let one : Forget = record { node = node; nlookup = nlookup } in let f =
+      few_kept (take_back layers entries) (one ∷ []) in omega arith
   few_moved (silent (batch_forget items)) h = let f = few_kept (take_back layers entries) items in omega arith
   few_moved (silent interrupt) h = omega arith
   few_moved (init major minor readahead flags) h = omega arith
@@ -87,7 +88,8 @@ module _ (layers : List (List ℕ)) (entries : List Entry) (agreed : Agreement) 
   few_moved other h = omega arith
   few_moved (malformed opcode) h = omega arith
 
-pub few_moves : (layers : List (List ℕ)) (entries : List Entry) (s : Session) (q : Asked) → HasFewItems q.op → length (moves layers entries s q) ≤ 2 ^ 32
+pub few_moves : (layers : List (List ℕ)) (entries : List Entry) (s : Session) (q : Asked) → HasFewItems q.op
+    → length (moves layers entries s q) ≤ 2 ^ 32
 few_moves layers entries s q h = go (is_some (refusal layers entries s q.node q.op))
   where
     go : (refused : Bool) → length (cond refused [] (moved layers entries (agreement_of s) q.node q.op)) ≤ 2 ^ 32

@@ -43,21 +43,26 @@ all_reached jobs size some =
 
 -- how often a number stands among those of two parts
 numbers_told : (total x : ℕ) (xs ys : List ℕ) → times x (numbers total (xs ++ ys)) ≡ times x (numbers total xs) + times x (numbers total ys)
-numbers_told total x xs ys = ap (times x) (filter-append (λ position. nat_lt position total) xs ys) ∙ times-append x (numbers total xs) (numbers total ys)
+numbers_told total x xs ys = ap (times x) (filter-append (λ position. nat_lt position total) xs ys)
+    ∙ times-append x (numbers total xs) (numbers total ys)
 
 -- where one of two hands was in a call, the hand that they become has seen what that one had
-seen_both : (a b n calls more : ℕ) (total : ℕ) → n ≡ max a b → (0 < calls → total ≤ a) → (0 < more → total ≤ b) → 0 < calls + more → total ≤ n
+seen_both : (a b n calls more : ℕ) (total : ℕ) → n ≡ max a b → (0 < calls → total ≤ a) → (0 < more → total ≤ b) → 0 < calls + more
+    → total ≤ n
 seen_both a b n zero more total e p q some = let h = q (omega arith) in omega arith
 seen_both a b n (suc calls) more total e p q some = let h = p (omega arith) in omega arith
 
 -- a number that is drawn is added to them, and a miss is not
-numbers_hit : (total number : ℕ) (added : List ℕ) → number < total → numbers total (added ++ number ∷ []) ≡ numbers total added ++ number ∷ []
+numbers_hit : (total number : ℕ) (added : List ℕ) → number < total → numbers total (added ++ number ∷ []) ≡ numbers total added
+    ++ number ∷ []
 numbers_hit total number added is =
-    filter-append (λ position. nat_lt position total) added (number ∷ []) ∙ ap (λ (xs : List ℕ). numbers total added ++ xs) (ap (λ b. cond b (number ∷ []) []) (lt-ltb number total is))
+    filter-append (λ position. nat_lt position total) added (number ∷ []) ∙ ap (λ (xs : List ℕ). numbers total added ++ xs)
+        (ap (λ b. cond b (number ∷ []) []) (lt-ltb number total is))
 
 pub numbers_miss : (total position : ℕ) (added : List ℕ) → total ≤ position → numbers total (added ++ position ∷ []) ≡ numbers total added
 numbers_miss total position added is =
-    filter-append (λ position. nat_lt position total) added (position ∷ []) ∙ ap (λ (xs : List ℕ). numbers total added ++ xs) (ap (λ b. cond b (position ∷ []) []) (le-ltb position total is))
+    filter-append (λ position. nat_lt position total) added (position ∷ []) ∙ ap (λ (xs : List ℕ). numbers total added ++ xs)
+        (ap (λ b. cond b (position ∷ []) []) (le-ltb position total is))
     ∙ append-nil (numbers total added)
 
 -- a draw that answers nothing was at no number
@@ -75,8 +80,10 @@ module _ {A : Type 0} where
   parts_told x xs ys = ap (times x) (map-append number xs ys) ∙ times-append x (numbers_of xs) (numbers_of ys)
 
   -- pieces in another order have the same numbers
-  order_told : (pieces ordered : List (Piece A)) → AreOrdered pieces ordered → (x : ℕ) → times x (numbers_of ordered) ≡ times x (numbers_of pieces)
-  order_told pieces ordered o x = sum_by-IsPermutation (λ z. one z x) (numbers_of pieces) (numbers_of ordered) (IsPermutation-map number pieces ordered o.same)
+  order_told : (pieces ordered : List (Piece A)) → AreOrdered pieces ordered → (x : ℕ) → times x (numbers_of ordered)
+      ≡ times x (numbers_of pieces)
+  order_told pieces ordered o x = sum_by-IsPermutation (λ z. one z x) (numbers_of pieces) (numbers_of ordered)
+      (IsPermutation-map number pieces ordered o.same)
 
   -- where each number below a count stands once, the pieces in order have these numbers
   pub ordered_numbers : (pieces ordered : List (Piece A)) (n : ℕ) → ((x : ℕ) → times x (numbers_of pieces) ≡ times x (range_with_len 0 n))
@@ -84,16 +91,19 @@ module _ {A : Type 0} where
   ordered_numbers pieces ordered n once o = in_order number ordered 0 n o.rising (λ x. order_told pieces ordered o x ∙ once x)
 
   -- the piece of a number that was drawn is put behind the others
-  pub told_more : (total : ℕ) (added : List ℕ) (pieces all : List (Piece A)) (piece : Piece A) → piece.number < total → all ≡ pieces ++ piece ∷ []
+  pub told_more : (total : ℕ) (added : List ℕ) (pieces all : List (Piece A)) (piece : Piece A) → piece.number < total
+      → all ≡ pieces ++ piece ∷ []
       → numbers_of pieces ≡ numbers total added → numbers_of all ≡ numbers total (added ++ piece.number ∷ [])
   told_more total added pieces all piece is more told =
-      ap numbers_of more ∙ map-append number pieces (piece ∷ []) ∙ ap (λ (xs : List ℕ). xs ++ piece.number ∷ []) told ∙ sym (numbers_hit total piece.number added is)
+      ap numbers_of more ∙ map-append number pieces (piece ∷ []) ∙ ap (λ (xs : List ℕ). xs ++ piece.number ∷ []) told
+          ∙ sym (numbers_hit total piece.number added is)
 
   -- a few light pieces are light together
   pub light_enough : (pieces ordered : List (Piece A)) → AreOrdered pieces ordered → AreEachOnce pieces → AreLight pieces
       → weight (flat_map (λ (p : Piece A). p.moves.items) ordered) ≤ 2 ^ 112
   light_enough pieces ordered o once light =
-      let w = weight_all (λ (p : Piece A). p.moves.items) (2 ^ 104) ordered (All-permutation (λ (p : Piece A). weight p.moves.items ≤ 2 ^ 104) pieces ordered o.same light) in
+      let w = weight_all (λ (p : Piece A). p.moves.items) (2 ^ 104) ordered
+          (All-permutation (λ (p : Piece A). weight p.moves.items ≤ 2 ^ 104) pieces ordered o.same light) in
       let l = length-map ordered number in
       let n = ap length (ordered_numbers pieces ordered once.count once.once o) in
       let r = length-range_with_len 0 once.count in
@@ -102,21 +112,25 @@ module _ {A : Type 0} where
 
   pub joins : {E : Type 0} (pieces ordered : List (Piece A)) (r : Result (Rounded A) E) → AreOrdered pieces ordered
       → IfOk r (λ rounded. rounded.bytes.items ≡ flat_map (λ (p : Piece A). p.bytes.items) ordered)
-      → IfOk r (λ rounded. AreSums (flat_map (λ (p : Piece A). p.moves.items) ordered) rounded.moves.items) → IfOk r (λ rounded. IsJoined pieces rounded)
+      → IfOk r (λ rounded. AreSums (flat_map (λ (p : Piece A). p.moves.items) ordered) rounded.moves.items)
+          → IfOk r (λ rounded. IsJoined pieces rounded)
   joins pieces ordered (Err e) o bytes moves = tt
   joins pieces ordered (Ok rounded) o bytes moves = record { ordered = ordered; order = o; bytes = bytes; moves = moves }
 
   -- two lists of light pieces are light
-  pub light_both : {E : Type 0} (r a b : Result (Vec (Piece A) A) E) → IfOk r (λ v. AreBoth a b v.items) → IfOk a (λ v. AreLight v.items) → IfOk b (λ v. AreLight v.items)
+  pub light_both : {E : Type 0} (r a b : Result (Vec (Piece A) A) E) → IfOk r (λ v. AreBoth a b v.items) → IfOk a (λ v. AreLight v.items)
+      → IfOk b (λ v. AreLight v.items)
       → IfOk r (λ v. AreLight v.items)
   light_both (Err e) a b m p q = tt
   light_both (Ok v) (Err e) b m p q = absurd m
   light_both (Ok v) (Ok x) (Err e) m p q = absurd m
-  light_both (Ok v) (Ok x) (Ok y) m p q = subst AreLight (sym m) (All-append (λ (p : Piece A). weight p.moves.items ≤ 2 ^ 104) x.items y.items p q)
+  light_both (Ok v) (Ok x) (Ok y) m p q =
+      subst AreLight (sym m) (All-append (λ (p : Piece A). weight p.moves.items ≤ 2 ^ 104) x.items y.items p q)
 
   module _ (stack : Stacked) (jobs : List Job) (size : ℕ) where
     -- what a batch is answered with is a piece of its number
-    pub piece_of : (rounded : Rounded A) (piece : Piece A) (js : List Job) → IsRounded stack js rounded → js ≡ batch_of size piece.number jobs
+    pub piece_of : (rounded : Rounded A) (piece : Piece A) (js : List Job) → IsRounded stack js rounded
+        → js ≡ batch_of size piece.number jobs
         → piece.bytes ≡ rounded.bytes → piece.moves ≡ rounded.moves → IsPiece stack jobs size piece
     piece_of rounded piece js told is bytes moves = record {
       replies = ap (λ (v : Vec ℕ A). v.items) bytes ∙ told.replies ∙ ap (flat_map (reply_to stack)) is;
@@ -126,12 +140,15 @@ module _ {A : Type 0} where
 
     -- the pieces in order reply to all jobs
     pub whole : (pieces : List (Piece A)) → 1 ≤ size → All (IsPiece stack jobs size) pieces
-        → ((x : ℕ) → times x (numbers_of pieces) ≡ times x (range_with_len 0 (batches size (length jobs)))) → AreWhole stack jobs size pieces
+        → ((x : ℕ) → times x (numbers_of pieces) ≡ times x (range_with_len 0 (batches size (length jobs))))
+            → AreWhole stack jobs size pieces
     whole pieces some each once = record {
       once = once;
-      replies = λ ordered o. (all_told number size jobs (λ (p : Piece A). p.bytes.items) (reply_to stack) ordered 0 (batches size (length jobs))
+      replies = λ ordered o. (all_told number size jobs (λ (p : Piece A). p.bytes.items) (reply_to stack) ordered 0
+            (batches size (length jobs))
           (ordered_numbers pieces ordered (batches size (length jobs)) once o)
-          (All-weaker (IsPiece stack jobs size) _ (λ p is. is.replies) ordered (All-permutation (IsPiece stack jobs size) pieces ordered o.same each))
+          (All-weaker (IsPiece stack jobs size) _ (λ p is. is.replies) ordered
+                (All-permutation (IsPiece stack jobs size) pieces ordered o.same each))
           (all_reached jobs size some) ∙ ap (flat_map (reply_to stack)) (all_jobs jobs size));
     }
 
@@ -150,7 +167,8 @@ module _ {A : Type 0} where
     all_move pieces ordered node some each once o =
         all_moved number size jobs (λ (p : Piece A). p.moves.items) (moved_by stack) node ordered 0 (batches size (length jobs))
         (ordered_numbers pieces ordered (batches size (length jobs)) once o)
-        (All-weaker (IsPiece stack jobs size) _ (λ p is. is.sums.each node) ordered (All-permutation (IsPiece stack jobs size) pieces ordered o.same each))
+        (All-weaker (IsPiece stack jobs size) _ (λ p is. is.sums.each node) ordered
+              (All-permutation (IsPiece stack jobs size) pieces ordered o.same each))
         (all_reached jobs size some) ∙ ap (λ (js : List Job). balance node (flat_map (moved_by stack) js)) (all_jobs jobs size)
 
     -- pieces that are put in order come to the round of all jobs
@@ -188,7 +206,8 @@ module _ {A : Type 0} where
       }
 
       -- and where both have all theirs, it has all of its own
-      pub both_all : {E : Type 0} (mine others new : Hand) (r a b : Result (Vec (Piece A) A) E) → Unites (positions mine) (positions others) (positions new)
+      pub both_all : {E : Type 0} (mine others new : Hand) (r a b : Result (Vec (Piece A) A) E) → Unites (positions mine) (positions others)
+          (positions new)
           → seen_below new ≡ max (seen_below mine) (seen_below others) → IfOk r (λ v. AreBoth a b v.items)
           → IfOk a (λ v. HasAll stack jobs size board mine v.items) → IfOk b (λ v. HasAll stack jobs size board others v.items)
           → IfOk r (λ v. HasAll stack jobs size board new v.items)
@@ -226,20 +245,23 @@ module _ {A : Type 0} where
         },
         λ some. d.every,
       )
-      alone (takes {old = old} {other = other} {new = new} {mine = mine} {others = others} {calls = calls} {more = more} v w u t) = let g = alone v in let h = alone w in (
+      alone (takes {old = old} {other = other} {new = new} {mine = mine} {others = others} {calls = calls} {more = more} v w u t) = let g =
+          alone v in let h = alone w in (
         both_of old other new mine others u g.0 h.0,
         seen_both (seen_below old) (seen_below other) (seen_below new) calls more (total_of board) t.seen g.1 h.1,
       )
 
       -- once the last hand is closed each number stands once
-      pub closed : (hand : Hand) (pieces : List (Piece A)) (draws : ℕ) → AreOf stack jobs size board hand pieces → total_of board ≤ seen_below hand
+      pub closed : (hand : Hand) (pieces : List (Piece A)) (draws : ℕ) → AreOf stack jobs size board hand pieces
+          → total_of board ≤ seen_below hand
           → IsLast hand draws → (x : ℕ) → times x (numbers_of pieces) ≡ times x (range_with_len 0 (total_of board))
       closed hand pieces draws are every last x =
           are.told x ∙ ap (λ (ps : List ℕ). times x (numbers (total_of board) ps)) last.positions
           ∙ ap (times x) (all_numbers (total_of board) draws (let s = last.seen in omega arith))
 
       -- and each batch is answered once
-      pub every_batch : {E : Type 0} (r : Result (Vec (Piece A) A) E) (hand : Hand) (draws : ℕ) → total_of board ≡ batches size (length jobs)
+      pub every_batch : {E : Type 0} (r : Result (Vec (Piece A) A) E) (hand : Hand) (draws : ℕ)
+          → total_of board ≡ batches size (length jobs)
           → IfOk r (λ v. HasAll stack jobs size board hand v.items) → IfOk r (λ v. AreLight v.items) → IsLast hand draws
           → IfOk r (λ v. AnswerAll stack jobs size v.items)
       every_batch (Err e) hand draws same all light last = tt

@@ -139,7 +139,8 @@ module _ (body : List ℕ) (b : AreBytes body) where
                                     (
                                       sized_modest BATCH_FORGET 8 (λ body. silent (batch_forget (forgets_of body))) batch_modest,
                                       (
-                                        sized_modest READDIRPLUS 40 (λ body. at_node (readdirplus (field 8 8 body) (field 4 16 body))) (narrow 16 body b),
+                                        sized_modest READDIRPLUS 40 (λ body. at_node (readdirplus (field 8 8 body) (field 4 16 body)))
+                                            (narrow 16 body b),
                                         tt,
                                       ),
                                     ),
@@ -170,7 +171,8 @@ module _ (body : List ℕ) (b : AreBytes body) where
       go false = found_modest opcode served served_modest
 
 -- as many rows as are answered are no more than the size
-pub fitting_few : (form : Row → List ℕ) → ((r : Row) → 1 ≤ length (form r)) → (room : ℕ) (rows : List Row) → length (fitting form room rows) ≤ room
+pub fitting_few : (form : Row → List ℕ) → ((r : Row) → 1 ≤ length (form r)) → (room : ℕ) (rows : List Row) → length (fitting form room rows)
+    ≤ room
 fitting_few form some room [] = omega arith
 fitting_few form some room (r ∷ rows) = go (nat_le (length (form r)) room) refl (fitting_few form some (room - length (form r)) rows)
   where
@@ -185,7 +187,8 @@ module _ (layers : List (List ℕ)) (entries : List Entry) where
   weight_given (r ∷ rows) = go (is_child r) (weight_given rows)
     where
       go : (child : Bool) → weight (map (λ (r : Row). give layers entries r.1.place) (filter is_child rows)) ≤ length rows
-          → weight (map (λ (r : Row). give layers entries r.1.place) (cond child (r ∷ filter is_child rows) (filter is_child rows))) ≤ suc (length rows)
+          → weight (map (λ (r : Row). give layers entries r.1.place) (cond child (r ∷ filter is_child rows) (filter is_child rows)))
+              ≤ suc (length rows)
       go true l = omega (arith, ints)
       go false l = omega arith
 
@@ -196,7 +199,8 @@ module _ (layers : List (List ℕ)) (entries : List Entry) where
       let l = length-direntplus entry (number entries r.1.place) r.0 (mode layers r.1.place / 2 ^ 12) r.1.name in
       omega arith
 
-  weight_taken : (f : Forget) (rest : List Move) → f.nlookup < 2 ^ 64 → weight (cons_option (take_back layers entries f) rest) ≤ 2 ^ 64 + weight rest
+  weight_taken : (f : Forget) (rest : List Move) → f.nlookup < 2 ^ 64 → weight (cons_option (take_back layers entries f) rest) ≤ 2 ^ 64
+      + weight rest
   weight_taken f rest small = go (node_of entries f.node)
     where
       go : (o : Option Place) → weight (cons_option (option_map
@@ -218,7 +222,8 @@ module _ (layers : List (List ℕ)) (entries : List Entry) where
     nothing_given None = omega arith
     nothing_given (Some p) = omega arith
 
-    lookup_given : (name : List ℕ) (o : Option Place) → weight (option_map_or (gives_at layers entries agreed (lookup name)) o []) ≤ 2 ^ 64 * bytes
+    lookup_given : (name : List ℕ) (o : Option Place) → weight (option_map_or (gives_at layers entries agreed (lookup name)) o [])
+        ≤ 2 ^ 64 * bytes
     lookup_given name None = omega arith
     lookup_given name (Some p) = go (looked_up entries agreed.export p name)
       where
@@ -257,7 +262,8 @@ module _ (layers : List (List ℕ)) (entries : List Entry) where
       modest : IsModest (length body) (asked m).op
       modest = op_modest body (bytes_after HEADER_SIZE m b) (field 4 4 m)
 
-      go : (refused : Bool) → weight (cond refused [] (moved layers entries (agreement_of s) (asked m).node (asked m).op)) ≤ 2 ^ 64 * length m
+      go : (refused : Bool) → weight (cond refused [] (moved layers entries (agreement_of s) (asked m).node (asked m).op))
+          ≤ 2 ^ 64 * length m
       go true = omega arith
       go false = moved_light (length m) (omega arith) (agreement_of s) (asked m).node (asked m).op (larger (asked m).op modest)
         where

@@ -29,7 +29,8 @@ first_balance m moves all =
     let rest = none_above m.node moves all in
     omega (arith, ints)
 
-further : (low high : ℕ) (moves : List Move) → low < high → AllByRecursion (λ m. high < m.node) moves → AllByRecursion (λ m. low < m.node) moves
+further : (low high : ℕ) (moves : List Move) → low < high → AllByRecursion (λ m. high < m.node) moves
+    → AllByRecursion (λ m. low < m.node) moves
 further low high [] lt all = tt
 further low high (m ∷ moves) lt all = let a : high < m.node = all.0 in (omega arith, further low high moves lt all.1)
 
@@ -52,7 +53,8 @@ one_list (x ∷ xs) (y ∷ ys) a b some more same =
         | inr gt ↦ absurd (not_lower y x ys xs b a more.0 (sym (same y.node)) gt)
       ]
     ] in
-    let amount : x.amount ≡ y.amount = sym (first_balance x xs a.0) ∙ same x.node ∙ ap (λ n. balance n (y ∷ ys)) node ∙ first_balance y ys b.0 in
+    let amount : x.amount ≡ y.amount = sym (first_balance x xs a.0) ∙ same x.node ∙ ap (λ n. balance n (y ∷ ys)) node
+        ∙ first_balance y ys b.0 in
     let rest : (n : ℕ) → balance n xs ≡ balance n ys = λ n. (
     let e = same n in
     let f : cond (x.node == n) x.amount (pos 0) ≡ cond (y.node == n) y.amount (pos 0) =

@@ -49,7 +49,8 @@ pub one_taken : (s : Session) (stream : List ℕ) (round : Round) (js all : List
     → AreFirstJobs s stream (record { used = round.used + len; messages = round.messages + 1; session = after }) all
 one_taken s stream round js all rest len after job f e begins before asks next more =
     let m : List ℕ = take len rest in
-    let there : AreFirst (drop round.used stream) (m ∷ []) len = subst (λ (r : List ℕ). AreFirst r (m ∷ []) len) e (one_first rest len begins) in
+    let there : AreFirst (drop round.used stream) (m ∷ []) len = subst (λ (r : List ℕ). AreFirst r (m ∷ []) len) e
+        (one_first rest len begins) in
     record {
       messages = f.messages ++ m ∷ [];
       first = first_on stream f.messages (m ∷ []) round.used len f.first there;
@@ -125,7 +126,8 @@ pub by_jobs : {A : Type 0} (first : Session) (stack : Stacked) (s : Session) (st
     → AreAppended pieces old new b → AppendsRound (answering first stack) s stream round old new b
 by_jobs first stack s stream round jobs size pieces old new b some bytes f o a p = (
   replies_by (reply stack.layers stack.entries) s (map asked f.messages),
-  p.bytes ∙ ap (λ (v : List ℕ). old ++ v) ((whole stack jobs size pieces some a.answered a.once).replies p.ordered p.order ∙ jobs_told stack s f.messages jobs f.as_jobs),
+  p.bytes ∙ ap (λ (v : List ℕ). old ++ v) ((whole stack jobs size pieces some a.answered a.once).replies p.ordered p.order
+        ∙ jobs_told stack s f.messages jobs f.as_jobs),
   record {
     messages = f.messages;
     first = f.first;
@@ -133,17 +135,21 @@ by_jobs first stack s stream round jobs size pieces old new b some bytes f o a p
     answered = record {
       session = f.session;
       told = refl;
-      moves = moved_same (flat_map (λ piece. piece.moves.items) p.ordered) (moves_by (moves stack.layers stack.entries) s (map asked f.messages)) b.old b.new
-          (λ node. (all_move stack jobs size pieces p.ordered node some a.answered a.once p.order ∙ ap (balance node) (jobs_moved stack s f.messages jobs f.as_jobs))) p.moves;
+      moves = moved_same (flat_map (λ piece. piece.moves.items) p.ordered) (moves_by (moves stack.layers stack.entries) s
+            (map asked f.messages)) b.old b.new
+          (λ node. (all_move stack jobs size pieces p.ordered node some a.answered a.once p.order
+                ∙ ap (balance node) (jobs_moved stack s f.messages jobs f.as_jobs))) p.moves;
       light = messages_light stack s f.messages f.first.each
-          (front_bytes (joined f.messages) (drop round.used stream) (subst (λ (v : List ℕ). (k : ℕ) → slice_index v k < 256) f.first.whole bytes));
+          (front_bytes (joined f.messages) (drop round.used stream) (subst (λ (v : List ℕ). (k : ℕ) → slice_index v k < 256) f.first.whole
+                bytes));
     };
     some = elim o [ inl h ↦ inl (let k = f.count in omega arith) | inr r ↦ inr r ];
   },
 )
 
 -- the same of what workers gave back
-pub by_spread : {A : Type 0} (first : Session) (stack : Stacked) (s : Session) (stream : List ℕ) (spread : Spread A) (old new : List ℕ) (b : Balances)
+pub by_spread : {A : Type 0} (first : Session) (stack : Stacked) (s : Session) (stream : List ℕ) (spread : Spread A) (old new : List ℕ)
+    (b : Balances)
     → SpreadsOut stack s stream spread → AreAppended spread.pieces.items old new b
     → AppendsRound (answering first stack) s stream spread.round old new b
 by_spread first stack s stream spread old new b o a =

@@ -36,7 +36,8 @@ numbered Deep = refl
 pub one_rule : (r s : Rule) → rule_number r ≡ rule_number s → r ≡ s
 one_rule r s e = sym (numbered r) ∙ ap (λ n. get_or rules n Short) e ∙ numbered s
 
-pub one_fault : (profile : Profile) (b : List ℕ) (r s : Rule) (p q : ℕ) → IsFaultAs profile b r p → IsFaultAs profile b s q → (r ≡ s) × (p ≡ q)
+pub one_fault : (profile : Profile) (b : List ℕ) (r s : Rule) (p q : ℕ) → IsFaultAs profile b r p → IsFaultAs profile b s q
+    → (r ≡ s) × (p ≡ q)
 one_fault profile b r s p q x y =
     elim (cases_order (stage r) (stage s)) [
       | inr (inl h) ↦ absurd (y.first r p x.broken (inl h))

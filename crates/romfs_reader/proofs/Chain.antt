@@ -96,7 +96,8 @@ module _ (a : List ℕ) (d start : ℕ) (good : IsGood a d) (begins : IsStart a 
   ends = go (places a) 0 (omega arith) begins.some
 
   -- the chain from position n on, walked along
-  onto : (m n at : ℕ) → EndsWithin a m at → (at ≢ 0 → IsAt a d n at) → (k h : ℕ) → slice_get (chain_from a m at) k ≡ Some h → IsAt a d (n + k) h
+  onto : (m n at : ℕ) → EndsWithin a m at → (at ≢ 0 → IsAt a d n at) → (k h : ℕ) → slice_get (chain_from a m at) k ≡ Some h
+      → IsAt a d (n + k) h
   onto zero n at e x k h g = absurd (cc)
   onto (suc m) n at (inl z) x k h g = let s : slice_get {X = ℕ} [] k ≡ Some h = rw z at g in absurd (cc)
   onto (suc m) n at (inr y) x zero h g =

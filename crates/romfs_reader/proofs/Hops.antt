@@ -160,7 +160,8 @@ count_is a (suc n) (suc k) h x l = test (count_is a n k (destination a h) x.1 (o
     test e (inl y) = ap suc e
     test e (inr m) = absurd (m x.0)
 
-step_down : (a : List ℕ) (n k h : ℕ) → IsHardLink a h → IsOut a k h → k ≤ n → LeavesWithin a n (destination a h) × (count a n (destination a h) < count a n h)
+step_down : (a : List ℕ) (n k h : ℕ) → IsHardLink a h → IsOut a k h → k ≤ n → LeavesWithin a n (destination a h)
+    × (count a n (destination a h) < count a n h)
 unfolding IsOut
 step_down a n zero h l x f = absurd (x l)
 step_down a n (suc k) h l x f =
@@ -169,7 +170,8 @@ step_down a n (suc k) h l x f =
     (record { steps = k; few = omega arith; out = x.1 }, omega arith)
 
 -- a step along a hard link
-pub hops : (a : List ℕ) (n h : ℕ) → IsHardLink a h → LeavesWithin a n h → LeavesWithin a n (destination a h) × (count a n (destination a h) < count a n h)
+pub hops : (a : List ℕ) (n h : ℕ) → IsHardLink a h → LeavesWithin a n h → LeavesWithin a n (destination a h)
+    × (count a n (destination a h) < count a n h)
 hops a n h l w = step_down a n w.steps h l w.out w.few
 
 -- a chain that is not on a hard link has left them

@@ -81,7 +81,8 @@ module _ (a : List ℕ) (d : ℕ) where
 
   pub kept_has : (hs : List ℕ) (n h : ℕ) → slice_get hs n ≡ Some h → passes_over a d h ≡ false → Contains (kept a d hs) (head_of a h)
   kept_has [] n h e p = absurd (cc)
-  kept_has (g ∷ hs) zero h e p = let q : g ≡ h = cc in subst (λ x. Contains (kept a d (x ∷ hs)) (head_of a h)) (sym q) (rw p (zero, omega arith, refl))
+  kept_has (g ∷ hs) zero h e p = let q : g ≡ h = cc in subst (λ x. Contains (kept a d (x ∷ hs)) (head_of a h)) (sym q)
+      (rw p (zero, omega arith, refl))
   kept_has (g ∷ hs) (suc n) h e p = test (kept_has hs n h e p) (passes_over a d g) refl
     where
       test : Contains (kept a d hs) (head_of a h) → (b : Bool) → passes_over a d g ≡ b → Contains (kept a d (g ∷ hs)) (head_of a h)
@@ -108,7 +109,8 @@ module _ (a : List ℕ) (d : ℕ) (hs : List ℕ) (i : IsImage a) (o : IsOpened 
   are_members = record {
     listed = (hs, l, refl);
     members = kept_all a d (λ head. IsMember a d head.offset) hs member;
-    whole = λ h m. (let c = m.in_chain in kept_has a d hs c.0 h ((l.each c.0 h).1 c.1) (not_passed _ (λ e. m.kept (passed a d h (inside c.0 h c.1) e))));
+    whole = λ h m. (let c = m.in_chain in kept_has a d hs c.0 h ((l.each c.0 h).1 c.1)
+          (not_passed _ (λ e. m.kept (passed a d h (inside c.0 h c.1) e))));
   }
 
   -- and the image gives them

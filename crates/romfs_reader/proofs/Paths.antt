@@ -14,9 +14,11 @@ use Rattle.romfs_reader.specs.Walks.{chain_from, places}
 use Rattle.romfs_reader.proofs.Chain.{IsStart, at_before, listed}
 use Rattle.romfs_reader.proofs.Keeps.{whole, good, reached_inside, member_reached}
 
-in_flat : (f : ℕ → List (List (List ℕ))) (xs : List ℕ) (k c : ℕ) (p : List (List ℕ)) → slice_get xs k ≡ Some c → Contains (f c) p → Contains (flat_map f xs) p
+in_flat : (f : ℕ → List (List (List ℕ))) (xs : List ℕ) (k c : ℕ) (p : List (List ℕ)) → slice_get xs k ≡ Some c → Contains (f c) p
+    → Contains (flat_map f xs) p
 in_flat f [] k c p e m = absurd (cc)
-in_flat f (x ∷ xs) zero c p e m = let i : x ≡ c = cc in Contains-append_left (f x) (flat_map f xs) p (subst (λ y. Contains (f y) p) (sym i) m)
+in_flat f (x ∷ xs) zero c p e m = let i : x ≡ c = cc in Contains-append_left (f x) (flat_map f xs) p
+    (subst (λ y. Contains (f y) p) (sym i) m)
 in_flat f (x ∷ xs) (suc k) c p e m = Contains-append_right (f x) (flat_map f xs) p (in_flat f xs k c p e m)
 
 in_below : (n : List ℕ) (ps : List (List (List ℕ))) (p : List (List ℕ)) → Contains ps p → Contains (map (λ q. n ∷ q) ps) (n ∷ p)
@@ -41,8 +43,10 @@ module _ (a : List ℕ) (i : IsImage a) where
   one_member : (d g h : ℕ) (n : List ℕ) → IsMember a d g → IsMember a d h → name a g ≡ Some n → name a h ≡ Some n → g ≡ h
   one_member d g h n x y e f = elim (cases_order g h) [
     | inl s ↦ s
-    | inr (inl l) ↦ absurd (keeps_names h (g, (l, (d, x, y), (member_inside d g x, some_name g n e), (member_inside d h y, some_name h n f), e ∙ sym f)))
-    | inr (inr l) ↦ absurd (keeps_names g (h, (l, (d, y, x), (member_inside d h y, some_name h n f), (member_inside d g x, some_name g n e), f ∙ sym e)))
+    | inr (inl l) ↦ absurd (keeps_names h (g, (l, (d, x, y), (member_inside d g x, some_name g n e), (member_inside d h y, some_name h n f),
+          e ∙ sym f)))
+    | inr (inr l) ↦ absurd (keeps_names g (h, (l, (d, y, x), (member_inside d h y, some_name h n f), (member_inside d g x, some_name g n e),
+          f ∙ sym e)))
   ]
 
   pub one_header : (path : List (List ℕ)) (d g h : ℕ) → Leads a d path g → Leads a d path h → g ≡ h
@@ -95,4 +99,5 @@ pub ruleset path_laws = (one_header, short, all_paths)
 -- names lead nowhere, or to a member
 pub leads_to : (a : List ℕ) (path : List (List ℕ)) (d h : ℕ) → Leads a d path h → (d ≡ h) ⊎ IsSomeMember a h
 leads_to a [] d h l = inl l
-leads_to a (n ∷ path) d h (c, m, f, l) = elim (leads_to a path c h l) [ inl e ↦ inr (subst (λ x. IsSomeMember a x) e (d, m)) | inr x ↦ inr x ]
+leads_to a (n ∷ path) d h (c, m, f, l) =
+    elim (leads_to a path c h l) [ inl e ↦ inr (subst (λ x. IsSomeMember a x) e (d, m)) | inr x ↦ inr x ]

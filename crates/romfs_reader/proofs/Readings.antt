@@ -41,12 +41,14 @@ given_place a i r h m g y e =
       | inl s ↦ inl (found r m q ((let t = from_aligned a i h f in omega arith), (from_inside a i h f, s)))
     ]
   where
-    found : (r : Option Head) → MatchOption r (¬ IsPlace a h) (λ head. IsPlace a h × (head ≡ head_of a h)) → g ≡ head_of a h → IsPlace a h → r ≡ Some g
+    found : (r : Option Head) → MatchOption r (¬ IsPlace a h) (λ head. IsPlace a h × (head ≡ head_of a h)) → g ≡ head_of a h → IsPlace a h
+        → r ≡ Some g
     found None m q p = absurd (m p)
     found (Some x) m q p = ap Some (m.1 ∙ sym q)
 
 -- the name of a header that is given
-name_bytes : (a : List ℕ) (h : ℕ) → h + 16 ≤ length a → (h + 16 + length (name_of a h) ≤ length a) × (bytes_at a (h + 16) (length (name_of a h)) ≡ name_of a h)
+name_bytes : (a : List ℕ) (h : ℕ) → h + 16 ≤ length a → (h + 16 + length (name_of a h) ≤ length a)
+    × (bytes_at a (h + 16) (length (name_of a h)) ≡ name_of a h)
 unfolding bytes_at
 name_bytes a h l = test (name a h) refl
   where
@@ -70,7 +72,8 @@ given_name a head g =
 -- the data of a header that is given
 inside_data : (a : List ℕ) (i : IsImage a) (h : ℕ) → From a h → HasData a h → data_at h (name_of a h) + size a h ≤ length a
 inside_data a i h f d = elim (used a i h f) [
-  | inl e ↦ absurd (let k : kind a h ≡ Directory = subst (λ x. kind a x ≡ Directory) (sym e) (root_directory a i) in elim d [ inl q ↦ cc | inr q ↦ cc ])
+  | inl e ↦ absurd (let k : kind a h ≡ Directory = subst (λ x. kind a x ≡ Directory) (sym e) (root_directory a i) in
+        elim d [ inl q ↦ cc | inr q ↦ cc ])
   | inr u ↦ elim (cases_order (length a) (data_at h (name_of a h) + size a h)) [
     | inl e ↦ omega arith
     | inr (inl l) ↦ absurd (not_data_outside a i h ((from_inside a i h f, u), d, named (name a h) refl l))
@@ -78,14 +81,17 @@ inside_data a i h f d = elim (used a i h f) [
   ]
 ]
   where
-    named : (o : Option (List ℕ)) → o ≡ name a h → length a < data_at h (unwrap_or o []) + size a h → IsSomeAnd o (λ n. length a < data_at h n + size a h)
+    named : (o : Option (List ℕ)) → o ≡ name a h → length a < data_at h (unwrap_or o []) + size a h
+        → IsSomeAnd o (λ n. length a < data_at h n + size a h)
     named (Some n) e l = l
     named None e l = absurd (
-        let n : h ≢ root a = (λ q. let k : kind a h ≡ Directory = subst (λ x. kind a x ≡ Directory) (sym q) (root_directory a i) in elim d [ inl r ↦ cc | inr r ↦ cc ]) in
+        let n : h ≢ root a = (λ q. let k : kind a h ≡ Directory = subst (λ x. kind a x ≡ Directory) (sym q) (root_directory a i) in
+              elim d [ inl r ↦ cc | inr r ↦ cc ]) in
         let s : IsSome (name a h) = from_named a i h f n in
         let t = rw (← e) at s in cc)
 
-has_data : (k : Kind) → (k ≡ Regular) ⊎ (k ≡ SymLink) → (a : List ℕ) (h : ℕ) → data_of_kind k a h ≡ bytes_at a (data_at h (name_of a h)) (size a h)
+has_data : (k : Kind) → (k ≡ Regular) ⊎ (k ≡ SymLink) → (a : List ℕ) (h : ℕ) → data_of_kind k a h ≡ bytes_at a (data_at h (name_of a h))
+    (size a h)
 has_data k (inl e) a h = rw e refl
 has_data k (inr e) a h = rw e refl
 
@@ -154,10 +160,12 @@ module _ (a : List ℕ) (i : IsImage a) (head : Head) (g : IsGiven a head) (k : 
     only = λ x f. f.0 ∙ ap cleared (sym spec_is) ∙ sym c;
   }
 
-  pub empty_members : (h : ℕ) → h ≡ cleared head.spec → h ≡ head.offset → h ≢ root a → AreMembers a head.offset (members_from a head.offset 0)
+  pub empty_members : (h : ℕ) → h ≡ cleared head.spec → h ≡ head.offset → h ≢ root a
+      → AreMembers a head.offset (members_from a head.offset 0)
   empty_members h c e n = (starts 0 (itself h c e n)).0
 
-  pub chain_members : (h : ℕ) → h ≡ cleared head.spec → (h ≡ head.offset → h ≡ root a) → AreMembers a head.offset (members_from a head.offset h)
+  pub chain_members : (h : ℕ) → h ≡ cleared head.spec → (h ≡ head.offset → h ≡ root a)
+      → AreMembers a head.offset (members_from a head.offset h)
   chain_members h c t = (starts h (onward h c t)).0
 
   pub chain_given : (h : ℕ) → h ≡ cleared head.spec → (h ≡ head.offset → h ≡ root a) → All (λ x. IsGiven a x) (members_from a head.offset h)

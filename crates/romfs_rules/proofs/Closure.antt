@@ -38,7 +38,8 @@ module _ (a : List ℕ) where
   leads_on h g e (down z o f) = record { dir = h; other = z; opened = opened_in a h (inr e) z o; in_chain = (zero, f) }
 
   seeded : (g : ℕ) → IsStart a g → IsElsewhere a g
-  seeded g s = record { dir = s.dir; other = s.other; opened = opened_in a s.dir (inl s.in_chain) s.other s.opens; in_chain = (zero, s.first) }
+  seeded g s = record { dir = s.dir; other = s.other; opened = opened_in a s.dir (inl s.in_chain) s.other s.opens; in_chain =
+        (zero, s.first) }
 
   -- where nothing is left to come, all is marked
   module _ (marks : List Bool) (w : Walked a [] marks) where
@@ -50,7 +51,8 @@ module _ (a : List ℕ) where
     at_marked : (d n h : ℕ) → IsAt a d n h → IsMarked marks h → (g : ℕ) → LeadsOn a h g → IsInside a g → IsMarked marks g
     at_marked d n h x m g l i = settled g i (w.closed (h / 16) g m (subst (λ y. LeadsOn a y g) (sym (cleared_at a d n h x)) l))
 
-    along : (d : ℕ) → ((g : ℕ) → IsFirst a d g → IsInside a g → IsMarked marks g) → (n h : ℕ) → IsAt a d n h → IsInside a h → IsMarked marks h
+    along : (d : ℕ) → ((g : ℕ) → IsFirst a d g → IsInside a g → IsMarked marks g) → (n h : ℕ) → IsAt a d n h → IsInside a h
+        → IsMarked marks h
     along d f zero h x i = f h x i
     along d f (suc n) h x i = at_marked d n x.0 x.1 (along d f n x.0 x.1 x.2.0) h (on x.2) i
 
@@ -65,11 +67,13 @@ module _ (a : List ℕ) where
         opens = record { inside = s; kind = t; kept = λ q. p (inr q) };
         first = f;
       }))
-      | inr e ↦ at_marked c k.0 d k.1 (along c (λ h x. firsts c h o e x) k.0 d k.1 s) g (down z (record { inside = s; kind = t; kept = λ q. p (inr q) }) f) i
+      | inr e ↦ at_marked c k.0 d k.1 (along c (λ h x. firsts c h o e x) k.0 d k.1 s) g
+          (down z (record { inside = s; kind = t; kept = λ q. p (inr q) }) f) i
     ]
 
     pub all_marked : AreMarks a (IsElsewhere a) marks
-    all_marked = record { sized = w.sized; each = w.each; all = λ h e i. along e.dir (λ g x. firsts e.dir g e.opened e.other x) e.in_chain.0 h e.in_chain.1 i }
+    all_marked = record { sized = w.sized; each = w.each; all = λ h e i. along e.dir (λ g x. firsts e.dir g e.opened e.other x) e.in_chain.0
+          h e.in_chain.1 i }
 
   module _ (todo : List ℕ) (marks : List Bool) where
     -- a word that is settled is let go
@@ -189,7 +193,8 @@ led a at n f before middle after next first m k = record {
 -- the seeds of the slots before n
 pub record Seeded (a : List ℕ) (root_chain : List Bool) (n : ℕ) (todo : List ℕ) : Type 0 where
   pub each : (g : ℕ) → Contains todo g → IsStart a g
-  pub all : (k g : ℕ) → k < n → get_or root_chain k false ≡ true → k * 16 ≢ root a → Opens a (k * 16) → IsFirst a (k * 16) g → Contains todo g
+  pub all : (k g : ℕ) → k < n → get_or root_chain k false ≡ true → k * 16 ≢ root a → Opens a (k * 16) → IsFirst a (k * 16) g
+      → Contains todo g
 
 module _ (a : List ℕ) (root_chain : List Bool) (r : AreMarks a (IsInRootChain a) root_chain) where
   pub unseeded : Seeded a root_chain 0 []
@@ -206,11 +211,13 @@ module _ (a : List ℕ) (root_chain : List Bool) (r : AreMarks a (IsInRootChain 
     }
 
     pub seeds_more : get_or root_chain n false ≡ true → (w : Option ℕ) (after : List ℕ)
-        → IsTheOne (λ g. (n * 16 ≢ root a) × Opens a (n * 16) × IsFirst a (n * 16) g) w → after ≡ todo ++ option_to_list w → Seeded a root_chain (n + 1) after
+        → IsTheOne (λ g. (n * 16 ≢ root a) × Opens a (n * 16) × IsFirst a (n * 16) g) w → after ≡ todo ++ option_to_list w
+            → Seeded a root_chain (n + 1) after
     seeds_more m w after one is = rw is (record {
       each = λ g c. elim (Contains-append_cases todo (option_to_list w) g c) [
         | inl x ↦ s.each g x
-        | inr x ↦ (let z = (one.each g).0 (some_has w g x) in record { dir = n * 16; in_chain = (r.each n m).0; other = z.0; opens = z.1; first = z.2 })
+        | inr x ↦ (let z = (one.each g).0 (some_has w g x) in record { dir = n * 16; in_chain = (r.each n m).0; other = z.0; opens = z.1;
+              first = z.2 })
       ];
       all = λ k g l q z o f. elim (cases_eq k n) [
         | inl e ↦ Contains-append_right todo (option_to_list w) g
@@ -221,7 +228,8 @@ module _ (a : List ℕ) (root_chain : List Bool) (r : AreMarks a (IsInRootChain 
     })
 
   -- over slots that are not in the set
-  pub passed_to : (low high : ℕ) (todo : List ℕ) → low ≤ high → IsClear root_chain low high → Seeded a root_chain low todo → Seeded a root_chain high todo
+  pub passed_to : (low high : ℕ) (todo : List ℕ) → low ≤ high → IsClear root_chain low high → Seeded a root_chain low todo
+      → Seeded a root_chain high todo
   passed_to low high todo l c s = over_to (λ k. Seeded a root_chain k todo) low high l s (λ k m n x. passed k todo x (c.each k m n))
 
   pub all_seeded : (n : ℕ) (todo : List ℕ) → length root_chain ≤ n → Seeded a root_chain n todo → AreStarts a todo

@@ -184,7 +184,8 @@ module _ (a : List ℕ) where
         ],
       )) x)
 
-  pub all_twice : IsVolumeImage a → (once twice : List Bool) → Tallied (Below (length a / 16)) once twice → AreMarks a (IsLinkedTwice a) twice
+  pub all_twice : IsVolumeImage a → (once twice : List Bool) → Tallied (Below (length a / 16)) once twice
+      → AreMarks a (IsLinkedTwice a) twice
   all_twice v once twice t = record {
     sized = t.twice_sized;
     each = λ k m. (let x = t.twice_each k m in ((x.0, x.1, x.2, x.3.0, x.4.0), x.5));

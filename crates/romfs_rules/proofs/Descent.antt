@@ -46,7 +46,8 @@ led a w next first before middle after x y m k = record {
   few = (let p = one_waits next w.names in let q = one_waits first (w.names + 1) in simp length-append (omega arith));
   only = λ v c. elim (Contains-append_cases (waiting next w.names) (waiting first (w.names + 1)) v c) [
     | inl z ↦ (let r = waits_for next w.names v z in subst (λ u. LeadsDown a w u) (sym r.2) (on ((x.each r.0).0 r.1)))
-    | inr z ↦ (let r = waits_for first (w.names + 1) v z in let d = (y.each r.0).0 r.1 in subst (λ u. LeadsDown a w u) (sym r.2) (down d.0 d.1 d.2))
+    | inr z ↦ (let r = waits_for first (w.names + 1) v z in let d = (y.each r.0).0 r.1 in
+          subst (λ u. LeadsDown a w u) (sym r.2) (down d.0 d.1 d.2))
   ];
   whole = λ v l. all w v refl l;
 }
@@ -74,7 +75,8 @@ pub record Descends (a : List ℕ) (todo : List Waiting) (marks : List Bool) (de
   pub sized : length marks ≡ length a / 16
   pub waits : (w : Waiting) → Contains todo w → StandsBelow a w.names w.header
   pub low : (w : Waiting) → Contains todo w → w.names + unmarked marks ≤ length marks
-  pub closed : (k n : ℕ) (v : Waiting) → get_or marks k false ≡ true → StandsBelow a n (k * 16) → LeadsDown a (at_names (k * 16) n) v → IsSettled a todo marks v
+  pub closed : (k n : ℕ) (v : Waiting) → get_or marks k false ≡ true → StandsBelow a n (k * 16) → LeadsDown a (at_names (k * 16) n) v
+      → IsSettled a todo marks v
   pub start : (h : ℕ) → IsFirst a (root a) h → IsSettled a todo marks (at_names h 0)
   pub holds : IfSome deep (λ h. BreaksHeader a Deep h)
   pub least : (k : ℕ) → get_or marks k false ≡ true → BreaksHeader a Deep (k * 16) → IsSomeAnd deep (λ h. h ≤ k * 16)
@@ -136,10 +138,12 @@ module _ (a : List ℕ) (keeps : KeepsAllHeaderRules Usual a) where
     settled v i (inr (inl n)) = absurd (n i)
     settled v i (inr (inr m)) = m
 
-    led_marked : (n h : ℕ) (v : Waiting) → StandsBelow a n h → IsMarked marks h → LeadsDown a (at_names h n) v → IsInside a v.header → IsMarked marks v.header
+    led_marked : (n h : ℕ) (v : Waiting) → StandsBelow a n h → IsMarked marks h → LeadsDown a (at_names h n) v → IsInside a v.header
+        → IsMarked marks v.header
     led_marked n h v s m l i =
         let e = slot_of n h s in
-        settled v i (d.closed (h / 16) n v m (subst (λ y. StandsBelow a n y) (sym e) s) (subst (λ y. LeadsDown a (at_names y n) v) (sym e) l))
+        settled v i (d.closed (h / 16) n v m (subst (λ y. StandsBelow a n y) (sym e) s) (subst (λ y. LeadsDown a (at_names y n) v)
+              (sym e) l))
 
     along : (n c : ℕ) → IsBelow a n c → IsOpened a c
         → ((g : ℕ) → IsFirst a c g → IsInside a g → IsMarked marks g) → (i h : ℕ) → IsAt a c i h
@@ -165,11 +169,14 @@ module _ (a : List ℕ) (keeps : KeepsAllHeaderRules Usual a) where
           let b = y.3 in
           let m = y.4 in
           let e = cleared_in_chain a y.2 g m.in_chain in
-          let k = along y.0 y.2 b m.opened (λ h z. firsts y.0 y.2 h b m.opened z) m.in_chain.0 g m.in_chain.1 (inside_member a keeps y.2 g m) in
-          there_is (λ h. h ≤ g) deep (subst (λ q. IsSomeAnd deep (λ h. h ≤ q)) e (d.least (g / 16) k (subst (λ q. BreaksHeader a Deep q) (sym e) x)));
+          let k = along y.0 y.2 b m.opened (λ h z. firsts y.0 y.2 h b m.opened z) m.in_chain.0 g m.in_chain.1
+              (inside_member a keeps y.2 g m) in
+          there_is (λ h. h ≤ g) deep (subst (λ q. IsSomeAnd deep (λ h. h ≤ q)) e
+                (d.least (g / 16) k (subst (λ q. BreaksHeader a Deep q) (sym e) x)));
     }
 
-  pub begun : (todo : List Waiting) (marks : List Bool) (first : Option ℕ) → length marks ≡ length a / 16 → ((k : ℕ) → get_or marks k false ≡ false)
+  pub begun : (todo : List Waiting) (marks : List Bool) (first : Option ℕ) → length marks ≡ length a / 16
+      → ((k : ℕ) → get_or marks k false ≡ false)
       → IsTheOne (IsFirst a (root a)) first → todo ≡ waiting first 0 → Descends a todo marks None
   begun todo marks first s e f t = record {
     sized = s;
@@ -190,7 +197,8 @@ module _ (a : List ℕ) (keeps : KeepsAllHeaderRules Usual a) where
   }
 
   -- the list ends with the header that is taken
-  module _ (todo rest : List Waiting) (marks : List Bool) (deep : Option ℕ) (w : Waiting) (taken : todo ≡ rest ++ w ∷ []) (d : Descends a todo marks deep) where
+  module _ (todo rest : List Waiting) (marks : List Bool) (deep : Option ℕ) (w : Waiting) (taken : todo ≡ rest ++ w ∷ [])
+      (d : Descends a todo marks deep) where
     was_waiting : (v : Waiting) → Contains rest v → Contains todo v
     was_waiting v c = subst (λ x. Contains x v) (sym taken) (Contains-append_left rest (w ∷ []) v c)
 
@@ -201,12 +209,14 @@ module _ (a : List ℕ) (keeps : KeepsAllHeaderRules Usual a) where
     stands = d.waits w itself
 
     waits_or_is : (v : Waiting) → Contains todo v → Contains rest v ⊎ (w ≡ v)
-    waits_or_is v c = elim (Contains-append_cases rest (w ∷ []) v (subst (λ x. Contains x v) taken c)) [ inl x ↦ inl x | inr x ↦ inr (one_in w v x) ]
+    waits_or_is v c = elim (Contains-append_cases rest (w ∷ []) v (subst (λ x. Contains x v) taken c)) [ inl x ↦ inl x | inr x ↦ inr
+          (one_in w v x) ]
 
     module _ (s : (¬ IsInside a w.header) ⊎ IsMarked marks w.header) where
       let_go : (v : Waiting) → IsSettled a todo marks v → IsSettled a rest marks v
       let_go v (inr r) = inr r
-      let_go v (inl c) = elim (waits_or_is v c) [ inl x ↦ inl x | inr e ↦ inr (subst (λ u. (¬ IsInside a u.header) ⊎ IsMarked marks u.header) e s) ]
+      let_go v (inl c) = elim (waits_or_is v c) [ inl x ↦ inl x | inr e ↦ inr
+            (subst (λ u. (¬ IsInside a u.header) ⊎ IsMarked marks u.header) e s) ]
 
       pub step_stale : Descends a rest marks deep
       step_stale = record {

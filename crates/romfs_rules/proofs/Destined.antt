@@ -44,7 +44,8 @@ module _ (a : List ℕ) where
     fits = let s = w.sized in let j = i.1 in omega arith
 
     led : IsDestination a from to
-    led = subst (λ y. IsDestination a from y) (sym is) (elim w.place [ inl e ↦ subst (λ y. IsDestination a y (destination a at)) e (here l) | inr d ↦ goes_on a d l ])
+    led = subst (λ y. IsDestination a from y) (sym is)
+        (elim w.place [ inl e ↦ subst (λ y. IsDestination a y (destination a at)) e (here l) | inr d ↦ goes_on a d l ])
 
     now_followed : (h : ℕ) → h ≡ at → IsFollowed a (set marks (to / 16) true) h
     now_followed h e = subst (λ y. IsFollowed a (set marks (to / 16) true) y) (sym e) (inl (rw (← is) (newly_set marks (to / 16) fits)))
@@ -74,7 +75,8 @@ module _ (a : List ℕ) where
     fewer u = let s = marks_fall marks (to / 16) fits u in omega arith
 
   -- marks that are closed hold the whole chain of what is followed
-  pub whole : (marks : List Bool) → IsClosed a marks → {h g : ℕ} → IsDestination a h g → IsFollowed a marks h → IsInside a g → IsMarked marks g
+  pub whole : (marks : List Bool) → IsClosed a marks → {h g : ℕ} → IsDestination a h g → IsFollowed a marks h → IsInside a g
+      → IsMarked marks g
   whole marks c (here l) f i = elim f [ inl m ↦ m | inr n ↦ absurd (n i) ]
   whole marks c (there {h = h} l d) f i = whole marks c d (onward (hard a d)) i
     where
@@ -109,7 +111,8 @@ module _ (a : List ℕ) where
     ];
   }
 
-  pub skips : (slot : ℕ) (marks : List Bool) → ¬ (IsHardLink a (slot * 16) × IsSomeMember a (slot * 16)) → Reaches slot marks → Reaches (slot + 1) marks
+  pub skips : (slot : ℕ) (marks : List Bool) → ¬ (IsHardLink a (slot * 16) × IsSomeMember a (slot * 16)) → Reaches slot marks
+      → Reaches (slot + 1) marks
   skips slot marks z r = record {
     sized = r.sized;
     each = r.each;

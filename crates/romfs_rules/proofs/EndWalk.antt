@@ -18,7 +18,8 @@ use Rattle.romfs_rules.proofs.Slots.{outside_set, twice_cleared, cleared_destina
 use Rattle.romfs_rules.specs.Ends.{HasEnds, AreWalkedEnds, KnowsEnd, Passes, IsUnpassedTarget}
 
 -- from within a closed set of hard links no chain leaves
-never_leaves : (a : List ℕ) (S : ℕ → Type 0) (inside : (h : ℕ) → S h → IsHardLink a h × S (cleared (spec a h))) {h e : ℕ} → IsFinal a h e → ¬ S h
+never_leaves : (a : List ℕ) (S : ℕ → Type 0) (inside : (h : ℕ) → S h → IsHardLink a h × S (cleared (spec a h))) {h e : ℕ} → IsFinal a h e
+    → ¬ S h
 never_leaves a S inside (stays n) s = n (inside _ s).0
 never_leaves a S inside (follows l f) s = never_leaves a S inside f (inside _ s).1
 
@@ -86,7 +87,8 @@ module _ (a : List ℕ) (ends : List End) where
   pub arrives : (from at : ℕ) (marks : List ℕ) (r : End) → Going a ends from at marks → EndsAs a at r → HasEnds a marks (ends ++ r ∷ [])
   arrives from at marks r g x = record { each = λ k n e. found k n e }
     where
-      found : (k n : ℕ) → get_or marks k 0 ≡ suc n → (n < length (ends ++ r ∷ [])) × EndsAs a (k * 16) (get_or (ends ++ r ∷ []) n AtDirectory)
+      found : (k n : ℕ) → get_or marks k 0 ≡ suc n → (n < length (ends ++ r ∷ []))
+          × EndsAs a (k * 16) (get_or (ends ++ r ∷ []) n AtDirectory)
       found k n e = elim (cases_order n (length ends)) [
         | inl q ↦ (
           let s = length-append ends (r ∷ []) in
@@ -94,12 +96,14 @@ module _ (a : List ℕ) (ends : List End) where
           rw (q, get_or_at ends r [] AtDirectory (length ends) refl)
               (g.on k r (e ∙ (let z : suc n ≡ length ends + 1 = omega arith in z)) x),
         )
-        | inr (inl l) ↦ (let s = length-append ends (r ∷ []) in omega arith, rw (get_or_append_left ends (r ∷ []) AtDirectory n l) (g.past k n e l))
+        | inr (inl l) ↦ (let s = length-append ends (r ∷ []) in omega arith, rw (get_or_append_left ends (r ∷ []) AtDirectory n l)
+              (g.past k n e l))
         | inr (inr l) ↦ (let h = g.high k in absurd (omega arith))
       ]
 
   -- a chain that comes back to its own marks leaves nowhere
-  pub comes_back : (from at : ℕ) (marks : List ℕ) → Going a ends from at marks → get_or marks (at / 16) 0 ≡ length ends + 1 → EndsAs a at Nowhere
+  pub comes_back : (from at : ℕ) (marks : List ℕ) → Going a ends from at marks → get_or marks (at / 16) 0 ≡ length ends + 1
+      → EndsAs a at Nowhere
   comes_back from at marks g m e f = never_leaves a S inside f (g.aligned, m)
     where
       S : ℕ → Type 0
@@ -129,12 +133,14 @@ module _ (a : List ℕ) (ends : List End) where
     by_mark : {Q : Type 0} (k v : ℕ) → get_or (set marks (at / 16) (length ends + 1)) k 0 ≡ v
         → (k * 16 ≡ at → length ends + 1 ≡ v → Q) → (get_or marks k 0 ≡ v → Q) → Q
     by_mark k v e new old = elim (cases_eq k (at / 16)) [
-      | inl q ↦ new (ap (λ y. y * 16) q ∙ g.aligned) (sym now_marked ∙ ap (λ y. get_or (set marks (at / 16) (length ends + 1)) y 0) (sym q) ∙ e)
+      | inl q ↦ new (ap (λ y. y * 16) q ∙ g.aligned) (sym now_marked ∙ ap (λ y. get_or (set marks (at / 16) (length ends + 1)) y 0) (sym q)
+            ∙ e)
       | inr q ↦ old (sym (get_or-set_other marks (at / 16) k (length ends + 1) 0 q) ∙ e)
     ]
 
     kept : (k : ℕ) → get_or marks k 0 ≡ length ends + 1 → get_or (set marks (at / 16) (length ends + 1)) k 0 ≡ length ends + 1
-    kept k e = elim (cases_eq k (at / 16)) [ inl q ↦ rw q now_marked | inr q ↦ get_or-set_other marks (at / 16) k (length ends + 1) 0 q ∙ e ]
+    kept k e = elim (cases_eq k (at / 16)) [ inl q ↦ rw q now_marked | inr q ↦ get_or-set_other marks (at / 16) k (length ends + 1) 0 q
+          ∙ e ]
 
     pub passes : spec a at < 2 ^ 32 → Going a ends from (cleared (spec a at)) (set marks (at / 16) (length ends + 1))
     passes w = record {
@@ -147,7 +153,8 @@ module _ (a : List ℕ) (ends : List End) where
       hard = λ k e. by_mark k _ e (λ p q. rw p l) (λ q. g.hard k q);
       on = λ k r e x. by_mark k _ e (λ p q. rw p (back a at r l x)) (λ q. g.on k r q (back a at r l x));
       start = λ r x. g.start r (back a at r l x);
-      closed = λ k e. by_mark k _ e (λ p q. inl (rw p refl)) (λ q. elim (g.closed k q) [ inl y ↦ inr (rw y now_marked) | inr y ↦ inr (kept _ y) ]);
+      closed = λ k e. by_mark k _ e (λ p q. inl (rw p refl))
+          (λ q. elim (g.closed k q) [ inl y ↦ inr (rw y now_marked) | inr y ↦ inr (kept _ y) ]);
     }
 
     pub fewer : unmarked (set marks (at / 16) (length ends + 1)) < unmarked marks
@@ -194,7 +201,8 @@ passing_on from at to n before marks p l = record {
   ]);
 }
 
-pub passed_at : (from at : ℕ) (before marks : List ℕ) → Passing from at before marks → get_or marks (at / 16) 0 ≢ 0 → Passes from before marks
+pub passed_at : (from at : ℕ) (before marks : List ℕ) → Passing from at before marks → get_or marks (at / 16) 0 ≢ 0
+    → Passes from before marks
 passed_at from at before marks p h = record { sized = p.sized; kept = p.kept; passed = elim p.began [ inl q ↦ rw q h | inr x ↦ x ] }
 
 pub passed_on : (from at : ℕ) (before marks : List ℕ) → Passing from at before marks → (from ≡ at → ⊥) → Passes from before marks
@@ -226,7 +234,8 @@ slot_of : (k : ℕ) → k * 16 / 16 ≡ k
 slot_of k = omega arith
 
 module _ (a walks : List ℕ) (ends : List End) (slot : ℕ) (f : Found a walks ends slot) where
-  pub found_more : (more : List ℕ) (r : End) → HasEnds a more (ends ++ r ∷ []) → Passes (slot * 16) walks more → Found a more (ends ++ r ∷ []) (slot + 1)
+  pub found_more : (more : List ℕ) (r : End) → HasEnds a more (ends ++ r ∷ []) → Passes (slot * 16) walks more
+      → Found a more (ends ++ r ∷ []) (slot + 1)
   found_more more r h p = record {
     sized = p.sized ∙ f.sized;
     few = (let l = length-append ends (r ∷ []) in let w = f.few in omega arith);
@@ -248,7 +257,8 @@ module _ (a walks : List ℕ) (ends : List End) (slot : ℕ) (f : Found a walks 
     ];
   }
 
-  pub found_all : (slots : List Bool) → AreMarks a (IsTarget a) slots → length a / 16 ≤ slot → AreWalkedEnds a (record { slots = slots; by_slot = walks }) ends
+  pub found_all : (slots : List Bool) → AreMarks a (IsTarget a) slots → length a / 16 ≤ slot
+      → AreWalkedEnds a (record { slots = slots; by_slot = walks }) ends
   found_all slots m all = record {
     targets = m;
     sized = f.sized;

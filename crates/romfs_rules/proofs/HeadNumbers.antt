@@ -96,7 +96,8 @@ class_below {heads = heads} n c = let s = n.sized in let t = c.sized in record {
 }
 
 -- the headers of a set, as a list
-pub lists_marks : (a : List ℕ) (P : ℕ → Type 0) (set : List Bool) (heads : List ℕ) → AreMarks a P set → AreCollected set (length set) heads → IsListOf a P heads
+pub lists_marks : (a : List ℕ) (P : ℕ → Type 0) (set : List Bool) (heads : List ℕ) → AreMarks a P set → AreCollected set (length set) heads
+    → IsListOf a P heads
 lists_marks a P set heads m w = record {
   each = λ h c. (
       let k = w.each c.0 c.1 in

@@ -19,7 +19,8 @@ fails t e p = false≢true (sym e ∙ t.1 p)
 -- a test that reads a mark
 pub mark_says : (a : List ℕ) (P : ℕ → Type 0) (marks : List Bool) (h : ℕ) (b : Bool) → AreMarks a P marks
     → HasSlot a h → b ≡ get_or marks (h / 16) false → IsTrue b ↔ P h
-mark_says a P marks h b m s e = (λ t. (marked a P marks h m s.aligned s.inside).0 (sym e ∙ t), λ p. e ∙ (marked a P marks h m s.aligned s.inside).1 p)
+mark_says a P marks h b m s e = (λ t. (marked a P marks h m s.aligned s.inside).0 (sym e ∙ t), λ p. e
+      ∙ (marked a P marks h m s.aligned s.inside).1 p)
 
 -- both of two facts, by the test of the one where the other is known
 pub and_known : {P Q : Type 0} {b c : Bool} → IsTrue b ↔ Q → b ≡ true → IsTrue c ↔ P → IsTrue c ↔ (P × Q)
@@ -81,5 +82,6 @@ listed_says a h hs b s only t once =
     (λ y. n.each h (t.0 y), λ x. t.1 (n.all h x))
 
 -- a test that looks a header up in a list
-pub list_says : (a : List ℕ) (P : ℕ → Type 0) (hs : List ℕ) (h : ℕ) (b : Bool) → IsListOf a P hs → HasSlot a h → IsTrue b ↔ Contains hs h → IsTrue b ↔ P h
+pub list_says : (a : List ℕ) (P : ℕ → Type 0) (hs : List ℕ) (h : ℕ) (b : Bool) → IsListOf a P hs → HasSlot a h → IsTrue b ↔ Contains hs h
+    → IsTrue b ↔ P h
 list_says a P hs h b l s t = (λ y. l.each h (t.0 y), λ p. t.1 (l.all h p s.inside s.aligned))

@@ -96,7 +96,8 @@ module _ (a : List ℕ) (keeps : KeepsAllHeaderRules Usual a) where
       go (Some n) e = (n, e)
       go None e = absurd (keeps.keeps NameOpen h (lit≤ tt, lit< tt) (reached d h m, inside_member d h m, no_root d h m, rw e refl))
 
-  leads_on : (path : List (List ℕ)) (d c h : ℕ) (n : List ℕ) → Leads a d path c → IsMember a c h → name a h ≡ Some n → Leads a d (path ++ n ∷ []) h
+  leads_on : (path : List (List ℕ)) (d c h : ℕ) (n : List ℕ) → Leads a d path c → IsMember a c h → name a h ≡ Some n
+      → Leads a d (path ++ n ∷ []) h
   leads_on [] d c h n e m s = (h, subst (λ x. IsMember a x h) (sym e) m, s, refl)
   leads_on (x ∷ path) d c h n l m s = (l.0, l.1, l.2, leads_on path l.0 c h n l.3 m s)
 
@@ -105,7 +106,8 @@ module _ (a : List ℕ) (keeps : KeepsAllHeaderRules Usual a) where
   below_has (suc n) h x =
       let r = below_has n x.0 x.1 in
       let s = named_member x.0 h x.2 in
-      (r.0 ++ s.0 ∷ [], leads_on r.0 (root a) x.0 h s.0 r.1 x.2 s.1, (let k : length r.0 ≡ n = r.2 in let q = length-append r.0 (s.0 ∷ []) in omega arith))
+      (r.0 ++ s.0 ∷ [], leads_on r.0 (root a) x.0 h s.0 r.1 x.2 s.1, (let k : length r.0 ≡ n = r.2 in let q =
+            length-append r.0 (s.0 ∷ []) in omega arith))
 
   leads_below : (path : List (List ℕ)) (n d h : ℕ) → IsBelow a n d → Leads a d path h → IsBelow a (n + length path) h
   leads_below [] n d h b e = let q : n ≡ n + 0 = omega arith in subst (λ k. IsBelow a k h) q (subst (λ x. IsBelow a n x) e b)
@@ -126,7 +128,8 @@ module _ (a : List ℕ) (keeps : KeepsAllHeaderRules Usual a) where
   -- what the header's own depth says
   pub is_deep : (w : Waiting) → StandsBelow a w.names w.header → IsTooDeep a w → BreaksHeader a Deep w.header
   is_deep w s t =
-      let m : IsMember a s.dir w.header = record { opened = s.opened; in_chain = s.in_chain; kept = elim [ inl x ↦ t.1 x.1 | inr x ↦ t.2 x ] } in
+      let m : IsMember a s.dir w.header = record { opened = s.opened; in_chain = s.in_chain; kept =
+            elim [ inl x ↦ t.1 x.1 | inr x ↦ t.2 x ] } in
       let r = below_has (suc w.names) w.header (s.dir, s.below, m) in
       (r.0, r.1, (let k : length r.0 ≡ suc w.names = r.2 in let l = t.0 in omega arith))
 

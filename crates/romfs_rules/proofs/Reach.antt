@@ -77,14 +77,16 @@ module _ (Q : ℕ → Type 0) (found : Option ℕ) where
   unnamed = record { is = λ h e. inl e; old = λ h e. (h, e, omega arith); new = λ h e q. cc }
 
   pub unnoted : (word : ℕ) → ¬ Q word → Notes (λ h. Some word ≡ Some h) Q found found
-  unnoted word n = record { is = λ h e. inl e; old = λ h e. (h, e, omega arith); new = λ h e q. absurd (n (let x : word ≡ h = cc in subst Q (sym x) q)) }
+  unnoted word n = record { is = λ h e. inl e; old = λ h e. (h, e, omega arith); new =
+        λ h e q. absurd (n (let x : word ≡ h = cc in subst Q (sym x) q)) }
 
 past : (n e : ℕ) → e < n → leb n e ≡ false
 past n e h = grind (arith, nat_tests)
 
 lesser_word : (found : Option ℕ) (word : ℕ) → lesser found word ≤ word
 lesser_word None word = omega arith
-lesser_word (Some least) word = elim (cases_lt word least) [ inl l ↦ rw (past least word l) (omega arith) | inr l ↦ rw (le-leb least word l) l ]
+lesser_word (Some least) word = elim (cases_lt word least) [ inl l ↦ rw (past least word l) (omega arith) | inr l ↦ rw (le-leb least word l)
+      l ]
 
 lesser_found : (found : Option ℕ) (word h : ℕ) → found ≡ Some h → lesser found word ≤ h
 lesser_found None word h e = cc
@@ -107,7 +109,8 @@ noted Q found word q = record {
 }
 
 -- the one header of W is noted
-of_one : (W Q : ℕ → Type 0) (before word after : Option ℕ) → IsTheOne W word → Notes (λ h. word ≡ Some h) Q before after → Notes W Q before after
+of_one : (W Q : ℕ → Type 0) (before word after : Option ℕ) → IsTheOne W word → Notes (λ h. word ≡ Some h) Q before after
+    → Notes W Q before after
 of_one W Q before word after o n = record {
   is = λ h e. elim (n.is h e) [ inl x ↦ inl x | inr x ↦ inr ((o.each h).0 x.0, x.1) ];
   old = n.old;
@@ -115,7 +118,8 @@ of_one W Q before word after o n = record {
 }
 
 -- two notes in a row
-then_of : (V W Q : ℕ → Type 0) (before middle after : Option ℕ) → Notes V Q before middle → Notes W Q middle after → Notes (λ h. V h ⊎ W h) Q before after
+then_of : (V W Q : ℕ → Type 0) (before middle after : Option ℕ) → Notes V Q before middle → Notes W Q middle after
+    → Notes (λ h. V h ⊎ W h) Q before after
 then_of V W Q before middle after m n = record {
   is = λ h e. elim (n.is h e) [
     | inl x ↦ elim (m.is h x) [ inl y ↦ inl y | inr y ↦ inr (inl y.0, y.1) ]
@@ -153,7 +157,8 @@ noted_named a at Q next before with_next after x l m =
     then_of (IsLink a (next_of at)) (NamesBySpec a at) Q before with_next after (of_one _ Q _ next _ x l) m
 
 -- what was found is the least of P, and with the notes also of W
-least_more : (P W Q : ℕ → Type 0) (before after : Option ℕ) → IsLeast (λ g. P g × Q g) before → Notes W Q before after → IsLeast (λ g. (P g ⊎ W g) × Q g) after
+least_more : (P W Q : ℕ → Type 0) (before after : Option ℕ) → IsLeast (λ g. P g × Q g) before → Notes W Q before after
+    → IsLeast (λ g. (P g ⊎ W g) × Q g) after
 least_more P W Q before after l n = record {
   is = λ h e. elim (n.is h e) [ inl x ↦ (let y = l.is h x in (inl y.0, y.1)) | inr x ↦ (inr x.0, x.1) ];
   whole = all;
@@ -178,7 +183,8 @@ module _ (a : List ℕ) (Q : ℕ → Type 0) where
   IsFoundBefore n found = IsLeast (λ g. IsLedToBefore a n g × Q g) found
 
   pub nothing : (n : ℕ) → n ≡ root a / 16 → IsFoundBefore n None
-  nothing n e = record { is = λ h x. cc; whole = λ h x. absurd (let c = cleared_root a in let l = x.0.early in let i = x.0.inside in omega arith) }
+  nothing n e = record { is = λ h x. cc; whole = λ h x. absurd (let c = cleared_root a in let l = x.0.early in let i = x.0.inside in
+        omega arith) }
 
   to_next : (n : ℕ) → IsInside a (n * 16) → (g : ℕ) → (IsLedToBefore a n g ⊎ Names a (n * 16) g) × Q g → IsLedToBefore a (n + 1) g × Q g
   to_next n i g (inl x, q) = (record { slot = x.slot; early = omega arith; inside = x.inside; names = x.names }, q)
@@ -193,7 +199,8 @@ module _ (a : List ℕ) (Q : ℕ → Type 0) where
   -- one slot more
   pub scans : (n : ℕ) (before after : Option ℕ) → IsInside a (n * 16) → IsFoundBefore n before
       → Notes (Names a (n * 16)) Q before after → IsFoundBefore (n + 1) after
-  scans n before after i l x = least_same _ _ after (to_next n i) (from_next n) (least_more (IsLedToBefore a n) (Names a (n * 16)) Q before after l x)
+  scans n before after i l x = least_same _ _ after (to_next n i) (from_next n)
+      (least_more (IsLedToBefore a n) (Names a (n * 16)) Q before after l x)
 
   -- a header that is not reached leads nowhere
   names_from : (h g : ℕ) → Names a h g → (h ≡ root a) ⊎ IsInSomeChain a h ⊎ IsTarget a h
@@ -202,10 +209,14 @@ module _ (a : List ℕ) (Q : ℕ → Type 0) where
   names_from h g (inr (inr (inl m, l, e))) = inr (inl (member_in_chain a h m))
   names_from h g (inr (inr (inr t, l, e))) = inr (inr t)
 
-  scan_over : (n : ℕ) (found : Option ℕ) → ((g : ℕ) → IsInside a (n * 16) → ¬ Names a (n * 16) g) → IsFoundBefore n found → IsFoundBefore (n + 1) found
+  scan_over : (n : ℕ) (found : Option ℕ) → ((g : ℕ) → IsInside a (n * 16) → ¬ Names a (n * 16) g) → IsFoundBefore n found
+      → IsFoundBefore (n + 1) found
   scan_over n found none l = least_same _ _ found
       (λ g x. (let y = x.0 in let e = y.early in (record { slot = y.slot; early = omega arith; inside = y.inside; names = y.names }, x.1)))
-      (λ g x. (let y = x.0 in (record { slot = y.slot; early = (elim (cases_eq y.slot n) [ inl q ↦ absurd (none g (subst (λ k. IsInside a (k * 16)) q y.inside) (subst (λ k. Names a (k * 16) g) q y.names)) | inr q ↦ (let e = y.early in omega arith) ]); inside = y.inside; names = y.names }, x.1)))
+      (λ g x. (let y = x.0 in (record { slot = y.slot; early =
+            (elim (cases_eq y.slot n) [ inl q ↦ absurd (none g (subst (λ k. IsInside a (k * 16)) q y.inside)
+            (subst (λ k. Names a (k * 16) g) q y.names)) | inr q ↦ (let e = y.early in omega arith) ]); inside = y.inside; names =
+            y.names }, x.1)))
       l
 
   -- over slots, behind the root's, whose headers are not reached
@@ -228,7 +239,8 @@ module _ (a : List ℕ) (Q : ℕ → Type 0) where
       from g (r, q) =
           let x = reached_named a v g r (u g q) in
           let i = x.inside in
-          (record { slot = x.from / 16; early = omega arith; inside = rw (x.slot) i; names = subst (λ y. Names a y g) (sym x.slot) x.names }, q)
+          (record { slot = x.from / 16; early = omega arith; inside = rw (x.slot) i; names =
+                subst (λ y. Names a y g) (sym x.slot) x.names }, q)
 
 -- what a header outside the image is noted for
 pub ruleset notes = (unnamed, noted, unnoted)

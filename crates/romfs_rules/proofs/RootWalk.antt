@@ -46,7 +46,8 @@ module _ (a : List ℕ) where
 
       along : (n h : ℕ) → IsAt a (root a) n h → IsInside a h → IsMarked marks h
       along zero h x i = settled h i (w.first h x)
-      along (suc n) h x i = settled h i (w.closed (x.0 / 16) h (along n x.0 x.1 x.2.0) (subst (λ y. IsNext a y h) (sym (cleared_at a (root a) n x.0 x.1)) x.2))
+      along (suc n) h x i = settled h i (w.closed (x.0 / 16) h (along n x.0 x.1 x.2.0)
+            (subst (λ y. IsNext a y h) (sym (cleared_at a (root a) n x.0 x.1)) x.2))
 
       pub all_marked : AreMarks a (IsInRootChain a) marks
       all_marked = record { sized = w.sized; each = w.each; all = λ h c i. along c.0 h c.1 i }

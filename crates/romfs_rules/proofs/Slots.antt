@@ -12,7 +12,8 @@ use Rattle.romfs_rules.specs.Marks.{HasSlot, IsVolumeImage, IsMarked, AreMarks}
 
 pub cleared_root : (a : List ℕ) → cleared (root a) ≡ root a
 unfolding root
-cleared_root a = elim (text_at a HEAD_SIZE) as (λ o. cleared (option_map_or (text_end HEAD_SIZE) o 0) ≡ option_map_or (text_end HEAD_SIZE) o 0) [
+cleared_root a = elim (text_at a HEAD_SIZE) as (λ o. cleared (option_map_or (text_end HEAD_SIZE) o 0)
+      ≡ option_map_or (text_end HEAD_SIZE) o 0) [
   | None ↦ refl
   | Some text ↦ omega arith
 ]
@@ -53,7 +54,8 @@ pub root_slot : (a : List ℕ) → IsVolumeImage a → (h : ℕ) → h ≡ root 
 root_slot a v h e = rw e (record { inside = inside_root a v; aligned = cleared_root a })
 
 -- what the mark of a header says
-pub marked : (a : List ℕ) (P : ℕ → Type 0) (marks : List Bool) (h : ℕ) → AreMarks a P marks → cleared h ≡ h → IsInside a h → IsMarked marks h ↔ P h
+pub marked : (a : List ℕ) (P : ℕ → Type 0) (marks : List Bool) (h : ℕ) → AreMarks a P marks → cleared h ≡ h → IsInside a h
+    → IsMarked marks h ↔ P h
 marked a P marks h m c i = (λ x. subst P c (m.each (h / 16) x).0, λ p. m.all h p i)
 
 -- what the mark of the root's header says

@@ -73,8 +73,10 @@ header_stage = by_rule (λ r. stage r ≡ 6) refl refl refl refl refl refl refl 
 same : {P : Type 0} → P ↔ P
 same = (λ x. x, λ x. x)
 
-to_breaks : (profile : Profile) (b : List ℕ) (p : ℕ) (r : Rule) → IsHeaderRule r → BreaksHeaderAs profile (image b) r p ↔ BreaksAs profile b r p
-to_breaks profile b p = by_rule (λ r. BreaksHeaderAs profile (image b) r p ↔ BreaksAs profile b r p) same same same same same same same same same same same
+to_breaks : (profile : Profile) (b : List ℕ) (p : ℕ) (r : Rule) → IsHeaderRule r
+    → BreaksHeaderAs profile (image b) r p ↔ BreaksAs profile b r p
+to_breaks profile b p = by_rule (λ r. BreaksHeaderAs profile (image b) r p ↔ BreaksAs profile b r p) same same same same same same same same
+    same same same
 
 -- the rules of the volume header and the depth are the same in every profile
 volume_kept : (profile : Profile) (b : List ℕ) → IsVolume b → (r : Rule) → rule_number r < 6 → (q : ℕ) → ¬ BreaksAs profile b r q
@@ -98,7 +100,8 @@ volume_kept profile b v HeaderSum l q x = absurd (omega arith)
 volume_kept profile b v Deep l q x = absurd (omega arith)
 
 -- of two breaches of these rules the one at the lower place is named, or by the lower number
-before : (s r : Rule) (q p : ℕ) → IsHeaderRule s → IsHeaderRule r → IsNamedBefore s q r p → (q < p) ⊎ ((q ≡ p) × (rule_number s < rule_number r))
+before : (s r : Rule) (q p : ℕ) → IsHeaderRule s → IsHeaderRule r → IsNamedBefore s q r p
+    → (q < p) ⊎ ((q ≡ p) × (rule_number s < rule_number r))
 before s r q p hs hr (inl l) = let e = header_stage s hs in let f = header_stage r hr in absurd (omega arith)
 before s r q p hs hr (inr x) = x.1
 
@@ -153,7 +156,8 @@ module _ (profile : Profile) (a : List ℕ) (h : ℕ) where
         (one_rule s Outside e) b).1 i;
   }
 
-  pub one_tried : (r : Rule) (n : ℕ) → rule_number r ≡ n → KeepsBefore profile a h n → ¬ BreaksHeaderAs profile a r h → KeepsBefore profile a h (n + 1)
+  pub one_tried : (r : Rule) (n : ℕ) → rule_number r ≡ n → KeepsBefore profile a h n → ¬ BreaksHeaderAs profile a r h
+      → KeepsBefore profile a h (n + 1)
   one_tried r n e k m = record {
     keeps = λ s x l b. elim (cases_order (rule_number s) n) [
       | inl f ↦ m (subst (λ t. BreaksHeaderAs profile a t h) (one_rule s r (f ∙ sym e)) b)
@@ -173,10 +177,12 @@ module _ (profile : Profile) (a : List ℕ) (v : IsVolumeImage a) where
   root_first p k l e = elim (cases_order p (root a)) [
     | inl q ↦ q
     | inr (inl m) ↦ absurd (omega arith)
-    | inr (inr m) ↦ absurd ((k.keeps (root a) (root_slot a v (root a) refl) m).keeps Twice (lit≤ tt, lit< tt) (inr ((root_elsewhere a (root a) refl).0 e)))
+    | inr (inr m) ↦ absurd ((k.keeps (root a) (root_slot a v (root a) refl) m).keeps Twice (lit≤ tt, lit< tt)
+          (inr ((root_elsewhere a (root a) refl).0 e)))
   ]
 
-  pub scan_more : (slot : ℕ) → KeepsBelow profile a (slot * 16) → KeepsHeaderRules profile a (slot * 16) → KeepsBelow profile a ((slot + 1) * 16)
+  pub scan_more : (slot : ℕ) → KeepsBelow profile a (slot * 16) → KeepsHeaderRules profile a (slot * 16)
+      → KeepsBelow profile a ((slot + 1) * 16)
   scan_more slot k h = record {
     keeps = λ g s l. elim (cases_order g (slot * 16)) [
       | inl q ↦ rw q h
@@ -205,7 +211,8 @@ module _ (profile : Profile) (a : List ℕ) (v : IsVolumeImage a) where
       → AreMarks a (IsTarget a) targets → (slot : ℕ)
       → (get_or headers slot false ≡ true) ⊎ (get_or targets slot false ≡ true)
       → HasSlot a (slot * 16) × IsReached a (slot * 16)
-  slot_reached headers targets m t slot (inl x) = let y = m.each slot x in (record { inside = y.1; aligned = omega arith }, elim y.0 [ inl z ↦ (reached a (slot * 16)).1 (inr (inl z)) | inr z ↦ (reached a (slot * 16)).1 (inr (inr (inl z))) ])
+  slot_reached headers targets m t slot (inl x) = let y = m.each slot x in (record { inside = y.1; aligned = omega arith },
+        elim y.0 [ inl z ↦ (reached a (slot * 16)).1 (inr (inl z)) | inr z ↦ (reached a (slot * 16)).1 (inr (inr (inl z))) ])
   slot_reached headers targets m t slot (inr x) = let y = t.each slot x in (record { inside = y.1; aligned = omega arith }, inr (inr y.0))
 
   -- the scan asks for the root's header, then for the next of either set
@@ -235,7 +242,8 @@ module _ (profile : Profile) (a : List ℕ) (v : IsVolumeImage a) where
   pub at_root : (f : ImageFault) (h : ℕ) → h ≡ root a → IsFirstAt profile a h f → IsFirstInside profile a f.rule f.place
   at_root f h e = at_slot f h (asked_root h e) (rw e none_below)
 
-  pub root_kept : (slot place : ℕ) → place ≡ root a → slot ≡ place / 16 + 1 → KeepsHeaderRules profile a place → KeepsBelow profile a (slot * 16)
+  pub root_kept : (slot place : ℕ) → place ≡ root a → slot ≡ place / 16 + 1 → KeepsHeaderRules profile a place
+      → KeepsBelow profile a (slot * 16)
   root_kept slot place t e k =
       let c = cleared_root a in
       let q : root a / 16 * 16 ≡ root a = c in
@@ -261,13 +269,15 @@ no_least : (P : ℕ → Type 0) (least : Option ℕ) (q : ℕ) → IsLeast P lea
 no_least P least q l e x = let w = l.whole q x in cc
 
 -- the first breach of all, by the least headers outside the image and the first breach inside
-module _ (profile : Profile) (a : List ℕ) (below above : Option ℕ) (lb : IsLeast (IsReachedBelow a) below) (la : IsLeast (IsReachedAbove a) above) where
+module _ (profile : Profile) (a : List ℕ) (below above : Option ℕ) (lb : IsLeast (IsReachedBelow a) below)
+    (la : IsLeast (IsReachedAbove a) above) where
   pub breach_below : (p : ℕ) → below ≡ Some p → IsFirstBreach profile a Outside p
   breach_below p e = record {
     rule = (lit≤ tt, lit< tt);
     broken = (r.0, λ i. let m = r.1 in let j = i.0 in omega arith);
     first = λ s q hs b x. elim (before s Outside q p hs (lit≤ tt, lit< tt) x) [
-      | inl l ↦ (let m = r.1 in let o = least_is (IsReachedBelow a) below p q lb e (breach_reached a profile q s hs b, omega arith) in omega arith)
+      | inl l ↦ (let m = r.1 in let o = least_is (IsReachedBelow a) below p q lb e (breach_reached a profile q s hs b, omega arith) in
+            omega arith)
       | inr y ↦ (let m = y.1 in let n = hs.0 in omega arith)
     ];
   }

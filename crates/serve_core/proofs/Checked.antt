@@ -12,8 +12,10 @@ use Rattle.serve_core.specs.Preparing.{AreLayers, IsFew, IsLowestBroken, AreRefu
 use Rattle.serve_core.specs.Checking.{AreChecked, IsBroken, Checks, IsFirstStop, Joins}
 
 -- an image that keeps the rules goes from what is left to what is checked
-pub one_more : {X : Type 0} (v : X → List ℕ) (profile : Profile) (all below : List (List ℕ)) (left rest : List X) (x : X) (layers more : List (List ℕ)) (checked : List ℕ)
-    → all ≡ below ++ map v left → left ≡ x ∷ rest → AreChecked profile below layers → checked ≡ image (v x) → IsSoundAs profile (v x) → more ≡ layers ++ checked ∷ []
+pub one_more : {X : Type 0} (v : X → List ℕ) (profile : Profile) (all below : List (List ℕ)) (left rest : List X) (x : X)
+    (layers more : List (List ℕ)) (checked : List ℕ)
+    → all ≡ below ++ map v left → left ≡ x ∷ rest → AreChecked profile below layers → checked ≡ image (v x) → IsSoundAs profile (v x)
+        → more ≡ layers ++ checked ∷ []
     → (after : List (List ℕ)) × (all ≡ after ++ map v rest) × AreChecked profile after more
 one_more v profile all below left rest x layers more checked e l s f d m = (
   below ++ v x ∷ [],
@@ -29,7 +31,8 @@ nothing [] none = refl
 nothing (x ∷ xs) none = absurd (omega (arith, none))
 
 -- where none is left, all are checked
-pub all_checked : {X : Type 0} (v : X → List ℕ) (profile : Profile) (all : List X) (below : List (List ℕ)) (left : List X) (layers : List (List ℕ))
+pub all_checked : {X : Type 0} (v : X → List ℕ) (profile : Profile) (all : List X) (below : List (List ℕ)) (left : List X)
+    (layers : List (List ℕ))
     → map v all ≡ below ++ map v left → length left ≡ 0 → AreChecked profile below layers → AreChecked profile (map v all) layers
 all_checked v profile all below left layers e none checked =
     let same : map v all ≡ below = e ∙ ap (λ xs. below ++ map v xs) (nothing left none) ∙ append-nil below in
@@ -39,14 +42,16 @@ all_checked v profile all below left layers e none checked =
     }
 
 -- two halves that keep the rules
-pub whole : (profile : Profile) (lows highs xs ys : List (List ℕ)) → AreChecked profile lows xs → AreChecked profile highs ys → AreChecked profile (lows ++ highs) (xs ++ ys)
+pub whole : (profile : Profile) (lows highs xs ys : List (List ℕ)) → AreChecked profile lows xs → AreChecked profile highs ys
+    → AreChecked profile (lows ++ highs) (xs ++ ys)
 whole profile lows highs xs ys low high = record {
   sound = All-append (IsSoundAs profile) lows highs low.sound high.sound;
   are = ap (λ n. n ++ ys) low.are ∙ ap (λ n. map image lows ++ n) high.are ∙ sym (map-append image lows highs);
 }
 
 -- the lower half's broken image is the lowest of both
-pub broken_low : (first : ℕ) (profile : Profile) (lows highs : List (List ℕ)) (stop : Stop) → IsBroken first profile lows stop → IsBroken first profile (lows ++ highs) stop
+pub broken_low : (first : ℕ) (profile : Profile) (lows highs : List (List ℕ)) (stop : Stop) → IsBroken first profile lows stop
+    → IsBroken first profile (lows ++ highs) stop
 broken_low first profile lows highs (Layer layer fault) (n, at, broken) = (
   n,
   at,
@@ -69,7 +74,8 @@ broken_low first profile lows highs Write b = absurd b
 broken_low first profile lows highs Turns b = absurd b
 
 -- the upper half's is, where the lower half keeps the rules
-pub broken_high : (first next : ℕ) (profile : Profile) (lows highs xs : List (List ℕ)) (stop : Stop) → next ≡ first + length lows → AreChecked profile lows xs → IsBroken next profile highs stop → IsBroken first profile (lows ++ highs) stop
+pub broken_high : (first next : ℕ) (profile : Profile) (lows highs xs : List (List ℕ)) (stop : Stop) → next ≡ first + length lows
+    → AreChecked profile lows xs → IsBroken next profile highs stop → IsBroken first profile (lows ++ highs) stop
 broken_high first next profile lows highs xs (Layer layer fault) up low (n, at, broken) = (
   length lows + n,
   omega arith,
@@ -117,11 +123,15 @@ joined first next profile lows highs low high (Err stop) up a b (inr is) =
     (tt, stopped_first first next profile lows highs low high stop up a b is)
 
 -- of all images
-pub as_layers : {X : Type 0} (v : X → List ℕ) (profile : Profile) (all : List X) (layers : List (List ℕ)) → IsFew (length all) → AreChecked profile (map v all) layers → AreLayers profile (map v all) layers
-as_layers v profile all layers few checked = record { few = subst IsFew (sym (length-map all v)) few; sound = checked.sound; are = checked.are }
+pub as_layers : {X : Type 0} (v : X → List ℕ) (profile : Profile) (all : List X) (layers : List (List ℕ)) → IsFew (length all)
+    → AreChecked profile (map v all) layers → AreLayers profile (map v all) layers
+as_layers v profile all layers few checked = record { few = subst IsFew (sym (length-map all v)) few; sound = checked.sound; are =
+      checked.are }
 
-pub as_refused : {X : Type 0} (v : X → List ℕ) (profile : Profile) (all : List X) (stop : Stop) → IsFew (length all) → IsBroken 0 profile (map v all) stop → AreRefused profile (map v all) stop
-as_refused v profile all (Layer layer fault) few (n, at, broken) = (subst IsFew (sym (length-map all v)) few, subst (λ m. IsLowestBroken profile (map v all) m fault) (sym (at ∙ none n)) broken)
+pub as_refused : {X : Type 0} (v : X → List ℕ) (profile : Profile) (all : List X) (stop : Stop) → IsFew (length all)
+    → IsBroken 0 profile (map v all) stop → AreRefused profile (map v all) stop
+as_refused v profile all (Layer layer fault) few (n, at, broken) = (subst IsFew (sym (length-map all v)) few,
+      subst (λ m. IsLowestBroken profile (map v all) m fault) (sym (at ∙ none n)) broken)
   where
     none : (m : ℕ) → 0 + m ≡ m
     none m = omega arith
@@ -134,8 +144,11 @@ as_refused v profile all Write few b = absurd b
 as_refused v profile all Turns few b = absurd b
 
 -- a list that is cut in two
-pub halved : {X : Type 0} (v : X → List ℕ) (all lows highs : List X) (half : ℕ) → lows ≡ take half all → highs ≡ drop half all → map v lows ++ map v highs ≡ map v all
-halved v all lows highs half l h = sym (map-append v lows highs) ∙ ap (map v) (ap (λ xs. xs ++ highs) l ∙ ap (λ xs. take half all ++ xs) h ∙ take-append-drop half all)
+pub halved : {X : Type 0} (v : X → List ℕ) (all lows highs : List X) (half : ℕ) → lows ≡ take half all → highs ≡ drop half all
+    → map v lows ++ map v highs ≡ map v all
+halved v all lows highs half l h = sym (map-append v lows highs) ∙ ap (map v) (ap (λ xs. xs ++ highs) l ∙ ap (λ xs. take half all ++ xs) h
+      ∙ take-append-drop half all)
 
-pub counted : {X : Type 0} (v : X → List ℕ) (all lows : List X) (half first : ℕ) → lows ≡ take half all → half ≤ length all → first + half ≡ first + length (map v lows)
+pub counted : {X : Type 0} (v : X → List ℕ) (all lows : List X) (half first : ℕ) → lows ≡ take half all → half ≤ length all
+    → first + half ≡ first + length (map v lows)
 counted v all lows half first l m = ap (λ n. first + n) (sym (length-take-le half all m) ∙ ap length (sym l) ∙ sym (length-map lows v))

@@ -20,20 +20,24 @@ not_begun profile images t (Err told) stop e r u = record { stop = stop; result_
 
 module _ {A : Type 0} (profile : Profile) (first : Session) (images : List (List ℕ)) (turns : ℕ) (t : Trace) where
   pub served_over : (done : Done A) → Serves profile first images turns t (Ok done) → HasServedAll profile first images t done
-  served_over done (inl s) = record { stack = s.stack; stacked = s.stacked; served = served (answering first s.stack) (length (nodes s.stack.entries)) turns t done s.run }
+  served_over done (inl s) = record { stack = s.stack; stacked = s.stacked; served =
+        served (answering first s.stack) (length (nodes s.stack.entries)) turns t done s.run }
   served_over done (inr n) = (let e = n.result_is in absurd (cc))
 
   same_stop : {a b : Stop} → (let result : Result (Done A) Stop = Err a in result ≡ Err b) → a ≡ b
   same_stop e = cc
 
   refused_for : (stop : Stop) → IsNotBegun {A = A} profile images t (Err stop) → IsRefusedFor profile images t stop
-  refused_for stop n = record { refused = subst (λ s. AreRefused profile images s) (sym (same_stop n.result_is)) n.refused; untouched = n.untouched }
+  refused_for stop n = record { refused = subst (λ s. AreRefused profile images s) (sym (same_stop n.result_is)) n.refused; untouched =
+        n.untouched }
 
-  pub many_refused : (count : ℕ) → Serves {A = A} profile first images turns t (Err (Layers count)) → IsRefusedFor profile images t (Layers count)
+  pub many_refused : (count : ℕ) → Serves {A = A} profile first images turns t (Err (Layers count))
+      → IsRefusedFor profile images t (Layers count)
   many_refused count (inl s) = absurd s.run.end
   many_refused count (inr n) = refused_for (Layers count) n
 
-  pub broken_refused : (layer : ℕ) (fault : ImageFault) → Serves {A = A} profile first images turns t (Err (Layer layer fault)) → IsRefusedFor profile images t (Layer layer fault)
+  pub broken_refused : (layer : ℕ) (fault : ImageFault) → Serves {A = A} profile first images turns t (Err (Layer layer fault))
+      → IsRefusedFor profile images t (Layer layer fault)
   broken_refused layer fault (inl s) = absurd s.run.end
   broken_refused layer fault (inr n) = refused_for (Layer layer fault) n
 

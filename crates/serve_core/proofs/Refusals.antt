@@ -12,7 +12,8 @@ use Rattle.serve_core.specs.Preparing.{IsFew, AreLayers, IsLowestBroken, AreRefu
 
 -- of images that keep the rules up to one that does not, there is one number
 module _ (profile : Profile) (r s : Rule) (p q : ℕ) where
-  one_place : (xs ys us vs : List (List ℕ)) (a b : List ℕ) → All (IsSoundAs profile) xs → All (IsSoundAs profile) ys → IsFaultAs profile a r p → IsFaultAs profile b s q
+  one_place : (xs ys us vs : List (List ℕ)) (a b : List ℕ) → All (IsSoundAs profile) xs → All (IsSoundAs profile) ys
+      → IsFaultAs profile a r p → IsFaultAs profile b s q
       → xs ++ a ∷ us ≡ ys ++ b ∷ vs → (length xs ≡ length ys) × (a ≡ b)
   one_place [] [] us vs a b f g x y e = (refl, cc)
   one_place [] (c ∷ ys) us vs a b f g x y e =
@@ -29,16 +30,20 @@ module _ (profile : Profile) (r s : Rule) (p q : ℕ) where
 same_fault : (f g : ImageFault) → f.rule ≡ g.rule → f.place ≡ g.place → f ≡ g
 same_fault f g e h = ap (λ (r : Rule). record { rule = r; place = f.place }) e ∙ ap (λ (p : ℕ). record { rule = g.rule; place = p }) h
 
-one_broken : (profile : Profile) (images : List (List ℕ)) (m n : ℕ) (f g : ImageFault) → IsLowestBroken profile images m f → IsLowestBroken profile images n g → Layer m f ≡ Layer n g
+one_broken : (profile : Profile) (images : List (List ℕ)) (m n : ℕ) (f g : ImageFault) → IsLowestBroken profile images m f
+    → IsLowestBroken profile images n g → Layer m f ≡ Layer n g
 one_broken profile images m n f g x y =
-    let at = one_place profile f.rule g.rule f.place g.place x.below y.below x.above y.above x.bytes y.bytes x.sound y.sound x.broken y.broken (sym x.images_are ∙ y.images_are) in
-    let one = one_fault profile y.bytes f.rule g.rule f.place g.place (subst (λ b. IsFaultAs profile b f.rule f.place) at.1 x.broken) y.broken in
+    let at = one_place profile f.rule g.rule f.place g.place x.below y.below x.above y.above x.bytes y.bytes x.sound y.sound x.broken
+        y.broken (sym x.images_are ∙ y.images_are) in
+    let one = one_fault profile y.bytes f.rule g.rule f.place g.place (subst (λ b. IsFaultAs profile b f.rule f.place) at.1 x.broken)
+        y.broken in
     let number : m ≡ n = x.layer_is ∙ at.0 ∙ sym y.layer_is in
     let fault : f ≡ g = same_fault f g one.0 one.1 in
     cc
 
 -- images that keep the rules have none that is broken
-pub none_broken : (profile : Profile) (xs us : List (List ℕ)) (a : List ℕ) (r : Rule) (p : ℕ) → All (IsSoundAs profile) (xs ++ a ∷ us) → ¬ IsFaultAs profile a r p
+pub none_broken : (profile : Profile) (xs us : List (List ℕ)) (a : List ℕ) (r : Rule) (p : ℕ) → All (IsSoundAs profile) (xs ++ a ∷ us)
+    → ¬ IsFaultAs profile a r p
 none_broken profile [] us a r p f x = no_fault profile a r p (All-head (IsSoundAs profile) a us f) x
 none_broken profile (c ∷ xs) us a r p f x = none_broken profile xs us a r p (All-tail (IsSoundAs profile) c (xs ++ a ∷ us) f) x
 
@@ -49,7 +54,8 @@ module _ (profile : Profile) (images : List (List ℕ)) where
 
   -- a reason, but for want of memory
   reason : (r : Stop) → AreRefused profile images r
-      → (r ≡ Memory) ⊎ (((n : ℕ) × (r ≡ Layers n) × AreRefused profile images (Layers n)) ⊎ ((n : ℕ) × (f : ImageFault) × (r ≡ Layer n f) × AreRefused profile images (Layer n f)))
+      → (r ≡ Memory) ⊎ (((n : ℕ) × (r ≡ Layers n) × AreRefused profile images (Layers n)) ⊎ ((n : ℕ) × (f : ImageFault) × (r ≡ Layer n f)
+            × AreRefused profile images (Layer n f)))
   reason Memory x = inl refl
   reason (Layers n) x = inr (inl (n, refl, x))
   reason (Layer n f) x = inr (inr (n, f, refl, x))
@@ -80,5 +86,6 @@ module _ (profile : Profile) (images : List (List ℕ)) where
       elim (reason r x) [
         | inl e ↦ e
         | inr (inl a) ↦ absurd (not_few a.0 a.2 good.few)
-        | inr (inr a) ↦ let b = a.3.1 in absurd (none_broken profile b.below b.above b.bytes a.1.rule a.1.place (subst (All (IsSoundAs profile)) b.images_are good.sound) b.broken)
+        | inr (inr a) ↦ let b = a.3.1 in absurd (none_broken profile b.below b.above b.bytes a.1.rule a.1.place
+              (subst (All (IsSoundAs profile)) b.images_are good.sound) b.broken)
       ]

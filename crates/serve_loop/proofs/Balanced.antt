@@ -5,4 +5,5 @@ use Rattle.reply_model.specs.declared.moves.Move.{Move}
 use Rattle.serve_loop.specs.Serving.{AreBalances}
 
 pub one_balances : (moves : List Move) (nodes : ℕ) (xs ys : List ℤ) → AreBalances moves nodes xs → AreBalances moves nodes ys → xs ≡ ys
-one_balances moves nodes xs ys x y = ext_get_or (pos 0) xs ys (x.same ∙ sym y.same) (λ i l. x.each i (subst (λ n. i < n) x.same l) ∙ sym (y.each i (subst (λ n. i < n) x.same l)))
+one_balances moves nodes xs ys x y = ext_get_or (pos 0) xs ys (x.same ∙ sym y.same) (λ i l. x.each i (subst (λ n. i < n) x.same l)
+      ∙ sym (y.each i (subst (λ n. i < n) x.same l)))

@@ -8,7 +8,8 @@ use Rattle.serve_loop.specs.declared.done.Done.{Done}
 use Rattle.serve_loop.specs.Serving.{Trace, IsAllTold, IsPrompt, IsRun, read_failures, write_failures}
 use Rattle.serve_loop.specs.Laws.{HasAnsweredAll, HasServed, HasBadLength, IsCutOff, HasFailed, HasUsedTurns, IsFront}
 
-answered : (by : Answering) (t : Trace) (messages : List (List ℕ)) (rest : List ℕ) → IsSplit t.got messages rest → IsAllTold by t messages → HasAnsweredAll by t messages rest
+answered : (by : Answering) (t : Trace) (messages : List (List ℕ)) (rest : List ℕ) → IsSplit t.got messages rest → IsAllTold by t messages
+    → HasAnsweredAll by t messages rest
 answered by t messages rest s a = record { split = s; put = a.put; flushed_all = a.flushed_all }
 
 module _ {A : Type 0} (by : Answering) (nodes turns : ℕ) (t : Trace) where
@@ -23,16 +24,20 @@ module _ {A : Type 0} (by : Answering) (nodes turns : ℕ) (t : Trace) where
   }
 
   pub has_bad : (at len : ℕ) → IsRun {A = A} by nodes turns t (Err (BadLength at len)) → HasBadLength by t at len
-  has_bad at len r = record { messages = r.messages; rest = r.rest; answered = answered by t r.messages r.rest r.split r.end.2; place = r.end.1; bad = r.end.0 }
+  has_bad at len r = record { messages = r.messages; rest = r.rest; answered = answered by t r.messages r.rest r.split r.end.2; place =
+        r.end.1; bad = r.end.0 }
 
   pub is_cut : (at : ℕ) → IsRun {A = A} by nodes turns t (Err (CutOff at)) → IsCutOff by t at
-  is_cut at r = record { ended = r.end.0; messages = r.messages; rest = r.rest; answered = answered by t r.messages r.rest r.split r.end.3; place = r.end.2; cut = r.end.1 }
+  is_cut at r = record { ended = r.end.0; messages = r.messages; rest = r.rest; answered = answered by t r.messages r.rest r.split r.end.3;
+        place = r.end.2; cut = r.end.1 }
 
   pub well_at_read : IsRun {A = A} by nodes turns t (Err Read) → HasFailed by t
-  well_at_read r = record { failed = r.end.0; messages = r.messages; rest = r.rest; answered = answered by t r.messages r.rest r.split r.end.1 }
+  well_at_read r = record { failed = r.end.0; messages = r.messages; rest = r.rest; answered =
+        answered by t r.messages r.rest r.split r.end.1 }
 
   pub well_at_turns : IsRun {A = A} by nodes turns t (Err Turns) → HasUsedTurns by turns t
-  well_at_turns r = record { pulls = r.end.0; messages = r.messages; rest = r.rest; answered = answered by t r.messages r.rest r.split r.end.2; good = r.end.1 }
+  well_at_turns r = record { pulls = r.end.0; messages = r.messages; rest = r.rest; answered =
+        answered by t r.messages r.rest r.split r.end.2; good = r.end.1 }
 
   pub front : (result : Result (Done A) Stop) → IsRun by nodes turns t result → IsFront by t
   front result r = record { messages = r.messages; rest = r.rest; split = r.split; begun = r.begun }
@@ -49,7 +54,8 @@ write_told : {A : Type 0} (r : Result (Done A) Stop) (old new : ℕ) → new ≡
 write_told (Err Write) old new e = (λ _. e, λ _. refl)
 write_told _ old new e = (λ q. absurd (cc), λ f. absurd (omega arith))
 
-module _ {A : Type 0} (by : Answering) (nodes turns : ℕ) (t : Trace) (result : Result (Done A) Stop) (r : IsRun by nodes turns t result) where
+module _ {A : Type 0} (by : Answering) (nodes turns : ℕ) (t : Trace) (result : Result (Done A) Stop) (r : IsRun by nodes turns t result)
+    where
   pub read_is_exact : (result ≡ Err Read) ↔ (t.source.failures ≡ t.source_before.failures + 1)
   read_is_exact = read_told result t.source_before.failures t.source.failures r.counted.read
 

@@ -42,7 +42,8 @@ pub not_late : (p q : Pushes) (put : List ℕ) → HasFlushed put p q → q.unfl
 not_late p q put h = elim h.flushed [ inl x ↦ (let y = x.1 in omega arith) | inr x ↦ omega arith ]
 
 -- a round, of what is equal
-pub round_of : (by : Answering) (s : Session) (round : Round) (put rest seen : List ℕ) (old held new kept : List ℤ) → seen ≡ rest → held ≡ old → new ≡ kept →
+pub round_of : (by : Answering) (s : Session) (round : Round) (put rest seen : List ℕ) (old held new kept : List ℤ) → seen ≡ rest
+    → held ≡ old → new ≡ kept →
     IsRound by s seen round put (record { old = held; new = new }) → IsRound by s rest round put (record { old = old; new = kept })
 round_of by s round put rest seen old held new kept e f g r =
     let x = subst (λ (b : List ℕ). IsRound by s b round put (record { old = held; new = new })) e r in
@@ -54,11 +55,14 @@ pub all_of : (before after put : List ℕ) → before ≡ [] → after ≡ befor
 all_of before after put e f = f ∙ ap (λ v. v ++ put) e
 
 -- a round has no more messages than bytes
-pub round_few : (by : Answering) (s : Session) (round : Round) (put rest : List ℕ) (old new : List ℤ) → IsRound by s rest round put (record { old = old; new = new }) → round.messages ≤ length rest
+pub round_few : (by : Answering) (s : Session) (round : Round) (put rest : List ℕ) (old new : List ℤ)
+    → IsRound by s rest round put (record { old = old; new = new }) → round.messages ≤ length rest
 round_few by s round put rest old new r =
-    let j = joined_long r.messages r.first.each in let w = first_within rest r.messages round.used r.first in let k = r.first.size in let c = r.count in omega arith
+    let j = joined_long r.messages r.first.each in let w = first_within rest r.messages round.used r.first in let k = r.first.size in
+        let c = r.count in omega arith
 
-pub some_messages : (by : Answering) (s : Session) (round : Round) (put rest : List ℕ) (old new : List ℤ) (r : IsRound by s rest round put (record { old = old; new = new })) → (round.messages ≡ 0 → ⊥) → 0 < length r.messages
+pub some_messages : (by : Answering) (s : Session) (round : Round) (put rest : List ℕ) (old new : List ℤ)
+    (r : IsRound by s rest round put (record { old = old; new = new })) → (round.messages ≡ 0 → ⊥) → 0 < length r.messages
 some_messages by s round put rest old new r n = let c = r.count in omega (arith, n)
 
 -- where memory is refused the error says so
@@ -68,9 +72,11 @@ from_memory (Err stop) Q i q = subst Q (sym i) q
 
 module _ (by : Answering) where
   pub goes_nowhere : (v : ServingState) → Goes by v v [] []
-  goes_nowhere v = record { taken = refl; each = tt; answered = none_answered by v.session v.balances; place = omega arith; count = omega arith; written = omega arith }
+  goes_nowhere v = record { taken = refl; each = tt; answered = none_answered by v.session v.balances; place = omega arith; count =
+        omega arith; written = omega arith }
 
-  pub goes_further : (a b c : ServingState) (ms ns : List (List ℕ)) (put more : List ℕ) → Goes by a b ms put → Goes by b c ns more → Goes by a c (ms ++ ns) (put ++ more)
+  pub goes_further : (a b c : ServingState) (ms ns : List (List ℕ)) (put more : List ℕ) → Goes by a b ms put → Goes by b c ns more
+      → Goes by a c (ms ++ ns) (put ++ more)
   goes_further a b c ms ns put more g h =
       let j = ap length (joined_append ms ns) ∙ length-append (joined ms) (joined ns) in
       record {
@@ -89,8 +95,10 @@ module _ (by : Answering) where
   -- a round that answered some messages
   pub goes_round : (from : ServingState) (round : Round) (put rest : List ℕ) (new : List ℤ) (at messages written : ℕ) →
       (r : IsRound by from.session from.rest round put (record { old = from.balances; new = new })) →
-      rest ≡ drop round.used from.rest → at ≡ from.at + round.used → messages ≡ from.messages + round.messages → written ≡ from.written + length put →
-      Goes by from (record { rest = rest; session = round.session; at = at; messages = messages; written = written; balances = new }) r.messages put
+      rest ≡ drop round.used from.rest → at ≡ from.at + round.used → messages ≡ from.messages + round.messages → written ≡ from.written
+          + length put →
+      Goes by from (record { rest = rest; session = round.session; at = at; messages = messages; written = written; balances = new })
+          r.messages put
   goes_round from round put rest new at messages written r e a m w = record {
     taken = r.first.whole ∙ ap (λ v. joined r.messages ++ v) (sym e);
     each = r.first.each;
@@ -101,13 +109,15 @@ module _ (by : Answering) where
   }
 
   -- a round in which no message was whole
-  module _ (from : ServingState) (round : Round) (put : List ℕ) (new : List ℤ) (r : IsRound by from.session from.rest round put (record { old = from.balances; new = new })) (z : round.messages ≡ 0) where
+  module _ (from : ServingState) (round : Round) (put : List ℕ) (new : List ℤ) (r : IsRound by from.session from.rest round put
+        (record { old = from.balances; new = new })) (z : round.messages ≡ 0) where
     none : r.messages ≡ []
     none = no_messages r.messages (sym r.count ∙ z)
 
     pub goes_idle : Goes by from (record from { balances = new }) [] []
     goes_idle =
-        let a = subst (λ (ms : List (List ℕ)). AreAnswered by from.session ms round.session put (record { old = from.balances; new = new })) none r.answered in
+        let a = subst (λ (ms : List (List ℕ)). AreAnswered by from.session ms round.session put (record { old = from.balances; new = new }))
+            none r.answered in
         record {
           taken = refl;
           each = tt;
@@ -123,12 +133,14 @@ module _ (by : Answering) where
       | inr t ↦ (let u : round.used ≡ 0 = r.first.size ∙ ap (λ ms. length (joined ms)) none in subst (λ n. IsRest (drop n from.rest)) u t)
     ]
 
-  few : (from to : ServingState) (ms : List (List ℕ)) (put : List ℕ) → Goes by from to ms put → length put < 2 ^ 64 → length put ≤ 2 ^ 64 * length (joined ms)
+  few : (from to : ServingState) (ms : List (List ℕ)) (put : List ℕ) → Goes by from to ms put → length put < 2 ^ 64
+      → length put ≤ 2 ^ 64 * length (joined ms)
   few from to [] put g l = let e = ap length g.answered.told in omega arith
   few from to (m ∷ ms) put g l = let k = g.each.0.good.0 in let j = length-append m (joined ms) in omega arith
 
   -- the counts stay small
-  pub small_on : (nodes : ℕ) (from to : ServingState) (ms : List (List ℕ)) (put : List ℕ) → IsSmall nodes from → Goes by from to ms put → length put < 2 ^ 64 → IsSmall nodes to
+  pub small_on : (nodes : ℕ) (from to : ServingState) (ms : List (List ℕ)) (put : List ℕ) → IsSmall nodes from → Goes by from to ms put
+      → length put < 2 ^ 64 → IsSmall nodes to
   small_on nodes from to ms put s g l =
       let p = g.place in let c = g.count in let b = g.written in
       record {
@@ -138,11 +150,13 @@ module _ (by : Answering) where
         nodes_are = g.answered.moves.same ∙ s.nodes_are;
         balanced = (
             let k = g.answered.light in
-            within_less _ _ to.balances (omega arith) (within_moved (2 ^ 64 * from.at) (moves_by by.moved from.session (map asked ms)) from.balances to.balances s.balanced g.answered.moves));
+            within_less _ _ to.balances (omega arith) (within_moved (2 ^ 64 * from.at) (moves_by by.moved from.session (map asked ms))
+                  from.balances to.balances s.balanced g.answered.moves));
       }
 
   -- some messages take some bytes
-  pub shorter : (from to : ServingState) (ms : List (List ℕ)) (put : List ℕ) → Goes by from to ms put → 0 < length ms → length to.rest < length from.rest
+  pub shorter : (from to : ServingState) (ms : List (List ℕ)) (put : List ℕ) → Goes by from to ms put → 0 < length ms
+      → length to.rest < length from.rest
   shorter from to ms put g h = let j = joined_long ms g.each in let t = ap length g.taken ∙ length-append (joined ms) to.rest in omega arith
 
   -- memory was refused before any byte was put
@@ -158,7 +172,8 @@ module _ (by : Answering) where
 
   -- the sink failed in a round
   pub halts_late : (from : ServingState) (round : Round) (all put rest : List ℕ) (new : List ℤ) (p q : Pushes) →
-      (r : IsRound by from.session from.rest round all (record { old = from.balances; new = new })) → all ≡ put ++ rest → q.failures ≡ p.failures + 1 → q.unflushed ≤ p.unflushed + length put →
+      (r : IsRound by from.session from.rest round all (record { old = from.balances; new = new })) → all ≡ put ++ rest
+          → q.failures ≡ p.failures + 1 → q.unflushed ≤ p.unflushed + length put →
       Halts by from p q Write r.messages put (drop round.used from.rest)
   halts_late from round all put rest new p q r e f l = record {
     halt = tt;

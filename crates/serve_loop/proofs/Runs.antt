@@ -23,17 +23,21 @@ use Rattle.serve_loop.proofs.Rounding.{goes_further, goes_nowhere, not_late}
 use Rattle.serve_loop.proofs.Traces.{start, untouched, pulled_on, pushed_on, IsLow, IsRunning, IsFed, some_counted, end_counted, failure_counted, take_none, take_whole, all_but_last, flushed_late, flushed_more, all_begun, no_bytes, unfinished, zero_more, from_nothing}
 
 module _ (by : Answering) (nodes : ℕ) where
-  replies_of : (t : Trace) (v : ServingState) (ms : List (List ℕ)) → Goes by (start by.first nodes t.got) v ms t.put → t.put ≡ replies_to by ms
+  replies_of : (t : Trace) (v : ServingState) (ms : List (List ℕ)) → Goes by (start by.first nodes t.got) v ms t.put
+      → t.put ≡ replies_to by ms
   replies_of t v ms g = g.answered.told
 
-  all_told : (t : Trace) (v : ServingState) (ms : List (List ℕ)) → Goes by (start by.first nodes t.got) v ms t.put → flushed_bytes t ≡ t.put → IsAllTold by t ms
+  all_told : (t : Trace) (v : ServingState) (ms : List (List ℕ)) → Goes by (start by.first nodes t.got) v ms t.put → flushed_bytes t ≡ t.put
+      → IsAllTold by t ms
   all_told t v ms g f = record { put = g.answered.told; flushed_all = f }
 
-  split_of : (t : Trace) (v : ServingState) (ms : List (List ℕ)) → Goes by (start by.first nodes t.got) v ms t.put → IsRest v.rest → IsSplit t.got ms v.rest
+  split_of : (t : Trace) (v : ServingState) (ms : List (List ℕ)) → Goes by (start by.first nodes t.got) v ms t.put → IsRest v.rest
+      → IsSplit t.got ms v.rest
   split_of t v ms g r = record { whole = g.taken; each = g.each; tail = r }
 
   prompt_first : (p : Pulls) (q : Pushes) → IsPrompt by (untouched p q)
-  prompt_first p q = record { messages = []; rest = []; split = record { whole = take_none _ [] refl; each = tt; tail = inl (inl refl) }; good = inl refl; told = record { more = all_but q.unflushed []; is = refl } }
+  prompt_first p q = record { messages = []; rest = []; split = record { whole = take_none _ [] refl; each = tt; tail = inl (inl refl) };
+        good = inl refl; told = record { more = all_but q.unflushed []; is = refl } }
 
   pub runs_first : (p : Pulls) (q : Pushes) (v : ServingState) → v ≡ start by.first nodes [] → IsRunning by nodes 0 (untouched p q) v []
   runs_first p q v e = record {
@@ -49,7 +53,9 @@ module _ (by : Answering) (nodes : ℕ) where
   }
 
   -- nothing was done
-  pub stops_first : {A : Type 0} (turns : ℕ) (p : Pulls) (q : Pushes) (stop : Stop) → IsStopped by turns (untouched p q) [] [] stop → ends_met {A = A} (Err stop) ≡ 0 → read_failures {A = A} (Err stop) ≡ 0 → write_failures {A = A} (Err stop) ≡ 0 → IsRun {A = A} by nodes turns (untouched p q) (Err stop)
+  pub stops_first : {A : Type 0} (turns : ℕ) (p : Pulls) (q : Pushes) (stop : Stop) → IsStopped by turns (untouched p q) [] [] stop
+      → ends_met {A = A} (Err stop) ≡ 0 → read_failures {A = A} (Err stop) ≡ 0 → write_failures {A = A} (Err stop) ≡ 0
+      → IsRun {A = A} by nodes turns (untouched p q) (Err stop)
   stops_first turns p q stop s e r w = record {
     messages = [];
     rest = [];
@@ -67,14 +73,17 @@ module _ (by : Answering) (nodes : ℕ) where
   }
 
   pub no_turns : {A : Type 0} (turns : ℕ) (p : Pulls) (q : Pushes) → turns ≡ 0 → IsRun {A = A} by nodes turns (untouched p q) (Err Turns)
-  no_turns turns p q z = stops_first turns p q Turns (omega arith, inl refl, record { put = refl; flushed_all = take_none _ [] refl }) refl refl refl
+  no_turns turns p q z = stops_first turns p q Turns (omega arith, inl refl, record { put = refl; flushed_all = take_none _ [] refl }) refl
+      refl refl
 
   pub no_memory : {A : Type 0} (turns : ℕ) (p : Pulls) (q : Pushes) → IsRun {A = A} by nodes turns (untouched p q) (Err Memory)
   no_memory turns p q = stops_first turns p q Memory tt refl refl refl
 
   module _ (turn : ℕ) (t : Trace) (v : ServingState) (ms : List (List ℕ)) (r : IsRunning by nodes turn t v ms) where
     -- where it stops between two turns
-    pub stops_between : {A : Type 0} (turns : ℕ) (stop : Stop) → turn ≤ turns → IsStopped by turns t ms v.rest stop → ends_met {A = A} (Err stop) ≡ 0 → read_failures {A = A} (Err stop) ≡ 0 → write_failures {A = A} (Err stop) ≡ 0 → IsRun {A = A} by nodes turns t (Err stop)
+    pub stops_between : {A : Type 0} (turns : ℕ) (stop : Stop) → turn ≤ turns → IsStopped by turns t ms v.rest stop
+        → ends_met {A = A} (Err stop) ≡ 0 → read_failures {A = A} (Err stop) ≡ 0 → write_failures {A = A} (Err stop) ≡ 0
+        → IsRun {A = A} by nodes turns t (Err stop)
     stops_between turns stop h s e f w = record {
       messages = ms;
       rest = v.rest;
@@ -109,14 +118,17 @@ module _ (by : Answering) (nodes : ℕ) where
       prompt_quiet = record {
         messages = ms;
         rest = v.rest;
-        split = record { whole = ap (λ n. all_but n (t.got ++ x)) z ∙ take_whole (t.got ++ x) ∙ got_same ∙ r.goes.taken; each = r.goes.each; tail = inl r.good };
+        split = record { whole = ap (λ n. all_but n (t.got ++ x)) z ∙ take_whole (t.got ++ x) ∙ got_same ∙ r.goes.taken; each = r.goes.each;
+              tail = inl r.good };
         good = r.good;
         told = all_begun _ _ (sym r.goes.answered.told ∙ sym r.flushed_all);
       }
 
     -- a pull that met the end
-    module _ (new : Pulls) (x : List ℕ) (n turns : ℕ) (c : new ≡ pulled t.source (Ok n)) (l : length x ≡ n) (z : n ≡ 0) (low : IsLow t) (h : turn < turns) (few : turns ≤ 2 ^ 40) where
-      counts : (new.pulls ≡ t.source.pulls + 1) × (new.ends ≡ t.source.ends + 1) × (new.failures ≡ t.source.failures) × (new.last ≡ Some End)
+    module _ (new : Pulls) (x : List ℕ) (n turns : ℕ) (c : new ≡ pulled t.source (Ok n)) (l : length x ≡ n) (z : n ≡ 0) (low : IsLow t)
+        (h : turn < turns) (few : turns ≤ 2 ^ 40) where
+      counts : (new.pulls ≡ t.source.pulls + 1) × (new.ends ≡ t.source.ends + 1) × (new.failures ≡ t.source.failures)
+          × (new.last ≡ Some End)
       counts = (
           let p = low.pulls in let e = low.ends in let f = low.failures in let a = r.pulls in let b = r.ends in let d = r.read in
           end_counted t.source new (omega arith) (omega arith) (omega arith) n c z)
@@ -127,7 +139,8 @@ module _ (by : Answering) (nodes : ℕ) where
       quiet : last_size new.last ≡ 0
       quiet = ap last_size counts.3
 
-      counted : {A : Type 0} (result : Result (Done A) Stop) → ends_met result ≡ 1 → read_failures result ≡ 0 → write_failures result ≡ 0 → IsCounted turns (pulled_on t new x) result
+      counted : {A : Type 0} (result : Result (Done A) Stop) → ends_met result ≡ 1 → read_failures result ≡ 0 → write_failures result ≡ 0
+          → IsCounted turns (pulled_on t new x) result
       counted result e f w = record {
         pulls = (let a = counts.0 in let b = r.pulls in omega arith);
         size = (let a = counts.0 in let b = r.pulls in let s = r.size in let k = length-append t.got x in omega arith);
@@ -136,7 +149,8 @@ module _ (by : Answering) (nodes : ℕ) where
         write = r.write ∙ zero_more _ ∙ ap (λ k. t.sink_before.failures + k) (sym w);
       }
 
-      pub ends_clean : {A : Type 0} (done : Done A) → v.rest ≡ [] → done.messages ≡ v.messages → done.written ≡ v.written → done.balances.items ≡ v.balances → IsRun by nodes turns (pulled_on t new x) (Ok done)
+      pub ends_clean : {A : Type 0} (done : Done A) → v.rest ≡ [] → done.messages ≡ v.messages → done.written ≡ v.written
+          → done.balances.items ≡ v.balances → IsRun by nodes turns (pulled_on t new x) (Ok done)
       ends_clean done e m w b = record {
         messages = ms;
         rest = v.rest;
@@ -148,7 +162,8 @@ module _ (by : Answering) (nodes : ℕ) where
           told = record { put = r.goes.answered.told; flushed_all = r.flushed_all };
           counted = (let k = r.goes.count in omega arith);
           written = (let k = r.goes.written in omega arith);
-          balanced = subst (λ (bs : List ℤ). AreBalances (moves_of by ms) nodes bs) (sym b) (from_nothing nodes (moves_of by ms) v.balances r.goes.answered.moves);
+          balanced = subst (λ (bs : List ℤ). AreBalances (moves_of by ms) nodes bs) (sym b)
+              (from_nothing nodes (moves_of by ms) v.balances r.goes.answered.moves);
         };
         prompt = prompt_quiet new x none quiet;
         counted = counted (Ok done) refl refl refl;
@@ -160,13 +175,15 @@ module _ (by : Answering) (nodes : ℕ) where
         rest = v.rest;
         split = split_quiet new x none quiet;
         begun = all_begun t.put (replies_to by ms) r.goes.answered.told;
-        end = (counts.3, unfinished v.rest r.good e, (let k = r.goes.place in omega arith), record { put = r.goes.answered.told; flushed_all = r.flushed_all });
+        end = (counts.3, unfinished v.rest r.good e, (let k = r.goes.place in omega arith),
+              record { put = r.goes.answered.told; flushed_all = r.flushed_all });
         prompt = prompt_quiet new x none quiet;
         counted = counted {A = A} (Err (CutOff v.at)) refl refl refl;
       }
 
     -- a pull that failed
-    pub ends_read : {A : Type 0} (new : Pulls) (x : List ℕ) (failed : Failed) (turns : ℕ) → new ≡ pulled t.source (Err failed) → x ≡ [] → IsLow t → turn < turns → turns ≤ 2 ^ 40 → IsRun {A = A} by nodes turns (pulled_on t new x) (Err Read)
+    pub ends_read : {A : Type 0} (new : Pulls) (x : List ℕ) (failed : Failed) (turns : ℕ) → new ≡ pulled t.source (Err failed) → x ≡ []
+        → IsLow t → turn < turns → turns ≤ 2 ^ 40 → IsRun {A = A} by nodes turns (pulled_on t new x) (Err Read)
     ends_read new x failed turns c e low h few =
         let p = low.pulls in let y = low.ends in let f = low.failures in let a = r.pulls in let b = r.ends in let d = r.read in
         let k = failure_counted t.source new (omega arith) (omega arith) (omega arith) failed c in
@@ -189,12 +206,14 @@ module _ (by : Answering) (nodes : ℕ) where
         }
 
     -- a pull that gave bytes
-    pub fed : (new : Pulls) (x rest : List ℕ) (n : ℕ) → new ≡ pulled t.source (Ok n) → length x ≡ n → n ≤ PULL_SIZE → (n ≡ 0 → ⊥) → rest ≡ v.rest ++ x → IsLow t → turn < 2 ^ 40 → IsFed by nodes turn (pulled_on t new x) (record v { rest = rest }) ms
+    pub fed : (new : Pulls) (x rest : List ℕ) (n : ℕ) → new ≡ pulled t.source (Ok n) → length x ≡ n → n ≤ PULL_SIZE → (n ≡ 0 → ⊥)
+        → rest ≡ v.rest ++ x → IsLow t → turn < 2 ^ 40 → IsFed by nodes turn (pulled_on t new x) (record v { rest = rest }) ms
     fed new x rest n c l m z e low h =
         let p = low.pulls in let y = low.ends in let f = low.failures in let a = r.pulls in let b = r.ends in let d = r.read in
         let k = some_counted t.source new (omega arith) (omega arith) (omega arith) n c z in
         let u = k.0 in let o = k.1 in let i = k.2 in
-        let back : before (pulled_on t new x) ≡ t.got = ap (λ s. all_but (last_size s) (t.got ++ x)) k.3 ∙ ap (λ j. all_but j (t.got ++ x)) (sym l) ∙ all_but_last t.got x in
+        let back : before (pulled_on t new x) ≡ t.got = ap (λ s. all_but (last_size s) (t.got ++ x)) k.3
+            ∙ ap (λ j. all_but j (t.got ++ x)) (sym l) ∙ all_but_last t.got x in
         record {
           goes = record {
             taken = ap (λ g. g ++ x) r.goes.taken ∙ append_assoc (joined ms) v.rest x ∙ ap (λ g. joined ms ++ g) (sym e);
@@ -219,10 +238,12 @@ module _ (by : Answering) (nodes : ℕ) where
     prompt_late : (new : Pushes) (more : List ℕ) → new.unflushed ≤ t.sink.unflushed + length more → IsPrompt by (pushed_on t new more)
     prompt_late new more l =
         let b = flushed_late t.put more t.sink.unflushed new.unflushed f.flushed_all l in
-        record { messages = ms; rest = f.earlier; split = f.split; good = f.good; told = record { more = b.more; is = b.is ∙ ap (λ x. x ++ b.more) f.goes.answered.told } }
+        record { messages = ms; rest = f.earlier; split = f.split; good = f.good; told =
+              record { more = b.more; is = b.is ∙ ap (λ x. x ++ b.more) f.goes.answered.told } }
 
     -- all that is whole is answered
-    module _ (w : ServingState) (ns : List (List ℕ)) (new : Pushes) (more : List ℕ) (g : Goes by v w ns more) (p : HasFlushed more t.sink new) where
+    module _ (w : ServingState) (ns : List (List ℕ)) (new : Pushes) (more : List ℕ) (g : Goes by v w ns more)
+        (p : HasFlushed more t.sink new) where
       on : Goes by (start by.first nodes t.got) w (ms ++ ns) (t.put ++ more)
       on = goes_further by (start by.first nodes t.got) v w ms ns t.put more f.goes g
 
@@ -242,7 +263,8 @@ module _ (by : Answering) (nodes : ℕ) where
         write = p.failures ∙ f.write;
       }
 
-      pub ends_bad : {A : Type 0} (turns len : ℕ) → IsBad w.rest len → turn < turns → IsRun {A = A} by nodes turns (pushed_on t new more) (Err (BadLength w.at len))
+      pub ends_bad : {A : Type 0} (turns len : ℕ) → IsBad w.rest len → turn < turns → IsRun {A = A} by nodes turns (pushed_on t new more)
+          (Err (BadLength w.at len))
       ends_bad turns len b h = record {
         messages = ms ++ ns;
         rest = w.rest;
@@ -261,13 +283,17 @@ module _ (by : Answering) (nodes : ℕ) where
 
     -- the sink failed, or memory was refused
     module _ (ns : List (List ℕ)) (new : Pushes) (more rest : List ℕ) where
-      halts : {A : Type 0} (turns : ℕ) (stop : Stop) → Halts by v t.sink new stop ns more rest → turn < turns → ((a : List (List ℕ)) (b : List ℕ) → IsStopped by turns (pushed_on t new more) a b stop) → ends_met {A = A} (Err stop) ≡ 0 → read_failures {A = A} (Err stop) ≡ 0 → write_failures {A = A} (Err stop) ≡ sink_failures stop →
+      halts : {A : Type 0} (turns : ℕ) (stop : Stop) → Halts by v t.sink new stop ns more rest → turn < turns
+          → ((a : List (List ℕ)) (b : List ℕ) → IsStopped by turns (pushed_on t new more) a b stop) → ends_met {A = A} (Err stop) ≡ 0
+          → read_failures {A = A} (Err stop) ≡ 0 → write_failures {A = A} (Err stop) ≡ sink_failures stop →
           IsRun {A = A} by nodes turns (pushed_on t new more) (Err stop)
       halts turns stop h lt s em rm wm =
           let (ks, end, q) = some_split rest in
           let all : List (List ℕ) = ns ++ ks in
-          let later : v.rest ≡ joined all ++ end = h.taken ∙ ap (λ l. joined ns ++ l) q.whole ∙ sym (append_assoc (joined ns) (joined ks) end) ∙ ap (λ l. l ++ end) (sym (joined_append ns ks)) in
-          let told : replies_by by.reply v.session (map asked all) ≡ more ++ (h.told.more ++ replies_by by.reply (session_at v.session (map asked ns)) (map asked ks)) = (
+          let later : v.rest ≡ joined all ++ end = h.taken ∙ ap (λ l. joined ns ++ l) q.whole
+              ∙ sym (append_assoc (joined ns) (joined ks) end) ∙ ap (λ l. l ++ end) (sym (joined_append ns ks)) in
+          let told : replies_by by.reply v.session (map asked all) ≡ more
+              ++ (h.told.more ++ replies_by by.reply (session_at v.session (map asked ns)) (map asked ks)) = (
           ap (replies_by by.reply v.session) (map-append asked ns ks)
           ∙ replies_append by.reply v.session (map asked ns) (map asked ks)
           ∙ ap (λ l. l ++ replies_by by.reply (session_at v.session (map asked ns)) (map asked ks)) h.told.is
@@ -276,7 +302,8 @@ module _ (by : Answering) (nodes : ℕ) where
             messages = ms ++ all;
             rest = end;
             split = record {
-              whole = f.goes.taken ∙ ap (λ l. joined ms ++ l) later ∙ sym (append_assoc (joined ms) (joined all) end) ∙ ap (λ l. l ++ end) (sym (joined_append ms all));
+              whole = f.goes.taken ∙ ap (λ l. joined ms ++ l) later ∙ sym (append_assoc (joined ms) (joined all) end)
+                  ∙ ap (λ l. l ++ end) (sym (joined_append ms all));
               each = both ms all f.goes.each (both ns ks h.each q.each);
               tail = q.tail;
             };
@@ -301,7 +328,8 @@ module _ (by : Answering) (nodes : ℕ) where
             };
           }
 
-      pub ends_halt : {A : Type 0} (turns : ℕ) (stop : Stop) → Halts by v t.sink new stop ns more rest → turn < turns → IsRun {A = A} by nodes turns (pushed_on t new more) (Err stop)
+      pub ends_halt : {A : Type 0} (turns : ℕ) (stop : Stop) → Halts by v t.sink new stop ns more rest → turn < turns
+          → IsRun {A = A} by nodes turns (pushed_on t new more) (Err stop)
       ends_halt turns Write h lt = halts turns Write h lt (λ a b. tt) refl refl refl
       ends_halt turns Memory h lt = halts turns Memory h lt (λ a b. tt) refl refl refl
       ends_halt turns Read h lt = absurd h.halt
@@ -312,7 +340,8 @@ module _ (by : Answering) (nodes : ℕ) where
       ends_halt turns (Layers count) h lt = absurd h.halt
 
 -- the counts stay small as bytes come
-pub small_fed : (by : Answering) (nodes turn : ℕ) (t : Trace) (v : ServingState) (rest : List ℕ) (ms : List (List ℕ)) → IsFed by nodes turn t (record v { rest = rest }) ms → IsSmall nodes v → turn < 2 ^ 40 → IsSmall nodes (record v { rest = rest })
+pub small_fed : (by : Answering) (nodes turn : ℕ) (t : Trace) (v : ServingState) (rest : List ℕ) (ms : List (List ℕ))
+    → IsFed by nodes turn t (record v { rest = rest }) ms → IsSmall nodes v → turn < 2 ^ 40 → IsSmall nodes (record v { rest = rest })
 small_fed by nodes turn t v rest ms f s h = record {
   place = (let l = ap length f.goes.taken ∙ length-append (joined ms) rest in let p = f.goes.place in let z = f.size in omega arith);
   count = s.count;
@@ -322,6 +351,7 @@ small_fed by nodes turn t v rest ms f s h = record {
 }
 
 -- where memory is refused the result says so
-pub run_memory : {A : Type 0} (by : Answering) (nodes turns : ℕ) (t : Trace) (r : Result (Done A) Stop) → IsErrAnd r (λ stop. stop ≡ Memory) → IsRun {A = A} by nodes turns t (Err Memory) → IsRun by nodes turns t r
+pub run_memory : {A : Type 0} (by : Answering) (nodes turns : ℕ) (t : Trace) (r : Result (Done A) Stop) → IsErrAnd r (λ stop. stop ≡ Memory)
+    → IsRun {A = A} by nodes turns t (Err Memory) → IsRun by nodes turns t r
 run_memory by nodes turns t (Ok done) i p = absurd i
 run_memory {A} by nodes turns t (Err stop) i p = subst (λ (s : Stop). IsRun {A = A} by nodes turns t (Err s)) (sym i) p

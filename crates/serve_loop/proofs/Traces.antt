@@ -29,7 +29,8 @@ take_none (suc n) [] e = refl
 take_none n (x ∷ xs) e = cc
 
 pub take_whole : (xs : List ℕ) → take (length xs - 0) xs ≡ xs
-take_whole xs = ap (λ n. take n xs) (let e : length xs - 0 ≡ length xs = omega arith in e) ∙ sym (ap (take (length xs)) (append-nil xs)) ∙ take_at xs [] (length xs) refl
+take_whole xs = ap (λ n. take n xs) (let e : length xs - 0 ≡ length xs = omega arith in e) ∙ sym (ap (take (length xs)) (append-nil xs))
+    ∙ take_at xs [] (length xs) refl
 
 pub all_but_last : (got x : List ℕ) → all_but (length x) (got ++ x) ≡ got
 all_but_last got x = take_at got x _ (let l = length-append got x in omega arith)
@@ -44,7 +45,8 @@ flushed_late (p ∷ put) more u v e h =
     let w = length-append (p ∷ put) more in
     begins_take (p ∷ put) more _ (omega (arith, w, z, h))
 
-pub flushed_more : (p q : Pushes) (put more : List ℕ) → all_but p.unflushed put ≡ put → HasFlushed more p q → all_but q.unflushed (put ++ more) ≡ put ++ more
+pub flushed_more : (p q : Pushes) (put more : List ℕ) → all_but p.unflushed put ≡ put → HasFlushed more p q
+    → all_but q.unflushed (put ++ more) ≡ put ++ more
 flushed_more p q put more e s = elim s.flushed [
   | inl x ↦ (let j : put ++ more ≡ put = ap (λ l. put ++ l) x.0 ∙ append-nil put in
       subst (λ l. all_but q.unflushed l ≡ l) (sym j) (ap (λ u. all_but u put) x.1 ∙ e))
@@ -87,7 +89,8 @@ length_zeros zero = refl
 length_zeros (suc n) = ap suc (length_zeros n)
 
 -- what is given from nothing on is the balance
-pub from_nothing : (nodes : ℕ) (moves : List Move) (new : List ℤ) → IsMoved moves (replicate nodes (pos 0)) new → AreBalances moves nodes new
+pub from_nothing : (nodes : ℕ) (moves : List Move) (new : List ℤ) → IsMoved moves (replicate nodes (pos 0)) new
+    → AreBalances moves nodes new
 from_nothing nodes moves new m = record {
   same = m.same ∙ length_zeros nodes;
   each = λ i h. (let l = length_zeros nodes in let e = m.each i (omega arith) in let z = zero_at nodes i in omega (arith, ints));
@@ -134,16 +137,22 @@ not_zero (suc n) x y h = ap (λ b. cond b x y) (eqb-suc-zero n)
 
 -- what a pull counts
 module _ (old new : Pulls) (low : old.pulls < 2 ^ 63 + 2 ^ 41) (few_ends : old.ends < 2 ^ 63) (few_failures : old.failures < 2 ^ 63) where
-  pub some_counted : (n : ℕ) → new ≡ pulled old (Ok n) → (n ≡ 0 → ⊥) → (new.pulls ≡ old.pulls + 1) × (new.ends ≡ old.ends) × (new.failures ≡ old.failures) × (new.last ≡ Some (Bytes n))
-  some_counted n e z = (ap (λ p. p.pulls) e ∙ rises old.pulls low, ap (λ p. p.ends) e ∙ not_zero n _ _ z, ap (λ p. p.failures) e, ap (λ p. p.last) e ∙ not_zero n _ _ z)
+  pub some_counted : (n : ℕ) → new ≡ pulled old (Ok n) → (n ≡ 0 → ⊥) → (new.pulls ≡ old.pulls + 1) × (new.ends ≡ old.ends)
+      × (new.failures ≡ old.failures) × (new.last ≡ Some (Bytes n))
+  some_counted n e z = (ap (λ p. p.pulls) e ∙ rises old.pulls low, ap (λ p. p.ends) e ∙ not_zero n _ _ z, ap (λ p. p.failures) e,
+        ap (λ p. p.last) e ∙ not_zero n _ _ z)
 
-  pub end_counted : (n : ℕ) → new ≡ pulled old (Ok n) → n ≡ 0 → (new.pulls ≡ old.pulls + 1) × (new.ends ≡ old.ends + 1) × (new.failures ≡ old.failures) × (new.last ≡ Some End)
+  pub end_counted : (n : ℕ) → new ≡ pulled old (Ok n) → n ≡ 0 → (new.pulls ≡ old.pulls + 1) × (new.ends ≡ old.ends + 1)
+      × (new.failures ≡ old.failures) × (new.last ≡ Some End)
   end_counted n e z =
       let f : new ≡ pulled old (Ok 0) = e ∙ ap (λ k. pulled old (Ok k)) z in
-      (ap (λ p. p.pulls) f ∙ rises old.pulls low, ap (λ p. p.ends) f ∙ rises old.ends (omega arith), ap (λ p. p.failures) f, ap (λ p. p.last) f)
+      (ap (λ p. p.pulls) f ∙ rises old.pulls low, ap (λ p. p.ends) f ∙ rises old.ends (omega arith), ap (λ p. p.failures) f,
+            ap (λ p. p.last) f)
 
-  pub failure_counted : (failed : Failed) → new ≡ pulled old (Err failed) → (new.pulls ≡ old.pulls + 1) × (new.ends ≡ old.ends) × (new.failures ≡ old.failures + 1) × (new.last ≡ Some Failure)
-  failure_counted failed e = (ap (λ p. p.pulls) e ∙ rises old.pulls low, ap (λ p. p.ends) e, ap (λ p. p.failures) e ∙ rises old.failures (omega arith), ap (λ p. p.last) e)
+  pub failure_counted : (failed : Failed) → new ≡ pulled old (Err failed) → (new.pulls ≡ old.pulls + 1) × (new.ends ≡ old.ends)
+      × (new.failures ≡ old.failures + 1) × (new.last ≡ Some Failure)
+  failure_counted failed e = (ap (λ p. p.pulls) e ∙ rises old.pulls low, ap (λ p. p.ends) e, ap (λ p. p.failures) e
+        ∙ rises old.failures (omega arith), ap (λ p. p.last) e)
 
 pub small_first : (first : Session) (nodes : ℕ) → IsSmall nodes (start first nodes [])
 small_first first nodes = record {
@@ -160,7 +169,8 @@ none_left (y ∷ seen) held left x b e f g h = absurd (grind arith)
 none_left [] held [] x b e f g h = refl
 none_left [] held (y ∷ left) x b e f g h = cc
 
-pub some_left : (seen held left x : List ℕ) (b : Bool) → b ≡ (length seen == 0) → b ≡ false → seen ≡ held → held ≡ left ++ x → length x ≡ 0 → left ≡ [] → ⊥
+pub some_left : (seen held left x : List ℕ) (b : Bool) → b ≡ (length seen == 0) → b ≡ false → seen ≡ held → held ≡ left ++ x → length x ≡ 0
+    → left ≡ [] → ⊥
 some_left [] held left x b e f g h l n = cc
 some_left (y ∷ seen) held left x b e f g h l n = (
     let k : length (y ∷ seen) ≡ length left + length x = ap length (g ∙ h) ∙ length-append left x in

@@ -21,7 +21,8 @@ pub replies_append : (reply : Session → Asked → List ℕ) (s : Session) (xs 
 replies_append reply s [] ys = refl
 replies_append reply s (x ∷ xs) ys =
     ap (λ r. reply s x ++ r) (replies_append reply (session_after s x.op) xs ys)
-    ∙ sym (append_assoc (reply s x) (replies_by reply (session_after s x.op) xs) (replies_by reply (session_at (session_after s x.op) xs) ys))
+    ∙ sym (append_assoc (reply s x) (replies_by reply (session_after s x.op) xs)
+          (replies_by reply (session_at (session_after s x.op) xs) ys))
 
 pub moves_append : (moved : Session → Asked → List Move) (s : Session) (xs ys : List Asked)
     → moves_by moved s (xs ++ ys) ≡ moves_by moved s xs ++ moves_by moved (session_at s xs) ys
@@ -42,7 +43,8 @@ pub joined_append : (ms ns : List (List ℕ)) → joined (ms ++ ns) ≡ joined m
 joined_append ms ns = flat_map-append (λ m. m) ms ns
 
 -- the first messages of a stream, and then the first of what is left
-pub first_on : (stream : List ℕ) (ms ns : List (List ℕ)) (n k : ℕ) → AreFirst stream ms n → AreFirst (drop n stream) ns k → AreFirst stream (ms ++ ns) (n + k)
+pub first_on : (stream : List ℕ) (ms ns : List (List ℕ)) (n k : ℕ) → AreFirst stream ms n → AreFirst (drop n stream) ns k
+    → AreFirst stream (ms ++ ns) (n + k)
 first_on stream ms ns n k f g = record {
   whole =
       f.whole
@@ -50,7 +52,8 @@ first_on stream ms ns n k f g = record {
       ∙ sym (append_assoc (joined ms) (joined ns) (drop (n + k) stream))
       ∙ ap (λ v. v ++ drop (n + k) stream) (sym (joined_append ms ns));
   each = both ms ns f.each g.each;
-  size = (let x = f.size in let y = g.size in let z = ap length (joined_append ms ns) ∙ length-append (joined ms) (joined ns) in omega arith);
+  size = (let x = f.size in let y = g.size in let z = ap length (joined_append ms ns) ∙ length-append (joined ms) (joined ns) in
+        omega arith);
 }
 
 pub none_first : (stream : List ℕ) → AreFirst stream [] 0
@@ -89,9 +92,11 @@ module _ (by : Answering) (s : Session) where
         ∙ ap (λ v. replies_by by.reply s (map asked ms) ++ v) (y.told ∙ ap (λ v. replies_by by.reply v (map asked ns)) x.session)
         ∙ sym (replies_append by.reply s (map asked ms) (map asked ns))
         ∙ ap (replies_by by.reply s) (sym (map-append asked ms ns));
-    moves = subst (λ v. IsMoved v a c) said (moved_on (moves_by by.moved s (map asked ms)) (moves_by by.moved t (map asked ns)) a b c x.moves y.moves);
+    moves = subst (λ v. IsMoved v a c) said (moved_on (moves_by by.moved s (map asked ms)) (moves_by by.moved t (map asked ns)) a b c
+          x.moves y.moves);
     light =
-        subst (λ n. IsLight (moves_by by.moved s (map asked (ms ++ ns))) n) (sym (ap length (joined_append ms ns) ∙ length-append (joined ms) (joined ns)))
+        subst (λ n. IsLight (moves_by by.moved s (map asked (ms ++ ns))) n) (sym (ap length (joined_append ms ns)
+              ∙ length-append (joined ms) (joined ns)))
         (subst (λ v. IsLight v (length (joined ms) + length (joined ns))) said (light_on _ _ _ _ x.light y.light));
   }
     where
@@ -101,7 +106,8 @@ module _ (by : Answering) (s : Session) where
           ∙ sym (moves_append by.moved s (map asked ms) (map asked ns))
           ∙ ap (moves_by by.moved s) (sym (map-append asked ms ns))
 
-  pub one_answered : (m : List ℕ) (t : Session) (put : List ℕ) (b : Balances) → IsAnswered by s m t put b → AreAnswered by s (m ∷ []) t put b
+  pub one_answered : (m : List ℕ) (t : Session) (put : List ℕ) (b : Balances) → IsAnswered by s m t put b
+      → AreAnswered by s (m ∷ []) t put b
   one_answered m t put b a = record {
     session = a.session;
     told = a.told ∙ sym (append-nil (by.reply s (asked m)));
@@ -140,7 +146,8 @@ module _ (by : Answering) (s : Session) (stream : List ℕ) where
       IsSoFar by s stream round put (record { old = a; new = b }) → rest ≡ drop round.used stream
       → BeginsMessage rest len → IsAnswered by round.session (take len rest) after more
       (record { old = b; new = c }) →
-      IsSoFar by s stream (record { used = round.used + len; messages = round.messages + 1; session = after }) (put ++ more) (record { old = a; new = c })
+      IsSoFar by s stream (record { used = round.used + len; messages = round.messages + 1; session = after }) (put ++ more)
+          (record { old = a; new = c })
   one_more round put more a b c rest len after f e m x =
       let there : AreFirst (drop round.used stream) (take len rest ∷ []) len = subst
       (λ (r : List ℕ). AreFirst r (take len rest ∷ []) len) e (one_first rest len m) in
@@ -155,7 +162,8 @@ module _ (by : Answering) (s : Session) (stream : List ℕ) where
 
   pub is_round : (round : Round) (put : List ℕ) (b : Balances) → IsSoFar by s stream round put b
       → (0 < round.messages) ⊎ IsRest (drop round.used stream) → IsRound by s stream round put b
-  is_round round put b f o = record { messages = f.messages; first = f.first; count = f.count; answered = f.answered; some = elim o [ inl h ↦ inl (let k = f.count in omega arith) | inr r ↦ inr r ] }
+  is_round round put b f o = record { messages = f.messages; first = f.first; count = f.count; answered = f.answered; some =
+        elim o [ inl h ↦ inl (let k = f.count in omega arith) | inr r ↦ inr r ] }
 
   pub so_far_within : (round : Round) (put : List ℕ) (a b : List ℤ)
       → IsSoFar by s stream round put (record { old = a; new = b }) → AreWithin (2 ^ 122) a

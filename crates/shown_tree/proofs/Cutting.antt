@@ -24,7 +24,8 @@ pub plain_end : (path : List (Bor (List ℕ))) (i : ℕ) → length path ≤ i �
 plain_end path i l w = w.same ∙ ap (λ p. is_plain (map (λ n. n.now) p)) (drop_all i path l)
 
 -- marks that are the same at each path cut the same
-pub cut_same : (f g : List (List ℕ) → Option Mark) → ((q : List (List ℕ)) → f q ≡ g q) → (path : List (List ℕ)) → cut_by f path ≡ cut_by g path
+pub cut_same : (f g : List (List ℕ) → Option Mark) → ((q : List (List ℕ)) → f q ≡ g q) → (path : List (List ℕ))
+    → cut_by f path ≡ cut_by g path
 cut_same f g e [] = ap cuts_itself (e [])
 cut_same f g e (n ∷ path) = rw (e [], cut_same (λ q. f (n ∷ q)) (λ q. g (n ∷ q)) (λ q. e (n ∷ q)) path) refl
 
@@ -44,7 +45,8 @@ by_through (Some s) path = refl
 -- what the marks below a name cut
 pub by_name : (ms : List (Shoot Mark)) → NamesRise ms → (n : List ℕ) (path : List (List ℕ))
     → cut_by (λ q. at_path (spread ms) (n ∷ q)) path ≡ cut_through (named n ms) path
-by_name ms r n path = cut_same (λ q. at_path (spread ms) (n ∷ q)) (through (named n ms)) (λ q. at_spread ms r n q) path ∙ by_through (named n ms) path
+by_name ms r n path = cut_same (λ q. at_path (spread ms) (n ∷ q)) (through (named n ms)) (λ q. at_spread ms r n q) path
+    ∙ by_through (named n ms) path
 
 -- what values that are marks mark
 pub themselves : (o : Option Mark) → option_map (λ m. m) o ≡ o

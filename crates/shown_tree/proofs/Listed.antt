@@ -15,7 +15,8 @@ use Rattle.shown_tree.specs.declared.place.Entry.{Entry}
 use Rattle.shown_tree.specs.Trees.{TreeRows, IsTreeOf, listed, listing}
 
 not_before_itself : (p : Path) → path_cmp p p ≡ Less → ⊥
-not_before_itself p e = let s = (lists_total nat_list_cmp_total).antisymm p p in let r : Less ≡ Greater = sym e ∙ s ∙ ap ordering_reverse e in cc
+not_before_itself p e = let s = (lists_total nat_list_cmp_total).antisymm p p in let r : Less ≡ Greater = sym e ∙ s
+    ∙ ap ordering_reverse e in cc
 
 -- hard links end at one header
 pub one_end : (a : List ℕ) (h e f : ℕ) → IsFinal a h e → IsFinal a h f → e ≡ f
@@ -35,10 +36,12 @@ rises_listed (x ∷ rows) r = (after x.0 rows r.0, rises_listed rows r.1)
     after p (y ∷ rows) a = (a.0, after p rows a.1)
 
 -- what is at a path is among the listed ones
-among_at : (rows : List (Path × Entry)) (path : Path) (e : Entry) → at_path rows path ≡ Some e → IsAmong (listed (path, e)) (map listed rows)
+among_at : (rows : List (Path × Entry)) (path : Path) (e : Entry) → at_path rows path ≡ Some e
+    → IsAmong (listed (path, e)) (map listed rows)
 among_at [] path e f = absurd (cc)
 among_at (x ∷ rows) path e f = elim (same_path_or_not x.0 path) [
-  | inl s ↦ let g : Some x.1 ≡ Some e = rw s.1 at f in let v : x.1 ≡ e = cc in inl (ap (λ p. listed (p, e)) (sym s.0) ∙ ap (λ w. listed (x.0, w)) (sym v))
+  | inl s ↦ let g : Some x.1 ≡ Some e = rw s.1 at f in let v : x.1 ≡ e = cc in
+      inl (ap (λ p. listed (p, e)) (sym s.0) ∙ ap (λ w. listed (x.0, w)) (sym v))
   | inr s ↦ inr (among_at rows path e (rw s.1 at f))
 ]
 

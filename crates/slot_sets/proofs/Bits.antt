@@ -26,7 +26,8 @@ pub bits_none : (n m : ℕ) (words : List ℕ) → words ≡ replicate m 0 → n
 bits_none n m words e h = same_lists (bits n words) (replicate n false) (bits_length n words ∙ sym (length-replicate n false)) (λ k d l.
     let s : k < n = subst (λ x. k < x) (bits_length n words) l in
     let z : get_or words (k / 64) 0 ≡ 0 = rw e (get_or-replicate m (k / 64) 0 0 (omega arith)) in
-    get_or_default (bits n words) k d false l ∙ bits_at n words k s ∙ (rw z (rw (bit_at-zero (k % 64)) refl)) ∙ sym (get_or-replicate n k false d s))
+    get_or_default (bits n words) k d false l ∙ bits_at n words k s ∙ (rw z (rw (bit_at-zero (k % 64)) refl))
+        ∙ sym (get_or-replicate n k false d s))
 
 zero_one : ¬ (◌≡◌ {A = ℕ} 0 1)
 zero_one e = omega arith
@@ -104,7 +105,8 @@ module _ (words : List ℕ) (slot word : ℕ) (e : word ≡ get_or words (slot /
     low_from low f = (
       subst (λ x. x < 64) (sym f) lowest.0,
       elim (cases_lt low (slot % 64)) [
-        | inl l ↦ (let z = rest_below word slot low l in let o = subst (λ x. bit_at (rest word slot) x ≡ 1) (sym f) lowest.1 in absurd (zero_one (sym z ∙ o)))
+        | inl l ↦ (let z = rest_below word slot low l in let o = subst (λ x. bit_at (rest word slot) x ≡ 1) (sym f) lowest.1 in
+              absurd (zero_one (sym z ∙ o)))
         | inr l ↦ l
       ],
     )
@@ -115,9 +117,11 @@ module _ (words : List ℕ) (slot word : ℕ) (e : word ≡ get_or words (slot /
         let h = a.0 in
         let g = a.1 in
         let r : (slot / 64 * 64 + low) % 64 ≡ low = omega arith in
-        in_word (slot / 64 * 64 + low) (omega arith) (omega arith) ∙ ap (λ x. bit_at (rest word slot) x == 1) (r ∙ f) ∙ ap (λ x. x == 1) lowest.1
+        in_word (slot / 64 * 64 + low) (omega arith) (omega arith) ∙ ap (λ x. bit_at (rest word slot) x == 1) (r ∙ f)
+            ∙ ap (λ x. x == 1) lowest.1
 
-    pub low_first : (low : ℕ) → low ≡ trailing_zeros w64 (rest word slot) → (k : ℕ) → slot ≤ k → k < slot / 64 * 64 + low → is_bit words k ≡ false
+    pub low_first : (low : ℕ) → low ≡ trailing_zeros w64 (rest word slot) → (k : ℕ) → slot ≤ k → k < slot / 64 * 64 + low
+        → is_bit words k ≡ false
     low_first low f k l m =
         let h = (low_from low f).0 in
         in_word k l (omega arith) ∙ ap (λ x. x == 1) (lowest.2 (k % 64) (subst (λ x. k % 64 < x) f (omega arith)))
@@ -188,7 +192,8 @@ module _ (n words : ℕ) (one other : List ℕ) (w : n ≤ words * 64) where
     other_clear = (clear_below from k (omega arith) c).1;
   }
 
-  pub none_in : (from : ℕ) → ((k : ℕ) → from ≤ k → k < n → is_bit (joined words one other) k ≡ false) → IsNextOfEither (bits n one) (bits n other) from None
+  pub none_in : (from : ℕ) → ((k : ℕ) → from ≤ k → k < n → is_bit (joined words one other) k ≡ false)
+      → IsNextOfEither (bits n one) (bits n other) from None
   none_in from c = rw (bits_length n one) (clear_below from n (omega arith) c)
 
 pub small : (n : ℕ) (words : List ℕ) → n < 2 ^ 32 → length (bits n words) < 2 ^ 32

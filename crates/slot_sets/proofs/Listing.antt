@@ -65,7 +65,8 @@ module _ (set : List Bool) where
         | inr p ↦ (slot, omega arith, p.1, e)
       ];
       place = λ k l m. elim (cases_order k slot) [
-        | inl d ↦ ap (λ z. get_or (spots ++ slot * 16 ∷ []) z 0) (ap (rank set) d ∙ sym w.count) ∙ last spots (slot * 16) ∙ ap (λ z. z * 16) (sym d)
+        | inl d ↦ ap (λ z. get_or (spots ++ slot * 16 ∷ []) z 0) (ap (rank set) d ∙ sym w.count) ∙ last spots (slot * 16)
+            ∙ ap (λ z. z * 16) (sym d)
         | inr (inl d) ↦ (
             let b = rank_below set k slot m d in
             let n = w.count in
@@ -75,5 +76,7 @@ module _ (set : List Bool) where
     }
 
   -- over slots that are not in the set
-  pub collects_to : (low high : ℕ) (spots : List ℕ) → low ≤ high → IsClear set low high → AreCollected set low spots → AreCollected set high spots
-  collects_to low high spots l c w = over_to (λ k. AreCollected set k spots) low high l w (λ k n o x. collects_plain k spots x (c.each k n o))
+  pub collects_to : (low high : ℕ) (spots : List ℕ) → low ≤ high → IsClear set low high → AreCollected set low spots
+      → AreCollected set high spots
+  collects_to low high spots l c w = over_to (λ k. AreCollected set k spots) low high l w
+      (λ k n o x. collects_plain k spots x (c.each k n o))

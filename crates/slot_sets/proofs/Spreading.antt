@@ -11,7 +11,8 @@ pub spread_length : (marks : List Bool) (words : List ℕ) → length (words_by_
 unfolding words_by_slot
 spread_length marks words = length-map-range_with_len (word_at marks words) 0 (length marks)
 
-spread_at : (marks : List Bool) (words : List ℕ) (k d : ℕ) → k < length marks → get_or (words_by_slot marks words) k d ≡ word_at marks words k
+spread_at : (marks : List Bool) (words : List ℕ) (k d : ℕ) → k < length marks → get_or (words_by_slot marks words) k d
+    ≡ word_at marks words k
 unfolding words_by_slot
 spread_at marks words k d l = get_or-map-range_with_len (word_at marks words) 0 (length marks) k k d l (omega arith)
 
@@ -26,9 +27,11 @@ module _ (marks : List Bool) (words : List ℕ) (k : ℕ) (m : get_or marks k fa
   pub word_is : get_or (words_by_slot marks words) k 0 ≡ get_or words (rank marks k) 0
   word_is = spread_at marks words k 0 (member_inside marks k m) ∙ ap (λ b. cond b (get_or words (rank marks k) 0) 0) m
 
-  pub put_is : (v : ℕ) → rank marks k < length words → words_by_slot marks (set words (rank marks k) v) ≡ set (words_by_slot marks words) k v
+  pub put_is : (v : ℕ) → rank marks k < length words → words_by_slot marks (set words (rank marks k) v)
+      ≡ set (words_by_slot marks words) k v
   put_is v f = same_lists (words_by_slot marks (set words (rank marks k) v)) (set (words_by_slot marks words) k v)
-      (spread_length marks (set words (rank marks k) v) ∙ sym (length-set (words_by_slot marks words) k v ∙ spread_length marks words)) (λ j d l.
+      (spread_length marks (set words (rank marks k) v) ∙ sym (length-set (words_by_slot marks words) k v ∙ spread_length marks words))
+          (λ j d l.
       let s : j < length marks = subst (λ x. j < x) (spread_length marks (set words (rank marks k) v)) l in
       spread_at marks (set words (rank marks k) v) j d s ∙ at j d s)
     where
@@ -44,10 +47,12 @@ module _ (marks : List Bool) (words : List ℕ) (k : ℕ) (m : get_or marks k fa
             ∙ get_or-set_same words (rank marks k) v 0 f
             ∙ sym (get_or-set_same (words_by_slot marks words) k v d
             (rw (spread_length marks words) (member_inside marks k m))))
-        | inr n ↦ other j n (get_or marks j false) refl ∙ sym (spread_at marks words j d s) ∙ sym (get_or-set_other (words_by_slot marks words) k j v d n)
+        | inr n ↦ other j n (get_or marks j false) refl ∙ sym (spread_at marks words j d s)
+            ∙ sym (get_or-set_other (words_by_slot marks words) k j v d n)
       ]
 
-pub spread_none : (marks : List Bool) (words : List ℕ) (n : ℕ) → words ≡ replicate n 0 → words_by_slot marks words ≡ replicate (length marks) 0
+pub spread_none : (marks : List Bool) (words : List ℕ) (n : ℕ) → words ≡ replicate n 0 → words_by_slot marks words
+    ≡ replicate (length marks) 0
 spread_none marks words n e = same_lists (words_by_slot marks words) (replicate (length marks) 0)
     (spread_length marks words ∙ sym (length-replicate (length marks) 0)) (λ k d l.
     let s : k < length marks = subst (λ x. k < x) (spread_length marks words) l in

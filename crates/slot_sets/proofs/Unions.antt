@@ -54,7 +54,8 @@ module _ (one other : List Bool) where
       fits : slot < length both
       fits = let s = u.sized in let h = n.high in omega arith
 
-  pub united_all : (from : ℕ) (both : List Bool) → IsUnionBelow from one other both → IsClear other from (length other) → IsUnion one other both
+  pub united_all : (from : ℕ) (both : List Bool) → IsUnionBelow from one other both → IsClear other from (length other)
+      → IsUnion one other both
   united_all from both u c = record {
     sized = u.sized;
     each = u.each;

@@ -18,7 +18,8 @@ top_low (a ∷ low) high path (suc i) h t f = top_low low high path i h t f
 top_low [] high path i h t f = absurd t
 
 -- or as its high part does
-pub top_high : (low high : List (List ℕ)) (path : Path) (j h : ℕ) → IsTop high path j h → (i : ℕ) → i ≡ length low + j → IsTop (low ++ high) path i h
+pub top_high : (low high : List (List ℕ)) (path : Path) (j h : ℕ) → IsTop high path j h → (i : ℕ) → i ≡ length low + j
+    → IsTop (low ++ high) path i h
 top_high [] high path j h t i e = subst (λ n. IsTop high path n h) (omega arith) t
 top_high (a ∷ low) high path j h t zero e = absurd (omega arith)
 top_high (a ∷ low) high path j h t (suc i) e = top_high low high path j h t i (omega arith)
@@ -28,7 +29,8 @@ pub top_only : (low high : List (List ℕ)) (path : Path) (i h : ℕ) → IsTop 
     → (IsTop low path i h × IsFree high path) ⊎ ((j : ℕ) × (i ≡ length low + j) × IsTop high path j h)
 top_only [] high path i h t = inr (i, omega arith, t)
 top_only (a ∷ low) high path zero h t = let f = (free_joined low high path).0 t.1 in inl ((t.0, f.0), f.1)
-top_only (a ∷ low) high path (suc i) h t = elim (top_only low high path i h t) [ inl x ↦ inl x | inr x ↦ inr (x.0, omega (arith, x.1), x.2) ]
+top_only (a ∷ low) high path (suc i) h t = elim (top_only low high path i h t) [ inl x ↦ inl x | inr x ↦ inr (x.0, omega (arith, x.1),
+      x.2) ]
 
 pub shows_joined : (low high : List (List ℕ)) (path : Path) (i h : ℕ) →
     Shows (low ++ high) path i h
@@ -53,7 +55,8 @@ alone a path i h = (λ s. (s.0, (bottom i s.1).0, (bottom i s.1).1), λ s. (s.0,
     bottom zero t = (refl, t.0)
     bottom (suc i) t = absurd t
 
-pub free_is : (layers : List (List ℕ)) (path : Path) → IsFree layers path ↔ (AllByRecursion (λ a. ¬ IsIn a path) layers × ¬ IsCut layers path)
+pub free_is : (layers : List (List ℕ)) (path : Path) → IsFree layers path ↔ (AllByRecursion (λ a. ¬ IsIn a path) layers
+      × ¬ IsCut layers path)
 free_is [] path = (λ f. (tt, λ c. c), λ f. tt)
 free_is (a ∷ above) path =
     let r = free_is above path in (
@@ -69,7 +72,8 @@ pub cut_by_opaque : (a : List ℕ) (q rest : Path) (y : List ℕ) → IsPlain (q
     → IsIn a (q ++ codes ".wh..wh..opq" ∷ []) → Cuts a (q ++ y ∷ rest)
 cut_by_opaque a q rest y p d m = (p, (q, y, rest, refl, (d, inr (inl m))))
 
-pub cut_by_other : (a : List ℕ) (q rest : Path) (y : List ℕ) → IsPlain (q ++ y ∷ rest) → HasDirectory a q → HasOther a (q ++ y ∷ []) → Cuts a (q ++ y ∷ rest)
+pub cut_by_other : (a : List ℕ) (q rest : Path) (y : List ℕ) → IsPlain (q ++ y ∷ rest) → HasDirectory a q → HasOther a (q ++ y ∷ [])
+    → Cuts a (q ++ y ∷ rest)
 cut_by_other a q rest y p d m = (p, (q, y, rest, refl, (d, inr (inr m))))
 
 pub root_stays : (a : List ℕ) → ¬ Cuts a []

@@ -20,27 +20,32 @@ not_itself p e = let s = order.antisymm p p in let r : Less ≡ Greater = sym e 
 not_both : (p q : Path) → path_cmp p q ≡ Less → path_cmp q p ≡ Less → ⊥
 not_both p q d e = not_itself p (order.trans p q p d e)
 
-above : (e : Entry) (fs : List Entry) (f : Entry) → AllByRecursion (λ f. path_cmp e.path f.path ≡ Less) fs → IsAmong f fs → path_cmp e.path f.path ≡ Less
+above : (e : Entry) (fs : List Entry) (f : Entry) → AllByRecursion (λ f. path_cmp e.path f.path ≡ Less) fs → IsAmong f fs
+    → path_cmp e.path f.path ≡ Less
 above e [] f l m = elim m [ ]
 above e (g ∷ gs) f (l, ls) (inl i) = rw i l
 above e (g ∷ gs) f (l, ls) (inr m) = above e gs f ls m
 
-same_entries : (xs ys : List Entry) → Rises xs → Rises ys → ((e : Entry) → IsAmong e xs → IsAmong e ys) → ((e : Entry) → IsAmong e ys → IsAmong e xs) → xs ≡ ys
+same_entries : (xs ys : List Entry) → Rises xs → Rises ys → ((e : Entry) → IsAmong e xs → IsAmong e ys)
+    → ((e : Entry) → IsAmong e ys → IsAmong e xs) → xs ≡ ys
 same_entries [] [] r s f g = refl
 same_entries [] (y ∷ ys) r s f g = absurd (g y (inl refl))
 same_entries (x ∷ xs) [] r s f g = absurd (f x (inl refl))
 same_entries (x ∷ xs) (y ∷ ys) r s f g =
-    let one : x ≡ y = elim (f x (inl refl)) [ inl e ↦ e | inr m ↦ elim (g y (inl refl)) [ inl e ↦ sym e | inr n ↦ absurd (not_both x.path y.path (above x xs y r.0 n) (above y ys x s.0 m)) ] ] in
+    let one : x ≡ y = elim (f x (inl refl)) [ inl e ↦ e | inr m ↦ elim (g y (inl refl)) [ inl e ↦ sym e | inr n ↦ absurd
+          (not_both x.path y.path (above x xs y r.0 n) (above y ys x s.0 m)) ] ] in
     let rest : xs ≡ ys = same_entries xs ys r.1 s.1
     (λ e m. elim (f e (inr m)) [ inl i ↦ absurd (not_itself e.path (rw (one ∙ sym i) at (above x xs e r.0 m))) | inr n ↦ n ])
     (λ e m. elim (g e (inr m)) [ inl i ↦ absurd (not_itself e.path (rw (sym one ∙ sym i) at (above y ys e s.0 m))) | inr n ↦ n ]) in
     cc
 
 pub one_listing : (layers : List (List ℕ)) (xs ys : List Entry) → IsListing layers xs → IsListing layers ys → xs ≡ ys
-one_listing layers xs ys x y = same_entries xs ys x.rising y.rising (λ e m. (y.exact e).1 ((x.exact e).0 m)) (λ e m. (x.exact e).1 ((y.exact e).0 m))
+one_listing layers xs ys x y = same_entries xs ys x.rising y.rising (λ e m. (y.exact e).1 ((x.exact e).0 m))
+    (λ e m. (x.exact e).1 ((y.exact e).0 m))
 
 -- what shows a path has it
-top_has : (layers : List (List ℕ)) (path : List (List ℕ)) (i h : ℕ) → IsTop layers path i h → (a : List ℕ) × (slice_get layers i ≡ Some a) × Has a path h
+top_has : (layers : List (List ℕ)) (path : List (List ℕ)) (i h : ℕ) → IsTop layers path i h → (a : List ℕ) × (slice_get layers i ≡ Some a)
+    × Has a path h
 top_has [] path i h t = absurd t
 top_has (a ∷ above) path zero h t = (a, refl, t.0)
 top_has (a ∷ above) path (suc i) h t = top_has above path i h t
@@ -55,7 +60,8 @@ pub record IsLedTo (layers : List (List ℕ)) (layer header : ℕ) : Type 0 wher
   pub ends : IsFinal bytes first header
 
 -- a path leads to each entry's place
-pub led_to : (layers : List (List ℕ)) (entries : List Entry) (e : Entry) → IsListing layers entries → IsAmong e entries → IsLedTo layers e.layer e.header
+pub led_to : (layers : List (List ℕ)) (entries : List Entry) (e : Entry) → IsListing layers entries → IsAmong e entries
+    → IsLedTo layers e.layer e.header
 led_to layers entries e l m =
     let s = (l.exact e).0 m in
     let t = top_has layers e.path e.layer s.0 s.1.1 in

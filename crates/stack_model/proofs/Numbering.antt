@@ -20,7 +20,8 @@ abbrev Once : List Place → Type 0
 Once [] = Unit {0}
 Once (p ∷ ps) = (list_any (same_place p) ps ≡ false) × Once ps
 
-found_at : (n m : ℕ) (p : Place) (ps : List Place) → position_from (same_place p) n ps ≡ Some m → (k : ℕ) × (m ≡ n + k) × (slice_get ps k ≡ Some p)
+found_at : (n m : ℕ) (p : Place) (ps : List Place) → position_from (same_place p) n ps ≡ Some m → (k : ℕ) × (m ≡ n + k)
+    × (slice_get ps k ≡ Some p)
 found_at n m p [] e = absurd (cc)
 found_at n m p (q ∷ ps) e = go (same_place p q) refl (found_at (n + 1) m p ps)
   where
@@ -47,7 +48,8 @@ other_place p q ps k o e true f = let i : p ≡ q = same_is p q f in let a = any
 at_found : (n k : ℕ) (p : Place) (ps : List Place) → Once ps → slice_get ps k ≡ Some p → position_from (same_place p) n ps ≡ Some (n + k)
 at_found n k p [] o e = absurd (cc)
 at_found n zero p (q ∷ ps) o e = let i : q ≡ p = cc in rw (i, same_itself p) (ap Some (omega arith))
-at_found n (suc k) p (q ∷ ps) o e = rw (other_place p q ps k o.0 e (same_place p q) refl) (at_found (n + 1) k p ps o.1 e ∙ ap Some (omega arith))
+at_found n (suc k) p (q ∷ ps) o e = rw (other_place p q ps k o.0 e (same_place p q) refl) (at_found (n + 1) k p ps o.1 e
+      ∙ ap Some (omega arith))
 
 -- adding a place that is not there keeps each once
 once_more : (ps : List Place) (p : Place) → Once ps → list_any (same_place p) ps ≡ false → Once (ps ++ p ∷ [])
@@ -103,7 +105,8 @@ stays_all : (ps qs : List Place) (p : Place) → list_any (same_place p) ps ≡ 
 stays_all ps [] p e = e
 stays_all ps (q ∷ qs) p e = stays_all (noted ps q) qs p (stays_any ps p q e)
 
-all_noted : (e : Entry) (es : List Entry) (ps : List Place) → IsAmong e es → list_any (same_place (place e)) (fold noted ps (map place es)) ≡ true
+all_noted : (e : Entry) (es : List Entry) (ps : List Place) → IsAmong e es → list_any (same_place (place e)) (fold noted ps (map place es))
+    ≡ true
 all_noted e [] ps a = elim a [ ]
 all_noted e (f ∷ fs) ps (inl i) = rw i (stays_all (noted ps (place f)) (map place fs) (place f) (is_noted ps (place f)))
 all_noted e (f ∷ fs) ps (inr a) = all_noted e fs (noted ps (place f)) a
@@ -129,7 +132,8 @@ from_entry (f ∷ fs) ps p i = elim (from_entry fs (noted ps (place f)) p i) [
   | inl x ↦ elim (noted_from ps p (place f) x) [ inl y ↦ inl y | inr q ↦ inr (f, inl refl, q) ]
 ]
 
-some_position : (n : ℕ) (p : Place) (ps : List Place) → list_any (same_place p) ps ≡ true → (m : ℕ) × (position_from (same_place p) n ps ≡ Some m)
+some_position : (n : ℕ) (p : Place) (ps : List Place) → list_any (same_place p) ps ≡ true
+    → (m : ℕ) × (position_from (same_place p) n ps ≡ Some m)
 some_position n p [] e = absurd (cc)
 some_position n p (q ∷ ps) e = go (same_place p q) refl (some_position (n + 1) p ps)
   where
@@ -182,7 +186,8 @@ numbers_all entries (suc n) = (within (nodes entries) n, λ b. there (nodes entr
     within ps k s = let l = under ps k s in (omega arith, omega arith)
 
 -- a number that is used is that of an entry's place
-pub number_listed : (entries : List Entry) (n : ℕ) (p : Place) → node_of entries n ≡ Some p → (e : Entry) × IsAmong e entries × (place e ≡ p)
+pub number_listed : (entries : List Entry) (n : ℕ) (p : Place) → node_of entries n ≡ Some p → (e : Entry) × IsAmong e entries
+    × (place e ≡ p)
 unfolding nodes
 number_listed entries zero p e = absurd (cc)
 number_listed entries (suc k) p e = elim (from_entry entries [] p (any_at p (nodes entries) k e)) [ inl f ↦ absurd (cc) | inr x ↦ x ]
@@ -208,7 +213,8 @@ pub root_first : (layers : List (List ℕ)) (entries : List Entry) (e : Entry) �
     → IsAmong e entries → e.path ≡ [] → number_of entries (place e) ≡ Some 1
 unfolding number_of nodes
 root_first layers [] e l a p = elim a [ ]
-root_first layers (f ∷ fs) e l a p = let i : e ≡ f = elim a [ inl i ↦ i | inr b ↦ absurd (lower f.path (rw p at (after fs l.rising.0 b))) ] in rw i (begins f fs)
+root_first layers (f ∷ fs) e l a p = let i : e ≡ f =
+    elim a [ inl i ↦ i | inr b ↦ absurd (lower f.path (rw p at (after fs l.rising.0 b))) ] in rw i (begins f fs)
   where
     lower : (q : List (List ℕ)) → path_cmp q [] ≡ Less → ⊥
     lower [] g = cc

@@ -21,7 +21,8 @@ module _ (n : List ℕ) (ls : List Line) where
   is_named k d l = ap (same_name n) (get_or-map (λ (line : Line). line.name) ls k d [] l)
 
   pub place_within : (i : ℕ) → place_of n (names ls) ≡ Some i → i < length ls
-  place_within i e = let s = position-Some (same_name n) (names ls) i [] e in let l = s.0 in let m = length-map ls (λ (line : Line). line.name) in omega arith
+  place_within i e = let s = position-Some (same_name n) (names ls) i [] e in let l = s.0 in let m =
+      length-map ls (λ (line : Line). line.name) in omega arith
 
   -- the row at the name's place is the first with the name
   pub named_at : (i : ℕ) (d : Line) → place_of n (names ls) ≡ Some i → line_named n ls ≡ Some (get_or ls i d)

@@ -42,9 +42,11 @@ abbrev row_of : (Place → ℕ) → Child → Line
 row_of f c = record { number = f c.place; name = c.name }
 
 abbrev IsNamedAlike : (Place → ℕ) → List ℕ → List Child → Type 0
-IsNamedAlike f name cs = number_named name (map (row_of f) cs) ≡ option_map f (option_map (λ c. c.place) (find (λ c. same_name name c.name) cs))
+IsNamedAlike f name cs = number_named name (map (row_of f) cs)
+    ≡ option_map f (option_map (λ c. c.place) (find (λ c. same_name name c.name) cs))
 
-step : (f : Place → ℕ) (name : List ℕ) (c : Child) (cs : List Child) (b : Bool) → same_name name c.name ≡ b → IsNamedAlike f name cs → IsNamedAlike f name (c ∷ cs)
+step : (f : Place → ℕ) (name : List ℕ) (c : Child) (cs : List Child) (b : Bool) → same_name name c.name ≡ b → IsNamedAlike f name cs
+    → IsNamedAlike f name (c ∷ cs)
 step f name c cs true e i = rw e refl
 step f name c cs false e i = rw e i
 
@@ -53,7 +55,8 @@ named_child : (f : Place → ℕ) (name : List ℕ) (cs : List Child) → IsName
 named_child f name [] = refl
 named_child f name (c ∷ cs) = step f name c cs (same_name name c.name) refl (named_child f name cs)
 
-module _ (layers : List (List ℕ)) (entries : List Entry) (held : List Node) (directories : List Directory) (rows : List Line) (keys : List ℕ) (blocks : ℕ) (t : IsTable layers entries held directories rows keys blocks) where
+module _ (layers : List (List ℕ)) (entries : List Entry) (held : List Node) (directories : List Directory) (rows : List Line)
+    (keys : List ℕ) (blocks : ℕ) (t : IsTable layers entries held directories rows keys blocks) where
   abbrev stack : Stacked
   stack = record { layers = layers; entries = entries }
 
@@ -84,13 +87,15 @@ module _ (layers : List (List ℕ)) (entries : List Entry) (held : List Node) (d
           let x = there held k (omega arith) in
           let z : Some x.0 ≡ None = sym x.1 ∙ e in cc)
 
-  pub node_is : (n : ℕ) (o : Option (Bor Node)) → MatchOption o (held_at held n ≡ None) (λ node. held_at held n ≡ Some node.now) → TellsNode stack n o
+  pub node_is : (n : ℕ) (o : Option (Bor Node)) → MatchOption o (held_at held n ≡ None) (λ node. held_at held n ≡ Some node.now)
+      → TellsNode stack n o
   node_is n None e = nowhere n e
   node_is n (Some node) e =
       let h = here n node.now e in
       record { place_is = h.is ∙ ap Some (sym h.holds.place); kind_is = h.holds.kind ∙ ap (kind_at layers) (sym h.holds.place) }
 
-  attr_same : (n : ℕ) (node : Node) (p : Place) → IsNode layers entries directories rows keys node p → number entries p ≡ n → attr_held n node ≡ attr_of layers entries p
+  attr_same : (n : ℕ) (node : Node) (p : Place) → IsNode layers entries directories rows keys node p → number entries p ≡ n
+      → attr_held n node ≡ attr_of layers entries p
   attr_same n node p h i =
       let size = h.size in
       let mode_is = h.mode_is in
@@ -113,7 +118,8 @@ module _ (layers : List (List ℕ)) (entries : List Entry) (held : List Node) (d
     pub kind : is_directory_at layers at ≡ true
     pub holds : IsHeldDirectory layers entries rows keys directory at
 
-  found_at : (n : ℕ) (node : Node) (directory : Directory) (h : IsHere n node) (b : Bool) → is_directory node.kind ≡ b → cond b (slice_get directories node.directory) None ≡ Some directory → IsFound n directory
+  found_at : (n : ℕ) (node : Node) (directory : Directory) (h : IsHere n node) (b : Bool) → is_directory node.kind ≡ b
+      → cond b (slice_get directories node.directory) None ≡ Some directory → IsFound n directory
   found_at n node directory h false e k = absurd (cc)
   found_at n node directory h true e k =
       let d = h.holds.directory_is e in
@@ -134,18 +140,23 @@ module _ (layers : List (List ℕ)) (entries : List Entry) (held : List Node) (d
       go (Some node) f k = found_at n node directory (here n node f) (is_directory node.kind) refl k
 
   -- a number of which no directory is held is not in use, or its place is none
-  not_held : (n : ℕ) (node : Node) (h : IsHere n node) (b : Bool) → is_directory node.kind ≡ b → cond b (slice_get directories node.directory) None ≡ None → option_map_or (is_directory_at layers) (Some h.at) false ≡ false
+  not_held : (n : ℕ) (node : Node) (h : IsHere n node) (b : Bool) → is_directory node.kind ≡ b
+      → cond b (slice_get directories node.directory) None ≡ None → option_map_or (is_directory_at layers) (Some h.at) false ≡ false
   not_held n node h true e k = absurd (let d = h.holds.directory_is e in let z : Some d.directory ≡ None = sym d.is ∙ k in cc)
   not_held n node h false e k = ap is_directory (sym h.holds.kind) ∙ e
 
-  pub not_found : (n : ℕ) → directory_held held directories n ≡ None → option_map_or (is_directory_at layers) (node_of entries n) false ≡ false
+  pub not_found : (n : ℕ) → directory_held held directories n ≡ None → option_map_or (is_directory_at layers) (node_of entries n) false
+      ≡ false
   not_found n e = go (held_at held n) refl e
     where
-      go : (o : Option Node) → held_at held n ≡ o → option_and_then (kept_of directories) o ≡ None → option_map_or (is_directory_at layers) (node_of entries n) false ≡ false
+      go : (o : Option Node) → held_at held n ≡ o → option_and_then (kept_of directories) o ≡ None
+          → option_map_or (is_directory_at layers) (node_of entries n) false ≡ false
       go None f k = ap (λ o. option_map_or (is_directory_at layers) o false) (nowhere n f)
-      go (Some node) f k = let h = here n node f in ap (λ o. option_map_or (is_directory_at layers) o false) h.is ∙ not_held n node h (is_directory node.kind) refl k
+      go (Some node) f k = let h = here n node f in ap (λ o. option_map_or (is_directory_at layers) o false) h.is
+          ∙ not_held n node h (is_directory node.kind) refl k
 
-  pub rows_are : (n : ℕ) (d : Directory) → directory_held held directories n ≡ Some d → slice_range rows d.rows_start d.rows_end ≡ rows_at stack n
+  pub rows_are : (n : ℕ) (d : Directory) → directory_held held directories n ≡ Some d → slice_range rows d.rows_start d.rows_end
+      ≡ rows_at stack n
   rows_are n d e = let h = found n d e in rw h.is h.holds.rows_are
 
   -- the keys of its rows are there
@@ -155,11 +166,13 @@ module _ (layers : List (List ℕ)) (entries : List Entry) (held : List Node) (d
   named_of : (p : Place) (name : List ℕ) → number_named name (rows_of layers entries p) ≡ child_of layers entries p name
   named_of p name = go (is_directory_at layers p)
     where
-      go : (b : Bool) → number_named name (cond b (map (λ c. record { number = number entries c.place; name = c.name }) (children entries p)) []) ≡ cond b (option_map (number entries) (child entries p name)) None
+      go : (b : Bool) → number_named name (cond b (map (λ c. record { number = number entries c.place; name = c.name })
+            (children entries p)) []) ≡ cond b (option_map (number entries) (child entries p name)) None
       go true = named_child (number entries) name (children entries p)
       go false = refl
 
-  pub child_is : (n : ℕ) (d : Directory) (name : List ℕ) → directory_held held directories n ≡ Some d → number_named name (slice_range rows d.rows_start d.rows_end) ≡ child_at stack n name
+  pub child_is : (n : ℕ) (d : Directory) (name : List ℕ) → directory_held held directories n ≡ Some d
+      → number_named name (slice_range rows d.rows_start d.rows_end) ≡ child_at stack n name
   child_is n d name e = let h = found n d e in rw (h.is, h.holds.rows_are) (named_of h.at name)
 
   pub parent_is : (n : ℕ) (d : Directory) → directory_held held directories n ≡ Some d → Some d.parent ≡ parent_at stack n
@@ -176,7 +189,8 @@ module _ (layers : List (List ℕ)) (entries : List Entry) (held : List Node) (d
   pub child_none : (n : ℕ) (name : List ℕ) → directory_held held directories n ≡ None → None ≡ child_at stack n name
   child_none n name e = go (node_of entries n) (not_found n e)
     where
-      go : (o : Option Place) → option_map_or (is_directory_at layers) o false ≡ false → None ≡ option_and_then (λ p. child_of layers entries p name) o
+      go : (o : Option Place) → option_map_or (is_directory_at layers) o false ≡ false
+          → None ≡ option_and_then (λ p. child_of layers entries p name) o
       go None f = refl
       go (Some p) f = rw f refl
 
@@ -187,7 +201,8 @@ module _ (layers : List (List ℕ)) (entries : List Entry) (held : List Node) (d
       go None f = refl
       go (Some p) f = rw f refl
 
-  pub data_is : (n : ℕ) (node : Node) (image : List ℕ) → held_at held n ≡ Some node → image ≡ slice_index_or layers node.place.layer image → bytes_at image node.part.start node.part.len ≡ data_of_number stack n
+  pub data_is : (n : ℕ) (node : Node) (image : List ℕ) → held_at held n ≡ Some node → image ≡ slice_index_or layers node.place.layer image
+      → bytes_at image node.part.start node.part.len ≡ data_of_number stack n
   data_is n node image e i =
       let h = here n node e in
       let a = h.holds.holds in
@@ -200,7 +215,8 @@ module _ (layers : List (List ℕ)) (entries : List Entry) (held : List Node) (d
   pub image_there : (n : ℕ) (node : Node) → held_at held n ≡ Some node → node.place.layer < length layers
   image_there n node e = let a = (here n node e).holds.holds in below layers node.place.layer a.image a.is
 
-  pub part_lies : (n : ℕ) (node : Node) (image : List ℕ) → held_at held n ≡ Some node → image ≡ slice_index_or layers node.place.layer image → IsPart image node.part
+  pub part_lies : (n : ℕ) (node : Node) (image : List ℕ) → held_at held n ≡ Some node → image ≡ slice_index_or layers node.place.layer image
+      → IsPart image node.part
   part_lies n node image e i =
       let a = (here n node e).holds.holds in
       rw (i ∙ indexed layers node.place.layer a.image image a.is) a.lies

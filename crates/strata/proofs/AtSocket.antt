@@ -10,15 +10,18 @@ use Rattle.strata.specs.Ending.{profile_of, AreNotStacked, EndsAtSocket, EndsInF
 use Rattle.strata.proofs.Ended.{begun, whole}
 use Rattle.strata.proofs.InTurn.{of_sessions}
 
-told_by : {A : Type 0} (line : Line) (images : List (List ℕ)) (fault : Fault) → IsServedAtSocket A line images (Some fault) → IsOfSessions fault
+told_by : {A : Type 0} (line : Line) (images : List (List ℕ)) (fault : Fault) → IsServedAtSocket A line images (Some fault)
+    → IsOfSessions fault
 told_by {A} line images fault s =
     elim (of_sessions {A = A} line.sessions fault s.served) [
       | inl accept ↦ inl accept
       | inr t ↦ inr (t.0, t.1, t.2)
     ]
 
-module _ (A : Type 0) (words : List (List ℕ)) (line : Line) (images : List (List ℕ)) (old : Devices) (line_is : IsLineOf words line) (named : NamesAsMany line images) (verb_is : line.verb ≡ Socket) where
-  over_with : (status : ℕ) (fault : Option Fault) → status ≡ status_at fault → IsServedAtSocket A line images fault → IsOverWith A words status old old
+module _ (A : Type 0) (words : List (List ℕ)) (line : Line) (images : List (List ℕ)) (old : Devices) (line_is : IsLineOf words line)
+    (named : NamesAsMany line images) (verb_is : line.verb ≡ Socket) where
+  over_with : (status : ℕ) (fault : Option Fault) → status ≡ status_at fault → IsServedAtSocket A line images fault
+      → IsOverWith A words status old old
   over_with status None e s = record {
     fault = None;
     status_is = e;
@@ -30,7 +33,8 @@ module _ (A : Type 0) (words : List (List ℕ)) (line : Line) (images : List (Li
     over = (told_by {A = A} line images fault s, begun A words line images Socket old old line_is named verb_is fault (refl, inr (inr s)));
   }
 
-  pub over_there : (r : Result ℕ Fault) → IfOk r (λ status. EndsAtSocket A line images status) → IfOk r (λ status. IsOverWith A words status old old)
+  pub over_there : (r : Result ℕ Fault) → IfOk r (λ status. EndsAtSocket A line images status)
+      → IfOk r (λ status. IsOverWith A words status old old)
   over_there (Ok status) e = over_with status e.fault e.status_is e.served
   over_there (Err fault) e = e
 

@@ -13,11 +13,13 @@ use Rattle.strata.specs.Faults.{status_of, stop_status, out_of_memory}
 use Rattle.strata.specs.Ending.{NamesAsMany, IsDoneOver, IsStoppedOver, IsDone, EndsInFault, IsOverWith}
 
 -- as many images as paths
-pub all_named : {X Y Z : Type 0} (line : Line) (bytes : X → List ℕ) (images : Vec X Z) (paths : List Y) → vec_len images ≡ length paths → length paths ≡ vec_len line.images → NamesAsMany line (map bytes images.items)
+pub all_named : {X Y Z : Type 0} (line : Line) (bytes : X → List ℕ) (images : Vec X Z) (paths : List Y) → vec_len images ≡ length paths
+    → length paths ≡ vec_len line.images → NamesAsMany line (map bytes images.items)
 all_named line bytes images paths e p = length-map images.items bytes ∙ sym images.ok.0 ∙ e ∙ p
 
 -- what the words say, over the images that were read
-module _ (A : Type 0) (words : List (List ℕ)) (line : Line) (images : List (List ℕ)) (verb : Verb) (old new : Devices) (line_is : IsLineOf words line) (named : NamesAsMany line images) (verb_is : line.verb ≡ verb) where
+module _ (A : Type 0) (words : List (List ℕ)) (line : Line) (images : List (List ℕ)) (verb : Verb) (old new : Devices)
+    (line_is : IsLineOf words line) (named : NamesAsMany line images) (verb_is : line.verb ≡ verb) where
   -- a command did it
   pub whole : IsDoneOver A verb line images old new → IsDone A words old new
   whole d = record {
@@ -41,16 +43,22 @@ module _ (A : Type 0) (words : List (List ℕ)) (line : Line) (images : List (Li
     stopped = subst (λ v. IsStoppedOver A v line images fault old new) (sym verb_is) p;
   })
 
-  pub broke_off : {X : Type 0} (r : Result X Fault) (fault : Fault) → IsErrAnd r (λ told. told ≡ fault) → IsStoppedOver A verb line images fault old new
+  pub broke_off : {X : Type 0} (r : Result X Fault) (fault : Fault) → IsErrAnd r (λ told. told ≡ fault)
+      → IsStoppedOver A verb line images fault old new
       → IfErr r (λ told. EndsInFault A words told old new)
   broke_off (Ok x) fault e p = absurd e
   broke_off (Err told) fault e p = subst (λ f. EndsInFault A words f old new) (sym e) (begun fault p)
 
 -- an image that was not read, or memory that ran out before all were
-pub unread : {X : Type 0} (A : Type 0) (words : List (List ℕ)) (line : Line) (count : ℕ) (old : Devices) (r : Result X Fault) → IsLineOf words line → count ≡ vec_len line.images → (fault : Fault) → (fault ≡ out_of_memory) ⊎ ((image : ℕ) × (image < count) × (fault ≡ ImageFile image)) → IsErrAnd r (λ told. told ≡ fault) → IfErr r (λ told. EndsInFault A words told old old)
+pub unread : {X : Type 0} (A : Type 0) (words : List (List ℕ)) (line : Line) (count : ℕ) (old : Devices) (r : Result X Fault)
+    → IsLineOf words line → count ≡ vec_len line.images → (fault : Fault) → (fault ≡ out_of_memory)
+    ⊎ ((image : ℕ) × (image < count) × (fault ≡ ImageFile image)) → IsErrAnd r (λ told. told ≡ fault)
+    → IfErr r (λ told. EndsInFault A words told old old)
 unread A words line count old (Ok u) l n fault f e = absurd e
 unread A words line count old (Err told) l n fault (inl f) e = inl (record { kept = refl; which = inr (inr (e ∙ f)) })
-unread A words line count old (Err told) l n fault (inr f) e = inl (record { kept = refl; which = inr (inl (record { line = line; image = f.0; line_is = l; named = subst (λ k. f.0 < k) n f.1; told = e ∙ f.2 })) })
+unread A words line count old (Err told) l n fault (inr f) e =
+    inl (record { kept = refl; which =
+      inr (inl (record { line = line; image = f.0; line_is = l; named = subst (λ k. f.0 < k) n f.1; told = e ∙ f.2 })) })
 
 -- no fault has the status 0
 stop_fails : (stop : Stop) → stop_status stop ≢ 0

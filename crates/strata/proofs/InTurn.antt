@@ -40,7 +40,8 @@ whole_of : {A : Type 0} (n : ℕ) (r : Result (Done A) Stop) → fault_of n r �
 whole_of n (Ok done) e = (done, refl)
 whole_of n (Err stop) e = absurd (cc)
 
-stop_of : {A : Type 0} (n : ℕ) (r : Result (Done A) Stop) (fault : Fault) → fault_of n r ≡ Some fault → (stop : Stop) × (r ≡ Err stop) × (fault ≡ InSession n stop)
+stop_of : {A : Type 0} (n : ℕ) (r : Result (Done A) Stop) (fault : Fault) → fault_of n r ≡ Some fault → (stop : Stop) × (r ≡ Err stop)
+    × (fault ≡ InSession n stop)
 stop_of n (Ok done) fault e = absurd (cc)
 stop_of n (Err stop) fault e = (stop, refl, cc)
 
@@ -69,11 +70,13 @@ module _ {A : Type 0} {first : Session} {stack : Stacked} where
       → AreSoFar A first stack (count + 1) more
   one_more count status ended more so_far (s, e) m =
       let number : 1 + length so_far.served ≡ count + 1 = omega (arith, so_far.count_is) in
-      let e : ended ≡ status_at (fault_of (1 + length so_far.served) s.result) = e ∙ ap status_at (same_number (count + 1) (1 + length so_far.served) s (sym number)) in
+      let e : ended ≡ status_at (fault_of (1 + length so_far.served) s.result) = e
+          ∙ ap status_at (same_number (count + 1) (1 + length so_far.served) s (sym number)) in
       record {
         served = so_far.served ++ s ∷ [];
         count_is = length-append so_far.served (s ∷ []) ∙ ap (λ k. k + 1) so_far.count_is;
-        status_is = status_later (first_fault 1 so_far.served) (fault_of (1 + length so_far.served) s.result) status ended more so_far.status_is e m
+        status_is = status_later (first_fault 1 so_far.served) (fault_of (1 + length so_far.served) s.result) status ended more
+            so_far.status_is e m
             ∙ ap status_at (sym (first_more 1 so_far.served s));
       }
 
@@ -86,7 +89,8 @@ module _ {A : Type 0} {first : Session} {stack : Stacked} where
   }
 
   -- no client came any more
-  pub none_accepted : (at count status ended : ℕ) → AreSoFar A first stack at status → at < count → ended ≡ status_of Accept → EndWith A first stack count ended
+  pub none_accepted : (at count status ended : ℕ) → AreSoFar A first stack at status → at < count → ended ≡ status_of Accept
+      → EndWith A first stack count ended
   none_accepted at count status ended so_far less e = record {
     fault = Some Accept;
     status_is = e;
@@ -110,7 +114,8 @@ module _ {A : Type 0} {first : Session} {stack : Stacked} where
   stopped_first fault n (s ∷ more) e = go (fault_of n s.result) refl (stopped_first fault (n + 1) more) e
     where
       go : (o : Option Fault) → fault_of n s.result ≡ o
-          → (first_fault (n + 1) more ≡ Some fault → (number : ℕ) × (stop : Stop) × (fault ≡ InSession number stop) × IsFirstStopped more stop)
+          → (first_fault (n + 1) more ≡ Some fault → (number : ℕ) × (stop : Stop) × (fault ≡ InSession number stop)
+                × IsFirstStopped more stop)
           → or_later o (first_fault (n + 1) more) ≡ Some fault
           → (number : ℕ) × (stop : Stop) × (fault ≡ InSession number stop) × IsFirstStopped (s ∷ more) stop
       go None is rest e =
@@ -145,7 +150,8 @@ module _ {A : Type 0} {first : Session} {stack : Stacked} where
 
   -- the fault that sessions end with is that of one of them, or that no client could be accepted
   pub of_sessions : (count : ℕ) (fault : Fault) → AreServed A first stack count (Some fault)
-      → (fault ≡ Accept) ⊎ ((number : ℕ) × (stop : Stop) × (fault ≡ InSession number stop) × (t : Trace) × IsSession {A = A} first stack t (Err stop))
+      → (fault ≡ Accept) ⊎ ((number : ℕ) × (stop : Stop) × (fault ≡ InSession number stop) × (t : Trace) × IsSession {A = A} first stack t
+            (Err stop))
   of_sessions count fault a =
       elim a.ends [
         | inl e ↦
@@ -155,7 +161,8 @@ module _ {A : Type 0} {first : Session} {stack : Stacked} where
         | inr e ↦ inl (cc)
       ]
 
-  tells : (count status : ℕ) (fault : Option Fault) → status ≡ status_at fault → AreServed A first stack count fault → TellsOfSessions A first stack count status
+  tells : (count status : ℕ) (fault : Option Fault) → status ≡ status_at fault → AreServed A first stack count fault
+      → TellsOfSessions A first stack count status
   tells count status None e a =
       elim a.ends [
         | inl s ↦ record { served = a.served; which = inl (s.0, e, none_stopped 1 a.served (sym s.1)) }
@@ -171,5 +178,6 @@ module _ {A : Type 0} {first : Session} {stack : Stacked} where
             record { served = a.served; which = inr (inr (s.0, e ∙ ap status_of is)) }
       ]
 
-pub sessions_tell : (A : Type 0) (first : Session) (stack : Stacked) (count status : ℕ) → EndWith A first stack count status → TellsOfSessions A first stack count status
+pub sessions_tell : (A : Type 0) (first : Session) (stack : Stacked) (count status : ℕ) → EndWith A first stack count status
+    → TellsOfSessions A first stack count status
 sessions_tell A first stack count status e = tells count status e.fault e.status_is e.served

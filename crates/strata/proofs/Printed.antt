@@ -19,7 +19,8 @@ as_place n = simp unary_clauses (ap (λ text. replicate (8 - length (digits 16 f
 pub layer_said : (stop : Stop) (layer : ℕ) (fault : ImageFault) → stop ≡ Layer layer fault → stop_text stop ≡ broken_text layer fault
 layer_said stop layer fault e = ap stop_text e
 
-pub layers_said : (stop : Stop) (count : ℕ) → stop ≡ Layers count → stop_text stop ≡ codes "layers: " ++ (decimal count ++ codes ", allowed 1 to 128")
+pub layers_said : (stop : Stop) (count : ℕ) → stop ≡ Layers count → stop_text stop ≡ codes "layers: "
+    ++ (decimal count ++ codes ", allowed 1 to 128")
 layers_said stop count e = ap stop_text e
 
 -- the text so far, and the lines of the sizes that are left, make up all lines
@@ -29,7 +30,8 @@ pub record IsPrinted (sizes : List ℕ) (layer : ℕ) (text : List ℕ) : Type 0
 pub none_printed : (sizes text : List ℕ) → text ≡ [] → IsPrinted sizes 0 text
 none_printed sizes text e = record { whole = ap (λ t. t ++ size_lines 0 sizes) e }
 
-pub one_more_printed : (sizes text more : List ℕ) (layer : ℕ) → layer < length sizes → IsPrinted sizes layer text → more ≡ text ++ size_line layer (slice_index_or sizes layer 0) → IsPrinted sizes (layer + 1) more
+pub one_more_printed : (sizes text more : List ℕ) (layer : ℕ) → layer < length sizes → IsPrinted sizes layer text
+    → more ≡ text ++ size_line layer (slice_index_or sizes layer 0) → IsPrinted sizes (layer + 1) more
 unfolding size_lines
 one_more_printed sizes text more layer b p e = record {
   whole = ap (λ t. t ++ size_lines (layer + 1) (drop (layer + 1) sizes)) e
@@ -39,7 +41,8 @@ one_more_printed sizes text more layer b p e = record {
 
 pub all_printed : (sizes text : List ℕ) (layer : ℕ) → length sizes ≤ layer → IsPrinted sizes layer text → text ≡ size_lines 0 sizes
 unfolding size_lines
-all_printed sizes text layer b p = sym (append-nil text) ∙ ap (λ left. text ++ size_lines layer left) (sym (drop_of_length-le sizes b)) ∙ p.whole
+all_printed sizes text layer b p = sym (append-nil text) ∙ ap (λ left. text ++ size_lines layer left) (sym (drop_of_length-le sizes b))
+    ∙ p.whole
 
 -- the text so far, and the lines of the balances that are left, make up all lines
 pub record IsTold (balances : List ℤ) (place : ℕ) (text : List ℕ) : Type 0 where
@@ -53,10 +56,13 @@ pub one_more_told : (balances : List ℤ) (text more : List ℕ) (place : ℕ) �
 unfolding balance_lines
 one_more_told balances text more place b p e = record {
   whole = ap (λ t. t ++ balance_lines (place + 1 + 1) (drop (place + 1) balances)) e
-      ∙ append_assoc text (balance_line (place + 1) (slice_index_or balances place (pos 0))) (balance_lines (place + 1 + 1) (drop (place + 1) balances))
+      ∙ append_assoc text (balance_line (place + 1) (slice_index_or balances place (pos 0)))
+          (balance_lines (place + 1 + 1) (drop (place + 1) balances))
       ∙ ap (λ left. text ++ balance_lines (place + 1) left) (sym (drop_more balances place (pos 0) b)) ∙ p.whole;
 }
 
-pub all_told : (balances : List ℤ) (text : List ℕ) (place : ℕ) → length balances ≤ place → IsTold balances place text → text ≡ balance_lines 1 balances
+pub all_told : (balances : List ℤ) (text : List ℕ) (place : ℕ) → length balances ≤ place → IsTold balances place text
+    → text ≡ balance_lines 1 balances
 unfolding balance_lines
-all_told balances text place b p = sym (append-nil text) ∙ ap (λ left. text ++ balance_lines (place + 1) left) (sym (drop_of_length-le balances b)) ∙ p.whole
+all_told balances text place b p = sym (append-nil text) ∙ ap (λ left. text ++ balance_lines (place + 1) left)
+    (sym (drop_of_length-le balances b)) ∙ p.whole

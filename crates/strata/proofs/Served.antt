@@ -29,28 +29,35 @@ pub to_file : {F : Type 0} (file : Option F) (x : F) (t : Trace) (old : SinkStat
 to_file file x t old some = record { took = λ none. absurd (true≢false (ap is_some (sym some) ∙ ap is_some none)); kept = λ _. refl }
 
 -- the same of the line that names the file
-pub gained : {F G : Type 0} (named : Option F) (file : Option G) (t : Trace) (old new : SinkState) → is_some file ≡ is_some named → GetsReplies file t old new → GetsReplies named t old new
+pub gained : {F G : Type 0} (named : Option F) (file : Option G) (t : Trace) (old new : SinkState) → is_some file ≡ is_some named
+    → GetsReplies file t old new → GetsReplies named t old new
 gained named file t old new same g = record { took = λ none. g.took (same_none named file same none); kept = λ some. g.kept (same ∙ some) }
 
 -- requests that came from the input, and those that came from a file
-pub from_input : {F X E : Type 0} (named : Option F) (t : Trace) (result : Result X E) (old new : SourceState) → named ≡ None → Gave t result old new → Asks named t result old new
+pub from_input : {F X E : Type 0} (named : Option F) (t : Trace) (result : Result X E) (old new : SourceState) → named ≡ None
+    → Gave t result old new → Asks named t result old new
 from_input named t result old new none gave = record { gave = λ _. gave; kept = λ some. absurd (true≢false (sym some ∙ ap is_some none)) }
 
-pub from_file : {F G X E : Type 0} (named : Option F) (file : Option G) (x : G) (t : Trace) (result : Result X E) (old : SourceState) → is_some file ≡ is_some named → file ≡ Some x → Asks named t result old old
+pub from_file : {F G X E : Type 0} (named : Option F) (file : Option G) (x : G) (t : Trace) (result : Result X E) (old : SourceState)
+    → is_some file ≡ is_some named → file ≡ Some x → Asks named t result old old
 from_file named file x t result old same some = record { gave = λ none. absurd (no_file named file x same some none); kept = λ _. refl }
 
 module _ (A : Type 0) (line : Line) (images : List (List ℕ)) (old new : Devices) where
   -- serving stopped
-  pub stopped : (r : Result (Done A) Stop) (stop : Stop) (told : Result (Unit {0}) Fault) → (t : Trace) × IsServing line images t r old new → r ≡ Err stop
+  pub stopped : (r : Result (Done A) Stop) (stop : Stop) (told : Result (Unit {0}) Fault) → (t : Trace) × IsServing line images t r old new
+      → r ≡ Err stop
       → IsErrAnd told (λ fault. fault ≡ Stopped stop) → IfErr told (λ fault. IsNotServed A line images fault old new)
   stopped r stop (Ok u) s e f = absurd f
-  stopped r stop (Err fault) s e f = inr (inl (record { trace = s.0; stop = stop; told = f; serving = subst (λ v. IsServing line images s.0 v old new) e s.1 }))
+  stopped r stop (Err fault) s e f = inr
+      (inl (record { trace = s.0; stop = stop; told = f; serving = subst (λ v. IsServing line images s.0 v old new) e s.1 }))
 
   -- serving went to its end, whatever came of the balances
-  pub whole : (r : Result (Done A) Stop) (done : Done A) → (t : Trace) × IsServing line images t r old new → r ≡ Ok done → IsServedWhole A line images old new
+  pub whole : (r : Result (Done A) Stop) (done : Done A) → (t : Trace) × IsServing line images t r old new → r ≡ Ok done
+      → IsServedWhole A line images old new
   whole r done s e = record { trace = s.0; done = done; serving = subst (λ v. IsServing line images s.0 v old new) e s.1 }
 
-  pub lost : {F : Type 0} (file : Option F) (told : Result (Unit {0}) Fault) → IsServedWhole A line images old new → is_some file ≡ is_some line.balances
+  pub lost : {F : Type 0} (file : Option F) (told : Result (Unit {0}) Fault) → IsServedWhole A line images old new
+      → is_some file ≡ is_some line.balances
       → IfErr told (λ fault. (is_some file ≡ true) × ((fault ≡ write_failed) ⊎ (fault ≡ out_of_memory)))
       → IfErr told (λ fault. IsNotServed A line images fault old new)
   lost file (Ok u) w same l = l

@@ -8,12 +8,16 @@ use Rattle.romfs_format.specs.Rules.{IsSoundAs}
 use Rattle.strata.specs.Faults.{AreSizes}
 
 -- a good image goes from what is left to what is checked
-pub one_more : {X : Type 0} (profile : Profile) (v : X → List ℕ) (all before : List (List ℕ)) (left rest : List X) (x : X) (sizes more : List ℕ) (full : ℕ) → all ≡ before ++ map v left → left ≡ x ∷ rest → AreSizes profile before sizes → full ≡ length (image (v x)) → IsSoundAs profile (v x) → more ≡ sizes ++ full ∷ [] → (after : List (List ℕ)) × (all ≡ after ++ map v rest) × AreSizes profile after more
+pub one_more : {X : Type 0} (profile : Profile) (v : X → List ℕ) (all before : List (List ℕ)) (left rest : List X) (x : X)
+    (sizes more : List ℕ) (full : ℕ) → all ≡ before ++ map v left → left ≡ x ∷ rest → AreSizes profile before sizes
+    → full ≡ length (image (v x)) → IsSoundAs profile (v x) → more ≡ sizes ++ full ∷ [] → (after : List (List ℕ))
+    × (all ≡ after ++ map v rest) × AreSizes profile after more
 one_more profile v all before left rest x sizes more full e l s f d m = (
   before ++ v x ∷ [],
   e ∙ ap (λ xs. before ++ map v xs) l ∙ sym (append_assoc before (v x ∷ []) (map v rest)),
   record {
     sound = All-push (IsSoundAs profile) before (v x) s.sound d;
-    sizes_are = m ∙ ap (λ xs. xs ++ full ∷ []) s.sizes_are ∙ ap (λ n. map (λ b. length (image b)) before ++ n ∷ []) f ∙ sym (map-append (λ b. length (image b)) before (v x ∷ []));
+    sizes_are = m ∙ ap (λ xs. xs ++ full ∷ []) s.sizes_are ∙ ap (λ n. map (λ b. length (image b)) before ++ n ∷ []) f
+        ∙ sym (map-append (λ b. length (image b)) before (v x ∷ []));
   },
 )

@@ -85,7 +85,8 @@ five_is_other : ◌≢◌ {A = ℕ} 5 2
 five_is_other e = absurd (omega arith)
 
 -- the work of a command is never stopped for its words
-work_other : (A : Type 0) (verb : Verb) (line : Line) (images : List (List ℕ)) (fault : Fault) (old new : Devices) → IsStoppedOver A verb line images fault old new → status_of fault ≢ 2
+work_other : (A : Type 0) (verb : Verb) (line : Line) (images : List (List ℕ)) (fault : Fault) (old new : Devices)
+    → IsStoppedOver A verb line images fault old new → status_of fault ≢ 2
 work_other A verbs.Serve line images fault old new s =
     elim s [
       | inl f ↦ elim f.which [
@@ -126,11 +127,13 @@ work_other A verbs.List line images fault old new s =
     ]
 
 -- of the two faults of words want of memory has another status
-misread : (words : List (List ℕ)) (line : LineFault) → IsLineFault words line → status_of (line_told_of line) ≡ 2 → (¬ IsTaken words) ⊎ (IsMisnumbered words ⊎ IsCrossed words)
+misread : (words : List (List ℕ)) (line : LineFault) → IsLineFault words line → status_of (line_told_of line) ≡ 2 → (¬ IsTaken words)
+    ⊎ (IsMisnumbered words ⊎ IsCrossed words)
 misread words (lines.Usage text) is e = is
 misread words lines.Memory is e = absurd (five_is_other e)
 
-pub ends_for_words : (A : Type 0) (words : List (List ℕ)) (old new : Devices) → EndsWith A words 2 old new → ((¬ IsTaken words) ⊎ (IsMisnumbered words ⊎ IsCrossed words)) × (new ≡ old)
+pub ends_for_words : (A : Type 0) (words : List (List ℕ)) (old new : Devices) → EndsWith A words 2 old new
+    → ((¬ IsTaken words) ⊎ (IsMisnumbered words ⊎ IsCrossed words)) × (new ≡ old)
 ends_for_words A words old new e =
     let two : status_of e.fault ≡ 2 = sym e.status_is in
     elim e.stopped [
@@ -159,9 +162,12 @@ four_is_more e = absurd (omega arith)
 three_of : (fault other : Fault) → fault ≡ other → status_of fault ≡ 3 → status_of other ≡ 3
 three_of fault other f e = sym (ap status_of f) ∙ e
 
-refused_bad : (profile : Profile) (images : List (List ℕ)) (stop : Stop) → AreRefused profile images stop → stop_status stop ≡ 3 → AreBad profile images
+refused_bad : (profile : Profile) (images : List (List ℕ)) (stop : Stop) → AreRefused profile images stop → stop_status stop ≡ 3
+    → AreBad profile images
 refused_bad profile images (stops.Layers count) r e = inl (not_few profile images count r)
-refused_bad profile images (stops.Layer layer fault) r e = (let b = r.1 in inr (λ s. none_broken profile b.below b.above b.bytes fault.rule fault.place (subst (All (IsSoundAs profile)) b.images_are s) b.broken))
+refused_bad profile images (stops.Layer layer fault) r e =
+    (let b = r.1 in inr (λ s. none_broken profile b.below b.above b.bytes fault.rule fault.place
+      (subst (All (IsSoundAs profile)) b.images_are s) b.broken))
 refused_bad profile images stops.Memory r e = absurd (five_is_more e)
 refused_bad profile images (stops.BadLength at len) r e = absurd r
 refused_bad profile images (stops.CutOff at) r e = absurd r
@@ -171,8 +177,10 @@ refused_bad profile images stops.Turns r e = absurd r
 
 served_bad : {A : Type 0} {first : Session} (profile : Profile) (images : List (List ℕ)) (turns : ℕ) (t : Trace) (stop : Stop)
     → Serves {A = A} profile first images turns t (Err stop) → stop_status stop ≡ 3 → AreBad profile images
-served_bad profile images turns t (stops.Layers count) s e = refused_bad profile images (stops.Layers count) (many_refused profile _ images turns t count s).refused e
-served_bad profile images turns t (stops.Layer layer fault) s e = refused_bad profile images (stops.Layer layer fault) (broken_refused profile _ images turns t layer fault s).refused e
+served_bad profile images turns t (stops.Layers count) s e = refused_bad profile images (stops.Layers count)
+    (many_refused profile _ images turns t count s).refused e
+served_bad profile images turns t (stops.Layer layer fault) s e = refused_bad profile images (stops.Layer layer fault)
+    (broken_refused profile _ images turns t layer fault s).refused e
 served_bad profile images turns t stops.Memory s e = absurd (five_is_more e)
 served_bad profile images turns t (stops.BadLength at len) s e = absurd (four_is_more e)
 served_bad profile images turns t (stops.CutOff at) s e = absurd (four_is_more e)
@@ -181,7 +189,8 @@ served_bad profile images turns t stops.Write s e = absurd (one_is_less e)
 served_bad profile images turns t stops.Turns s e = absurd (four_is_more e)
 
 -- no session is stopped for images
-session_less : {A : Type 0} (first : Session) (stack : Stacked) (t : Trace) (stop : Stop) → IsSession {A = A} first stack t (Err stop) → stop_status stop ≢ 3
+session_less : {A : Type 0} (first : Session) (stack : Stacked) (t : Trace) (stop : Stop) → IsSession {A = A} first stack t (Err stop)
+    → stop_status stop ≢ 3
 session_less first stack t (stops.Layers count) s e = absurd s.run.end
 session_less first stack t (stops.Layer layer fault) s e = absurd s.run.end
 session_less first stack t stops.Memory s e = five_is_more e
@@ -191,7 +200,8 @@ session_less first stack t stops.Read s e = one_is_less e
 session_less first stack t stops.Write s e = one_is_less e
 session_less first stack t stops.Turns s e = four_is_more e
 
-work_bad : (A : Type 0) (verb : Verb) (line : Line) (images : List (List ℕ)) (fault : Fault) (old new : Devices) → IsStoppedOver A verb line images fault old new → status_of fault ≡ 3 → AreBad (profile_of line) images
+work_bad : (A : Type 0) (verb : Verb) (line : Line) (images : List (List ℕ)) (fault : Fault) (old new : Devices)
+    → IsStoppedOver A verb line images fault old new → status_of fault ≡ 3 → AreBad (profile_of line) images
 work_bad A verbs.Serve line images fault old new s e =
     elim s [
       | inl f ↦ elim f.which [
@@ -199,7 +209,8 @@ work_bad A verbs.Serve line images fault old new s e =
         | inr (inl w) ↦ absurd (one_is_less (three_of fault RepliesFile w.0 e))
         | inr (inr w) ↦ absurd (one_is_less (three_of fault BalancesFile w.0 e))
       ]
-      | inr (inl p) ↦ served_bad {A = A} (profile_of line) images _ p.trace p.stop p.serving.by.serves (three_of fault (Stopped p.stop) p.told e)
+      | inr (inl p) ↦ served_bad {A = A} (profile_of line) images _ p.trace p.stop p.serving.by.serves
+          (three_of fault (Stopped p.stop) p.told e)
       | inr (inr b) ↦ elim b.told [
         | inl w ↦ absurd (one_is_less (three_of fault (Stopped stops.Write) w e))
         | inr w ↦ absurd (five_is_more (three_of fault out_of_memory w e))
@@ -218,7 +229,8 @@ work_bad A verbs.Check line images fault old new s e =
     elim s.1 [
       | inl g ↦ elim g.0 [
         | inl r ↦ elim r.refused [
-          | inl b ↦ inr (λ sound. none_broken (profile_of line) r.before r.after r.bytes b.0.rule b.0.place (subst (All (IsSoundAs (profile_of line))) r.images_are sound) b.2)
+          | inl b ↦ inr (λ sound. none_broken (profile_of line) r.before r.after r.bytes b.0.rule b.0.place
+                (subst (All (IsSoundAs (profile_of line))) r.images_are sound) b.2)
           | inr m ↦ absurd (five_is_more (three_of fault out_of_memory m e))
         ]
         | inr m ↦ absurd (five_is_more (three_of fault out_of_memory m e))
@@ -258,7 +270,8 @@ ends_for_images A words old new e =
 pub has_done : (A : Type 0) (words : List (List ℕ)) (old new : Devices) → IsDone A words old new → IsRunOf A words 0 old new
 has_done A words old new d = record { done = λ _. d; stopped = λ n. absurd (n refl); untouched = λ e. absurd (zero_is_other e) }
 
-pub has_stopped : (A : Type 0) (words : List (List ℕ)) (status : ℕ) (fault : Fault) (old new : Devices) → EndsInFault A words fault old new → status ≡ status_of fault → IsRunOf A words status old new
+pub has_stopped : (A : Type 0) (words : List (List ℕ)) (status : ℕ) (fault : Fault) (old new : Devices) → EndsInFault A words fault old new
+    → status ≡ status_of fault → IsRunOf A words status old new
 has_stopped A words status fault old new s e =
     let ends : EndsWith A words status old new = record { fault = fault; status_is = e; stopped = s } in
     record {
@@ -268,7 +281,8 @@ has_stopped A words status fault old new s e =
     }
 
 -- where it did all its steps, by what its sessions end with
-pub has_ended : (A : Type 0) (words : List (List ℕ)) (status : ℕ) (old new : Devices) → IsOverWith A words status old new → IsRunOf A words status old new
+pub has_ended : (A : Type 0) (words : List (List ℕ)) (status : ℕ) (old new : Devices) → IsOverWith A words status old new
+    → IsRunOf A words status old new
 has_ended A words status old new r = go r.fault r.status_is r.over
   where
     go : (fault : Option Fault) → status ≡ status_at fault → IsOver A words fault old new → IsRunOf A words status old new

@@ -14,4 +14,5 @@ returns c =
     let sessions = added_rule c.in_ok-arg.field-0 c.option.result c.in_ok-command.command _
     (value_option (codes "sessions")) c.in_ok-command.ensures listen c.option.ensures.rule
     c.option.ensures.local in
-    IfOk-weaker c.with_served_images.result _ _ (λ more added. added ∙ ap (λ a. with_rules a served_images) sessions) c.with_served_images.ensures
+    IfOk-weaker c.with_served_images.result _ _ (λ more added. added ∙ ap (λ a. with_rules a served_images) sessions)
+        c.with_served_images.ensures

@@ -30,7 +30,8 @@ line_of-requires-clause-socket g c =
     let met = met_command c.in_ok-matches.matches words c.subcommand.result c.unwrap.result
     c.subcommand.ensures.name c.subcommand.ensures.rows c.unwrap.ensures
     c.in_ok-matches.ensures.command in
-    command_gives words c.unwrap.result.0.now (rows_of (found_of c.unwrap.result.1.now)) c.verb_of.result c.in_ok-matches.ensures.taken met c.verb_of.ensures
+    command_gives words c.unwrap.result.0.now (rows_of (found_of c.unwrap.result.1.now)) c.verb_of.result c.in_ok-matches.ensures.taken met
+        c.verb_of.ensures
 
 pub returns-clause-ok : goal.returns-clause-ok
 returns-clause-ok g c =

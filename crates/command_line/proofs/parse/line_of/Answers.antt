@@ -13,12 +13,16 @@ pub returns-in-None-clause-holds : goal.returns-in-None-clause-holds
 returns-in-None-clause-holds c =
     let found = found_of c.args.found.now in
     let are = images_are found c.get_strs.result c.unwrap.result c.get_strs.ensures c.unwrap.ensures in
-    let numbers = numbers_are found c.in_ok-workers.workers c.in_ok-batch.batch c.in_ok-sessions.sessions c.in_ok-workers.ensures.ok c.in_ok-batch.ensures.ok c.in_ok-sessions.ensures.ok in
+    let numbers = numbers_are found c.in_ok-workers.workers c.in_ok-batch.batch c.in_ok-sessions.sessions c.in_ok-workers.ensures.ok
+        c.in_ok-batch.ensures.ok c.in_ok-sessions.ensures.ok in
     held (rows_of found) _ numbers.0 (record {
       verb = refl;
-      strict = flag_is found (codes "strict") c.get_flag.result c.requires.filled.strict c.get_flag.ensures.none c.get_flag.ensures.value c.get_flag.ensures.other;
-      device = flag_is found (codes "device") c.get_flag-2.result c.requires.filled.device c.get_flag-2.ensures.none c.get_flag-2.ensures.value c.get_flag-2.ensures.other;
-      lasting = flag_is found (codes "lasting") c.get_flag-3.result c.requires.filled.lasting c.get_flag-3.ensures.none c.get_flag-3.ensures.value c.get_flag-3.ensures.other;
+      strict = flag_is found (codes "strict") c.get_flag.result c.requires.filled.strict c.get_flag.ensures.none c.get_flag.ensures.value
+          c.get_flag.ensures.other;
+      device = flag_is found (codes "device") c.get_flag-2.result c.requires.filled.device c.get_flag-2.ensures.none
+          c.get_flag-2.ensures.value c.get_flag-2.ensures.other;
+      lasting = flag_is found (codes "lasting") c.get_flag-3.result c.requires.filled.lasting c.get_flag-3.ensures.none
+          c.get_flag-3.ensures.value c.get_flag-3.ensures.other;
       workers = numbers.1;
       batch = numbers.2;
       requests = c.get_str.ensures ∙ first_value-rows found (codes "requests");
@@ -38,7 +42,8 @@ returns-in-None-clause-some_image c =
 pub returns-in-None-clause-socket : goal.returns-in-None-clause-socket
 returns-in-None-clause-socket c =
     let found = found_of c.args.found.now in
-    names_socket c.args.verb (rows_of found) c.get_str-4.result c.requires.socket (c.get_str-4.ensures ∙ first_value-rows found (codes "listen"))
+    names_socket c.args.verb (rows_of found) c.get_str-4.result c.requires.socket (c.get_str-4.ensures
+          ∙ first_value-rows found (codes "listen"))
 
 pub returns-in_err-workers-clause-err : goal.returns-in_err-workers-clause-err
 returns-in_err-workers-clause-err c =
@@ -59,7 +64,8 @@ pub returns-clause-err : goal.returns-clause-err
 returns-clause-err c =
     let found = found_of c.args.found.now in
     let are = images_are found c.get_strs.result c.unwrap.result c.get_strs.ensures c.unwrap.ensures in
-    let numbers = numbers_are found c.in_ok-workers.workers c.in_ok-batch.batch c.in_ok-sessions.sessions c.in_ok-workers.ensures.ok c.in_ok-batch.ensures.ok c.in_ok-sessions.ensures.ok in
+    let numbers = numbers_are found c.in_ok-workers.workers c.in_ok-batch.batch c.in_ok-sessions.sessions c.in_ok-workers.ensures.ok
+        c.in_ok-batch.ensures.ok c.in_ok-sessions.ensures.ok in
     let line : Line = record {
       verb = c.args.verb;
       strict = c.get_flag.result;
@@ -76,9 +82,12 @@ returns-clause-err c =
     } in
     inr (inr (rows_crossed (rows_of found) line (record {
       verb = refl;
-      strict = flag_is found (codes "strict") c.get_flag.result c.requires.filled.strict c.get_flag.ensures.none c.get_flag.ensures.value c.get_flag.ensures.other;
-      device = flag_is found (codes "device") c.get_flag-2.result c.requires.filled.device c.get_flag-2.ensures.none c.get_flag-2.ensures.value c.get_flag-2.ensures.other;
-      lasting = flag_is found (codes "lasting") c.get_flag-3.result c.requires.filled.lasting c.get_flag-3.ensures.none c.get_flag-3.ensures.value c.get_flag-3.ensures.other;
+      strict = flag_is found (codes "strict") c.get_flag.result c.requires.filled.strict c.get_flag.ensures.none c.get_flag.ensures.value
+          c.get_flag.ensures.other;
+      device = flag_is found (codes "device") c.get_flag-2.result c.requires.filled.device c.get_flag-2.ensures.none
+          c.get_flag-2.ensures.value c.get_flag-2.ensures.other;
+      lasting = flag_is found (codes "lasting") c.get_flag-3.result c.requires.filled.lasting c.get_flag-3.ensures.none
+          c.get_flag-3.ensures.value c.get_flag-3.ensures.other;
       workers = numbers.1;
       batch = numbers.2;
       requests = c.get_str.ensures ∙ first_value-rows found (codes "requests");

@@ -11,7 +11,8 @@ row_size-requires g c = let l = c.loop-until.invariant.left in let s = c.require
 pub loop-until-preserved : goal.loop-until-preserved
 loop-until-preserved g c =
     let there : c.loop-until.until < 2 + length c.args.children.now = omega arith in
-    one_gone c.args.with_entries c.args.children.now c.args.from c.args.size c.loop-until.until c.loop-until.room c.name_length.result c.in-Some.bytes
+    one_gone c.args.with_entries c.args.children.now c.args.from c.args.size c.loop-until.until c.loop-until.room c.name_length.result
+        c.in-Some.bytes
     there c.name_length.ensures c.in-Some.ensures.0 c.in-Some.ensures.1 c.loop-until.invariant
 
 pub loop-until-smaller : goal.loop-until-smaller
@@ -26,4 +27,5 @@ returns-in-None g c =
 pub returns : goal.returns
 returns g c =
     let past : 2 + length c.args.children.now ≤ c.loop-until.until = omega arith in
-    all_gone c.args.with_entries c.args.children.now c.args.from c.args.size c.loop-until.until c.loop-until.room past c.loop-until.invariant
+    all_gone c.args.with_entries c.args.children.now c.args.from c.args.size c.loop-until.until c.loop-until.room past
+        c.loop-until.invariant

@@ -41,7 +41,8 @@ loop-index-preserved g c =
     let more = c.loop-index.invariant.grown in
     let grown = c.in_ok-put_row.ensures.3 in
     record {
-      so_far = row_next c.args.table.now c.args.rows.now c.requires c.args.unique c.loop-index.index c.args.out.now.items c.loop-index.out.items c.put_row.new.out.items
+      so_far = row_next c.args.table.now c.args.rows.now c.requires c.args.unique c.loop-index.index c.args.out.now.items
+          c.loop-index.out.items c.put_row.new.out.items
           c.loop-index.auto.index c.loop-index-test.true c.loop-index.invariant.so_far c.in_ok-put_row.ensures.0;
       room = omega arith;
       grown = omega arith;
@@ -49,7 +50,8 @@ loop-index-preserved g c =
 
 pub returns-in_err-put_row : goal.returns-in_err-put_row
 returns-in_err-put_row g c =
-    let fits = row_has_room c.args.table.now c.args.rows.now c.requires c.args.unique c.loop-index.index c.args.out.now.items c.loop-index.out.items
+    let fits = row_has_room c.args.table.now c.args.rows.now c.requires c.args.unique c.loop-index.index c.args.out.now.items
+        c.loop-index.out.items
     c.loop-index.auto.index c.loop-index-test.true c.loop-index.invariant.so_far in
     let room = c.loop-index.invariant.room in
     let full = c.in_err-put_row.ensures.2 in
@@ -60,4 +62,5 @@ returns-in_err-put_row g c =
 pub returns : goal.returns
 returns g c =
     let last = c.loop-index.auto.index-end c.requires.in_order in
-    (all_rows c.args.table.now c.args.rows.now c.requires c.args.unique c.loop-index.index c.args.out.now.items c.loop-index.out.items (omega arith) c.loop-index.invariant.so_far, tt, tt, c.loop-index.invariant.grown)
+    (all_rows c.args.table.now c.args.rows.now c.requires c.args.unique c.loop-index.index c.args.out.now.items c.loop-index.out.items
+          (omega arith) c.loop-index.invariant.so_far, tt, tt, c.loop-index.invariant.grown)

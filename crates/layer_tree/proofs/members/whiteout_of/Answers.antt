@@ -5,4 +5,5 @@ use Rattle.layer_tree.proofs.ByName.{marker_rest}
 use Rattle.layer_tree.proofs.members.whiteout_of.Goals as goal
 
 pub returns-then-is_marker : goal.returns-then-is_marker
-returns-then-is_marker c = marker_rest c.args.name.now (sym c.if-is_marker.ensures) ∙ ap (λ rest. marker ++ rest) (sym (take_rest c.args.name.now 4))
+returns-then-is_marker c = marker_rest c.args.name.now (sym c.if-is_marker.ensures)
+    ∙ ap (λ rest. marker ++ rest) (sym (take_rest c.args.name.now 4))

@@ -12,4 +12,5 @@ abbrev pub decreases-branches_below : goal.decreases-branches_below
 decreases-branches_below g l = 3 * l.left
 
 abbrev pub invariant-branches_below-loop-member : goal.invariant-branches_below-loop-member
-invariant-branches_below-loop-member g l = Building l.image l.layer l.members (drop l.member-index l.members) l.entries.items l.marks.items × (l.ends ≡ l.image)
+invariant-branches_below-loop-member g l = Building l.image l.layer l.members (drop l.member-index l.members) l.entries.items l.marks.items
+    × (l.ends ≡ l.image)

@@ -15,8 +15,10 @@ loop-key-preserved g c =
       | then-slot-slots w ↦
           let within : slot < length items = omega arith in
           let one = w.and_one.ensures ∙ ap and_one (w.index.ensures ∙ get_or_default items slot w.index.result.now More within) in
-          rw w.fallen-is (fell_within c.args.keys.now _ items _ c.loop-key.key-index slot c.loop-key.invariant c.slot_of-slot.ensures (omega arith) (ap (slice_set items slot) one))
-      | else-slot-slots w ↦ rw w.fallen-is (fell_beyond c.args.keys.now _ items c.loop-key.key-index slot c.loop-key.invariant c.slot_of-slot.ensures (omega arith))
+          rw w.fallen-is (fell_within c.args.keys.now _ items _ c.loop-key.key-index slot c.loop-key.invariant c.slot_of-slot.ensures
+                (omega arith) (ap (slice_set items slot) one))
+      | else-slot-slots w ↦ rw w.fallen-is (fell_beyond c.args.keys.now _ items c.loop-key.key-index slot c.loop-key.invariant
+            c.slot_of-slot.ensures (omega arith))
     ]
 
 pub returns : goal.returns

@@ -8,7 +8,8 @@ pub loop-key-preserved : goal.loop-key-preserved
 loop-key-preserved g c =
     let lt : c.loop-key.key-index < length c.args.keys.now = omega arith in
     told_more c.args.keys.now c.loop-key.once.items c.push.new.self.items c.loop-key.key-index _ c.in_ok-push.ensures.items
-    (λ t. c.in_ok-fallen.ensures.once c.loop-key.key-index lt (subst (λ xs. FellAlone xs (slice_index c.args.keys.now c.loop-key.key-index)) c.deref.ensures.value (c.fell_alone.ensures t)))
+    (λ t. c.in_ok-fallen.ensures.once c.loop-key.key-index lt (subst (λ xs. FellAlone xs (slice_index c.args.keys.now c.loop-key.key-index))
+          c.deref.ensures.value (c.fell_alone.ensures t)))
     c.loop-key.invariant
 
 pub returns : goal.returns

@@ -11,5 +11,6 @@ use Rattle.node_table.proofs.building.make.Given as goal
 abbrev pub invariant-loop-at : goal.invariant-loop-at
 invariant-loop-at g l = (first : List (Spot Entry)) × (entries : List Listed)
     × AreSeeds l.images entries (number_among l.walk.spots.items) first l.numbered.paths.items
-    × ArePosts (number_among l.walk.spots.items) l.walk.spots.items l.numbered.numbers.items l.walk.above.items l.walk.sizes.items first l.numbered.starts.items
+    × ArePosts (number_among l.walk.spots.items) l.walk.spots.items l.numbered.numbers.items l.walk.above.items l.walk.sizes.items first
+        l.numbered.starts.items
     × Making l.images entries l.nodes.items l.directories.all.items l.directories.rows.items l.directories.keys.items l.at

@@ -12,9 +12,11 @@ loop-i-preserved g c =
     elim c.if-i-eq0.branch [
       | then-i-eq0 w ↦ elim w.then-i-eq0.branch [
         | then-i-eq0-via-then-i-eq0 v ↦ begins_anew _ _ _ _ _ c.loop-i.invariant lt _ _ w.group-is refl (inl (omega (arith, v.if-i-eq0)))
-        | then-i-eq0-via-else-i-eq0+then-seat-group v ↦ begins_anew _ _ _ _ _ c.loop-i.invariant lt _ _ w.group-is refl (inr v.if-seat-group.true)
+        | then-i-eq0-via-else-i-eq0+then-seat-group v ↦ begins_anew _ _ _ _ _ c.loop-i.invariant lt _ _ w.group-is refl
+            (inr v.if-seat-group.true)
       ]
-      | else-i-eq0+else-seat-group w ↦ rw w.group-is (goes_on _ _ _ _ _ c.loop-i.invariant lt _ refl (omega (arith, w.if-i-eq0)) w.if-seat-group.false)
+      | else-i-eq0+else-seat-group w ↦ rw w.group-is (goes_on _ _ _ _ _ c.loop-i.invariant lt _ refl (omega (arith, w.if-i-eq0))
+            w.if-seat-group.false)
     ]
 
 pub returns : goal.returns

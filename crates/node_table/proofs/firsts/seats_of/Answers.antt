@@ -18,4 +18,6 @@ loop-at-preserved g c = seats_more _ _ _ _ _ refl c.in_ok-push.ensures.items c.l
 pub returns : goal.returns
 returns g c =
     let n : c.loop-at.at ≡ length c.args.keys.now = omega arith in
-    seated c.args.keys.now c.loop-at.seats.items c.sort_unstable.new.self.items (subst (Seating c.args.keys.now c.loop-at.seats.items) n c.loop-at.invariant) c.sort_unstable.ensures.permutation c.sort_unstable.ensures.sorted
+    seated c.args.keys.now c.loop-at.seats.items c.sort_unstable.new.self.items
+        (subst (Seating c.args.keys.now c.loop-at.seats.items) n c.loop-at.invariant) c.sort_unstable.ensures.permutation
+        c.sort_unstable.ensures.sorted

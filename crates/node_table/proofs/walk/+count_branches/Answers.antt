@@ -5,5 +5,6 @@ use Rattle.node_table.proofs.walk.+count_branches.Goals as goal
 pub count_branches-requires : goal.count_branches-requires
 count_branches-requires g t c κs within =
     let l : c.loop-child.child-index < length c.children-child-items.result.now = omega arith in
-    let f = falls c.children-child-items.result.now c.args.branch.now.below c.loop-child.child-index c.child-item.result c.children-child-items.ensures.below l c.child-item.is in
+    let f = falls c.children-child-items.result.now c.args.branch.now.below c.loop-child.child-index c.child-item.result
+        c.children-child-items.ensures.below l c.child-item.is in
     search (rules, f)

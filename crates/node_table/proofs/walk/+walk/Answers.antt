@@ -4,19 +4,24 @@ use Rattle.node_table.proofs.Walking.{goes_on, begins, stands, levels, ends, fal
 use Rattle.node_table.proofs.walk.+walk.Goals as goal
 
 pub loop-child-init : goal.loop-child-init
-loop-child-init g t c = begins _ _ _ _ _ _ _ _ _ _ c.requires.above c.requires.level c.in_ok-push.ensures.items c.in_ok-push-2.ensures.items c.in_ok-push-3.ensures.items
+loop-child-init g t c = begins _ _ _ _ _ _ _ _ _ _ c.requires.above c.requires.level c.in_ok-push.ensures.items c.in_ok-push-2.ensures.items
+    c.in_ok-push-3.ensures.items
 
 pub loop-child-preserved : goal.loop-child-preserved
 loop-child-preserved g t c =
     let l : c.loop-child.child-index < length c.children-child-items.result.now = omega arith in
-    goes_on c.args.branch.now c.args.above c.children-child-items.result.now c.args.out.now.spots.items c.loop-child.out.spots.items c.walk.new.out.spots.items _ _ _ _ _ _ c.loop-child.child-index c.child-item.result c.children-child-items.ensures.below c.children-child-items.ensures.forest l c.child-item.is c.loop-child.invariant (rw c.value-value.ensures at c.in_ok-walk.ensures)
+    goes_on c.args.branch.now c.args.above c.children-child-items.result.now c.args.out.now.spots.items c.loop-child.out.spots.items
+        c.walk.new.out.spots.items _ _ _ _ _ _ c.loop-child.child-index c.child-item.result c.children-child-items.ensures.below
+        c.children-child-items.ensures.forest l c.child-item.is c.loop-child.invariant (rw c.value-value.ensures at c.in_ok-walk.ensures)
 
 pub walk-requires : goal.walk-requires
 walk-requires g t c κs within =
     let l : c.loop-child.child-index < length c.children-child-items.result.now = omega arith in
-    let f = falls c.children-child-items.result.now c.args.branch.now.below c.loop-child.child-index c.child-item.result c.children-child-items.ensures.below l c.child-item.is in
+    let f = falls c.children-child-items.result.now c.args.branch.now.below c.loop-child.child-index c.child-item.result
+        c.children-child-items.ensures.below l c.child-item.is in
     let at : c.len-at.result ≡ length c.args.out.now.spots.items = omega (arith, c.len-at.ensures, c.args.out.now.spots.ok.0) in
-    let above = subst (λ n. StandsAt c.loop-child.out.spots.items n c.value-value.result) (sym at) (stands _ _ _ _ _ _ _ _ _ _ c.value-value.result c.value-value.ensures c.loop-child.invariant) in
+    let above = subst (λ n. StandsAt c.loop-child.out.spots.items n c.value-value.result) (sym at)
+        (stands _ _ _ _ _ _ _ _ _ _ c.value-value.result c.value-value.ensures c.loop-child.invariant) in
     let level = levels _ _ _ _ _ _ _ _ _ _ c.loop-child.invariant in
     search (rules, f, above, level)
 
@@ -25,4 +30,5 @@ returns g t c =
     let at : c.len-at.result ≡ length c.args.out.now.spots.items = omega (arith, c.len-at.ensures, c.args.out.now.spots.ok.0) in
     let now : c.len.result ≡ length c.loop-child.out.spots.items = omega (arith, c.len.ensures, c.loop-child.out.spots.ok.0) in
     let size = ap (λ n. n - c.len-at.result) now in
-    ends _ _ _ _ _ _ _ _ _ _ c.loop-child.child-index _ _ c.children-child-items.ensures.below (omega arith) at size refl c.loop-child.invariant
+    ends _ _ _ _ _ _ _ _ _ _ c.loop-child.child-index _ _ c.children-child-items.ensures.below (omega arith) at size refl
+        c.loop-child.invariant

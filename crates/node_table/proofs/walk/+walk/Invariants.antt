@@ -6,4 +6,5 @@ abbrev pub decreases-walk : goal.decreases-walk
 decreases-walk g l = length l.branch.now.below
 
 abbrev pub invariant-loop-child : goal.invariant-loop-child
-invariant-loop-child g l = Walking l.branch l.fn.above l.child-items l.fn.out.spots.items l.out.spots.items l.fn.out.above.items l.out.above.items l.fn.out.sizes.items l.out.sizes.items l.child-index
+invariant-loop-child g l = Walking l.branch l.fn.above l.child-items l.fn.out.spots.items l.out.spots.items l.fn.out.above.items
+    l.out.above.items l.fn.out.sizes.items l.out.sizes.items l.child-index

@@ -6,7 +6,8 @@ use Rattle.path_list.proofs.Whole.{none, begun}
 use Rattle.path_list.proofs.walk.put_all.Goals as goal
 
 pub returns-then-len-eq0-clause-gained : goal.returns-then-len-eq0-clause-gained
-returns-then-len-eq0-clause-gained g c = gains_same (none c.args.table.now c.len.result c.len.ensures.value c.if-len-eq0.true) (gains_none _ _)
+returns-then-len-eq0-clause-gained g c = gains_same (none c.args.table.now c.len.result c.len.ensures.value c.if-len-eq0.true)
+    (gains_none _ _)
 
 pub put_below-requires-clause-visited : goal.put_below-requires-clause-visited
 put_below-requires-clause-visited g c =
@@ -16,5 +17,6 @@ put_below-requires-clause-visited g c =
 pub returns-clause-gained : goal.returns-clause-gained
 returns-clause-gained g c =
     let i : AreImages c.args.table.now.layers = subst AreImages c.images.ensures c.are_images.ensures in
-    gains_on c.put_below.result _ _ _ (lines c.args.table.now.layers c.args.table.now.entries) c.in_ok-put_line.ensures.gained c.put_below.ensures.gained
+    gains_on c.put_below.result _ _ _ (lines c.args.table.now.layers c.args.table.now.entries) c.in_ok-put_line.ensures.gained
+        c.put_below.ensures.gained
     (begun c.args.table.now c.len.result i c.len.ensures.listing c.len.ensures.value c.if-len-eq0.false).all

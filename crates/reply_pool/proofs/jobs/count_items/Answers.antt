@@ -7,7 +7,8 @@ use Rattle.reply_pool.specs.Jobs.{HasFewItems}
 use Rattle.reply_pool.proofs.jobs.count_items.Goals as goal
 
 -- all others have no items
-others : (op : Op) → ((items : Forgets) → op ≡ BatchForget items → ⊥) → ((offset size : ℕ) → op ≡ Readdirplus offset size → ⊥) → HasFewItems (op_said op)
+others : (op : Op) → ((items : Forgets) → op ≡ BatchForget items → ⊥) → ((offset size : ℕ) → op ≡ Readdirplus offset size → ⊥)
+    → HasFewItems (op_said op)
 others (Init major minor readahead flags) no_items no_rows = tt
 others (Lookup name) no_items no_rows = tt
 others (Forget nlookup) no_items no_rows = tt

@@ -8,9 +8,11 @@ use Rattle.reply_pool.proofs.pieces.in_order.Goals as goal
 
 pub join-requires : goal.join-requires
 join-requires g c =
-    let up = IsNonDecreasingBy-from_sort_by_key (λ (p : Piece g.row.A.Denot). p.number) _ c.sort_unstable_by_key.ensures.sorted (λ a r q k. search rules) in
+    let up = IsNonDecreasingBy-from_sort_by_key (λ (p : Piece g.row.A.Denot). p.number) _ c.sort_unstable_by_key.ensures.sorted
+        (λ a r q k. search rules) in
     let order : AreOrdered c.args.pieces.items c.deref.result.now = record {
-      same = subst (λ (ys : List (Piece g.row.A.Denot)). IsPermutation c.args.pieces.items ys) (sym c.deref.ensures.value) c.sort_unstable_by_key.ensures.permutation;
+      same = subst (λ (ys : List (Piece g.row.A.Denot)). IsPermutation c.args.pieces.items ys) (sym c.deref.ensures.value)
+          c.sort_unstable_by_key.ensures.permutation;
       rising = subst (λ (ys : List (Piece g.row.A.Denot)). IsNonDecreasingBy (λ p. p.number) ys) (sym c.deref.ensures.value) up;
     } in
     let w = light_enough c.args.pieces.items c.deref.result.now order c.requires.once c.requires.light in
@@ -18,9 +20,11 @@ join-requires g c =
 
 pub returns : goal.returns
 returns g c =
-    let up = IsNonDecreasingBy-from_sort_by_key (λ (p : Piece g.row.A.Denot). p.number) _ c.sort_unstable_by_key.ensures.sorted (λ a r q k. search rules) in
+    let up = IsNonDecreasingBy-from_sort_by_key (λ (p : Piece g.row.A.Denot). p.number) _ c.sort_unstable_by_key.ensures.sorted
+        (λ a r q k. search rules) in
     let order : AreOrdered c.args.pieces.items c.deref.result.now = record {
-      same = subst (λ (ys : List (Piece g.row.A.Denot)). IsPermutation c.args.pieces.items ys) (sym c.deref.ensures.value) c.sort_unstable_by_key.ensures.permutation;
+      same = subst (λ (ys : List (Piece g.row.A.Denot)). IsPermutation c.args.pieces.items ys) (sym c.deref.ensures.value)
+          c.sort_unstable_by_key.ensures.permutation;
       rising = subst (λ (ys : List (Piece g.row.A.Denot)). IsNonDecreasingBy (λ p. p.number) ys) (sym c.deref.ensures.value) up;
     } in
     joins c.args.pieces.items c.deref.result.now c.join.result order c.join.ensures.bytes c.join.ensures.moves

@@ -10,18 +10,22 @@ use Rattle.reply_pool.proofs.spread.append.Goals as goal
 
 pub append_all-requires-clause-light : goal.append_all-requires-clause-light
 append_all-requires-clause-light g c =
-    let up = IsNonDecreasingBy-from_sort_by_key (λ (p : Piece g.row.A.Denot). p.number) _ c.sort_unstable_by_key.ensures.sorted (λ a r q k. search rules) in
+    let up = IsNonDecreasingBy-from_sort_by_key (λ (p : Piece g.row.A.Denot). p.number) _ c.sort_unstable_by_key.ensures.sorted
+        (λ a r q k. search rules) in
     let order : AreOrdered c.args.pieces.items c.deref.result.now = record {
-      same = subst (λ (ys : List (Piece g.row.A.Denot)). IsPermutation c.args.pieces.items ys) (sym c.deref.ensures.value) c.sort_unstable_by_key.ensures.permutation;
+      same = subst (λ (ys : List (Piece g.row.A.Denot)). IsPermutation c.args.pieces.items ys) (sym c.deref.ensures.value)
+          c.sort_unstable_by_key.ensures.permutation;
       rising = subst (λ (ys : List (Piece g.row.A.Denot)). IsNonDecreasingBy (λ p. p.number) ys) (sym c.deref.ensures.value) up;
     } in
     light_enough c.args.pieces.items c.deref.result.now order c.requires.once c.requires.light
 
 pub returns : goal.returns
 returns g c =
-    let up = IsNonDecreasingBy-from_sort_by_key (λ (p : Piece g.row.A.Denot). p.number) _ c.sort_unstable_by_key.ensures.sorted (λ a r q k. search rules) in
+    let up = IsNonDecreasingBy-from_sort_by_key (λ (p : Piece g.row.A.Denot). p.number) _ c.sort_unstable_by_key.ensures.sorted
+        (λ a r q k. search rules) in
     let order : AreOrdered c.args.pieces.items c.deref.result.now = record {
-      same = subst (λ (ys : List (Piece g.row.A.Denot)). IsPermutation c.args.pieces.items ys) (sym c.deref.ensures.value) c.sort_unstable_by_key.ensures.permutation;
+      same = subst (λ (ys : List (Piece g.row.A.Denot)). IsPermutation c.args.pieces.items ys) (sym c.deref.ensures.value)
+          c.sort_unstable_by_key.ensures.permutation;
       rising = subst (λ (ys : List (Piece g.row.A.Denot)). IsNonDecreasingBy (λ p. p.number) ys) (sym c.deref.ensures.value) up;
     } in
     appends c.args.pieces.items c.deref.result.now c.append_all.result c.args.replies.now.items c.append_all.new.replies.items

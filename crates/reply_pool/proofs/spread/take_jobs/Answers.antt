@@ -25,7 +25,8 @@ loop-round-preserved g c =
     let m = c.loop-round.invariant.many in
     let there = c.loop-round-test.true in
     record {
-      first = one_taken c.args.session c.args.stream.now round c.loop-round.jobs.items c.push.new.self.items _ c.in-Whole.len c.after-round.result job
+      first = one_taken c.args.session c.args.stream.now round c.loop-round.jobs.items c.push.new.self.items _ c.in-Whole.len
+          c.after-round.result job
           c.loop-round.invariant.first (take_rest c.args.stream.now round.used) c.in-Whole.ensures refl asks
           (c.after-round.ensures ∙ ap (λ (q : Asked). session_after round.session q.op) asks) more;
       many = omega arith;

@@ -34,9 +34,11 @@ loop-m-preserved g c =
           let put : PutsSum c.loop-m.sums.items c.if-m-sum.sums.items c.loop-m.sum = subst
           (λ (xs : List Move). PutsSum c.loop-m.sums.items xs c.loop-m.sum) (sym (ap vec_items w.sums-is))
           w.in_ok-put.ensures in
-          let begun = next_begun (take i xs) c.loop-m.sums.items c.if-m-sum.sums.items c.loop-m.sum c.if-m-sum.sum was.joined put higher zero in
+          let begun = next_begun (take i xs) c.loop-m.sums.items c.if-m-sum.sums.items c.loop-m.sum c.if-m-sum.sum was.joined put higher
+              zero in
           record {
-            joined = move_added xs c.if-m-sum.sums.items i c.if-m-sum.sum c.plus.result there c.requires.light begun (sym own) c.plus.ensures;
+            joined = move_added xs c.if-m-sum.sums.items i c.if-m-sum.sum c.plus.result there c.requires.light begun
+                (sym own) c.plus.ensures;
             above = λ k le lt. (let s = c.requires.sorted i k nothing (omega arith) lt in omega arith);
           })
       | else-m-sum w ↦
@@ -46,7 +48,8 @@ loop-m-preserved g c =
           (subst (λ (ys : List Move). IsJoined (take i xs) ys c.loop-m.sum) (sym (ap vec_items w.sums-is))
           was.joined) in
           record {
-            joined = move_added xs c.if-m-sum.sums.items i c.if-m-sum.sum c.plus.result there c.requires.light joined (same ∙ sym own) c.plus.ensures;
+            joined = move_added xs c.if-m-sum.sums.items i c.if-m-sum.sum c.plus.result there c.requires.light joined (same
+                  ∙ sym own) c.plus.ensures;
             above = λ k le lt. (let s = was.above k (omega arith) lt in omega arith);
           })
     ]
@@ -56,7 +59,8 @@ returns-clause-sums g c =
     let n = c.loop-m.m-index in
     let xs = c.args.moves.now in
     let all : take n xs ≡ xs = take_all n xs (omega arith) in
-    let joined : IsJoined xs c.loop-m.sums.items c.loop-m.sum = subst (λ ms. IsJoined ms c.loop-m.sums.items c.loop-m.sum) all c.loop-m.invariant.joined in
+    let joined : IsJoined xs c.loop-m.sums.items c.loop-m.sum =
+        subst (λ ms. IsJoined ms c.loop-m.sums.items c.loop-m.sum) all c.loop-m.invariant.joined in
     all_joined xs c.loop-m.sums.items c.put-2.new.sums.items c.loop-m.sum joined c.in_ok-put-2.ensures
 
 pub returns-clause-light : goal.returns-clause-light
@@ -64,5 +68,6 @@ returns-clause-light g c =
     let n = c.loop-m.m-index in
     let xs = c.args.moves.now in
     let all : take n xs ≡ xs = take_all n xs (omega arith) in
-    let joined : IsJoined xs c.loop-m.sums.items c.loop-m.sum = subst (λ ms. IsJoined ms c.loop-m.sums.items c.loop-m.sum) all c.loop-m.invariant.joined in
+    let joined : IsJoined xs c.loop-m.sums.items c.loop-m.sum =
+        subst (λ ms. IsJoined ms c.loop-m.sums.items c.loop-m.sum) all c.loop-m.invariant.joined in
     sums_light xs c.loop-m.sums.items c.put-2.new.sums.items c.loop-m.sum joined c.in_ok-put-2.ensures

@@ -29,13 +29,15 @@ loop-number-preserved g c =
     let piece : Piece g.row.B.Denot = record { number = n; bytes = rounded.bytes; moves = rounded.moves } in
     let more = c.in_ok-push.ensures.items in
     let Right : Piece g.row.B.Denot → Type 0 = IsPiece c.args.table.now c.args.jobs.now c.args.size in
-    let right : Right piece = piece_of c.args.table.now c.args.jobs.now c.args.size rounded piece c.batch.result.now c.in_ok-bytes.ensures.rounded c.batch.ensures.jobs refl refl in
+    let right : Right piece = piece_of c.args.table.now c.args.jobs.now c.args.size rounded piece c.batch.result.now
+        c.in_ok-bytes.ensures.rounded c.batch.ensures.jobs refl refl in
     let Small : Piece g.row.B.Denot → Type 0 = λ p. weight p.moves.items ≤ 2 ^ 104 in
     record {
       share = (d.hand.0, d.hand.1 ∙ inv.share.1);
       added = inv.added ++ n ∷ [];
       drawn = d.number.1 ∙ ap (λ (ps : List ℕ). ps ++ n ∷ []) inv.drawn ∙ append_assoc (positions c.args.hand.now) inv.added (n ∷ []);
-      told = told_more (total_of c.args.board.now) inv.added c.loop-number.pieces.items c.push.new.self.items piece d.number.0 more inv.told;
+      told = told_more (total_of c.args.board.now) inv.added c.loop-number.pieces.items c.push.new.self.items piece d.number.0 more
+          inv.told;
       answered = subst (All Right) (sym more) (All-push Right c.loop-number.pieces.items piece inv.answered right);
       light = subst (All Small) (sym more) (All-push Small c.loop-number.pieces.items piece inv.light c.in_ok-bytes.ensures.light);
     }
@@ -67,7 +69,8 @@ returns-clause-pieces g c =
     (λ some. let t = c.draw.ensures.step (omega arith) in
     let miss = unanswered total t.position c.draw.result c.in_default.is t.answered in record {
       added = inv.added ++ t.position ∷ [];
-      drawn = t.added ∙ ap (λ (ps : List ℕ). ps ++ t.position ∷ []) inv.drawn ∙ append_assoc (positions c.args.hand.now) inv.added (t.position ∷ []);
+      drawn = t.added ∙ ap (λ (ps : List ℕ). ps ++ t.position ∷ []) inv.drawn ∙ append_assoc (positions c.args.hand.now) inv.added
+          (t.position ∷ []);
       told = inv.told ∙ sym (numbers_miss total t.position inv.added miss);
       answered = inv.answered;
       every = every;

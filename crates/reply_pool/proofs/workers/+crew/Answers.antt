@@ -2,7 +2,8 @@ use Rattle.reply_pool.proofs.Hands.{both_all, light_both}
 use Rattle.reply_pool.proofs.workers.+crew.Goals as goal
 
 pub returns-clause-pieces : goal.returns-clause-pieces
-returns-clause-pieces g t c = both_all c.args.table.now c.args.jobs.now c.args.size c.args.board.now _ _ _ c.both.result _ _ c.rejoin.ensures.positions
+returns-clause-pieces g t c = both_all c.args.table.now c.args.jobs.now c.args.size c.args.board.now _ _ _ c.both.result _ _
+    c.rejoin.ensures.positions
     c.rejoin.ensures.hand.seen c.both.ensures c.join-mine.ensures.first.1.0 c.join-mine.ensures.second.1.0
 
 pub returns-clause-light : goal.returns-clause-light

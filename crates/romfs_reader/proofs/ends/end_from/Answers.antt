@@ -33,7 +33,8 @@ returns-in-Some-clause-given g c =
 pub head_at-at-requires-clause-inside : goal.head_at-at-requires-clause-inside
 head_at-at-requires-clause-inside g c =
     let s : c.loop-at.at.spec ≡ spec c.args.image.now c.loop-at.at.offset = ap (λ x. x.spec) c.loop-at.invariant.is in
-    rw (c.cleared.ensures, s) (next_inside c.args.image.now c.requires.image c.args.head.now c.loop-at.at c.requires.given c.loop-at.invariant (search rules)).1
+    rw (c.cleared.ensures, s) (next_inside c.args.image.now c.requires.image c.args.head.now c.loop-at.at c.requires.given
+          c.loop-at.invariant (search rules)).1
 
 pub loop-at-smaller : goal.loop-at-smaller
 loop-at-smaller g c =
@@ -53,4 +54,5 @@ pub returns-clause-end : goal.returns-clause-end
 returns-clause-end g c = arrives c.args.image.now c.requires.image c.args.head.now c.loop-at.at c.loop-at.invariant (search rules)
 
 pub returns-clause-given : goal.returns-clause-given
-returns-clause-given g c = arrived c.args.image.now c.requires.image c.args.head.now c.loop-at.at c.requires.given c.loop-at.invariant (search rules)
+returns-clause-given g c = arrived c.args.image.now c.requires.image c.args.head.now c.loop-at.at c.requires.given c.loop-at.invariant
+    (search rules)

@@ -17,7 +17,8 @@ pub head_at-at-requires-clause-inside : goal.head_at-at-requires-clause-inside
 head_at-at-requires-clause-inside g c =
     let way = c.loop-known.invariant.way in
     let s : c.loop-known.at.spec ≡ spec c.args.image.now c.loop-known.at.offset = ap (λ x. x.spec) way.is in
-    rw (c.cleared.ensures, s) (next_inside c.args.image.now c.requires.image c.args.head.now c.loop-known.at c.requires.given way (search rules)).1
+    rw (c.cleared.ensures, s) (next_inside c.args.image.now c.requires.image c.args.head.now c.loop-known.at c.requires.given way
+          (search rules)).1
 
 pub loop-known-smaller : goal.loop-known-smaller
 loop-known-smaller g c =
@@ -36,9 +37,11 @@ loop-known-preserved g c =
     (cleared (spec c.args.image.now c.loop-known.at.offset)) = rw (← s, ← c.cleared.ensures)
     c.head_at-at.ensures in
     record {
-      way = moves_on c.args.image.now c.requires.image c.args.head.now c.loop-known.at c.head_at-at.result c.requires.given i.way (search rules) on;
+      way = moves_on c.args.image.now c.requires.image c.args.head.now c.loop-known.at c.head_at-at.result c.requires.given i.way
+          (search rules) on;
       final = subst (λ x. IsFinal c.args.image.now x c.args.end) (sym (ap (λ x. x.offset) on))
           (final_on c.args.image.now c.requires.image c.args.head.now c.loop-known.at c.requires.given i.way
           (search rules) c.args.end i.final);
-      known = one_more c.args.image.now c.loop-known.known c.insert.new.self c.loop-known.at.offset c.args.end i.known i.final c.in_ok-insert.ensures.updates.0;
+      known = one_more c.args.image.now c.loop-known.known c.insert.new.self c.loop-known.at.offset c.args.end i.known i.final
+          c.in_ok-insert.ensures.updates.0;
     }

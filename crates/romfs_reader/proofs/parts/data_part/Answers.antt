@@ -14,4 +14,5 @@ returns-in-Regular c =
     rw c.padded.ensures.value (part_of_data c.args.image.now c.requires.image c.args.head.now c.requires.given c.in-Regular.is)
 
 pub returns-in_default : goal.returns-in_default
-returns-in_default c = part_of_none c.args.image.now c.requires.image c.args.head.now c.requires.given c.in_default.not-Regular c.in_default.not-SymLink
+returns-in_default c = part_of_none c.args.image.now c.requires.image c.args.head.now c.requires.given c.in_default.not-Regular
+    c.in_default.not-SymLink

@@ -31,4 +31,5 @@ pub returns-clause-end : goal.returns-clause-end
 returns-clause-end c = arrives c.args.image.now c.requires.image c.args.head.now c.loop-end.end c.loop-end.invariant (search rules)
 
 pub returns-clause-given : goal.returns-clause-given
-returns-clause-given c = arrived c.args.image.now c.requires.image c.args.head.now c.loop-end.end c.requires.given c.loop-end.invariant (search rules)
+returns-clause-given c = arrived c.args.image.now c.requires.image c.args.head.now c.loop-end.end c.requires.given c.loop-end.invariant
+    (search rules)

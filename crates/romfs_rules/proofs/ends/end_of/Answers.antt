@@ -59,7 +59,8 @@ loop-walks-preserved g c =
     let inside = hard.0.1 in
     let l : c.loop-walks.at / 16 < length c.loop-walks.walks.by_slot = omega arith in
     record {
-      target = rw (c.cleared-at.ensures, c.word.ensures) (next_target c.args.image.now.bytes.now c.loop-walks.at c.loop-walks.invariant.target hard);
+      target = rw (c.cleared-at.ensures, c.word.ensures)
+          (next_target c.args.image.now.bytes.now c.loop-walks.at c.loop-walks.invariant.target hard);
       same = c.put.ensures.same ∙ c.loop-walks.invariant.same;
       going = rw (c.put.ensures.put, c.cleared-at.ensures, c.word.ensures)
           (passes c.args.image.now.bytes.now c.args.ends.now c.args.from c.loop-walks.at c.loop-walks.walks.by_slot
@@ -74,7 +75,8 @@ at-walk-requires g c = rw c.loop-walks.invariant.same
     (c.loop-walks-test.ensures.0 refl).0)
 
 pub put-requires : goal.put-requires
-put-requires g c = rw c.loop-walks.invariant.same (c.requires.targets.all c.loop-walks.at c.loop-walks.invariant.target (c.loop-walks-test.ensures.0 refl).0)
+put-requires g c = rw c.loop-walks.invariant.same (c.requires.targets.all c.loop-walks.at c.loop-walks.invariant.target
+      (c.loop-walks-test.ensures.0 refl).0)
 
 pub end_at-requires-clause-last : goal.end_at-requires-clause-last
 end_at-requires-clause-last g c = λ l. false≢true (c.loop-walks-test.ensures.1 l)

@@ -5,7 +5,8 @@ use Rattle.romfs_rules.proofs.Reach.{IsFoundBefore, nothing, scans, scanned_to, 
 use Rattle.romfs_rules.proofs.outside.find_outside.Goals as goal
 
 pub note_named-found-requires-clause-slot : goal.note_named-found-requires-clause-slot
-note_named-found-requires-clause-slot g c = root_slot c.args.image.now.bytes.now c.args.image.now.keeps c.args.image.now.root c.args.image.now.rooted
+note_named-found-requires-clause-slot g c = root_slot c.args.image.now.bytes.now c.args.image.now.keeps c.args.image.now.root
+    c.args.image.now.rooted
 
 pub note_named-found-requires-in-Some-clause-slot : goal.note_named-found-requires-in-Some-clause-slot
 note_named-found-requires-in-Some-clause-slot g c =

@@ -9,5 +9,6 @@ loop-number-preserved g c =
       | then-noted-number+in_ok-push w ↦ rw (w.found-is, w.in_ok-push.ensures.items)
           (chooses_noted _ _ at _ c.loop-number-test.true c.requires.rising c.loop-number.invariant
           w.if-noted-number.true)
-      | else-noted-number w ↦ rw w.found-is (chooses_plain _ _ at _ c.loop-number-test.true c.requires.rising c.loop-number.invariant w.if-noted-number.false)
+      | else-noted-number w ↦ rw w.found-is (chooses_plain _ _ at _ c.loop-number-test.true c.requires.rising c.loop-number.invariant
+            w.if-noted-number.false)
     ]

@@ -18,11 +18,13 @@ loop-slot-init g c =
       tallied = passes a slot c.in_ok-once.once c.in_ok-twice.twice c.count_links.new.once
           c.count_links.new.twice (subst (λ h. CountsBoth a h c.in_ok-once.once c.in_ok-twice.twice
           c.count_links.new.once c.count_links.new.twice) e c.count_links.ensures)
-          (none_tallied a c.args.image.now.keeps slot (omega arith) c.in_ok-once.once c.in_ok-twice.twice c.in_ok-once.ensures c.in_ok-twice.ensures);
+          (none_tallied a c.args.image.now.keeps slot (omega arith) c.in_ok-once.once c.in_ok-twice.twice c.in_ok-once.ensures
+                c.in_ok-twice.ensures);
     }
 
 pub count_links-requires-clause-slot : goal.count_links-requires-clause-slot
-count_links-requires-clause-slot g c = root_slot c.args.image.now.bytes.now c.args.image.now.keeps c.args.image.now.root c.args.image.now.rooted
+count_links-requires-clause-slot g c = root_slot c.args.image.now.bytes.now c.args.image.now.keeps c.args.image.now.root
+    c.args.image.now.rooted
 
 pub count_links-requires-in-Some-clause-slot : goal.count_links-requires-in-Some-clause-slot
 count_links-requires-in-Some-clause-slot g c =

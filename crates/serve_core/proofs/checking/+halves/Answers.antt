@@ -12,4 +12,5 @@ returns g t c =
     let up = counted (λ image. image.items) c.args.images.items lows half c.args.first c.in_ok-highs.ensures.items within in
     let all = joined c.args.first _ c.args.profile (map (λ image. image.items) lows) (map (λ image. image.items) highs)
     _ _ c.together.result up c.join-low.ensures.first c.join-low.ensures.second c.together.ensures in
-    subst (λ xs. Checks c.args.first c.args.profile xs c.together.result) (halved (λ image. image.items) c.args.images.items lows highs half c.in_ok-highs.ensures.items c.in_ok-highs.ensures.tail) all
+    subst (λ xs. Checks c.args.first c.args.profile xs c.together.result) (halved (λ image. image.items) c.args.images.items lows highs half
+          c.in_ok-highs.ensures.items c.in_ok-highs.ensures.tail) all

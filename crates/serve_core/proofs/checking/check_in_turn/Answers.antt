@@ -9,15 +9,18 @@ loop-bytes-preserved g c =
     record {
       can_next = tt;
       is_finite = tt;
-      done = one_more (λ image. image.items) c.args.profile _ done.0 _ _ c.in-Some.bytes c.loop-bytes.checked.items c.push.new.self.items c.in-Ok.image
+      done = one_more (λ image. image.items) c.args.profile _ done.0 _ _ c.in-Some.bytes c.loop-bytes.checked.items c.push.new.self.items
+          c.in-Ok.image
           done.1 c.in-Some.ensures.steps.0 done.2 c.in-Ok.ensures.ok.0 c.in-Ok.ensures.ok.1 c.in_ok-push-in-Ok.ensures.items;
     }
 
 pub returns : goal.returns
 returns g c =
     let done = c.loop-bytes.invariant.done in
-    let none : length (into_iter_items c.loop-bytes.bytes-iterator) ≡ 0 = omega (arith, c.in-None.ensures.steps.0, c.loop-bytes.bytes-iterator.rest.ok) in (
-      all_checked (λ image. image.items) c.args.profile c.args.images.items done.0 (into_iter_items c.loop-bytes.bytes-iterator) c.loop-bytes.checked.items
+    let none : length (into_iter_items c.loop-bytes.bytes-iterator) ≡ 0 = omega (arith, c.in-None.ensures.steps.0,
+          c.loop-bytes.bytes-iterator.rest.ok) in (
+      all_checked (λ image. image.items) c.args.profile c.args.images.items done.0 (into_iter_items c.loop-bytes.bytes-iterator)
+          c.loop-bytes.checked.items
           done.1 none done.2,
       tt,
     )

@@ -6,7 +6,8 @@ use Rattle.serve_loop.proofs.rounds_on.answer_all.Goals as goal
 
 pub loop-stop-init : goal.loop-stop-init
 loop-stop-init g c =
-    ([], [], goes_nowhere (g.T.Rounds.answering c.args.answers.now) (serving_state c.args.progress.now), Appends-nil _, flushed_none _, c.requires.range, c.requires.small)
+    ([], [], goes_nowhere (g.T.Rounds.answering c.args.answers.now) (serving_state c.args.progress.now), Appends-nil _, flushed_none _,
+          c.requires.range, c.requires.small)
 
 pub loop-stop-preserved : goal.loop-stop-preserved
 loop-stop-preserved g c =
@@ -30,7 +31,8 @@ returns-in-Ok-false-clause-ok g c =
       goes_further _ _ _ _ ms ns put more went on,
       Appends-trans _ _ _ _ _ held and,
       flushed_on _ _ _ put more flushed so,
-      subst (λ b. GoesOn b (serving_state c.loop-stop.progress) (serving_state c.answer_round.new.progress)) c.in-Ok-false.field-0-test rest,
+      subst (λ b. GoesOn b (serving_state c.loop-stop.progress) (serving_state c.answer_round.new.progress)) c.in-Ok-false.field-0-test
+          rest,
     )
 
 pub returns-in-Err-clause-err : goal.returns-in-Err-clause-err

@@ -8,5 +8,6 @@ loop-bytes-preserved g c =
     record {
       can_next = tt;
       is_finite = tt;
-      done = one_more c.args.profile (λ image. image.items) _ i.0 _ _ c.in-Some.bytes c.loop-bytes.sizes.items c.push.new.self.items _ i.1 c.in-Some.ensures.steps.0 i.2 good.0 good.1 c.in_ok-push.ensures.items;
+      done = one_more c.args.profile (λ image. image.items) _ i.0 _ _ c.in-Some.bytes c.loop-bytes.sizes.items c.push.new.self.items _ i.1
+          c.in-Some.ensures.steps.0 i.2 good.0 good.1 c.in_ok-push.ensures.items;
     }

@@ -15,4 +15,5 @@ load-requires g c = (
 )
 
 pub returns-clause-positions : goal.returns-clause-positions
-returns-clause-positions g c = unites _ _ _ _ (ap (λ m. m.0.positions) (c.load.ensures.2.0 ∙ c.join_seat.ensures.2)) c.load.ensures.2.1.rises
+returns-clause-positions g c = unites _ _ _ _ (ap (λ m. m.0.positions) (c.load.ensures.2.0 ∙ c.join_seat.ensures.2))
+    c.load.ensures.2.1.rises

@@ -9,6 +9,7 @@ pub split_seat-seat-requires : goal.split_seat-seat-requires
 split_seat-seat-requires g c = (
   search rules,
   search rules,
-  let asked = ap (λ m. m.0.asked) c.compare_exchange.ensures.2 in let same = ap (λ m. m.0.left) c.compare_exchange.ensures.2 in let told = c.requires.left in
+  let asked = ap (λ m. m.0.asked) c.compare_exchange.ensures.2 in let same = ap (λ m. m.0.left) c.compare_exchange.ensures.2 in let told =
+      c.requires.left in
       let fewer = c.if-hand-misses.false in let some = c.if-misses-eq0.false in splits _ _ _ (grind arith) (omega arith),
 )

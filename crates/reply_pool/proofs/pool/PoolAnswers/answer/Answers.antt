@@ -21,7 +21,8 @@ returns g c =
       record {
         session = c.after.ensures ∙ ap (λ (q : Asked). session_after s q.op) asks;
         told = ap (reply stack.layers stack.entries s) asks;
-        moves = subst (λ (q : Asked). IsMoved (moves stack.layers stack.entries s q) c.args.balances.now c.answer_and_move.new.balances) asks moved;
+        moves = subst (λ (q : Asked). IsMoved (moves stack.layers stack.entries s q) c.args.balances.now c.answer_and_move.new.balances)
+            asks moved;
         light = message_light stack.layers stack.entries s c.args.message.now c.requires.message (λ k. Fits-lt-pow (c.type_inv.message k));
       },
     )

@@ -7,7 +7,8 @@ at-requires g c = (
   c.args.image.now.bytes.now,
   record {
     known = c.requires.ends;
-    target = rw (c.cleared-to.ensures, c.word.ensures) (first_target c.args.image.now.bytes.now c.args.at c.requires.member c.requires.hard);
+    target = rw (c.cleared-to.ensures, c.word.ensures) (first_target c.args.image.now.bytes.now c.args.at c.requires.member
+          c.requires.hard);
     hard = c.if-is_hard_link.ensures.0 refl;
   },
 )
@@ -23,4 +24,5 @@ returns-then-is_hard_link g c =
     })))
 
 pub returns-else-is_hard_link : goal.returns-else-is_hard_link
-returns-else-is_hard_link g c = back c.args.image.now.bytes.now c.args.at c.end_at.result c.requires.hard (rw (← c.word.ensures, ← c.cleared-to.ensures) c.end_at.ensures)
+returns-else-is_hard_link g c = back c.args.image.now.bytes.now c.args.at c.end_at.result c.requires.hard
+    (rw (← c.word.ensures, ← c.cleared-to.ensures) c.end_at.ensures)

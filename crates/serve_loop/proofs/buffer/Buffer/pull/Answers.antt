@@ -18,7 +18,8 @@ returns-in-Ok-clause-pull g c =
       record {
         counts = c.in-Ok.ensures.counts;
         is = (as_many new c.in-Ok.got b.end gives.0 (subst (λ n. b.end + PULL_SIZE ≤ n) (sym l) room), gives.0);
-        behind = held_grown b.bytes.items new _ b.start b.end c.in-Ok.got (with_items_is b.bytes new (c.in-Ok.ensures.same ∙ c.as_mut_slice.ensures.len)) c.requires.range.ordered same;
+        behind = held_grown b.bytes.items new _ b.start b.end c.in-Ok.got (with_items_is b.bytes new (c.in-Ok.ensures.same
+              ∙ c.as_mut_slice.ensures.len)) c.requires.range.ordered same;
       },
     )
 
@@ -32,6 +33,7 @@ returns-in-Err-clause-pull g c =
       record {
         counts = c.in-Err.ensures.counts;
         is = refl;
-        behind = held_unchanged b.bytes.items new _ b.start b.end (with_items_is b.bytes new (c.in-Err.ensures.same ∙ c.as_mut_slice.ensures.len)) c.requires.range.ordered same;
+        behind = held_unchanged b.bytes.items new _ b.start b.end (with_items_is b.bytes new (c.in-Err.ensures.same
+              ∙ c.as_mut_slice.ensures.len)) c.requires.range.ordered same;
       },
     )

@@ -3,4 +3,5 @@ use Rattle.slot_sets.proofs.Bits.{bits_none}
 use Rattle.slot_sets.proofs.slot_set.SlotSet.new.Goals as goal
 
 pub returns : goal.returns
-returns g c = bits_none c.args.slots (c.args.slots / 64 + 1) c.in_ok-words.words.items (c.in_ok-words.ensures.items_if_clones_equal (λ y e. e)) (omega arith)
+returns g c = bits_none c.args.slots (c.args.slots / 64 + 1) c.in_ok-words.words.items (c.in_ok-words.ensures.items_if_clones_equal
+      (λ y e. e)) (omega arith)

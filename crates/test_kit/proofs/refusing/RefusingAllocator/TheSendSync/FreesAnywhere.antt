@@ -5,5 +5,6 @@ use denote.Param.Send.{Frees}
 use Rattle.std.specs.declared.alloc.Allocator.{Ghosts}
 use Rattle.test_kit.specs.contracts.refusing.RefusingAllocator.TheImpl.{ghosts}
 
-pub frees : (A : RattleType) (g : Ghosts A.Denot) (d e : Dict) → Frees g g.dealloc_token → Frees (ghosts A g d e) (ghosts A g d e).dealloc_token
+pub frees : (A : RattleType) (g : Ghosts A.Denot) (d e : Dict) → Frees g g.dealloc_token
+    → Frees (ghosts A g d e) (ghosts A g d e).dealloc_token
 frees A g d e inner = record { frees = λ r τ p. inner.frees r.inner τ p }
