@@ -4,6 +4,8 @@ use Rattle.std.specs.Prelude.{Box}
 use Rattle.std.specs.Box.{box_value}
 use Rattle.std.proofs.lemmas.List.{length-map}
 use Rattle.std.proofs.Common.{◌≡◌, ◌≤◌, ◌∙◌, ◌⊎◌, ◌≢◌, ◌∷◌, ℕ, Bool, arith, codes, is_some, length, option_map, unwrap_or, Option, Some, None, Result, Ok, Err, IfOk, IfSome, MatchOption, true, false, true≢false, refl, sym, ap, ap₂, subst, List, [], inl, inr}
+use Rattle.work_gate.specs.declared.limits.TheConstants.{MAX_BATCH, MAX_WORKERS}
+use Rattle.command_line.specs.declared.options.TheConstants.{MAX_SESSIONS}
 use Rattle.clap.specs.Kinds.{HasKind, IsAmong, Kinds}
 use Rattle.clap.specs.Faults.{fault_of, is_simple_and_free}
 use Rattle.clap.specs.Simple.{App, HasMatchesOf, is_simple, subcommand_of, subcommand_rows, subcommand_rows_of}
@@ -27,7 +29,7 @@ use Rattle.command_line.specs.declared.options.Verb.{Verb}
 use Rattle.command_line.specs.declared.options.Verb.TheVariants as verbs
 use Rattle.command_line.proofs.Agreed.{one_name, one_word, same_rows}
 use Rattle.command_line.proofs.Taken.{taken_names}
-use Rattle.command_line.specs.CommandLine.{AreCrossed, GivesSocket, HoldsRows, IsFilled, IsFlagFilled, Says, names_both, names_both_of, parts_of, IsLineOf, IsLineFault, IsNumberOf, IsNumberTo, HaveNumbersInRange, IsTaken, command_in, faults_in, most_batch, most_sessions, most_workers, number_or, program, verb_word}
+use Rattle.command_line.specs.CommandLine.{AreCrossed, GivesSocket, HoldsRows, IsFilled, IsFlagFilled, Says, names_both, names_both_of, parts_of, IsLineOf, IsLineFault, IsNumberOf, IsNumberTo, HaveNumbersInRange, IsTaken, command_in, faults_in, number_or, program, verb_word}
 
 program_is_simple : is_simple program ≡ true
 program_is_simple = refl
@@ -160,9 +162,9 @@ some_command m words taken is =
 -- ---- the line
 
 -- the numbers, as the rows give them
-pub numbers_are : (f : Found) (workers batch sessions : ℕ) → IsNumberOf most_workers 4 (first_value f (codes "workers")) workers
-    → IsNumberOf most_batch 16 (first_value f (codes "batch")) batch
-        → IsNumberOf most_sessions 1 (first_value f (codes "sessions")) sessions
+pub numbers_are : (f : Found) (workers batch sessions : ℕ) → IsNumberOf MAX_WORKERS 4 (first_value f (codes "workers")) workers
+    → IsNumberOf MAX_BATCH 16 (first_value f (codes "batch")) batch
+        → IsNumberOf MAX_SESSIONS 1 (first_value f (codes "sessions")) sessions
     → HaveNumbersInRange (rows_of f) × (workers ≡ number_or 4 (first_of (codes "workers") (rows_of f)))
     × (batch ≡ number_or 16 (first_of (codes "batch") (rows_of f))) × (sessions ≡ number_or 1 (first_of (codes "sessions") (rows_of f)))
 numbers_are f workers batch sessions w b s =
@@ -170,9 +172,9 @@ numbers_are f workers batch sessions w b s =
     let b_is = first_value-rows f (codes "batch") in
     let s_is = first_value-rows f (codes "sessions") in (
       record {
-        workers = subst (λ o. IfSome o (IsNumberTo most_workers)) w_is w.numbered;
-        batch = subst (λ o. IfSome o (IsNumberTo most_batch)) b_is b.numbered;
-        sessions = subst (λ o. IfSome o (IsNumberTo most_sessions)) s_is s.numbered;
+        workers = subst (λ o. IfSome o (IsNumberTo MAX_WORKERS)) w_is w.numbered;
+        batch = subst (λ o. IfSome o (IsNumberTo MAX_BATCH)) b_is b.numbered;
+        sessions = subst (λ o. IfSome o (IsNumberTo MAX_SESSIONS)) s_is s.numbered;
       },
       w.value ∙ ap (number_or 4) w_is,
       b.value ∙ ap (number_or 16) b_is,
@@ -181,25 +183,25 @@ numbers_are f workers batch sessions w b s =
 
 -- and a fault of one of them
 pub workers_fault : (f : Found) (fault : LineFault) → (fault ≡ Memory)
-    ⊎ (¬ IfSome (first_value f (codes "workers")) (IsNumberTo most_workers))
+    ⊎ (¬ IfSome (first_value f (codes "workers")) (IsNumberTo MAX_WORKERS))
     → (fault ≡ Memory) ⊎ ((¬ HaveNumbersInRange (rows_of f)) ⊎ AreCrossed (rows_of f))
 workers_fault f fault (inl memory) = inl memory
 workers_fault f fault (inr bad) = inr (inl (λ numbered. bad
-    (subst (λ o. IfSome o (IsNumberTo most_workers)) (sym (first_value-rows f (codes "workers")))
+    (subst (λ o. IfSome o (IsNumberTo MAX_WORKERS)) (sym (first_value-rows f (codes "workers")))
     numbered.workers)))
 
-pub batch_fault : (f : Found) (fault : LineFault) → (fault ≡ Memory) ⊎ (¬ IfSome (first_value f (codes "batch")) (IsNumberTo most_batch))
+pub batch_fault : (f : Found) (fault : LineFault) → (fault ≡ Memory) ⊎ (¬ IfSome (first_value f (codes "batch")) (IsNumberTo MAX_BATCH))
     → (fault ≡ Memory) ⊎ ((¬ HaveNumbersInRange (rows_of f)) ⊎ AreCrossed (rows_of f))
 batch_fault f fault (inl memory) = inl memory
 batch_fault f fault (inr bad) = inr (inl
-      (λ numbered. bad (subst (λ o. IfSome o (IsNumberTo most_batch)) (sym (first_value-rows f (codes "batch"))) numbered.batch)))
+      (λ numbered. bad (subst (λ o. IfSome o (IsNumberTo MAX_BATCH)) (sym (first_value-rows f (codes "batch"))) numbered.batch)))
 
 pub sessions_fault : (f : Found) (fault : LineFault) → (fault ≡ Memory)
-    ⊎ (¬ IfSome (first_value f (codes "sessions")) (IsNumberTo most_sessions))
+    ⊎ (¬ IfSome (first_value f (codes "sessions")) (IsNumberTo MAX_SESSIONS))
     → (fault ≡ Memory) ⊎ ((¬ HaveNumbersInRange (rows_of f)) ⊎ AreCrossed (rows_of f))
 sessions_fault f fault (inl memory) = inl memory
 sessions_fault f fault (inr bad) = inr
-    (inl (λ numbered. bad (subst (λ o. IfSome o (IsNumberTo most_sessions)) (sym (first_value-rows f (codes "sessions")))
+    (inl (λ numbered. bad (subst (λ o. IfSome o (IsNumberTo MAX_SESSIONS)) (sym (first_value-rows f (codes "sessions")))
       numbered.sessions)))
 
 -- an option that is given, as the line has it

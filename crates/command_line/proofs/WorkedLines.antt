@@ -3,12 +3,14 @@ use Rattle.std.proofs.Common.{◌≡◌, ◌∙◌, ◌&&◌, ℕ, Bool, refl, s
 use Rattle.std.specs.Char.{digit_value}
 use Rattle.std.specs.Str.Parse.{AllDigits, digits_value}
 use Rattle.std.proofs.lemmas.Bool.{le-leb, leb-true, lt-ltb, ltb-true}
+use Rattle.work_gate.specs.declared.limits.TheConstants.{MAX_BATCH, MAX_WORKERS}
+use Rattle.command_line.specs.declared.options.TheConstants.{MAX_SESSIONS}
 use Rattle.clap.specs.Walk.{Row, Text, first_of}
 use Rattle.clap.proofs.OnLiterals.{clap_on_literals}
 use Rattle.clap.proofs.WalkLemmas.{both}
 use Rattle.command_line.specs.declared.options.Verb.{Verb}
 use Rattle.command_line.specs.declared.options.Verb.TheVariants as verbs
-use Rattle.command_line.specs.CommandLine.{AreCrossed, IsCrossed, names_both_of, IsMisnumbered, IsNumberTo, HaveNumbersInRange, IsTaken, Parts, Says, command_in, faults_in, most_batch, most_sessions, most_workers, parts_of, verb_word}
+use Rattle.command_line.specs.CommandLine.{AreCrossed, IsCrossed, names_both_of, IsMisnumbered, IsNumberTo, HaveNumbersInRange, IsTaken, Parts, Says, command_in, faults_in, parts_of, verb_word}
 use Rattle.command_line.specs.LineExamples.{MisnumberedLines, ReadsAs, RefusedLines, TakenLines, words_of}
 use Rattle.command_line.proofs.Agreed.{one_name, one_word, same_rows}
 
@@ -58,8 +60,8 @@ given_passed most None e = tt
 given_passed most (Some text) e = number_passed most text e
 
 abbrev is_numbered : List Row → Bool
-is_numbered rows = passes most_workers (first_of (codes "workers") rows)
-    && (passes most_batch (first_of (codes "batch") rows) && passes most_sessions (first_of (codes "sessions") rows))
+is_numbered rows = passes MAX_WORKERS (first_of (codes "workers") rows)
+    && (passes MAX_BATCH (first_of (codes "batch") rows) && passes MAX_SESSIONS (first_of (codes "sessions") rows))
 
 -- ---- what a text says, by the command that its words name and what its rows give
 
@@ -69,12 +71,12 @@ reads : (text : Text) (verb : Verb) (rows : List Row) (parts : Parts) → IsTake
 reads text verb rows parts taken command numbers apart are = record {
   taken = taken;
   numbered = λ bad.
-      let tests = both (passes most_workers (first_of (codes "workers") rows)) _ numbers in
-      let others = both (passes most_batch (first_of (codes "batch") rows)) _ tests.1 in
+      let tests = both (passes MAX_WORKERS (first_of (codes "workers") rows)) _ numbers in
+      let others = both (passes MAX_BATCH (first_of (codes "batch") rows)) _ tests.1 in
       let numbered : HaveNumbersInRange rows = record {
-        workers = given_passed most_workers _ tests.0;
-        batch = given_passed most_batch _ others.0;
-        sessions = given_passed most_sessions _ others.1;
+        workers = given_passed MAX_WORKERS _ tests.0;
+        batch = given_passed MAX_BATCH _ others.0;
+        sessions = given_passed MAX_SESSIONS _ others.1;
       } in
       bad.wrong (subst HaveNumbersInRange (same_rows (command_in (words_of text)) _ _ rows bad.rows command bad.command) numbered);
   apart = λ bad. true≢false (sym (subst AreCrossed (same_rows (command_in (words_of text)) _ _ bad.rows rows bad.command command)
@@ -100,9 +102,9 @@ misnumbers text verb rows taken command numbers = record {
   rows = rows;
   command = command;
   wrong = λ numbered.
-      let workers = given_passes most_workers _ numbered.workers in
-      let batch = given_passes most_batch _ numbered.batch in
-      let sessions = given_passes most_sessions _ numbered.sessions in
+      let workers = given_passes MAX_WORKERS _ numbered.workers in
+      let batch = given_passes MAX_BATCH _ numbered.batch in
+      let sessions = given_passes MAX_SESSIONS _ numbered.sessions in
       let good : is_numbered rows ≡ true = rw (workers, batch, sessions) refl in
       true≢false (sym good ∙ numbers);
 }

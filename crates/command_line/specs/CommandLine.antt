@@ -5,6 +5,8 @@ use Rattle.std.specs.Int.{IsInRange}
 use Rattle.std.specs.List.{fold}
 use Rattle.std.specs.Option.{option_map_or}
 use Rattle.std.specs.Str.Parse.{IsNumeral, digits_value}
+use Rattle.work_gate.specs.declared.limits.TheConstants.{MAX_BATCH, MAX_WORKERS}
+use Rattle.command_line.specs.declared.options.TheConstants.{MAX_SESSIONS}
 use Rattle.clap.specs.Lexer.{usize_max}
 use Rattle.clap.specs.Values.{bool_text}
 use Rattle.clap.specs.Walk.{Row, Rule, Text, all_of, first_of, one_of, texts}
@@ -98,16 +100,6 @@ IsTaken words = faults_in words ≡ []
 
 -- ---- numbers
 
--- the most workers, requests of a batch, and sessions
-abbrev pub most_workers : ℕ
-most_workers = 64
-
-abbrev pub most_batch : ℕ
-most_batch = 256
-
-abbrev pub most_sessions : ℕ
-most_sessions = 65535
-
 -- the text is a decimal number from 1 to `most`, in digits alone
 abbrev pub IsNumberTo : ℕ → Text → Type 0
 IsNumberTo most text = IsNumeral 10 text × IsInRange 1 most (digits_value 10 text)
@@ -123,9 +115,9 @@ pub record IsNumberOf (most default : ℕ) (given : Option Text) (number : ℕ) 
 
 -- the numbers that the rows of a command give are numbers in their ranges
 pub record HaveNumbersInRange (rows : List Row) : Type 0 where
-  pub workers : IfSome (first_of (codes "workers") rows) (IsNumberTo most_workers)
-  pub batch : IfSome (first_of (codes "batch") rows) (IsNumberTo most_batch)
-  pub sessions : IfSome (first_of (codes "sessions") rows) (IsNumberTo most_sessions)
+  pub workers : IfSome (first_of (codes "workers") rows) (IsNumberTo MAX_WORKERS)
+  pub batch : IfSome (first_of (codes "batch") rows) (IsNumberTo MAX_BATCH)
+  pub sessions : IfSome (first_of (codes "sessions") rows) (IsNumberTo MAX_SESSIONS)
 
 -- ---- lines
 
@@ -214,9 +206,9 @@ pub record IsLineOf (words : List Text) (line : Line) : Type 0 where
 
 -- the numbers of a line are in their ranges
 pub record IsInLimits (line : Line) : Type 0 where
-  pub workers : IsInRange 1 most_workers line.workers
-  pub batch : IsInRange 1 most_batch line.batch
-  pub sessions : IsInRange 1 most_sessions line.sessions
+  pub workers : IsInRange 1 MAX_WORKERS line.workers
+  pub batch : IsInRange 1 MAX_BATCH line.batch
+  pub sessions : IsInRange 1 MAX_SESSIONS line.sessions
 
 -- a line of the command `socket` has the path of the socket
 abbrev pub NamesSocket : Line → Type 0

@@ -5,6 +5,9 @@ ghost use Rattle.command_line.specs.declared.options.LineFault.TheVariants.{Memo
 
 use std::alloc::{AllocError, AllocFailed};
 
+/// The most sessions that one command serves at a socket.
+pub const MAX_SESSIONS: u32 = 65_535;
+
 /// What the program is asked to do.
 #[derive(Clone, Copy, Debug, PartialEq, Eq)]
 pub enum Verb {

@@ -14,25 +14,20 @@ ghost use Rattle.command_line.specs.declared.options.LineFault.TheVariants.{Memo
 
 use crate::commands::program;
 use crate::numbers::number_to;
-use crate::options::{Line, LineFault, Verb};
+use crate::options::{Line, LineFault, MAX_SESSIONS, Verb};
 use clap::error::ErrorKind;
 use clap::{ArgMatches, Error};
 use std::alloc::{AllocError, Global};
 use std::convert::AsStr;
 use std::env::Env;
 use std::{env, io};
+use work_gate::limits::{MAX_BATCH, MAX_WORKERS};
 
 const DEFAULT_WORKERS: u32 = 4;
 
-const MOST_WORKERS: u32 = 64;
-
 const DEFAULT_BATCH: u32 = 16;
 
-const MOST_BATCH: u32 = 256;
-
 const DEFAULT_SESSIONS: u32 = 1;
-
-const MOST_SESSIONS: u32 = 65_535;
 
 /// The words of the command line after the program's name. All of them are text, or it is a `Usage`
 /// fault.
@@ -105,9 +100,9 @@ fn line_of<'a>(alloc: Global, verb: Verb, found: &ArgMatches<'a>) -> Result<Line
         ⊎ ((¬ HaveNumbersInRange (rows_of (found_of found.now)))
         ⊎ AreCrossed (rows_of (found_of found.now)))) }
 {
-    let workers = number_of(alloc, found, "workers", DEFAULT_WORKERS, MOST_WORKERS)?;
-    let batch = number_of(alloc, found, "batch", DEFAULT_BATCH, MOST_BATCH)?;
-    let sessions = number_of(alloc, found, "sessions", DEFAULT_SESSIONS, MOST_SESSIONS)?;
+    let workers = number_of(alloc, found, "workers", DEFAULT_WORKERS, MAX_WORKERS)?;
+    let batch = number_of(alloc, found, "batch", DEFAULT_BATCH, MAX_BATCH)?;
+    let sessions = number_of(alloc, found, "sessions", DEFAULT_SESSIONS, MAX_SESSIONS)?;
     let images = found.get_strs("image").unwrap().to_vec(alloc)?;
     let line = Line {
         verb,

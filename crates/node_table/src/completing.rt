@@ -2,6 +2,7 @@
 
 ghost use Rattle.std.specs.Prelude.{◌≡◌, ◌≤◌, length, map};
 ghost use Rattle.std.specs.List.{AllByRecursion};
+ghost use Rattle.stack_model.specs.declared.limits.TheConstants.{MAX_LAYERS};
 ghost use Rattle.romfs_reader.specs.Images.{IsImage};
 ghost use Rattle.stack_model.specs.Attributes.{blocks_all, mode_of, rdev_of};
 ghost use Rattle.node_table.specs.Building.{completed};
@@ -81,7 +82,7 @@ fn complete_each(nodes: &mut [Node])
 
 // The full sizes of images in blocks of 512 bytes, each rounded up, then summed.
 pub(crate) fn blocks_of<A: Allocator>(images: &[Image<A>]) -> u64
-    requires { length images.now ≤ 128 }
+    requires { length images.now ≤ MAX_LAYERS }
     ensures blocks { result ≡ blocks_all images.now }
     ensures sound { AllByRecursion IsImage images.now }
 {

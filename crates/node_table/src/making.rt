@@ -2,6 +2,7 @@
 
 ghost use Rattle.std.specs.Prelude.{◌≤◌, length, IfOk};
 ghost use Rattle.std.specs.List.{AllByRecursion};
+ghost use Rattle.stack_model.specs.declared.limits.TheConstants.{MAX_LAYERS};
 ghost use Rattle.romfs_reader.specs.Images.{IsImage};
 ghost use Rattle.shown_tree.specs.Trees.{IsTreeOf};
 ghost use Rattle.stack_table.specs.Stacked.{IsTableOf};
@@ -54,8 +55,9 @@ impl<A: Allocator + Copy> OfTree for Table<A> {
     ghost use Rattle.std.specs.Prelude.{◌≤◌, length};
     ghost use Rattle.std.specs.Thread.{IsSync};
     ghost use Rattle.shown_tree.specs.Trees.{IsTreeOf};
+    ghost use Rattle.stack_model.specs.declared.limits.TheConstants.{MAX_LAYERS};
 
-    ghost fits = { λ tree images. IsTreeOf 0 images.items tree × (length images.items ≤ 128) };
+    ghost fits = { λ tree images. IsTreeOf 0 images.items tree × (length images.items ≤ MAX_LAYERS) };
 
     /// The table of a stack of images, from its tree. The images are the layers, the lowest first.
     ///
@@ -69,7 +71,7 @@ impl<A: Allocator + Copy> OfTree for Table<A> {
     ) -> Result<Table<A>, AllocError>
         requires threads { IsSync R.row }
         requires tree { IsTreeOf 0 images.items tree }
-        requires few { length images.items ≤ 128 }
+        requires few { length images.items ≤ MAX_LAYERS }
         ensures { IfOk result (λ table. IsTableOf images.items table) }
     {
         let blocks = blocks_of(&images);

@@ -9,6 +9,7 @@ use Rattle.std.proofs.lemmas.List.{take-append-drop, drop-drop}
 use Rattle.std.proofs.lemmas.List.Elements.{All-head, All-tail}
 use Rattle.std.proofs.Math.ListN.{drop_of_length-le}
 use Rattle.std.proofs.Math.Nat.{lt-div-mul-add, div-mul-le_self}
+use Rattle.fuse_wire.specs.declared.limits.TheConstants.{MAX_ROUND_MESSAGES}
 use Rattle.reply_model.specs.declared.moves.Move.{Move}
 use Rattle.reply_model.specs.Moves.{balance}
 use Rattle.lookup_balances.specs.Balances.{weight}
@@ -25,9 +26,9 @@ begins_within jobs size number some below =
 pub reaches_end : (jobs size : ℕ) → 1 ≤ size → jobs ≤ (jobs + size - 1) / size * size
 reaches_end jobs size some = let d : jobs + size - 1 < (jobs + size - 1) / size * size + size = lt-div-mul-add some in omega arith
 
--- jobs have no more batches than 256, where they are no more
-pub batches_few : (jobs size : ℕ) → 1 ≤ size → jobs ≤ 256 → (jobs + size - 1) / size ≤ 256
-batches_few jobs size some few = dite (dec_le ((jobs + size - 1) / size) 256) (λ d. d) (λ d. let more : 257 ≤ (jobs + size - 1) / size =
+-- jobs have no more batches than a round has messages, where they are no more
+pub batches_few : (jobs size : ℕ) → 1 ≤ size → jobs ≤ MAX_ROUND_MESSAGES → (jobs + size - 1) / size ≤ MAX_ROUND_MESSAGES
+batches_few jobs size some few = dite (dec_le ((jobs + size - 1) / size) MAX_ROUND_MESSAGES) (λ d. d) (λ d. let more : MAX_ROUND_MESSAGES + 1 ≤ (jobs + size - 1) / size =
       lt_of_not-le d in
     let m = mul-le-mul_right size more in let e = div-mul-le_self (jobs + size - 1) size in absurd (omega arith))
 

@@ -2,6 +2,7 @@
 use Rattle.std.specs.Prelude.{◌≡◌, ℕ, ◌+◌, ◌-◌, ◌*◌, ◌/◌, ◌^◌, ◌≤◌, List, take, drop, map}
 use Rattle.std.specs.List.{All, flat_map, range_with_len}
 use Rattle.std.specs.List.Sorted.{IsPermutation, IsNonDecreasingBy}
+use Rattle.fuse_wire.specs.declared.limits.TheConstants.{MAX_ROUND_MESSAGES}
 use Rattle.draw_board.specs.Positions.{times}
 use Rattle.stack_table.specs.Stacked.{Stacked}
 use Rattle.lookup_balances.specs.Balances.{weight}
@@ -32,10 +33,10 @@ AreLight pieces = All (λ piece. weight piece.moves.items ≤ 2 ^ 104) pieces
 abbrev pub numbers_of : {A : Type 0} → List (Piece A) → List ℕ
 numbers_of pieces = map (λ piece. piece.number) pieces
 
--- each number below a count of at most 256 occurs once among the pieces
+-- each number below a count of at most that of a round occurs once among the pieces
 pub record AreEachOnce {A : Type 0} (pieces : List (Piece A)) : Type 0 where
   pub count : ℕ
-  pub few : count ≤ 256
+  pub few : count ≤ MAX_ROUND_MESSAGES
   pub once : (number : ℕ)
       → times number (numbers_of pieces) ≡ times number (range_with_len 0 count)
 

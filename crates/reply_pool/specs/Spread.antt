@@ -1,6 +1,7 @@
 -- A round of a stream as jobs, and what its pieces come to.
 use Rattle.std.specs.Prelude.{◌≡◌, ℕ, ◌<◌, ◌≤◌, ◌^◌, ◌⊎◌, List, [], ◌∷◌, ◌++◌, length, drop, map, slice_index}
 use Rattle.std.specs.List.{All, flat_map, range_with_len}
+use Rattle.fuse_wire.specs.declared.limits.TheConstants.{MAX_ROUND_MESSAGES}
 use Rattle.fuse_wire.specs.Reads.{asked_of}
 use Rattle.fuse_wire.specs.Requests.{asked}
 use Rattle.fuse_wire.specs.Stream.{IsRest}
@@ -45,7 +46,7 @@ pub record AnswerAll {A : Type 0} (stack : Stacked) (jobs : List Job) (size : �
 -- so many of the first messages of a stream may be answered by workers
 pub record IsSpreadable (stream : List ℕ) (messages : ℕ) : Type 0 where
   pub some : 1 ≤ messages
-  pub few : messages ≤ 256
+  pub few : messages ≤ MAX_ROUND_MESSAGES
   pub short : length stream ≤ 2 ^ 57
 
 -- some of the first messages of a stream, at least one if one is whole, are answered in pieces

@@ -2,6 +2,8 @@
 use Rattle.std.specs.Prelude.{◌≡◌, ℕ, ◌+◌, ◌≤◌, List, [], ◌++◌, length, IsOkAnd, Result}
 use Rattle.std.specs.declared.vec.Vec.{Vec}
 use Rattle.std.specs.List.{All, flat_map, range_with_len}
+use Rattle.fuse_wire.specs.declared.limits.TheConstants.{MAX_ROUND_MESSAGES}
+use Rattle.work_gate.specs.declared.limits.TheConstants.{MAX_BATCH}
 use Rattle.draw_board.specs.declared.board.Board.{Board}
 use Rattle.draw_board.specs.declared.hand.Hand.{Hand}
 use Rattle.draw_board.specs.Hands.{IsHandOf, KeepsShare, MovesMisses, TakesIn, left, positions, seen_below, total_of}
@@ -20,8 +22,8 @@ pub record KeepsHand {B : Type 0} (board : Board B) (old new : Hand) : Type 0 wh
 -- as many workers can draw with this hand, which has drawn nothing yet
 pub record CanDraw {B : Type 0} (jobs : List Job) (size : ℕ) (board : Board B) (hand : Hand)
     (workers : ℕ) : Type 0 where
-  pub few : length jobs ≤ 256
-  pub sized : (1 ≤ size) × (size ≤ 256)
+  pub few : length jobs ≤ MAX_ROUND_MESSAGES
+  pub sized : (1 ≤ size) × (size ≤ MAX_BATCH)
   pub total : total_of board ≡ batches size (length jobs)
   pub of_board : IsHandOf board hand
   pub fresh : positions hand ≡ []

@@ -1,6 +1,7 @@
 //! Jobs in batches.
 
 ghost use Rattle.std.specs.Prelude.{◌≡◌, ◌*◌, ◌≤◌, length};
+ghost use Rattle.fuse_wire.specs.declared.limits.TheConstants.{MAX_ROUND_MESSAGES};
 ghost use Rattle.reply_pool.specs.Batches.{batch_of, batches};
 
 use fuse_wire::Request;
@@ -8,7 +9,7 @@ use reply_model::Session;
 
 /// How many batches of this size so many jobs have.
 pub(crate) fn count_batches(jobs: usize, size: u32) -> u32
-    requires few { jobs ≤ 256 }
+    requires few { jobs ≤ MAX_ROUND_MESSAGES }
     requires some { 1 ≤ size }
     ensures { result ≡ batches size jobs }
 {

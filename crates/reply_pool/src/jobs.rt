@@ -1,6 +1,7 @@
 //! Requests that were read before, answered one after another.
 
 ghost use Rattle.std.specs.Prelude.{◌≡◌, ◌+◌, ◌≤◌, ◌^◌, ◌++◌, length, IfOk, OnOk};
+ghost use Rattle.fuse_wire.specs.declared.limits.TheConstants.{MAX_ROUND_MESSAGES};
 ghost use Rattle.fuse_answer.specs.Puts.{AreSmall};
 ghost use Rattle.fuse_wire.specs.Reads.{asked_of};
 ghost use Rattle.lookup_balances.specs.Balances.{weight};
@@ -29,7 +30,7 @@ pub(crate) fn answer_jobs<A: Allocator, B: Allocator + Copy>(
     table: &Table<A>,
     jobs: &[(Session, Request<'_>)],
 ) -> Result<Rounded<B>, AllocError>
-    requires { length jobs.now ≤ 256 }
+    requires { length jobs.now ≤ MAX_ROUND_MESSAGES }
     ensures rounded { IfOk result (λ rounded. IsRounded table.now jobs.now rounded) }
     ensures light { IfOk result (λ rounded. weight rounded.moves.items ≤ 2 ^ 104) }
 {

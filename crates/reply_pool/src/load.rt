@@ -9,10 +9,12 @@
 //! workers. So it sees five messages of ordinary requests, and all of a round that has many rows.
 
 ghost use Rattle.std.specs.Prelude.{◌≤◌, ◌^◌, IfSome};
+ghost use Rattle.fuse_wire.specs.declared.limits.TheConstants.{MAX_ROUND_MESSAGES};
 
 use fuse_wire::limits::{MAX_DATA_SIZE, MAX_ROUND_MESSAGES, OUT_HEADER_SIZE};
 use fuse_wire::{Framed, Op, Request, frame};
 use romfs_format::Kind;
+use romfs_format::limits::MAX_TARGET_SIZE;
 use stack_table::Table;
 use std::alloc::Allocator;
 
@@ -41,7 +43,7 @@ const PLAIN_ROW_TIME: u64 = 20;
 const PLUS_ROW_TIME: u64 = 34;
 
 /// The most bytes of a reply without data and rows: the target of a symbolic link.
-const SHORT_REPLY: u64 = OUT_HEADER_SIZE as u64 + 4_095;
+const SHORT_REPLY: u64 = (OUT_HEADER_SIZE as u32 + MAX_TARGET_SIZE) as u64;
 
 /// What the reply to a request is expected to take.
 #[derive(Clone, Copy)]
@@ -57,7 +59,7 @@ struct Load {
 /// How many of the first messages of a stream workers are to answer: 1 to 256, with no more than
 /// 2 MiB of replies. None where the round is not worth workers.
 pub(crate) fn worth_workers<A: Allocator>(table: &Table<A>, stream: &[u8]) -> Option<usize>
-    ensures { IfSome result (λ n. (1 ≤ n) × (n ≤ 256)) }
+    ensures { IfSome result (λ n. (1 ≤ n) × (n ≤ MAX_ROUND_MESSAGES)) }
 {
     let mut rest = stream;
     let mut messages = 0usize;

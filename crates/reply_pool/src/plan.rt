@@ -1,14 +1,10 @@
 //! How requests are shared out.
 
 ghost use Rattle.std.specs.Prelude.{◌≡◌, ◌≤◌};
+ghost use Rattle.work_gate.specs.declared.limits.TheConstants.{MAX_BATCH, MAX_WORKERS};
 
+use work_gate::limits::{MAX_BATCH, MAX_WORKERS};
 use work_gate::{Gate, Work};
-
-/// The most workers of a plan.
-pub const MAX_WORKERS: u32 = 64;
-
-/// The most requests of a batch.
-pub const MAX_BATCH: u32 = 256;
 
 /// How many workers answer, and how many requests a batch has.
 #[derive(Clone, Copy, Debug, PartialEq, Eq)]
@@ -16,9 +12,9 @@ pub struct Plan {
     workers: u32,
     batch: u32,
     ghost some_workers: { 1 ≤ workers },
-    ghost few_workers: { workers ≤ 64 },
+    ghost few_workers: { workers ≤ MAX_WORKERS },
     ghost some_jobs: { 1 ≤ batch },
-    ghost few_jobs: { batch ≤ 256 },
+    ghost few_jobs: { batch ≤ MAX_BATCH },
 }
 
 impl Plan {
@@ -38,7 +34,7 @@ impl Plan {
     pub fn workers(&self) -> u32
         ensures value { result ≡ self.now.workers }
         ensures some { 1 ≤ result }
-        ensures few { result ≤ 64 }
+        ensures few { result ≤ MAX_WORKERS }
     {
         self.workers
     }
@@ -47,7 +43,7 @@ impl Plan {
     pub fn batch(&self) -> u32
         ensures value { result ≡ self.now.batch }
         ensures some { 1 ≤ result }
-        ensures few { result ≤ 256 }
+        ensures few { result ≤ MAX_BATCH }
     {
         self.batch
     }

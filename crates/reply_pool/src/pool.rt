@@ -1,6 +1,7 @@
 //! The rounds of a serving loop.
 
 ghost use Rattle.std.specs.Prelude.{◌≡◌, ◌≤◌, ◌^◌, ℕ, length, IfOk, IfSome};
+ghost use Rattle.fuse_wire.specs.declared.limits.TheConstants.{MAX_ROUND_MESSAGES};
 ghost use Rattle.stack_model.specs.Numbers.{nodes};
 ghost use Rattle.lookup_balances.specs.Balances.{AreWithin};
 ghost use Rattle.serve_loop.specs.Rounds.{change, AppendsAnswer};
@@ -55,7 +56,7 @@ impl<'a, A: Allocator, G: Gate, F> Pool<'a, A, G, F> {
     // How many of the first messages of a stream workers are to answer; none where the plan has one
     // worker, no session has begun, or the round is not worth it.
     fn worth(&self, stream: &[u8], session: Session) -> Option<usize>
-        ensures { IfSome result (λ n. (1 ≤ n) × (n ≤ 256)) }
+        ensures { IfSome result (λ n. (1 ≤ n) × (n ≤ MAX_ROUND_MESSAGES)) }
     {
         let begun = matches!(
             session,

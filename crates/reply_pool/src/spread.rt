@@ -5,6 +5,8 @@
 
 ghost use Rattle.std.specs.Prelude.{◌≡◌, ◌<◌, ◌≤◌, ◌^◌, ◌++◌, ◌⊎◌, drop, length, IfOk, OnOk};
 ghost use Rattle.std.specs.List.{flat_map};
+ghost use Rattle.fuse_wire.specs.declared.limits.TheConstants.{MAX_ROUND_MESSAGES};
+ghost use Rattle.work_gate.specs.declared.limits.TheConstants.{MAX_BATCH};
 ghost use Rattle.fuse_wire.specs.Stream.{IsRest};
 ghost use Rattle.lookup_balances.specs.Balances.{AreWithin, IsMoved, weight};
 ghost use Rattle.serve_loop.specs.Rounds.{change};
@@ -49,7 +51,7 @@ pub fn spread_out<R: Threads + Sync, A: Allocator + Copy + Send + Sync, G: Gate 
     gate: &G,
 ) -> Result<Spread<A>, AllocError>
     requires some { 1 ≤ messages }
-    requires few { messages ≤ 256 }
+    requires few { messages ≤ MAX_ROUND_MESSAGES }
     requires short { length stream.now ≤ 2 ^ 57 }
     ensures { IfOk result (λ spread. SpreadsOut table.now session stream.now spread) }
 {
@@ -117,9 +119,9 @@ fn take_jobs<'a, A: Allocator>(
 
 // How many jobs a batch has, of so many in all: the plan's number, or fewer.
 fn batch_size(plan: Plan, jobs: usize) -> u32
-    requires { jobs ≤ 256 }
+    requires { jobs ≤ MAX_ROUND_MESSAGES }
     ensures some { 1 ≤ result }
-    ensures few { result ≤ 256 }
+    ensures few { result ≤ MAX_BATCH }
 {
     let workers = plan.workers();
     let even = (jobs as u32 + workers - 1) / workers;

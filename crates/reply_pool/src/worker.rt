@@ -1,6 +1,8 @@
 //! One worker.
 
 ghost use Rattle.std.specs.Prelude.{◌≡◌, ◌≤◌, length, IfOk};
+ghost use Rattle.fuse_wire.specs.declared.limits.TheConstants.{MAX_ROUND_MESSAGES};
+ghost use Rattle.work_gate.specs.declared.limits.TheConstants.{MAX_BATCH};
 ghost use Rattle.draw_board.specs.Hands.{IsHandOf, total_of};
 ghost use Rattle.reply_pool.specs.Batches.{AreLight, batches};
 ghost use Rattle.reply_pool.specs.Workers.{HasWorked, KeepsHand};
@@ -33,8 +35,8 @@ pub fn work<R: Threads + Sync, A: Allocator, B: Allocator + Copy, C: Allocator, 
     hand: &mut Hand,
     gate: &G,
 ) -> Result<Vec<Piece<B>, B>, AllocError>
-    requires few { length jobs.now ≤ 256 }
-    requires size { (1 ≤ size) × (size ≤ 256) }
+    requires few { length jobs.now ≤ MAX_ROUND_MESSAGES }
+    requires size { (1 ≤ size) × (size ≤ MAX_BATCH) }
     requires total { total_of board.now ≡ batches size (length jobs.now) }
     requires hand { IsHandOf board.now hand.old }
     ensures hand { KeepsHand board.now hand.old hand.new }

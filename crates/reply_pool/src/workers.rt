@@ -3,6 +3,8 @@
 ghost use Rattle.std.specs.Prelude.{◌≡◌, ◌≤◌, length, IfOk};
 ghost use Rattle.std.specs.Thread.{IsSync};
 ghost use denote.Param.Send.{IsSend, Frees};
+ghost use Rattle.fuse_wire.specs.declared.limits.TheConstants.{MAX_ROUND_MESSAGES};
+ghost use Rattle.work_gate.specs.declared.limits.TheConstants.{MAX_BATCH};
 ghost use Rattle.draw_board.specs.Hands.{KeepsShare};
 ghost use Rattle.reply_pool.specs.Batches.{AreLight};
 ghost use Rattle.reply_pool.specs.Jobs.{IsRounded};
@@ -36,7 +38,7 @@ pub fn round<R: Threads + Sync, A: Allocator + Copy + Send + Sync, G: Gate + Syn
     plan: Plan,
     gate: &G,
 ) -> Result<Rounded<A>, AllocError>
-    requires { length jobs.now ≤ 256 }
+    requires { length jobs.now ≤ MAX_ROUND_MESSAGES }
     ensures { IfOk result (λ rounded. IsRounded table.now jobs.now rounded) }
 {
     let pieces = answer_batches(rt, alloc, table, jobs, plan.batch(), plan.workers(), gate)?;
@@ -53,8 +55,8 @@ pub(crate) fn answer_batches<R: Threads + Sync, A: Allocator + Copy + Send + Syn
     workers: u32,
     gate: &G,
 ) -> Result<Vec<Piece<A>, A>, AllocError>
-    requires few { length jobs.now ≤ 256 }
-    requires size { (1 ≤ size) × (size ≤ 256) }
+    requires few { length jobs.now ≤ MAX_ROUND_MESSAGES }
+    requires size { (1 ≤ size) × (size ≤ MAX_BATCH) }
     requires workers { 1 ≤ workers }
     ensures { IfOk result (λ pieces. AnswerAll table.now jobs.now size pieces.items) }
 {

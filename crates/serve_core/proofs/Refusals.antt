@@ -1,6 +1,7 @@
 -- Images are refused for one reason.
 use Rattle.std.proofs.Common.{◌≡◌, ◌∙◌, sym, ap, subst, ℕ, suc, ◌<◌, ◌⊎◌, inl, inr, List, [], ◌∷◌, ◌++◌, length, All, refl, arith}
 use Rattle.std.proofs.lemmas.List.Elements.{All-head, All-tail}
+use Rattle.stack_model.specs.declared.limits.TheConstants.{MAX_LAYERS}
 use Rattle.romfs_format.specs.declared.rule.Profile.{Profile}
 use Rattle.romfs_format.specs.declared.rule.Rule.{Rule}
 use Rattle.romfs_format.specs.declared.rule.ImageFault.{ImageFault}
@@ -48,7 +49,7 @@ none_broken profile [] us a r p f x = no_fault profile a r p (All-head (IsSoundA
 none_broken profile (c ∷ xs) us a r p f x = none_broken profile xs us a r p (All-tail (IsSoundAs profile) c (xs ++ a ∷ us) f) x
 
 module _ (profile : Profile) (images : List (List ℕ)) where
-  pub not_few : (count : ℕ) → (count ≡ length images) × ((count ≡ 0) ⊎ (128 < count)) → ¬ IsFew (length images)
+  pub not_few : (count : ℕ) → (count ≡ length images) × ((count ≡ 0) ⊎ (MAX_LAYERS < count)) → ¬ IsFew (length images)
   not_few count (e, inl h) few = (let a = few.0 in omega arith)
   not_few count (e, inr h) few = (let a = few.1 in omega arith)
 

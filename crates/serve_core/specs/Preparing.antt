@@ -1,6 +1,7 @@
 -- Images that are prepared for serving: checked, and stacked.
 use Rattle.std.specs.Prelude.{◌≡◌, ℕ, ◌<◌, ◌≤◌, ◌⊎◌, List, ◌∷◌, ◌++◌, length, map, All}
 use Rattle.std.specs.declared.vec.Vec.{Vec}
+use Rattle.stack_model.specs.declared.limits.TheConstants.{MAX_LAYERS}
 use Rattle.romfs_format.specs.Fields.{image}
 use Rattle.romfs_format.specs.Rules.{IsFaultAs, IsSoundAs}
 use Rattle.romfs_format.specs.declared.rule.Profile.{Profile}
@@ -16,7 +17,7 @@ contents_of images = map (λ image. image.items) images.items
 
 -- 1 to 128 layers can be served
 abbrev pub IsFew : ℕ → Type 0
-IsFew count = (1 ≤ count) × (count ≤ 128)
+IsFew count = (1 ≤ count) × (count ≤ MAX_LAYERS)
 
 -- all images keep the rules of the profile, and these are their accessible bytes
 pub record AreLayers (profile : Profile) (images layers : List (List ℕ)) : Type 0 where
@@ -43,7 +44,7 @@ pub record IsLowestBroken (profile : Profile) (images : List (List ℕ)) (layer 
 -- why images can't be served: there are none or too many; or the lowest that is broken; or memory
 -- ran out
 abbrev pub AreRefused : Profile → List (List ℕ) → Stop → Type 0
-AreRefused profile images (Layers count) = (count ≡ length images) × ((count ≡ 0) ⊎ (128 < count))
+AreRefused profile images (Layers count) = (count ≡ length images) × ((count ≡ 0) ⊎ (MAX_LAYERS < count))
 AreRefused profile images (Layer layer fault) =
     IsFew (length images) × IsLowestBroken profile images layer fault
 AreRefused profile images Memory = IsFew (length images)

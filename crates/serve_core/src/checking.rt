@@ -7,6 +7,7 @@ ghost use Rattle.std.specs.Prelude.{◌+◌, ◌≤◌, length, IfOk, IfErr};
 ghost use Rattle.serve_core.specs.Preparing.{contents_of, AreLayers, AreRefused, IsFew};
 ghost use Rattle.serve_core.specs.Checking.{Checks, Joins};
 ghost use denote.Param.Send.{IsSync, IsSend, Frees};
+ghost use Rattle.stack_model.specs.declared.limits.TheConstants.{MAX_LAYERS};
 
 use romfs_check::{Check, CheckFault, Image};
 use romfs_format::Profile;
@@ -46,7 +47,7 @@ fn check_from<R: Threads + Sync, A: Allocator + Copy + Send + Sync, G: Gate + Sy
     gate: &G,
     forks: u32,
 ) -> Result<Vec<Image<A>, A>, Stop>
-    requires { first + length images.items ≤ 128 }
+    requires { first + length images.items ≤ MAX_LAYERS }
     ensures { Checks first profile (contents_of images) result }
 {
     if forks == 0 || images.len() < 2 {
@@ -61,12 +62,12 @@ fn check_from<R: Threads + Sync, A: Allocator + Copy + Send + Sync, G: Gate + Sy
         rt,
         move || -> Result<Vec<Image<A>, A>, Stop>
             requires { IsSync R.row × IsSync G.row × IsSync A.row × IsSend A.row
-                × Frees A.Allocator A.dealloc_token × (first + length lows.items ≤ 128) }
+                × Frees A.Allocator A.dealloc_token × (first + length lows.items ≤ MAX_LAYERS) }
             ensures { Checks first profile (contents_of lows) result }
         { check_from(rt, alloc, first, lows, profile, gate, less) },
         move || -> Result<Vec<Image<A>, A>, Stop>
             requires { IsSync R.row × IsSync G.row × IsSync A.row × IsSend A.row
-                × Frees A.Allocator A.dealloc_token × (next + length highs.items ≤ 128) }
+                × Frees A.Allocator A.dealloc_token × (next + length highs.items ≤ MAX_LAYERS) }
             ensures { Checks next profile (contents_of highs) result }
         { check_from(rt, alloc, next, highs, profile, gate, less) },
     );
@@ -100,7 +101,7 @@ fn check_in_turn<A: Allocator + Copy, G: Gate>(
     profile: Profile,
     gate: &G,
 ) -> Result<Vec<Image<A>, A>, Stop>
-    requires { first + length images.items ≤ 128 }
+    requires { first + length images.items ≤ MAX_LAYERS }
     ensures { Checks first profile (contents_of images) result }
 {
     let mut checked = Vec::with_capacity(alloc, images.len())?;

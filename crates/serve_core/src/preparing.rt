@@ -8,6 +8,7 @@ use node_table::{OfTree, Table};
 use romfs_format::Profile;
 use serve_loop::Stop;
 use stack_core::stack;
+use stack_model::limits::MAX_LAYERS;
 use std::alloc::Allocator;
 use std::thread::Threads;
 use work_gate::Gate;
@@ -42,7 +43,7 @@ pub fn prepare_as<R: Threads + Sync, A: Allocator + Copy + Send + Sync, G: Gate 
     ensures err { IfErr result (λ stop. AreRefused profile (contents_of images) stop) }
 {
     let count = images.len() as u64;
-    if count == 0 || 128 < count {
+    if count == 0 || MAX_LAYERS < count {
         return Err(Stop::Layers { count });
     }
     let images = check_all(rt, alloc, images, profile, gate)?;

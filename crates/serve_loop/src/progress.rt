@@ -11,7 +11,7 @@ use reply_model::Session;
 use std::alloc::{AllocError, Allocator};
 
 /// A round has less replies than end it, and one more.
-const MOST_REPLIES: usize = ENOUGH_REPLIES + MAX_REPLY_SIZE;
+const REPLIES_ROOM: usize = ENOUGH_REPLIES + MAX_REPLY_SIZE;
 
 /// How far a stream is answered.
 #[derive(Drop)]
@@ -45,7 +45,7 @@ impl<A: Allocator + Copy> Progress<A> {
             messages: 0,
             written: 0,
             balances: vec![in alloc; 0i128; nodes as usize]?,
-            replies: Vec::with_capacity(alloc, MOST_REPLIES)?,
+            replies: Vec::with_capacity(alloc, REPLIES_ROOM)?,
         })
     }
 }

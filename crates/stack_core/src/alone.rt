@@ -1,6 +1,7 @@
 //! The tree of a run of layers, made by one caller.
 
 ghost use Rattle.std.specs.Prelude.{◌+◌, ◌≤◌, ◌∷◌, [], length, IfOk};
+ghost use Rattle.stack_model.specs.declared.limits.TheConstants.{MAX_LAYERS};
 ghost use Rattle.shown_tree.specs.Trees.{IsTreeOf};
 
 use layer_tree::{OfLayer, Tree, lay};
@@ -30,7 +31,7 @@ pub(crate) fn stack_alone<A: Allocator + Copy, G: Gate>(
     gate: &G,
 ) -> Result<Tree<A>, AllocError>
     requires some { 1 ≤ length images.now }
-    requires few { first + length images.now ≤ 128 }
+    requires few { first + length images.now ≤ MAX_LAYERS }
     ensures { IfOk result (λ tree. IsTreeOf first images.now tree) }
 {
     if let [image] = images {

@@ -4,6 +4,7 @@ ghost use Rattle.std.specs.Prelude.{◌≡◌, ◌+◌, ◌<◌, ◌≤◌, ◌�
 ghost use Rattle.std.specs.Option.{option_map};
 ghost use Rattle.std.specs.Thread.{IsSync};
 ghost use denote.Param.Send.{IsSend, Frees};
+ghost use Rattle.stack_model.specs.declared.limits.TheConstants.{MAX_LAYERS};
 ghost use Rattle.shown_tree.specs.Trees.{IsTreeOf, entry_at};
 
 use crate::alone::{stack_alone, tree_of};
@@ -29,7 +30,7 @@ pub fn stack<R: Threads + Sync, A: Allocator + Copy + Send + Sync, G: Gate + Syn
     gate: &G,
 ) -> Result<Tree<A>, AllocError>
     requires some { 1 ≤ length images.now }
-    requires few { length images.now ≤ 128 }
+    requires few { length images.now ≤ MAX_LAYERS }
     ensures { IfOk result (λ tree. IsTreeOf 0 images.now tree) }
 {
     stack_from(rt, alloc, 0, images, gate, FORKS)
@@ -47,7 +48,7 @@ fn stack_from<R: Threads + Sync, A: Allocator + Copy + Send + Sync, G: Gate + Sy
     forks: u32,
 ) -> Result<Tree<A>, AllocError>
     requires some { 1 ≤ length images.now }
-    requires few { first + length images.now ≤ 128 }
+    requires few { first + length images.now ≤ MAX_LAYERS }
     ensures { IfOk result (λ tree. IsTreeOf first images.now tree) }
 {
     if let [image] = images {
@@ -65,13 +66,13 @@ fn stack_from<R: Threads + Sync, A: Allocator + Copy + Send + Sync, G: Gate + Sy
         move || -> Result<Tree<A>, AllocError>
             requires { IsSync R.row × IsSync G.row × IsSync A.row × IsSend A.row
                 × Frees A.Allocator A.dealloc_token
-                × (1 ≤ length lows.now) × (first + length lows.now ≤ 128) }
+                × (1 ≤ length lows.now) × (first + length lows.now ≤ MAX_LAYERS) }
             ensures { IfOk result (λ tree. IsTreeOf first lows.entry.now tree) }
         { stack_from(rt, alloc, first, lows, gate, less) },
         move || -> Result<Tree<A>, AllocError>
             requires { IsSync R.row × IsSync G.row × IsSync A.row × IsSend A.row
                 × Frees A.Allocator A.dealloc_token
-                × (1 ≤ length highs.now) × (next + length highs.now ≤ 128) }
+                × (1 ≤ length highs.now) × (next + length highs.now ≤ MAX_LAYERS) }
             ensures { IfOk result (λ tree. IsTreeOf next highs.entry.now tree) }
         { stack_from(rt, alloc, next, highs, gate, less) },
     );

@@ -1,6 +1,6 @@
 -- The worked examples, by computation.
 use Rattle.std.proofs.Common.{refl}
-use Rattle.stack_model.specs.Examples.{ModeExamples, DeviceExamples, SizeExamples, LayerExamples, NestedExamples}
+use Rattle.stack_model.specs.Examples.{ModeExamples, DeviceExamples, SizeExamples, LayerExamples, LimitExamples, NestedExamples}
 
 pub modes : ModeExamples
 modes = record {
@@ -39,3 +39,6 @@ unfolding Rattle.stack_model.specs.Numbers.parent Rattle.stack_model.specs.Numbe
     Rattle.romfs_format.specs.Fields.word
 nested = record { of_root = refl; of_c = refl; above = refl; names_of_root = refl; names_of_a = refl; names_of_c = refl; names_of_f = refl;
       no_data = refl }
+
+pub limits : LimitExamples
+limits = record { layers = refl }

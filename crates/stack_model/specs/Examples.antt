@@ -6,6 +6,7 @@ use Rattle.stack_model.specs.Listing.{Entry, path_cmp}
 use Rattle.stack_model.specs.Numbers.{place, path_of, number, parent, children, child}
 use Rattle.romfs_format.specs.declared.head.Kind.TheVariants.{Directory, Regular, SymLink, Block, Character, Socket, Fifo}
 use Rattle.stack_model.specs.Attributes.{mode_of, size_of, device, rdev_of, blocks_of, blocks_all, links, data_of}
+use Rattle.stack_model.specs.declared.limits.TheConstants.{MAX_LAYERS}
 
 -- without and with the bit that says executable
 pub record ModeExamples : Type 0 where
@@ -101,3 +102,7 @@ pub record NestedExamples : Type 0 where
   pub names_of_c : links (five_headers ∷ []) nested (0, 12) ≡ 2
   pub names_of_f : links (five_headers ∷ []) nested (0, 16) ≡ 1
   pub no_data : data_of (five_headers ∷ []) (0, 0) ≡ []
+
+-- the limit of a stack
+pub record LimitExamples : Type 0 where
+  pub layers : MAX_LAYERS ≡ 128

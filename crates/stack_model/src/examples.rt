@@ -1,6 +1,6 @@
 //! Worked examples of attributes and of listed paths, by computation.
 
-ghost use Rattle.stack_model.specs.Examples.{ModeExamples, DeviceExamples, SizeExamples, LayerExamples, NestedExamples};
+ghost use Rattle.stack_model.specs.Examples.{ModeExamples, DeviceExamples, SizeExamples, LayerExamples, LimitExamples, NestedExamples};
 
 /// The mode of each kind.
 #[tactic(auto, using(crate::proofs::Worked::modes))]
@@ -30,4 +30,10 @@ pub fn layers_example()
 #[tactic(auto, using(crate::proofs::Worked::nested))]
 pub fn nested_example()
     ensures { NestedExamples }
+{}
+
+/// The number of the limit.
+#[tactic(auto, using(crate::proofs::Worked::limits))]
+pub fn limits_example()
+    ensures { LimitExamples }
 {}

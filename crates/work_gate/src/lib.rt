@@ -6,5 +6,6 @@
 #![tactic(auto)]
 
 mod gate;
+pub mod limits;
 
 pub use gate::{FreePass, Gate, Work};

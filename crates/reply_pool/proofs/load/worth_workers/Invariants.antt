@@ -1,12 +1,13 @@
 use Rattle.std.proofs.Common.{◌*◌, ◌-◌, ◌^◌, ◌≤◌}
+use Rattle.fuse_wire.specs.declared.limits.TheConstants.{MAX_ROUND_MESSAGES}
 use Rattle.reply_pool.proofs.load.worth_workers.Given as goal
 
 abbrev pub invariant-loop-messages : goal.invariant-loop-messages
 invariant-loop-messages g l = record {
-  few : l.messages ≤ 256;
+  few : l.messages ≤ MAX_ROUND_MESSAGES;
   time : l.time ≤ l.messages * 2 ^ 33;
   room : l.room ≤ 2097152;
 }
 
 abbrev pub decreases-loop-messages : goal.decreases-loop-messages
-decreases-loop-messages g l = 256 - l.messages
+decreases-loop-messages g l = MAX_ROUND_MESSAGES - l.messages

@@ -1,6 +1,7 @@
 use Rattle.std.proofs.Common.{◌≡◌, ◌≤◌, ℕ, List, ap, arith, length, subst, sym}
 use Rattle.std.specs.Vec.{vec_items}
 use Rattle.std.proofs.Math.Facts.{Fits-lt-pow}
+use Rattle.fuse_wire.specs.declared.limits.TheConstants.{MAX_ROUND_MESSAGES}
 use Rattle.reply_pool.specs.Batches.{batches}
 use Rattle.reply_pool.specs.Jobs.{Job}
 use Rattle.reply_pool.specs.Spread.{AreFirstJobs}
@@ -17,7 +18,7 @@ returns g c =
     let f = c.in_ok-jobs.ensures.few in
     let r = c.requires.few in
     let size : ℕ = c.batch_size-size.result in
-    let few : length jobs ≤ 256 = omega arith in
+    let few : length jobs ≤ MAX_ROUND_MESSAGES = omega arith in
     record {
       jobs = jobs;
       first = subst (AreFirstJobs c.args.session c.args.stream.now c.in_ok-jobs.field-0.round) (sym same) c.in_ok-jobs.ensures.jobs;

@@ -1,4 +1,5 @@
 use Rattle.std.proofs.Common.{◌≡◌, ◌-◌, ◌++◌, ℕ, List}
+use Rattle.fuse_wire.specs.declared.limits.TheConstants.{MAX_ROUND_MESSAGES}
 use Rattle.serve_loop.proofs.Walking.{IsSoFar}
 use Rattle.serve_loop.proofs.one_thread.walk.Given as goal
 
@@ -9,4 +10,4 @@ invariant-loop-round g l =
     × IsSoFar (g.T.Answers.answering l.answers) l.fn.session l.stream l.round put (record { old = l.initial.balances; new = l.balances })
 
 abbrev pub decreases-loop-round : goal.decreases-loop-round
-decreases-loop-round g l = 256 - l.round.messages
+decreases-loop-round g l = MAX_ROUND_MESSAGES - l.round.messages
