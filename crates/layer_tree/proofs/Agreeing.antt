@@ -1,4 +1,6 @@
--- Two trees of one run have the same entries and cut the same.
+-- Two trees of one run have the same entries and cut the same. A tree shows and cuts exactly what
+-- its run does, and a header has one entry in a run (one_entry): so the two tell the same at each
+-- path.
 use Rattle.std.proofs.Common.{◌≡◌, ◌∙◌, sym, ap, subst, ℕ, List, refl, Option, Some, None, Bool, true, false}
 use Rattle.romfs_format.specs.declared.head.Kind.{Kind}
 use Rattle.romfs_format.specs.Fields.{kind}
@@ -34,6 +36,7 @@ module _ (first : ℕ) (layers : List (List ℕ)) (s t : TreeRows) (is : IsTreeO
       let y = some_and (IsEntryOf first layers w.0 w.1) (entry_at s path) (is.shown path w.0 w.1 w.2) in
       absurd (let z = y.1 in cc)
 
+  -- two trees of one run show the same entry at each path, or both none
   pub same_entries : (path : Path) → entry_at s path ≡ entry_at t path
   same_entries path = by_entry path (entry_at s path) (entry_at t path) refl refl
 
@@ -43,5 +46,6 @@ module _ (first : ℕ) (layers : List (List ℕ)) (s t : TreeRows) (is : IsTreeO
   by_cut path true false e f = absurd (let z = (it.cuts path).1 ((is.cuts path).0 e) in cc)
   by_cut path false true e f = absurd (let z = (is.cuts path).1 ((it.cuts path).0 f) in cc)
 
+  -- two trees of one run cut the same paths
   pub same_cuts : (path : Path) → cuts_at s path ≡ cuts_at t path
   same_cuts path = by_cut path (cuts_at s path) (cuts_at t path) refl refl

@@ -1,4 +1,6 @@
--- The branches of a directory's members are those of all paths from it.
+-- The branches of a directory's members, and the marks of its markers. Building and Whitening are
+-- the loops that make them. What they end with is in the order of names (forests, white_forest),
+-- and what a name has there comes of the member or marker of that name (find_built, find_white).
 use Rattle.std.proofs.Common.{◌≡◌, ◌≢◌, ◌∙◌, sym, ap, subst, ℕ, zero, suc, ◌+◌, ◌-◌, ◌<◌, ◌≤◌, inl, inr, List, [], ◌∷◌, ◌++◌, append_assoc, length, length-append, get_or, drop, refl, arith, add-one, Option, Some, None, true, false}
 use Rattle.std.specs.Prelude.{slice_get}
 use Rattle.std.specs.List.{AllByRecursion}
@@ -20,17 +22,20 @@ use Rattle.layer_tree.specs.declared.members.Named.{Named}
 use Rattle.layer_tree.specs.Reading.{IsBefore, NamedRise, IsNamedMember, IsAtDepth, AreMembersAt, IsBranchOf, RemovesFrom, IsBranchAlone, AreBranchesOf, AreBuilt, none_built, hidden, alone, built, AreWhiteouts, none_white, other, white}
 use Rattle.layer_tree.proofs.Layered.{leads_on}
 
--- members from the i-th on are left
+-- what is built so far, with what the members that are left become, is what all become
 pub record Building (a : List ℕ) (layer : ℕ) (all left : List Named) (es : List (Shoot Entry)) (ks : List (Shoot Mark)) : Type 0 where
   pub more : (es' : List (Shoot Entry)) (ks' : List (Shoot Mark)) → AreBuilt a layer left es' ks'
       → AreBuilt a layer all (es ++ es') (ks ++ ks')
 
+-- the same of the marks of markers
 pub record Whitening (all left : List Named) (ks : List (Shoot Mark)) : Type 0 where
   pub more : (ks' : List (Shoot Mark)) → AreWhiteouts left ks' → AreWhiteouts all (ks ++ ks')
 
+-- before the first member nothing is built
 pub building_begun : (a : List ℕ) (layer : ℕ) (all : List Named) → Building a layer all all [] []
 building_begun a layer all = record { more = λ es ks b. b }
 
+-- before the first member there is no mark
 pub whitening_begun : (all : List Named) → Whitening all all []
 whitening_begun all = record { more = λ ks b. b }
 
@@ -42,6 +47,7 @@ nothing = record {
   head = record { offset = 0; next = 0; kind = HardLink; exec = false; spec = 0; size = 0; name_at = 0; name_len = 0 };
 }
 
+-- the member at a place of the list
 abbrev pub at_index : List Named → ℕ → Named
 at_index all i = get_or all i nothing
 
@@ -50,10 +56,12 @@ next all i l = rw add-one (drop-cons all i nothing l)
 
 module _ (a : List ℕ) (layer : ℕ) (all : List Named) (i : ℕ) (es : List (Shoot Entry))
     (ks : List (Shoot Mark)) (l : i < length all) (w : Building a layer all (drop i all) es ks) where
+  -- a marker adds no branch
   pub build_hidden : IsMarker (at_index all i).name.now → Building a layer all (drop (i + 1) all) es ks
   build_hidden h = record { more = λ es' ks' b.
         w.more es' ks' (rw (next all i l) (hidden (at_index all i) (drop (i + 1) all) es' ks' h b)) }
 
+  -- a member that needs no mark adds its branch of entries
   pub build_alone : (e : Shoot Entry) (es' : List (Shoot Entry)) → ¬ IsMarker (at_index all i).name.now
       → IsBranchAlone a layer (at_index all i).head.offset (at_index all i).name.now e → es' ≡ es ++ e ∷ []
       → Building a layer all (drop (i + 1) all) es' ks
@@ -63,6 +71,7 @@ module _ (a : List ℕ) (layer : ℕ) (all : List Named) (i : ℕ) (es : List (S
         (rw (next all i l) (alone (at_index all i) (drop (i + 1) all) e es'' ks'' n b c))));
   }
 
+  -- a member that needs a mark adds its branch of entries, and that of marks
   pub build_one : (e : Shoot Entry) (k : Shoot Mark) (es' : List (Shoot Entry)) (ks' : List (Shoot Mark))
       → ¬ IsMarker (at_index all i).name.now
       → AreBranchesOf a layer (at_index all i).head.offset (at_index all i).name.now e k → es' ≡ es ++ e ∷ []
@@ -73,6 +82,7 @@ module _ (a : List ℕ) (layer : ℕ) (all : List Named) (i : ℕ) (es : List (S
         (rw (next all i l) (built (at_index all i) (drop (i + 1) all) e es'' k ks'' n b c))));
   }
 
+-- past the last member all are built
 pub building_ended : (a : List ℕ) (layer : ℕ) (all : List Named) (i : ℕ) (es : List (Shoot Entry)) (ks : List (Shoot Mark))
     → length all ≤ i → Building a layer all (drop i all) es ks → AreBuilt a layer all es ks
 building_ended a layer all i es ks l w =
@@ -80,9 +90,11 @@ building_ended a layer all i es ks l w =
     subst (λ x. AreBuilt a layer all es x) (append-nil ks) (subst (λ x. AreBuilt a layer all x (ks ++ [])) (append-nil es) (w.more [] [] b))
 
 module _ (all : List Named) (i : ℕ) (ks : List (Shoot Mark)) (l : i < length all) (w : Whitening all (drop i all) ks) where
+  -- a member that is no marker adds no mark
   pub white_none : ¬ IsMarker (at_index all i).name.now → Whitening all (drop (i + 1) all) ks
   white_none h = record { more = λ ks' b. w.more ks' (rw (next all i l) (other (at_index all i) (drop (i + 1) all) ks' h b)) }
 
+  -- a marker adds a cut mark, named as its name goes on after .wh.
   pub white_one : (n : List ℕ) (k : Shoot Mark) (ks' : List (Shoot Mark))
       → (at_index all i).name.now ≡ marker ++ n → k ≡ record
       { name = n; value = record { cut = true; opaque = false }; below = [] } → ks' ≡ ks ++ k ∷ []
@@ -95,6 +107,7 @@ module _ (all : List Named) (i : ℕ) (ks : List (Shoot Mark)) (l : i < length a
         (ap (λ (x : Shoot Mark). x.below) f) c))));
   }
 
+-- past the last member all markers have marks
 pub whitening_ended : (all : List Named) (i : ℕ) (ks : List (Shoot Mark)) → length all ≤ i → Whitening all (drop i all) ks
     → AreWhiteouts all ks
 whitening_ended all i ks l w = subst (AreWhiteouts all) (append-nil ks) (w.more [] (rw (drop_all i all l) none_white))
@@ -106,6 +119,7 @@ all_at P (m ∷ ms) (suc i) d p l = all_at P ms i d p.1 (omega arith)
 
 -- a member below a path has one name less left
 module _ (a : List ℕ) (s : IsImage a) (left : ℕ) (ms : List Named) (at : AreMembersAt a left ms) (i : ℕ) (l : i < length ms) where
+  -- the member at a place of the list is one of the directory
   pub member_here : IsNamedMember a at.0 (at_index ms i)
   member_here = all_at (IsNamedMember a at.0) ms i nothing at.1 l
 
@@ -120,9 +134,11 @@ module _ (a : List ℕ) (s : IsImage a) (left : ℕ) (ms : List Named) (at : Are
   unfolding longer
   long_more = omega (arith, length-append at.2.0 ((at_index ms i).name.now ∷ []), at.2.2)
 
+  -- a path to the directory leaves room for a name more
   pub some_left : 1 ≤ left
   some_left = omega (arith, short a s longer (at_index ms i).head.offset has_more, long_more)
 
+  -- a path to the member leaves room for one name less
   pub one_less : IsAtDepth a (at_index ms i).head.offset (left - 1)
   one_less = (longer, has_more, omega (arith, some_left, long_more))
 
@@ -137,6 +153,7 @@ before_built a layer (alone x ms e es ks n w b) m r = let t = before_built a lay
 before_built a layer (built x ms e es k ks n w b) m r = let t = before_built a layer b m r.1 in
     ((rw w.entry_name r.0, t.0), (rw w.mark_name r.0, t.1))
 
+-- of members in the order of names, the entries and the marks are forests
 pub forests : (a : List ℕ) (layer : ℕ) {ms : List Named} {es : List (Shoot Entry)} {ks : List (Shoot Mark)}
     → AreBuilt a layer ms es ks → NamedRise ms → IsForest es × IsForest ks
 forests a layer none_built r = (record { names = tt; each = tt }, record { names = tt; each = tt })
@@ -171,6 +188,7 @@ before_white (white x ms k ks f c d b) m n e r = (
 leaf_rises : {T : Type 0} (s : Shoot T) → s.below ≡ [] → IsRising s
 leaf_rises s e = record { rises = rw e (tt, tt) }
 
+-- of markers in the order of names, the marks are a forest
 pub white_forest : {ms : List Named} {ks : List (Shoot Mark)} → AreWhiteouts ms ks → NamedRise ms → IsForest ks
 white_forest none_white r = record { names = tt; each = tt }
 white_forest (other m ms ks h b) r = white_forest b r.1
@@ -200,6 +218,7 @@ module _ (a : List ℕ) (layer d : ℕ) (n : List ℕ) where
       rest (suc j) x s t = q j x s t
   found_later m ms es es' ks ks' o u v (somewhere x y z f g q r s t w) = somewhere x y z (u ∙ f) (v ∙ g) q r s t w
 
+  -- each name has the branches of its member, or none
   pub find_built : {ms : List Named} {es : List (Shoot Entry)} {ks : List (Shoot Mark)}
       → AreBuilt a layer ms es ks → AllByRecursion (IsNamedMember a d) ms → NamedRise ms → FoundBuilt a layer d n ms es ks
   find_built none_built p r = nowhere refl refl (λ j m f g. absurd (cc))
@@ -242,6 +261,7 @@ marker_is n = refl
 same_rest : (x y : List ℕ) → marker ++ x ≡ marker ++ y → x ≡ y
 same_rest x y e = ap (drop 4) e
 
+-- a name has a cut mark and a marker, or neither
 pub find_white : (n : List ℕ) {ms : List Named} {ks : List (Shoot Mark)} → AreWhiteouts ms ks → FoundWhite n ms ks
 find_white n none_white = unmarked refl (λ j m f g. absurd (cc))
 find_white n (other m ms ks h b) = more (find_white n b)

@@ -1,4 +1,6 @@
--- The members of a directory differ in their names, and sorted they are in the order of these.
+-- The members of a directory differ in their names, and sorted they are in the order of these. The
+-- main lemma is are_by_name, of all members of a directory: each has a name (has_name), no two have
+-- the same (names_differ), and sorting loses none (of_head).
 use Rattle.std.proofs.Common.{◌≡◌, ◌≢◌, ◌∙◌, sym, ap, subst, ℕ, zero, suc, ◌<◌, inl, inr, true, false, not, List, [], ◌∷◌, ◌++◌, append_assoc, length, take, drop, map, refl, arith, All, Some, None, Option, IsSome}
 use Rattle.std.specs.Prelude.{nat_eq, slice_get, unwrap_or}
 use Rattle.std.specs.Cmp.Lexicographic.{same_text}
@@ -119,9 +121,11 @@ module _ (a : List ℕ) (i : IsImage a) (d : ℕ) (o : IsOpened a d) where
           record { opened = m.opened; in_chain = m.in_chain })))
   ]
 
+  -- a member has a name, and it is the one that is read
   pub has_name : (h : ℕ) → IsMember a d h → name a h ≡ Some (name_of a h)
   has_name h m = is_name (name a h) (reached_named a i h (member_reached a i h (d, m)) (not_root h m))
 
+  -- two members of one directory have different names
   pub names_differ : (g h : ℕ) → IsMember a d g → IsMember a d h → g ≢ h → name_of a g ≢ name_of a h
   names_differ g h m n f e = f (one_header a i (name_of a g ∷ []) d g h (g, m, has_name g m, refl) (h, n, has_name h n ∙ ap Some (sym e),
         refl))
@@ -166,6 +170,7 @@ module _ (a : List ℕ) (i : IsImage a) (d : ℕ) (o : IsOpened a d) where
         name = has_name (slice_index_or ms k x).head.offset m ∙ ap Some (sym (names k x l));
       }
 
+  -- the members of a directory, named and sorted, are all members in the order of names
   pub are_by_name : (hs : List Head) (found ms : List Named) → All (IsGiven a) hs → AreMembers a d hs
       → AreNamed a hs found → IsPermutation found ms → IsByName ms → AreByName a d ms
   are_by_name hs found ms given r n s up =
@@ -186,6 +191,6 @@ module _ (a : List ℕ) (i : IsImage a) (d : ℕ) (o : IsOpened a d) where
             (c.0, k.0, k.1, ap (λ (x : Head). x.offset) k.2));
       }
 
--- a marker's name begins with .wh.
+-- a marker's name is .wh. and what is after its first four bytes
 pub marker_rest : (n : List ℕ) → starts_with nat_eq n marker ≡ true → n ≡ marker ++ drop 4 n
 marker_rest n e = sym (take-append-drop 4 n) ∙ ap (λ p. p ++ drop 4 n) (sym (same_text marker (take 4 n) (sym e)))

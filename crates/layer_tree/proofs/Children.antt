@@ -1,4 +1,5 @@
--- The children of a directory are what is one name below it.
+-- The children of a directory are what is one name below it: child_entry says so of one tree. As
+-- two trees of one run have the same entries, so have their children (same_children).
 use Rattle.std.proofs.Common.{◌≡◌, ◌∙◌, sym, ℕ, List, [], ◌∷◌, ◌++◌, refl, Option, Some, None}
 use Rattle.stack_model.specs.Stack.{Path}
 use Rattle.path_tree.specs.Rows.{Shoot, spread, named, at_path}
@@ -17,6 +18,7 @@ module _ (t : TreeRows) (path : Path) (children : List (Shoot Entry)) (are : Are
       here None = refl
       here (Some s) = refl
 
+-- children of one path in two trees of one run have the same entries below them
 pub same_children : (first : ℕ) (layers : List (List ℕ)) (s t : TreeRows) → IsTreeOf first layers s
     → IsTreeOf first layers t → (path : Path) (cs ds : List (Shoot Entry)) → AreChildren s path cs
     → AreChildren t path ds → (name : List ℕ) (q : Path)

@@ -1,4 +1,6 @@
--- The marks of clashes, and what they are for: what the upper tree removes of the lower one, and what both remove.
+-- The marks of clashes, and what they are for. IsClashing is the loop over the files of a
+-- directory, Clashing what it makes of each, are_clashes what that is for all. By the marks,
+-- what_is_left of the lower tree is known, and what_both_remove.
 use Rattle.std.proofs.Common.{◌≡◌, ◌∙◌, sym, ap, subst, ℕ, ◌+◌, ◌*◌, ◌<◌, ◌≤◌, ◌⊎◌, inl, inr, List, [], ◌∷◌, ◌++◌, append_assoc, length, refl, arith, Option, Some, None, Bool, true, false, ◌||◌, not}
 use Rattle.std.proofs.lemmas.List.{append-nil}
 use Rattle.std.specs.Prelude.{option_map}
@@ -45,10 +47,11 @@ clash_without f o c none w = record {
   whole = λ q e. elim (w.whole q e) [ inl x ↦ absurd (let y = none q in cc) | inr l ↦ inr l ];
 }
 
--- nothing clashes with nothing
+-- where there are no files, nothing clashes
 pub no_files : (o : Path → Option Mark) → Clash (λ q. None) o (λ q. None)
 no_files o = record { sound = λ path e. absurd (let x = nothing_cut path in cc); whole = λ q e. absurd (cc) }
 
+-- where there is nothing else, no file clashes
 pub no_others : (f : Path → Option Mark) → Clash f (λ q. None) (λ q. None)
 no_others f = record {
   sound = λ path e. absurd (let x = nothing_cut path in cc);
@@ -111,7 +114,7 @@ module _ {T : Type 0} (m : T → Mark) where
       none [] = refl
       none (n ∷ path) = nothing_cut path
 
--- what a found branch marks
+-- the marks of a branch that was found; none where none was
 abbrev pub marked_in : {T : Type 0} → (T → Mark) → Option (Shoot T) → Path → Option Mark
 marked_in m o q = option_map m (through o q)
 
@@ -157,6 +160,7 @@ module _ {T : Type 0} (m : T → Mark) (os : List (Shoot T)) where
     | inr x ↦ rw (e, x.1) (found c r.1 n)
   ]
 
+  -- the marks of one file after another are those of all clashes of two directories
   pub are_clashes : {fs : List (Shoot T)} {ks : List (Shoot Mark)} → Clashing m os fs ks → NamesRise fs → NamesRise os
       → AreClashes m fs os ks
   are_clashes {fs} {ks} c r s = record {
@@ -178,6 +182,7 @@ pub record IsClashing {T : Type 0} (m : T → Mark) (files left others rest : Li
 -- of what is left, f is the first branch
 module _ {T : Type 0} (m : T → Mark) (files later others rest rest' : List (Shoot T)) (marks : List (Shoot Mark)) (f : Shoot T)
     (inv : IsClashing m files (f ∷ later) others rest marks) (from : IsFrom f.name rest rest') where
+  -- passing over others leaves the one with the file's name, if there is one
   pub at_other : named f.name rest' ≡ named f.name others
   at_other = from.same f.name (not_below_itself f.name) ∙ inv.same.0
 
@@ -191,21 +196,26 @@ module _ {T : Type 0} (m : T → Mark) (files later others rest rest' : List (Sh
     smaller = omega (arith, grown f later, inv.smaller);
   }
 
+  -- where no other branch has the file's name, no mark is added
   pub nothing_there : named f.name rest' ≡ None → IsClashing m files later others rest' marks
   nothing_there n = on marks (λ more c. inv.clashing more (apart f later more (rw (sym at_other ∙ n) (no_others (marked m (whole f)))) c))
 
+  -- where the branch of that name does not clash, no mark is added
   pub no_clash : (o : Shoot T) → named f.name rest' ≡ Some o → Clash (marked m (whole f)) (marked m (whole o)) (λ q. None)
       → IsClashing m files later others rest' marks
   no_clash o n w = on marks (λ more c. inv.clashing more (apart f later more (rw (sym at_other ∙ n) w) c))
 
+  -- where the two clash, their mark is added
   pub one_clash : (o : Shoot T) (k : Shoot Mark) → named f.name rest' ≡ Some o → IsClashMark m f o k
       → IsClashing m files later others rest' (marks ++ k ∷ [])
   one_clash o k n w = on (marks ++ k ∷ []) (λ more c. rw append_assoc
       (inv.clashing (k ∷ more) (together f later k more w.name w.rising (rw (sym at_other ∙ n) w.at) c)))
 
+  -- there is less to go through below one of the files than in all of them
   pub deeper_measure : 2 * length f.below + 1 < 2 * length (spread files)
   deeper_measure = omega (arith, grown f later, inv.smaller)
 
+-- with no file left, the marks are those of all clashes of the two directories
 pub clashing_ended : {T : Type 0} (m : T → Mark) (files left others rest : List (Shoot T)) (marks : List (Shoot Mark))
     → IsClashing m files left others rest marks → left ≡ [] → NamesRise files → NamesRise others → AreClashes m files others marks
 clashing_ended m files left others rest marks inv e r s =
@@ -223,8 +233,8 @@ unless_none : (b : Bool) → unless {T = Entry} b None ≡ None
 unless_none true = refl
 unless_none false = refl
 
--- the upper tree's marks, and then those of the paths at which it has a file over something, leave of the lower one
--- what the upper one does not remove, as far as it does not cover it itself
+-- the upper tree's marks, and then those of the paths at which it has a file over something, leave
+-- of the lower one what the upper one does not remove, as far as it does not cover it itself
 module _ (el eh one two eo : Path → Option Entry) (mh hidden : Path → Option Mark)
     (first : (q : Path) → one q ≡ unless (cut_by mh q) (el q)) (second : (q : Path) → two q ≡ unless (cut_by hidden q) (one q))
     (over : (q : Path) → eo q ≡ laid_at upper (two q) (eh q)) (c : Clash (λ q. option_map mark_of (eh q)) (λ q. option_map mark_of (el q))
@@ -257,6 +267,7 @@ module _ (el eh one two eo : Path → Option Entry) (mh hidden : Path → Option
         | inr l ↦ ap el is ∙ not_there (el (s ++ n ∷ t)) (l.below n t)
       ]
 
+  -- the tree laid on another has the upper entry of a path, or a lower one that is not removed
   pub what_is_left : (path : Path) → Goal path
   what_is_left path = by (eh path) refl
     where
@@ -340,6 +351,7 @@ module _ (el eh eo : Path → Option Entry) (ml mh replaced mo : Path → Option
       from path q r i x None false e f = or_left (removed_by ml el path) _ (or_right (cut_by ml path) _
           (file_covers el path q r i (subst IsFile (lower_stays q false e f) x)))
 
+  -- a path is removed where one of the two trees removes it, and nowhere else
   pub what_both_remove : (path : Path) → removed_by mo eo path ≡ (removed_by ml el path || removed_by mh eh path)
   what_both_remove path = both_ways (removed_by mo eo path) (removed_by ml el path || removed_by mh eh path) (of_either path)
       (λ e. elim (or_true (removed_by ml el path) _ e) [ inl x ↦ of_low path x | inr x ↦ of_high path x ])

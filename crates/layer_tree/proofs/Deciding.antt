@@ -1,4 +1,6 @@
--- Of a sound layer it is decided which paths it has and which it cuts, and hard links from each path end.
+-- Of a sound layer it is decided which paths it has and which it cuts, and hard links from each
+-- path end. What is decided of each member is decided of some (member_decided): has_decided and
+-- cut_decided go down a path by this. has_end takes no more hops than there are places.
 use Rattle.std.proofs.Common.{◌≡◌, ◌≢◌, ◌∙◌, sym, ap, subst, ℕ, zero, suc, ◌<◌, ◌⊎◌, ◌↔◌, inl, inr, List, [], ◌∷◌, ◌++◌, Option, Some, None, Bool, true, false, refl, arith, Contains}
 use Rattle.std.proofs.lemmas.Bool.{cases_eq}
 use Rattle.std.proofs.lemmas.List.Elements.{All-contains, Contains-append_right}
@@ -29,6 +31,7 @@ use Rattle.layer_tree.proofs.Parents.{is_directory_or_not}
 abbrev pub IsDecided : Type 0 → Type 0
 IsDecided P = P ⊎ ¬ P
 
+-- where two things are decided, it is decided whether both hold
 pub both_decided : {P Q : Type 0} → IsDecided P → IsDecided Q → IsDecided (P × Q)
 both_decided (inl p) (inl q) = inl (p, q)
 both_decided (inl p) (inr n) = inr (λ x. n x.1)
@@ -39,6 +42,7 @@ either_decided (inl p) q = inl (inl p)
 either_decided (inr n) (inl q) = inl (inr q)
 either_decided (inr n) (inr m) = inr (λ x. elim x [ inl p ↦ n p | inr q ↦ m q ])
 
+-- where one thing is decided, so is its opposite
 pub not_decided : {P : Type 0} → IsDecided P → IsDecided (¬ P)
 not_decided (inl p) = inr (λ n. n p)
 not_decided (inr n) = inl n
@@ -51,6 +55,7 @@ same_name : (o : Option (List ℕ)) (n : List ℕ) → IsDecided (o ≡ Some n)
 same_name None n = inr (λ e. cc)
 same_name (Some m) n = elim (same_or_not m n) [ inl x ↦ inl (ap Some x.0) | inr x ↦ inr (λ e. x.0 (let q : m ≡ n = cc in q)) ]
 
+-- it is decided whether a path is plain
 pub plain_decided : (path : Path) → IsDecided (IsPlain path)
 plain_decided path = go (is_plain path) refl
   where
@@ -58,6 +63,7 @@ plain_decided path = go (is_plain path) refl
     go true e = inl ((plain_is path).0 e)
     go false e = inr (λ p. let f = sym e ∙ (plain_is path).1 p in cc)
 
+-- what a list contains is its first element, or in the rest
 pub first_or_later : {X : Type 0} (x y : X) (xs : List X) → Contains (x ∷ xs) y → (x ≡ y) ⊎ Contains xs y
 first_or_later x y xs (zero, l, e) = inl e
 first_or_later x y xs (suc k, l, e) = inr (k, omega arith, e)
@@ -131,11 +137,11 @@ module _ (a : List ℕ) (i : IsImage a) where
       (λ c m. both_decided (same_name (name a c) n) (either_decided
       (not_decided (is_directory_or_not (kind a c))) (cuts_decided path c (opened_decided d c m)))))))
 
-  -- whether the layer has the path
+  -- it is decided whether the layer has the path
   pub has_decided : (path : Path) → IsDecided (IsIn a path)
   has_decided path = leads_decided path (root a) (inl (at_root refl))
 
-  -- whether it cuts the path
+  -- it is decided whether the layer cuts the path
   pub cut_decided : (path : Path) → IsDecided (Cuts a path)
   cut_decided path =
       let r = cuts_is a i path in

@@ -1,4 +1,6 @@
--- The entry of a header, by where its hard links end.
+-- The entry of a header, by where its hard links end. entered says which entry it is;
+-- directory_stays and no_directory say that directories end at themselves, and that nothing else
+-- ends at one.
 use Rattle.std.proofs.Common.{◌≡◌, ◌≢◌, ◌∙◌, sym, ap, subst, ℕ, inr, List}
 use Rattle.romfs_format.specs.declared.head.Head.{Head}
 use Rattle.romfs_format.specs.declared.head.Kind.TheVariants.{Directory}
@@ -22,6 +24,7 @@ no_directory a i h e from n (follows l f) = λ k. (
     let m = hard_member a i h from l in
     not_directory a i h (m, l, (e, follows l f, (from_inside a i e (inr (inr (h, m, follows l f))), k))))
 
+-- an entry with the place and the kind of where a header ends is that header's
 pub entered : (a : List ℕ) (layer h : ℕ) (end : Head) (entry : Entry) → IsGiven a end → IsFinal a h end.offset
     → entry.place.layer ≡ layer → entry.place.header ≡ end.offset → entry.kind ≡ end.kind
     → IsEntryIn a layer h entry

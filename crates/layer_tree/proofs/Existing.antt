@@ -1,4 +1,6 @@
--- Sound layers have a listing: all their paths, sorted, those that are shown with their places.
+-- Sound layers have a listing (some_listing): all their paths, sorted, those that are shown with
+-- their places. shown_at puts in one path after another. Deciding tells which are shown, and
+-- one_shown that each is so by one entry.
 use Rattle.std.proofs.Common.{◌≡◌, ◌∙◌, sym, ap, subst, ℕ, zero, suc, ◌⊎◌, ◌↔◌, inl, inr, List, [], ◌∷◌, ◌++◌, Some, refl, arith, Contains}
 use Rattle.std.specs.Prelude.{slice_get}
 use Rattle.std.specs.declared.cmp.Ordering.{Ordering}
@@ -197,6 +199,7 @@ all_tops (a ∷ above) im =
     let up = all_tops above im.1 in
     (here.0 ++ up.0, more_paths a above here.0 up.0 here.1 up.1)
 
+-- layers that are all sound have a listing
 pub some_listing : (layers : List (List ℕ)) → AllByRecursion IsImage layers → (entries : List Entry) × IsListing layers entries
 unfolding AreAllPaths
 some_listing layers im =

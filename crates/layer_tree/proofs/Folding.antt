@@ -1,4 +1,6 @@
--- A directory with the branches of its members has those of all paths from it.
+-- A directory with the branches of its members has those of all paths from it. The main lemma is
+-- folder, of its entries (entries_of) and of what it removes (removes_of); single is the like of a
+-- file. A mark that cuts nothing is left away (made_as_needed).
 use Rattle.std.proofs.Common.{◌≡◌, ◌≢◌, ◌∙◌, sym, ap, subst, ℕ, zero, suc, ◌↔◌, inl, inr, List, [], ◌∷◌, ◌++◌, refl, Some, None, Option, Bool, true, false, ◌||◌, not, IsTrue, IsSomeAnd, length, arith}
 use Rattle.std.specs.Prelude.{◌==◌, slice_get, is_some, option_map, MatchOption}
 use Rattle.std.specs.List.{AllByRecursion}
@@ -115,6 +117,7 @@ module _ (a : List ℕ) (i : IsImage a) (layer h : ℕ) (ms : List Named) (es : 
       let w = v.only path e (rw f at x) in
       ((s, w.0), (w.1.0, (m.head.offset, t.member, t.name ∙ ap Some r, w.1.1), w.1.2))
 
+  -- the entry of a directory, over its members' branches, has all paths from it
   pub entries_of : (n : List ℕ) (entry : Entry) → IsEntryIn a layer h entry
       → IsBranchOf a layer h (record { name = n; value = entry; below = spread es })
   entries_of n entry w = record { rising = branch_rises n entry es entries_forest; shown = shown; only = only }
@@ -231,6 +234,7 @@ module _ (a : List ℕ) (i : IsImage a) (layer h : ℕ) (ms : List Named) (es : 
         ∙ ap (λ x. whole_cut || ((x || covered_by (through (named n es)) path) || cut_through (named n ws) path))
             (sym (by_through (named n mm) path))
 
+    -- the mark and the entry of a directory remove exactly what the layer cuts from it
     pub removes_of : (n : List ℕ) → RemovesFrom a h
         (at_path (whole (record { name = n; value = record { cut = false; opaque = whole_cut }; below = spread out })))
         (record { name = n; value = entry; below = spread es })
@@ -252,7 +256,7 @@ module _ (a : List ℕ) (i : IsImage a) (layer h : ℕ) (ms : List Named) (es : 
       exact = removes_of n;
     }
 
-  -- whether a mark stands at the rest of the opaque marker's name
+  -- a mark is named as the opaque marker goes on exactly where the directory has that
   pub opaque_is_held : (is_some (named rest_of_opaque ws) ≡ true) ↔ HasNamed a h opaque
   opaque_is_held = go (find_white rest_of_opaque wh)
     where
@@ -275,6 +279,7 @@ alone_without a layer h n e k w blank = record { name = w.entry_name; entries = 
         = ap (λ x. x || covered_by (at_path (whole e)) path) (nothing_cut path ∙ sym (nothing path)) in
         subst (λ x. IsTrue x ↔ CutsAt a h path) (sym same) (w.exact path p)
 
+-- a Boolean whose opposite is true is false
 pub no_true : (b : Bool) → not b ≡ true → b ≡ false
 no_true true e = sym e
 no_true false e = refl

@@ -1,4 +1,6 @@
--- A tree laid on a tree is the tree of both runs.
+-- A tree laid on a tree is the tree of both runs. The main lemma is tree_of_both: what is said of a
+-- tree laid on another (Lays) gives the entries and the cuts of both runs. lays_of says that of the
+-- branches that are made, by the marks of clashes.
 use Rattle.std.proofs.Common.{◌≡◌, ◌∙◌, sym, ap, subst, ℕ, zero, suc, ◌+◌, ◌↔◌, inl, inr, List, [], ◌∷◌, ◌++◌, length, refl, arith, Option, Some, None, Bool, true, false, ◌||◌, ◌&&◌, IsTrue, IsSomeAnd}
 use Rattle.std.specs.Prelude.{slice_get, Result, Ok, Err, IfOk}
 use Rattle.romfs_format.specs.declared.head.Kind.TheVariants.{Directory}
@@ -64,6 +66,7 @@ get_high [] hs i j a e g = subst (λ n. slice_get hs n ≡ Some a) (omega arith)
 get_high (l ∷ ls) hs zero j a e g = absurd (omega arith)
 get_high (l ∷ ls) hs (suc i) j a e g = get_high ls hs i j a (omega arith) g
 
+-- where something holds of an entry that is there, there is an entry of which it holds
 pub some_and : (P : Entry → Type 0) (o : Option Entry) → IsSomeAnd o P → (e : Entry) × (o ≡ Some e) × P e
 some_and P None p = absurd p
 some_and P (Some e) p = (e, refl, p)
@@ -79,6 +82,7 @@ free_if (a ∷ above) path p s c =
     let up : IsFree above path = free_if above path p (λ i h t. s (suc i) h (t.0, t.1)) (λ x. c (inr x)) in
     ((λ x. s zero x.0 (p, (x.1, up)), λ x. c (inl x)), up)
 
+-- a run that leaves a path free shows it in no layer
 pub top_in : (layers : List (List ℕ)) (path : Path) (i h : ℕ) → IsTop layers path i h → IsFree layers path → ⊥
 top_in [] path i h t f = t
 top_in (a ∷ above) path zero h t f = f.0.0 (h, t.0)
@@ -179,6 +183,7 @@ module _ (first : ℕ) (ls hs : List (List ℕ)) (low high out : TreeRows) (l : 
     ],
   )
 
+  -- the tree of a run, laid on that of the run below, is the tree of both
   pub tree_of_both : IsTreeOf first (ls ++ hs) out
   tree_of_both = record {
     rising = lays.rising;
@@ -197,7 +202,7 @@ three_united lm hm rm am om a m path =
     ∙ ap (λ b. cut_by (at_path (whole lm)) path || b)
     (cut_united (at_path (whole am)) (at_path (whole rm)) (at_path (whole hm)) a.at path)
 
--- what the upper tree leaves of the lower entries covered by its own, and united marks
+-- entries that cover what is kept, with united marks, are a tree laid on another
 pub lays_of : (le he one two oe : Shoot Entry) (lm hm hidden replaced am om : Shoot Mark)
     → AreRootClashes mark_of he le hidden → AreRootClashes mark_of le he replaced → IsKept le hm one → IsKept one hidden two
     → IsLaid upper two he oe → IsLaid united replaced hm am → IsLaid united lm am om
@@ -227,6 +232,7 @@ root_folder two he oe m k =
     let v : oe.value ≡ he.value = cc in
     ap (λ (x : Entry). x.kind) v ∙ k
 
+-- the same of a result, if it is one
 pub tree_if_ok : {E : Type 0} (first : ℕ) (ls hs : List (List ℕ)) (low high : TreeRows) (r : Result TreeRows E)
     → IfOk r (λ t. Lays low high t) → IsTreeOf first ls low → IsTreeOf (first + length ls) hs high
     → IfOk r (λ t. IsTreeOf first (ls ++ hs) t)

@@ -1,4 +1,5 @@
--- Members in the order of their keys, and by name where these are equal, are in the order of their names.
+-- Members in the order of their keys, and by name where these are equal, are in the order of their
+-- names (by_name): where names rise keys do not fall.
 use Rattle.std.proofs.Common.{◌≡◌, sym, ◌+◌, ◌<◌, ◌≤◌, List, ◌∷◌, refl, arith, All, false}
 use Rattle.std.specs.List.{slice_index_or}
 use Rattle.std.specs.List.Sorted.{IsSorted}
@@ -34,6 +35,7 @@ not_less x y p q f = pick (name_cmp x.name.now y.name.now) refl
     pick Equal e = refl
     pick Greater e = refl
 
+-- members that are sorted by keys, and then by names, are sorted by names
 pub by_name : (ms : List Named) → All IsKeyed ms → IsSorted (λ x y. name_cmp (x.key ∷ x.name.now) (y.key ∷ y.name.now)) ms → IsByName ms
 by_name ms keyed up k d l m =
     not_less (slice_index_or ms (k + 1) d) (slice_index_or ms k d) (keyed (k + 1) d m) (keyed k d (omega arith)) (up k d l m)

@@ -1,4 +1,6 @@
--- What one layer cuts and shows, by its directories.
+-- What one layer cuts and shows, by its directories. The main lemma is tree_of_layer: the root's
+-- branch and mark are the layer's tree. cuts_is says what a layer cuts by going down from the root,
+-- name by name, as branches are made; removed_cut and cut_removed are its two ways.
 use Rattle.std.proofs.Common.{◌≡◌, ◌≢◌, ◌∙◌, sym, ap, subst, ℕ, ◌⊎◌, ◌↔◌, inl, inr, List, [], ◌∷◌, ◌++◌, refl, arith, Option, Some, None, Bool, true, false, IsTrue, IsSomeAnd, ◌&&◌}
 use Rattle.romfs_format.specs.declared.head.Kind.TheVariants.{Directory}
 use Rattle.romfs_format.specs.Fields.{root, kind, name}
@@ -17,12 +19,12 @@ use Rattle.layer_tree.specs.Reading.{CutsFrom, CutsAt, IsEntryIn, IsBranchOf, Re
 use Rattle.layer_tree.proofs.Plain.{plain_is}
 use Rattle.layer_tree.proofs.Removing.{or_left}
 
--- hard links from a directory end there
+-- hard links from a directory end at a directory
 pub final_directory : (a : List ℕ) (h e : ℕ) → IsFinal a h e → kind a h ≡ Directory → kind a e ≡ Directory
 final_directory a h e (stays n) k = k
 final_directory a h e (follows l f) k = absurd (let m = l.1 in cc)
 
--- one name more
+-- a path to a directory and the name of a member lead to the member
 pub leads_on : (a : List ℕ) (d : ℕ) (q : Path) (e : ℕ) (n : List ℕ) (c : ℕ) → Leads a d q e → IsMember a e c → name a c ≡ Some n
     → Leads a d (q ++ n ∷ []) c
 leads_on a d [] e n c l m f = (c, subst (λ x. IsMember a x c) (sym l) m, f, refl)
@@ -54,6 +56,7 @@ module _ (a : List ℕ) where
   removed_cut d (k ∷ q) y rest (inr (inr (c, (x, m, f, l), n))) = inr (inr (x, m, f, inr (removed_cut x q y rest (inr (inr (c, l, n))))))
 
   module _ (i : IsImage a) where
+    -- what is opened is a directory
     pub opened_directory : {d : ℕ} → IsOpened a d → kind a d ≡ Directory
     opened_directory (at_root e) = subst (λ x. kind a x ≡ Directory) (sym e) (root_directory a i)
     opened_directory (below o c k s t) = t
@@ -112,6 +115,7 @@ module _ (a : List ℕ) where
       }
 
 module _ (a : List ℕ) (i : IsImage a) where
+  -- a layer cuts a path exactly where that is plain and cut on the way down from the root
   pub cuts_is : (path : Path) → Cuts a path ↔ (IsPlain path × CutsFrom a (root a) path)
   cuts_is path = (
     λ c. (c.0, subst (CutsFrom a (root a)) (sym c.1.3) (removed_cut a (root a) c.1.0 c.1.1 c.1.2 c.1.4.1)),
@@ -172,5 +176,6 @@ module _ (a : List ℕ) (i : IsImage a) where
         by false f = refl
         by true f = absurd (root_cuts [] ((m [] tt).0 (or_left k.value.cut (covered_by (at_path (whole e)) []) f)))
 
+    -- the root's branch and its mark are the tree of the layer
     pub tree_of_layer : IsTreeOf layer (a ∷ []) (record { entries = whole e; marks = whole k })
     tree_of_layer = record { rising = b.rising.rises; shown = is_shown; only = is_only; cuts = is_cut }

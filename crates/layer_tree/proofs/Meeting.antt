@@ -1,5 +1,6 @@
--- Two trees that are gone through in step, of which neither has a file where the other has more than a file: so both
--- ways at once, name by name, and then for the branches of two directories.
+-- Two trees that are gone through in step, of which neither has a file where the other has more
+-- than a file. IsMeeting is the loop over the branches of two directories, Meeting what it finds of
+-- each name, both ways at once, and are_apart what that says of the directories.
 use Rattle.std.proofs.Common.{◌≡◌, ◌∙◌, sym, ap, subst, ℕ, ◌+◌, ◌*◌, ◌<◌, ◌≤◌, inl, inr, List, [], ◌∷◌, length, refl, arith, Option, Some, None}
 use Rattle.std.specs.Prelude.{option_map}
 use Rattle.std.specs.List.{AllByRecursion}
@@ -45,6 +46,7 @@ module _ {T : Type 0} (m : T → Mark) (os : List (Shoot T)) where
         (λ q. refl) (c n);
   }
 
+  -- branches that are apart at each name clash nowhere, whichever are the files
   pub are_apart : {fs : List (Shoot T)} → Meeting m os fs → NamesRise fs → NamesRise os → AreApart m fs os
   are_apart {fs} c r s = record {
     low_files = one_way fs os r s (λ n. (found c r n).0);
@@ -74,15 +76,19 @@ module _ {T : Type 0} (m : T → Mark) (files later others rest rest' : List (Sh
     smaller = omega (arith, grown f later, inv.smaller);
   }
 
+  -- a branch whose name the others have not is passed over
   pub alone : named f.name rest' ≡ None → IsMeeting m files later others rest'
   alone n = on (rw n (no_others (marked m (whole f)), no_files (marked m (whole f))))
 
+  -- a branch that is apart from the other one of its name is passed over
   pub apart : (o : Shoot T) → named f.name rest' ≡ Some o → IsApart m f o → IsMeeting m files later others rest'
   apart o n w = on (rw n (w.low_file, w.high_file))
 
+  -- there is less to go through below one of the files than in all of them
   pub deeper_measure : 2 * length f.below + 1 < 2 * length (spread files)
   deeper_measure = omega (arith, grown f later, inv.smaller)
 
+-- with none left, the branches of the two directories clash nowhere
 pub meeting_ended : {T : Type 0} (m : T → Mark) (files left others rest : List (Shoot T))
     → IsMeeting m files left others rest → left ≡ [] → NamesRise files → NamesRise others → AreApart m files others
 meeting_ended m files left others rest inv e r s = are_apart m others (inv.meeting (rw e none_met)) r s

@@ -1,4 +1,5 @@
--- What stands above a shown path is shown, as a directory.
+-- What stands above a shown path is shown, as a directory. The main lemma is in_directory: a run
+-- that shows a path shows something above it (gap), and that is no file (clash).
 use Rattle.std.proofs.Common.{◌≡◌, ◌≢◌, ◌∙◌, sym, ap, subst, ℕ, zero, suc, ◌⊎◌, inl, inr, List, [], ◌∷◌, ◌++◌, refl, append_assoc, Option, Some, None, IsSomeAnd}
 use Rattle.std.specs.Prelude.{slice_get}
 use Rattle.std.specs.List.{AllByRecursion}
@@ -14,6 +15,7 @@ use Rattle.shown_tree.specs.declared.place.Entry.{Entry}
 use Rattle.shown_tree.specs.Trees.{TreeRows, entry_at, IsEntryOf, IsTreeOf}
 use Rattle.layer_tree.proofs.Layered.{final_directory, last_member, opened_directory}
 
+-- all layers are sound images
 abbrev pub AreImages : List (List ℕ) → Type 0
 AreImages layers = AllByRecursion IsImage layers
 
@@ -83,6 +85,7 @@ gap (a ∷ above) im q n zero h p t none = let d = above_has a im.0 q n (h, t.0)
         ((λ x. none zero x.0 (x.1, up), λ x. f.0.1 (longer_cut c q n p x)), up)
 gap (a ∷ above) im q n (suc i) h p t none = gap above im.1 q n i h p t (λ j g u. none (suc j) g u)
 
+-- a kind is a directory's, or is not
 pub is_directory_or_not : (k : Kind) → (k ≡ Directory) ⊎ (k ≢ Directory)
 is_directory_or_not Directory = inl refl
 is_directory_or_not HardLink = inr (λ e. cc)
@@ -111,5 +114,6 @@ module _ (first : ℕ) (layers : List (List ℕ)) (im : AreImages layers) (t : T
             (λ x. k (u.3.end.3 ∙ final_directory u.3.end.0 u.1 d.place.header u.3.end.2 x)))
       ]
 
+  -- one name above an entry of a tree there is a directory
   pub in_directory : IsSomeAnd (entry_at t q) (λ d. d.kind ≡ Directory)
   in_directory = by_above (entry_at t q) refl

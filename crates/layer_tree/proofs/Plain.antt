@@ -1,10 +1,12 @@
--- Plain paths, by test.
+-- Plain paths, by test. plain_is lets the test that trees make stand for what is said of stacks:
+-- that no name of the path is a marker's.
 use Rattle.std.proofs.Common.{◌≡◌, ◌∙◌, sym, ◌↔◌, [], ◌∷◌, refl, Bool, true, false, not, ◌&&◌}
 use Rattle.std.specs.Prelude.{nat_eq}
 use Rattle.std.specs.List.{starts_with}
 use Rattle.stack_model.specs.Stack.{Path, IsPlain, marker}
 use Rattle.shown_tree.specs.Marks.{is_plain}
 
+-- the test passes exactly the plain paths
 pub plain_is : (path : Path) → (is_plain path ≡ true) ↔ IsPlain path
 plain_is [] = (λ e. tt, λ p. refl)
 plain_is (n ∷ path) = let r = plain_is path in (λ e. to r (starts_with nat_eq n marker) refl e,

@@ -1,4 +1,6 @@
--- What marks and files remove: a path is removed where it, or a path above it, is.
+-- What marks and files remove: a path is removed where it, or a path above it, is. removed_extends
+-- says so of both, cut_extends of marks; covering_file and file_covers find the file above a
+-- covered path.
 use Rattle.std.proofs.Common.{◌≡◌, sym, ap, subst, ◌⊎◌, inl, inr, [], ◌∷◌, ◌++◌, refl, Option, Some, None, Bool, true, false, ◌||◌, not}
 use Rattle.std.specs.Prelude.{option_map}
 use Rattle.stack_model.specs.Stack.{Path}
@@ -7,14 +9,17 @@ use Rattle.shown_tree.specs.declared.place.Entry.{Entry}
 use Rattle.shown_tree.specs.declared.place.Mark.{Mark}
 use Rattle.shown_tree.specs.Marks.{cuts_itself, cuts_below, cut_by, mark_of, covered_by, removed_by}
 
+-- where one of two is true, it is the first or the second
 pub or_true : (a b : Bool) → (a || b) ≡ true → (a ≡ true) ⊎ (b ≡ true)
 or_true true b e = inl refl
 or_true false b e = inr e
 
+-- where the first of two is true, one of them is
 pub or_left : (a b : Bool) → a ≡ true → (a || b) ≡ true
 or_left true b e = refl
 or_left false b e = absurd (cc)
 
+-- where the second of two is true, one of them is
 pub or_right : (a b : Bool) → b ≡ true → (a || b) ≡ true
 or_right true b e = refl
 or_right false b e = e
@@ -38,6 +43,7 @@ cut_extends m (n ∷ q) r e = elim (or_true (cuts_below (m [])) (cut_by (λ p. m
   | inr y ↦ or_right (cuts_below (m [])) (cut_by (λ p. m (n ∷ p)) (q ++ r)) (cut_extends (λ p. m (n ∷ p)) q r y)
 ]
 
+-- a path whose own mark cuts it is cut
 pub cut_at_itself : (m : Path → Option Mark) (q : Path) → cuts_itself (m q) ≡ true → cut_by m q ≡ true
 cut_at_itself m [] e = e
 cut_at_itself m (n ∷ q) e = or_right (cuts_below (m [])) (cut_by (λ p. m (n ∷ p)) q) (cut_at_itself (λ p. m (n ∷ p)) q e)
@@ -64,6 +70,7 @@ pub file_covers : (f : Path → Option Entry) (path q r : Path) → path ≡ q +
 file_covers f path q r e x = subst (λ p. covered_by f p ≡ true) (sym e)
     (cut_extends (λ p. option_map mark_of (f p)) q r (cut_at_itself (λ p. option_map mark_of (f p)) q x))
 
+-- what is removed is so with more names
 pub removed_extends : (m : Path → Option Mark) (f : Path → Option Entry) (path q r : Path) → path ≡ q ++ r
     → removed_by m f q ≡ true → removed_by m f path ≡ true
 removed_extends m f path q r e x = subst (λ p. removed_by m f p ≡ true) (sym e) (elim (or_true (cut_by m q) (covered_by f q) x) [

@@ -1,4 +1,6 @@
--- Branches and marks in step, in the order of names.
+-- Branches and marks in step, in the order of names. IsPassed is the loop that seeks a name,
+-- Keeping the loop over branches and their marks, Keeps what it makes of each, and are_kept what
+-- that is for all. all_cut, alone and inside say what a mark leaves of one branch.
 use Rattle.std.proofs.Common.{◌≡◌, ◌≢◌, ◌∙◌, sym, ap, subst, ℕ, ◌+◌, ◌*◌, ◌<◌, ◌≤◌, inl, inr, List, [], ◌∷◌, ◌++◌, length, refl, arith, append_assoc, Option, Some, None, Bool, true, false}
 use Rattle.std.proofs.lemmas.List.{append-nil}
 use Rattle.std.proofs.lemmas.Cmp.{nat_list_cmp_total}
@@ -27,6 +29,7 @@ module _ {T : Type 0} (name : List ℕ) (branches rest later : List (Shoot T)) (
   rises : NamesRise (s ∷ later)
   rises = subst NamesRise e inv.names
 
+  -- a branch whose name comes before is passed over
   pub pass_one : name_cmp s.name name ≡ Less → IsPassed name branches later
   pass_one l = record {
     names = rises.1;
@@ -40,9 +43,11 @@ module _ {T : Type 0} (name : List ℕ) (branches rest later : List (Shoot T)) (
   pub from_here : name_cmp s.name name ≢ Less → IsFrom name branches rest
   from_here f = record { none = rw e f; names = inv.names; same = inv.same }
 
+  -- a first branch with the name is the one of that name
   pub first_named : name_cmp s.name name ≡ Equal → named name rest ≡ Some s
   first_named q = elim (same_or_not s.name name) [ inl x ↦ rw (e, x.1) | inr x ↦ absurd (x.0 (exact_bytes s.name name q)) ]
 
+  -- where the first branch comes after, no branch has the name
   pub none_named : name_cmp s.name name ≡ Greater → named name rest ≡ None
   none_named g =
       let l = above_of s.name name g in
@@ -105,6 +110,7 @@ module _ {T : Type 0} (marks : List (Shoot Mark)) where
     | inr x ↦ rw (c.name, x.1) (found k r.1 n p)
   ]
 
+  -- what is left of one branch after another is what marks leave of all
   pub are_kept : {ls out : List (Shoot T)} → Keeps marks ls out → IsForest ls → NamesRise marks → AreKept ls marks out
   are_kept {ls} {out} k f r =
       let names = rise k f.names in
@@ -143,6 +149,7 @@ all_same : {T : Type 0} (ls : List (Shoot T)) (marks : List (Shoot Mark)) → Al
 all_same [] marks = tt
 all_same (l ∷ ls) marks = (refl, all_same ls marks)
 
+-- before the first branch all branches and marks are to be gone through
 pub keeping_begun : {T : Type 0} (lows : List (Shoot T)) (marks : List (Shoot Mark)) → IsForest lows
     → NamesRise marks → Keeping lows lows [] marks marks
 keeping_begun lows marks f r = record {
@@ -157,6 +164,7 @@ keeping_begun lows marks f r = record {
 module _ {T : Type 0} (lows ls out : List (Shoot T)) (marks rest rest' : List (Shoot Mark)) (l : Shoot T)
     (inv : Keeping lows (l ∷ ls) out marks rest) (from : IsFrom l.name rest rest')
   where
+    -- passing over marks leaves the one with the branch's name, if there is one
     pub at_mark : named l.name rest' ≡ named l.name marks
     at_mark = from.same l.name (not_below_itself l.name) ∙ inv.same.0
 
@@ -171,19 +179,24 @@ module _ {T : Type 0} (lows ls out : List (Shoot T)) (marks rest rest' : List (S
       smaller = omega (arith, grown l ls, inv.smaller);
     }
 
+    -- a branch without a mark is left as it is
     pub untouched : named l.name rest' ≡ None → Keeping lows ls (out ++ l ∷ []) marks rest'
     untouched n = on (out ++ l ∷ []) (λ more k. rw append_assoc (inv.kept (l ∷ more) (Untouched l ls more (sym at_mark ∙ n) k)))
 
+    -- of a branch that its mark cuts whole, nothing is left
     pub left_out : (m : Shoot Mark) → named l.name rest' ≡ Some m → IsLeftOut m → Keeping lows ls out marks rest'
     left_out m n c = on out (λ more k. inv.kept more (Left_out l ls more m (sym at_mark ∙ n) c k))
 
+    -- of any other branch with a mark, what that leaves is left
     pub kept_one : (m : Shoot Mark) (b : Shoot T) → named l.name rest' ≡ Some m → IsKept l m b
         → Keeping lows ls (out ++ b ∷ []) marks rest'
     kept_one m b n c = on (out ++ b ∷ []) (λ more k. rw append_assoc (inv.kept (b ∷ more) (Kept l b ls more m (sym at_mark ∙ n) c k)))
 
+    -- there is less to go through below one of the branches than in all of them
     pub below_measure : 3 * length l.below + 2 < 3 * length (spread lows)
     below_measure = omega (arith, grown l ls, inv.smaller)
 
+-- with no branch to go, what is left is what marks leave of all
 pub keeping_ended : {T : Type 0} (lows ls out : List (Shoot T)) (marks rest : List (Shoot Mark))
     → Keeping lows ls out marks rest → ls ≡ [] → IsForest lows → NamesRise marks
     → AreKept lows marks out
@@ -208,7 +221,7 @@ alone low mark e o = record { name = refl; rising = branch_rises low.name low.va
     at [] = rw e refl
     at (n ∷ path) = rw (e, o) refl
 
--- else the marks below leave what they leave
+-- a mark that cuts nothing itself leaves of a branch what the marks below it leave
 pub inside : {T : Type 0} (low : Shoot T) (mark : Shoot Mark) (lows out : List (Shoot T))
     (marks : List (Shoot Mark)) → mark.value.cut ≡ false → mark.value.opaque ≡ false → low.below ≡ spread lows
     → mark.below ≡ spread marks → AreKept lows marks out

@@ -19,6 +19,7 @@ use Rattle.shown_tree.specs.Marks.{removed_by}
 abbrev pub IsBefore : Named → Named → Type 0
 IsBefore m n = name_cmp m.name.now n.name.now ≡ Less
 
+-- members in the order of their names, no two of one name
 abbrev pub NamedRise : List Named → Type 0
 NamedRise [] = Unit {0}
 NamedRise (m ∷ ms) = AllByRecursion (IsBefore m) ms × NamedRise ms

@@ -64,7 +64,7 @@ fn no_marks<A: Allocator + Copy>(alloc: A) -> Result<Branch<Mark, A>, AllocError
     Ok(leaf(alloc, name, UNCUT))
 }
 
-/// The same of the branches of two directories.
+/// The marks of such paths below two directories, by the branches of both.
 #[cycle(clashing)]
 fn clashes_below<T: Cuts, A: Allocator + Copy>(
     alloc: A,

@@ -1,4 +1,6 @@
--- Rows and nodes, one after another.
+-- The rows of children and the node of a branch. Rowing is the loop over children: it starts with
+-- none, a child is a directory or another (follows tells where it stands), and it ends with
+-- AddsRows. made has the node of a branch, from what its kind adds.
 use Rattle.std.proofs.Common.{◌≡◌, ◌∙◌, sym, ap, subst, ℕ, zero, suc, ◌+◌, ◌-◌, ◌<◌, ◌≤◌, List, [], ◌∷◌, ◌++◌, length, map, take, drop, get_or, refl, arith, append_assoc, length-append, true, false, Some}
 use Rattle.std.specs.Prelude.{slice_get}
 use Rattle.std.specs.List.{AllByRecursion}
@@ -23,6 +25,7 @@ use Rattle.node_table.specs.Walks.{Spot}
 use Rattle.node_table.specs.Building.{line_in, directories, IsPosted, AreFollowing, AddsRows, AddsLinked, AddsNothing, AddsByKind, IsReadFrom, AddsNode}
 use Rattle.node_table.proofs.Walking.{longer_front}
 
+-- no kind but Directory passes the test for directories
 pub not_directory : (k : Kind) → (k ≡ Directory → ⊥) → is_directory k ≡ false
 not_directory Directory f = absurd (f refl)
 not_directory HardLink f = refl
@@ -53,6 +56,7 @@ module _ (tell : Place → ℕ) (cs : List (Shoot Entry)) (old new new' : List L
       ∙ ap (λ x. old ++ x) (ap (λ l. map (line_in tell) (take i cs) ++ l ∷ []) is ∙ sym (ap (map (line_in tell)) (longer_front cs i c lt at)
             ∙ map_last tell (take i cs) c))
 
+  -- the row of a directory is added, and the directory counted
   pub directory : c.value.kind ≡ Directory → Rowing tell cs old new' (n + 1) (i + 1)
   directory k =
       let d : is_directory (get_or cs i c).value.kind ≡ true = ap (λ (s : Shoot Entry). is_directory s.value.kind) (sym at)
@@ -61,6 +65,7 @@ module _ (tell : Place → ℕ) (cs : List (Shoot Entry)) (old new new' : List L
       let few = r.few in
       record { rows = rows_now; count = ap (λ k. k + 1) r.count ∙ sym m; few = omega arith }
 
+  -- the row of any other child is added, and nothing counted
   pub other : (c.value.kind ≡ Directory → ⊥) → Rowing tell cs old new' n (i + 1)
   other k =
       let d : is_directory (get_or cs i c).value.kind ≡ false = ap (λ (s : Shoot Entry). is_directory s.value.kind) (sym at)
@@ -69,7 +74,7 @@ module _ (tell : Place → ℕ) (cs : List (Shoot Entry)) (old new new' : List L
       let few = r.few in
       record { rows = rows_now; count = r.count ∙ sym m; few = omega arith }
 
--- the child at a place, and those after it
+-- of children that follow one another, the next one stands here and the rest after it
 pub follows : (tell : Place → ℕ) (numbers sizes : List ℕ) (at : ℕ) (cs : List (Shoot Entry)) (i : ℕ) (c : Shoot Entry) → i < length cs
     → c ≡ get_or cs i c → AreFollowing tell numbers sizes at (drop i cs) → IsPosted tell numbers sizes at c
     × AreFollowing tell numbers sizes (at + length (whole c)) (drop (i + 1) cs)
@@ -88,6 +93,7 @@ follows tell numbers sizes at cs i c l e f = let n : suc i ≡ i + 1 = omega ari
         all (y ∷ cs) = refl
     go (x ∷ cs) (suc i) l e f = go cs i (omega arith) e f
 
+-- before the first child no row is added
 pub starts : (tell : Place → ℕ) (cs : List (Shoot Entry)) (old : List Line) → Rowing tell cs old old 0 0
 starts tell cs old = record { rows = sym (none old); count = refl; few = omega arith }
   where
@@ -95,6 +101,7 @@ starts tell cs old = record { rows = sym (none old); count = refl; few = omega a
     none [] = refl
     none (x ∷ xs) = ap (λ r. x ∷ r) (none xs)
 
+-- past the last child the rows of all are added
 pub ends : (tell : Place → ℕ) (cs : List (Shoot Entry)) (old new : List Line) (n i : ℕ) → length cs ≤ i → Rowing tell cs old new n i
     → AddsRows tell cs old new n
 ends tell cs old new n i le r = record {
@@ -142,6 +149,7 @@ module _ (layers : List (List ℕ)) (tell : Place → ℕ) (spot : Spot Entry) (
     spec_is = ap (λ (x : Head). x.spec) headed;
   }
 
+  -- what a header says, with what the branch's kind adds, is the node of the branch
   pub made : AddsByKind tell spot paths (is_directory v.kind) nlink held held' old new keys keys'
       → AddsNode layers tell spot paths held held' old new keys keys' node
   made adds = record {
@@ -155,10 +163,12 @@ module _ (layers : List (List ℕ)) (tell : Place → ℕ) (spot : Spot Entry) (
 -- what a directory adds, and what any other branch does
 module _ (tell : Place → ℕ) (spot : Spot Entry) (paths : ℕ) (kind : Kind) (nlink : ℕ) (held held' : List Folder) (old new : List Line)
     (keys keys' : List ℕ) where
+  -- where the kind is a directory, a linked directory is what is to be added
   pub added_directory : kind ≡ Directory → AddsLinked tell spot nlink held held' old new keys keys'
       → AddsByKind tell spot paths (is_directory kind) nlink held held' old new keys keys'
   added_directory k a = rw (ap is_directory k) a
 
+  -- where it is none, nothing is to be added
   pub added_other : (kind ≡ Directory → ⊥) → AddsNothing paths nlink held held' old new keys keys'
       → AddsByKind tell spot paths (is_directory kind) nlink held held' old new keys keys'
   added_other k a = rw (not_directory kind k) a
@@ -168,5 +178,6 @@ pub fresh_lines : (old new more seen : List Line) (start : ℕ) → new ≡ old 
     → take (length seen - start) (drop start seen) ≡ more
 fresh_lines old new more seen start e s is = take_rest seen start ∙ ap (drop start) (is ∙ e) ∙ drop_at old more start (sym s)
 
+-- the old rows end within the rows that are there
 pub start_within : (old new more seen : List Line) (start : ℕ) → new ≡ old ++ more → start ≡ length old → seen ≡ new → start ≤ length seen
 start_within old new more seen start e s is = let a = ap length is in let b = ap length e in omega (arith, length-append old more)

@@ -1,4 +1,5 @@
--- All nodes completed, and all blocks summed.
+-- All nodes completed, and all blocks summed. Changing is the loop over nodes, Summing the one over
+-- images: each begins with nothing done, goes on by one, and ends with all (ends, sums_all).
 use Rattle.std.proofs.Common.{◌≡◌, ◌≢◌, ◌∙◌, sym, ap, subst, ℕ, zero, suc, ◌+◌, ◌*◌, ◌/◌, ◌^◌, ◌<◌, ◌≤◌, inl, inr, List, [], ◌∷◌, length, take, get_or, map, refl, arith, get_or-set_other, get_or-set_same}
 use Rattle.std.specs.Prelude.{slice_set}
 use Rattle.std.specs.List.{AllByRecursion}
@@ -14,6 +15,7 @@ pub record Changing {X : Type 0} (f : X → X) (old now : List X) (i : ℕ) : Ty
   pub left : (k : ℕ) (d : X) → i ≤ k → get_or now k d ≡ get_or old k d
 
 module _ {X : Type 0} (f : X → X) where
+  -- before the first element nothing is changed
   pub begins : (old : List X) → Changing f old old 0
   begins old = record { level = refl; done = λ k d l m. absurd (omega arith); left = λ k d l. refl }
 
@@ -23,6 +25,7 @@ module _ {X : Type 0} (f : X → X) where
   default (z ∷ xs) zero a b l = refl
   default (z ∷ xs) (suc k) a b l = default xs k a b (omega arith)
 
+  -- when the element at a place is changed, all up to that place are
   pub goes_on : (old now now' : List X) (i : ℕ) (x y : X) → Changing f old now i → i < length now → x ≡ get_or now i x → y ≡ f x
       → now' ≡ slice_set now i y → length now' ≡ length now → Changing f old now' (i + 1)
   goes_on old now now' i x y c lt at e s len = record {
@@ -44,6 +47,7 @@ module _ {X : Type 0} (f : X → X) where
           let was : x ≡ get_or old i d = at ∙ default now i x d lt ∙ c.left i d (omega arith) in
           subst (λ j. get_or now' j d ≡ f (get_or old j d)) (sym q) (here ∙ e ∙ ap f was)
 
+  -- a list as long as another, with each element the changed one, is that list changed
   pub all_changed : (old now : List X) → length now ≡ length old → ((k : ℕ) (d : X) → k < length old → get_or now k d ≡ f (get_or old k d))
       → now ≡ map f old
   all_changed [] [] l g = refl
@@ -52,6 +56,7 @@ module _ {X : Type 0} (f : X → X) where
   all_changed (x ∷ old) (y ∷ now) l g = ap (λ z. z ∷ now) (g 0 y (omega arith))
       ∙ ap (λ zs. f x ∷ zs) (all_changed old now (omega arith) (λ k d m. g (suc k) d (omega arith)))
 
+  -- past the last element the whole list is changed
   pub ends : (old now : List X) (i : ℕ) → length now ≤ i → Changing f old now i → now ≡ map f old
   ends old now i le c = all_changed old now c.level (λ k d m. let l = c.level in c.done k d (omega arith) m)
 
@@ -61,10 +66,12 @@ pub record Summing (images : List (List ℕ)) (blocks i : ℕ) : Type 0 where
   pub few : blocks ≤ i * 2 ^ 23
   pub sound : AllByRecursion IsImage (take i images)
 
+-- the blocks of no images are none
 pub sums_nothing : (images : List (List ℕ)) → Summing images 0 0
 sums_nothing [] = record { value = refl; few = omega arith; sound = tt }
 sums_nothing (a ∷ images) = record { value = refl; few = omega arith; sound = tt }
 
+-- one sound image more adds its blocks, rounded up
 pub sums_on : (images : List (List ℕ)) (blocks i full : ℕ) (a : List ℕ) → Summing images blocks i → i < length images
     → a ≡ get_or images i a → full ≡ length a → IsImage a → Summing images (blocks + (full + 511) / 512) (i + 1)
 sums_on images blocks i full a s lt at f image =
@@ -88,6 +95,7 @@ sums_on images blocks i full a s lt at f image =
         go (x ∷ images) zero s lt at = (subst IsImage at image, tt)
         go (x ∷ images) (suc i) s lt at = (s.0, go images i s.1 (omega arith) at)
 
+-- past the last image the sum is that of all images, and all are sound
 pub sums_all : (images : List (List ℕ)) (blocks i : ℕ) → Summing images blocks i → length images ≤ i → (blocks ≡ blocks_all images)
     × AllByRecursion IsImage images
 sums_all images blocks i s le = let w = whole images i le in

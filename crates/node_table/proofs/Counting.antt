@@ -1,4 +1,6 @@
--- Places numbered one after another.
+-- Places numbered one after another. IsNumbered is the loop over spots: it begins with none, and a
+-- spot has a place with a number (was_known) or a new one (is_new). The first place of its key
+-- tells which of the two it is (known_before, has_none).
 use Rattle.std.proofs.Common.{◌≡◌, ◌≢◌, ◌∙◌, sym, ap, subst, ℕ, zero, suc, ◌+◌, ◌-◌, ◌^◌, ◌<◌, ◌≤◌, ◌⊎◌, inl, inr, List, [], ◌∷◌, ◌++◌, length, take, get_or, map, refl, arith, Bool, true, false, cond, Option, Some, None, IsSome, get_or-set_other, get_or-set_same, length-set}
 use Rattle.std.specs.Prelude.{slice_get, slice_index, slice_set, fold, nat_eq, min, count_by}
 use Rattle.std.specs.List.{list_any, position_from}
@@ -15,9 +17,11 @@ use Rattle.node_table.specs.Walks.{Spot}
 use Rattle.node_table.specs.Firsts.{IsFirstOf, AreFirsts}
 use Rattle.node_table.specs.Numbering.{place_key, key_of, one_more, spot_place, bare, seen, paths_of, IsFirstSpot, AreKeys, IsNumbered}
 
+-- a place is told to be the same as itself
 pub same_itself : (p : ModelPlace) → same_place p p ≡ true
 same_itself p = rw (eq-eqb p.0 p.0 refl, eq-eqb p.1 p.1 refl) refl
 
+-- places that are told to be the same are one place
 pub same_is : (p q : ModelPlace) → same_place p q ≡ true → p ≡ q
 same_is p q e =
     let b = and_parts (nat_eq p.0 q.0) (nat_eq p.1 q.1) e in
@@ -25,6 +29,7 @@ same_is p q e =
     let g = eqb-true p.1 q.1 b.1 in
     ap (λ x. (x, p.1)) f ∙ ap (λ y. (q.0, y)) g
 
+-- two places are one place, or are told apart
 pub same_or_other : (p q : ModelPlace) → ((p ≡ q) × (same_place p q ≡ true)) ⊎ (same_place p q ≡ false)
 same_or_other p q = go (same_place p q) refl
   where
@@ -97,10 +102,12 @@ pub nodes_new : (es : List Listed) (e : Listed) → number_of es (place e) ≡ N
 unfolding number_of
 nodes_new es e k = nodes_last es e ∙ noted_new (nodes es) (place e) (none_any 1 (same_place (place e)) (nodes es) k)
 
+-- entries with the same nodes give a place the same number
 pub number_by : (es fs : List Listed) (q : ModelPlace) → nodes es ≡ nodes fs → number_of es q ≡ number_of fs q
 unfolding number_of
 number_by es fs q e = ap (position_from (same_place q) 1) e
 
+-- a new place gets the number after all others
 pub number_new : (es : List Listed) (e : Listed) → number_of es (place e) ≡ None → number_of (es ++ e ∷ []) (place e)
     ≡ Some (length (nodes es) + 1)
 unfolding number_of
@@ -109,6 +116,7 @@ number_new es e k =
     ∙ last_here 1 (same_place (place e)) (nodes es) (place e) (same_itself (place e)) k
     ∙ ap Some (omega arith)
 
+-- a new place leaves the numbers of other places as they were
 pub number_other : (es : List Listed) (e : Listed) (q : ModelPlace) → number_of es (place e) ≡ None → same_place q (place e) ≡ false
     → number_of (es ++ e ∷ []) q ≡ number_of es q
 unfolding number_of
@@ -119,6 +127,7 @@ abbrev pub count : {X : Type 0} → (X → Bool) → List X → ℕ
 count t [] = 0
 count t (x ∷ xs) = cond (t x) (1 + count t xs) (count t xs)
 
+-- counted from the front, as many elements pass as by the count of the definitions
 pub counted : {X : Type 0} (t : X → Bool) (xs : List X) → count t xs ≡ count_by t xs
 counted t xs = is_count_by (count t) t refl (λ x xs. refl) xs
 
@@ -206,6 +215,7 @@ get_map [] k spot e = absurd (cc)
 get_map (x ∷ spots) zero spot e = let f : x ≡ spot = cc in ap (λ (y : Spot Entry). Some (spot_place y)) f
 get_map (x ∷ spots) (suc k) spot e = get_map spots k spot e
 
+-- what a list has at a place stands below its length
 pub get_below : {X : Type 0} (xs : List X) (k : ℕ) (x : X) → slice_get xs k ≡ Some x → k < length xs
 get_below [] k x e = absurd (cc)
 get_below (y ∷ xs) zero x e = omega arith
@@ -244,6 +254,7 @@ key_tells q r l m e =
     let b : q.header ≡ r.header = omega arith in
     cc
 
+-- before the first spot no place is numbered
 pub begins : (spots first : List (Spot Entry)) (starts paths numbers : List ℕ) → first ≡ [] → starts ≡ [] → paths ≡ [] → numbers ≡ []
     → IsNumbered spots 0 first starts paths numbers
 unfolding number_of nodes
@@ -281,6 +292,7 @@ module _ (spots : List (Spot Entry)) (i : ℕ) (spot : Spot Entry) (first : List
   number_of_first k x e = (number_used (seen spots i) (suc k) (spot_place x)).1
       (subst (λ ps. slice_get ps k ≡ Some (spot_place x)) inv.places (get_map first k x e))
 
+  -- a known number counts from 1, and there is a count of paths for it
   pub number_positive : (n : ℕ) → number_of (seen spots i) (spot_place spot) ≡ Some n → (1 ≤ n) × (n - 1 < length paths)
   number_positive zero f = absurd (let z = (number_used (seen spots i) 0 (spot_place spot)).0 f in cc)
   number_positive (suc k) f =
@@ -310,6 +322,7 @@ module _ (spots : List (Spot Entry)) (i : ℕ) (spot : Spot Entry) (first : List
       ap (λ (y : Spot Entry). number_of (seen spots (i + 1)) (spot_place y)) (sym same) ∙ own
       ∙ ap Some (sym (ap (slice_index (numbers ++ n ∷ [])) (l ∙ sym inv.numbers_level) ∙ index_end numbers n))
 
+  -- a spot whose place is known takes its number, and the place has one path more
   pub was_known : (n : ℕ) (paths' numbers' : List ℕ) → number_of (seen spots i) (spot_place spot) ≡ Some n
       → paths' ≡ slice_set paths (n - 1) (one_more (slice_index paths (n - 1))) → numbers' ≡ numbers ++ n ∷ []
       → IsNumbered spots (i + 1) first starts paths' numbers'
@@ -364,6 +377,7 @@ module _ (spots : List (Spot Entry)) (i : ℕ) (spot : Spot Entry) (first : List
                   ∙ same_itself (spot_place spot) in
               cc
 
+  -- a spot whose place is new takes the next number, and the place has one path
   pub is_new : (n : ℕ) (first' : List (Spot Entry)) (starts' paths' numbers' : List ℕ) → number_of (seen spots i) (spot_place spot) ≡ None
       → n ≡ length first + 1 → first' ≡ first ++ spot ∷ [] → starts' ≡ starts ++ i ∷ [] → paths' ≡ paths ++ 1 ∷ []
       → numbers' ≡ numbers ++ n ∷ [] → IsNumbered spots (i + 1) first' starts' paths' numbers'
@@ -445,16 +459,19 @@ among_seen (x ∷ spots) zero e a = absurd a
 among_seen (x ∷ spots) (suc i) e (inl q) = (0, x, omega arith, refl, q)
 among_seen (x ∷ spots) (suc i) e (inr a) = let m = among_seen spots i e a in (suc m.0, m.1, (let l = m.2 in omega arith), m.3, m.4)
 
+-- below the length of a list of spots there is one
 pub spot_below : (spots : List (Spot Entry)) (k : ℕ) → k < length spots → (s : Spot Entry) × (slice_get spots k ≡ Some s)
 spot_below [] k l = absurd (omega arith)
 spot_below (x ∷ spots) zero l = (x, refl)
 spot_below (x ∷ spots) (suc k) l = spot_below spots k (omega arith)
 
+-- where there is an element, it is what stands there, whatever stands for places beyond
 pub get_or_is : {X : Type 0} (xs : List X) (k : ℕ) (x d : X) → slice_get xs k ≡ Some x → get_or xs k d ≡ x
 get_or_is [] k x d e = absurd (cc)
 get_or_is (y ∷ xs) zero x d e = cc
 get_or_is (y ∷ xs) (suc k) x d e = get_or_is xs k x d e
 
+-- the same, of the spot that the code finds there
 pub spot_at : (spots : List (Spot Entry)) (i : ℕ) → i < length spots → (s : Spot Entry) × (s ≡ get_or spots i s)
 spot_at spots i l = let x = spot_below spots i l in (x.0, sym (get_or_is spots i x.0 x.0 x.1))
 
@@ -468,6 +485,7 @@ keys_length [] = refl
 keys_length (x ∷ spots) = ap suc (keys_length spots)
 
 module _ (spots : List (Spot Entry)) (keys firsts : List ℕ) (are : AreKeys spots keys) (f : AreFirsts keys firsts) where
+  -- there is a key for each spot
   pub keys_level : length keys ≡ length spots
   keys_level = ap length are.are ∙ keys_length spots
 
@@ -488,13 +506,14 @@ module _ (spots : List (Spot Entry)) (keys firsts : List ℕ) (are : AreKeys spo
     told : IsFirstOf keys (slice_index keys i) (slice_index firsts i)
     told = f.each i (let level = keys_level in omega arith)
 
+    -- the first place of a spot's key is among the spots
     pub first_within : slice_index firsts i < length spots
     first_within = let w = told.within in let level = keys_level in omega arith
 
     not_after : i < slice_index firsts i → ⊥
     not_after l = told.before i l refl
 
-    -- a place that stands before has a number
+    -- a place that some spot before has, has that spot's number
     pub has_number : (first : List (Spot Entry)) (starts paths numbers : List ℕ) → IsNumbered spots i first starts paths numbers
         → slice_index firsts i ≢ i → (slice_index firsts i < i)
         × (number_of (seen spots i) (spot_place spot) ≡ Some (slice_index numbers (slice_index firsts i)))
@@ -510,7 +529,7 @@ module _ (spots : List (Spot Entry)) (keys firsts : List ℕ) (are : AreKeys spo
           | inr (inr q) ↦ absurd (not_after q)
         ]
 
-    -- one that does not has none
+    -- a place that no spot before has, has no number
     pub has_none : slice_index firsts i ≡ i → number_of (seen spots i) (spot_place spot) ≡ None
     has_none same = test (number_of (seen spots i) (spot_place spot)) refl
       where
@@ -525,13 +544,14 @@ module _ (spots : List (Spot Entry)) (keys firsts : List ℕ) (are : AreKeys spo
             let k : key_of b.1 ≡ key_of spot = omega arith in
             told.before b.0 (let l = b.2 in omega arith) (key_is b.0 b.1 b.3 ∙ k ∙ sym (key_is i spot (spot_there spots i spot lt here))))
 
-    -- as the code finds it
+    -- the number that the code reads at the first place of the key is the place's
     pub known_before : (first : List (Spot Entry)) (starts paths numbers : List ℕ) → IsNumbered spots i first starts paths numbers
         → (before n : ℕ) → before ≡ slice_index firsts i → n ≡ slice_index numbers before → before ≢ i
         → number_of (seen spots i) (spot_place spot) ≡ Some n
     known_before first starts paths numbers inv before n b m ne = (has_number first starts paths numbers inv (λ e. ne (b ∙ e))).1
         ∙ ap Some (sym (m ∙ ap (slice_index numbers) b))
 
+    -- where the first place of the key is another one, it comes before
     pub is_before : (first : List (Spot Entry)) (starts paths numbers : List ℕ) → IsNumbered spots i first starts paths numbers
         → (before : ℕ) → before ≡ slice_index firsts i → before ≢ i → before < i
     is_before first starts paths numbers inv before b ne = let l = (has_number first starts paths numbers inv (λ e. ne (b ∙ e))).0 in

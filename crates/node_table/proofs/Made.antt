@@ -1,4 +1,6 @@
--- Nodes and rows made one after another are those of a table.
+-- Nodes and rows made one by one are those of a table. Making is the loop over first branches: a
+-- node that is made is the listing's (is_node, is_made for its directory), and those before it stay
+-- so (stays). With all made and completed, table_made has what a table holds.
 use Rattle.std.proofs.Common.{◌≡◌, ◌∙◌, sym, ap, subst, ℕ, zero, suc, ◌+◌, ◌-◌, ◌^◌, ◌<◌, ◌≤◌, ◌⊎◌, inl, inr, List, [], ◌∷◌, ◌++◌, length, take, drop, get_or, map, refl, arith, length-append, Bool, true, false, cond, Some}
 use Rattle.std.specs.Prelude.{slice_get, slice_index, slice_range, min, count_by}
 use Rattle.std.specs.List.{slice_index_or}
@@ -47,6 +49,7 @@ length_map : {X Y : Type 0} (f : X → Y) (xs : List X) → length (map f xs) �
 length_map f [] = refl
 length_map f (x ∷ xs) = ap suc (length_map f xs)
 
+-- what stands at a place below the length of a list is found there
 pub get_there : {X : Type 0} (xs : List X) (k : ℕ) (x : X) → k < length xs → x ≡ get_or xs k x → slice_get xs k ≡ Some x
 get_there [] k x l e = absurd (omega arith)
 get_there (y ∷ xs) zero x l e = ap Some (sym e)
@@ -184,6 +187,7 @@ module _ (layers : List (List ℕ)) (entries : List Listed) (tell : Place → �
       ∙ ap (λ xs. slice_range xs (length keys) (length xs)) m.keys_are.is
       ∙ range_last keys m.keys_are.keys
 
+  -- a directory that was made of a place's branch holds the rows and the parent of the place
   pub is_made : (p : ModelPlace) → is_directory_at layers p ≡ true → tell spot.1.place ≡ number entries (parent entries p)
       → AreSeedlings layers entries tell p cs → IsHeldDirectory layers entries new keys' d p
   is_made p e above below = record {
@@ -294,6 +298,7 @@ module _ (layers : List (List ℕ)) (entries : List Listed) (tell : Place → �
   pub stays : (n : Node) (q : ModelPlace) → IsNode layers entries folders old keys n q → IsNode layers entries folders' new keys' n q
   stays = grown_by (is_directory node.kind) a.adds
 
+  -- a node that was made of a place's first branch is the place's, once completed
   pub is_node : IsNode layers entries folders' new keys' (completed node) (spot_place spot)
   is_node = record {
     place = ap placed a.place_is;
@@ -311,11 +316,13 @@ module _ (layers : List (List ℕ)) (entries : List Listed) (tell : Place → �
     directory_is = λ d. holds_both.1 (sym directory_is ∙ d);
   }
 
+-- before the first branch no node is made
 pub begins : (layers : List (List ℕ)) (entries : List Listed) (held : List Node) (folders : List Folder) (rows : List Line) (keys : List ℕ)
     → held ≡ [] → rows ≡ [] → keys ≡ [] → Making layers entries held folders rows keys 0
 begins layers entries held folders rows keys e r k = record { level = ap length e; keys_level = ap length k ∙ sym (ap length r); each =
       λ k node p f g. absurd (let h = rw e at f in cc) }
 
+-- with the node of the next first branch one node more is made
 pub goes_on : (layers : List (List ℕ)) (entries : List Listed) (tell : Place → ℕ) (first : List (Spot Entry)) (paths : List ℕ)
     (s : AreSeeds layers entries tell first paths) (held held' : List Node) (folders folders' : List Folder) (rows rows' : List Line)
     (keys keys' : List ℕ) (i : ℕ) (spot : Spot Entry) → i < length first → spot ≡ get_or first i spot
@@ -342,6 +349,7 @@ goes_on layers entries tell first paths s held held' folders folders' rows rows'
       ];
     }
 
+-- past the last first branch all nodes are made
 pub ends : (layers : List (List ℕ)) (entries : List Listed) (tell : Place → ℕ) (first : List (Spot Entry)) (paths : List ℕ)
     (s : AreSeeds layers entries tell first paths) (held : List Node) (folders : List Folder) (rows : List Line) (keys : List ℕ) (i : ℕ)
     → i ≡ length first → Making layers entries held folders rows keys i → AreMade layers held folders rows keys
@@ -364,6 +372,7 @@ front_whole xs tail n e = ap (λ k. take k (xs ++ tail)) e ∙ go xs tail
     go [] tail = nothing tail
     go (x ∷ xs) tail = ap (λ r. x ∷ r) (go xs tail)
 
+-- all nodes, completed, with their rows and the sum of blocks are what a table holds
 pub table_made : (layers : List (List ℕ)) (held new tail : List Node) (folders : List Folder) (rows : List Line) (keys : List ℕ)
     (n blocks : ℕ) → AreMade layers held folders rows keys → new ≡ map completed held → n ≡ length new → blocks ≡ blocks_all layers
     → IsSomeTable layers (take n (new ++ tail)) folders rows keys blocks

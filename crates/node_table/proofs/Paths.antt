@@ -1,4 +1,6 @@
--- Paths that begin with a path, and rows below one.
+-- Paths that begin with a path, and rows below one. The main lemma is child_located: a child of a
+-- located branch is located too. The lemmas before it tell that no other row begins with the
+-- child's path: not those before and after the branch, and not those of children with other names.
 use Rattle.std.proofs.Common.{◌≡◌, ◌≢◌, ◌∙◌, sym, ap, subst, ℕ, zero, suc, ◌+◌, ◌-◌, inl, inr, List, [], ◌∷◌, ◌++◌, length, take, refl, arith, append_assoc, true, false, Some}
 use Rattle.std.specs.Prelude.{find}
 use Rattle.std.specs.List.{AllByRecursion}
@@ -10,9 +12,11 @@ use Rattle.stack_model.specs.Stack.{Path}
 use Rattle.stack_model.specs.Numbers.{same_name, same_path}
 use Rattle.node_table.specs.Walks.{under, extends, AreApart, IsLocated}
 
+-- a name is told to be the same as itself
 pub same_itself : (n : List ℕ) → same_name n n ≡ true
 same_itself n = elim (same_or_not n n) [ inl x ↦ x.1 | inr x ↦ absurd (x.0 refl) ]
 
+-- names that differ are told apart
 pub differ : (m n : List ℕ) → m ≢ n → same_name m n ≡ false
 differ m n f = elim (same_or_not m n) [ inl x ↦ absurd (f x.0) | inr x ↦ x.1 ]
 
@@ -39,15 +43,17 @@ pub longer : (top : Path) (n : List ℕ) → extends (top ++ n ∷ []) (top ++ [
 longer [] n = refl
 longer (m ∷ top) n = rw (same_itself m) (longer top n)
 
+-- a path is told to be the same as itself, also with nothing written after it
 pub same_top : (top : Path) → same_path top (top ++ []) ≡ true
 same_top [] = refl
 same_top (m ∷ top) = rw (same_itself m) (same_top top)
 
--- what goes on below top with another name
+-- what goes on below top with another name does not begin with the longer path
 pub other_name : (top : Path) (n m : List ℕ) (q : Path) → n ≢ m → extends (top ++ n ∷ []) (top ++ m ∷ q) ≡ false
 other_name [] n m q d = rw (differ n m d) refl
 other_name (k ∷ top) n m q d = rw (same_itself k) (other_name top n m q d)
 
+-- a path one name longer, but for its last name, is the path
 pub upper : (top : Path) (n : List ℕ) → take (length (top ++ n ∷ []) - 1) (top ++ n ∷ []) ≡ top
 upper top n = ap (λ k. take (k - 1) (top ++ n ∷ [])) (count top) ∙ front top
   where
@@ -63,26 +69,31 @@ upper top n = ap (λ k. take (k - 1) (top ++ n ∷ [])) (count top) ∙ front to
         whole_front (m ∷ top) = ap (λ t. m ∷ t) (whole_front top)
 
 module _ {T : Type 0} where
+  -- two lists of rows, one after the other, are so too when put below a path
   pub under_append : (top : Path) (xs ys : Rows T) → under top (xs ++ ys) ≡ under top xs ++ under top ys
   under_append top [] ys = refl
   under_append top (x ∷ xs) ys = ap (λ r. (top ++ x.0, x.1) ∷ r) (under_append top xs ys)
 
+  -- rows behind a name and then below a path are rows below the path with the name
   pub under_prefixed : (top : Path) (n : List ℕ) (xs : Rows T) → under top (prefixed n xs) ≡ under (top ++ n ∷ []) xs
   under_prefixed top n [] = refl
   under_prefixed top n (x ∷ xs) =
       ap (λ p. (p, x.1) ∷ under top (prefixed n xs)) (sym (append_assoc top (n ∷ []) x.0))
       ∙ ap (λ r. ((top ++ n ∷ []) ++ x.0, x.1) ∷ r) (under_prefixed top n xs)
 
+  -- the rows of two lists of branches stand one after the other
   pub spread_append : (ls bs : List (Shoot T)) → spread (ls ++ bs) ≡ spread ls ++ spread bs
   spread_append [] bs = refl
   spread_append (s ∷ ls) bs =
       ap (λ r. (s.name ∷ [], s.value) ∷ (prefixed s.name s.below ++ r)) (spread_append ls bs)
       ∙ ap (λ r. (s.name ∷ [], s.value) ∷ r) (sym (append_assoc (prefixed s.name s.below) (spread ls) (spread bs)))
 
+  -- two lists of rows that are apart from a path are apart from it together
   pub apart_append : (top : Path) (xs ys : Rows T) → AreApart top xs → AreApart top ys → AreApart top (xs ++ ys)
   apart_append top [] ys a b = b
   apart_append top (x ∷ xs) ys a b = (a.0, apart_append top xs ys a.1 b)
 
+  -- rows of which none begins with a path have none that begins with a longer one
   pub apart_more : (top : Path) (n : List ℕ) (xs : Rows T) → AreApart top xs → AreApart (top ++ n ∷ []) xs
   apart_more top n [] a = tt
   apart_more top n (x ∷ xs) a = (extends_more top n x.0 a.0, apart_more top n xs a.1)
@@ -91,7 +102,7 @@ module _ {T : Type 0} where
   apart_prefixed top n m [] d = tt
   apart_prefixed top n m (x ∷ xs) d = (other_name top n m x.0 d, apart_prefixed top n m xs d)
 
-  -- branches of other names
+  -- the rows of branches with other names do not begin with this name's path
   pub apart_spread : (top : Path) (n : List ℕ) (ss : List (Shoot T)) → AllByRecursion (λ s. n ≢ s.name) ss
       → AreApart (top ++ n ∷ []) (under top (spread ss))
   apart_spread top n [] a = tt
@@ -102,7 +113,7 @@ module _ {T : Type 0} where
               (apart_prefixed top n s.name s.below a.0) (apart_spread top n ss a.1)),
   )
 
-  -- the branches beside one have other names
+  -- the branches before one have other names
   pub before_differs : (ls : List (Shoot T)) (c : Shoot T) (bs : List (Shoot T)) → NamesRise (ls ++ c ∷ bs)
       → AllByRecursion (λ s. c.name ≢ s.name) ls
   before_differs [] c bs r = tt
@@ -112,6 +123,7 @@ module _ {T : Type 0} where
       among [] l = l.0
       among (x ∷ ls) l = among ls l.1
 
+  -- the branches after one have other names
   pub after_differs : (ls : List (Shoot T)) (c : Shoot T) (bs : List (Shoot T)) → NamesRise (ls ++ c ∷ bs)
       → AllByRecursion (λ s. c.name ≢ s.name) bs
   after_differs [] c bs r = later bs r.0
@@ -132,7 +144,7 @@ module _ {T : Type 0} where
       ∙ ap (λ x. a ++ r ∷ x) (append_assoc b (c ++ d) e ∙ ap (λ x. b ++ x) (append_assoc c d e))
       ∙ sym (append_assoc (a ++ r ∷ b) c (d ++ e) ∙ append_assoc a (r ∷ b) (c ++ (d ++ e)))
 
-  -- a child of a branch that is located
+  -- a child of a located branch is located, after the branch and the children before it
   pub child_located : (rows : Rows T) (j : ℕ) (s : Shoot T) (above : T) → IsLocated rows j s above
       → (ls : List (Shoot T)) (c : Shoot T) (bs : List (Shoot T)) → s.below ≡ spread (ls ++ c ∷ bs) → NamesRise (ls ++ c ∷ bs)
       → IsLocated rows (j + suc (length (spread ls))) c s.value

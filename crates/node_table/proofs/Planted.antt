@@ -1,4 +1,6 @@
--- The first branches of a stack's tree, by number, agree with the listing of its layers.
+-- The first branches of a stack's tree, by number, agree with the listing of its layers: seeds says
+-- so of what the tree shows, by Shown and Seeded; posts says where they and their children stand,
+-- and where their parents' numbers do. Both are of a walk over the whole tree (walked_all).
 use Rattle.std.proofs.Common.{◌≡◌, ◌∙◌, sym, ap, subst, ℕ, zero, suc, ◌+◌, ◌-◌, ◌^◌, ◌<◌, List, [], ◌∷◌, ◌++◌, length, take, map, refl, arith, append_assoc, length-append, cond, Some}
 use Rattle.std.specs.Prelude.{slice_get, slice_index, min, count_by, unwrap_or}
 use Rattle.std.specs.List.{AllByRecursion}
@@ -167,6 +169,7 @@ module _ (layers : List (List ℕ)) (t : TreeRows) (is : IsTreeOf 0 layers t) (s
             (sym other);
       }
 
+  -- the first branches of all places, by number, agree with the listing of the layers
   pub seeds : AreSomeSeeds layers (number_among spots) first paths
   seeds = (
     map listed t.entries,
@@ -233,6 +236,7 @@ module _ (layers : List (List ℕ)) (t : TreeRows) (is : IsTreeOf 0 layers t) (s
             let q = length-append (prefixed c.name c.below) [] in
             omega arith
 
+    -- they stand where starts say, with the numbers of their parents and children at hand
     pub posts : ArePosts (number_among spots) spots numbers places sizes first starts
     posts = record {
       level = num.starts_level;

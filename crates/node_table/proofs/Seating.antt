@@ -1,4 +1,6 @@
--- Keys in order, and the first place of each.
+-- Keys in order, and the first place of each. Seating is the loop that gives keys seats, and seated
+-- says what sorting makes of these. Filling is the loop over sorted seats: a seat goes on with a
+-- key or begins another, and at the end each place has the first one of its key (all_told).
 use Rattle.std.proofs.Common.{◌≡◌, ◌≢◌, ◌∙◌, sym, ap, subst, ℕ, zero, suc, ◌+◌, ◌-◌, ◌<◌, ◌≤◌, ◌⊎◌, inl, inr, List, [], ◌∷◌, ◌++◌, length, get_or, refl, arith, false, get_or-set_other, get_or-set_same, length-set, length-append}
 use Rattle.std.specs.Prelude.{slice_index, slice_set, All}
 use Rattle.std.specs.List.{Contains}
@@ -24,12 +26,14 @@ get_end : {X : Type 0} (xs : List X) (y : X) (d : X) → get_or (xs ++ y ∷ [])
 get_end [] y d = refl
 get_end (x ∷ xs) y d = get_end xs y d
 
+-- before the first key there are no seats
 pub seats_none : (keys : List ℕ) (seats : List (ℕ × ℕ)) → seats ≡ [] → Seating keys seats 0
 seats_none keys seats e = record {
   own = λ k d l. absurd (let m : length seats ≡ 0 = ap length e in omega arith);
   every = λ k l. absurd (omega arith);
 }
 
+-- a number below the next one is below this one, or this one
 pub below_or_at : (k i : ℕ) → k < i + 1 → (k < i) ⊎ (k ≡ i)
 below_or_at zero zero l = inr refl
 below_or_at zero (suc i) l = inl (omega arith)
@@ -40,6 +44,7 @@ further : (keys : List ℕ) (seats : List (ℕ × ℕ)) (i : ℕ) → All (λ se
     → All (λ seat. (seat.1 < i + 1) × (slice_index keys seat.1 ≡ seat.0)) seats
 further keys seats i own k d l = let o = own k d l in (let m = o.0 in omega arith, o.1)
 
+-- a key that stands once needs no seat
 pub seats_same : (keys : List ℕ) (seats : List (ℕ × ℕ)) (i : ℕ) → Seating keys seats i → IsOnce keys i → Seating keys seats (i + 1)
 seats_same keys seats i s o = record {
   own = further keys seats i s.own;
@@ -50,6 +55,7 @@ seats_same keys seats i s o = record {
     one k (inl m) = s.every k m
     one k (inr m) = inr (subst (IsOnce keys) (sym m) o)
 
+-- any key may have a seat, with its place
 pub seats_more : (keys : List ℕ) (seats seats' : List (ℕ × ℕ)) (i key : ℕ) → key ≡ slice_index keys i → seats' ≡ seats ++ (key, i) ∷ []
     → Seating keys seats i → Seating keys seats' (i + 1)
 seats_more keys seats seats' i key e p s = record {
@@ -80,6 +86,7 @@ seats_more keys seats seats' i key e p s = record {
     one k (inl m) = elim (s.every k m) [ inl c ↦ inl (there _ c) | inr o ↦ inr o ]
     one k (inr m) = inl (subst (λ n. Contains seats' (slice_index keys n, n)) (sym m) here)
 
+-- the seats of all keys, once sorted, are in the order of keys and then of places
 pub seated : (keys : List ℕ) (seats seats' : List (ℕ × ℕ)) → Seating keys seats (length keys) → IsPermutation seats seats'
     → IsSorted (λ x y. ordering_then (nat_cmp x.0 y.0) (nat_cmp x.1 y.1)) seats' → AreSeats keys seats'
 seated keys seats seats' s p r = record {
@@ -111,6 +118,7 @@ module _ (seats : List (ℕ × ℕ)) (r : IsSorted (λ x y. ordering_then (nat_c
       joined x y z (inr a) (inl b) = let c = a.0 in inl (omega arith)
       joined x y z (inr a) (inr b) = let c = a.1 in let d = b.1 in inr (a.0 ∙ b.0, omega arith)
 
+  -- of sorted seats none comes after a later one
   pub ordered : (i j : ℕ) (d : ℕ × ℕ) → i ≤ j → j < length seats → Before (get_or seats i d) (get_or seats j d)
   ordered i j d l m = let n : i + (j - i) ≡ j = omega arith in subst (λ n. Before (get_or seats i d) (get_or seats n d)) n
       (far i (j - i) d (omega arith))
@@ -137,6 +145,7 @@ pub record Filling (keys : List ℕ) (seats : List (ℕ × ℕ)) (firsts : List 
   pub head : 0 < i → IsFirstOf keys group.0 group.1
   pub last : 0 < i → (seat_at seats (i - 1)).0 ≡ group.0
 
+-- before the first seat the keys without one have their own place, and the others wait
 pub fills_none : (keys : List ℕ) (seats : List (ℕ × ℕ)) (firsts : List ℕ) (group : ℕ × ℕ) → AreSeats keys seats
     → AreThemselves (length keys) firsts → Filling keys seats firsts group 0
 fills_none keys seats firsts group s t = record {
@@ -171,6 +180,7 @@ squeezed x y z (inr a) b e = sym e ∙ a.0
 
 module _ (keys : List ℕ) (seats : List (ℕ × ℕ)) (firsts : List ℕ) (group : ℕ × ℕ) (i : ℕ) (f : Filling keys seats firsts group i)
     (lt : i < length seats) where
+  -- the place of a seat is within the list of first places
   pub within : (seat_at seats i).1 < length firsts
   within = let o = (f.seated.own i (0, 0) lt).0 in let level = f.level in omega arith
 
@@ -244,15 +254,18 @@ module _ (keys : List ℕ) (seats : List (ℕ × ℕ)) (firsts : List ℕ) (grou
       one m (inr (inl q)) d = apart m (λ e. omega arith) d
       one m (inr (inr q)) d = apart m (λ e. omega arith) d
 
+  -- a seat with the key of the one before it is told that key's first place
   pub goes_on : (firsts' : List ℕ) → firsts' ≡ slice_set firsts (seat_at seats i).1 group.1 → 0 < i → (seat_at seats i).0 ≡ group.0
       → Filling keys seats firsts' group (i + 1)
   goes_on firsts' set l e = told group firsts' (sym e) (f.head l) set
 
+  -- a seat with another key, or the first one, names the first place of its key
   pub begins_anew : (group' : ℕ × ℕ) (firsts' : List ℕ) → group' ≡ seat_at seats i → firsts' ≡ slice_set firsts (seat_at seats i).1 group'.1
       → (i ≡ 0) ⊎ ((seat_at seats i).0 ≢ group.0) → Filling keys seats firsts' group' (i + 1)
   begins_anew group' firsts' g set n = told group' firsts' (ap (λ (x : ℕ × ℕ). x.0) g) (subst (λ (x : ℕ × ℕ). IsFirstOf keys x.0 x.1)
         (sym g) (begins n)) set
 
+-- past the last seat each place has the first place with its key
 pub all_told : (keys : List ℕ) (seats : List (ℕ × ℕ)) (firsts : List ℕ) (group : ℕ × ℕ) (i : ℕ) → length seats ≤ i
     → Filling keys seats firsts group i → AreFirsts keys firsts
 all_told keys seats firsts group i l f = record { level = f.level; each = λ k m. one k (f.done k m) }

@@ -1,4 +1,6 @@
--- The branches of a stack's tree agree with the listing of its layers.
+-- The branches of a stack's tree agree with the listing of its layers. Rows and spots have the same
+-- places in the same order (places_same); where a place's first branch stands among the rows gives
+-- what the listing says of the place: path_is, parent_is and children_are.
 use Rattle.std.proofs.Common.{◌≡◌, ◌∙◌, sym, ap, subst, ℕ, zero, suc, ◌-◌, inl, inr, List, [], ◌∷◌, ◌++◌, length, take, map, refl, arith, append_assoc, Bool, true, false, Option, Some, None}
 use Rattle.std.specs.Prelude.{slice_get, find, fold}
 use Rattle.std.specs.List.{AllByRecursion, filter_map, position_from}
@@ -59,6 +61,7 @@ take_front [] [] = refl
 take_front [] (y ∷ ys) = refl
 take_front (x ∷ xs) ys = ap (λ r. x ∷ r) (take_front xs ys)
 
+-- a list with nothing after it is the list
 pub nil_right : {X : Type 0} (xs : List X) → xs ++ [] ≡ xs
 nil_right [] = refl
 nil_right (x ∷ xs) = ap (λ r. x ∷ r) (nil_right xs)
@@ -95,14 +98,17 @@ places_same rows spots level at = ext (map place (map listed rows)) (map spot_pl
         get_map place (map listed rows) k (listed (l.top ++ [], x.0.0.now.value)) (get_map listed rows k (l.top ++ [], x.0.0.now.value)
               (row_at rows k x.0.0.now x.0.1 l)) ∙ ap Some x.2
 
+-- entries made of spots have the spots' places
 pub bare_places : (spots : List (Spot Entry)) → map place (map bare spots) ≡ map spot_place spots
 bare_places [] = refl
 bare_places (s ∷ spots) = ap (λ r. spot_place s ∷ r) (bare_places spots)
 
+-- entries with the same places have the same nodes
 pub nodes_by : (es fs : List Listed) → map place es ≡ map place fs → nodes es ≡ nodes fs
 unfolding nodes
 nodes_by es fs e = ap (fold noted []) e
 
+-- entries with the same places give a place the same number
 pub number_of_by : (es fs : List Listed) (p : ModelPlace) → map place es ≡ map place fs → number_of es p ≡ number_of fs p
 unfolding number_of nodes
 number_of_by es fs p e = ap (λ x. position_from (same_place p) 1 (fold noted [] x)) e
@@ -177,9 +183,11 @@ none_long top n (x ∷ xs) a = ap (λ o. cons_option (option_map (λ m. record {
     one [] e = absurd (cc)
     one (m ∷ q) e = below_more top n m q
 
+-- two lists of rows, one after the other, are so too when put below a path
 pub under_append : (top : Path) (xs ys : Rows Entry) → under top (xs ++ ys) ≡ under top xs ++ under top ys
 under_append top xs ys = map_append (λ (row : Path × Entry). (top ++ row.0, row.1)) xs ys
 
+-- of the rows of branches below a path, the children of the path are the branches
 pub children_under : (top : Path) (cs : List (Shoot Entry)) → AllByRecursion IsRising cs
     → filter_map (child_in top) (map listed (under top (spread cs))) ≡ map child_of cs
 children_under top [] a = refl
@@ -195,9 +203,11 @@ children_under top (c ∷ cs) a =
 
 module _ (rows : Rows Entry) (spots : List (Spot Entry)) (level : length spots ≡ length rows) (at : (k : ℕ) (spot : Spot Entry)
       → slice_get spots k ≡ Some spot → IsLocated rows k spot.0.now spot.1) where
+  -- the entries of the rows, as a listing has them
   pub entries : List Listed
   entries = map listed rows
 
+  -- the rows are those before a located branch, its own, those below it and those after
   pub split : (j : ℕ) (s : Shoot Entry) (above : Entry) (l : IsLocated rows j s above) → rows ≡ l.before ++ (l.top ++ [], s.value) ∷
       (under l.top s.below ++ l.after)
   split j s above l = l.is ∙ append_assoc l.before (under l.top (whole s)) l.after
@@ -215,6 +225,7 @@ module _ (rows : Rows Entry) (spots : List (Spot Entry)) (level : length spots �
       front = ap (take j) (split j s above l) ∙ subst (λ n. take n (l.before ++ (l.top ++ [], s.value) ∷ (under l.top s.below ++ l.after))
             ≡ l.before) l.at (take_front l.before ((l.top ++ [], s.value) ∷ (under l.top s.below ++ l.after)))
 
+  -- the path of a place is that of the first branch with the place
   pub path_is : (spot : Spot Entry) (f : IsFirstSpot spots spot) → path_of (map listed rows) (spot_place spot) ≡ (at f.at spot f.is).top
   path_is spot f =
       let l = at f.at spot f.is in
@@ -230,6 +241,7 @@ module _ (rows : Rows Entry) (spots : List (Spot Entry)) (level : length spots �
           (λ g a. not_among (map listed l.before) p none g a) (place_itself p) in
       ap (λ o. option_map_or (λ (e : Listed). e.path) o []) found ∙ nil_right l.top
 
+  -- the parent of a place is the place of the branch above its first branch
   pub parent_is : (spot : Spot Entry) (f : IsFirstSpot spots spot) → parent (map listed rows) (spot_place spot) ≡ placed spot.1.place
   unfolding parent
   parent_is spot f =
@@ -244,6 +256,7 @@ module _ (rows : Rows Entry) (spots : List (Spot Entry)) (level : length spots �
       above None e = absurd (cc)
       above (Some r) e = let g : r.1 ≡ spot.1 = cc in ap (λ (v : Entry). placed v.place) g
 
+  -- the children of a place are those of its first branch
   pub children_are : (spot : Spot Entry) (f : IsFirstSpot spots spot) (cs : List (Shoot Entry)) → spot.0.now.below ≡ spread cs → IsForest cs
       → children (map listed rows) (spot_place spot) ≡ map child_of cs
   unfolding children

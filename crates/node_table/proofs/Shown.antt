@@ -1,4 +1,6 @@
--- What the images say of the places in a stack's tree.
+-- What the images say of the places in a stack's tree. The main lemma is rows_placed: each entry's
+-- place is in an image of the stack (IsPlaced). The lemmas after it say what follows of one entry:
+-- its kind, the size of its offset and its data.
 use Rattle.std.proofs.Common.{◌≡◌, ◌≢◌, ◌∙◌, sym, ap, subst, ℕ, zero, suc, ◌^◌, ◌<◌, inl, inr, List, [], ◌∷◌, take, drop, map, refl, arith, Option, Some, None, IsSome}
 use Rattle.std.specs.Prelude.{slice_get, unwrap_or}
 use Rattle.std.specs.List.{AllByRecursion, slice_index_or}
@@ -30,7 +32,8 @@ use Rattle.romfs_reader.proofs.Paths.{leads_to}
 use Rattle.shown_tree.proofs.Listed.{is_listing}
 use Rattle.stack_table.specs.Readers.{placed}
 
--- an entry's place is in an image of the stack, which gives its header, and its kind is that header's
+-- an entry's place is in an image of the stack, which gives its header, and the entry's kind is
+-- that header's
 pub record IsPlaced (layers : List (List ℕ)) (e : Entry) : Type 0 where
   pub image : List ℕ
   pub is : slice_get layers e.place.layer ≡ Some image
@@ -156,15 +159,18 @@ module _ (layers : List (List ℕ)) (e : Entry) (p : IsPlaced layers e) where
       go (x ∷ xs) zero f = cc
       go (x ∷ xs) (suc k) f = go xs k f
 
+  -- a placed entry's kind is what the layers have at its place
   pub kind_placed : e.kind ≡ kind_at layers (placed e.place)
   kind_placed = p.kind_is ∙ ap (λ x. kind x e.place.header) (sym layer_is)
 
+  -- the offset of a placed entry's header fits in 32 bits
   pub header_small : e.place.header < 2 ^ 32
   header_small =
       let inside = (from_inside p.image p.sound e.place.header p.given.from).1 in
       let small = p.sound.small in
       omega arith
 
+  -- the data that the image gives for a placed entry are those of the layers at its place
   pub data_placed : data_in p.image e.place.header ≡ data_of layers (placed e.place)
   unfolding data_of
   data_placed = subst (λ x. data_in p.image e.place.header ≡ data_by x e.place.header) (sym layer_is)

@@ -1,4 +1,6 @@
--- How many rows stand below a path.
+-- How many rows stand below a path, and so how large a branch is. A located branch has all rows
+-- that begin with its path, and no others (rows_below): so two branches at one place agree in value
+-- and in size, and a branch ends within the rows.
 use Rattle.std.proofs.Common.{◌≡◌, ◌∙◌, sym, ap, ℕ, suc, ◌+◌, ◌≤◌, [], ◌∷◌, ◌++◌, length, refl, arith, length-append, Bool, true, false, Some, cond}
 use Rattle.std.specs.Prelude.{slice_get}
 use Rattle.stack_model.specs.Stack.{Path}
@@ -53,9 +55,11 @@ module _ (rows : Rows Entry) (j : ℕ) (s s' : Shoot Entry) (above above' : Entr
   rows_are : (top top' : Path × Entry) → top ≡ (l.top ++ [], s.value) → top' ≡ (l'.top ++ [], s'.value) → top ≡ top'
   rows_are top top' e f = tops top top' (row_at rows j s above l ∙ ap Some (sym e)) (row_at rows j s' above' l' ∙ ap Some (sym f))
 
+  -- two branches that stand at one place have one value
   pub same_value : s.value ≡ s'.value
   same_value = ap (λ (r : Path × Entry). r.1) (rows_are (l.top ++ [], s.value) (l'.top ++ [], s'.value) refl refl)
 
+  -- two branches that stand at one place have as many rows
   pub same_size : length (whole s) ≡ length (whole s')
   same_size =
       let top = sym (nil_right l.top) ∙ ap (λ (r : Path × Entry). r.0) (rows_are (l.top ++ [], s.value) (l'.top ++ [], s'.value) refl refl)

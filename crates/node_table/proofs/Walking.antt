@@ -1,4 +1,6 @@
--- A walk over a branch and all below it.
+-- A walk over a branch and all below it. Walking is the loop over the children: it begins when the
+-- branch is put down, goes on by the walk over one child, which child_located places among the
+-- rows, and ends when the branch's size is written.
 use Rattle.std.proofs.Common.{◌≡◌, ◌∙◌, sym, ap, subst, ℕ, zero, suc, ◌+◌, ◌-◌, ◌<◌, ◌≤◌, ◌⊎◌, inl, inr, List, [], ◌∷◌, ◌++◌, length, take, drop, get_or, refl, arith, append_assoc, length-append, Some}
 use Rattle.std.specs.Prelude.{slice_get, slice_index, slice_set, map}
 use Rattle.std.specs.Borrow.{Bor}
@@ -43,12 +45,13 @@ module _ {T : Type 0} where
   get_append (y ∷ xs) ys zero x e = inl e
   get_append (y ∷ xs) ys (suc k) x e = elim (get_append xs ys k x e) [ inl f ↦ inl f | inr f ↦ inr (f.0, omega (arith, f.1), f.2) ]
 
-  -- the children from a place on
+  -- a list is what stands before a child, the child, and what stands after it
   pub parted : (cs : List (Shoot T)) (i : ℕ) (c : Shoot T) → i < length cs → c ≡ get_or cs i c → cs ≡ take i cs ++ c ∷ drop (suc i) cs
   parted [] i c l e = absurd (omega arith)
   parted (x ∷ cs) zero c l e = ap (λ y. y ∷ cs) (sym e)
   parted (x ∷ cs) (suc i) c l e = ap (λ r. x ∷ r) (parted cs i c (omega arith) e)
 
+  -- the front one longer is the front and the child at its end
   pub longer_front : (cs : List (Shoot T)) (i : ℕ) (c : Shoot T) → i < length cs → c ≡ get_or cs i c → take (i + 1) cs ≡ take i cs ++ c ∷ []
   longer_front cs i c l e = let n : suc i ≡ i + 1 = omega arith in subst (λ n. take n cs ≡ take i cs ++ c ∷ []) n (go cs i l e)
     where
@@ -100,8 +103,8 @@ module _ {T : Type 0} where
   map_length [] = refl
   map_length (x ∷ xs) = ap suc (map_length xs)
 
-  -- how far a walk has come: the branch, and the children below the place i with all below them; its size is not yet
-  -- written
+  -- how far a walk has come: the branch, whose size is still to be written, and the children below
+  -- the place i with all below them
   pub record Walking (branch : Shoot T) (above : T) (cs : List (Shoot T)) (old out : List (Spot T)) (places places' sizes sizes' : List ℕ)
       (i : ℕ) : Type 0 where
     pub first : Bor (Shoot T)
@@ -117,6 +120,7 @@ module _ {T : Type 0} where
     pub sizes_are : sizes' ≡ sizes ++ 0 ∷ map spot_size rest
     pub sizes_level : length sizes ≡ length old
 
+  -- with the branch put down, and a size of 0 for it, no child is walked over
   pub begins : (branch : Bor (Shoot T)) (above : T) (place : ℕ) (cs : List (Shoot T)) (old out : List (Spot T))
       (places places' sizes sizes' : List ℕ) → StandsAt old place above ⊎ ((place ≡ length old) × (branch.now.value ≡ above))
       → length sizes ≡ length old → out ≡ old ++ (branch, above) ∷ [] → places' ≡ places ++ place ∷ [] → sizes' ≡ sizes ++ 0 ∷ []
@@ -163,6 +167,7 @@ module _ {T : Type 0} where
     value_is = ap (λ (s : Shoot T). s.value) w.first_is ∙ sym e;
   }
 
+  -- there is a size for each spot
   pub levels : (branch : Shoot T) (above : T) (cs : List (Shoot T)) (old out : List (Spot T)) (places places' sizes sizes' : List ℕ) (i : ℕ)
       → Walking branch above cs old out places places' sizes sizes' i → length sizes' ≡ length out
   levels branch above cs old out places places' sizes sizes' i w =
@@ -171,6 +176,7 @@ module _ {T : Type 0} where
       let level = w.sizes_level in
       omega (arith, length-append sizes (0 ∷ map spot_size w.rest), length-append old ((w.first, above) ∷ w.rest), map_length w.rest)
 
+  -- a walk over the next child is one child more
   pub goes_on : (branch : Shoot T) (above : T) (cs : List (Shoot T)) (old out out' : List (Spot T)) (places p p' sizes s s' : List ℕ)
       (i : ℕ) (c : Shoot T) → branch.below ≡ spread cs → IsForest cs → i < length cs → c ≡ get_or cs i c
       → Walking branch above cs old out places p sizes s i → AddsWalk c branch.value out out' p p' s s'
@@ -216,6 +222,7 @@ module _ {T : Type 0} where
           let q = length-append (prefixed c.name c.below) [] in
           omega arith
 
+  -- past the last child, and with its size written, all of the branch is walked over
   pub ends : (branch : Shoot T) (above : T) (cs : List (Shoot T)) (old out : List (Spot T)) (places places' sizes s s' : List ℕ)
       (i at size : ℕ) → branch.below ≡ spread cs → length cs ≤ i → at ≡ length old → size ≡ length out - at → s' ≡ slice_set s at size
       → Walking branch above cs old out places places' sizes s i → AddsWalk branch above old out places places' sizes s'

@@ -17,6 +17,7 @@ use Rattle.node_table.specs.Walks.{Spot}
 abbrev pub line_in : (Place → ℕ) → Shoot Entry → Line
 line_in tell c = record { number = tell c.value.place; name = c.name }
 
+-- how many of these branches are directories
 abbrev pub directories : List (Shoot Entry) → ℕ
 directories cs = count_by (λ c. is_directory c.value.kind) cs
 

@@ -52,7 +52,7 @@ pub record AreKeys (spots : List (Spot Entry)) (keys : List ℕ) : Type 0 where
   pub are : keys ≡ map key_of spots
   pub small : All (λ (spot : Spot Entry). spot.0.now.value.place.header < 2 ^ 32) spots
 
--- the first i places are numbered
+-- the places of the first i spots are numbered
 pub record IsNumbered (spots : List (Spot Entry)) (i : ℕ) (first : List (Spot Entry))
     (starts paths numbers : List ℕ) : Type 0 where
   pub places : map spot_place first ≡ nodes (seen spots i)

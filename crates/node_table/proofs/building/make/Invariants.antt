@@ -8,6 +8,7 @@ use Rattle.node_table.specs.Seeds.{AreSeeds}
 use Rattle.node_table.proofs.Made.{Making}
 use Rattle.node_table.proofs.building.make.Given as goal
 
+-- first branches stand at their places, and agree with a listing; those so far have nodes
 abbrev pub invariant-loop-at : goal.invariant-loop-at
 invariant-loop-at g l = (first : List (Spot Entry)) × (entries : List Listed)
     × AreSeeds l.images entries (number_among l.walk.spots.items) first l.numbered.paths.items

@@ -1,5 +1,6 @@
 use Rattle.node_table.specs.Firsts.{AreThemselves}
 use Rattle.node_table.proofs.firsts.themselves.Given as goal
 
+-- the places so far stand each at itself
 abbrev pub invariant-loop-at : goal.invariant-loop-at
 invariant-loop-at g l = AreThemselves l.at l.places.items

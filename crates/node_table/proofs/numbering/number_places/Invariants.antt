@@ -4,5 +4,6 @@ use Rattle.node_table.specs.Walks.{Spot}
 use Rattle.node_table.specs.Numbering.{IsNumbered}
 use Rattle.node_table.proofs.numbering.number_places.Given as goal
 
+-- the places of the spots so far are numbered
 abbrev pub invariant-loop-at : goal.invariant-loop-at
 invariant-loop-at g l = (first : List (Spot Entry)) × IsNumbered l.spots l.at first l.starts.items l.paths.items l.numbers.items
