@@ -1,4 +1,6 @@
--- What READDIR and READDIRPLUS are answered, or why they are refused.
+-- What READDIR and READDIRPLUS are answered, or why they are refused: `rows_decided` and
+-- `cut_decided` are the main lemmas. Both go by the node's kind to its place (`at_directory`), and
+-- there take from `Listed` that a listing has the definitions' rows.
 use Rattle.std.proofs.Common.{◌≡◌, ◌∙◌, sym, ap, ℕ, ◌≤◌, [], ◌∷◌, length, Bool, true, false, Option, Some, None, Result, Ok, Err, MatchOption, MatchResult, refl, arith}
 use Rattle.std.specs.Prelude.{nat_lt, not, ◌||◌}
 use Rattle.std.proofs.lemmas.Bool.{le-ltb}
@@ -104,6 +106,7 @@ module _ {A : Type 0} (stack : Stacked) (agreed : Agreement) (n offset size : �
       go None is kind = absurd (cc)
       go (Some p) is kind = let kind_is : kind_at stack.layers p ≡ Directory = cc in each p is (ap is_directory kind_is)
 
+  -- a directory's rows are answered where one fits or none is left, and the size is not too large
   pub rows_decided : (plus : Bool) (l : Listing A) → TellsKind stack n (told_kind Directory) → size ≤ MAX_DATA_SIZE
       → AreListed stack n offset size plus l → is_cut_short l ≡ false
       → DecidesAt stack agreed n (listing_op plus offset size) (Ok (Rows l))
@@ -111,6 +114,7 @@ module _ {A : Type 0} (stack : Stacked) (agreed : Agreement) (n offset size : �
       at_directory plus (Ok (Rows l)) kind
       (λ p is directory. rows_at_place plus l p is directory (le-ltb MAX_DATA_SIZE size small) small listed whole_rows)
 
+  -- where there is a row and not even one fits, the request is refused with EINVAL
   pub cut_decided : (plus : Bool) (l : Listing A) → TellsKind stack n (told_kind Directory)
       → AreListed stack n offset size plus l → is_cut_short l ≡ true
       → DecidesAt {A = A} stack agreed n (listing_op plus offset size) (Err EINVAL)

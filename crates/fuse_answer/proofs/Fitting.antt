@@ -1,4 +1,6 @@
--- Rows that fit in a room, one after another.
+-- Rows that fit in a room, one after another. `Goes` is what holds as the code goes from row to
+-- row, with a lemma for the start, for a row that fits, and for both ends. Then the same sizes off
+-- the definitions' rows: `first_rows` says that the rows that fit are as many first ones.
 use Rattle.std.proofs.Common.{◌≡◌, ◌∙◌, sym, ap, ℕ, zero, suc, ◌+◌, ◌-◌, ◌<◌, ◌≤◌, List, [], ◌∷◌, length, map, drop, take, get_or, Bool, true, false, cond, refl, subst, arith}
 use Rattle.std.specs.Prelude.{nat_le}
 use Rattle.std.specs.List.{flat_map}
@@ -19,7 +21,7 @@ fits_none room n sizes lt = let e : nat_le n room ≡ false = lt-leb n room lt i
 length-names : (children : List Line) → length (name_lengths children) ≡ 2 + length children
 length-names children = let e = length-map children (λ (line : Line). length line.name) in omega arith
 
--- the name of a child, by its index among all rows
+-- the row with an index has a name as long as that of the child two places before it
 pub child_length : (children : List Line) (k : ℕ) (line : Line) (n : ℕ) → 2 ≤ k → k < 2 + length children
     → line ≡ get_or children (k - 2) line → n ≡ length line.name → n ≡ get_or (name_lengths children) k 0
 child_length children zero line n big small is size_is = absurd (omega (arith, big))
@@ -58,9 +60,11 @@ pub record Goes (plus : Bool) (children : List Line) (from size until room : ℕ
   pub count : until + fit_count room (drop until (row_sizes plus children)) ≡ from + fit_count size (drop from (row_sizes plus children))
   pub bytes : (size - room) + fit_size room (drop until (row_sizes plus children)) ≡ fit_size size (drop from (row_sizes plus children))
 
+-- before the first row no room is used
 pub none_gone : (plus : Bool) (children : List Line) (from size : ℕ) → from ≤ 2 + length children → Goes plus children from size from size
 none_gone plus children from size le = record { within = le; left = omega arith; count = refl; bytes = omega arith }
 
+-- where the next row fits, it is gone through and its bytes leave the room
 pub one_gone : (plus : Bool) (children : List Line) (from size until room name bytes : ℕ) → until < 2 + length children
     → name ≡ get_or (name_lengths children) until 0 → bytes ≡ row_size plus name → bytes ≤ room
     → Goes plus children from size until room → Goes plus children from size (until + 1) (room - bytes)
@@ -80,6 +84,7 @@ one_gone plus children from size until room name bytes lt is size_is le g =
       bytes = (let l = g.left in let b = g.bytes in omega arith);
     }
 
+-- where the next row does not fit, those gone through are the ones that fit
 pub no_room : (plus : Bool) (children : List Line) (from size until room name : ℕ) → until < 2 + length children
     → name ≡ get_or (name_lengths children) until 0 → room < row_size plus name
     → Goes plus children from size until room → Fits plus children from size until (size - room)
@@ -97,6 +102,7 @@ no_room plus children from size until room name lt is full g =
       small = omega arith;
     }
 
+-- where no row is left, those gone through are the ones that fit
 pub all_gone : (plus : Bool) (children : List Line) (from size until room : ℕ) → 2 + length children ≤ until
     → Goes plus children from size until room → Fits plus children from size until (size - room)
 all_gone plus children from size until room le g =
@@ -111,10 +117,11 @@ all_gone plus children from size until room le g =
     }
 
 module _ (form : Row → List ℕ) where
+  -- how many bytes each of the rows takes
   abbrev pub sizes_of : List Row → List ℕ
   sizes_of rows = map (λ r. length (form r)) rows
 
-  -- the rows that fit are so many first ones, and take so many bytes
+  -- as many of the first rows as the count of fitting sizes says are the rows that fit
   pub first_rows : (room : ℕ) (rows : List Row) → take (fit_count room (sizes_of rows)) rows ≡ fitting form room rows
   first_rows room [] = refl
   first_rows room (r ∷ rows) = go (nat_le (length (form r)) room) (first_rows (room - length (form r)) rows)
@@ -128,6 +135,7 @@ module _ (form : Row → List ℕ) where
       go true e = one_more _ ∙ ap (λ t. r ∷ t) e
       go false e = refl
 
+  -- the rows that fit have as many bytes as the sum of fitting sizes says
   pub rows_size : (room : ℕ) (rows : List Row) → fit_size room (sizes_of rows) ≡ length (flat_map form (fitting form room rows))
   rows_size room [] = refl
   rows_size room (r ∷ rows) = go (nat_le (length (form r)) room) (rows_size (room - length (form r)) rows)
@@ -140,7 +148,7 @@ module _ (form : Row → List ℕ) where
           ∙ sym (length-append (form r) (flat_map form (fitting form (room - length (form r)) rows)))
       go false e = refl
 
-  -- a first row does not fit exactly where there is one and none is answered
+  -- where a first row does not fit, there is one and none is counted
   pub too_small : (room : ℕ) (rows : List Row) → is_too_small form room rows ≡ true → (fit_count room (sizes_of rows) ≡ 0)
       × (0 < length rows)
   too_small room [] is = absurd (cc)
@@ -148,6 +156,7 @@ module _ (form : Row → List ℕ) where
       let lt : room < length (form r) = ltb-true room (length (form r)) is in
       ((fits_none room (length (form r)) (sizes_of rows) lt).0, omega arith)
 
+  -- where there is a first row and it fits, one at least is counted
   pub not_too_small : (room : ℕ) (rows : List Row) → is_too_small form room rows ≡ false → 0 < length rows
       → 0 < fit_count room (sizes_of rows)
   not_too_small room [] is some = absurd (omega arith)

@@ -1,4 +1,6 @@
--- The rows that READDIR and READDIRPLUS are answered, off the rows that a table has.
+-- The rows that READDIR and READDIRPLUS are answered, off the rows that a table has. These are the
+-- definitions' rows with numbers for places, so a listing's bytes, size and moves are theirs
+-- (`data_same`, `size_same`, `moves_same`), and it is cut short as they say (`cut_same`).
 use Rattle.std.proofs.Common.{◌≡◌, ◌∙◌, sym, ap, ℕ, zero, suc, ◌+◌, ◌-◌, ◌/◌, ◌^◌, List, [], ◌∷◌, ◌++◌, length, map, drop, take, min, Bool, true, false, cond, Some, None, pos, refl, arith}
 use Rattle.std.specs.Prelude.{nat_le, nat_lt, nat_eq, filter, ◌&&◌}
 use Rattle.std.specs.List.{enumerate_from, flat_map, AllByRecursion}
@@ -27,6 +29,7 @@ use Rattle.fuse_answer.proofs.Fitting.{first_rows, not_too_small, rows_size, siz
 abbrev child_line : List Entry → Child → Line
 child_line entries c = record { number = number entries c.place; name = c.name }
 
+-- a row of the definitions as a table gives it
 abbrev pub line_of : List Entry → Row → NumberedLine
 line_of entries r = (r.0, child_line entries r.1)
 
@@ -87,11 +90,13 @@ given_rows layers entries (r ∷ rs) = go (nat_lt 2 r.0) (given_rows layers entr
     go true e = ap (λ t. give layers entries r.1.place ∷ t) e
     go false e = e
 
--- a form of rows, and its lengths and bytes off a table
+-- a form of the definitions' rows has the length and, where places have numbers, the bytes of a
+-- table's
 pub record IsForm (stack : Stacked) (plus : Bool) (form : Row → List ℕ) : Type 0 where
   pub sized : (r : Row) → length (form r) ≡ row_size plus (length r.1.name)
   pub written : (r : Row) → IsNumbered stack.entries r.1.place → line_bytes stack plus (line_of stack.entries r) ≡ form r
 
+-- the rows of READDIR are such a form
 pub plain : (stack : Stacked) → IsForm stack false (dirent_of stack.layers stack.entries)
 unfolding dirent_of
 plain stack = record {
@@ -100,6 +105,7 @@ plain stack = record {
         (option_map (attr_of stack.layers stack.entries) o) 0) r.1.name) numbered;
 }
 
+-- the rows of READDIRPLUS are such a form
 pub with_entries : (stack : Stacked) → IsForm stack true (direntplus_of stack.layers stack.entries)
 unfolding direntplus_of
 with_entries stack = record {
@@ -190,12 +196,14 @@ module _ {A : Type 0} (stack : Stacked) (plus : Bool) (form : Row → List ℕ) 
       ap (λ b. b ++ flat_map (line_bytes stack plus) (map (line_of stack.entries) rs)) (good.written r all.0)
       ∙ ap (λ t. form r ++ t) (bytes_same rs all.1)
 
+  -- a listing's bytes are those of the rows that fit
   pub data_same : listed_data stack l ≡ flat_map form (fitting form size rest)
   data_same =
       ap (λ b. flat_map (line_bytes stack b) (lines_answered l)) listed.entries_are
       ∙ ap (flat_map (line_bytes stack plus)) answered_same
       ∙ bytes_same (fitting form size rest) (numbered_fitting stack.entries form size rest (numbered_rows stack.entries n p offset is))
 
+  -- a listing says how many bytes it has
   pub size_same : l.size ≡ length (listed_data stack l)
   size_same =
       listed.fits.bytes_are
@@ -203,6 +211,7 @@ module _ {A : Type 0} (stack : Stacked) (plus : Bool) (form : Row → List ℕ) 
       ∙ rows_size form size rest
       ∙ ap length (sym data_same)
 
+  -- a listing's rows give what the rows that fit give
   pub moves_same : map (λ (r : NumberedLine). let m : Move = record { node = r.1.number; amount = pos 1 } in
         m) (filter is_child_line (lines_answered l))
       ≡ map (λ r. give stack.layers stack.entries r.1.place) (filter is_child (fitting form size rest))
@@ -211,6 +220,7 @@ module _ {A : Type 0} (stack : Stacked) (plus : Bool) (form : Row → List ℕ) 
           answered_same
       ∙ given_rows stack.layers stack.entries (fitting form size rest)
 
+  -- a listing is cut short exactly where its first row does not fit
   pub cut_same : is_cut_short l ≡ is_too_small form size rest
   cut_same = go (is_too_small form size rest) refl
     where

@@ -1,4 +1,6 @@
--- What LOOKUP is answered where its name finds a node below a directory.
+-- What LOOKUP is answered where its name finds a node below a directory: `found_below` is the main
+-- lemma. The node that the definitions find has a number (`numbered_found`), so the entry told of
+-- that number is its entry (`entry_at`).
 use Rattle.std.proofs.Common.{◌≡◌, ◌∙◌, sym, ap, ℕ, List, [], ◌∷◌, is_none, length, Bool, true, false, Option, Some, None, Result, Ok, Err, refl, subst, MatchOption, MatchResult, nat_lt, if◌then◌else◌}
 use Rattle.std.specs.Prelude.{◌&&◌, not}
 use Rattle.std.specs.Option.{option_map}
@@ -59,6 +61,7 @@ module _ {A : Type 0} (stack : Stacked) (agreed : Agreement) (n : ℕ) (name : L
     moves_are = rw found refl;
   }
 
+  -- a name that finds a number below a directory is answered the entry of that number
   pub found_below : TellsKind stack n (Ok Directory) → is_itself agreed.export name ≡ false → nat_lt MAX_NAME_SIZE (length name) ≡ false
       → FindsBelow stack agreed.export n name (Some f) → TellsEntry stack f r → DecidesAt stack agreed n (lookup name) r
   found_below kind other short finds entry = go (node_of stack.entries n) refl kind finds

@@ -1,4 +1,6 @@
--- Balances, after one row and another, and after one item that is forgotten and another.
+-- Balances, after one row and another (`IsAdded`), and after one item that is forgotten and another
+-- (`IsTaken`): each has a lemma for the start, for a step and, of items, for the end. Then the same
+-- where moves are appended to a list (`given`, `AreTaken`).
 use Rattle.std.proofs.Common.{◌≡◌, ◌∙◌, sym, ap, ℕ, ◌+◌, ◌-◌, ◌*◌, ◌^◌, ◌<◌, ◌≤◌, ℤ, pos, neg_ℤ, List, [], ◌∷◌, ◌++◌, length, drop, take, get_or, map, Bool, true, false, cond, Option, Some, None, refl, subst, arith, append-nil, append_assoc, length-append}
 use Rattle.std.specs.Prelude.{nat_lt, filter}
 use Rattle.std.specs.List.{cons_option}
@@ -52,6 +54,7 @@ module _ {A : Type 0} (l : Listing A) where
     pub moved : IsMoved (given index) old new
     pub within : AreWithin (2 ^ 123 + (index - l.from)) new
 
+  -- before the first row balances are as they were
   pub none_added : (old : List ℤ) → AreWithin (2 ^ 123) old → IsAdded l.from old old
   none_added old within =
       let e : l.from - l.from ≡ 0 = omega arith in
@@ -60,6 +63,7 @@ module _ {A : Type 0} (l : Listing A) where
         within = within_less (2 ^ 123) (2 ^ 123 + (l.from - l.from)) old (omega arith) within;
       }
 
+  -- the rows before the next index give what those before this one do, and what its row does
   pub given_next : (index : ℕ) → l.from ≤ index → index < 2 + length l.children.now → given (index + 1) ≡ given index ++ row_given l index
   given_next index from until =
       let len = length-enumerate_from 3 l.children.now in
@@ -89,6 +93,7 @@ module _ {A : Type 0} (l : Listing A) where
       let e = ap weight row in
       omega arith
 
+  -- where a row is added after those before it, the rows before the next one are
   pub row_added : (index : ℕ) (old now next : List ℤ) → l.from ≤ index → index < 2 + length l.children.now
       → IsAdded index old now → IsMoved (row_given l index) now next → IsAdded (index + 1) old next
   row_added index old now next from there so_far step =
@@ -126,6 +131,7 @@ pub record IsTaken (stack : Stacked) (all rest : List Forget) (count : ℕ) (old
   pub moved : IsMoved (taken_back stack done) old new
   pub within : AreWithin (2 ^ 123 + 2 ^ 64 * count) new
 
+-- before the first item nothing was taken back
 pub none_taken : (stack : Stacked) (all : List Forget) (old : List ℤ) → AreWithin (2 ^ 123) old → IsTaken stack all all 0 old old
 none_taken stack all old within = record {
   done = [];
@@ -135,6 +141,7 @@ none_taken stack all old within = record {
   within = within_less (2 ^ 123) (2 ^ 123 + 2 ^ 64 * 0) old (omega arith) within;
 }
 
+-- where an item is taken back, one more of all is
 pub one_taken : (stack : Stacked) (all rest later : List Forget) (f : Forget) (count : ℕ) (old now next : List ℤ) → f.nlookup < 2 ^ 64
     → rest ≡ f ∷ later → IsTaken stack all rest count old now → IsMoved (taken_back stack (f ∷ [])) now next
     → IsTaken stack all later (count + 1) old next
@@ -160,11 +167,12 @@ none_left stack all rest count old new none so_far =
     let same : so_far.done ≡ all = sym (append-nil so_far.done) ∙ ap (λ t. so_far.done ++ t) (sym none) ∙ so_far.split in
     subst (λ fs. IsMoved (taken_back stack fs) old new) same so_far.moved
 
+-- as long as items are left, balances are within 2^124
 pub room_left : (count most : ℕ) (now : List ℤ) → count < most → most ≤ MAX_FORGETS → AreWithin (2 ^ 123 + 2 ^ 64 * count) now
     → AreWithin (2 ^ 124) now
 room_left count most now less few within = within_less (2 ^ 123 + 2 ^ 64 * count) (2 ^ 124) now (omega arith) within
 
--- where all were taken back, none is left
+-- where as many were taken back as there are, all were
 pub all_taken : (stack : Stacked) (all rest : List Forget) (count : ℕ) (old new : List ℤ) → length all ≤ count
     → IsTaken stack all rest count old new → IsMoved (taken_back stack all) old new
 all_taken stack all rest count old new enough so_far =
@@ -177,12 +185,13 @@ all_taken stack all rest count old new enough so_far =
     empty [] le = refl
     empty (f ∷ fs) le = absurd (omega (arith, le))
 
--- the moves of the rows before an index were appended
+-- before the first row no move was appended
 pub none_given : {A : Type 0} (l : Listing A) (before : List Move) → before ≡ before ++ given l l.from
 none_given l before =
     let e : l.from - l.from ≡ 0 = omega arith in
     sym (append-nil before) ∙ ap (λ n. before ++ lines_given (take n (drop l.from (lines_of l)))) (sym e)
 
+-- where a row's move is appended after those before it, those before the next one are
 pub row_appended : {A : Type 0} (l : Listing A) (index : ℕ) (before now next : List Move) → l.from ≤ index
     → index < 2 + length l.children.now
     → now ≡ before ++ given l index → next ≡ now ++ row_given l index → next ≡ before ++ given l (index + 1)
@@ -190,7 +199,7 @@ row_appended l index before now next from there so_far is =
     is ∙ ap (λ m. m ++ row_given l index) so_far ∙ append_assoc before (given l index) (row_given l index)
     ∙ ap (λ m. before ++ m) (sym (given_next l index from there))
 
--- what was taken back, with one item more, is no more than all
+-- what is taken back of some items, and of one more, is no more than what is of all
 pub taken_less : (stack : Stacked) (done : List Forget) (f : Forget) (later all rest : List Forget) → rest ≡ f ∷ later → done ++ rest ≡ all
     → length (taken_back stack done) + length (taken_back stack (f ∷ [])) ≤ length (taken_back stack all)
 taken_less stack done f later all rest is split =
@@ -202,7 +211,7 @@ taken_less stack done f later all rest is split =
     let d = length-append (taken_back stack (f ∷ [])) (taken_back stack later) in
     omega arith
 
--- rows before an index give no more than those before a later one
+-- the rows before an index give no more than those before a later one
 pub given_less : {A : Type 0} (l : Listing A) (index later : ℕ) → index ≤ later → length (given l index) ≤ length (given l later)
 given_less l index later le =
     let rows = drop l.from (lines_of l) in
@@ -224,9 +233,11 @@ pub record AreTaken (stack : Stacked) (all rest : List Forget) (before now : Lis
   pub split : done ++ rest ≡ all
   pub moves : now ≡ before ++ taken_back stack done
 
+-- before the first item nothing was appended
 pub none_appended : (stack : Stacked) (all : List Forget) (before : List Move) → AreTaken stack all all before before
 none_appended stack all before = record { done = []; split = refl; moves = sym (append-nil before) }
 
+-- where what is taken back of an item is appended, one more of all is done
 pub one_appended : (stack : Stacked) (all rest later : List Forget) (f : Forget) (before now next : List Move) → rest ≡ f ∷ later
     → AreTaken stack all rest before now → next ≡ now ++ taken_back stack (f ∷ []) → AreTaken stack all later before next
 one_appended stack all rest later f before now next is so_far step = record {
@@ -237,6 +248,7 @@ one_appended stack all rest later f before now next is so_far step = record {
       ∙ ap (λ m. before ++ m) (sym (taken_on stack so_far.done (f ∷ [])));
 }
 
+-- where none is left, what is taken back of all items was appended
 pub all_appended : (stack : Stacked) (all rest : List Forget) (before now : List Move) → rest ≡ [] → AreTaken stack all rest before now
     → now ≡ before ++ taken_back stack all
 all_appended stack all rest before now none so_far =

@@ -1,4 +1,6 @@
--- The places that a request may meet have numbers: of nodes, of the directories above them, and of their children.
+-- The places that a request may meet have numbers: of nodes, of the directories above them, and of
+-- their children. Directories above and children are found among the entries, and `numbered_entry`,
+-- the main lemma, says that the place of each entry has a number.
 use Rattle.std.proofs.Common.{◌≡◌, ◌∙◌, ap, ℕ, ◌⊎◌, inl, inr, List, [], ◌∷◌, Bool, cond, true, false, Option, Some, None, IsSome, refl, subst, unwrap_or, length, take, ◌-◌}
 use Rattle.std.specs.List.{find, filter_map, cons_option, AllByRecursion}
 use Rattle.std.specs.Option.{option_map, option_map_or}
@@ -15,9 +17,11 @@ IsNumbered entries p = node_of entries (number entries p) ≡ Some p
 pub number_is : (entries : List Entry) (n : ℕ) (p : Place) → node_of entries n ≡ Some p → number entries p ≡ n
 number_is entries n p is = ap (λ o. unwrap_or o 0) ((number_used entries n p).1 is)
 
+-- the place of a node has a number
 pub numbered_node : (entries : List Entry) (n : ℕ) (p : Place) → node_of entries n ≡ Some p → IsNumbered entries p
 numbered_node entries n p is = ap (node_of entries) (number_is entries n p is) ∙ is
 
+-- the place of an entry has a number
 pub numbered_entry : (entries : List Entry) (e : Entry) → IsAmong e entries → IsNumbered entries (place e)
 numbered_entry entries e among = some (number_of entries (place e)) refl (entries_numbered entries e e among among).0
   where
@@ -33,6 +37,7 @@ found_among test e (f ∷ fs) is = go (test f) is (found_among test e fs)
     go true is later = inl (cc)
     go false is later = inr (later is)
 
+-- the directory above a node has a number
 pub numbered_parent : (entries : List Entry) (n : ℕ) (p : Place) → node_of entries n ≡ Some p → IsNumbered entries (parent entries p)
 unfolding parent
 numbered_parent entries n p is =
@@ -55,6 +60,7 @@ children_numbered all top (e ∷ es) each = go (name_below top e.path) (children
     go None later = later
     go (Some n) later = (each e (inl refl), later)
 
+-- all children of a place have numbers
 pub numbered_children : (entries : List Entry) (p : Place) → AllByRecursion (λ c. IsNumbered entries c.place) (children entries p)
 unfolding children
 numbered_children entries p = children_numbered entries (path_of entries p) entries (numbered_entry entries)
@@ -67,6 +73,7 @@ found_with P test x (y ∷ ys) each is = go (test y) is (found_with P test x ys 
     go true is later = let same : y ≡ x = cc in subst P same each.0
     go false is later = later is
 
+-- the child of a name has a number
 pub numbered_child : (entries : List Entry) (p : Place) (name : List ℕ) (c : Place) → child entries p name ≡ Some c → IsNumbered entries c
 numbered_child entries p name c is = go (find (λ c. same_name name c.name) (children entries p)) refl is
   where

@@ -1,4 +1,6 @@
--- The bytes of a directory's rows, row by row.
+-- The bytes of a directory's rows, row by row: `IsSoFar` is what holds as they are appended, from
+-- the header (`head_first`) by each row (`row_next`) to the whole reply (`all_rows`). Where there
+-- is room for all, no row lacks it (`row_has_room`).
 use Rattle.std.proofs.Common.{◌≡◌, ◌∙◌, sym, ap, ℕ, zero, suc, ◌+◌, ◌-◌, ◌^◌, ◌<◌, ◌≤◌, List, [], ◌∷◌, ◌++◌, length, drop, take, get_or, Bool, true, false, cond, Some, None, subst, arith, append-nil, append_assoc, length-append}
 use Rattle.std.specs.Prelude.{nat_lt, slice_get}
 use Rattle.std.specs.List.{enumerate_from, flat_map}
@@ -18,7 +20,7 @@ use Rattle.fuse_answer.specs.Listings.{IsWhole, NumberedLine, line_bytes, lines_
 nothing : NumberedLine
 nothing = (0, record { number = 0; name = [] })
 
--- the row of a child, by its index among all rows
+-- the row with an index is that of the child two places before it, and says the place after it
 pub line_there : (own upper : Line) (children : List Line) (k : ℕ) (line : Line) → 2 ≤ k → k < 2 + length children
     → line ≡ get_or children (k - 2) line → slice_get (enumerate_from 1 (own ∷ upper ∷ children)) k ≡ Some (k + 1, line)
 line_there own upper children zero line big small is = absurd (omega (arith, big))
@@ -78,7 +80,7 @@ module _ {A : Type 0} (stack : Stacked) (l : Listing A) (whole : IsWhole stack l
       ∙ ap (λ r. written stack l index ++ (bytes_of r ++ [])) read
       ∙ ap (λ b. written stack l index ++ b) (append-nil (bytes_of r) ∙ sym got)
 
-  -- a row that is written has a short name
+  -- a row that is written has a name of less than 2^32 bytes
   pub short_name : (index : ℕ) (r : NumberedLine) → l.from ≤ index → index < l.until → slice_get (lines_of l) index ≡ Some r
       → length r.1.name < 2 ^ 32
   short_name index r from until is =
@@ -100,7 +102,7 @@ module _ {A : Type 0} (stack : Stacked) (l : Listing A) (whole : IsWhole stack l
       let small = whole.small in
       omega arith
 
-  -- rows that are written are no more than all
+  -- the bytes written before an index are no more than the listing's size
   pub written_few : (index : ℕ) → index ≤ l.until → length (written stack l index) ≤ l.size
   written_few index le =
       let rows = drop l.from (lines_of l) in
@@ -117,7 +119,7 @@ module _ {A : Type 0} (stack : Stacked) (l : Listing A) (whole : IsWhole stack l
       let all = whole.size_is in
       omega arith
 
-  -- where all have room, each row has
+  -- the row with an index has room where the whole reply has
   pub row_has_room : (unique index : ℕ) (before now : List ℕ) → l.from ≤ index → index < l.until
       → now ≡ before ++ (reply_head unique l.size ++ written stack l index)
       → length now + length (row_bytes_at stack l index) ≤ length before + (16 + l.size)
@@ -136,10 +138,12 @@ module _ {A : Type 0} (stack : Stacked) (l : Listing A) (whole : IsWhole stack l
   abbrev pub IsSoFar : ℕ → List ℕ → ℕ → List ℕ → Type 0
   IsSoFar unique before index now = now ≡ before ++ (reply_head unique l.size ++ written stack l index)
 
+  -- after the header no row is written
   pub head_first : (unique : ℕ) (before now : List ℕ) → now ≡ before ++ reply_head unique l.size → IsSoFar unique before l.from now
   head_first unique before now is =
       is ∙ ap (λ b. before ++ b) (sym (append-nil (reply_head unique l.size)) ∙ ap (λ b. reply_head unique l.size ++ b) (sym none_written))
 
+  -- where a row is appended after those before it, those before the next one are written
   pub row_next : (unique index : ℕ) (before now next : List ℕ) → l.from ≤ index → index < l.until
       → IsSoFar unique before index now → next ≡ now ++ row_bytes_at stack l index → IsSoFar unique before (index + 1) next
   row_next unique index before now next from until so_far is =
@@ -149,6 +153,7 @@ module _ {A : Type 0} (stack : Stacked) (l : Listing A) (whole : IsWhole stack l
       is ∙ ap (λ b. b ++ r) so_far ∙ append_assoc before (h ++ w) r
       ∙ ap (λ b. before ++ b) (append_assoc h w r ∙ ap (λ b. h ++ b) (sym (one_written index from until)))
 
+  -- at the last index the whole reply is appended
   pub all_rows : (unique index : ℕ) (before now : List ℕ) → index ≡ l.until → IsSoFar unique before index now
       → now ≡ before ++ reply_with unique (listed_data stack l)
   unfolding reply_with

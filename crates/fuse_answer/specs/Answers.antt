@@ -106,5 +106,6 @@ DecidesIn stack fresh agreed q result =
     MatchResult result (IsAnswer stack fresh agreed q)
     (λ errno. refusal_in stack.layers stack.entries fresh agreed q.node q.op ≡ Some errno)
 
+-- the same, in a session
 abbrev pub Decides : {A : Type 0} → Stacked → Session → Asked → Result (Answer A) Errno → Type 0
 Decides stack s q result = DecidesIn stack (is_fresh s) (agreement_of s) q result

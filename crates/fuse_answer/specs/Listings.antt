@@ -30,6 +30,7 @@ wired a =
           a.rdev;
     }
 
+-- the attributes of the node with a number, as a reply has them
 abbrev pub wired_at : Stacked → ℕ → Option Attr
 wired_at stack n = option_map wired (attr_at stack n)
 
@@ -81,10 +82,11 @@ abbrev pub row_bytes_at : {A : Type 0} → Stacked → Listing A → ℕ → Lis
 row_bytes_at stack l index =
     option_map_or (line_bytes stack l.with_entries) (slice_get (lines_of l) index) []
 
--- the bytes of the rows that a listing answers, and what they give
+-- the bytes of the rows that a listing answers
 abbrev pub listed_data : {A : Type 0} → Stacked → Listing A → List ℕ
 listed_data stack l = flat_map (line_bytes stack l.with_entries) (lines_answered l)
 
+-- what they give, where they come with entries
 abbrev pub listed_moves : {A : Type 0} → Listing A → List Move
 listed_moves l = if l.with_entries then lines_given (lines_answered l) else []
 
@@ -97,12 +99,12 @@ listing_op with_entries offset size =
 abbrev pub row_size : Bool → ℕ → ℕ
 row_size with_entries n = dirent_size n + (if with_entries then 128 else 0)
 
--- how many pieces of these sizes fit whole in the room, one after another, and how many bytes they
--- take
+-- how many pieces of these sizes fit whole in the room, one after another
 abbrev pub fit_count : ℕ → List ℕ → ℕ
 fit_count room [] = 0
 fit_count room (n ∷ sizes) = if nat_le n room then 1 + fit_count (room - n) sizes else 0
 
+-- how many bytes those take
 abbrev pub fit_size : ℕ → List ℕ → ℕ
 fit_size room [] = 0
 fit_size room (n ∷ sizes) = if nat_le n room then n + fit_size (room - n) sizes else 0
@@ -111,6 +113,7 @@ fit_size room (n ∷ sizes) = if nat_le n room then n + fit_size (room - n) size
 abbrev pub name_lengths : List Line → List ℕ
 name_lengths children = 1 ∷ 2 ∷ map (λ line. length line.name) children
 
+-- the bytes of each of a directory's rows
 abbrev pub row_sizes : Bool → List Line → List ℕ
 row_sizes with_entries children = map (row_size with_entries) (name_lengths children)
 

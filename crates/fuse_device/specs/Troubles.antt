@@ -3,8 +3,8 @@ use Rattle.std.specs.Prelude.{ℕ, ℤ, pos, negsuc, Bool, true, Option, Some, N
 use Rattle.fuse_device.specs.declared.trouble.Trouble.{Trouble}
 use Rattle.fuse_device.specs.declared.trouble.Trouble.TheVariants.{Again, Gone, Fault}
 
--- EINTR, EAGAIN, ENOENT and ECONNABORTED are tried again, and ENODEV comes once the mount was taken
--- away
+-- of a read: EINTR, EAGAIN, ENOENT and ECONNABORTED are tried again, and ENODEV comes once the
+-- mount was taken away
 abbrev pub read_number : ℤ → Trouble
 read_number (pos n) =
     if n == 2 then Again else (if n == 4 then Again else
@@ -12,15 +12,17 @@ read_number (pos n) =
     (if n == 19 then Gone else Fault))))
 read_number (negsuc n) = Fault
 
+-- what an error of a read says; one that has no number is a fault
 abbrev pub read_trouble : Option ℤ → Trouble
 read_trouble (Some number) = read_number number
 read_trouble None = Fault
 
--- at ENOENT nobody waits for a reply, and ENODEV comes once the mount was taken away
+-- of a write: at ENOENT nobody waits for a reply, and ENODEV comes once the mount was taken away
 abbrev pub write_number : ℤ → Trouble
 write_number (pos n) = if n == 2 then Gone else (if n == 19 then Gone else Fault)
 write_number (negsuc n) = Fault
 
+-- what an error of a write says; one that has no number is a fault
 abbrev pub write_trouble : Option ℤ → Trouble
 write_trouble (Some number) = write_number number
 write_trouble None = Fault

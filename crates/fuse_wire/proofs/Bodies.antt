@@ -1,4 +1,6 @@
--- Which bodies are too short, and how long replies are.
+-- Which bodies are too short, how long replies and rows are, and how many nodes a message forgets.
+-- `needs` says what `body_sizes` then lists of each opcode; the sizes of replies are those of
+-- `Sizes`.
 use Rattle.std.proofs.Common.{◌≡◌, ◌≢◌, ◌∙◌, sym, ap, ℕ, ◌+◌, ◌/◌, ◌≤◌, List, length, drop, min, Bool, true, false, cond, refl, arith, length-drop}
 use Rattle.std.specs.Prelude.{nat_lt}
 use Rattle.std.proofs.lemmas.Bool.{lt-ltb, le-ltb}
@@ -21,6 +23,7 @@ needs opcode n op is good = record {
   whole = λ body l e. good body (sym (is body ∙ ap (λ b. cond b (malformed opcode) (op body)) (le-ltb (length body) n l)) ∙ e);
 }
 
+-- an opcode with a structure is malformed exactly where its body is shorter than that
 pub body_sizes : BodySizes
 unfolding op_of
 body_sizes = record {
@@ -36,10 +39,12 @@ body_sizes = record {
   readdirplus = needs 44 40 (λ body. at_node (readdirplus (field 8 8 body) (field 4 16 body))) (λ body. refl) (λ body e. absurd (cc));
 }
 
+-- each structure of a reply has the size of its declaration
 pub reply_sizes : ReplySizes
 reply_sizes = record { version = length-version; terms = length-terms; entry = length-entry_out; negative_entry = length-negative_entry_out;
       attr = length-attr_out; open_file = length-open_out; statfs = length-statfs_out }
 
+-- a row is as long as its name says: a multiple of 8 bytes, and no more than it needs
 pub row_sizes : RowSizes
 row_sizes = record {
   dirent = length-dirent;
@@ -49,7 +54,7 @@ row_sizes = record {
   tight = λ n. (omega arith);
 }
 
--- the items of a BATCH_FORGET are no more than its body has room for
+-- a BATCH_FORGET that is no longer than a message may be forgets at most 65,789 nodes
 pub few_forgets : (body : List ℕ) → HEADER_SIZE + length body ≤ MAX_MESSAGE_SIZE → length (forgets_of body) ≤ MAX_FORGETS
 unfolding forgets_of
 few_forgets body l =

@@ -1,4 +1,6 @@
--- The items of a BATCH_FORGET, by the bytes in which they stand.
+-- The items of a BATCH_FORGET, by the bytes in which they stand. The code keeps the bytes of the
+-- items that count: that these read as the same items is `whole_items`, the main lemma, which rests
+-- on `front_items`. `first_item` is a step from item to item.
 use Rattle.std.proofs.Common.{◌≡◌, ◌∙◌, sym, ap, ℕ, zero, suc, ◌+◌, ◌*◌, ◌/◌, ◌≤◌, List, ◌∷◌, length, take, drop, min, refl, arith, length-drop}
 use Rattle.std.proofs.lemmas.List.{drop-take, length-take-le}
 use Rattle.byteorder.specs.Numbers.{little_from-take}
@@ -13,7 +15,7 @@ one_taken n bytes =
     let wide = little_from-take 0 8 (8 + n) (drop 8 bytes) (omega arith) in
     rw (low, high, wide) refl
 
--- as many items as the bytes hold are the first ones
+-- k items are read from the first 16 * k bytes alone
 pub front_items : (k : ℕ) (bytes : List ℕ) → forgets_in k (take (16 * k) bytes) ≡ forgets_in k bytes
 front_items zero bytes = refl
 front_items (suc k) bytes =
@@ -24,7 +26,7 @@ front_items (suc k) bytes =
         ∙ drop-take 16 (16 * k) bytes in
     rw (first, rest, front_items k (drop 16 bytes)) refl
 
--- the bytes that hold the first count items, or as many as are whole
+-- the bytes of the first items, count of them or as many as are whole, hold these items alone
 pub whole_items : (count : ℕ) (bytes : List ℕ) → forgets_in (length (take (16 * min count (length bytes / 16)) bytes) / 16)
     (take (16 * min count (length bytes / 16)) bytes) ≡ forgets_in (min count (length bytes / 16)) bytes
 whole_items count bytes = go (min count (length bytes / 16)) (omega arith)
@@ -35,11 +37,12 @@ whole_items count bytes = go (min count (length bytes / 16)) (omega arith)
         let e : length (take (16 * k) bytes) / 16 ≡ k = omega arith in
         ap (λ (n : ℕ). forgets_in n (take (16 * k) bytes)) e ∙ front_items k bytes
 
+-- as many items are read as are asked for
 pub counted : (n : ℕ) (bytes : List ℕ) → length (forgets_in n bytes) ≡ n
 counted zero bytes = refl
 counted (suc n) bytes = ap (λ (k : ℕ). suc k) (counted n (drop 16 bytes))
 
--- the first item of bytes that hold some whole ones, and those after it
+-- 16 bytes or more hold the item of the first 16, and then those of the bytes after it
 pub first_item : (bytes : List ℕ) → 16 ≤ length bytes → forgets_in (length bytes / 16) bytes ≡ forget_one (take 16 bytes) ∷ forgets_in
     (length (drop 16 bytes) / 16) (drop 16 bytes)
 first_item bytes l =

@@ -1,4 +1,6 @@
--- A name, by the last zero byte before the end of its message.
+-- The name of a LOOKUP. The definition cuts the body at its first zero byte; the code looks at the
+-- last byte, and from there back for another zero, as far as into the header. `ended`, `unended`
+-- and `broken` are the three kinds of bodies, `named` what the search says of each.
 use Rattle.std.proofs.Common.{◌≡◌, ◌≢◌, ◌∙◌, sym, ap, subst, ℕ, suc, ◌+◌, ◌-◌, ◌<◌, ◌≤◌, inl, inr, List, [], ◌∷◌, length, take, drop, get_or, refl, arith, Option, Some, None, Bool, true, false, not, cond, ◌==◌, length-drop}
 use Rattle.std.specs.List.{position_or_len}
 use Rattle.std.specs.Option.{option_map}
@@ -73,7 +75,7 @@ first_by body k z = elim (cases_lt k (before body)) [
   | inr high ↦ high
 ]
 
--- a body of one byte, or none
+-- a body of one byte, or of none, has no name
 pub name_short : (body : List ℕ) → length body < 2 → None ≡ body_name (cut_at_zero body)
 name_short [] h = refl
 name_short (b ∷ []) h = alone (b == 0)
@@ -115,6 +117,7 @@ module _ (message body : List ℕ) (h e : ℕ) (rest : body ≡ drop h message) 
   abbrev searched : List ℕ
   searched = take (h + e) message
 
+  -- as many bytes are searched as the header has, and the body without its last byte
   pub long : length searched ≡ h + e
   long = length-take-le (h + e) message (let l = length-drop h message in let m = ap length rest in omega (arith, l, m))
 
@@ -127,6 +130,7 @@ module _ (message body : List ℕ) (h e : ℕ) (rest : body ≡ drop h message) 
   clear_some : (p : ℕ) → IsLastByte (is_byte 0) searched (Some p) → p < h → Clear body e
   clear_some p found low k l z = found.0.after (h + k) (omega arith) (omega (arith, long)) (ap (λ v. v == 0) (same k l ∙ z))
 
+  -- where the last zero byte found stands in the body, the body has no name
   pub name_holds_zero : (p : ℕ) → IsLastByte (is_byte 0) (take (h + e) message) (Some p) → h ≤ p → None ≡ body_name (cut_at_zero body)
   name_holds_zero p found high =
       let high_end = found.0.high in
@@ -134,19 +138,24 @@ module _ (message body : List ℕ) (h e : ℕ) (rest : body ≡ drop h message) 
       let there : h + (p - h) ≡ p = omega arith in
       broken body e (p - h) (sym (same (p - h) below) ∙ ap (λ v. get_or searched v 0) there ∙ eqb-true _ _ found.1) below last
 
+  -- where no zero byte is found and the last byte is zero, the name is all before that byte
   pub name_ends_none : IsLastByte (is_byte 0) (take (h + e) message) None → get_or body e 0 ≡ 0 → 0 < e
       → Some (take e body) ≡ body_name (cut_at_zero body)
   name_ends_none none z some = ended body e (clear_none none) z some last
 
+  -- the name is all before the last byte, which is zero, also where one is found in the header
   pub name_ends_some : (p : ℕ) → IsLastByte (is_byte 0) (take (h + e) message) (Some p) → p < h → get_or body e 0 ≡ 0 → 0 < e
       → Some (take e body) ≡ body_name (cut_at_zero body)
   name_ends_some p found low z some = ended body e (clear_some p found low) z some last
 
+  -- where no zero byte is found and the last byte is none either, the body has no name
   pub name_open_none : IsLastByte (is_byte 0) (take (h + e) message) None → get_or body e 0 ≢ 0 → None ≡ body_name (cut_at_zero body)
   name_open_none none other = unended body e (clear_none none) other last
 
+  -- the body has no name where its last byte is not zero, also where one is found in the header
   pub name_open_some : (p : ℕ) → IsLastByte (is_byte 0) (take (h + e) message) (Some p) → p < h → get_or body e 0 ≢ 0
       → None ≡ body_name (cut_at_zero body)
   name_open_some p found low other = unended body e (clear_some p found low) other last
 
+-- which name a body has, by what the search finds and by the last byte
 pub ruleset named = (name_short, name_holds_zero, name_ends_none, name_ends_some, name_open_none, name_open_some)

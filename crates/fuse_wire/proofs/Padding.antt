@@ -1,4 +1,5 @@
--- The zeros behind a name.
+-- The zeros behind a name. The code takes them from eight zeros, or writes eight and cuts them;
+-- both leave the zeros of the definition (`padding_is`, `cut_to`).
 use Rattle.std.proofs.Common.{◌≡◌, ◌∙◌, ap, ℕ, zero, suc, ◌+◌, ◌≤◌, List, ◌∷◌, ◌++◌, length, take, refl, arith}
 use Rattle.std.proofs.Math.Seq.{take-append-add}
 use Rattle.std.specs.Prelude.{replicate}
@@ -9,7 +10,7 @@ take_copies zero m k l = refl
 take_copies (suc n) zero k l = absurd (omega arith)
 take_copies (suc n) (suc m) k l = ap (λ v. k ∷ v) (take_copies n m k (omega arith))
 
--- fewer than 8 zeros, as they are taken from 8
+-- at most 8 zeros, as they are taken from 8
 pub padding_is : (n : ℕ) → n ≤ 8 → take n (replicate 8 0) ≡ zeros n
 unfolding zeros
 padding_is n l = take_copies n 8 0 l

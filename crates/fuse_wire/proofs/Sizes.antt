@@ -1,4 +1,6 @@
--- The sizes of structures, in bytes.
+-- The sizes of structures, in bytes, each by counting its fields: `sizes` are all of them, by which
+-- the writers say how long a reply will be. Rows add the length of a name. `plus_row_is` says that
+-- a row of READDIRPLUS may be written in parts.
 use Rattle.std.proofs.Common.{◌≡◌, ◌∙◌, ap, ℕ, zero, suc, ◌+◌, ◌-◌, List, ◌++◌, length, append_assoc, Bool, true, false, Option, Some, None, cond, refl, arith, length-append}
 use Rattle.std.specs.Prelude.{nat_lt, replicate}
 use Rattle.std.specs.Option.{option_map_or}
@@ -9,28 +11,33 @@ use Rattle.fuse_wire.specs.declared.reply.InitOut.TheVariants.{Version, Terms}
 use Rattle.fuse_wire.specs.Structures.{u16, u32, u64, zeros, init_out, init_out_22, init_out_rest, attr, entry_out, negative_entry_out, attr_out, open_out, statfs_out, dirent_size, dirent_front, dirent, direntplus, padding, row_front, plus_row_bytes}
 use Rattle.fuse_wire.specs.Replies.{reply_head, reply_with, error_reply}
 
+-- a reply's header has 16 bytes
 pub length-head : (unique n : ℕ) → length (reply_head unique n) ≡ 16
 unfolding reply_head u32 u64
 length-head unique n = refl
 
+-- the reply of an error is a header alone
 pub length-error_reply : (unique : ℕ) (errno : Errno) → length (error_reply unique errno) ≡ 16
 unfolding error_reply u32 u64
 length-error_reply unique errno = refl
 
+-- a reply has 16 bytes more than its data
 pub length-reply_with : (unique : ℕ) (bytes : List ℕ) → length (reply_with unique bytes) ≡ 16 + length bytes
 unfolding reply_with
 length-reply_with unique bytes = length-append (reply_head unique (length bytes)) bytes
     ∙ ap (λ n. n + length bytes) (length-head unique (length bytes))
 
--- INIT's reply has 24 bytes for clients of minor versions below 23, else 64
+-- INIT is answered 64 bytes where it is told the version alone
 pub length-version : length (init_out Version) ≡ 64
 unfolding init_out u32 zeros
 length-version = refl
 
+-- what clients of minor versions below 23 know of INIT's terms has 24 bytes
 pub length-init_out_22 : (lasting : Bool) (readahead flags : ℕ) → length (init_out_22 lasting readahead flags) ≡ 24
 unfolding init_out_22 u16 u32
 length-init_out_22 lasting readahead flags = refl
 
+-- INIT's terms have 24 bytes for clients of minor versions below 23, else 64
 pub length-terms : (lasting : Bool) (minor readahead flags : ℕ) → length (init_out (Terms lasting minor readahead flags))
     ≡ cond (nat_lt minor 23) 24 64
 unfolding init_out init_out_22 init_out_rest u16 u32 zeros
@@ -41,26 +48,32 @@ length-terms lasting minor readahead flags = either (nat_lt minor 23)
     either true = refl
     either false = refl
 
+-- attributes have 88 bytes
 pub length-attr : (a : Attr) → length (attr a) ≡ 88
 unfolding attr u32 u64
 length-attr a = refl
 
+-- the entry of a node has 128 bytes
 pub length-entry_out : (a : Attr) → length (entry_out a) ≡ 128
 unfolding entry_out attr u32 u64
 length-entry_out a = refl
 
+-- the entry of a name that is none has 128 bytes, too
 pub length-negative_entry_out : length negative_entry_out ≡ 128
 unfolding negative_entry_out u32 u64 zeros
 length-negative_entry_out = refl
 
+-- the answer to a GETATTR has 104 bytes
 pub length-attr_out : (a : Attr) → length (attr_out a) ≡ 104
 unfolding attr_out attr u32 u64
 length-attr_out a = refl
 
+-- the answer to an OPEN or OPENDIR has 16 bytes
 pub length-open_out : (flags : ℕ) → length (open_out flags) ≡ 16
 unfolding open_out u32 u64
 length-open_out flags = refl
 
+-- the answer to a STATFS has 80 bytes
 pub length-statfs_out : (blocks files : ℕ) → length (statfs_out blocks files) ≡ 80
 unfolding statfs_out u32 u64 zeros
 length-statfs_out blocks files = refl
@@ -69,14 +82,17 @@ length-copies : (n k : ℕ) → length (replicate n k) ≡ n
 length-copies zero k = refl
 length-copies (suc n) k = ap (λ (m : ℕ). suc m) (length-copies n k)
 
+-- there are as many zeros as are asked for
 pub length-zeros : (n : ℕ) → length (zeros n) ≡ n
 unfolding zeros
 length-zeros n = length-copies n 0
 
+-- a row has 24 bytes before its name
 pub length-dirent_front : (ino off file_type : ℕ) (name : List ℕ) → length (dirent_front ino off file_type name) ≡ 24
 unfolding dirent_front u32 u64
 length-dirent_front ino off file_type name = refl
 
+-- a row of READDIR is as long as the length of its name says
 pub length-dirent : (ino off file_type : ℕ) (name : List ℕ) → length (dirent ino off file_type name) ≡ dirent_size (length name)
 unfolding dirent
 length-dirent ino off file_type name =
@@ -86,6 +102,7 @@ length-dirent ino off file_type name =
     let padded = length-append (dirent_front ino off file_type name ++ name) (zeros (dirent_size (length name) - (24 + length name))) in
     omega arith
 
+-- a row of READDIRPLUS has 128 bytes more, whether or not it has an entry
 pub length-direntplus : (entry : Option Attr) (ino off file_type : ℕ) (name : List ℕ) → length (direntplus entry ino off file_type name)
     ≡ 128 + dirent_size (length name)
 unfolding direntplus
@@ -97,6 +114,7 @@ length-direntplus entry ino off file_type name =
     given None = length-zeros 128
     given (Some a) = length-entry_out a
 
+-- how long each structure, reply and row is
 pub ruleset sizes = (length-head, length-error_reply, length-reply_with, length-version, length-init_out_22, length-terms, length-attr,
       length-entry_out, length-negative_entry_out, length-attr_out, length-open_out, length-statfs_out, length-zeros, length-dirent_front,
       length-dirent, length-direntplus)

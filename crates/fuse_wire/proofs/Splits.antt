@@ -1,4 +1,6 @@
--- A stream is split in one way, and there is one; a split goes on where it stopped.
+-- A stream is split in one way (`one_split`), and there is one (`some_split`); a split goes on
+-- where it stopped (`split_goes_on`). Later bytes do not change the length that the first four say
+-- (`said_more`), so what begins with a message is no rest; `first_cut` tells them apart.
 use Rattle.std.proofs.Common.{◌≡◌, ◌∙◌, sym, ap, subst, ℕ, zero, suc, ◌+◌, ◌<◌, ◌≤◌, ◌⊎◌, inl, inr, List, [], ◌∷◌, ◌++◌, length, take, drop, refl, arith, length-append, append_assoc}
 use Rattle.std.proofs.lemmas.List.{take_at, drop_at}
 use Rattle.std.specs.List.{flat_map, AllByRecursion}
@@ -8,6 +10,7 @@ use Rattle.std.proofs.lemmas.Bool.{cases_lt}
 use Rattle.fuse_wire.specs.declared.limits.TheConstants.{HEADER_SIZE, MAX_MESSAGE_SIZE}
 use Rattle.fuse_wire.specs.Stream.{said_length, IsGoodLength, IsMessage, IsBad, IsOpen, IsRest, IsSplit}
 
+-- bytes behind the first four do not change the length that these say
 pub said_more : (xs ys : List ℕ) → 4 ≤ length xs → said_length (xs ++ ys) ≡ said_length xs
 said_more [] ys h = absurd (omega arith)
 said_more (a ∷ []) ys h = absurd (omega arith)
@@ -33,6 +36,7 @@ one_first m n x y g k e =
     (sym (take_at m x (length m) refl) ∙ ap (take (length m)) e ∙ take_at n y (length m) (sym s), sym (drop_at m x (length m) refl)
           ∙ ap (drop (length m)) e ∙ drop_at n y (length m) (sym s))
 
+-- two splits of one stream have the same messages and the same rest
 pub one_split : (stream : List ℕ) (ms ns : List (List ℕ)) (r q : List ℕ) → IsSplit stream ms r → IsSplit stream ns q → (ms ≡ ns) × (r ≡ q)
 one_split stream [] [] r q x y = (refl, sym x.whole ∙ y.whole)
 one_split stream [] (n ∷ ns) r q x y = absurd (no_rest n _ r y.each.0 (sym x.whole ∙ y.whole ∙ append_assoc n _ q) x.tail)
@@ -43,12 +47,13 @@ one_split stream (m ∷ ms) (n ∷ ns) r q x y =
         (record { whole = f.1; each = y.each.1; tail = y.tail }) in
     let f0 = f.0 in let t0 = t.0 in (cc, t.1)
 
+-- the first four bytes or more say the same length as all bytes
 pub said_front : (xs : List ℕ) (n : ℕ) → 4 ≤ n → n ≤ length xs → said_length (take n xs) ≡ said_length xs
 said_front xs n f l =
     let t : length (take n xs) ≡ n = length-take-le n xs l in
     sym (said_more (take n xs) (drop n xs) (omega arith)) ∙ ap said_length (take-append-drop n xs)
 
--- what a list of bytes begins with: a message, or nothing but the rest
+-- bytes are a rest, or they begin with a message
 pub first_cut : (xs : List ℕ) → IsRest xs ⊎ ((m y : List ℕ) × (xs ≡ m ++ y) × IsMessage m)
 first_cut xs = elim (cases_lt (length xs) 4) [
   | inl short ↦ inl (inl (begun xs short))
@@ -97,6 +102,7 @@ split_within (suc room) stream short = elim (first_cut stream) [
         omega arith))
 ]
 
+-- every stream has a split
 pub some_split : (stream : List ℕ) → (ms : List (List ℕ)) × (rest : List ℕ) × IsSplit stream ms rest
 some_split stream = split_within (length stream) stream (omega arith)
 

@@ -48,6 +48,7 @@ abbrev pub body_name : Option (List ℕ × List ℕ) → Option (List ℕ)
 body_name (Some (b ∷ name, [])) = Some (b ∷ name)
 body_name _ = None
 
+-- what a LOOKUP asks with a body
 abbrev pub lookup_of : List ℕ → Op
 lookup_of body =
     option_map_or (λ name. at_node (lookup name)) (body_name (cut_at_zero body)) (malformed LOOKUP)
@@ -109,6 +110,7 @@ modifying =
     REMOVEXATTR
     ∷ CREATE ∷ FALLOCATE ∷ RENAME2 ∷ COPY_FILE_RANGE ∷ []
 
+-- the number is one of these
 abbrev pub is_in : ℕ → List ℕ → Bool
 is_in n ns = list_any (λ k. n == k) ns
 
@@ -118,6 +120,7 @@ op_of opcode body =
     if is_in opcode modifying then modify else
     option_map_or (λ row. row.1 body) (find (λ row. opcode == row.0) served) other
 
+-- a request: the number that its reply repeats, the number of its node, and what is asked
 pub record Asked : Type 0 where
   pub unique : ℕ
   pub node : ℕ

@@ -11,18 +11,23 @@ use Rattle.fuse_wire.specs.declared.reply.Dirent.{Dirent}
 use Rattle.fuse_wire.specs.declared.reply.InitOut.{InitOut}
 use Rattle.fuse_wire.specs.declared.reply.InitOut.TheVariants.{Version, Terms}
 
+-- a number of 16 bits
 unfoldable pub u16 : ℕ → List ℕ
 u16 n = little_bytes 2 n
 
+-- a number of 32 bits
 unfoldable pub u32 : ℕ → List ℕ
 u32 n = little_bytes 4 n
 
+-- a number of 64 bits
 unfoldable pub u64 : ℕ → List ℕ
 u64 n = little_bytes 8 n
 
+-- so many bytes that are 0
 unfoldable pub zeros : ℕ → List ℕ
 zeros n = replicate n 0
 
+-- the numbers of errors, as Linux gives them (errno(3))
 abbrev pub errno_number : Errno → ℕ
 errno_number ENOENT = 2
 errno_number EIO = 5
@@ -39,13 +44,15 @@ errno_number ESTALE = 116
 abbrev pub has_bit : ℕ → ℕ → Bool
 has_bit place flags = flags / 2 ^ place % 2 == 1
 
--- EXPORT_SUPPORT, NO_OPEN_SUPPORT and NO_OPENDIR_SUPPORT
+-- the flags have EXPORT_SUPPORT
 abbrev pub has_export : ℕ → Bool
 has_export flags = has_bit 4 flags
 
+-- the flags have NO_OPEN_SUPPORT
 abbrev pub has_no_open : ℕ → Bool
 has_no_open flags = has_bit 17 flags
 
+-- the flags have NO_OPENDIR_SUPPORT
 abbrev pub has_no_opendir : ℕ → Bool
 has_no_opendir flags = has_bit 24 flags
 
@@ -79,6 +86,7 @@ init_out (Terms lasting minor readahead flags) =
     if nat_lt minor 23 then init_out_22 lasting readahead flags
     else init_out_22 lasting readahead flags ++ init_out_rest lasting flags
 
+-- attr: owners and times are all 0
 unfoldable pub attr : Attr → List ℕ
 attr a =
     -- ino, size, blocks
@@ -88,6 +96,7 @@ attr a =
     -- mode, nlink, uid, gid, rdev, blksize, padding
     ++ u32 a.mode ++ u32 a.nlink ++ u32 0 ++ u32 0 ++ u32 a.rdev ++ u32 4096 ++ u32 0
 
+-- entry_out of a node: it and its attributes are valid for an hour
 unfoldable pub entry_out : Attr → List ℕ
 entry_out a =
     -- nodeid, generation, entry_valid, attr_valid, entry_valid_nsec, attr_valid_nsec, attr
@@ -99,11 +108,13 @@ negative_entry_out =
     -- nodeid, generation, entry_valid, attr_valid, entry_valid_nsec, attr_valid_nsec, attr
     u64 0 ++ u64 0 ++ u64 3600 ++ u64 0 ++ u32 0 ++ u32 0 ++ zeros 88
 
+-- attr_out: the attributes are valid for an hour
 unfoldable pub attr_out : Attr → List ℕ
 attr_out a =
     -- attr_valid, attr_valid_nsec, dummy, attr
     u64 3600 ++ u32 0 ++ u32 0 ++ attr a
 
+-- open_out: these flags, and no handle
 unfoldable pub open_out : ℕ → List ℕ
 open_out flags =
     -- fh, open_flags, padding
@@ -138,12 +149,14 @@ unfoldable pub direntplus : Option Attr → ℕ → ℕ → ℕ → List ℕ →
 direntplus entry ino off file_type name =
     option_map_or entry_out entry (zeros 128) ++ dirent ino off file_type name
 
--- the same of a row as the code has it: its front, READDIR's, and READDIRPLUS's
+-- dirent up to its name, of a row as the code has it
 abbrev pub row_front : Dirent → List ℕ
 row_front row = dirent_front row.ino row.off row.file_type row.name.now
 
+-- dirent, of a row as the code has it
 abbrev pub row_bytes : Dirent → List ℕ
 row_bytes row = dirent row.ino row.off row.file_type row.name.now
 
+-- direntplus, of an entry and a row as the code has it
 abbrev pub plus_row_bytes : Option Attr → Dirent → List ℕ
 plus_row_bytes entry row = direntplus entry row.ino row.off row.file_type row.name.now

@@ -1,4 +1,6 @@
--- As many rows as fit are a front of all of them, and fit.
+-- As many rows as fit are a front of all of them, and fit. `front` is the main lemma, row by row: a
+-- first row that fits stands before those that fit in the room that it leaves (`one_more`), and
+-- where it does not fit there is none (`none`).
 use Rattle.std.proofs.Common.{◌≡◌, ap, ℕ, suc, ◌-◌, ◌<◌, ◌≤◌, List, [], ◌∷◌, length, Bool, true, false, cond, refl, arith, length-append}
 use Rattle.std.specs.Prelude.{nat_le}
 use Rattle.std.specs.List.{flat_map}
@@ -28,6 +30,7 @@ module _ (form : Row → List ℕ) where
         (let e : r ≡ next = cc in let f = ap (λ v. length (form v)) e in omega arith);
   }
 
+  -- rows that are taken as long as they fit are the first ones, and with the next one would not fit
   pub front : (room : ℕ) (rows : List Row) → AreFirstThatFit form room rows (fitting form room rows)
   front room [] = record { count = 0; is = refl; fits = omega arith; full = λ next is. absurd (cc) }
   front room (r ∷ rows) = go (nat_le (length (form r)) room) refl (front (room - length (form r)) rows)

@@ -1,4 +1,6 @@
--- What requests give, beside what they are answered.
+-- What requests give, beside what they are answered. LOOKUP and READDIRPLUS give what they are
+-- answered (`lookup_gives`, `readdirplus_gives`); all requests but these and the two that forget
+-- move nothing (`others_move_nothing`), and none does in a fresh session.
 use Rattle.std.proofs.Common.{◌≡◌, ◌∙◌, ap, ℕ, ◌⊎◌, inl, inr, List, [], ◌∷◌, ◌++◌, Bool, true, false, Option, Some, None, cond, refl}
 use Rattle.std.specs.Prelude.{is_some}
 use Rattle.std.specs.Option.{option_map_or}
@@ -28,6 +30,7 @@ module _ (layers : List (List ℕ)) (entries : List Entry) where
   abbrev listing : ℕ → ℕ → ℕ → ℕ → Asked
   listing unique node offset size = record { unique = unique; node = node; op = at_node (readdirplus offset size) }
 
+  -- a LOOKUP gives one lookup of the node whose entry it is answered, or nothing
   pub lookup_gives : (s : Session) (unique node : ℕ) (name : List ℕ) → GivesEntry layers entries s (looking unique node name)
   lookup_gives s unique node name = go (refusal layers entries s node (at_node (lookup name))) refl
     where
@@ -44,6 +47,8 @@ module _ (layers : List (List ℕ)) (entries : List Entry) where
           let f = node_found layers entries s node (lookup name) e in
           inr (found e f.0 f.1 (looked_up entries (agreement_of s).export f.0 name) refl)
 
+  -- a READDIRPLUS gives one lookup of the node of each row that it is answered but . and .., or
+  -- nothing
   pub readdirplus_gives : (s : Session) (unique node offset size : ℕ) → GivesRows layers entries s (listing unique node offset size)
   readdirplus_gives s unique node offset size = go (refusal layers entries s node (at_node (readdirplus offset size))) refl
     where
@@ -74,7 +79,7 @@ module _ (layers : List (List ℕ)) (entries : List Entry) where
   moved_nothing x node (silent (batch_forget items)) e = absurd (cc)
   moved_nothing x node _ e = refl
 
-  -- the other requests move nothing, DESTROY among them
+  -- requests but LOOKUP, READDIRPLUS, FORGET and BATCH_FORGET move nothing
   pub others_move_nothing : (s : Session) (q : Asked) → is_moving q.op ≡ false → moves layers entries s q ≡ []
   others_move_nothing s q e = unless (is_some (refusal layers entries s q.node q.op))
       (moved layers entries (agreement_of s) q.node q.op) (moved_nothing (agreement_of s) q.node q.op e)
@@ -86,10 +91,11 @@ module _ (layers : List (List ℕ)) (entries : List Entry) where
   fresh_op s unique node (silent op) e = rw e refl
   fresh_op s unique node op e = others_move_nothing s (record { unique = unique; node = node; op = op }) refl
 
+  -- no request moves anything in a fresh session
   pub fresh_moves_nothing : (s : Session) (q : Asked) → is_fresh s ≡ true → moves layers entries s q ≡ []
   fresh_moves_nothing s q e = fresh_op s q.unique q.node q.op e
 
-  -- so a request that moves nothing leaves all balances
+  -- one request more that moves nothing leaves all balances
   pub balances_stay : (s : Session) (qs : List Asked) (q : Asked) (node : ℕ) → is_moving q.op ≡ false
       → balance node (moves_by (moves layers entries) s (qs ++ q ∷ []))
       ≡ balance node (moves_by (moves layers entries) s qs)
@@ -98,10 +104,12 @@ module _ (layers : List (List ℕ)) (entries : List Entry) where
       ap (balance node) (moves-append (moves layers entries) s qs (q ∷ []) ∙ rw (others_move_nothing (session_at s qs) q e)
             (append-nil moved_by))
 
+  -- a DESTROY after other requests leaves all balances
   pub destroy_leaves : (s : Session) (qs : List Asked) (unique node n : ℕ)
       → balance n (moves_by (moves layers entries) s
       (qs ++ record { unique = unique; node = node; op = done destroy } ∷ [])) ≡ balance n
       (moves_by (moves layers entries) s qs)
   destroy_leaves s qs unique node n = balances_stay s qs (record { unique = unique; node = node; op = done destroy }) n refl
 
+-- what LOOKUP and READDIRPLUS give, and which requests give nothing
 pub ruleset given = (lookup_gives, readdirplus_gives, others_move_nothing, fresh_moves_nothing)

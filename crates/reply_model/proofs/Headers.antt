@@ -1,4 +1,5 @@
--- A reply is empty, or its header says its length and its request.
+-- A reply is empty, or its header says its length and its request: `headed` is the main lemma, off
+-- the same of a reply with data (`with_data`) and of the reply of an error (`with_error`).
 use Rattle.std.proofs.Common.{◌≡◌, ◌∙◌, sym, ap, ℕ, ◌+◌, ◌-◌, ◌^◌, ◌⊎◌, inl, inr, List, [], ◌++◌, length, Bool, true, false, Option, Some, None, refl, arith, length-append}
 use Rattle.std.proofs.lemmas.List.{append-nil}
 use Rattle.std.specs.Option.{option_map_or}
@@ -45,6 +46,7 @@ with_error unique errno =
         ∙ length-header 16 e unique [] in
     record { error = e; rest = []; is = ap (λ n. u32 n ++ u32 e ++ u64 unique) (sym l) ∙ sym (append-nil _) }
 
+-- a reply is empty, or begins with its own length and has its request's unique
 pub headed : (layers : List (List ℕ)) (entries : List Entry) (s : Session) (q : Asked) →
     (reply layers entries s q ≡ []) ⊎ IsReplyTo q.unique (reply layers entries s q)
 headed layers entries s q = silent (is_silent q.op) refl

@@ -1,6 +1,6 @@
 -- What differs where a stream is served lastingly. First that the replies which are told apart are
--- different; then the replies of ready sessions, off the few facts that a row goes by; then those of
--- all sessions, what is moved, and how sessions go on.
+-- different; then the replies of ready sessions, off the few facts that a row goes by; then those
+-- of all sessions (`replies_last`), what is moved (`moves_stay`), and how sessions go on.
 use Rattle.std.proofs.Common.{◌≡◌, ◌≢◌, ◌∙◌, sym, ap, ℕ, ◌-◌, ◌%◌, ◌^◌, List, [], ◌∷◌, ◌++◌, length, get_or, map, Bool, true, false, Option, Some, None, cond, refl}
 use Rattle.std.specs.Prelude.{nat_lt, not, ◌&&◌, ◌||◌, ◌==◌, is_none, is_some}
 use Rattle.std.specs.Option.{option_map_or, option_to_list}
@@ -244,6 +244,7 @@ module _ (layers : List (List ℕ)) (entries : List Entry) where
   fresh_lasts unique node (done _) = refl
   fresh_lasts unique node _ = refl
 
+  -- a lasting session replies what the usual one does, but in the cases that `LastsAs` lists
   pub replies_last : (s : Session) (q : Asked) → (agreement_of s).lasting ≡ true
       → LastsAs (agreement_of s) q.unique q.op (reply layers entries (usual_of s) q) (reply layers entries s q)
   replies_last Fresh q e = absurd (cc)
@@ -251,6 +252,7 @@ module _ (layers : List (List ℕ)) (entries : List Entry) where
   replies_last LastingFresh q e = fresh_lasts q.unique q.node q.op
   replies_last (LastingReady export no_open no_opendir) q e = ready_lasts export no_open no_opendir q.unique q.node q.op
 
+  -- a request moves in a lasting session what it moves in the usual one
   pub moves_stay : (s : Session) (q : Asked) → moves layers entries s q ≡ moves layers entries (usual_of s) q
   moves_stay Fresh q = refl
   moves_stay (Ready export) q = refl
@@ -267,6 +269,7 @@ usual_begun : (spoken export : Bool) → usual_of (cond spoken (Ready export) Fr
 usual_begun true export = refl
 usual_begun false export = refl
 
+-- a lasting session goes on, request by request, as the usual one in its place does
 pub session_goes_on : (s : Session) (op : Op) → usual_of (session_after s op) ≡ session_after (usual_of s) op
 session_goes_on Fresh (init major minor readahead flags) = usual_begun (is_spoken major minor) (has_export flags)
 session_goes_on Fresh _ = refl
@@ -290,9 +293,10 @@ module _ (layers : List (List ℕ)) (entries : List Entry) where
       ∙ ap (λ v. moved (usual_of s) q ++ v)
       (moves_by_stay (session_after s q.op) qs ∙ ap (λ t. moves_by moved t qs) (session_goes_on s q.op))
 
-  -- and leaves the same balances
+  -- a stream that is served lastingly leaves the balances that it leaves usually
   pub balances_are_usual : (messages : List (List ℕ)) (node : ℕ)
       → balance_after layers entries LastingFresh messages node ≡ balance_after layers entries Fresh messages node
   balances_are_usual messages node = ap (balance node) (moves_by_stay LastingFresh (map asked messages))
 
+-- what differs and what stays where a stream is served lastingly
 pub ruleset lasting = (replies_last, moves_stay, session_goes_on, balances_are_usual)

@@ -1,4 +1,5 @@
--- The worked examples of streams that are served lastingly, by computation.
+-- The worked examples of streams that are served lastingly, by computation: each lemma is one
+-- record of `specs/LastingExamples`.
 use Rattle.std.proofs.Common.{refl}
 use Rattle.romfs_format.specs.Fields.{word, root, image, name_field, ended}
 use Rattle.fuse_wire.specs.Requests.{op_of, forgets_of}
@@ -10,6 +11,7 @@ use Rattle.reply_model.specs.Rows.{rows, rows_after, dirent_of, direntplus_of}
 use Rattle.reply_model.specs.Examples.{empty_image, sample_image, empty_entries, sample_entries}
 use Rattle.reply_model.specs.LastingExamples.{LastingInitExamples, LastingSessionExamples, LastingLookupExamples, LastingOpenExamples, LastingFlushExamples, LastingStreamExamples}
 
+-- INIT: versions and terms
 pub lasting_init : LastingInitExamples
 unfolding word root image name_field ended op_of u16 u32 u64 zeros forgets_of init_out init_out_22
     init_out_rest attr entry_out negative_entry_out attr_out open_out statfs_out dirent_front dirent direntplus reply_head
@@ -30,6 +32,7 @@ lasting_init = record {
   begun_twice = refl;
 }
 
+-- which flags a session remembers, and when it begins and ends
 pub lasting_sessions : LastingSessionExamples
 unfolding word root image name_field ended op_of u16 u32 u64 zeros forgets_of init_out init_out_22
     init_out_rest attr entry_out negative_entry_out attr_out open_out statfs_out dirent_front dirent direntplus reply_head
@@ -50,6 +53,7 @@ lasting_sessions = record {
   destroyed_fresh = refl;
 }
 
+-- LOOKUP of names that are there, and of names that are none
 pub lasting_lookup : LastingLookupExamples
 unfolding word root image name_field ended op_of u16 u32 u64 zeros forgets_of init_out init_out_22
     init_out_rest attr entry_out negative_entry_out attr_out open_out statfs_out dirent_front dirent direntplus reply_head
@@ -70,6 +74,7 @@ lasting_lookup = record {
   exported_missing = refl;
 }
 
+-- OPEN and OPENDIR, of clients that need not ask and of others
 pub lasting_opens : LastingOpenExamples
 unfolding word root image name_field ended op_of u16 u32 u64 zeros forgets_of init_out init_out_22
     init_out_rest attr entry_out negative_entry_out attr_out open_out statfs_out dirent_front dirent direntplus reply_head
@@ -88,6 +93,7 @@ lasting_opens = record {
   opendir_of_no_node = refl;
 }
 
+-- FLUSH, and what is told beside it
 pub lasting_flush : LastingFlushExamples
 unfolding word root image name_field ended op_of u16 u32 u64 zeros forgets_of init_out init_out_22
     init_out_rest attr entry_out negative_entry_out attr_out open_out statfs_out dirent_front dirent direntplus reply_head
@@ -104,6 +110,7 @@ lasting_flush = record {
   fsyncdir = refl;
 }
 
+-- whole streams, their replies and balances
 pub lasting_streams : LastingStreamExamples
 unfolding word root image name_field ended op_of u16 u32 u64 zeros forgets_of init_out init_out_22
     init_out_rest attr entry_out negative_entry_out attr_out open_out statfs_out dirent_front dirent direntplus reply_head

@@ -1,4 +1,6 @@
--- A reply over sound images is short, so its header says its length whole.
+-- A reply over sound images is short (`short`), so its header says its length whole (`said`). By
+-- the kind of request: structures have their sizes, READ and rows are bounded by the size that is
+-- asked for, and a link's target by the rules of images (`short_link`).
 use Rattle.std.proofs.Common.{◌≡◌, ◌∙◌, sym, ap, subst, ℕ, zero, suc, ◌<◌, ◌≤◌, ◌^◌, ◌⊎◌, inl, inr, List, [], ◌∷◌, ◌++◌, length, map, take, drop, Bool, true, false, Option, Some, None, cond, refl, arith, lit≤, All}
 use Rattle.std.specs.Prelude.{slice_get, nat_lt}
 use Rattle.std.specs.List.{flat_map}
@@ -156,7 +158,7 @@ module _ (bs : List (List ℕ)) (entries : List Entry) (sound : All IsSound bs) 
   short_answer x node statfs r = let l = length-statfs_out (blocks_all layers) (length (nodes entries)) in omega arith
   short_answer x node _ r = lit≤ tt
 
-  -- a reply is a header of 16 bytes and an answer
+  -- a reply has at most 1 MiB behind a header of 16 bytes
   pub short : (s : Session) (q : Asked) → length (reply layers entries s q) ≤ MAX_REPLY_SIZE
   short s q = silent (is_silent q.op)
     where
@@ -176,7 +178,7 @@ module _ (bs : List (List ℕ)) (entries : List Entry) (sound : All IsSound bs) 
       silent true = lit≤ tt
       silent false = replied (refusal layers entries s q.node q.op) refl
 
-  -- so it says its length
+  -- the length that a reply begins with is its own, if it is not empty
   pub said : (s : Session) (q : Asked) → (reply layers entries s q ≡ [])
       ⊎ (said_length (reply layers entries s q) ≡ length (reply layers entries s q))
   said s q = elim (headed layers entries s q) [

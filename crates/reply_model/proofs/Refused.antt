@@ -1,4 +1,6 @@
--- What is known where nothing refuses a request.
+-- What is known where nothing refuses a request: it is not refused by itself (`not_by_itself`), and
+-- if it is about a node, that number is in use (`node_found`). Before these, lists of refusals of
+-- which none fits.
 use Rattle.std.proofs.Common.{◌≡◌, ℕ, List, [], ◌∷◌, Bool, true, false, Option, Some, None, refl}
 use Rattle.std.specs.Option.{option_map_or}
 use Rattle.fuse_wire.specs.declared.errno.Errno.{Errno}
@@ -12,16 +14,16 @@ use Rattle.reply_model.specs.Sessions.{is_fresh, agreement_of}
 use Rattle.reply_model.specs.Services.{refuse_if}
 use Rattle.reply_model.specs.Refusals.{first_refusal, refused_by_session, refused_by_itself, refused_at, refusal}
 
--- where nothing refuses, the first does not
+-- of refusals that together refuse nothing the first does not, nor do the others together
 pub first_none : (o : Option Errno) (os : List (Option Errno)) → first_refusal (o ∷ os) ≡ None → (o ≡ None) × (first_refusal os ≡ None)
 first_none None os e = (refl, e)
 first_none (Some errno) os e = absurd (cc)
 
--- and where there are two, neither does
+-- of two refusals that together refuse nothing neither does
 pub both_none : (o p : Option Errno) → first_refusal (o ∷ p ∷ []) ≡ None → (o ≡ None) × (p ≡ None)
 both_none o p e = let r = first_none o (p ∷ []) e in (r.0, (first_none p [] r.1).0)
 
--- nor is what it refuses there
+-- a refusal that does not refuse found nothing wrong
 pub if_none : (b : Bool) (errno : Errno) → refuse_if b errno ≡ None → b ≡ false
 if_none true errno e = absurd (cc)
 if_none false errno e = refl
@@ -40,6 +42,7 @@ module _ (layers : List (List ℕ)) (entries : List Entry) where
   has_node agreed op None e = absurd (cc)
   has_node agreed op (Some p) e = (p, refl)
 
+  -- a request about a node that nothing refuses has the number of a node
   pub node_found : (s : Session) (node : ℕ) (op : NodeOp) → refusal layers entries s node (at_node op) ≡ None
       → (p : Place) × (node_of entries node ≡ Some p)
   node_found s node op e = has_node (agreement_of s) op (node_of entries node) (not_by_itself s node (at_node op) e)

@@ -1,4 +1,6 @@
--- Attributes fit their fields.
+-- Attributes fit their fields: `attributes_fit` is the main lemma. Modes are known by kind; sizes
+-- and device numbers come from words of 32 bits, since layers are lists of bytes. Numbers are no
+-- more than the nodes (`numbers_fit`).
 use Rattle.std.proofs.Common.{◌≡◌, sym, subst, ℕ, ◌+◌, ◌*◌, ◌/◌, ◌%◌, ◌^◌, ◌<◌, ◌≤◌, List, length, drop, Bool, true, false, Option, Some, None, refl, arith, lit<}
 use Rattle.std.specs.Prelude.{slice_index, bit_and, bit_or, unwrap_or}
 use Rattle.std.proofs.lemmas.List.{get_or-drop}
@@ -54,6 +56,7 @@ word_fits a p b =
     let b3 = at 3 in
     omega arith
 
+-- over layers of bytes, the attributes of a place fit their fields, but for its number
 pub attributes_fit : (layers : List (List ℕ)) (entries : List Entry) (p : Place) → AreLayersOfBytes layers
     → FitsFields (reply_attr layers entries p)
 attributes_fit layers entries p b =

@@ -1,4 +1,5 @@
--- The worked examples, by computation.
+-- The worked examples, by computation: each lemma is one record of `specs/Examples`. Only those of
+-- lengths and faults, at the end, need a step of their own.
 use Rattle.std.proofs.Common.{ℕ, inl, inr, refl, arith, lit<, lit≤, ap, get_or}
 use Rattle.romfs_format.specs.declared.rule.Rule.{Rule}
 use Rattle.romfs_format.specs.declared.rule.Rule.TheVariants.{Short, Magic}
@@ -13,6 +14,7 @@ use Rattle.stack_model.specs.Attributes.{data_of}
 use Rattle.reply_model.specs.Rows.{rows, rows_after, dirent_of, direntplus_of}
 use Rattle.reply_model.specs.Examples.{empty_image, sample_image, empty_entries, sample_entries, two_faults, StreamExamples, FaultOrder, FaultExamples, EmptyImageFields, InitExamples, GetattrExamples, ReaddirExamples, ReaddirplusExamples, ReadExamples, LookupExamples, NodeExamples, OpenExamples, SessionExamples, ExportExamples, SilentExamples, RefusalOrder, TwelveRequests, BalanceExamples}
 
+-- the header fields of the empty image
 pub the_empty_image : EmptyImageFields
 unfolding word root image name_field ended op_of u16 u32 u64 zeros forgets_of init_out init_out_22
     init_out_rest attr entry_out attr_out open_out statfs_out dirent_front dirent direntplus reply_head
@@ -34,6 +36,7 @@ the_empty_image = record {
   up_name = refl;
 }
 
+-- INIT: versions and terms, and what comes before it
 pub init : InitExamples
 unfolding word root image name_field ended op_of u16 u32 u64 zeros forgets_of init_out init_out_22
     init_out_rest attr entry_out attr_out open_out statfs_out dirent_front dirent direntplus reply_head
@@ -56,6 +59,7 @@ init = record {
   short = refl;
 }
 
+-- GETATTR of the root, of numbers that are not in use, and of a short body
 pub getattr : GetattrExamples
 unfolding word root image name_field ended op_of u16 u32 u64 zeros forgets_of init_out init_out_22
     init_out_rest attr entry_out attr_out open_out statfs_out dirent_front dirent direntplus reply_head
@@ -63,6 +67,7 @@ unfolding word root image name_field ended op_of u16 u32 u64 zeros forgets_of in
     empty_image sample_image empty_entries sample_entries
 getattr = record { of_root = refl; of_two = refl; of_zero = refl; short = refl }
 
+-- READDIR of the root, by the size that is asked for
 pub readdir : ReaddirExamples
 unfolding word root image name_field ended op_of u16 u32 u64 zeros forgets_of init_out init_out_22
     init_out_rest attr entry_out attr_out open_out statfs_out dirent_front dirent direntplus reply_head
@@ -70,6 +75,7 @@ unfolding word root image name_field ended op_of u16 u32 u64 zeros forgets_of in
     empty_image sample_image empty_entries sample_entries
 readdir = record { both = refl; one = refl; too_small = refl; no_room = refl; too_large = refl; at_end = refl }
 
+-- READDIRPLUS of a directory
 pub readdirplus : ReaddirplusExamples
 unfolding word root image name_field ended op_of u16 u32 u64 zeros forgets_of init_out init_out_22
     init_out_rest attr entry_out attr_out open_out statfs_out dirent_front dirent direntplus reply_head
@@ -77,6 +83,7 @@ unfolding word root image name_field ended op_of u16 u32 u64 zeros forgets_of in
     empty_image sample_image empty_entries sample_entries
 readdirplus = record { three = refl; one = refl; upper = refl; mode = refl }
 
+-- READ: from which place, how much, and of what
 pub read : ReadExamples
 unfolding word root image name_field ended op_of u16 u32 u64 zeros forgets_of init_out init_out_22
     init_out_rest attr entry_out attr_out open_out statfs_out dirent_front dirent direntplus reply_head
@@ -85,6 +92,7 @@ unfolding word root image name_field ended op_of u16 u32 u64 zeros forgets_of in
 read = record { whole = refl; rest = refl; past_end = refl; far_past_end = refl; nothing = refl; too_large = refl; directory = refl; link =
       refl; stale = refl }
 
+-- LOOKUP of names that are there, that are missing, and that are none
 pub lookup : LookupExamples
 unfolding word root image name_field ended op_of u16 u32 u64 zeros forgets_of init_out init_out_22
     init_out_rest attr entry_out attr_out open_out statfs_out dirent_front dirent direntplus reply_head
@@ -103,6 +111,7 @@ lookup = record {
   in_file = refl;
 }
 
+-- attributes, STATFS, READLINK, and requests about nodes of another kind
 pub node_requests : NodeExamples
 unfolding word root image name_field ended op_of u16 u32 u64 zeros forgets_of init_out init_out_22
     init_out_rest attr entry_out attr_out open_out statfs_out dirent_front dirent direntplus reply_head
@@ -126,6 +135,7 @@ node_requests = record {
   unserved = refl;
 }
 
+-- when sessions begin and end
 pub sessions : SessionExamples
 unfolding word root image name_field ended op_of u16 u32 u64 zeros forgets_of init_out init_out_22
     init_out_rest attr entry_out attr_out open_out statfs_out dirent_front dirent direntplus reply_head
@@ -143,6 +153,7 @@ sessions = record {
   ended = refl;
 }
 
+-- LOOKUP of . and .. with EXPORT_SUPPORT
 pub exported : ExportExamples
 unfolding word root image name_field ended op_of u16 u32 u64 zeros forgets_of init_out init_out_22
     init_out_rest attr entry_out attr_out open_out statfs_out dirent_front dirent direntplus reply_head
@@ -162,6 +173,7 @@ exported = record {
   file_not_exported = refl;
 }
 
+-- requests that have no reply
 pub silent : SilentExamples
 unfolding word root image name_field ended op_of u16 u32 u64 zeros forgets_of init_out init_out_22
     init_out_rest attr entry_out attr_out open_out statfs_out dirent_front dirent direntplus reply_head
@@ -170,6 +182,7 @@ unfolding word root image name_field ended op_of u16 u32 u64 zeros forgets_of in
 silent = record { interrupt = refl; interrupt_fresh = refl; batch_forget = refl; batch_forget_fresh = refl; short_forget = refl;
       short_batch_forget = refl }
 
+-- which of two refusals is answered
 pub refusals : RefusalOrder
 unfolding word root image name_field ended op_of u16 u32 u64 zeros forgets_of init_out init_out_22
     init_out_rest attr entry_out attr_out open_out statfs_out dirent_front dirent direntplus reply_head
@@ -186,6 +199,7 @@ refusals = record {
   kind_before_rows = refl;
 }
 
+-- a session of twelve requests, byte by byte
 pub twelve : TwelveRequests
 unfolding word root image name_field ended op_of u16 u32 u64 zeros forgets_of init_out init_out_22
     init_out_rest attr entry_out attr_out open_out statfs_out dirent_front dirent direntplus reply_head
@@ -193,6 +207,7 @@ unfolding word root image name_field ended op_of u16 u32 u64 zeros forgets_of in
     empty_image sample_image empty_entries sample_entries
 twelve = record { replies_are = refl; sized = refl }
 
+-- what requests give and take, and what a client holds after them
 pub balances : BalanceExamples
 unfolding word root image name_field ended op_of u16 u32 u64 zeros forgets_of init_out init_out_22
     init_out_rest attr entry_out attr_out open_out statfs_out dirent_front dirent direntplus reply_head
@@ -209,6 +224,7 @@ balances = record {
   fresh = refl;
 }
 
+-- OPEN and OPENDIR, by access mode and kind
 pub opens : OpenExamples
 unfolding word root image name_field ended op_of u16 u32 u64 zeros forgets_of init_out init_out_22
     init_out_rest attr entry_out attr_out open_out statfs_out dirent_front dirent direntplus reply_head
@@ -226,6 +242,7 @@ opens = record {
   opendir_of_file = refl;
 }
 
+-- the shortest and the longest message, and lengths beyond
 pub lengths : StreamExamples
 unfolding u32 u64 zeros
 lengths = record {
@@ -237,6 +254,7 @@ lengths = record {
   nothing = λ u. let l = u.0 in omega arith;
 }
 
+-- which of two faults is named
 pub order : FaultOrder
 order = record {
   volume_by_rule = inl (lit< tt);
@@ -261,6 +279,7 @@ short_first s q (inl l) = omega arith
 short_first s q (inr (e, inl l)) = omega arith
 short_first s q (inr (e, inr (f, l))) = omega arith
 
+-- an image with two faults, and its first 15 bytes
 pub faults : FaultExamples
 faults = record {
   magic = record { broken = (first_byte, refl); first = magic_first };

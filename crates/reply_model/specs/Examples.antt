@@ -66,10 +66,11 @@ sample_image = dump (
     ∷ 0x00000005 ∷ 0x00010003 ∷ 0x00000000 ∷ 0x9189938c ∷ 0x6e756c6c ∷ 0x00000000 ∷ 0x00000000 ∷
     0x00000000 ∷ [])
 
--- what each of them shows
+-- what the empty image shows
 unfoldable pub empty_entries : List Entry
 empty_entries = record { path = []; layer = 0; header = 0x20 } ∷ []
 
+-- what the sample image shows
 unfoldable pub sample_entries : List Entry
 sample_entries =
     record { path = []; layer = 0; header = 0x20 }
@@ -101,9 +102,11 @@ refused unique error = u32 16 ++ u32 error ++ u64 unique
 abbrev pub headed : ℕ → ℕ → List ℕ
 headed unique n = u32 n ++ u32 0 ++ u64 unique
 
+-- the reply to a message over the empty image, in this session
 abbrev pub over_empty : Session → List ℕ → List ℕ
 over_empty s m = reply (empty_image ∷ []) empty_entries s (asked m)
 
+-- the reply to a message over the sample image, in a session without EXPORT_SUPPORT
 abbrev pub over_sample : List ℕ → List ℕ
 over_sample m = reply (sample_image ∷ []) sample_entries (Ready false) (asked m)
 
@@ -157,6 +160,7 @@ init_request = dump (
     0x00000000
     ∷ 0x00000000 ∷ 0x00000000 ∷ 0x07000000 ∷ 0x1f000000 ∷ 0x00000200 ∷ 0x01600000 ∷ [])
 
+-- its reply: the flags and the readahead that it asked for
 abbrev pub init_reply : List ℕ
 init_reply = dump (
     0x50000000 ∷ 0x00000000 ∷ 0x01000000 ∷ 0x00000000 ∷ 0x07000000 ∷ 0x1f000000 ∷ 0x00000200 ∷
@@ -183,6 +187,7 @@ older_init_reply = dump (
     0x01000000
     ∷ 0x0c000900 ∷ 0x00000200 ∷ [])
 
+-- INIT: versions and terms, and what a session answers that is not begun
 pub record InitExamples : Type 0 where
   pub accepted : over_empty Fresh init_request ≡ init_reply
   pub newer : over_empty Fresh (request 26 1 0 (init_in 7 39 2097152 0x73fffffb ++ zeros 48))
@@ -228,7 +233,7 @@ pub record SessionExamples : Type 0 where
       (request 38 1 0 [] ∷ request 3 2 1 (zeros 16) ∷ request 38 3 0 [] ∷ [])
       ≡ headed 1 16 ++ refused 2 0xfffffffb ++ refused 3 0xfffffffb
 
--- GETATTR of the root of the empty image, in use by two names
+-- the reply to a GETATTR of the root of the empty image, in use by two names
 abbrev pub root_attr_reply : List ℕ
 root_attr_reply = dump (
     0x78000000 ∷ 0x00000000 ∷ 0x02000000 ∷ 0x00000000
@@ -237,6 +242,7 @@ root_attr_reply = dump (
     0x00000000 ∷ 0x00000000 ∷ 0x00000000 ∷ 0xed410000 ∷ 0x02000000
     ∷ 0x00000000 ∷ 0x00000000 ∷ 0x00000000 ∷ 0x00100000 ∷ 0x00000000 ∷ [])
 
+-- GETATTR of the root, of numbers that are not in use, and of a short body
 pub record GetattrExamples : Type 0 where
   pub of_root : over_empty (Ready false) (request 3 2 1 (zeros 16)) ≡ root_attr_reply
   pub of_two : over_empty (Ready false) (request 3 3 2 (zeros 16))
@@ -244,17 +250,19 @@ pub record GetattrExamples : Type 0 where
   pub of_zero : over_empty (Ready false) (request 3 4 0 (zeros 16)) ≡ refused 4 0xffffff8c
   pub short : over_empty (Ready false) (request 3 5 2 (zeros 15)) ≡ refused 5 0xffffffea
 
--- the rows . and .. of the root of the empty image
+-- the row . of the root of the empty image
 abbrev pub own_row : List ℕ
 own_row =
     dump (0x01000000 ∷ 0x00000000 ∷ 0x01000000 ∷ 0x00000000
     ∷ 0x01000000 ∷ 0x04000000 ∷ 0x2e000000 ∷ 0x00000000 ∷ [])
 
+-- its row ..
 abbrev pub upper_row : List ℕ
 upper_row =
     dump (0x01000000 ∷ 0x00000000 ∷ 0x02000000 ∷ 0x00000000
     ∷ 0x02000000 ∷ 0x04000000 ∷ 0x2e2e0000 ∷ 0x00000000 ∷ [])
 
+-- READDIR of the root: both rows, one, or none that fits; and after the last one
 pub record ReaddirExamples : Type 0 where
   pub both : over_empty (Ready false) (request 28 2 1 (read_in 0 4096))
       ≡ headed 2 80 ++ own_row ++ upper_row
@@ -265,6 +273,7 @@ pub record ReaddirExamples : Type 0 where
       ≡ refused 2 0xffffffea
   pub at_end : over_empty (Ready false) (request 28 2 1 (read_in 2 0)) ≡ headed 2 16
 
+-- READDIRPLUS of the directory d: three rows in 4,096 bytes, one in 319; . has no entry
 pub record ReaddirplusExamples : Type 0 where
   pub three : length (over_sample (request 44 2 3 (read_in 0 4096))) ≡ 496
   pub one : over_sample (request 44 2 3 (read_in 0 319))
@@ -299,6 +308,7 @@ x_entry_reply = dump (
     0x00000000 ∷ 0x00000000 ∷ 0x00000000 ∷ 0xa4810000 ∷ 0x01000000
     ∷ 0x00000000 ∷ 0x00000000 ∷ 0x00000000 ∷ 0x00100000 ∷ 0x00000000 ∷ [])
 
+-- LOOKUP of a name that is there, of some that are missing, too long or none, and in a file
 pub record LookupExamples : Type 0 where
   pub entry : over_sample (request 1 10 3 (codes "x" ++ zeros 1)) ≡ x_entry_reply
   pub unended : over_sample (request 1 2 1 (codes "x")) ≡ refused 2 0xffffffea
@@ -312,17 +322,20 @@ pub record LookupExamples : Type 0 where
   pub upper : over_sample (request 1 2 1 (codes ".." ++ zeros 1)) ≡ refused 2 0xfffffffe
   pub in_file : over_sample (request 1 2 2 (replicate 256 0x71 ++ zeros 1)) ≡ refused 2 0xffffffec
 
--- with EXPORT_SUPPORT the name . finds the node itself, whatever its kind, and .. the directory
--- above it
+-- the reply to a message over the sample image, in a session with EXPORT_SUPPORT
 abbrev pub over_exported : List ℕ → List ℕ
 over_exported m = reply (sample_image ∷ []) sample_entries (Ready true) (asked m)
 
+-- the body of a LOOKUP of .
 abbrev pub itself : List ℕ
 itself = codes "." ++ zeros 1
 
+-- the body of a LOOKUP of ..
 abbrev pub two_dots : List ℕ
 two_dots = codes ".." ++ zeros 1
 
+-- with EXPORT_SUPPORT the name . finds the node itself, whatever its kind, and .. the directory
+-- above it
 pub record ExportExamples : Type 0 where
   pub directory : over_exported (request 1 2 3 itself)
       ≡ over_sample (request 1 2 1 (codes "d" ++ zeros 1))
@@ -407,7 +420,7 @@ abbrev pub dirent_row : ℕ → ℕ → ℕ → List ℕ → List ℕ
 dirent_row ino off file_type name =
     u64 ino ++ u64 off ++ u32 (length name) ++ u32 file_type ++ name ++ zeros (8 - length name)
 
--- twelve requests, the session's first and last among them, and their 1,531 bytes of replies
+-- twelve requests, the session's first and last among them
 abbrev pub twelve_requests : List (List ℕ)
 twelve_requests =
     init_request
@@ -424,6 +437,7 @@ twelve_requests =
     ∷ request 3 12 1 (zeros 16)
     ∷ []
 
+-- their 1,531 bytes of replies
 pub record TwelveRequests : Type 0 where
   pub replies_are :
       replies (sample_image ∷ []) sample_entries Fresh twelve_requests
@@ -467,6 +481,7 @@ held node = balance_after (sample_image ∷ []) sample_entries Fresh looking_up 
 abbrev pub moved_over_sample : Session → List ℕ → List Move
 moved_over_sample s m = moves (sample_image ∷ []) sample_entries s (asked m)
 
+-- what these requests leave of each node, and what single ones give and take
 pub record BalanceExamples : Type 0 where
   pub replies_sized : length (replies (sample_image ∷ []) sample_entries Fresh looking_up) ≡ 1648
   pub balances :

@@ -65,5 +65,6 @@ module _ (layers : List (List ℕ)) (entries : List Entry) where
   refusal_in fresh agreed node op =
       first_refusal (refused_by_session fresh op ∷ refused_by_itself agreed node op ∷ [])
 
+  -- the refusal of a request in a session
   abbrev pub refusal : Session → ℕ → Op → Option Errno
   refusal s node op = refusal_in (is_fresh s) (agreement_of s) node op

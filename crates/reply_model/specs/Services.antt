@@ -18,22 +18,26 @@ use Rattle.reply_model.specs.declared.session.Agreement.{Agreement}
 use Rattle.reply_model.specs.Lookups.{is_itself, looked_up}
 use Rattle.reply_model.specs.Rows.{Row, is_child, reply_attr, is_too_small, rows_after, rows_answered, dirent_of, direntplus_of}
 
+-- this error, if something is wrong
 abbrev pub refuse_if : Bool → Errno → Option Errno
 refuse_if wrong errno = if wrong then Some errno else None
 
--- what refuses a request by the kind of its node
+-- what refuses a request by the kind of its node: it is no directory
 abbrev pub unless_directory : Kind → Option Errno
 unless_directory k = refuse_if (not (is_directory k)) ENOTDIR
 
+-- it is no regular file; a directory has an error of its own
 abbrev pub unless_regular : Kind → Option Errno
 unless_regular Regular = None
 unless_regular Directory = Some EISDIR
 unless_regular _ = Some EINVAL
 
+-- it is no symbolic link
 abbrev pub unless_link : Kind → Option Errno
 unless_link SymLink = None
 unless_link _ = Some EINVAL
 
+-- no kind is refused
 abbrev pub of_any_kind : Kind → Option Errno
 of_any_kind k = None
 

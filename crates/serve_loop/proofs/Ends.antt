@@ -1,4 +1,6 @@
--- What each end of a stream means.
+-- What each end of a stream means to a caller, drawn from the one promise of a run (`IsRun`):
+-- `ends` are those at which all is answered, `faults` say which device failed, and `always` holds
+-- at every end.
 use Rattle.std.proofs.Common.{◌≡◌, ◌↔◌, subst, ℕ, ◌+◌, List, [], Result, Ok, Err, refl, arith}
 use Rattle.fuse_wire.specs.Stream.{IsSplit}
 use Rattle.serve_loop.specs.Rounds.{Answering}
@@ -13,6 +15,7 @@ answered : (by : Answering) (t : Trace) (messages : List (List ℕ)) (rest : Lis
 answered by t messages rest s a = record { split = s; put = a.put; flushed_all = a.flushed_all }
 
 module _ {A : Type 0} (by : Answering) (nodes turns : ℕ) (t : Trace) where
+  -- a run that ends with `Ok` has answered a stream of whole messages
   pub served : (done : Done A) → IsRun by nodes turns t (Ok done) → HasServed by nodes t done
   served done r = record {
     ended = r.end.ended;
@@ -23,25 +26,31 @@ module _ {A : Type 0} (by : Answering) (nodes turns : ℕ) (t : Trace) where
     balanced = r.end.balanced;
   }
 
+  -- a run that ends with `BadLength` has answered all messages before that place
   pub has_bad : (at len : ℕ) → IsRun {A = A} by nodes turns t (Err (BadLength at len)) → HasBadLength by t at len
   has_bad at len r = record { messages = r.messages; rest = r.rest; answered = answered by t r.messages r.rest r.split r.end.2; place =
         r.end.1; bad = r.end.0 }
 
+  -- a run that ends with `CutOff` has answered all messages before that place
   pub is_cut : (at : ℕ) → IsRun {A = A} by nodes turns t (Err (CutOff at)) → IsCutOff by t at
   is_cut at r = record { ended = r.end.0; messages = r.messages; rest = r.rest; answered = answered by t r.messages r.rest r.split r.end.3;
         place = r.end.2; cut = r.end.1 }
 
+  -- a run that ends with `Read` has answered all messages that came before the failure
   pub well_at_read : IsRun {A = A} by nodes turns t (Err Read) → HasFailed by t
   well_at_read r = record { failed = r.end.0; messages = r.messages; rest = r.rest; answered =
         answered by t r.messages r.rest r.split r.end.1 }
 
+  -- a run that ends with `Turns` has made all its pulls, and answered all messages that came
   pub well_at_turns : IsRun {A = A} by nodes turns t (Err Turns) → HasUsedTurns by turns t
   well_at_turns r = record { pulls = r.end.0; messages = r.messages; rest = r.rest; answered =
         answered by t r.messages r.rest r.split r.end.2; good = r.end.1 }
 
+  -- at every end what was put is the beginning of the replies
   pub front : (result : Result (Done A) Stop) → IsRun by nodes turns t result → IsFront by t
   front result r = record { messages = r.messages; rest = r.rest; split = r.split; begun = r.begun }
 
+  -- at every end all replies to what was got before the last pull are flushed
   pub prompt : (result : Result (Done A) Stop) → IsRun by nodes turns t result → IsPrompt by t
   prompt result r = r.prompt
 
@@ -56,14 +65,19 @@ write_told _ old new e = (λ q. absurd (cc), λ f. absurd (omega arith))
 
 module _ {A : Type 0} (by : Answering) (nodes turns : ℕ) (t : Trace) (result : Result (Done A) Stop) (r : IsRun by nodes turns t result)
     where
+  -- a run ends with `Read` exactly where the source failed once in it
   pub read_is_exact : (result ≡ Err Read) ↔ (t.source.failures ≡ t.source_before.failures + 1)
   read_is_exact = read_told result t.source_before.failures t.source.failures r.counted.read
 
+  -- a run ends with `Write` exactly where the sink failed once in it
   pub write_is_exact : (result ≡ Err Write) ↔ (t.sink.failures ≡ t.sink_before.failures + 1)
   write_is_exact = write_told result t.sink_before.failures t.sink.failures r.counted.write
 
+-- the ends at which all is answered
 pub ruleset ends = (served, has_bad, is_cut, well_at_read, well_at_turns)
 
+-- which device failed
 pub ruleset faults = (read_is_exact, write_is_exact)
 
+-- what holds at every end
 pub ruleset always = (front, prompt)

@@ -1,4 +1,6 @@
--- Parts of a buffer.
+-- Parts of a buffer, from its start to its end: some of their first bytes are let go (`passed`),
+-- and a pull puts bytes behind them (`held_grown`) or none (`held_unchanged`), while the bytes
+-- before the end stay.
 use Rattle.std.proofs.Common.{◌≡◌, ◌∙◌, sym, ap, ℕ, ◌+◌, ◌-◌, ◌≤◌, List, [], ◌++◌, append-nil, length, take, drop, arith, length-take, length-drop}
 use Rattle.std.proofs.Math.Seq.{take-add}
 use Rattle.std.proofs.lemmas.List.{drop-take, drop-drop}
@@ -8,7 +10,7 @@ use Rattle.serve_loop.specs.Buffers.{part}
 part_length : (xs : List ℕ) (s e : ℕ) → length (part xs s e) ≤ e - s
 part_length xs s e = let l = length-take (e - s) (drop s xs) in omega arith
 
--- the first bytes of a part are let go
+-- where the start goes on by n bytes, the part has lost its first n
 pub passed : (xs : List ℕ) (s n e : ℕ) → n ≤ length (part xs s e) → part xs (s + n) e ≡ drop n (part xs s e)
 passed xs s n e h =
     let l = part_length xs s e in
@@ -37,11 +39,12 @@ grown old new s e n h q =
 unchanged : (old new : List ℕ) (s e : ℕ) → s ≤ e → take e new ≡ take e old → part new s e ≡ part old s e ++ []
 unchanged old new s e h q = same_part old new s e h q ∙ sym (append-nil (part old s e))
 
--- the same, of bytes as a vector holds them
+-- where the end goes on by n bytes, the part has got those n that stand behind it
 pub held_grown : (old new kept : List ℕ) (s e n : ℕ) → kept ≡ new → s ≤ e → take e new ≡ take e old → part kept s (e + n) ≡ part old s e
     ++ take n (drop e new)
 held_grown old new kept s e n k h q = ap (λ xs. part xs s (e + n)) k ∙ grown old new s e n h q
 
+-- where no bytes come behind it, the part is as it was
 pub held_unchanged : (old new kept : List ℕ) (s e : ℕ) → kept ≡ new → s ≤ e → take e new ≡ take e old → part kept s e ≡ part old s e ++ []
 held_unchanged old new kept s e k h q = ap (λ xs. part xs s e) k ∙ unchanged old new s e h q
 

@@ -1,4 +1,6 @@
--- A stream, round by round.
+-- A stream, round by round. `goes_further` is the main lemma: states that go on to one another by
+-- rounds (`goes_round`), their replies flushed, go on as by one; counts stay small meanwhile
+-- (`small_on`). `halts_further` is the same where answering stops in the last round.
 use Rattle.std.proofs.Common.{◌≡◌, ◌∙◌, sym, ap, subst, ℕ, ◌+◌, ◌*◌, ◌<◌, ◌≤◌, ◌^◌, inl, inr, ℤ, List, [], ◌∷◌, ◌++◌, length, drop, map, refl, arith, append_assoc, length-append, Result, Ok, Err, IsErrAnd, IfErr}
 use Rattle.std.specs.List.{AllByRecursion}
 use Rattle.std.proofs.lemmas.List.{map-append}
@@ -26,9 +28,11 @@ pub joined_long : (ms : List (List ℕ)) → AllByRecursion IsMessage ms → len
 joined_long [] e = omega arith
 joined_long (m ∷ ms) e = let k = joined_long ms e.1 in let g = e.0.good.0 in let l = length-append m (joined ms) in omega arith
 
+-- where nothing is put, nothing waits to be flushed that did not wait before
 pub flushed_none : (p : Pushes) → HasFlushed [] p p
 flushed_none p = record { failures = refl; flushed = inl (refl, refl) }
 
+-- bytes that are put and flushed, and then others, are all put and flushed
 pub flushed_on : (p q r : Pushes) (put more : List ℕ) → HasFlushed put p q → HasFlushed more q r → HasFlushed (put ++ more) p r
 flushed_on p q r put more h k = record {
   failures = k.failures ∙ h.failures;
@@ -38,10 +42,11 @@ flushed_on p q r put more h k = record {
   ];
 }
 
+-- no more bytes wait for a flush than waited before and were put
 pub not_late : (p q : Pushes) (put : List ℕ) → HasFlushed put p q → q.unflushed ≤ p.unflushed + length put
 not_late p q put h = elim h.flushed [ inl x ↦ (let y = x.1 in omega arith) | inr x ↦ omega arith ]
 
--- a round, of what is equal
+-- a round of a stream and balances is one of those that are equal to them
 pub round_of : (by : Answering) (s : Session) (round : Round) (put rest seen : List ℕ) (old held new kept : List ℤ) → seen ≡ rest
     → held ≡ old → new ≡ kept →
     IsRound by s seen round put (record { old = held; new = new }) → IsRound by s rest round put (record { old = old; new = kept })
@@ -50,31 +55,35 @@ round_of by s round put rest seen old held new kept e f g r =
     let y = subst (λ (b : List ℤ). IsRound by s rest round put (record { old = b; new = new })) f x in
     subst (λ (b : List ℤ). IsRound by s rest round put (record { old = old; new = b })) g y
 
--- what is appended to nothing
+-- what is appended to an empty list is all of it
 pub all_of : (before after put : List ℕ) → before ≡ [] → after ≡ before ++ put → after ≡ put
 all_of before after put e f = f ∙ ap (λ v. v ++ put) e
 
--- a round has no more messages than bytes
+-- a round has no more messages than there are bytes
 pub round_few : (by : Answering) (s : Session) (round : Round) (put rest : List ℕ) (old new : List ℤ)
     → IsRound by s rest round put (record { old = old; new = new }) → round.messages ≤ length rest
 round_few by s round put rest old new r =
     let j = joined_long r.messages r.first.each in let w = first_within rest r.messages round.used r.first in let k = r.first.size in
         let c = r.count in omega arith
 
+-- a round whose count is not 0 has messages
 pub some_messages : (by : Answering) (s : Session) (round : Round) (put rest : List ℕ) (old new : List ℤ)
     (r : IsRound by s rest round put (record { old = old; new = new })) → (round.messages ≡ 0 → ⊥) → 0 < length r.messages
 some_messages by s round put rest old new r n = let c = r.count in omega (arith, n)
 
--- where memory is refused the error says so
+-- what holds of the error `Memory` holds of a failure that has no other reason
 pub from_memory : {X : Type 0} (r : Result X Stop) (Q : Stop → Type 0) → IsErrAnd r (λ stop. stop ≡ Memory) → Q Memory → IfErr r Q
 from_memory (Ok x) Q i q = absurd i
 from_memory (Err stop) Q i q = subst Q (sym i) q
 
 module _ (by : Answering) where
+  -- a state goes on to itself by no messages
   pub goes_nowhere : (v : ServingState) → Goes by v v [] []
   goes_nowhere v = record { taken = refl; each = tt; answered = none_answered by v.session v.balances; place = omega arith; count =
         omega arith; written = omega arith }
 
+  -- a state that goes on to another, and that to a third, goes on to the third by the messages and
+  -- replies of both
   pub goes_further : (a b c : ServingState) (ms ns : List (List ℕ)) (put more : List ℕ) → Goes by a b ms put → Goes by b c ns more
       → Goes by a c (ms ++ ns) (put ++ more)
   goes_further a b c ms ns put more g h =
@@ -92,7 +101,7 @@ module _ (by : Answering) where
         written = (let x = g.written in let y = h.written in let l = length-append put more in omega arith);
       }
 
-  -- a round that answered some messages
+  -- a state goes on by the messages of a round and the bytes that it answers
   pub goes_round : (from : ServingState) (round : Round) (put rest : List ℕ) (new : List ℤ) (at messages written : ℕ) →
       (r : IsRound by from.session from.rest round put (record { old = from.balances; new = new })) →
       rest ≡ drop round.used from.rest → at ≡ from.at + round.used → messages ≡ from.messages + round.messages → written ≡ from.written
@@ -114,6 +123,7 @@ module _ (by : Answering) where
     none : r.messages ≡ []
     none = no_messages r.messages (sym r.count ∙ z)
 
+    -- the state goes on by no messages, to the balances that the round left
     pub goes_idle : Goes by from (record from { balances = new }) [] []
     goes_idle =
         let a = subst (λ (ms : List (List ℕ)). AreAnswered by from.session ms round.session put (record { old = from.balances; new = new }))
@@ -127,6 +137,7 @@ module _ (by : Answering) where
           written = omega arith;
         }
 
+    -- no message stands at the front of the bytes that the round was given
     pub at_rest : IsRest from.rest
     at_rest = elim r.some [
       | inl h ↦ (let l = ap length none in absurd (omega arith))
@@ -138,7 +149,7 @@ module _ (by : Answering) where
   few from to [] put g l = let e = ap length g.answered.told in omega arith
   few from to (m ∷ ms) put g l = let k = g.each.0.good.0 in let j = length-append m (joined ms) in omega arith
 
-  -- the counts stay small
+  -- counts that are small stay so as messages are answered with less than 2^64 bytes
   pub small_on : (nodes : ℕ) (from to : ServingState) (ms : List (List ℕ)) (put : List ℕ) → IsSmall nodes from → Goes by from to ms put
       → length put < 2 ^ 64 → IsSmall nodes to
   small_on nodes from to ms put s g l =
@@ -154,12 +165,12 @@ module _ (by : Answering) where
                   from.balances to.balances s.balanced g.answered.moves));
       }
 
-  -- some messages take some bytes
+  -- where a message is answered, fewer bytes are left
   pub shorter : (from to : ServingState) (ms : List (List ℕ)) (put : List ℕ) → Goes by from to ms put → 0 < length ms
       → length to.rest < length from.rest
   shorter from to ms put g h = let j = joined_long ms g.each in let t = ap length g.taken ∙ length-append (joined ms) to.rest in omega arith
 
-  -- memory was refused before any byte was put
+  -- refused memory may stop answering before anything is put
   pub halts_now : (v : ServingState) (p : Pushes) → Halts by v p p Memory [] [] v.rest
   halts_now v p = record {
     halt = tt;
@@ -170,7 +181,7 @@ module _ (by : Answering) where
     late = omega arith;
   }
 
-  -- the sink failed in a round
+  -- a sink that fails in a round has taken the beginning of its replies
   pub halts_late : (from : ServingState) (round : Round) (all put rest : List ℕ) (new : List ℤ) (p q : Pushes) →
       (r : IsRound by from.session from.rest round all (record { old = from.balances; new = new })) → all ≡ put ++ rest
           → q.failures ≡ p.failures + 1 → q.unflushed ≤ p.unflushed + length put →
@@ -184,7 +195,7 @@ module _ (by : Answering) where
     late = l;
   }
 
-  -- it goes on for a while, and then stops
+  -- where a state goes on to another and answering stops there, it stops for the first one
   pub halts_further : (a b : ServingState) (p q r : Pushes) (stop : Stop) (ms ns : List (List ℕ)) (put more rest : List ℕ) →
       Goes by a b ms put → HasFlushed put p q → Halts by b q r stop ns more rest → Halts by a p r stop (ms ++ ns) (put ++ more) rest
   halts_further a b p q r stop ms ns put more rest g h k = record {

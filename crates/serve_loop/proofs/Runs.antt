@@ -1,4 +1,6 @@
--- A stream served turn by turn.
+-- A stream served turn by turn. What holds before a turn (`IsRunning`) holds before the next: a
+-- pull gives bytes (`fed`), and what is whole is answered (`went_round`). Each other lemma is an
+-- end of the run, and says that it keeps the one promise (`IsRun`).
 use Rattle.std.proofs.Common.{◌≡◌, ◌∙◌, sym, ap, subst, ℕ, ◌+◌, ◌^◌, ◌<◌, ◌≤◌, inl, inr, ℤ, List, [], ◌++◌, length, map, refl, arith, length-append, append_assoc, append-nil, Result, Ok, Err, Some, IsErrAnd}
 use Rattle.std.proofs.lemmas.List.{map-append}
 use Rattle.fuse_wire.specs.declared.limits.TheConstants.{PULL_SIZE}
@@ -39,6 +41,7 @@ module _ (by : Answering) (nodes : ℕ) where
   prompt_first p q = record { messages = []; rest = []; split = record { whole = take_none _ [] refl; each = tt; tail = inl (inl refl) };
         good = inl refl; told = record { more = all_but q.unflushed []; is = refl } }
 
+  -- before its first turn a run is under way with nothing done
   pub runs_first : (p : Pulls) (q : Pushes) (v : ServingState) → v ≡ start by.first nodes [] → IsRunning by nodes 0 (untouched p q) v []
   runs_first p q v e = record {
     goes = subst (λ (w : ServingState). Goes by (start by.first nodes []) w [] []) (sym e) (goes_nowhere by (start by.first nodes []));
@@ -52,7 +55,7 @@ module _ (by : Answering) (nodes : ℕ) where
     write = refl;
   }
 
-  -- nothing was done
+  -- a run that stops before its first turn, for a reason that no device counts, keeps the promise
   pub stops_first : {A : Type 0} (turns : ℕ) (p : Pulls) (q : Pushes) (stop : Stop) → IsStopped by turns (untouched p q) [] [] stop
       → ends_met {A = A} (Err stop) ≡ 0 → read_failures {A = A} (Err stop) ≡ 0 → write_failures {A = A} (Err stop) ≡ 0
       → IsRun {A = A} by nodes turns (untouched p q) (Err stop)
@@ -72,15 +75,17 @@ module _ (by : Answering) (nodes : ℕ) where
     };
   }
 
+  -- a run that has no turns ends with `Turns`
   pub no_turns : {A : Type 0} (turns : ℕ) (p : Pulls) (q : Pushes) → turns ≡ 0 → IsRun {A = A} by nodes turns (untouched p q) (Err Turns)
   no_turns turns p q z = stops_first turns p q Turns (omega arith, inl refl, record { put = refl; flushed_all = take_none _ [] refl }) refl
       refl refl
 
+  -- a run that is refused memory before its first turn ends with `Memory`
   pub no_memory : {A : Type 0} (turns : ℕ) (p : Pulls) (q : Pushes) → IsRun {A = A} by nodes turns (untouched p q) (Err Memory)
   no_memory turns p q = stops_first turns p q Memory tt refl refl refl
 
   module _ (turn : ℕ) (t : Trace) (v : ServingState) (ms : List (List ℕ)) (r : IsRunning by nodes turn t v ms) where
-    -- where it stops between two turns
+    -- a run that stops between two turns, for a reason that no device counts, keeps the promise
     pub stops_between : {A : Type 0} (turns : ℕ) (stop : Stop) → turn ≤ turns → IsStopped by turns t ms v.rest stop
         → ends_met {A = A} (Err stop) ≡ 0 → read_failures {A = A} (Err stop) ≡ 0 → write_failures {A = A} (Err stop) ≡ 0
         → IsRun {A = A} by nodes turns t (Err stop)
@@ -100,9 +105,11 @@ module _ (by : Answering) (nodes : ℕ) where
       };
     }
 
+    -- a run that has had all its turns ends with `Turns`
     pub ends_turns : {A : Type 0} → IsRun {A = A} by nodes turn t (Err Turns)
     ends_turns = stops_between turn Turns (omega arith) (r.pulls, r.good, all_told t v ms r.goes r.flushed_all) refl refl refl
 
+    -- a run that is refused memory between two turns ends with `Memory`
     pub ends_memory : {A : Type 0} (turns : ℕ) → turn ≤ turns → IsRun {A = A} by nodes turns t (Err Memory)
     ends_memory turns h = stops_between turns Memory h tt refl refl refl
 
@@ -111,9 +118,11 @@ module _ (by : Answering) (nodes : ℕ) where
       got_same : t.got ++ x ≡ t.got
       got_same = ap (λ l. t.got ++ l) e ∙ append-nil t.got
 
+      -- a pull that gave nothing leaves the split of what was got
       pub split_quiet : IsSplit (t.got ++ x) ms v.rest
       split_quiet = record { whole = got_same ∙ r.goes.taken; each = r.goes.each; tail = inl r.good }
 
+      -- a pull that gave nothing finds all replies to what was got before it flushed
       pub prompt_quiet : IsPrompt by (pulled_on t new x)
       prompt_quiet = record {
         messages = ms;
@@ -149,6 +158,8 @@ module _ (by : Answering) (nodes : ℕ) where
         write = r.write ∙ zero_more _ ∙ ap (λ k. t.sink_before.failures + k) (sym w);
       }
 
+      -- where nothing is left the run ends with `Ok`, and its counts and balances are those of the
+      -- messages
       pub ends_clean : {A : Type 0} (done : Done A) → v.rest ≡ [] → done.messages ≡ v.messages → done.written ≡ v.written
           → done.balances.items ≡ v.balances → IsRun by nodes turns (pulled_on t new x) (Ok done)
       ends_clean done e m w b = record {
@@ -169,6 +180,7 @@ module _ (by : Answering) (nodes : ℕ) where
         counted = counted (Ok done) refl refl refl;
       }
 
+      -- where bytes are left the run ends with `CutOff` at the place where they begin
       pub ends_cut : {A : Type 0} → (v.rest ≡ [] → ⊥) → IsRun {A = A} by nodes turns (pulled_on t new x) (Err (CutOff v.at))
       ends_cut {A} e = record {
         messages = ms;
@@ -181,7 +193,7 @@ module _ (by : Answering) (nodes : ℕ) where
         counted = counted {A = A} (Err (CutOff v.at)) refl refl refl;
       }
 
-    -- a pull that failed
+    -- a run whose pull fails ends with `Read`
     pub ends_read : {A : Type 0} (new : Pulls) (x : List ℕ) (failed : Failed) (turns : ℕ) → new ≡ pulled t.source (Err failed) → x ≡ []
         → IsLow t → turn < turns → turns ≤ 2 ^ 40 → IsRun {A = A} by nodes turns (pulled_on t new x) (Err Read)
     ends_read new x failed turns c e low h few =
@@ -205,7 +217,7 @@ module _ (by : Answering) (nodes : ℕ) where
           };
         }
 
-    -- a pull that gave bytes
+    -- after a pull that gave bytes they stand behind what was left, and earlier replies are flushed
     pub fed : (new : Pulls) (x rest : List ℕ) (n : ℕ) → new ≡ pulled t.source (Ok n) → length x ≡ n → n ≤ PULL_SIZE → (n ≡ 0 → ⊥)
         → rest ≡ v.rest ++ x → IsLow t → turn < 2 ^ 40 → IsFed by nodes turn (pulled_on t new x) (record v { rest = rest }) ms
     fed new x rest n c l m z e low h =
@@ -250,6 +262,7 @@ module _ (by : Answering) (nodes : ℕ) where
       all_flushed : flushed_bytes (pushed_on t new more) ≡ t.put ++ more
       all_flushed = flushed_more t.sink new t.put more f.flushed_all p
 
+      -- where what is left is no bad length, the next turn may begin
       pub went_round : IsOpen w.rest → IsRunning by nodes (turn + 1) (pushed_on t new more) w (ms ++ ns)
       went_round o = record {
         goes = on;
@@ -263,6 +276,8 @@ module _ (by : Answering) (nodes : ℕ) where
         write = p.failures ∙ f.write;
       }
 
+      -- where what is left says a bad length, the run ends with `BadLength` at the place where it
+      -- begins
       pub ends_bad : {A : Type 0} (turns len : ℕ) → IsBad w.rest len → turn < turns → IsRun {A = A} by nodes turns (pushed_on t new more)
           (Err (BadLength w.at len))
       ends_bad turns len b h = record {
@@ -328,6 +343,7 @@ module _ (by : Answering) (nodes : ℕ) where
             };
           }
 
+      -- the run ends with `Write` or `Memory`, and what was put is the beginning of the replies
       pub ends_halt : {A : Type 0} (turns : ℕ) (stop : Stop) → Halts by v t.sink new stop ns more rest → turn < turns
           → IsRun {A = A} by nodes turns (pushed_on t new more) (Err stop)
       ends_halt turns Write h lt = halts turns Write h lt (λ a b. tt) refl refl refl
@@ -339,7 +355,7 @@ module _ (by : Answering) (nodes : ℕ) where
       ends_halt turns (Layer layer fault) h lt = absurd h.halt
       ends_halt turns (Layers count) h lt = absurd h.halt
 
--- the counts stay small as bytes come
+-- counts that are small stay so as bytes come
 pub small_fed : (by : Answering) (nodes turn : ℕ) (t : Trace) (v : ServingState) (rest : List ℕ) (ms : List (List ℕ))
     → IsFed by nodes turn t (record v { rest = rest }) ms → IsSmall nodes v → turn < 2 ^ 40 → IsSmall nodes (record v { rest = rest })
 small_fed by nodes turn t v rest ms f s h = record {
@@ -350,7 +366,7 @@ small_fed by nodes turn t v rest ms f s h = record {
   balanced = s.balanced;
 }
 
--- where memory is refused the result says so
+-- a run that fails with `Memory` keeps the promise if that end does
 pub run_memory : {A : Type 0} (by : Answering) (nodes turns : ℕ) (t : Trace) (r : Result (Done A) Stop) → IsErrAnd r (λ stop. stop ≡ Memory)
     → IsRun {A = A} by nodes turns t (Err Memory) → IsRun by nodes turns t r
 run_memory by nodes turns t (Ok done) i p = absurd i

@@ -1,4 +1,6 @@
--- What a trace keeps, turn by turn.
+-- What a trace keeps, turn by turn: `IsRunning` is what holds before each turn, `IsFed` what holds
+-- after a pull that gave bytes. Before them, lists and what of them is flushed; after them, what a
+-- pull counts, and the state that serving begins with.
 use Rattle.std.proofs.Common.{unsigned_abs, lit≤, ◌≡◌, ◌∙◌, sym, ap, subst, ℕ, zero, suc, ◌+◌, ◌-◌, ◌*◌, ◌^◌, ◌<◌, ◌≤◌, ◌==◌, inl, inr, ℤ, pos, Bool, true, false, List, [], ◌∷◌, ◌++◌, length, take, replicate, min, refl, arith, length-append, append-nil, length-take, Ok, Err, Some, cond, if◌then◌else◌}
 use Rattle.std.proofs.Math.Dec.{eqb-suc-zero}
 use Rattle.std.proofs.lemmas.List.{take_at}
@@ -23,19 +25,22 @@ begins_take [] ys n h = record { more = take n ys; is = refl }
 begins_take (x ∷ xs) ys zero h = absurd (omega arith)
 begins_take (x ∷ xs) ys (suc n) h = let b = begins_take xs ys n (omega arith) in record { more = b.more; is = ap (λ l. x ∷ l) b.is }
 
+-- the first bytes of an empty list are all of it
 pub take_none : (n : ℕ) (xs : List ℕ) → xs ≡ [] → take n xs ≡ xs
 take_none zero [] e = refl
 take_none (suc n) [] e = refl
 take_none n (x ∷ xs) e = cc
 
+-- all bytes but the last 0 are all bytes
 pub take_whole : (xs : List ℕ) → take (length xs - 0) xs ≡ xs
 take_whole xs = ap (λ n. take n xs) (let e : length xs - 0 ≡ length xs = omega arith in e) ∙ sym (ap (take (length xs)) (append-nil xs))
     ∙ take_at xs [] (length xs) refl
 
+-- all bytes but those that were appended are those before
 pub all_but_last : (got x : List ℕ) → all_but (length x) (got ++ x) ≡ got
 all_but_last got x = take_at got x _ (let l = length-append got x in omega arith)
 
--- what was flushed stays so
+-- where all was flushed, it stays the beginning of what is flushed as more is put
 pub flushed_late : (put more : List ℕ) (u v : ℕ) → all_but u put ≡ put → v ≤ u + length more → Begins put (all_but v (put ++ more))
 flushed_late [] more u v e h = record { more = all_but v more; is = refl }
 flushed_late (p ∷ put) more u v e h =
@@ -45,6 +50,7 @@ flushed_late (p ∷ put) more u v e h =
     let w = length-append (p ∷ put) more in
     begins_take (p ∷ put) more _ (omega (arith, w, z, h))
 
+-- where all that was put is flushed, and so is what is put then, all is flushed
 pub flushed_more : (p q : Pushes) (put more : List ℕ) → all_but p.unflushed put ≡ put → HasFlushed more p q
     → all_but q.unflushed (put ++ more) ≡ put ++ more
 flushed_more p q put more e s = elim s.flushed [
@@ -53,29 +59,36 @@ flushed_more p q put more e s = elim s.flushed [
   | inr z ↦ ap (λ u. all_but u (put ++ more)) z ∙ take_whole (put ++ more)
 ]
 
+-- a list is a beginning of itself
 pub all_begun : (put whole : List ℕ) → put ≡ whole → Begins put whole
 all_begun put whole e = record { more = []; is = sym e ∙ sym (append-nil put) }
 
+-- a list of length 0 is empty
 pub no_bytes : (xs : List ℕ) → length xs ≡ 0 → xs ≡ []
 no_bytes [] e = refl
 no_bytes (x ∷ xs) e = absurd (omega arith)
 
+-- an open rest that is not empty is an unfinished message
 pub unfinished : (s : List ℕ) → IsOpen s → (s ≡ [] → ⊥) → IsUnfinished s
 unfinished s o n = elim o [ inl e ↦ absurd (n e) | inr u ↦ u ]
 
+-- a number and 0 more are that number
 pub zero_more : (n : ℕ) → n ≡ n + 0
 zero_more n = omega arith
 
--- the beginning of a stream in this session, to so many nodes
+-- nothing is answered yet of these bytes, in this session, to so many nodes
 abbrev pub start : Session → ℕ → List ℕ → ServingState
 start first nodes got = record { rest = got; session = first; at = 0; messages = 0; written = 0; balances = replicate nodes (pos 0) }
 
+-- nothing was got or put, and the counts are as they were
 abbrev pub untouched : Pulls → Pushes → Trace
 untouched p q = record { got = []; put = []; source_before = p; source = p; sink_before = q; sink = q }
 
+-- the same call after one more pull, which gave these bytes
 abbrev pub pulled_on : Trace → Pulls → List ℕ → Trace
 pulled_on t new x = record t { got = t.got ++ x; source = new }
 
+-- the same call after these bytes were put
 abbrev pub pushed_on : Trace → Pushes → List ℕ → Trace
 pushed_on t new more = record t { put = t.put ++ more; sink = new }
 
@@ -88,7 +101,7 @@ length_zeros : (nodes : ℕ) → length (replicate nodes (pos 0)) ≡ nodes
 length_zeros zero = refl
 length_zeros (suc n) = ap suc (length_zeros n)
 
--- what is given from nothing on is the balance
+-- balances that were 0 are, after moves, what the moves come to
 pub from_nothing : (nodes : ℕ) (moves : List Move) (new : List ℤ) → IsMoved moves (replicate nodes (pos 0)) new
     → AreBalances moves nodes new
 from_nothing nodes moves new m = record {
@@ -96,7 +109,7 @@ from_nothing nodes moves new m = record {
   each = λ i h. (let l = length_zeros nodes in let e = m.each i (omega arith) in let z = zero_at nodes i in omega (arith, ints));
 }
 
--- the counts can rise
+-- the counts of the source were low before the call, so that they can rise
 pub record IsLow (t : Trace) : Type 0 where
   pub pulls : t.source_before.pulls < 2 ^ 63
   pub ends : t.source_before.ends < 2 ^ 63
@@ -137,11 +150,13 @@ not_zero (suc n) x y h = ap (λ b. cond b x y) (eqb-suc-zero n)
 
 -- what a pull counts
 module _ (old new : Pulls) (low : old.pulls < 2 ^ 63 + 2 ^ 41) (few_ends : old.ends < 2 ^ 63) (few_failures : old.failures < 2 ^ 63) where
+  -- a pull that gave bytes counts as a pull, and as no end and no failure
   pub some_counted : (n : ℕ) → new ≡ pulled old (Ok n) → (n ≡ 0 → ⊥) → (new.pulls ≡ old.pulls + 1) × (new.ends ≡ old.ends)
       × (new.failures ≡ old.failures) × (new.last ≡ Some (Bytes n))
   some_counted n e z = (ap (λ p. p.pulls) e ∙ rises old.pulls low, ap (λ p. p.ends) e ∙ not_zero n _ _ z, ap (λ p. p.failures) e,
         ap (λ p. p.last) e ∙ not_zero n _ _ z)
 
+  -- a pull that met the end counts as a pull and an end
   pub end_counted : (n : ℕ) → new ≡ pulled old (Ok n) → n ≡ 0 → (new.pulls ≡ old.pulls + 1) × (new.ends ≡ old.ends + 1)
       × (new.failures ≡ old.failures) × (new.last ≡ Some End)
   end_counted n e z =
@@ -149,11 +164,13 @@ module _ (old new : Pulls) (low : old.pulls < 2 ^ 63 + 2 ^ 41) (few_ends : old.e
       (ap (λ p. p.pulls) f ∙ rises old.pulls low, ap (λ p. p.ends) f ∙ rises old.ends (omega arith), ap (λ p. p.failures) f,
             ap (λ p. p.last) f)
 
+  -- a pull that failed counts as a pull and a failure
   pub failure_counted : (failed : Failed) → new ≡ pulled old (Err failed) → (new.pulls ≡ old.pulls + 1) × (new.ends ≡ old.ends)
       × (new.failures ≡ old.failures + 1) × (new.last ≡ Some Failure)
   failure_counted failed e = (ap (λ p. p.pulls) e ∙ rises old.pulls low, ap (λ p. p.ends) e, ap (λ p. p.failures) e
         ∙ rises old.failures (omega arith), ap (λ p. p.last) e)
 
+-- the counts that serving begins with are small
 pub small_first : (first : Session) (nodes : ℕ) → IsSmall nodes (start first nodes [])
 small_first first nodes = record {
   place = lit≤ tt;
@@ -163,12 +180,13 @@ small_first first nodes = record {
   balanced = record { each = λ i h. (let e = ap unsigned_abs (zero_at nodes i) in omega arith) };
 }
 
--- whether what is left is empty, as the code asks
+-- where the code sees its buffer empty, nothing is left
 pub none_left : (seen held left x : List ℕ) (b : Bool) → b ≡ (length seen == 0) → b ≡ true → seen ≡ held → held ≡ left ++ x → left ≡ []
 none_left (y ∷ seen) held left x b e f g h = absurd (grind arith)
 none_left [] held [] x b e f g h = refl
 none_left [] held (y ∷ left) x b e f g h = cc
 
+-- where the code sees bytes in its buffer after a pull that gave none, something is left
 pub some_left : (seen held left x : List ℕ) (b : Bool) → b ≡ (length seen == 0) → b ≡ false → seen ≡ held → held ≡ left ++ x → length x ≡ 0
     → left ≡ [] → ⊥
 some_left [] held left x b e f g h l n = cc

@@ -1,4 +1,6 @@
--- A round, message by message.
+-- A round, message by message. `one_more` is the main lemma: where the first messages of a stream
+-- are answered (`IsSoFar`), one more is. Before it, messages that come after others: their bytes,
+-- replies, moves and sessions; after it, how far a round takes balances.
 use Rattle.std.proofs.Common.{◌≡◌, ◌∙◌, sym, ap, subst, ℕ, ◌+◌, ◌*◌, ◌<◌, ◌≤◌, ◌^◌, ◌⊎◌, inl, inr, ℤ, List, [], ◌∷◌, ◌++◌, length, take, drop, map, refl, arith, append_assoc, append-nil, length-append}
 use Rattle.std.specs.List.{AllByRecursion}
 use Rattle.std.proofs.lemmas.Grind.{flat_map-append}
@@ -15,7 +17,8 @@ use Rattle.reply_model.specs.Streams.{moves_by}
 use Rattle.serve_loop.specs.Rounds.{Answering, Balances, joined, IsAnswered, AreFirst, AreAnswered, IsRound}
 use Rattle.lookup_balances.proofs.Sums.{none_moved, moved_on, within_moved, within_less, light_on}
 
--- what one list of requests and then another is replied, moves and leaves
+-- the replies to two lists of requests are those to the first, and then those to the second in the
+-- session that the first leaves
 pub replies_append : (reply : Session → Asked → List ℕ) (s : Session) (xs ys : List Asked)
     → replies_by reply s (xs ++ ys) ≡ replies_by reply s xs ++ replies_by reply (session_at s xs) ys
 replies_append reply s [] ys = refl
@@ -24,6 +27,8 @@ replies_append reply s (x ∷ xs) ys =
     ∙ sym (append_assoc (reply s x) (replies_by reply (session_after s x.op) xs)
           (replies_by reply (session_at (session_after s x.op) xs) ys))
 
+-- the moves of two lists of requests are those of the first, and then those of the second in the
+-- session that the first leaves
 pub moves_append : (moved : Session → Asked → List Move) (s : Session) (xs ys : List Asked)
     → moves_by moved s (xs ++ ys) ≡ moves_by moved s xs ++ moves_by moved (session_at s xs) ys
 moves_append moved s [] ys = refl
@@ -31,18 +36,21 @@ moves_append moved s (x ∷ xs) ys =
     ap (λ r. moved s x ++ r) (moves_append moved (session_after s x.op) xs ys)
     ∙ sym (append_assoc (moved s x) (moves_by moved (session_after s x.op) xs) (moves_by moved (session_at (session_after s x.op) xs) ys))
 
+-- the session that two lists of requests leave is the one that the second leaves after the first
 pub session_append : (s : Session) (xs ys : List Asked) → session_at s (xs ++ ys) ≡ session_at (session_at s xs) ys
 session_append s [] ys = refl
 session_append s (x ∷ xs) ys = session_append (session_after s x.op) xs ys
 
+-- where each of some messages is whole and each of others is, all are
 pub both : (ms ns : List (List ℕ)) → AllByRecursion IsMessage ms → AllByRecursion IsMessage ns → AllByRecursion IsMessage (ms ++ ns)
 both [] ns e f = f
 both (m ∷ ms) ns e f = (e.0, both ms ns e.1 f)
 
+-- the bytes of messages and then others are those of the first and then those of the others
 pub joined_append : (ms ns : List (List ℕ)) → joined (ms ++ ns) ≡ joined ms ++ joined ns
 joined_append ms ns = flat_map-append (λ m. m) ms ns
 
--- the first messages of a stream, and then the first of what is left
+-- the first messages of a stream, and then the first of what is left, are first messages of it
 pub first_on : (stream : List ℕ) (ms ns : List (List ℕ)) (n k : ℕ) → AreFirst stream ms n → AreFirst (drop n stream) ns k
     → AreFirst stream (ms ++ ns) (n + k)
 first_on stream ms ns n k f g = record {
@@ -56,17 +64,18 @@ first_on stream ms ns n k f g = record {
         omega arith);
 }
 
+-- no messages, with no bytes, are the first of any stream
 pub none_first : (stream : List ℕ) → AreFirst stream [] 0
 none_first stream = record { whole = refl; each = tt; size = refl }
 
--- so they are no more than the stream
+-- the first messages of a stream have no more bytes than it
 pub first_within : (stream : List ℕ) (ms : List (List ℕ)) (n : ℕ) → AreFirst stream ms n → n ≤ length stream
 first_within stream ms n f =
     let e = ap length f.whole ∙ length-append (joined ms) (drop n stream) in
     let s = f.size in
     omega arith
 
--- a message at the front is the first
+-- a message that stands at the front of a stream is its first
 pub one_first : (stream : List ℕ) (n : ℕ) → BeginsMessage stream n → AreFirst stream (take n stream ∷ []) n
 one_first stream n b =
     let t : take n stream ≡ b.message = ap (take n) b.is ∙ take_at b.message b.after n b.sized in
@@ -77,9 +86,11 @@ one_first stream n b =
     }
 
 module _ (by : Answering) (s : Session) where
+  -- no messages are answered with no bytes, and leave the session and the balances
   pub none_answered : (b : List ℤ) → AreAnswered by s [] s [] (record { old = b; new = b })
   none_answered b = record { session = refl; told = refl; moves = none_moved b; light = omega arith }
 
+  -- messages that are answered, and then others in the session that they leave, are all answered
   pub answered_on : (ms ns : List (List ℕ)) (t u : Session) (put more : List ℕ) (a b c : List ℤ) →
       AreAnswered by s ms t put (record { old = a; new = b }) → AreAnswered by t ns u more (record { old = b; new = c }) →
       AreAnswered by s (ms ++ ns) u (put ++ more) (record { old = a; new = c })
@@ -106,6 +117,7 @@ module _ (by : Answering) (s : Session) where
           ∙ sym (moves_append by.moved s (map asked ms) (map asked ns))
           ∙ ap (moves_by by.moved s) (sym (map-append asked ms ns))
 
+  -- a message that is answered is a list of one message that is answered
   pub one_answered : (m : List ℕ) (t : Session) (put : List ℕ) (b : Balances) → IsAnswered by s m t put b
       → AreAnswered by s (m ∷ []) t put b
   one_answered m t put b a = record {
@@ -117,7 +129,7 @@ module _ (by : Answering) (s : Session) where
         (subst (λ v. IsLight (by.moved s (asked m)) (length v)) (sym (append-nil m)) a.light);
   }
 
-  -- balances stay far from 2^127 however much of a stream is answered
+  -- answered messages move balances away from 0 by at most 2^64 for each of their bytes
   pub still_within : (limit used : ℕ) (ms : List (List ℕ)) (t : Session) (put : List ℕ) (a b : List ℤ)
       (stream : List ℕ) → AreWithin limit a → AreFirst stream ms used
       → AreAnswered by s ms t put (record { old = a; new = b }) → AreWithin (limit + 2 ^ 64 * used) b
@@ -126,11 +138,11 @@ module _ (by : Answering) (s : Session) where
       let e = f.size in
       within_less _ _ b (omega arith) (within_moved limit (moves_by by.moved s (map asked ms)) a b w x.moves)
 
--- what is appended after what was appended
+-- bytes that are appended, and then more bytes, are appended as one
 pub appended : (all put more old new : List ℕ) → new ≡ old ++ more → old ≡ all ++ put → new ≡ all ++ (put ++ more)
 appended all put more old new e f = e ∙ ap (λ v. v ++ more) f ∙ append_assoc all put more
 
--- some of the first messages are answered
+-- some of the first messages of a stream are answered with these bytes
 pub record IsSoFar (by : Answering) (s : Session) (stream : List ℕ) (round : Round) (put : List ℕ) (b : Balances) : Type 0 where
   pub messages : List (List ℕ)
   pub first : AreFirst stream messages round.used
@@ -138,10 +150,11 @@ pub record IsSoFar (by : Answering) (s : Session) (stream : List ℕ) (round : R
   pub answered : AreAnswered by s messages round.session put b
 
 module _ (by : Answering) (s : Session) (stream : List ℕ) where
+  -- before the first message nothing is answered, and nothing moved
   pub nothing_so_far : (b : List ℤ) → IsSoFar by s stream (record { used = 0; messages = 0; session = s }) [] (record { old = b; new = b })
   nothing_so_far b = record { messages = []; first = none_first stream; count = refl; answered = none_answered by s b }
 
-  -- one message more, as the code cuts it
+  -- where the next message is answered, one more of the first messages is
   pub one_more : (round : Round) (put more : List ℕ) (a b c : List ℤ) (rest : List ℕ) (len : ℕ) (after : Session) →
       IsSoFar by s stream round put (record { old = a; new = b }) → rest ≡ drop round.used stream
       → BeginsMessage rest len → IsAnswered by round.session (take len rest) after more
@@ -160,11 +173,13 @@ module _ (by : Answering) (s : Session) (stream : List ℕ) where
             x);
       }
 
+  -- the messages answered so far are a round, if there is one or what is left begins with none
   pub is_round : (round : Round) (put : List ℕ) (b : Balances) → IsSoFar by s stream round put b
       → (0 < round.messages) ⊎ IsRest (drop round.used stream) → IsRound by s stream round put b
   is_round round put b f o = record { messages = f.messages; first = f.first; count = f.count; answered = f.answered; some =
         elim o [ inl h ↦ inl (let k = f.count in omega arith) | inr r ↦ inr r ] }
 
+  -- a round takes balances within 2^122 no further than 2^123, if the stream has at most 2^57 bytes
   pub so_far_within : (round : Round) (put : List ℕ) (a b : List ℤ)
       → IsSoFar by s stream round put (record { old = a; new = b }) → AreWithin (2 ^ 122) a
       → length stream ≤ 2 ^ 57 → AreWithin (2 ^ 123) b

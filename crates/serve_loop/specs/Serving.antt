@@ -121,6 +121,7 @@ IsStopped by turns t messages rest Memory = Unit {0}
 IsStopped by turns t messages rest (Layer layer fault) = ⊥
 IsStopped by turns t messages rest (Layers count) = ⊥
 
+-- what serving came to: it reached the end, or it stopped
 abbrev pub IsOutcome : {A : Type 0} → Answering → ℕ → ℕ → Trace → List (List ℕ) → List ℕ
     → Result (Done A) Stop → Type 0
 IsOutcome by nodes turns t messages rest (Ok done) = IsServed by nodes t messages rest done

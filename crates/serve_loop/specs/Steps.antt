@@ -27,6 +27,7 @@ pub record ServingState : Type 0 where
   pub written : ℕ
   pub balances : List ℤ
 
+-- the same, of how far the code is
 abbrev pub serving_state : {A : Type 0} → Progress A → ServingState
 serving_state p = record {
   rest = held_in p.buffer;
@@ -72,11 +73,12 @@ abbrev pub GoesOn : Bool → ServingState → ServingState → Type 0
 GoesOn true from to = length to.rest < length from.rest
 GoesOn false from to = IsRest to.rest
 
--- the sink failed, or memory was refused
+-- how often the sink failed where answering stopped for this reason
 abbrev pub sink_failures : Stop → ℕ
 sink_failures Write = 1
 sink_failures _ = 0
 
+-- the sink failed, or memory was refused
 abbrev pub IsHalt : Stop → Type 0
 IsHalt Write = Unit {0}
 IsHalt Memory = Unit {0}

@@ -3,6 +3,7 @@ use Rattle.fuse_answer.specs.Puts.{AreSmall}
 use Rattle.fuse_answer.proofs.Moving.{given}
 use Rattle.fuse_answer.proofs.changes.grow_rows.Given as goal
 
+-- what the rows before the index give is appended, in no less room
 abbrev pub invariant-loop-index : goal.invariant-loop-index
 invariant-loop-index g l = record {
   so_far : l.into.items ≡ l.fn.into.items ++ given l.rows l.index;

@@ -3,6 +3,7 @@ use Rattle.fuse_wire.specs.Replies.{reply_head}
 use Rattle.fuse_answer.proofs.Writing.{written}
 use Rattle.fuse_answer.proofs.rows.put_rows.Given as goal
 
+-- the header and the rows before the index are written, and there is room for all
 abbrev pub invariant-loop-index : goal.invariant-loop-index
 invariant-loop-index g l = record {
   so_far : l.out.items ≡ l.fn.out.items ++ (reply_head l.unique l.rows.size ++ written l.table l.rows l.index);

@@ -9,5 +9,6 @@ invariant-loop-round g l =
     (put : List ℕ) × (l.replies.items ≡ l.fn.replies.items ++ put)
     × IsSoFar (g.T.Answers.answering l.answers) l.fn.session l.stream l.round put (record { old = l.initial.balances; new = l.balances })
 
+-- how many messages the round may have yet
 abbrev pub decreases-loop-round : goal.decreases-loop-round
 decreases-loop-round g l = MAX_ROUND_MESSAGES - l.round.messages

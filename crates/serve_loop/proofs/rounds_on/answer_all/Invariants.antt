@@ -15,5 +15,6 @@ invariant-loop-stop g l =
     × IsWithinBytes l.progress.buffer
     × IsSmall (g.T.Rounds.nodes l.answers) (serving_state l.progress)
 
+-- how many bytes are not answered yet
 abbrev pub decreases-loop-stop : goal.decreases-loop-stop
 decreases-loop-stop g l = length (serving_state l.progress).rest
