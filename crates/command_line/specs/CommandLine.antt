@@ -98,13 +98,15 @@ IsTaken words = faults_in words ≡ []
 
 -- ---- numbers
 
--- the most workers, requests of a batch, and sessions
+-- the most workers
 abbrev pub most_workers : ℕ
 most_workers = 64
 
+-- the most requests of a batch
 abbrev pub most_batch : ℕ
 most_batch = 256
 
+-- the most sessions
 abbrev pub most_sessions : ℕ
 most_sessions = 65535
 
@@ -195,6 +197,7 @@ names_both_of rows = is_given (codes "device") rows
     && (is_some (first_of (codes "requests") rows) || (is_some (first_of (codes "replies") rows)
     || is_some (first_of (codes "balances") rows)))
 
+-- the rows name a file beside the device
 abbrev pub AreCrossed : List Row → Type 0
 AreCrossed rows = names_both_of rows ≡ true
 

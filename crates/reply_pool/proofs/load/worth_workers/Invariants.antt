@@ -1,6 +1,7 @@
 use Rattle.std.proofs.Common.{◌*◌, ◌-◌, ◌^◌, ◌≤◌}
 use Rattle.reply_pool.proofs.load.worth_workers.Given as goal
 
+-- at most 256 messages so far, a bounded time for each, and replies within 2 MiB
 abbrev pub invariant-loop-messages : goal.invariant-loop-messages
 invariant-loop-messages g l = record {
   few : l.messages ≤ 256;
@@ -8,5 +9,6 @@ invariant-loop-messages g l = record {
   room : l.room ≤ 2097152;
 }
 
+-- each turn takes one message more of 256
 abbrev pub decreases-loop-messages : goal.decreases-loop-messages
 decreases-loop-messages g l = 256 - l.messages
