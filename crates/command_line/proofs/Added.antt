@@ -1,4 +1,5 @@
--- What an argument or a command that is added makes of a command.
+-- What an argument or a command that is added makes of a command: `added_rule` and `added_command`
+-- say it of the app that the command builds, by which the whole program is then known.
 use Rattle.std.proofs.Common.{◌≡◌, ◌∙◌, true, false, ap, ap₂}
 use Rattle.clap.specs.Built.{AddsArg, AddsSubcommand}
 use Rattle.clap.specs.Simple.{App, app_of, with_rule, with_subcommand}

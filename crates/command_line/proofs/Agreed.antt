@@ -1,4 +1,6 @@
--- What the words of a line settle.
+-- What the words of a line settle. Words name one command, and each verb has its own word; so two
+-- lines of the same words say the same (`lines_agree`), and words with a line have no fault
+-- (`lines_are_faultless`).
 use Rattle.std.proofs.Common.{◌≡◌, ◌∙◌, ◌==◌, ℕ, cond, ap, refl, sym, subst, List, Option, Some, unwrap_or, option_map, slice_index, inl, inr}
 use Rattle.clap.specs.Walk.{Row, Text}
 use Rattle.command_line.specs.declared.options.Line.{Line}
@@ -28,9 +30,11 @@ one_word a b e = sym (verb_is a) ∙ ap (λ word. verb_by (slice_index word 1)) 
 pub one_name : (o : Option (Text × List Row)) (a b : Text) (r s : List Row) → o ≡ Some (a, r) → o ≡ Some (b, s) → a ≡ b
 one_name o a b r s e f = ap (λ o. unwrap_or (option_map (λ (p : Text × List Row). p.0) o) b) (sym e ∙ f)
 
+-- and it has one list of rows
 pub same_rows : (o : Option (Text × List Row)) (a b : Text) (r s : List Row) → o ≡ Some (a, r) → o ≡ Some (b, s) → r ≡ s
 same_rows o a b r s e f = ap (λ o. unwrap_or (option_map (λ (p : Text × List Row). p.1) o) s) (sym e ∙ f)
 
+-- two lines of the same words say the same
 pub lines_agree : LinesAgree
 lines_agree = record {
   both_say = λ words a b is_a is_b.
@@ -53,5 +57,6 @@ faultless words line (Usage text) is told = elim told [
         bad.crossed))
 ]
 
+-- words that have a line meet no fault but want of memory
 pub lines_are_faultless : LinesAreFaultless
 lines_are_faultless = record { only_memory = faultless }

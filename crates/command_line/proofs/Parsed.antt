@@ -1,4 +1,6 @@
--- What a parse by the program says of the words.
+-- What a parse by the program says of the words. It goes from the matches to the rows of the
+-- command, from these to the numbers and names of a line, and ends with `line_is` and `fault_is`:
+-- what the code gives is the line of the words, or a fault of theirs.
 use Rattle.std.specs.Borrow.{Bor}
 use Rattle.std.specs.Prelude.{Box}
 use Rattle.std.specs.Box.{box_value}
@@ -67,18 +69,19 @@ parsed_fault a words error (Usage text) is kinds told = inl (λ taken. elim (kin
 
 -- ---- what the matches give
 
--- the images, where there are any
+-- where the rows are filled, the matches hold images
 pub some_images : (f : Found) (o : Option (Bor (List (Bor Text)))) → option_map (λ s. texts s.now) o ≡ option_map raw_values
     (matched_of f (codes "image"))
     → IsFilled (rows_of f) → is_some o ≡ true
 some_images f o are filled = some_of_text (λ s. texts s.now) o _ (are ∙ (raw_values-rows f (codes "image") ∙ filled.images)) refl
 
+-- the images that the matches hold are those of the rows
 pub images_are : (f : Found) (o : Option (Bor (List (Bor Text)))) (s : Bor (List (Bor Text)))
     → option_map (λ s. texts s.now) o ≡ option_map raw_values (matched_of f (codes "image")) → o ≡ Some s
     → Some (texts s.now) ≡ all_of (codes "image") (rows_of f)
 images_are f o s are is = ap (option_map (λ s. texts s.now)) (sym is) ∙ (are ∙ raw_values-rows f (codes "image"))
 
--- one or more
+-- the images of filled rows are one or more
 pub one_or_more : (rows : List Row) (images : List (Bor Text)) → IsFilled rows → Some (texts images) ≡ all_of (codes "image") rows
     → 1 ≤ length images
 one_or_more rows images filled are =
@@ -153,7 +156,7 @@ command_verb words name rows taken is =
     go verbs.Check same = inr (inr (inl same))
     go verbs.List same = inr (inr (inr same))
 
--- there is one
+-- words that are a command have one among the matches
 pub some_command : (m : ArgMatches) (words : List Text) → IsTaken words → subcommand_rows_of m ≡ command_in words → has_subcommand m ≡ true
 some_command m words taken is =
     let names = taken_names words taken in
@@ -181,7 +184,7 @@ numbers_are f workers batch sessions w b s =
       s.value ∙ ap (number_or 1) s_is,
     )
 
--- and a fault of one of them
+-- a fault of the number of workers is want of memory, or one of the rows
 pub workers_fault : (f : Found) (fault : LineFault) → (fault ≡ Memory)
     ⊎ (¬ IfSome (first_value f (codes "workers")) (IsNumberTo MAX_WORKERS))
     → (fault ≡ Memory) ⊎ ((¬ HaveNumbersInRange (rows_of f)) ⊎ AreCrossed (rows_of f))
@@ -190,12 +193,14 @@ workers_fault f fault (inr bad) = inr (inl (λ numbered. bad
     (subst (λ o. IfSome o (IsNumberTo MAX_WORKERS)) (sym (first_value-rows f (codes "workers")))
     numbered.workers)))
 
+-- so is a fault of the size of a batch
 pub batch_fault : (f : Found) (fault : LineFault) → (fault ≡ Memory) ⊎ (¬ IfSome (first_value f (codes "batch")) (IsNumberTo MAX_BATCH))
     → (fault ≡ Memory) ⊎ ((¬ HaveNumbersInRange (rows_of f)) ⊎ AreCrossed (rows_of f))
 batch_fault f fault (inl memory) = inl memory
 batch_fault f fault (inr bad) = inr (inl
       (λ numbered. bad (subst (λ o. IfSome o (IsNumberTo MAX_BATCH)) (sym (first_value-rows f (codes "batch"))) numbered.batch)))
 
+-- so is a fault of the number of sessions
 pub sessions_fault : (f : Found) (fault : LineFault) → (fault ≡ Memory)
     ⊎ (¬ IfSome (first_value f (codes "sessions")) (IsNumberTo MAX_SESSIONS))
     → (fault ≡ Memory) ⊎ ((¬ HaveNumbersInRange (rows_of f)) ⊎ AreCrossed (rows_of f))

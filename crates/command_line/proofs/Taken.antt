@@ -1,4 +1,6 @@
--- Words that are a command of the program name one of its commands, whose rows are filled.
+-- Words that are a command of the program name one of its commands, whose rows are filled:
+-- `taken_names`. Each command is looked at by itself (`serve_filled` to `list_filled`), and then
+-- which one is entered.
 use Rattle.std.proofs.Common.{◌≡◌, ◌||◌, ◌∙◌, Bool, cond, codes, true, false, refl, sym, List, [], ◌∷◌, Option, Some, None, is_some, true≢false, option_map}
 use Rattle.std.specs.List.{list_all, slice_index_or}
 use Rattle.std.specs.Option.{option_map_or}

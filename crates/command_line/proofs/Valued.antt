@@ -1,4 +1,6 @@
--- How the rows of a command are filled: those of the flags with their truth, each other with a value.
+-- How the rows of a command are filled: those of the flags with their truth, each other with a
+-- value. Each use of an option (`used_filled`) and each default value keeps them so; `some_value`
+-- and `rows_filled` say what can then be read of them.
 use Rattle.std.proofs.Common.{◌≡◌, ◌==◌, ◌&&◌, ◌||◌, ◌∙◌, ℕ, Bool, cond, codes, true, false, refl, sym, ap, arith, subst, eqb-true, List, [], ◌∷◌, ◌++◌, length, true≢false, nat_lt, MatchOption, Option, Some, None, is_some, option_map, unwrap_or}
 use Rattle.std.specs.Prelude.{find, option_and_then, slice_get}
 use Rattle.std.specs.List.{fold, list_all}

@@ -1,5 +1,6 @@
--- What a walk over the words of a command keeps, where none of them is at fault: a test on its rows, and that none of
--- them names the command `help`.
+-- What a walk over the words of a command keeps, where none of them is at fault. The main lemmas
+-- are `walk_kept`, of a test on its rows, and `walk_no_help`, that none of the words names the
+-- command `help`; each goes step by step as the walk does.
 use Rattle.std.proofs.Common.{◌≡◌, ◌&&◌, ℕ, Bool, cond, codes, true, false, not, zero, suc, refl, ap, List, [], ◌∷◌, ◌∙◌, length, Option, Some, None, is_some}
 use Rattle.std.specs.Prelude.{slice_get}
 use Rattle.std.specs.List.{find, fold, list_all}
@@ -62,6 +63,7 @@ module _ (test : Row → Bool) (fits : Rule → Bool) (s : Shape)
   by_id_kept None vs rows one e before = before
   by_id_kept (Some a) vs rows one e before = kept a vs rows one e before
 
+  -- what the words were waiting for is settled, and the test holds of each row after it
   pub settle_kept : (h : Held) → settle_fault s.rules s.args_override_self h ≡ [] → list_all test h.rows ≡ true
       → list_all test (settled s.rules h).rows ≡ true
   settle_kept h e before = go h.pending e

@@ -1,4 +1,6 @@
--- The worked command lines, by computation.
+-- The worked command lines, by computation. A line is read off the command that its words name and
+-- the rows of it (`reads`), and the numbers of a line are tested by a function that computes
+-- (`is_numbered`).
 use Rattle.std.proofs.Common.{◌≡◌, ◌∙◌, ◌&&◌, ℕ, Bool, refl, sym, subst, codes, true, false, true≢false, nat_lt, nat_le, length, unwrap_or, option_map, List, [], ◌∷◌, Option, Some, None, IfSome}
 use Rattle.std.specs.Char.{digit_value}
 use Rattle.std.specs.Str.Parse.{AllDigits, digits_value}
@@ -113,6 +115,7 @@ misnumbers text verb rows taken command numbers = record {
 rows_in : Text → List Row
 rows_in text = unwrap_or (option_map (λ p. p.1) (command_in (words_of text))) []
 
+-- the lines that are commands say what the examples state
 pub taken_lines : TakenLines
 unfolding clap_on_literals faults_in command_in rows_in
 taken_lines = record {
@@ -146,6 +149,7 @@ taken_lines = record {
       _ refl refl refl refl refl;
 }
 
+-- the lines that are none are refused for what the examples state
 pub refused_lines : RefusedLines
 unfolding clap_on_literals faults_in command_in rows_in
 refused_lines = record {
@@ -181,6 +185,7 @@ refused_lines = record {
   minus_apart = refl;
 }
 
+-- the lines with a number out of its range are refused for it
 pub misnumbered_lines : MisnumberedLines
 unfolding clap_on_literals faults_in command_in rows_in
 misnumbered_lines = record {

@@ -187,6 +187,7 @@ names_both_of rows = is_given (codes "device") rows
     && (is_some (first_of (codes "requests") rows) || (is_some (first_of (codes "replies") rows)
     || is_some (first_of (codes "balances") rows)))
 
+-- the rows name a file beside the device
 abbrev pub AreCrossed : List Row → Type 0
 AreCrossed rows = names_both_of rows ≡ true
 

@@ -14,6 +14,7 @@ abbrev pub cut : Text → Text → List Text
 cut word [] = word ∷ []
 cut word (c ∷ cs) = if c == 32 then word ∷ cut [] cs else cut (word ++ c ∷ []) cs
 
+-- the words of a text, cut at each blank
 abbrev pub words_of : Text → List Text
 words_of = cut []
 

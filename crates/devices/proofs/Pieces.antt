@@ -1,4 +1,5 @@
--- Bytes that are pushed piece by piece.
+-- Bytes that are pushed piece by piece. `begins` and `goes_on` are the loop: a push takes the first
+-- of what is to come, which leaves the rest.
 use Rattle.std.proofs.Common.{rules, ◌≡◌, ◌∙◌, sym, ap, ℕ, ◌+◌, ◌-◌, ◌≤◌, ◌==◌, if◌then◌else◌, List, [], ◌++◌, length, take, drop, Ok, refl, arith, append_assoc, take-append-drop, length-append, length-take}
 use Rattle.std.proofs.lemmas.List.{take_rest}
 use Rattle.std.proofs.KnownBytes.{Appends-nil, Appends-trans}
@@ -15,12 +16,14 @@ pub record IsUnderWay (bytes rest done : List ℕ) (old new : SinkState) : Type 
   pub well : new.counts.failures ≡ old.counts.failures
   pub flushes : new.counts.flushes ≡ old.counts.flushes
 
+-- before the first push nothing is pushed, and all is to come
 pub begins : (bytes : List ℕ) (old : SinkState) → IsUnderWay bytes bytes [] old old
 begins bytes old = record { split = refl; held = Appends-nil old.held; late = omega arith; well = refl; flushes = refl }
 
 taken : (n x y : ℕ) → (n ≡ 0 → ⊥) → (if n == 0 then x else y) ≡ y
 taken n x y h = search rules
 
+-- a push that takes some of what is to come leaves the rest
 pub goes_on : (bytes rest done : List ℕ) (old mid new : SinkState) (n : ℕ) →
     IsUnderWay bytes rest done old mid → n ≤ length rest → (n ≡ 0 → ⊥)
     → Appends mid.held new.held (take n rest) → new.counts ≡ pushed mid.counts (length rest) (Ok n) →

@@ -1,4 +1,5 @@
--- The numbers among positions, and the history of a counter.
+-- The numbers among positions, and the history of a counter. `all_numbers` says which numbers so
+-- many draws give, and `both_numbers` that of two hands none is lost.
 use Rattle.std.proofs.Common.{◌≡◌, ℕ, zero, suc, ◌+◌, ◌<◌, ◌≤◌, cond, Bool, true, false, ltb, List, [], ◌∷◌, ◌++◌, refl, sym, ap, ◌∙◌, arith, lt-ltb, le-ltb, sum_by}
 use Rattle.std.specs.List.{range_with_len}
 use Rattle.std.proofs.lemmas.List.FromFn.{map-range_with_len_more}
@@ -8,6 +9,7 @@ use Rattle.draw_board.specs.Counter.{drawn_at, history}
 use Rattle.draw_board.specs.Positions.{Unites, numbers, times}
 use Rattle.draw_board.proofs.Rising.{one}
 
+-- one draw more makes the history longer by this draw
 pub one_more : (total n : ℕ) → history total (n + 1) ≡ history total n ++ drawn_at total n ∷ []
 one_more total n = map-range_with_len_more (drawn_at total) 0 n n (omega arith)
 
@@ -28,6 +30,7 @@ numbers-range total a (suc k) zero e h = absurd (omega arith)
 numbers-range total a (suc k) (suc n) e h = numbers-in total a (range_with_len (a + 1) n) (omega arith)
     ∙ ap (λ (l : List ℕ). a ∷ l) (numbers-range total (a + 1) k n (omega arith) (omega arith))
 
+-- positions from 0 to the total or further have all numbers among them, in order
 pub all_numbers : (total n : ℕ) → total ≤ n → numbers total (range_with_len 0 n) ≡ range_with_len 0 total
 all_numbers total n h = numbers-range total 0 total n (omega arith) h
 
@@ -43,6 +46,7 @@ times-numbers total x (y ∷ ys) = cases (ltb y total) ∙ (omega (arith, times-
     cases true = sum_by-cons (λ z. one z x) y (numbers total ys)
     cases false = omega arith
 
+-- a number stands among those of a union as often as among those of both
 pub both_numbers : (total x : ℕ) (mine others all : List ℕ) → Unites mine others all
     → times x (numbers total all) ≡ times x (numbers total mine) + times x (numbers total others)
 both_numbers total x mine others all u = let f : ℕ → ℕ = among total x in

@@ -1,4 +1,6 @@
--- Rising lists: what stands in them, and how two are merged.
+-- Rising lists: what stands in them, and how two are merged. The main lemmas are `rises-whole`,
+-- that a rising list that fills its range is the range, and `unites`, that a merged list which
+-- rises is of two lists with no position in common.
 use Rattle.std.proofs.Common.{◌≡◌, ℕ, suc, ◌+◌, ◌<◌, ◌≤◌, ◌≢◌, cond, eqb, List, [], ◌∷◌, ◌++◌, length, sym, refl, ap, ◌∙◌, subst, arith, length-append, eq-eqb, ne_eqb, lt-ltb, le-ltb, lt_of_not-le}
 use mathlib.Core.Logic.{dite}
 use native.Mathlib.Decide.{ℕ_discrete, dec_le}
@@ -12,15 +14,19 @@ use Rattle.draw_board.specs.Positions.{times, Unites, RisesWithin, inserted, mer
 abbrev pub one : ℕ → ℕ → ℕ
 one y x = cond (eqb y x) 1 0
 
+-- a number is itself once
 pub one-same : (y x : ℕ) → y ≡ x → one y x ≡ 1
 one-same y x e = ap (λ b. cond b 1 0) (eq-eqb y x e)
 
+-- and another number not once
 pub one-other : (y x : ℕ) → y ≢ x → one y x ≡ 0
 one-other y x n = ap (λ b. cond b 1 0) (ne_eqb y x n)
 
+-- a position stands in a list as often as at its front and behind that
 pub times-cons : (x y : ℕ) (l : List ℕ) → times x (y ∷ l) ≡ one y x + times x l
 times-cons x y l = sum_by-cons (λ z. one z x) y l
 
+-- and as often as before its last and there
 pub times-push : (x p : ℕ) (l : List ℕ) → times x (l ++ p ∷ []) ≡ times x l + one p x
 times-push x p l = sum_by_push (λ z. one z x) l p
 
@@ -39,21 +45,26 @@ inserted-moves x (y ∷ ys) = put (λ l. IsPermutation (x ∷ y ∷ ys) l) x y y
     (IsPermutation-sym (y ∷ x ∷ ys) (x ∷ y ∷ ys) (IsPermutation-middle (y ∷ []) x ys))
     (IsPermutation-cons y (x ∷ ys) (inserted x ys) (inserted-moves x ys)))
 
+-- a merged list is both lists in another order
 pub merged-moves : (l m : List ℕ) → IsPermutation (l ++ m) (merged l m)
 merged-moves [] m = IsPermutation-refl m
 merged-moves (x ∷ xs) m = IsPermutation-trans (x ∷ (xs ++ m)) (x ∷ merged xs m) (inserted x (merged xs m))
     (IsPermutation-cons x (xs ++ m) (merged xs m) (merged-moves xs m)) (inserted-moves x (merged xs m))
 
+-- a position stands in it as often as in both
 pub times-merged : (x : ℕ) (l m : List ℕ) → times x (merged l m) ≡ times x l + times x m
 times-merged x l m = sum_by-IsPermutation (λ z. one z x) (l ++ m) (merged l m) (merged-moves l m) ∙ sum_by-append (λ z. one z x) l m
 
+-- it is as long as both
 pub length-merged : (l m : List ℕ) → length (merged l m) ≡ length l + length m
 length-merged l m = length_permutation (l ++ m) (merged l m) (merged-moves l m) ∙ length-append l m
 
+-- a rising list is no longer than its range
 pub rises-span : (a : ℕ) (l : List ℕ) (b : ℕ) → RisesWithin a l b → a + length l ≤ b
 rises-span a [] b r = omega (arith, r)
 rises-span a (x ∷ xs) b r = let s = rises-span (suc x) xs b r.1 in let h = r.0 in omega arith
 
+-- the range of a rising list may end higher
 pub rises-up : (a : ℕ) (l : List ℕ) (b c : ℕ) → RisesWithin a l b → b ≤ c → RisesWithin a l c
 rises-up a [] b c r h = omega (arith, r)
 rises-up a (x ∷ xs) b c r h = (r.0, rises-up (suc x) xs b c r.1 h)
@@ -62,6 +73,7 @@ rises-down : (c a : ℕ) (l : List ℕ) (b : ℕ) → c ≤ a → RisesWithin a 
 rises-down c a [] b h r = omega (arith, r)
 rises-down c a (x ∷ xs) b h r = (let p = r.0 in omega arith, r.1)
 
+-- behind a rising list may stand what is at or above its range's end
 pub rises-push : (a : ℕ) (l : List ℕ) (b p : ℕ) → RisesWithin a l b → b ≤ p → RisesWithin a (l ++ p ∷ []) (suc p)
 rises-push a [] b p r h = (omega (arith, r), omega arith)
 rises-push a (x ∷ xs) b p r h = (r.0, rises-push (suc x) xs b p r.1 h)
@@ -71,6 +83,7 @@ none_below a [] b x r h = refl
 none_below a (y ∷ ys) b x r h = let p = r.0 in omega (arith, times-cons x y ys, one-other y x (λ e. omega arith),
       none_below (suc y) ys b x r.1 (omega arith))
 
+-- no position at or above the end of its range stands in a rising list
 pub none_above : (a : ℕ) (l : List ℕ) (b x : ℕ) → RisesWithin a l b → b ≤ x → times x l ≡ 0
 none_above a [] b x r h = refl
 none_above a (y ∷ ys) b x r h = let p = rises-span (suc y) ys b r.1 in
@@ -94,6 +107,7 @@ rises-inserted x a (y ∷ ys) b r h g z = let c = times-cons x y ys in put (λ l
     strict : (y x : ℕ) → y ≢ x → y ≤ x → y < x
     strict y x n le = dite (dec_le x y) (λ d. absurd (n (omega arith))) (λ d. lt_of_not-le d)
 
+-- two rising lists of one range with no position twice merge to a rising one
 pub rises-merged : (a : ℕ) (l m : List ℕ) (b : ℕ) → RisesWithin a l b → RisesWithin a m b → ((x : ℕ) → times x l + times x m ≤ 1)
     → RisesWithin a (merged l m) b
 rises-merged a [] m b r s once = s

@@ -1,4 +1,6 @@
--- Each step keeps the rule.
+-- Each step keeps the rule: `draws`, `announces`, `looks`, `splits` and `joins`. They go by `moved`
+-- and `unmoved`, which put a new view in a seat and ask what it does to the sums of all views.
+-- `closes` is what the rule says at the end.
 use Rattle.std.proofs.Common.{◌≡◌, ℕ, ◌+◌, ◌-◌, ◌%◌, ◌^◌, ◌<◌, ◌≤◌, ◌≢◌, ◌⊎◌, cond, eqb, max, List, [], ◌∷◌, ◌++◌, length, get_or, set, sym, refl, ap, ◌∙◌, subst, inl, inr, ⊎_elim, arith, length-set, length-append, get_or-set_same, lt-ltb, le-ltb, lt_of_not-le, sum_by}
 use mathlib.Core.Logic.{dite}
 use mathlib.Core.Option.{none, some, some-injective, some-ne-none}
@@ -76,6 +78,7 @@ moved key s r n id me w h fits once all_drawn all_shares bounded = let wide = r.
       bounded = subst (λ (z : ℕ). z + sum_by misses (set s.views id w) ≤ key.0 + key.1) (sym now) bounded;
     }
 
+-- a hand with a miss left may draw, which keeps the rule and tells a position that it had not seen
 pub draws : (key : Key) (slots id : ℕ) (me : Seated) → 1 ≤ me.0.left → 1 ≤ me.0.share
     → Allows (IsSoundBoard key) slots id me 0 (λ n. (n + 1) % 2 ^ 64) (drew (step slots 0 1 0 none) me)
 draws key slots id me some_left live s r _ at small = (
@@ -146,6 +149,7 @@ unmoved key s r id me w at fits same left share = let v : View = me.0 in moved k
     (let sum = sum_by-set shared s.views id v w at in let before = r.all_shares in omega arith)
     (let sum = sum_by-set misses s.views id v w at in let before = r.bounded in omega arith)
 
+-- a hand may announce how many misses a split will move, which keeps the rule
 pub announces : (key : Key) (slots id : ℕ) (me : Seated) (k : ℕ)
     → Allows (IsSoundBoard key) slots id me 0 (λ n. either (eqb n k) k n) (announced (step slots 0 k k none) me)
 announces key slots id me k s r _ at small = let fits = r.each id me.0 at in let n : ℕ = get_or s.words 0 0 in let w : View =
@@ -165,12 +169,14 @@ announces key slots id me k s r _ at small = let fits = r.each id me.0 at in let
       refl,
     )
 
+-- a live hand may look, which changes nothing and tells that its view is sound
 pub looks : (key : Key) (slots id : ℕ) (me : Seated) → 1 ≤ me.0.share → Allows (IsSoundBoard key) slots id me 0 (λ n. n)
     (looked (step slots 0 0 0 none) me)
 looks key slots id me live s r _ at small = let fits = r.each id me.0 at in let told = fits.told live in
     let le = term_le shared s.views id me.0 at in let shares = r.all_shares in let of = told.1 in
     (me.0, keeps, tt, unmoved key s r id me me.0 at fits refl refl refl, (refl, fits.sound, omega arith))
 
+-- a hand may split off the misses that it announced, where some are left to it
 pub splits : (key : Key) (id : ℕ) (v : View) → 1 ≤ v.asked → v.asked < v.left → Splits (IsSoundBoard key) id v (giver_view v) (given_view v)
 splits key id v some_asked fewer s r at = record {
   one_word = r.one_word;
@@ -215,6 +221,7 @@ splits key id v some_asked fewer s r at = record {
       told = λ _. own.told (omega arith);
     }
 
+-- a hand may take in another of its board, whose view is spent
 pub joins : (key : Key) (id : ℕ) (v : View) (other : ℕ) (w : View) → 1 ≤ v.share → 1 ≤ w.share
     → Joins (IsSoundBoard key) id v other w (joined_view v w) spent_view
 joins key id v other w live live' s r at apart at' = record {

@@ -1,4 +1,5 @@
--- Sums over the elements of a list, of which one changes or is all.
+-- Sums over the elements of a list, of which one changes or is all. `sum_by-set` is the change;
+-- `all_here` is its counterpart for a sum that stands at one place.
 use Rattle.std.proofs.Common.{◌≡◌, ℕ, zero, suc, ◌+◌, ◌≤◌, List, [], ◌∷◌, sum_by, set, sym, refl, ap, arith}
 use mathlib.Core.Option.{some, some-injective, some-ne-none}
 use lib.ListN.{get_elem?}
@@ -6,21 +7,25 @@ use Rattle.std.proofs.lemmas.List.Sums.{sum_by-cons}
 
 module _ {A : Type 0} where
   module _ (f : A → ℕ) where
+    -- a sum changes by what one element changes
     pub sum_by-set : (l : List A) (i : ℕ) (v w : A) → get_elem? l i ≡ some v → sum_by f (set l i w) + f v ≡ sum_by f l + f w
     sum_by-set [] i v w e = absurd (some-ne-none v (sym e))
     sum_by-set (x ∷ xs) zero v w e = omega (arith, ap f (some-injective x v e), sum_by-cons f x xs, sum_by-cons f w xs)
     sum_by-set (x ∷ xs) (suc i) v w e = omega (arith, sum_by-set xs i v w e, sum_by-cons f x xs, sum_by-cons f x (set xs i w))
 
+    -- no term is above the sum
     pub term_le : (l : List A) (i : ℕ) (v : A) → get_elem? l i ≡ some v → f v ≤ sum_by f l
     term_le [] i v e = absurd (some-ne-none v (sym e))
     term_le (x ∷ xs) zero v e = omega (arith, ap f (some-injective x v e), sum_by-cons f x xs)
     term_le (x ∷ xs) (suc i) v e = omega (arith, term_le xs i v e, sum_by-cons f x xs)
 
+    -- where all terms are 0, so is the sum
     pub all_zero : (l : List A) → ((i : ℕ) (v : A) → get_elem? l i ≡ some v → f v ≡ 0) → sum_by f l ≡ 0
     all_zero [] h = refl
     all_zero (x ∷ xs) h = omega (arith, h 0 x refl, all_zero xs (λ i v e. h (suc i) v e), sum_by-cons f x xs)
 
   module _ (f g : A → ℕ) where
+    -- where no term is above another's, no sum is
     pub sum_by-le : (l : List A) → ((i : ℕ) (v : A) → get_elem? l i ≡ some v → f v ≤ g v) → sum_by f l ≤ sum_by g l
     sum_by-le [] h = omega arith
     sum_by-le (x ∷ xs) h = omega (arith, h 0 x refl, sum_by-le xs (λ i v e. h (suc i) v e), sum_by-cons f x xs, sum_by-cons g x xs)

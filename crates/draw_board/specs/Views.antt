@@ -46,6 +46,7 @@ pub record IsSoundBoard (key : Key) (s : Table) : Type 0 where
 abbrev pub known_key : View → Key
 known_key v = (v.total, v.misses)
 
+-- a view on a board with this key
 abbrev pub view : Key → List ℕ → ℕ → ℕ → ℕ → ℕ → View
 view key positions left share seen asked = record {
   positions = positions;
@@ -72,15 +73,17 @@ after_draw v p = view (known_key v) (v.positions ++ p ∷ []) left v.share (suc 
 abbrev pub giver_view : View → View
 giver_view v = view (known_key v) v.positions (v.left - v.asked) (v.share - v.asked) v.seen v.asked
 
+-- the new one has no position, has seen what the giver had, and has announced nothing
 abbrev pub given_view : View → View
 given_view v = view (known_key v) [] v.asked v.asked v.seen 0
 
--- a rejoin makes one view of two, and leaves nothing in the other
+-- a rejoin makes one view of two, which has no number announced
 abbrev pub joined_view : View → View → View
 joined_view v w =
     view (known_key v) (merged v.positions w.positions) (v.left + w.left)
     (v.share + w.share) (max v.seen w.seen) 0
 
+-- a view with nothing left, as a rejoin leaves it in the other's seat
 abbrev pub spent_view : View
 spent_view = view (0, 0) [] 0 0 0 0
 

@@ -1,4 +1,6 @@
--- Balances, after one list of moves and another.
+-- Balances, after one list of moves and another. The main lemma is `adds`: what the code writes at
+-- a node's place is what one move of it does to all balances. `within_moved` says how far from 0
+-- they are after.
 use Rattle.std.proofs.Common.{◌≡◌, ◌∙◌, sym, ap, subst, ℕ, ◌+◌, ◌<◌, ◌≤◌, ◌^◌, ◌==◌, ℤ, pos, ◌+ℤ◌, unsigned_abs, List, [], ◌∷◌, ◌++◌, length, ◌≢◌, ◌⊎◌, inl, inr, set, get_or, Bool, true, false, cond, refl, arith, eq-eqb, FitsSigned, to_z, of_z, ◌-◌}
 use Rattle.std.specs.Int.{w128}
 use Rattle.std.proofs.lemmas.Int.{ints, fits_signed_from_abs, to_z-of_z}
@@ -16,9 +18,11 @@ balance_append : (node : ℕ) (xs ys : List Move) → balance node (xs ++ ys) �
 balance_append node [] ys = omega (arith, ints)
 balance_append node (x ∷ xs) ys = let e = balance_append node xs ys in omega (arith, ints)
 
+-- no move leaves all balances as they were
 pub none_moved : (b : List ℤ) → IsMoved [] b b
 none_moved b = record { same = refl; each = λ i h. omega (arith, ints) }
 
+-- one list of moves and then another are both, one behind the other
 pub moved_on : (xs ys : List Move) (a b c : List ℤ) → IsMoved xs a b → IsMoved ys b c → IsMoved (xs ++ ys) a c
 moved_on xs ys a b c m n = record {
   same = n.same ∙ m.same;
@@ -52,6 +56,7 @@ within_moved limit moves a b w m = record {
       omega arith);
 }
 
+-- what is within a limit is within a higher one
 pub within_less : (limit most : ℕ) (b : List ℤ) → limit ≤ most → AreWithin limit b → AreWithin most b
 within_less limit most b l w = record { each = λ i h. (let x = w.each i h in omega arith) }
 
@@ -80,6 +85,7 @@ module _ (b : List ℤ) (place : ℕ) (amount : ℤ) (l : place < length b) wher
       get_or-set_other b place i (get_or b place (pos 0) +ℤ amount) (pos 0) n
       ∙ (let z : get_or b i (pos 0) ≡ get_or b i (pos 0) +ℤ (pos 0 +ℤ pos 0) = omega (arith, ints) in z)
 
+  -- a move of the node at a place adds its amount there
   pub one_moved : IsMoved (record { node = place + 1; amount = amount } ∷ []) b added
   one_moved = record { same = length-set b place _; each = λ i h. at_place i (place + 1 == i + 1) refl }
 
@@ -113,9 +119,11 @@ module _ (b : List ℤ) (node : ℕ) (amount : ℤ) (w : AreWithin (2 ^ 125) b) 
   small_sum : unsigned_abs (old +ℤ amount) < 2 ^ 127
   small_sum = let x = w.each (node - 1) l in let y = abs_add old amount in omega arith
 
+  -- the sum of a balance and an amount fits in 128 bits
   pub sum_fits : FitsSigned w128 (held old +ℤ held amount)
   sum_fits = subst (λ z. FitsSigned w128 z) (sym parts) (fits_signed_from_abs w128 (old +ℤ amount) small_sum)
 
+  -- the sum as 128 bits hold it, put at the node's place, is what the move does
   pub adds : (node ≡ 0 → ⊥) → IsMoved (record { node = node; amount = amount } ∷ []) b (set b (node - 1) (held (held old +ℤ held amount)))
   adds n =
       let e : held (held old +ℤ held amount) ≡ old +ℤ amount = ap held parts ∙ as_held (old +ℤ amount) small_sum in

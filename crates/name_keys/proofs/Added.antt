@@ -1,4 +1,5 @@
--- Keys are added name by name.
+-- Keys are added name by name. `begins`, `goes_on` and `ends` are the loop over the rows of a
+-- directory, whose end is that the keys of all names were added.
 use Rattle.std.proofs.Common.{◌≡◌, ◌∙◌, sym, ap, ℕ, ◌+◌, ◌<◌, ◌≤◌, inl, inr, List, [], ◌∷◌, ◌++◌, append_assoc, subst, length, map, take, drop, refl, arith}
 use Rattle.std.specs.List.{slice_index_or}
 use Rattle.std.proofs.lemmas.Bool.{cases_lt}
@@ -17,6 +18,7 @@ pub record Keying (shared : ℕ) (names : List (List ℕ)) (old new : List ℕ) 
   pub bytes : (k : ℕ) (d : List ℕ) → k < i → k < length names → AreBytes (slice_index_or names k d)
   pub made : new ≡ old ++ map (λ name. key 8 (drop shared name)) (take i names)
 
+-- before the first name no key was added
 pub begins : (shared : ℕ) (names : List (List ℕ)) (old : List ℕ) → Keying shared names old old 0
 begins shared names old = record {
   bytes = λ k d l m. absurd (omega arith);
@@ -52,6 +54,7 @@ goes_on f shared rows old new new' i row k l at bytes made pushed g =
           (pushed ∙ ap (λ (x : List ℕ). x ++ k ∷ []) g.made ∙ append_assoc old (map (key_after shared) (take i (map f rows))) (k ∷ []));
     }
 
+-- after the last name the keys of all were added
 pub ends : (shared : ℕ) (names : List (List ℕ)) (old new : List ℕ) (i : ℕ) → length names ≤ i → Rise names
     → ShareFront shared names → Keying shared names old new i → AddsKeys shared names old new
 ends shared names old new i l rise front g = record {

@@ -1,4 +1,5 @@
--- Names in order share what the first and the last of them share.
+-- Names in order share what the first and the last of them share: `share`, as a name between two
+-- others shares what these do (`alike`).
 use Rattle.std.proofs.Common.{◌≡◌, ◌∙◌, sym, ap, ℕ, zero, suc, ◌-◌, ◌<◌, ◌≤◌, inl, inr, List, [], ◌∷◌, length, map, take, refl, arith}
 use Rattle.std.specs.Cmp.Lexicographic.{slice_cmp}
 use Rattle.std.specs.List.{slice_index_or}
@@ -59,6 +60,7 @@ share f rows n first last a b rise some is_first is_last at bt l e =
         ∙ ap f (sym is_last) ∙ sym bt in
     record { long = rw x l; same = all_alike n (map f rows) rise (rw (m, x, y) e) }
 
+-- any names share a front of no bytes
 pub share_none : (names : List (List ℕ)) → ShareFront 0 names
 share_none names = record { long = omega arith; same = λ k d l. refl }
 

@@ -1,4 +1,5 @@
--- Names whose keys differ have other bytes.
+-- Names whose keys differ have other bytes. So a search among keys leaves out only names that are
+-- not the one sought: `narrows`.
 use Rattle.std.proofs.Common.{◌≡◌, ◌≢◌, ◌∙◌, sym, ap, ℕ, ◌<◌, inl, inr, List, [], ◌++◌, length, take, drop, arith, All}
 use Rattle.std.specs.Cmp.Lexicographic.{slice_cmp}
 use Rattle.std.specs.List.{slice_index_or}
@@ -14,9 +15,11 @@ use Rattle.name_keys.proofs.Fronts.{long_each}
 use Rattle.name_keys.proofs.Order.{Bytes, bytes-drop, each_byte, key_order, cmp-front}
 
 module _ (shared : ℕ) (keys : List ℕ) (names : List (List ℕ)) (is : AreKeyed shared keys names) where
+  -- there are as many keys as names
   pub length-keys : length keys ≡ length names
   length-keys = ap length is.made ∙ length-map names (λ name. key 8 (drop shared name))
 
+  -- the key at a place is that of the name at it
   pub key_at : (k : ℕ) (d : List ℕ) (e : ℕ) → k < length names → slice_index_or keys k e ≡ key 8 (drop shared (slice_index_or names k d))
   key_at k d e l = ap (λ (xs : List ℕ). slice_index_or xs k e) is.made ∙ get_or-map (λ name. key 8 (drop shared name)) names k d e l
 
@@ -49,6 +52,7 @@ module _ (shared : ℕ) (keys : List ℕ) (names : List (List ℕ)) (is : AreKey
       → slice_index_or names k d ≢ name
   other_key name k d l n e = n (key_at k d 0 l ∙ ap (λ (x : List ℕ). key 8 (drop shared x)) e)
 
+  -- a name stands at none of the places outside the run of its key
   pub narrows : (name : List ℕ) (t low high : ℕ) → t ≡ key 8 (drop shared name) → IsKeyRun keys t low high → Narrows names name low high
   narrows name t low high made run =
       let n = length-keys in

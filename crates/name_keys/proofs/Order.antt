@@ -1,4 +1,5 @@
--- Keys keep the order of names.
+-- Keys keep the order of names: `key_order`. Where two keys are the same the first bytes are
+-- (`key_tells`).
 use Rattle.std.proofs.Common.{◌≡◌, ◌∙◌, sym, ap, ℕ, zero, suc, ◌+◌, ◌*◌, ◌/◌, ◌%◌, ◌^◌, ◌<◌, ◌≤◌, inl, inr, List, [], ◌∷◌, ◌++◌, length, take, drop, refl, arith}
 use Rattle.std.specs.Prelude.{slice_index}
 use Rattle.std.specs.Cmp.Lexicographic.{slice_cmp}
@@ -15,9 +16,11 @@ use Rattle.name_keys.specs.Keys.{key, AreBytes}
 abbrev pub Bytes : List ℕ → Type 0
 Bytes xs = (k : ℕ) → slice_index xs k < 256
 
+-- where each place reads as a byte, all are bytes
 pub all_bytes : (xs : List ℕ) → Bytes xs → AreBytes xs
 all_bytes xs b k d l = rw (get_or_default xs k d 0 l) (b k)
 
+-- where all are bytes, each place reads as one, past the end too
 pub each_byte : (xs : List ℕ) → AreBytes xs → Bytes xs
 each_byte xs b k = elim (cases_lt k (length xs)) [
   | inl l ↦ b k 0 l
@@ -27,9 +30,11 @@ each_byte xs b k = elim (cases_lt k (length xs)) [
 tail_bytes : (x : ℕ) (xs : List ℕ) → Bytes (x ∷ xs) → Bytes xs
 tail_bytes x xs b k = b (suc k)
 
+-- what is left behind the first n of bytes are bytes
 pub bytes-drop : (n : ℕ) (xs : List ℕ) → Bytes xs → Bytes (drop n xs)
 bytes-drop n xs b k = rw (get_or-drop n xs k 0) (b (n + k))
 
+-- the first n of bytes are bytes
 pub bytes-take : (n : ℕ) (xs : List ℕ) → Bytes xs → Bytes (take n xs)
 bytes-take n xs b k = elim (cases_lt k n) [
   | inl l ↦ rw (get_or-take n xs k 0 l) (b k)
@@ -48,6 +53,7 @@ key_below : (n : ℕ) (xs : List ℕ) → Bytes xs → key n xs < 256 ^ n
 key_below zero xs b = omega arith
 key_below (suc n) xs b = let i = key_below n xs b in let h = b n in rw (pow-suc 256 n) (omega arith)
 
+-- a list that is less has no greater key
 pub key_order : (n : ℕ) (xs ys : List ℕ) → Bytes xs → slice_cmp nat_cmp xs ys ≡ Less → key n xs ≤ key n ys
 key_order zero xs ys b c = omega arith
 key_order (suc n) [] ys b c = let e = key-nil (suc n) in omega arith

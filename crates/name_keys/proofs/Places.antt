@@ -1,4 +1,5 @@
--- The place of a name among names that rise.
+-- The place of a name among names that rise. `higher` and `lower` are the steps of a search, which
+-- leave out the half below or above; `here` and `nowhere` say what its end tells.
 use Rattle.std.proofs.Common.{◌≡◌, ◌≢◌, ◌∙◌, sym, ap, ℕ, ◌+◌, ◌<◌, ◌≤◌, inl, inr, List, [], length, Some, None, refl, arith, true, false, All}
 use Rattle.std.specs.Cmp.Lexicographic.{slice_cmp, pointwise}
 use Rattle.std.specs.List.{slice_index_or, position_or_len, AllWithin}
@@ -14,12 +15,14 @@ use Rattle.std.proofs.lemmas.Slice.Eq.{bytes_eq-Decides}
 use Rattle.name_keys.specs.Names.{Rise, place_of}
 use Rattle.name_keys.specs.Keyed.{Narrows}
 
+-- a name that is less is another
 pub below : (x y : List ℕ) → slice_cmp nat_cmp x y ≡ Less → x ≢ y
 below x y c e =
     let l : slice_cmp nat_cmp y y ≡ Less = rw e at c in
     let t = tied_itself nat_list_cmp_total y in
     let z : Less ≡ Equal = sym l ∙ t in cc
 
+-- names that compare equal are the same
 pub equal : (x y : List ℕ) → slice_cmp nat_cmp x y ≡ Equal → x ≡ y
 equal x y c = (bytes_eq-Decides x y).0 (sym (is_eq-slice_cmp x y) ∙ ap is_eq c)
 
@@ -47,6 +50,7 @@ module _ (names : List (List ℕ)) (name : List ℕ) where
       (λ k m. fails _ (λ q. below _ _ (rise k i [] m l) (q ∙ sym same))) (λ _. at) in
       rw (e, lt-ltb i (length names) (omega arith)) refl
 
+  -- where the middle name is less, all up to it are left out
   pub higher : (low high middle : ℕ) → Rise names → Narrows names name low high → middle < high
       → slice_cmp nat_cmp (slice_index_or names middle []) name ≡ Less → Narrows names name (middle + 1) high
   higher low high middle rise n l c = record { within = n.within; before = go; after = n.after }
@@ -61,6 +65,7 @@ module _ (names : List (List ℕ)) (name : List ℕ) where
             | inr (inr q) ↦ absurd (omega arith)
           ]
 
+  -- where the middle name is greater, it and all above are left out
   pub lower : (low high middle : ℕ) → Rise names → Narrows names name low high → middle < high
       → slice_cmp nat_cmp (slice_index_or names middle []) name ≡ Greater → Narrows names name low middle
   lower low high middle rise n l c = record { within = (let w = n.within in omega arith); before = n.before; after = go }
@@ -78,6 +83,7 @@ module _ (names : List (List ℕ)) (name : List ℕ) where
             | inr (inr q) ↦ absurd (omega arith)
           ]
 
+  -- where no place is left, no name is this one
   pub all_other : (low high : ℕ) → Narrows names name low high → high ≤ low → All IsOther names
   all_other low high n l k d m = elim (cases_order k low) [
     | inl q ↦ n.after k d (omega arith) m

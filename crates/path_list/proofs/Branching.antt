@@ -1,4 +1,6 @@
--- The lines below a directory are those of its children in order, each with the lines below it.
+-- The lines below a directory are those of its children in order, each with the lines below it:
+-- `all_below`. It goes over the entries with the child that it is in; `outside`, `child` and
+-- `deeper` are its three steps, and `IsLeft` is what a step may take for granted.
 use Rattle.std.proofs.Common.{◌≡◌, ◌∙◌, sym, ap, ℕ, ◌⊎◌, inl, inr, List, [], ◌∷◌, ◌++◌, refl, Option, Some, None, true, false, append_assoc}
 use Rattle.std.specs.Prelude.{flat_map, filter_map}
 use Rattle.std.specs.declared.cmp.Ordering.{Ordering}
@@ -78,7 +80,8 @@ module _ (layers : List (List ℕ)) (entries : List Entry) (top : Path) where
     pub whole : (d : Entry) → IsAmong d es → (x : List ℕ) → d.path ≡ top ++ x ∷ [] → below entries (top ++ x ∷ [])
         ≡ below es (top ++ x ∷ [])
 
-  -- all that is left is below the child that the walk is in, or is one of the other children and what is below it
+  -- all that is left is below the child that the walk is in, or is one of the other children and
+  -- what is below it
   abbrev IsSpread : Option (List ℕ) → List Entry → Type 0
   IsSpread cur es = flat_map (line layers entries) (below es top) ≡ flat_map (line layers entries) (current cur es)
       ++ flat_map piece (kids es)
@@ -212,6 +215,7 @@ module _ (layers : List (List ℕ)) (entries : List Entry) (top : Path) where
         ]
       ]
 
+  -- the lines below a directory are its children's pieces, in order
   pub all_below : AreTree layers entries → flat_map (line layers entries) (below entries top)
       ≡ flat_map piece (filter_map (child_in top) entries)
   all_below t = spread None entries (record {

@@ -1,4 +1,5 @@
--- The line of a number, by its attributes.
+-- The line of a number, by its attributes: what the code writes of a node, from its fields, is the
+-- line that the definition gives its number.
 use Rattle.std.proofs.Common.{◌≡◌, ℕ, [], ◌∷◌, ◌++◌, Some, refl}
 use Rattle.std.specs.Fmt.{decimal}
 use Rattle.stack_model.specs.Stack.{Path}
@@ -9,6 +10,7 @@ use Rattle.stack_table.specs.Readers.{attr_of, attr_at}
 use Rattle.path_list.specs.Lines.{spaced, mode_text, path_text, line_of}
 use Rattle.path_list.specs.Walks.{line_at}
 
+-- the fields of a node's attributes, as they are printed, are the line of its number
 pub line_is : (stack : Stacked) (n : ℕ) (path : Path) (p : Place) (attr : Attr) → node_of stack.entries n ≡ Some p
     → Some attr ≡ attr_at stack n →
     spaced (decimal attr.ino) ++ spaced (mode_text attr.mode) ++ spaced (decimal attr.nlink) ++ spaced (decimal attr.size)

@@ -1,4 +1,6 @@
--- The paths of a sound image: each header has one, and each stands in directories.
+-- The paths of a sound image: each header has one, and each stands in directories. `one_way` is the
+-- main lemma: of two ways down to a header both are the same, as a header stands in one chain. Of
+-- that `one_directory` follows for directories, to which no hard link leads.
 use Rattle.std.proofs.Common.{◌≡◌, ◌∙◌, sym, ap, subst, ℕ, zero, suc, ◌⊎◌, inl, inr, List, [], ◌∷◌, ◌++◌, refl, Some}
 use Rattle.std.proofs.lemmas.Bool.{cases_eq}
 use Rattle.romfs_format.specs.declared.head.Kind.TheVariants.{HardLink, Directory}

@@ -1,4 +1,6 @@
--- Paths that begin with the names of another path.
+-- Paths that begin with the names of another path. The main lemmas are `after_is` and `is_after`:
+-- the names after those of `top` are just what follows it. The others put that in the words of the
+-- order of paths, of what is below, and of names of children.
 use Rattle.std.proofs.Common.{◌≡◌, ◌≢◌, ◌∙◌, sym, ap, ℕ, inl, inr, List, [], ◌∷◌, ◌++◌, refl, Option, Some, None, true, false}
 use Rattle.std.specs.declared.cmp.Ordering.TheVariants.{Less, Greater}
 use Rattle.std.specs.Cmp.{IsTotalOrder}
@@ -11,12 +13,15 @@ use Rattle.stack_model.specs.Listing.{Entry, path_cmp, IsAmong}
 use Rattle.stack_model.specs.Numbers.{same_name, name_below}
 use Rattle.path_list.specs.Below.{after, is_below, is_some_name}
 
+-- paths have a total order
 pub order : IsTotalOrder path_cmp
 order = lists_total nat_list_cmp_total
 
+-- no path is before itself
 pub not_itself : (p : Path) → path_cmp p p ≡ Less → ⊥
 not_itself p e = let s = order.antisymm p p in let r : Less ≡ Greater = sym e ∙ s ∙ ap ordering_reverse e in cc
 
+-- of two paths not each is before the other
 pub not_both : (p q : Path) → path_cmp p q ≡ Less → path_cmp q p ≡ Less → ⊥
 not_both p q d e = not_itself p (order.trans p q p d e)
 
@@ -33,6 +38,7 @@ comes_later (m ∷ top) q n = rw (itself m) (comes_later top q n)
 same_is_true : (n : List ℕ) → same_name n n ≡ true
 same_is_true n = elim (same_or_not n n) [ inl x ↦ x.1 | inr x ↦ absurd (x.0 refl) ]
 
+-- names that compare as the same are equal
 pub same_is : (m n : List ℕ) → same_name m n ≡ true → m ≡ n
 same_is m n e = elim (same_or_not m n) [ inl x ↦ x.0 | inr x ↦ absurd (let f = x.1 in cc) ]
 
@@ -45,6 +51,7 @@ after_is (m ∷ top) (n ∷ path) r e = elim (same_or_not m n) [
   | inr x ↦ absurd (let g = rw x.1 at e in cc)
 ]
 
+-- after the names of a path stands what was put behind it
 pub is_after : (top r : Path) → after top (top ++ r) ≡ Some r
 is_after [] r = refl
 is_after (m ∷ top) r = rw (same_is_true m) (is_after top r)
@@ -60,11 +67,13 @@ below_name top path r x n e = rw (after_is top path (n ∷ r) e) (go top)
     go [] = elim (same_or_not x n) [ inl s ↦ ((λ i. rw s.1 refl), (λ f. absurd (f s.0))) | inr s ↦ ((λ i. absurd (s.0 i)),
           (λ f. rw s.1 refl)) ]
 
+-- a path that does not begin with the names of `top` is not below any name in `top`
 pub below_none : (top path : Path) (x : List ℕ) → after top path ≡ None → is_below (top ++ x ∷ []) path ≡ false
 below_none [] path x e = absurd (cc)
 below_none (m ∷ top) [] x e = refl
 below_none (m ∷ top) (n ∷ path) x e = elim (same_or_not m n) [ inl s ↦ rw s.1 (below_none top path x (rw s.1 at e)) | inr s ↦ rw s.1 refl ]
 
+-- `top` itself is not below any name in `top`
 pub below_top : (top path : Path) (x : List ℕ) → after top path ≡ Some [] → is_below (top ++ x ∷ []) path ≡ false
 below_top top path x e = rw (after_is top path [] e) (go top)
   where
@@ -77,6 +86,7 @@ abbrev pub only_name : Option Path → Option (List ℕ)
 only_name (Some (n ∷ [])) = Some n
 only_name _ = None
 
+-- the model's name of a child is the only name after those of `top`
 pub name_is : (top path : Path) → name_below top path ≡ only_name (after top path)
 name_is [] [] = refl
 name_is [] (n ∷ []) = refl
@@ -84,7 +94,7 @@ name_is [] (n ∷ m ∷ path) = refl
 name_is (m ∷ top) [] = refl
 name_is (m ∷ top) (n ∷ path) = elim (same_or_not m n) [ inl s ↦ rw s.1 (name_is top path) | inr s ↦ rw s.1 refl ]
 
--- an entry after all of these is not one of them
+-- an entry that is before all of these is before each of them
 pub later : (e : Entry) (fs : List Entry) (f : Entry) → AllByRecursion (λ f. path_cmp e.path f.path ≡ Less) fs → IsAmong f fs
     → path_cmp e.path f.path ≡ Less
 later e [] f l m = elim m [ ]

@@ -1,4 +1,6 @@
--- The shown paths of sound layers make a tree.
+-- The shown paths of sound layers make a tree: `are_tree`. The path above a shown one is shown
+-- (`shown_above`) and a directory there, as anything else would cut what is below
+-- (`directory_above`); and a directory has one path, as it has one in its layer.
 use Rattle.std.proofs.Common.{◌≡◌, ◌≢◌, ◌∙◌, sym, ap, subst, ℕ, zero, suc, ◌⊎◌, inl, inr, List, [], ◌∷◌, ◌++◌, refl, Some, true, append_assoc}
 use Rattle.std.specs.Prelude.{slice_get}
 use Rattle.std.specs.List.{slice_index_or}
@@ -207,5 +209,6 @@ module _ (layers : List (List ℕ)) (entries : List Entry) (s : AreImages layers
           let d : Entry = record { path = top; layer = j; header = x } in
           f d ((l.exact d).1 (g, (plain_top top (n ∷ path) shown.1.0, t), (b.0, b.1, final))) refl))
 
+  -- the entries of a listing of sound layers make a tree
   pub are_tree : AreTree layers entries
   are_tree = record { rising = l.rising; above = above; once = once }

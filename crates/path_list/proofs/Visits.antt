@@ -1,4 +1,6 @@
--- What a walk finds at a directory: the rows are those of the entries one name below it.
+-- What a walk finds at a directory: the rows are those of the entries one name below it. `goes_on`
+-- and `walked` are what the walk stands on: each row leads to a visit with fewer entries below it,
+-- and the pieces of all rows are all lines below the path.
 use Rattle.std.proofs.Common.{◌≡◌, ◌∙◌, sym, ap, subst, ℕ, zero, suc, ◌<◌, ◌≤◌, inl, inr, List, [], ◌∷◌, ◌++◌, length, map, take, get_or, refl, Option, Some, None, Bool, true, false, IsSome, arith}
 use Rattle.std.specs.Prelude.{flat_map, filter_map, find, nat_eq}
 use Rattle.std.proofs.lemmas.List.{take_all}
@@ -44,6 +46,7 @@ one_entry (f ∷ es) r d e (inl i) (inr b) p = absurd (not_itself e.path (rw (sy
 one_entry (f ∷ es) r d e (inr a) (inl j) p = absurd (not_itself d.path (rw (sym j, sym p) at (later f es d r.0 a)))
 one_entry (f ∷ es) r d e (inr a) (inr b) p = one_entry es r.1 d e a b p
 
+-- the number of an entry's place is that of a node with this place
 pub numbered : (entries : List Entry) (e : Entry) → IsAmong e entries → node_of entries (number entries (place e)) ≡ Some (place e)
 numbered entries e a = go (number_of entries (place e)) refl (entries_numbered entries e e a a).0
   where
@@ -178,6 +181,7 @@ module _ (stack : Stacked) (n : ℕ) (path : Path) (v : IsVisited stack n path) 
       go [] s = refl
       go (e ∷ es) s = rw (not_below e (s e (inl refl)) (after path e.path) refl) (go es (λ f a. s f (inr a)))
 
+  -- each row of the directory is that of a shown path one name below
   pub row_at : (i : ℕ) (d : Line) → i < length (rows_at stack n) → IsRow (get_or (rows_at stack n) i d)
   row_at i d l = go (is_directory_at layers (place v.entry)) refl
     where
@@ -185,6 +189,7 @@ module _ (stack : Stacked) (n : ℕ) (path : Path) (v : IsVisited stack n path) 
       go true k = let r = rows_there k in rw r (row_in entries (λ e a. a) i d (rw r at l))
       go false k = absurd (let m : i < length {A = Line} [] = rw (none_there k) at l in omega arith)
 
+  -- the pieces of all rows are the lines below the path
   pub all_rows : flat_map (piece_at stack path) (rows_at stack n) ≡ lines_below stack path
   all_rows = go (is_directory_at layers (place v.entry)) refl
     where
@@ -197,6 +202,7 @@ module _ (stack : Stacked) (n : ℕ) (path : Path) (v : IsVisited stack n path) 
   pub visit_row : (row : Line) → IsRow row → IsVisited stack row.number (path ++ row.name ∷ [])
   visit_row row r = record { tree = v.tree; entry = r.entry; among = r.among; path_is = r.path_is; number_is = r.number_is }
 
+  -- below a row's path there are fewer entries than below the directory
   pub fewer_below : (row : Line) → IsRow row → length (below entries (path ++ row.name ∷ [])) < length (below entries path)
   fewer_below row r = fewer_by path row.name entries r.entry r.among r.path_is
 

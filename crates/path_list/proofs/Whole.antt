@@ -1,4 +1,5 @@
--- The whole list: the root's line, and those of all below it.
+-- The whole list: the root's line, and those of all below it. `begun` says so where there are
+-- nodes, and `none` where there are none; what is below the root is all entries but the first.
 use Rattle.std.proofs.Common.{◌≡◌, ◌∙◌, sym, ap, subst, ℕ, inl, inr, List, [], ◌∷◌, ◌++◌, length, refl, Some, IsSome, true, false, arith}
 use Rattle.std.specs.Prelude.{flat_map, unwrap_or}
 use Rattle.std.specs.List.{AllByRecursion}
@@ -37,6 +38,7 @@ no_lines layers (e ∷ es) z =
     let b = (numbers_all (e ∷ es) (number (e ∷ es) (place e))).0 s in
     absurd (let l = b.0 in let m = b.1 in omega arith)
 
+-- where there are no nodes, there are no lines
 pub none : (stack : Stacked) (n : ℕ) → n ≡ length (nodes stack.entries) → n ≡ 0 → [] ≡ lines stack.layers stack.entries
 none stack n e z = no_lines stack.layers stack.entries (sym e ∙ z)
 
@@ -73,6 +75,8 @@ begins layers (e ∷ es) t l z =
         no_other d n q f (inr a) p = let g : path_cmp (n ∷ q) [] ≡ Less =
             subst (λ r. path_cmp (n ∷ q) r ≡ Less) p (subst (λ r. path_cmp r d.path ≡ Less) f (later e es d l.rising.0 a)) in cc
 
+-- where there are nodes and the images are sound, the walk may begin at the root and prints all
+-- lines
 pub begun : (stack : Stacked) (n : ℕ) → AreImages stack.layers → IsListing stack.layers stack.entries → n ≡ length (nodes stack.entries)
     → (n ≡ 0 → ⊥) → IsBegun stack
 begun stack n i l e z = begins stack.layers stack.entries (are_tree stack.layers stack.entries i l) l (λ f. z (e ∙ f))

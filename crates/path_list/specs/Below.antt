@@ -12,6 +12,7 @@ after [] path = Some path
 after (m ∷ top) [] = None
 after (m ∷ top) (n ∷ path) = if same_name m n then after top path else None
 
+-- there is a path and it has a name
 abbrev pub is_some_name : Option Path → Bool
 is_some_name (Some (n ∷ path)) = true
 is_some_name _ = false

@@ -1,5 +1,6 @@
--- Moves of pieces, added to balances one after another. Plan: what was added so far keeps the balances within
--- bounds by its weight, and one move or piece more stands behind those so far.
+-- Moves of pieces, added to balances one after another. What was added so far keeps the balances
+-- within bounds by its weight (`still_within`, `next_light`), and the other lemmas put one move or
+-- piece more behind those so far.
 use Rattle.std.proofs.Common.{◌≡◌, ◌∙◌, sym, ap, subst, ℕ, ◌+◌, ◌<◌, ◌≤◌, ◌^◌, ℤ, unsigned_abs, to_z, of_z, List, [], ◌∷◌, ◌++◌, length, take, drop, arith, append-nil, append_assoc, get_or}
 use Rattle.std.specs.Int.{w128}
 use Rattle.std.specs.List.{flat_map}
@@ -30,6 +31,7 @@ one_more_move xs i a b c there m n =
         (moved_on (take i xs) (get_or xs i nothing ∷ []) a b c m n)
 
 module _ {A : Type 0} where
+  -- what pieces move, one after another
   abbrev pub moves_of : List (Piece A) → List Move
   moves_of ps = flat_map (λ (p : Piece A). p.moves.items) ps
 

@@ -1,4 +1,6 @@
--- Jobs in batches, and pieces in the order of their numbers.
+-- Jobs in batches, and pieces in the order of their numbers. `all_told` and `all_moved` are the
+-- main lemmas: pieces that each say what their batch says, say together what all jobs say. The
+-- first lemmas are the numbers of batches.
 use Rattle.std.proofs.Common.{lt_of_not-le, mul-le-mul_right, ◌≡◌, ℕ, zero, suc, ◌+◌, ◌-◌, ◌*◌, ◌/◌, ◌<◌, ◌≤◌, List, [], ◌∷◌, ◌++◌, length, take, drop, sym, ap, ◌∙◌, arith, map}
 use mathlib.Core.Logic.{dite}
 use native.Mathlib.Decide.{dec_le}

@@ -1,4 +1,6 @@
--- Numbers that stand each once, in whatever order.
+-- Numbers that stand each once, in whatever order. The main lemma is `in_order`: a list that does
+-- not fall and has each number of a range once is the range, since it can neither begin below it
+-- nor beyond.
 use Rattle.std.proofs.Common.{◌≡◌, ℕ, zero, suc, ◌+◌, ◌<◌, ◌≤◌, ◌≢◌, cond, eqb, List, [], ◌∷◌, refl, ap, arith, eq-eqb, ne_eqb, lt_of_not-le, map}
 use mathlib.Core.Logic.{dite}
 use native.Mathlib.Decide.{dec_le}
@@ -17,6 +19,7 @@ one-same y x e = ap (λ b. cond b 1 0) (eq-eqb y x e)
 one-other : (y x : ℕ) → y ≢ x → one y x ≡ 0
 one-other y x n = ap (λ b. cond b 1 0) (ne_eqb y x n)
 
+-- a number stands in a list as often as at its front and behind that
 pub times-cons : (x y : ℕ) (l : List ℕ) → times x (y ∷ l) ≡ one y x + times x l
 times-cons x y l = sum_by-cons (λ z. one z x) y l
 

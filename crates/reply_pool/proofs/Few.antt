@@ -1,4 +1,5 @@
--- A request moves no more lookups than 32 bits count, each of no more than 64 bits say.
+-- A request moves no more lookups than 32 bits count: `few_moves`, by the kinds of requests.
+-- `weight_small` says what so many moves weigh, where each is small.
 use Rattle.std.proofs.Common.{ℕ, suc, ◌*◌, ◌^◌, ◌<◌, ◌≤◌, unsigned_abs, List, [], ◌∷◌, length, map, Bool, true, false, cond, Option, Some, None, arith}
 use Rattle.std.specs.Prelude.{filter, is_some}
 use Rattle.std.specs.List.{cons_option, filter_map}
@@ -88,6 +89,7 @@ module _ (layers : List (List ℕ)) (entries : List Entry) (agreed : Agreement) 
   few_moved other h = omega arith
   few_moved (malformed opcode) h = omega arith
 
+-- a request with few items makes at most 2^32 moves
 pub few_moves : (layers : List (List ℕ)) (entries : List Entry) (s : Session) (q : Asked) → HasFewItems q.op
     → length (moves layers entries s q) ≤ 2 ^ 32
 few_moves layers entries s q h = go (is_some (refusal layers entries s q.node q.op))

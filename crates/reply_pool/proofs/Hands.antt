@@ -1,4 +1,6 @@
--- Pieces and the hands that drew their numbers.
+-- Pieces and the hands that drew their numbers. A worker's pieces have the numbers of its hand; so
+-- have those of joined hands (`both_all`), and of the last hand each number once. So `every_batch`
+-- answers all, and `rounds` makes a round of it.
 use Rattle.std.proofs.Common.{◌≡◌, ℕ, zero, suc, nat_lt, cond, lt-ltb, le-ltb, lt_of_not-le, append-nil, Option, Some, None, ◌^◌, ◌+◌, ◌*◌, ◌<◌, ◌≤◌, max, List, [], ◌∷◌, ◌++◌, length, drop, sym, ap, subst, ◌∙◌, arith, Result, Ok, Err, IfOk, Vec}
 use Rattle.std.specs.List.{All, flat_map, range_with_len}
 use mathlib.Core.Logic.{dite}
@@ -28,6 +30,7 @@ use Rattle.reply_pool.specs.Workers.{AreBoth, AreOf, AreWhole, HasAll, HasWorked
 use Rattle.reply_pool.proofs.Batched.{all_moved, all_told, reaches_end, weight_all}
 use Rattle.reply_pool.proofs.Each.{in_order, one}
 
+-- a number stands in two lists as often as in the one and in the other
 pub times-append : (x : ℕ) (xs ys : List ℕ) → times x (xs ++ ys) ≡ times x xs + times x ys
 times-append x xs ys = sum_by-append (λ z. one z x) xs ys
 
@@ -59,6 +62,7 @@ numbers_hit total number added is =
     filter-append (λ position. nat_lt position total) added (number ∷ []) ∙ ap (λ (xs : List ℕ). numbers total added ++ xs)
         (ap (λ b. cond b (number ∷ []) []) (lt-ltb number total is))
 
+-- a position past the numbers adds no number
 pub numbers_miss : (total position : ℕ) (added : List ℕ) → total ≤ position → numbers total (added ++ position ∷ []) ≡ numbers total added
 numbers_miss total position added is =
     filter-append (λ position. nat_lt position total) added (position ∷ []) ∙ ap (λ (xs : List ℕ). numbers total added ++ xs)
@@ -110,6 +114,7 @@ module _ {A : Type 0} where
       let f = once.few in
       omega arith
 
+  -- the bytes and the sums of ordered pieces are their join
   pub joins : {E : Type 0} (pieces ordered : List (Piece A)) (r : Result (Rounded A) E) → AreOrdered pieces ordered
       → IfOk r (λ rounded. rounded.bytes.items ≡ flat_map (λ (p : Piece A). p.bytes.items) ordered)
       → IfOk r (λ rounded. AreSums (flat_map (λ (p : Piece A). p.moves.items) ordered) rounded.moves.items)
@@ -219,7 +224,7 @@ module _ {A : Type 0} where
         every = (let e = p.every in omega arith);
       })
 
-      -- a hand that works alone has its pieces, and has seen that all was drawn, if there was a call
+      -- a hand that works alone has its pieces, and has seen all drawn, if there was a call
       pub alone : {hand : Hand} {pieces : List (Piece A)} {calls : ℕ} → WorksAlone stack jobs size board hand pieces calls
           → AreOf stack jobs size board hand pieces × (0 < calls → total_of board ≤ seen_below hand)
       alone (begins {hand = hand} fresh) = (

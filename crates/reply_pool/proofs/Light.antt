@@ -1,4 +1,6 @@
--- A message moves no more than 64 bits say, for each of its bytes.
+-- A message moves no more than 64 bits say, for each of its bytes: `message_light`. A number in a
+-- message is of bytes and thus modest (`op_modest`), and a request with modest numbers moves so
+-- little (`moved_light`).
 use Rattle.std.proofs.Common.{◌≡◌, sym, ap, subst, ℕ, zero, suc, ◌+◌, ◌-◌, ◌*◌, ◌/◌, ◌^◌, ◌<◌, ◌≤◌, ◌==◌, pos, neg_ℤ, List, [], ◌∷◌, length, map, drop, Bool, true, false, cond, Option, Some, None, refl, arith}
 use Rattle.std.specs.Prelude.{filter, find, is_some, min, nat_le, nat_lt, slice_index, if◌then◌else◌}
 use Rattle.std.specs.List.{AllByRecursion, cons_option, filter_map}
@@ -192,6 +194,7 @@ module _ (layers : List (List ℕ)) (entries : List Entry) where
       go true l = omega (arith, ints)
       go false l = omega arith
 
+  -- a row of READDIRPLUS has at least one byte
   pub row_some : (r : Row) → 1 ≤ length (direntplus_of layers entries r)
   unfolding direntplus_of
   row_some r =

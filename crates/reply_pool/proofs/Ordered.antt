@@ -1,4 +1,5 @@
--- Sums by node: a list of them has one form.
+-- Sums by node: a list of them has one form, `one_form`. Two of them begin with the same node, as
+-- neither has one below the other's, and go on so.
 use Rattle.std.proofs.Common.{◌≡◌, ◌≢◌, ◌∙◌, sym, ap, ℕ, ◌<◌, ◌==◌, inl, inr, ℤ, pos, List, [], ◌∷◌, Bool, true, false, cond, refl, arith, eq-eqb}
 use Rattle.std.specs.List.{AllByRecursion}
 use Rattle.std.proofs.lemmas.Bool.{eqb-true, cases_order}
@@ -65,5 +66,6 @@ one_list (x ∷ xs) (y ∷ ys) a b some more same =
     ∙ ap (λ (z : ℤ). let m : Move = record { node = y.node; amount = z } in m) amount in
     ap (λ m. m ∷ xs) head ∙ ap (λ ms. y ∷ ms) (one_list xs ys a.1 b.1 some.1 more.1 rest)
 
+-- sums of the same moves are the same list
 pub one_form : (moves xs ys : List Move) → AreSums moves xs → AreSums moves ys → xs ≡ ys
 one_form moves xs ys a b = one_list xs ys a.ascending b.ascending a.none_zero b.none_zero (λ node. (a.each node ∙ sym (b.each node)))

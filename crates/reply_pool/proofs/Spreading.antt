@@ -1,5 +1,6 @@
--- A round of a stream by workers. Messages say what their jobs say (by induction on both), pieces of all batches
--- say what the jobs say (Hands), and what was appended is what the pieces say: so it is a round of the messages.
+-- A round of a stream by workers: `by_jobs`. Messages say what their jobs say (`jobs_told`,
+-- `jobs_moved`), pieces of all batches what the jobs say (Hands), and what was appended is what the
+-- pieces say; so it is a round of the messages.
 use Rattle.std.proofs.Common.{◌≡◌, ◌∙◌, sym, ap, subst, ℕ, zero, suc, ◌+◌, ◌<◌, ◌≤◌, ◌⊎◌, inl, inr, ℤ, ◌+ℤ◌, List, [], ◌∷◌, ◌++◌, length, map, take, drop, refl, arith, length-append, OnOk, Result, Ok, Err}
 use Rattle.std.specs.Prelude.{slice_index}
 use Rattle.std.proofs.lemmas.List.{map-append}

@@ -1,4 +1,6 @@
--- Moves joined from the front on, where their nodes do not fall.
+-- Moves joined from the front on, where their nodes do not fall. `none_joined` to `all_joined` are
+-- the loop: a move is added to its node's sum or begins a higher one. The last lemma,
+-- `sums_permuted`, lets moves be sorted before.
 use Rattle.std.proofs.Common.{◌≡◌, ◌≢◌, ◌∙◌, sym, ap, subst, ℕ, ◌+◌, ◌<◌, ◌≤◌, ◌^◌, ◌==◌, inl, inr, ℤ, pos, negsuc, neg_ℤ, ◌+ℤ◌, unsigned_abs, List, [], ◌∷◌, ◌++◌, length, get_or, take, drop, Bool, true, false, cond, refl, arith, to_z, of_z}
 use Rattle.std.specs.List.{AllByRecursion}
 use Rattle.std.specs.List.Sorted.{IsPermutation}
@@ -14,6 +16,7 @@ use Rattle.reply_model.specs.Moves.{balance}
 use Rattle.lookup_balances.specs.Balances.{weight}
 use Rattle.reply_pool.specs.Sums.{AreAscending, AreSums, PutsSum}
 
+-- two lists of moves give a node what the one gives and the other
 pub balance_append : (node : ℕ) (xs ys : List Move) → balance node (xs ++ ys) ≡ balance node xs +ℤ balance node ys
 balance_append node [] ys = omega (arith, ints)
 balance_append node (x ∷ xs) ys = let e = balance_append node xs ys in omega (arith, ints)
@@ -22,6 +25,7 @@ balance_append node (x ∷ xs) ys = let e = balance_append node xs ys in omega (
 abbrev pub nothing : Move
 nothing = record { node = 0; amount = pos 0 }
 
+-- two lists of moves weigh what the one weighs and the other
 pub weight_append : (xs ys : List Move) → weight (xs ++ ys) ≡ weight xs + weight ys
 weight_append [] ys = omega arith
 weight_append (x ∷ xs) ys = let e = weight_append xs ys in omega arith
@@ -85,6 +89,7 @@ none_of : (b : Bool) (a : ℤ) → a ≡ pos 0 → cond b a (pos 0) ≡ pos 0
 none_of true a is = is
 none_of false a is = refl
 
+-- where no move came yet, nothing is put and the sum under way is 0
 pub none_joined : (sum : Move) → sum.amount ≡ pos 0 → IsJoined [] [] sum
 none_joined sum zero = record {
   each = λ node. (let e = none_of (sum.node == node) sum.amount zero in omega (arith, ints));
@@ -250,6 +255,7 @@ balance_permuted node xs ys p =
     let f = parts node ys in
     omega (arith, ints)
 
+-- the sums of moves are those of the same moves in any order
 pub sums_permuted : (xs ys sums : List Move) → IsPermutation xs ys → AreSums ys sums → AreSums xs sums
 sums_permuted xs ys sums p are = record {
   ascending = are.ascending;

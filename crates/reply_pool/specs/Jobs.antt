@@ -17,10 +17,11 @@ use Rattle.reply_pool.specs.Sums.{AreSums}
 abbrev pub Job : Type 0
 Job = Session × Request
 
--- the reply to a job, and what it moves
+-- the reply to a job
 abbrev pub reply_to : Stacked → Job → List ℕ
 reply_to stack job = reply stack.layers stack.entries job.0 (asked_of job.1)
 
+-- what a job moves
 abbrev pub moved_by : Stacked → Job → List Move
 moved_by stack job = moves stack.layers stack.entries job.0 (asked_of job.1)
 

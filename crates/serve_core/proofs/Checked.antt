@@ -1,4 +1,6 @@
--- Images that are checked one after another.
+-- Images that are checked, one after another or in two halves. `one_more` and `all_checked` are the
+-- loop; `joined` is the main lemma: what two halves come to is what the run does, of which the
+-- lowest broken image is told. The last lemmas say it of all images.
 use Rattle.std.proofs.Common.{◌≡◌, ◌∙◌, sym, ap, ℕ, ◌+◌, ◌≤◌, ◌⊎◌, inl, inr, take, drop, List, [], ◌∷◌, ◌++◌, append_assoc, append-nil, subst, refl, arith, length, map, All, Result, Ok, Err}
 use Rattle.std.specs.declared.vec.Vec.{Vec}
 use Rattle.std.proofs.lemmas.List.{length-map, length-append, map-append, take-append-drop, length-take-le}
@@ -122,12 +124,13 @@ joined first next profile lows highs low high (Err stop) up a b (inl memory) =
 joined first next profile lows highs low high (Err stop) up a b (inr is) =
     (tt, stopped_first first next profile lows highs low high stop up a b is)
 
--- of all images
+-- a few images that are checked are layers
 pub as_layers : {X : Type 0} (v : X → List ℕ) (profile : Profile) (all : List X) (layers : List (List ℕ)) → IsFew (length all)
     → AreChecked profile (map v all) layers → AreLayers profile (map v all) layers
 as_layers v profile all layers few checked = record { few = subst IsFew (sym (length-map all v)) few; sound = checked.sound; are =
       checked.are }
 
+-- what broke off the check of a few images is why they are refused
 pub as_refused : {X : Type 0} (v : X → List ℕ) (profile : Profile) (all : List X) (stop : Stop) → IsFew (length all)
     → IsBroken 0 profile (map v all) stop → AreRefused profile (map v all) stop
 as_refused v profile all (Layer layer fault) few (n, at, broken) = (subst IsFew (sym (length-map all v)) few,
@@ -143,12 +146,13 @@ as_refused v profile all Read few b = absurd b
 as_refused v profile all Write few b = absurd b
 as_refused v profile all Turns few b = absurd b
 
--- a list that is cut in two
+-- the two parts of a list that is cut are the list
 pub halved : {X : Type 0} (v : X → List ℕ) (all lows highs : List X) (half : ℕ) → lows ≡ take half all → highs ≡ drop half all
     → map v lows ++ map v highs ≡ map v all
 halved v all lows highs half l h = sym (map-append v lows highs) ∙ ap (map v) (ap (λ xs. xs ++ highs) l ∙ ap (λ xs. take half all ++ xs) h
       ∙ take-append-drop half all)
 
+-- the numbers of the upper part begin where those of the lower end
 pub counted : {X : Type 0} (v : X → List ℕ) (all lows : List X) (half first : ℕ) → lows ≡ take half all → half ≤ length all
     → first + half ≡ first + length (map v lows)
 counted v all lows half first l m = ap (λ n. first + n) (sym (length-take-le half all m) ∙ ap length (sym l) ∙ sym (length-map lows v))

@@ -1,4 +1,6 @@
--- Images are refused for one reason.
+-- Images are refused for one reason. `one_broken` is the heart: the lowest broken image is one, as
+-- all below it keep the rules. So there is one reason but for want of memory, and good images have
+-- only that.
 use Rattle.std.proofs.Common.{◌≡◌, ◌∙◌, sym, ap, subst, ℕ, suc, ◌<◌, ◌⊎◌, inl, inr, List, [], ◌∷◌, ◌++◌, length, All, refl, arith}
 use Rattle.std.proofs.lemmas.List.Elements.{All-head, All-tail}
 use Rattle.stack_model.specs.declared.limits.TheConstants.{MAX_LAYERS}
@@ -49,6 +51,7 @@ none_broken profile [] us a r p f x = no_fault profile a r p (All-head (IsSoundA
 none_broken profile (c ∷ xs) us a r p f x = none_broken profile xs us a r p (All-tail (IsSoundAs profile) c (xs ++ a ∷ us) f) x
 
 module _ (profile : Profile) (images : List (List ℕ)) where
+  -- no image, or more than the most layers, are not few
   pub not_few : (count : ℕ) → (count ≡ length images) × ((count ≡ 0) ⊎ (MAX_LAYERS < count)) → ¬ IsFew (length images)
   not_few count (e, inl h) few = (let a = few.0 in omega arith)
   not_few count (e, inr h) few = (let a = few.1 in omega arith)
@@ -66,6 +69,7 @@ module _ (profile : Profile) (images : List (List ℕ)) where
   reason Write x = absurd x
   reason Turns x = absurd x
 
+  -- images are refused for one reason, or memory ran out
   pub one_reason : (r s : Stop) → AreRefused profile images r → AreRefused profile images s → (r ≡ s) ⊎ ((r ≡ Memory) ⊎ (s ≡ Memory))
   one_reason r s x y =
       elim (reason r x) [
@@ -82,6 +86,7 @@ module _ (profile : Profile) (images : List (List ℕ)) where
         ]
       ]
 
+  -- images that keep the rules are refused for want of memory alone
   pub good_are_taken : (layers : List (List ℕ)) (r : Stop) → AreLayers profile images layers → AreRefused profile images r → r ≡ Memory
   good_are_taken layers r good x =
       elim (reason r x) [

@@ -1,4 +1,6 @@
--- The row with a name, by the place of the name.
+-- The row with a name, by the place of the name. `named_at` and `named_nowhere` are the main
+-- lemmas: the row at the first place of the name is the row with the name, and where it has none
+-- there is none.
 use Rattle.std.proofs.Common.{◌≡◌, ◌∙◌, sym, ap, ℕ, suc, ◌<◌, inl, inr, List, [], ◌∷◌, length, get_or, refl, arith, Bool, false, Some, None}
 use Rattle.std.specs.Prelude.{find, slice_get}
 use Rattle.std.specs.List.{position_or_len}
@@ -20,6 +22,7 @@ module _ (n : List ℕ) (ls : List Line) where
   is_named : (k : ℕ) (d : Line) → k < length ls → same_name n (get_or (names ls) k []) ≡ same_name n (get_or ls k d).name
   is_named k d l = ap (same_name n) (get_or-map (λ (line : Line). line.name) ls k d [] l)
 
+  -- the place of a name is one of the rows
   pub place_within : (i : ℕ) → place_of n (names ls) ≡ Some i → i < length ls
   place_within i e = let s = position-Some (same_name n) (names ls) i [] e in let l = s.0 in let m =
       length-map ls (λ (line : Line). line.name) in omega arith

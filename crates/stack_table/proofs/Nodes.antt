@@ -1,4 +1,6 @@
--- What a table's parts say of the node with a number.
+-- What a table's parts say of the node with a number. A number is held exactly where it is in use
+-- (`here`, `nowhere`), and a directory where the place is one (`found`, `not_found`); the others
+-- say of each reader that what it reads is what the stack says.
 use Rattle.std.proofs.Common.{◌≡◌, ◌∙◌, sym, ap, subst, ℕ, zero, suc, ◌<◌, ◌≤◌, List, [], ◌∷◌, length, map, Bool, true, false, Option, Some, None, Bor, MatchOption, cond, refl, arith}
 use Rattle.std.specs.Prelude.{slice_get, slice_range, find, unwrap_or}
 use Rattle.std.specs.List.{slice_index_or}
@@ -66,6 +68,7 @@ module _ (layers : List (List ℕ)) (entries : List Entry) (held : List Node) (d
     pub is : node_of entries n ≡ Some at
     pub holds : IsNode layers entries directories rows keys node at
 
+  -- where a node is held of a number, it is the node of the number's place
   pub here : (n : ℕ) (node : Node) → held_at held n ≡ Some node → IsHere n node
   here zero node e = absurd (cc)
   here (suc k) node e =
@@ -87,6 +90,7 @@ module _ (layers : List (List ℕ)) (entries : List Entry) (held : List Node) (d
           let x = there held k (omega arith) in
           let z : Some x.0 ≡ None = sym x.1 ∙ e in cc)
 
+  -- what a look-up of a number gives tells the node of the stack, or that there is none
   pub node_is : (n : ℕ) (o : Option (Bor Node)) → MatchOption o (held_at held n ≡ None) (λ node. held_at held n ≡ Some node.now)
       → TellsNode stack n o
   node_is n None e = nowhere n e
@@ -103,11 +107,13 @@ module _ (layers : List (List ℕ)) (entries : List Entry) (held : List Node) (d
       let rdev_is = h.rdev_is in
       cc
 
+  -- the attributes made of a held node are those of its number
   pub attr_is : (n : ℕ) (node : Node) → held_at held n ≡ Some node → Some (attr_held n node) ≡ attr_at stack n
   attr_is n node e =
       let h = here n node e in
       rw h.is (ap Some (attr_same n node h.at h.holds (number_is entries n h.at h.is)))
 
+  -- what is not held has no attributes
   pub attr_none : (n : ℕ) → held_at held n ≡ None → None ≡ attr_at stack n
   attr_none n e = rw (nowhere n e) refl
 
@@ -132,6 +138,7 @@ module _ (layers : List (List ℕ)) (entries : List Entry) (held : List Node) (d
         holds = subst (λ (x : Directory). IsHeldDirectory layers entries rows keys x h.at) is d.holds;
       }
 
+  -- a directory that is held is of a number in use, whose place is a directory
   pub found : (n : ℕ) (directory : Directory) → directory_held held directories n ≡ Some directory → IsFound n directory
   found n directory e = go (held_at held n) refl e
     where
@@ -145,6 +152,7 @@ module _ (layers : List (List ℕ)) (entries : List Entry) (held : List Node) (d
   not_held n node h true e k = absurd (let d = h.holds.directory_is e in let z : Some d.directory ≡ None = sym d.is ∙ k in cc)
   not_held n node h false e k = ap is_directory (sym h.holds.kind) ∙ e
 
+  -- a number of which no directory is held is not in use, or its place is no directory
   pub not_found : (n : ℕ) → directory_held held directories n ≡ None → option_map_or (is_directory_at layers) (node_of entries n) false
       ≡ false
   not_found n e = go (held_at held n) refl e
@@ -155,6 +163,7 @@ module _ (layers : List (List ℕ)) (entries : List Entry) (held : List Node) (d
       go (Some node) f k = let h = here n node f in ap (λ o. option_map_or (is_directory_at layers) o false) h.is
           ∙ not_held n node h (is_directory node.kind) refl k
 
+  -- the rows from a directory's start to its end are those of its number
   pub rows_are : (n : ℕ) (d : Directory) → directory_held held directories n ≡ Some d → slice_range rows d.rows_start d.rows_end
       ≡ rows_at stack n
   rows_are n d e = let h = found n d e in rw h.is h.holds.rows_are
@@ -171,14 +180,16 @@ module _ (layers : List (List ℕ)) (entries : List Entry) (held : List Node) (d
       go true = named_child (number entries) name (children entries p)
       go false = refl
 
+  -- the number that these rows give a name is that of the child
   pub child_is : (n : ℕ) (d : Directory) (name : List ℕ) → directory_held held directories n ≡ Some d
       → number_named name (slice_range rows d.rows_start d.rows_end) ≡ child_at stack n name
   child_is n d name e = let h = found n d e in rw (h.is, h.holds.rows_are) (named_of h.at name)
 
+  -- the parent that is held of a directory is its number's
   pub parent_is : (n : ℕ) (d : Directory) → directory_held held directories n ≡ Some d → Some d.parent ≡ parent_at stack n
   parent_is n d e = let h = found n d e in rw (h.is, h.kind) (ap Some h.holds.parent_is)
 
-  -- what is no directory has no rows, no child and no parent
+  -- what is no directory has no rows
   pub rows_none : (n : ℕ) → directory_held held directories n ≡ None → [] ≡ rows_at stack n
   rows_none n e = go (node_of entries n) (not_found n e)
     where
@@ -186,6 +197,7 @@ module _ (layers : List (List ℕ)) (entries : List Entry) (held : List Node) (d
       go None f = refl
       go (Some p) f = rw f refl
 
+  -- and no child of any name
   pub child_none : (n : ℕ) (name : List ℕ) → directory_held held directories n ≡ None → None ≡ child_at stack n name
   child_none n name e = go (node_of entries n) (not_found n e)
     where
@@ -194,6 +206,7 @@ module _ (layers : List (List ℕ)) (entries : List Entry) (held : List Node) (d
       go None f = refl
       go (Some p) f = rw f refl
 
+  -- and no parent
   pub parent_none : (n : ℕ) → directory_held held directories n ≡ None → None ≡ parent_at stack n
   parent_none n e = go (node_of entries n) (not_found n e)
     where
@@ -201,6 +214,7 @@ module _ (layers : List (List ℕ)) (entries : List Entry) (held : List Node) (d
       go None f = refl
       go (Some p) f = rw f refl
 
+  -- the bytes of a node's part of its image are the data of its number
   pub data_is : (n : ℕ) (node : Node) (image : List ℕ) → held_at held n ≡ Some node → image ≡ slice_index_or layers node.place.layer image
       → bytes_at image node.part.start node.part.len ≡ data_of_number stack n
   data_is n node image e i =
@@ -209,12 +223,15 @@ module _ (layers : List (List ℕ)) (entries : List Entry) (held : List Node) (d
       let same : image ≡ a.image = i ∙ indexed layers node.place.layer a.image image a.is in
       rw (h.is, same) a.data_is
 
+  -- what is not held has no data
   pub data_none : (n : ℕ) → held_at held n ≡ None → [] ≡ data_of_number stack n
   data_none n e = rw (nowhere n e) refl
 
+  -- the layer of a node that is held is one of the layers
   pub image_there : (n : ℕ) (node : Node) → held_at held n ≡ Some node → node.place.layer < length layers
   image_there n node e = let a = (here n node e).holds.holds in below layers node.place.layer a.image a.is
 
+  -- the part of a node lies in its image
   pub part_lies : (n : ℕ) (node : Node) (image : List ℕ) → held_at held n ≡ Some node → image ≡ slice_index_or layers node.place.layer image
       → IsPart image node.part
   part_lies n node image e i =

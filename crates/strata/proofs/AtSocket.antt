@@ -1,4 +1,6 @@
--- How the command `socket` ends, by how its sessions ended.
+-- How the command `socket` ends, by how its sessions ended. `over_there` is of a command that did
+-- all its steps, whatever its sessions stopped for, and `stopped_there` of one that could not serve
+-- any.
 use Rattle.std.proofs.Common.{◌≡◌, refl, ℕ, ◌⊎◌, inl, inr, List, Option, Some, None, Result, Ok, Err, IfOk, IfErr}
 use Rattle.command_line.specs.declared.options.Line.{Line}
 use Rattle.command_line.specs.declared.options.Verb.TheVariants.{Socket}
@@ -33,11 +35,13 @@ module _ (A : Type 0) (words : List (List ℕ)) (line : Line) (images : List (Li
     over = (told_by {A = A} line images fault s, begun A words line images Socket old old line_is named verb_is fault (refl, inr (inr s)));
   }
 
+  -- a command whose sessions ended with a status is over with this status
   pub over_there : (r : Result ℕ Fault) → IfOk r (λ status. EndsAtSocket A line images status)
       → IfOk r (λ status. IsOverWith A words status old old)
   over_there (Ok status) e = over_with status e.fault e.status_is e.served
   over_there (Err fault) e = e
 
+  -- where images were not stacked or no socket was bound, the command ended in that fault
   pub stopped_there : (r : Result ℕ Fault) → IfErr r (λ fault. AreNotStacked (profile_of line) images fault ⊎ IsNotBound line images fault)
       → IfErr r (λ fault. EndsInFault A words fault old old)
   stopped_there (Ok status) e = e

@@ -1,4 +1,6 @@
--- How a command ends, by how its last step ended.
+-- How a command ends, by how its last step ended. `whole` and `begun` put what was done over the
+-- images beside the words that asked for it; `unread` is the end before that, and no fault has the
+-- status 0.
 use Rattle.std.proofs.Common.{◌≡◌, ◌≢◌, ◌<◌, ◌∙◌, sym, subst, refl, ℕ, ◌⊎◌, inl, inr, List, None, Result, Ok, Err, IfErr, IsErrAnd, arith, length, map, vec_len, Vec}
 use Rattle.std.proofs.lemmas.List.{length-map}
 use Rattle.serve_loop.specs.declared.stop.Stop.{Stop}
@@ -30,6 +32,7 @@ module _ (A : Type 0) (words : List (List ℕ)) (line : Line) (images : List (Li
     done = subst (λ v. IsDoneOver A v line images old new) (sym verb_is) d;
   }
 
+  -- a command that did its work is over with the status 0
   pub did : IsDoneOver A verb line images old new → IsOverWith A words 0 old new
   did d = record { fault = None; status_is = refl; over = whole d }
 
@@ -43,6 +46,7 @@ module _ (A : Type 0) (words : List (List ℕ)) (line : Line) (images : List (Li
     stopped = subst (λ v. IsStoppedOver A v line images fault old new) (sym verb_is) p;
   })
 
+  -- a command whose work stopped ended in the fault that it tells
   pub broke_off : {X : Type 0} (r : Result X Fault) (fault : Fault) → IsErrAnd r (λ told. told ≡ fault)
       → IsStoppedOver A verb line images fault old new
       → IfErr r (λ told. EndsInFault A words told old new)
@@ -71,6 +75,7 @@ stop_fails stops.Write e = absurd (omega arith)
 stop_fails stops.Turns e = absurd (omega arith)
 stop_fails stops.Memory e = absurd (omega arith)
 
+-- no fault has the status 0
 pub fault_status : (fault : Fault) → status_of fault ≢ 0
 fault_status (Usage text) e = absurd (omega arith)
 fault_status (ImageFile image) e = absurd (omega arith)

@@ -1,4 +1,6 @@
--- Sessions that are served one after another.
+-- Sessions that are served one after another. `none_so_far` to `none_accepted` are how the loop
+-- begins, goes on and ends. The main lemma is `sessions_tell`: the status says whether all were
+-- served whole, which was the first that stopped, or that fewer were served.
 use Rattle.std.proofs.Common.{◌≡◌, ◌≢◌, ◌∙◌, sym, ap, subst, refl, ℕ, ◌+◌, ◌<◌, ◌⊎◌, inl, inr, List, [], ◌∷◌, ◌++◌, length, Option, Some, None, Result, Ok, Err, arith}
 use Rattle.std.specs.List.{AllByRecursion}
 use Rattle.std.proofs.lemmas.List.{length-append}
@@ -60,10 +62,12 @@ module _ {A : Type 0} {first : Session} {stack : Stacked} where
       ∙ sym (or_assoc (fault_of n x.result) (first_fault (n + 1) served) (fault_of (n + 1 + length served) s.result))
       ∙ ap (or_later (first_fault n (x ∷ served))) (same_number (n + 1 + length served) (n + length (x ∷ served)) s number)
 
+  -- before the first session none is served, and the status is 0
   pub none_so_far : AreSoFar A first stack 0 0
   unfolding first_fault
   none_so_far = record { served = []; count_is = refl; status_is = refl }
 
+  -- with one session more the status is as it was, or that of this session where it was 0
   pub one_more : (count status ended more : ℕ) → AreSoFar A first stack count status
       → (s : Served A first stack) × (ended ≡ status_at (fault_of (count + 1) s.result))
       → ((status ≡ 0) × (more ≡ ended)) ⊎ ((status ≢ 0) × (more ≡ status))
@@ -80,7 +84,7 @@ module _ {A : Type 0} {first : Session} {stack : Stacked} where
             ∙ ap status_at (sym (first_more 1 so_far.served s));
       }
 
-  -- all were served
+  -- once all are served the sessions end with the status so far
   pub all_served : (count status : ℕ) → AreSoFar A first stack count status → EndWith A first stack count status
   all_served count status so_far = record {
     fault = first_fault 1 so_far.served;
@@ -88,7 +92,7 @@ module _ {A : Type 0} {first : Session} {stack : Stacked} where
     served = record { served = so_far.served; ends = inl (so_far.count_is, refl) };
   }
 
-  -- no client came any more
+  -- where no client comes they end with the status of that
   pub none_accepted : (at count status ended : ℕ) → AreSoFar A first stack at status → at < count → ended ≡ status_of Accept
       → EndWith A first stack count ended
   none_accepted at count status ended so_far less e = record {
@@ -178,6 +182,7 @@ module _ {A : Type 0} {first : Session} {stack : Stacked} where
             record { served = a.served; which = inr (inr (s.0, e ∙ ap status_of is)) }
       ]
 
+-- what the status of sessions tells, whatever they end with
 pub sessions_tell : (A : Type 0) (first : Session) (stack : Stacked) (count status : ℕ) → EndWith A first stack count status
     → TellsOfSessions A first stack count status
 sessions_tell A first stack count status e = tells count status e.fault e.status_is e.served

@@ -1,4 +1,5 @@
--- How a list stopped.
+-- How a list stopped. `list_stopped` puts the fault that was told together with what the fault left
+-- in the output.
 use Rattle.std.proofs.Common.{◌≡◌, inl, inr, ℕ, List, Result, Ok, Err, IfErr, IsErrAnd}
 use Rattle.devices.specs.States.{SinkState}
 use Rattle.romfs_format.specs.declared.rule.Profile.{Profile}
@@ -12,6 +13,7 @@ use Rattle.strata.specs.declared.faults.Fault.{Fault}
 use Rattle.strata.specs.Faults.{list_told_of}
 use Rattle.strata.specs.Ending.{IsNotListed}
 
+-- a list that was broken off did not list the stack, and its fault tells why
 pub list_stopped : (profile : Profile) (images : List (List ℕ)) (stack : Stacked) (old new : SinkState) (r : Result (Unit {0}) Fault)
     (fault : ListFault)
     → AreStacked profile images stack → IsBrokenOff old new fault → IsErrAnd r (λ told. told ≡ list_told_of fault)

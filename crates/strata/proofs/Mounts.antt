@@ -1,5 +1,6 @@
--- How a run over an open /dev/fuse ends, by how its last step ended: done, or stopped with a fault, which either says that
--- the mount was taken away or not.
+-- How a run over an open /dev/fuse ends, by how its last step ended: done, or stopped with a fault,
+-- which says that the mount was taken away or not. `has_stopped_there` is the main lemma: it has a
+-- case for each.
 use Rattle.std.proofs.Common.{◌≡◌, ◌∙◌, sym, ap, subst, refl, ℕ, Bool, true, false, inl, inr, List, Option, Some, None, if◌then◌else◌}
 use Rattle.devices.specs.States.{Devices}
 use Rattle.strata.specs.declared.faults.Fault.{Fault}
@@ -11,6 +12,7 @@ use Rattle.strata.proofs.Ended.{fault_status}
 use Rattle.strata.proofs.Statuses.{ends_for_words, zero_is_other}
 
 module _ (A : Type 0) (words : List (List ℕ)) (input output : Bool) (old new : Devices) where
+  -- what did what its words say is a run over the device with the status 0
   pub has_done_there : IsDone A words old new → IsRunOnDevice A words input output 0 old new
   has_done_there d = record { done = λ _. inl d; stopped = λ n. absurd (n refl); untouched = λ e. absurd (zero_is_other e) }
 
@@ -36,6 +38,7 @@ module _ (A : Type 0) (words : List (List ℕ)) (input output : Bool) (old new :
           untouched = λ two. (ends_for_words A words old new (subst (λ n. EndsWith A words n old new) two ends)).1;
         }
 
+    -- what ended in a fault is a run with the status that the fault has over the device
     pub has_stopped_there : IsRunOnDevice A words input output status old new
     has_stopped_there = by_whether (is_taken_away fault input output) refl
 
@@ -44,6 +47,7 @@ module _ (A : Type 0) (words : List (List ℕ)) (input output : Bool) (old new :
   told_there fault (inl e) = subst (λ f. status_on_device f input output ≡ status_of f) (sym e) refl
   told_there fault (inr s) = subst (λ f. status_on_device f input output ≡ status_of f) (sym s.2) refl
 
+  -- what did all its steps is a run over the device with its status
   pub has_ended_there : (status : ℕ) → IsOverWith A words status old new → IsRunOnDevice A words input output status old new
   has_ended_there status r = go r.fault r.status_is r.over
     where

@@ -1,4 +1,6 @@
--- What serving left, by the devices that it was between.
+-- What serving left, by the devices that it was between. The first lemmas say which device was
+-- touched, where a file stands in place of it or not; the others make of that how `serve` ended:
+-- stopped, whole, or whole but for its balances.
 use Rattle.std.proofs.Common.{◌≡◌, ◌∙◌, sym, ap, refl, subst, ℕ, ◌⊎◌, inl, inr, List, Option, None, Some, is_some, true, false, true≢false, Result, Ok, Err, OnOk, IfErr, IsErrAnd}
 use Rattle.command_line.specs.declared.options.Line.{Line}
 use Rattle.serve_loop.specs.declared.stop.Stop.{Stop}
@@ -14,17 +16,19 @@ none_where : {X : Type 0} (o : Option X) → is_some o ≡ false → o ≡ None
 none_where None e = refl
 none_where (Some x) e = absurd (true≢false e)
 
--- where one is named there is a file, and else none
+-- where none is named there is no file
 pub same_none : {X Y : Type 0} (named : Option X) (file : Option Y) → is_some file ≡ is_some named → named ≡ None → file ≡ None
 same_none named file same none = none_where file (same ∙ ap is_some none)
 
+-- where there is a file, one is named
 pub no_file : {X Y : Type 0} (named : Option X) (file : Option Y) (x : Y) → is_some file ≡ is_some named → file ≡ Some x → named ≡ None → ⊥
 no_file named file x same some none = true≢false (ap is_some (sym some) ∙ same ∙ ap is_some none)
 
--- replies that went to the output, and those that went to a file
+-- without a file the replies went to the output, which took them
 pub to_output : {F : Type 0} (file : Option F) (t : Trace) (old new : SinkState) → file ≡ None → Took t old new → GetsReplies file t old new
 to_output file t old new none took = record { took = λ _. took; kept = λ some. absurd (true≢false (sym some ∙ ap is_some none)) }
 
+-- replies that went to a file left the output as it was
 pub to_file : {F : Type 0} (file : Option F) (x : F) (t : Trace) (old : SinkState) → file ≡ Some x → GetsReplies file t old old
 to_file file x t old some = record { took = λ none. absurd (true≢false (ap is_some (sym some) ∙ ap is_some none)); kept = λ _. refl }
 
@@ -33,11 +37,12 @@ pub gained : {F G : Type 0} (named : Option F) (file : Option G) (t : Trace) (ol
     → GetsReplies file t old new → GetsReplies named t old new
 gained named file t old new same g = record { took = λ none. g.took (same_none named file same none); kept = λ some. g.kept (same ∙ some) }
 
--- requests that came from the input, and those that came from a file
+-- without a named file the requests came from the input, which gave them
 pub from_input : {F X E : Type 0} (named : Option F) (t : Trace) (result : Result X E) (old new : SourceState) → named ≡ None
     → Gave t result old new → Asks named t result old new
 from_input named t result old new none gave = record { gave = λ _. gave; kept = λ some. absurd (true≢false (sym some ∙ ap is_some none)) }
 
+-- requests that came from a file left the input as it was
 pub from_file : {F G X E : Type 0} (named : Option F) (file : Option G) (x : G) (t : Trace) (result : Result X E) (old : SourceState)
     → is_some file ≡ is_some named → file ≡ Some x → Asks named t result old old
 from_file named file x t result old same some = record { gave = λ none. absurd (no_file named file x same some none); kept = λ _. refl }
@@ -56,6 +61,7 @@ module _ (A : Type 0) (line : Line) (images : List (List ℕ)) (old new : Device
       → IsServedWhole A line images old new
   whole r done s e = record { trace = s.0; done = done; serving = subst (λ v. IsServing line images s.0 v old new) e s.1 }
 
+  -- a stream that was served whole but whose balances were not written is not served
   pub lost : {F : Type 0} (file : Option F) (told : Result (Unit {0}) Fault) → IsServedWhole A line images old new
       → is_some file ≡ is_some line.balances
       → IfErr told (λ fault. (is_some file ≡ true) × ((fault ≡ write_failed) ⊎ (fault ≡ out_of_memory)))
@@ -63,6 +69,7 @@ module _ (A : Type 0) (line : Line) (images : List (List ℕ)) (old new : Device
   lost file (Ok u) w same l = l
   lost file (Err fault) w same l = inr (inr (record { named = sym same ∙ l.0; told = l.1; served = w }))
 
+  -- a stream that was served whole is so where its balances are told well
   pub in_time : (told : Result (Unit {0}) Fault) → IsServedWhole A line images old new → OnOk told (IsServedWhole A line images old new)
   in_time (Ok u) w = w
   in_time (Err fault) w = tt

@@ -1,4 +1,5 @@
--- Images that are checked one after another.
+-- Images that are checked one after another. `one_more` is the step of the loop: the next image is
+-- good, and its size is put behind the others.
 use Rattle.std.proofs.Common.{◌≡◌, ◌∙◌, sym, ap, ℕ, List, [], ◌∷◌, ◌++◌, append_assoc, length, map}
 use Rattle.std.proofs.lemmas.List.{map-append}
 use Rattle.std.proofs.lemmas.List.Elements.{All-push}

@@ -1,4 +1,6 @@
--- What the exit statuses of the program mean.
+-- What the exit statuses of the program mean. `ends_for_words` and `ends_for_images` say what 2 and
+-- 3 tell: each goes over all that can end a command, and rules out what has another status.
+-- `has_done`, `has_stopped` and `has_ended` put a run together by the status of its last step.
 use Rattle.std.proofs.Common.{◌≡◌, ◌≢◌, ◌∙◌, sym, ap, subst, ℕ, ◌≤◌, ◌⊎◌, inl, inr, List, All, Option, Some, None, Err, refl, arith}
 use Rattle.romfs_format.specs.declared.rule.Profile.{Profile}
 use Rattle.romfs_format.specs.Rules.{IsSoundAs}
@@ -54,6 +56,7 @@ fault_range (Broken image fault) = (omega arith, omega arith)
 fault_range (InSession session stop) = stop_range stop
 fault_range (Stopped stop) = stop_range stop
 
+-- a program that stopped has a status of 1 to 5
 pub ends_in_range : (A : Type 0) (words : List (List ℕ)) (n : ℕ) (old new : Devices) → EndsWith A words n old new → (1 ≤ n) × (n ≤ 5)
 unfolding IsStatus
 ends_in_range A words n old new e = subst IsStatus (sym e.status_is) (fault_range e.fault)
@@ -75,6 +78,7 @@ told_as fault other f n e = n (sym (ap status_of f) ∙ e)
 one_is_other : ◌≢◌ {A = ℕ} 1 2
 one_is_other e = absurd (omega arith)
 
+-- the status 0 is not that of wrong words
 pub zero_is_other : ◌≢◌ {A = ℕ} 0 2
 zero_is_other e = absurd (omega arith)
 
@@ -132,6 +136,8 @@ misread : (words : List (List ℕ)) (line : LineFault) → IsLineFault words lin
 misread words (lines.Usage text) is e = is
 misread words lines.Memory is e = absurd (five_is_other e)
 
+-- with the status 2 the words are no command, or one with a wrong number or a file beside the
+-- device, and no device was touched
 pub ends_for_words : (A : Type 0) (words : List (List ℕ)) (old new : Devices) → EndsWith A words 2 old new
     → ((¬ IsTaken words) ⊎ (IsMisnumbered words ⊎ IsCrossed words)) × (new ≡ old)
 ends_for_words A words old new e =
@@ -247,6 +253,7 @@ words_less : (line : LineFault) → status_of (line_told_of line) ≢ 3
 words_less (lines.Usage text) e = two_is_less e
 words_less lines.Memory e = five_is_more e
 
+-- with the status 3 the images are to blame
 pub ends_for_images : (A : Type 0) (words : List (List ℕ)) (old new : Devices) → EndsWith A words 3 old new → AreToBlame words
 ends_for_images A words old new e =
     let three : status_of e.fault ≡ 3 = sym e.status_is in
@@ -267,9 +274,11 @@ ends_for_images A words old new e =
 
 -- ---- a whole run
 
+-- a program that did what its words say is a run with the status 0
 pub has_done : (A : Type 0) (words : List (List ℕ)) (old new : Devices) → IsDone A words old new → IsRunOf A words 0 old new
 has_done A words old new d = record { done = λ _. d; stopped = λ n. absurd (n refl); untouched = λ e. absurd (zero_is_other e) }
 
+-- a program that ended in a fault is a run with the fault's status
 pub has_stopped : (A : Type 0) (words : List (List ℕ)) (status : ℕ) (fault : Fault) (old new : Devices) → EndsInFault A words fault old new
     → status ≡ status_of fault → IsRunOf A words status old new
 has_stopped A words status fault old new s e =

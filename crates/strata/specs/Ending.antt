@@ -166,6 +166,7 @@ pub record AreBalancesLost (A : Type 0) (line : Line) (images : List (List ℕ))
   pub told : (fault ≡ write_failed) ⊎ (fault ≡ out_of_memory)
   pub served : IsServedWhole A line images old new
 
+-- serving was not begun or not done, or its balances were not written
 abbrev pub IsNotServed : (A : Type 0) → Line → List (List ℕ) → Fault → Devices → Devices → Type 0
 IsNotServed A line images fault old new =
     IsFileFault line fault old new
@@ -202,8 +203,8 @@ IsNotServedAtSocket A line images fault =
 
 -- ---- all four
 
--- the work of a command over the images that were read: done, and stopped with a fault. Only serve
--- touches the input, and socket neither device
+-- the work of a command over the images that were read, done. Only serve touches the input, and
+-- socket neither device
 abbrev pub IsDoneOver : (A : Type 0) → Verb → Line → List (List ℕ) → Devices → Devices → Type 0
 IsDoneOver A verbs.Serve line images old new = IsServedWhole A line images old new
 IsDoneOver A verbs.Socket line images old new =
@@ -213,6 +214,7 @@ IsDoneOver A verbs.Check line images old new =
 IsDoneOver A verbs.List line images old new =
     (new.source ≡ old.source) × IsStackListed (profile_of line) images old.sink new.sink
 
+-- and where it stopped with a fault
 abbrev pub IsStoppedOver : (A : Type 0) → Verb → Line → List (List ℕ) → Fault → Devices → Devices
     → Type 0
 IsStoppedOver A verbs.Serve line images fault old new = IsNotServed A line images fault old new

@@ -37,9 +37,11 @@ status_of (Broken image fault) = 3
 status_of (InSession session stop) = stop_status stop
 status_of (Stopped stop) = stop_status stop
 
+-- the fault that memory ran out
 abbrev pub out_of_memory : Fault
 out_of_memory = Stopped stops.Memory
 
+-- the fault that the output failed
 abbrev pub write_failed : Fault
 write_failed = Stopped stops.Write
 

@@ -1,4 +1,5 @@
--- A `Refusing` behind the `&self` of a method, over an inner allocator whose row is A, and where its fields lie.
+-- A `Refusing` behind the `&self` of a method, over an inner allocator whose row is A, and where
+-- its fields lie: the inner allocator first, and the tally behind it at the next multiple of 8.
 use Rattle.std.proofs.Common.{ℕ, ◌+◌, [], ◌∷◌}
 use Rattle.test_kit.specs.contracts.refusing.Refusing.{the_row}
 use prog.Memory.{size, align, up}
@@ -8,11 +9,14 @@ use denote.RattleType.{RattleType}
 use denote.Signature.{Slot, plain}
 
 module _ (A : RattleType) where
+  -- the reference that a method is given
   abbrev pub self : Slot 2
   self = RefOf (0 ∷ []) tt (plain (λ _. the_row (param 0 A))) (λ _. tt)
 
+  -- where the inner allocator lies, by where the `Refusing` does
   abbrev pub inner_at : ℕ × ℕ → ℕ × ℕ
   inner_at p = (p.0, p.1 + up (align (layout A)) 0)
 
+  -- where the tally lies, by where the `Refusing` does
   abbrev pub tally_at : ℕ × ℕ → ℕ × ℕ
   tally_at p = (p.0, p.1 + up 8 (up (align (layout A)) 0 + size (layout A)))

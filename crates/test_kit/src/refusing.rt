@@ -1,20 +1,5 @@
 //! An allocator for tests that refuses one request for memory and counts all of them.
 //!
-//! A test runs a call with each of its requests refused in turn, and looks at what the call
-//! answers:
-//!
-//! ```text
-//! for refuse_at in 1..=MOST {
-//!     let refusing = Refusing::new(Global, refuse_at);
-//!     let result = call(&refusing);
-//!     if !refusing.refused() {
-//!         break;
-//!     }
-//! }
-//! ```
-//!
-//! A `&Refusing<A>` is an allocator that is copied, and threads share it where they may share `A`.
-//!
 //! Proved: each block that is handed out is one of the inner allocator's, `new` keeps what it is
 //! given, requests are numbered from 1, and no count wraps. The count lies in a word that threads
 //! share, of which no contract can say what it holds. So that the request with the given number is
@@ -32,7 +17,21 @@ use std::test::Fail;
 /// refuses.
 ///
 /// A block that grows or shrinks is a request for a new block: where it is refused, the old one
-/// stays as it was.
+/// stays as it was. A `&Refusing<A>` is an allocator that is copied, and threads share it where
+/// they may share `A`.
+///
+/// A test runs a call with each of its requests refused in turn, and looks at what the call
+/// answers:
+///
+/// ```text
+/// for refuse_at in 1..=MOST {
+///     let refusing = Refusing::new(Global, refuse_at);
+///     let result = call(&refusing);
+///     if !refusing.refused() {
+///         break;
+///     }
+/// }
+/// ```
 #[derive(Drop)]
 pub struct Refusing<A> {
     inner: A,

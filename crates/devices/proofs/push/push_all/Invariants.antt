@@ -8,5 +8,6 @@ invariant-loop-rest g l =
     (done : List ℕ)
     × IsUnderWay l.initial.rest l.rest done (g.K.Sink.state l.initial.sink) (g.K.Sink.state l.sink)
 
+-- each push leaves fewer bytes to come
 abbrev pub decreases-loop-rest : goal.decreases-loop-rest
 decreases-loop-rest g l = length l.rest

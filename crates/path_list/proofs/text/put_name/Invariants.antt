@@ -9,5 +9,6 @@ invariant-loop-rest g l =
     × ((g.K.Sink.state l.sink).counts.failures ≡ (g.K.Sink.state l.fn.sink).counts.failures)
     × ((g.K.Sink.state l.sink).counts.unflushed ≤ (g.K.Sink.state l.fn.sink).counts.unflushed)
 
+-- each turn leaves less of the name
 abbrev pub decreases-loop-rest : goal.decreases-loop-rest
 decreases-loop-rest g l = length l.rest

@@ -4,10 +4,12 @@ use Rattle.path_list.specs.Walks.{Gains, way, piece_at}
 use Rattle.path_list.specs.Below.{below}
 use Rattle.path_list.proofs.walk.+put_below.Given as goal
 
+-- below a child there are fewer entries
 abbrev pub decreases-put_below : goal.decreases-put_below
 decreases-put_below g l = length (below l.table.now.entries (way l.trail))
 
--- the lines of the children so far, each with those below it, no failure, and no byte more that waits for a flush
+-- the lines of the children so far, each with those below it, no failure, and no byte more that
+-- waits for a flush
 abbrev pub invariant-loop-row : goal.invariant-loop-row
 invariant-loop-row g l =
     Gains (g.K.Sink.state l.fn.sink) l.fn.room.items (g.K.Sink.state l.sink) l.room.items

@@ -5,6 +5,7 @@ use Rattle.draw_board.specs.Positions.{numbers}
 use Rattle.reply_pool.specs.Batches.{AreLight, IsPiece, numbers_of}
 use Rattle.reply_pool.proofs.worker.work.Given as goal
 
+-- a piece for each number that the hand has drawn so far, which answers its batch and is light
 abbrev pub invariant-loop-number : goal.invariant-loop-number
 invariant-loop-number g l = record {
   share : KeepsShare l.board l.initial.hand l.hand;
@@ -15,5 +16,6 @@ invariant-loop-number g l = record {
   light : AreLight l.pieces.items;
 }
 
+-- each turn leaves fewer numbers that the hand has not seen
 abbrev pub decreases-loop-number : goal.decreases-loop-number
 decreases-loop-number g l = total_of l.board - seen_below l.hand

@@ -1,11 +1,14 @@
 use Rattle.std.proofs.Common.{◌*◌, ◌+◌}
 use Rattle.strata.proofs.files.+halves.Given as goal
 
+-- how often its run may be cut yet, twice over: between two calls stands a thread
 abbrev pub decreases-read_from : goal.decreases-read_from
 decreases-read_from g l = 2 * l.forks
 
+-- how often the lower half's thread may cut its run
 abbrev pub decreases-join+arg2 : goal.decreases-join+arg2
 decreases-join+arg2 g l = 2 * l.less + 1
 
+-- and how often the upper half's
 abbrev pub decreases-join+arg3 : goal.decreases-join+arg3
 decreases-join+arg3 g l = 2 * l.less + 1

@@ -2,7 +2,8 @@ use Rattle.std.proofs.Common.{◌≡◌, ℕ, List}
 use Rattle.std.specs.Io.KnownBytes.{Consumes}
 use Rattle.strata.proofs.streams.read_all.Given as goal
 
--- what was appended so far is what the source has given, in one pull a turn, none of which met the end or failed
+-- what was appended so far is what the source has given, in one pull a turn, none of which met the
+-- end or failed
 abbrev pub invariant-loop-pull : goal.invariant-loop-pull
 invariant-loop-pull g l =
     let p = (g.S.Source.state l.source).counts in

@@ -1,4 +1,5 @@
--- The tally refuses, or the inner allocator answers. Assumes `Logic`.
+-- The tally refuses, or the inner allocator answers: `allocate_spec`, by a walk over the steps of
+-- the body. Assumes `Logic`.
 use Rattle.std.proofs.Common.{◌≡◌, Bool, true, false, [], ◌∷◌, Ok, Err, refl, ap, w64}
 use Rattle.std.proofs.alloc.Calls.{Al, seen, token, Answer, answer_val, Answer-typed, Answer-Ok, Answer-err, Takes, at_takes, Answered, Takes-goes, Takes-gives, answers}
 use Rattle.std.proofs.raw_atomic.Walks.{proved}
@@ -43,6 +44,7 @@ use denote.Triple.Spec.{triple_of}
 use denote.Triple.Table.{framed}
 use denote.Triple.Walked.{Stays, stay_dropped, walk_of, ends_at, Goes-dropped}
 
+-- `allocate` does what its contract states
 pub allocate_spec : {M : Type 1} → statement M
 allocate_spec 𝓤 𝓛 𝓜 𝓡 wired A L g d e met _ =
     let Z : Al = record { row = A; laws = L; g = g; d = d; drops = e } in

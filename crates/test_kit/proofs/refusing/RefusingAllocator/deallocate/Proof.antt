@@ -1,4 +1,5 @@
--- The block goes to the inner allocator. Assumes `Logic`.
+-- The block goes to the inner allocator: `deallocate_spec`, by a walk over the steps of the body.
+-- Assumes `Logic`.
 use Rattle.std.proofs.Common.{◌≡◌, [], ◌∷◌, ◌++◌, refl, w64}
 use Rattle.std.proofs.alloc.Calls.{Al, seen, token, Gives, at_gives, Gives-goes, Gives-Gives}
 use Rattle.std.proofs.raw_atomic.Walks.{proved}
@@ -35,6 +36,7 @@ use denote.Triple.Call.{calls_at}
 use denote.Triple.Table.{framed}
 use denote.Triple.Walked.{Stays, stay_dropped, walk_of, ends_at, Goes-dropped}
 
+-- `deallocate` does what its contract states
 pub deallocate_spec : {M : Type 1} → statement M
 deallocate_spec 𝓤 𝓛 𝓜 𝓡 wired A L g d e met _ =
     let Z : Al = record { row = A; laws = L; g = g; d = d; drops = e } in
