@@ -1,4 +1,6 @@
--- What falls into slots.
+-- What falls into slots, key by key. Fell says it of the first keys: it holds of none (fell_none)
+-- and with one key more, whether that falls within the slots (fell_within) or beyond them
+-- (fell_beyond). After the last, a key that fell alone stands once (all_fell).
 use Rattle.std.proofs.Common.{◌≡◌, ◌≢◌, ◌∙◌, sym, ap, subst, ℕ, zero, suc, ◌+◌, ◌<◌, ◌≤◌, ◌⊎◌, inl, inr, List, [], ◌∷◌, length, get_or, refl, arith, get_or-set_other, get_or-set_same, length-set, slice_index, slice_set, slice_get, Some}
 use Rattle.std.specs.Prelude.{◌^◌}
 use Rattle.std.proofs.lemmas.Bool.{cases_order}
@@ -11,13 +13,15 @@ use Rattle.lone_keys.proofs.Telling.{below_or_at}
 abbrev at : List Fallen → ℕ → Fallen
 at fallen s = get_or fallen s More
 
--- what fell into each slot, of the first keys
+-- of the first i keys: a slot that one fell into is not empty, and one that two fell into does not
+-- say one
 pub record Fell (keys : List ℕ) (slots : ℕ) (fallen : List Fallen) (i : ℕ) : Type 0 where
   pub level : length fallen ≡ slots
   pub some : (a : ℕ) → a < i → at fallen (slot_of (slice_index keys a) slots) ≢ Nothing
   pub many : (a b : ℕ) → a < b → b < i → slot_of (slice_index keys a) slots ≡ slot_of (slice_index keys b) slots
       → at fallen (slot_of (slice_index keys b) slots) ≢ One
 
+-- before the first key so many slots may say anything
 pub fell_none : (keys : List ℕ) (slots : ℕ) (fallen : List Fallen) → length fallen ≡ slots → Fell keys slots fallen 0
 fell_none keys slots fallen l = record { level = l; some = λ a m. absurd (omega arith); many = λ a b m n. absurd (omega arith) }
 
@@ -70,9 +74,11 @@ module _ (keys : List ℕ) (slots : ℕ) (fallen fallen' : List Fallen) (i : ℕ
       by (inr n) (inl o) = f.many a b m o q (sym (apart _ n) ∙ e)
       by (inr n) (inr o) = n (ap (λ x. slot_of (slice_index keys x) slots) o)
 
+  -- one key more has fallen where its slot counts it and no other is changed
   pub more : Fell keys slots fallen' (i + 1)
   more = record { level = level; some = some; many = many }
 
+-- a key whose slot is there has fallen once that slot counts it
 pub fell_within : (keys : List ℕ) (slots : ℕ) (fallen fallen' : List Fallen) (i s : ℕ) → Fell keys slots fallen i
     → s ≡ slot_of (slice_index keys i) slots → s < slots → fallen' ≡ slice_set fallen s (and_one (at fallen s))
     → Fell keys slots fallen' (i + 1)
@@ -83,6 +89,7 @@ fell_within keys slots fallen fallen' i s f e l set =
           (omega arith)))
     (λ t n. ap (λ xs. at xs t) set ∙ get_or-set_other fallen s t (and_one (at fallen s)) More (λ q. n (q ∙ e)))
 
+-- a key whose slot is not there has fallen with no slot changed
 pub fell_beyond : (keys : List ℕ) (slots : ℕ) (fallen : List Fallen) (i s : ℕ) → Fell keys slots fallen i
     → s ≡ slot_of (slice_index keys i) slots → slots ≤ s → Fell keys slots fallen (i + 1)
 fell_beyond keys slots fallen i s f e l =
@@ -92,6 +99,7 @@ fell_beyond keys slots fallen i s f e l =
     (subst (λ x. at fallen x ≡ and_one (at fallen x)) e (m ∙ sym (ap and_one m)))
     (λ t n. refl)
 
+-- after the last key, one that fell into its slot alone stands once
 pub all_fell : (keys : List ℕ) (slots : ℕ) (fallen : List Fallen) (i : ℕ) → length keys ≤ i → slots ≤ 2 ^ 32 → Fell keys slots fallen i
     → HaveFallen keys fallen
 all_fell keys slots fallen i l few f = record {

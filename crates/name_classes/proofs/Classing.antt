@@ -1,4 +1,6 @@
--- Classes of numbers by their names, one after another in the order of names.
+-- Classes of numbers by their names, in the order of these (IsClassing): each begins as its own
+-- class (first_classed) and takes that of an equal one before it (taken) or keeps its own (begun),
+-- up to all (all_classed). Where none was equal, all names differ (all_unlike).
 use Rattle.std.proofs.Common.{◌≡◌, ◌≢◌, ◌∙◌, sym, ap, subst, ℕ, zero, suc, ◌+◌, ◌-◌, ◌<◌, ◌≤◌, ◌⊎◌, inl, inr, List, [], ◌∷◌, ◌++◌, length, get_or, set, Option, Some, refl, arith, length-append, get_or-set_same, get_or-set_other, length-set, true, false}
 use Rattle.std.specs.Ordering.{is_eq}
 use Rattle.std.specs.declared.cmp.Ordering.{Ordering}
@@ -12,6 +14,7 @@ use Rattle.name_classes.proofs.Keyed.{below_or_at, between, one_name}
 same_some : {X : Type 0} (x y : X) → ◌≡◌ {A = Option X} (Some x) (Some y) → x ≡ y
 same_some x y e = cc
 
+-- the numbers below n, and then n, are the numbers below the one after it
 pub one_number : (n : ℕ) (xs : List ℕ) → AreNumbersBelow n xs → AreNumbersBelow (n + 1) (xs ++ n ∷ [])
 one_number n xs w = record {
   sized = length-append xs (n ∷ []) ∙ ap (λ m. m + 1) w.sized;
@@ -30,9 +33,11 @@ is_tie Greater e = absurd (false≢true e)
 abbrev pub nothing : Named
 nothing = record { hash = 0; name = record { ref_ptr = (0, 0); now = [] }; number = 0 }
 
+-- the number at a place of the list; 0 past its end
 abbrev pub number_at : List Named → ℕ → ℕ
 number_at hs m = (get_or hs m nothing).number
 
+-- the name at a place of the list; the empty one past its end
 abbrev pub name_at : List Named → ℕ → List ℕ
 name_at hs m = (get_or hs m nothing).name.now
 
@@ -50,9 +55,11 @@ pub record AreUnlike (hs : List Named) (i : ℕ) : Type 0 where
   pub each : (m : ℕ) → 0 < m → m < i → m < length hs
       → named_cmp (get_or hs (m - 1) nothing) (get_or hs m nothing) ≢ Equal
 
+-- the first name has none before it
 pub none_unlike : (hs : List Named) → AreUnlike hs 1
 none_unlike hs = record { each = λ m p l. absurd (omega arith) }
 
+-- with a further name that differs from the one before it, none is that of the one before it
 pub one_unlike : (hs : List Named) (i : ℕ) (o : Ordering)
     → o ≡ named_cmp (get_or hs (i - 1) nothing) (get_or hs i nothing) → is_eq o ≡ false
     → AreUnlike hs i → AreUnlike hs (i + 1)
@@ -92,6 +99,7 @@ module _ (name : ℕ → Option (List ℕ)) (n : ℕ) (hs : List Named) (by : Ar
       → name_at hs l ≡ name_at hs m
   named_alike l m p q e = same_some _ _ (sym (owned l p) ∙ ap name e ∙ owned m q)
 
+  -- where each number is its own class, the first name has its class
   pub first_classed : (class : List ℕ) → AreNumbersBelow (n + 1) class → IsClassing name n hs class 1
   first_classed class w = record {
     sized = w.sized;
@@ -198,6 +206,7 @@ module _ (name : ℕ → Option (List ℕ)) (n : ℕ) (hs : List Named) (by : Ar
           stand ∙ ap (λ z. named_cmp z y) (sym is_before)
           ∙ ap (λ z. named_cmp (get_or hs (i - 1) nothing) z) (sym is_at)
 
+      -- a name that equals the one before it has its class once it takes that one's
       pub taken : is_eq o ≡ true → (c : ℕ) → c ≡ get_or class x.number c
           → (class' : List ℕ) → class' ≡ set class y.number c → IsClassing name n hs class' (i + 1)
       taken t c own class' put = class_taken class' (sym stood ∙ is_tie o t)
@@ -210,6 +219,7 @@ module _ (name : ℕ → Option (List ℕ)) (n : ℕ) (hs : List Named) (by : Ar
               let s = w.sized in
               own ∙ get_or_default class x.number c 0 (omega arith) ∙ ap (λ k. get_or class k 0) (sym e)
 
+      -- a name that differs from the one before it has its class in its own number
       pub begun : is_eq o ≡ false → IsClassing name n hs class (i + 1)
       begun f = class_begun (λ e. absurd (false≢true (sym f ∙ ap is_eq (stood ∙ e))))
 
@@ -229,6 +239,7 @@ module _ (name : ℕ → Option (List ℕ)) (n : ℕ) (hs : List Named) (by : Ar
     | inr o ↦ inr o
   ]
 
+  -- after the last name two numbers have one class exactly where they have one name
   pub all_classed : (class : List ℕ) (i : ℕ) → length hs ≤ i → IsClassing name n hs class i → AreClasses name n class
   all_classed class i le w = record {
     sized = w.sized;

@@ -1,4 +1,6 @@
--- Headers in the order of their names: equal names stand side by side.
+-- Numbers with their names, collected one by one (Holding: from none_named by one_without and
+-- one_named to all_held) and put in the order of names (by_name). In that order equal names stand
+-- side by side: what stands between two of one name has it too (between).
 use Rattle.std.proofs.Common.{All, Contains, ◌≡◌, ◌∙◌, sym, ap, subst, ℕ, zero, suc, ◌+◌, ◌<◌, ◌≤◌, ◌⊎◌, inl, inr, List, [], ◌∷◌, ◌++◌, length, get_or, false, Option, Some, None, refl, arith}
 use Rattle.std.specs.Cmp.Lexicographic.{slice_cmp}
 use Rattle.std.specs.Ordering.{nat_cmp, is_lt, ordering_reverse}
@@ -12,9 +14,11 @@ use Rattle.std.proofs.lemmas.List.Sorted.{ranks_by, sorted_far, All-permutation,
 use Rattle.name_classes.specs.declared.names.Named.{Named}
 use Rattle.name_classes.specs.Names.{name_hash, named_cmp, HasItsName, IsItsAlone, HoldTheShared, AreInNameOrder}
 
+-- what is missing is not there
 pub none_some : {X : Type 0} (x : X) → ◌≡◌ {A = Option X} None (Some x) → ⊥
 none_some x e = cc
 
+-- what is below the number after n is below n, or is n
 pub below_or_at : (k n : ℕ) → k < n + 1 → (k < n) ⊎ (k ≡ n)
 below_or_at zero zero l = inr refl
 below_or_at zero (suc n) l = inl (omega arith)
@@ -29,13 +33,15 @@ pub record Holding (name : ℕ → Option (List ℕ)) (n i : ℕ) (named : List 
       → ((h : Named) × Contains named h × (h.number ≡ k)) ⊎ IsItsAlone name n k
 
 module _ (name : ℕ → Option (List ℕ)) (n : ℕ) where
+  -- before the first number there is none to hold
   pub none_named : Holding name n 0 []
   none_named = record { each = λ k d l. absurd (omega arith); every = λ k q l. absurd (omega arith) }
 
+  -- once the numbers below n are gone over, all whose name several have are held
   pub all_held : (i : ℕ) (hs : List Named) → i ≡ n → Holding name n i hs → HoldTheShared name n hs
   all_held i hs e w = record { each = w.each; every = λ k q l. w.every k q (omega arith) }
 
-  -- a number without a name, or one that has its name alone
+  -- a number that has no name, or its name alone, is passed over
   pub one_without : (i : ℕ) (hs : List Named) → ((q : List ℕ) → name i ≡ Some q → IsItsAlone name n i)
       → Holding name n i hs → Holding name n (i + 1) hs
   one_without i hs alone w = record {
@@ -46,6 +52,7 @@ module _ (name : ℕ → Option (List ℕ)) (n : ℕ) where
     ];
   }
 
+  -- a number is held once it is added with its own name and that name's hash
   pub one_named : (i : ℕ) (hs : List Named) (h : Named) → i < n
       → h.number ≡ i → name i ≡ Some h.name.now → h.hash ≡ name_hash h.name.now
       → Holding name n i hs → Holding name n (i + 1) (hs ++ h ∷ [])
@@ -62,6 +69,7 @@ module _ (name : ℕ → Option (List ℕ)) (n : ℕ) where
   }
 
 module _ (name : ℕ → Option (List ℕ)) where
+  -- what holds the shared names holds them when it is sorted, and in the order of names
   pub by_name : (n : ℕ) (hs hs' : List Named)
       → HoldTheShared name n hs → IsPermutation hs hs' → IsSorted named_cmp hs' → AreInNameOrder name n hs'
   by_name n hs hs' w p up = record {
@@ -78,6 +86,7 @@ module _ (name : ℕ → Option (List ℕ)) where
 tail_same : (a b : ℕ) (xs ys : List ℕ) → a ∷ xs ≡ b ∷ ys → xs ≡ ys
 tail_same a b xs ys e = cc
 
+-- two that compare as equal have one name
 pub one_name : (x y : Named) → named_cmp x y ≡ Equal → x.name.now ≡ y.name.now
 one_name x y e = tail_same x.hash y.hash _ _ (exact_bytes (x.hash ∷ x.name.now) (y.hash ∷ y.name.now) e)
 
@@ -92,7 +101,7 @@ neither_less x y p q = pick (slice_cmp nat_cmp x y) refl
         let back : slice_cmp nat_cmp y x ≡ Less = nat_list_cmp_total.antisymm y x ∙ ap ordering_reverse e in
         absurd (let z : is_lt Less ≡ false = subst (λ o. is_lt o ≡ false) back q in cc)
 
--- between two names of one name each has that name
+-- what stands between two of one name, in the order of names, compares as equal to them
 pub between : (name : ℕ → Option (List ℕ)) (n : ℕ) (hs : List Named) → AreInNameOrder name n hs
     → (i j k : ℕ) (d : Named) → i ≤ j → j ≤ k → k < length hs → (get_or hs i d).name.now ≡ (get_or hs k d).name.now
     → named_cmp (get_or hs j d) (get_or hs k d) ≡ Equal

@@ -1,4 +1,6 @@
--- An image has one fault.
+-- An image has one fault (one_fault): of two that differ in stage, place or number one is named
+-- before the other, and rules with one number are one rule (one_rule). What breaks a rule of the
+-- usual profile breaks it under the strict one, so what is sound there is sound.
 use Rattle.std.proofs.Common.{◌≡◌, ◌∙◌, sym, ap, ℕ, inl, inr, List, [], ◌∷◌, get_or, refl}
 use Rattle.std.proofs.lemmas.Bool.{cases_order}
 use Rattle.romfs_format.specs.declared.rule.Rule.{Rule}
@@ -36,6 +38,7 @@ numbered Deep = refl
 pub one_rule : (r s : Rule) → rule_number r ≡ rule_number s → r ≡ s
 one_rule r s e = sym (numbered r) ∙ ap (λ n. get_or rules n Short) e ∙ numbered s
 
+-- two faults of one image under one profile are of the same rule, at the same place
 pub one_fault : (profile : Profile) (b : List ℕ) (r s : Rule) (p q : ℕ) → IsFaultAs profile b r p → IsFaultAs profile b s q
     → (r ≡ s) × (p ≡ q)
 one_fault profile b r s p q x y =
@@ -53,6 +56,7 @@ one_fault profile b r s p q x y =
       ]
     ]
 
+-- an image that is sound under a profile has no fault under it
 pub no_fault : (profile : Profile) (b : List ℕ) (r : Rule) (p : ℕ) → IsSoundAs profile b → ¬ IsFaultAs profile b r p
 no_fault profile b r p s f = s.keeps r p f.broken
 
@@ -77,10 +81,11 @@ strict_breaks b MajorLarge p x = x
 strict_breaks b HeaderSum p x = absurd x
 strict_breaks b Deep p x = x
 
+-- what is sound under the strict profile is sound under the usual one
 pub strict_sound : (b : List ℕ) → IsSoundAs Strict b → IsSoundAs Usual b
 strict_sound b s = record { keeps = λ r p x. s.keeps r p (strict_breaks b r p x) }
 
--- what is sound under some profile is sound
+-- what is sound under any profile is sound under the usual one
 pub profile_sound : (profile : Profile) (b : List ℕ) → IsSoundAs profile b → IsSoundAs Usual b
 profile_sound Usual b s = s
 profile_sound Strict b s = strict_sound b s

@@ -1,4 +1,6 @@
--- A symbolic link that a path of a sound image leads to has a short target.
+-- A symbolic link that a path of a sound image leads to has a short target (short_target): it is a
+-- member, or on a member's destination chain (led_to), so it is reached and lies in the image
+-- (used_inside), and the rule on targets speaks of it.
 use Rattle.std.proofs.Common.{◌≡◌, ◌≢◌, sym, subst, ℕ, zero, suc, ◌+◌, ◌≤◌, ◌⊎◌, inl, inr, List, [], ◌∷◌, length, arith, refl}
 use Rattle.std.proofs.lemmas.Bool.{cases_lt}
 use Rattle.romfs_format.specs.declared.head.Kind.TheVariants.{Directory, SymLink}
@@ -17,7 +19,7 @@ final_target a (follows {h = h} {e = e} l f) = elim (final_target a f) [
   | inr d ↦ inr (there l d)
 ]
 
--- only hard links have destinations
+-- only a hard link has a destination chain
 pub destination_link : (a : List ℕ) {h g : ℕ} → IsDestination a h g → IsHardLink a h
 destination_link a (here l) = l
 destination_link a (there l d) = l
@@ -70,7 +72,7 @@ module _ (b : List ℕ) (s : IsSound b) where
   used_inside e (inl m) = reached_inside e (chain_reached (image b) m.0 m.1.in_chain.0 e m.1.opened m.1.in_chain.1)
   used_inside e (inr t) = reached_inside e (inr (inr t))
 
-  -- so the rule on targets holds there
+  -- a symbolic link that a path leads to, after hard links, has a target that is not too long
   pub short_target : (path : List (List ℕ)) (h e : ℕ) → Has (image b) path h → IsFinal (image b) h e
       → kind (image b) e ≡ SymLink → size (image b) e ≤ MAX_TARGET_SIZE
   short_target path h e x f k =

@@ -1,4 +1,6 @@
--- What the first zero byte says of the text before it.
+-- The text before the first zero byte, as a search finds it: of all bytes (ended_first), or of a
+-- front of them that has one (ended_near). The last three say from it which name begins at a place:
+-- it counts where its padding ends within the image.
 use Rattle.std.proofs.Common.{◌≡◌, ◌≢◌, ◌∙◌, sym, ℕ, zero, suc, ◌<◌, false, leb, List, [], ◌∷◌, length, take, get_or, Option, Some, None, IsSome, refl, arith, ◌≤◌}
 use Rattle.std.specs.Prelude.{IfSome}
 use Rattle.std.specs.Option.{option_map}
@@ -22,11 +24,13 @@ ended_at (zero ∷ xs) (suc k) l z h = absurd (h 0 (omega arith) refl)
 ended_at (suc x ∷ xs) zero l z h = absurd (omega arith)
 ended_at (suc x ∷ xs) (suc k) l z h = rw (ended_at xs k (omega arith) z (λ j m. h (suc j) (omega arith))) refl
 
+-- the bytes before the first zero byte are the ended text; there is none where no byte is zero
 pub ended_first : (xs : List ℕ) (r : Option ℕ) → IsFirstByte (is_byte 0) xs r → option_map (λ k. take k xs) r ≡ ended xs
 ended_first xs None h = sym (ended_none xs (λ k l e. h k (omega arith) l (rw e refl)))
 ended_first xs (Some k) h = sym (ended_at xs k h.0.high (eqb-true _ _ h.1) (λ j l e. h.0.before j (omega arith) l (rw e refl)))
 
--- the first zero byte of a front is that of the whole
+-- a first zero byte that is found in a front of some bytes ends the text of them all, and lies
+-- among them
 pub ended_near : (xs : List ℕ) (n : ℕ) (r : Option ℕ) → n ≤ length xs → IsSome r → IsFirstByte (is_byte 0) (take n xs) r
     → (option_map (λ k. take k xs) r ≡ ended xs) × IfSome r (λ k. k < length xs)
 ended_near xs n None l s h = absurd (false≢true s)
@@ -42,11 +46,14 @@ past : (n e : ℕ) → n < e → leb e n ≡ false
 past n e h = grind (arith, nat_tests)
 
 module _ (a field : List ℕ) (p : ℕ) (is : field ≡ name_field a p) where
+  -- a place whose field has no zero byte has no name
   pub within_none : ◌≡◌ {A = Option (List ℕ)} None (ended field) → ◌≡◌ {A = Option (List ℕ)} None (text_at a p)
   within_none f = rw (← is, ← f) refl
 
+  -- an ended text whose padding ends within the image is the name at its place
   pub within_then : (text : List ℕ) → Some text ≡ ended field → text_end p text ≤ length a → Some text ≡ text_at a p
   within_then text f h = rw (← is, ← f) (rw (le-leb (text_end p text) (length a) h) refl)
 
+  -- a place whose text has padding that ends beyond the image has no name
   pub within_else : (text : List ℕ) → Some text ≡ ended field → length a < text_end p text → ◌≡◌ {A = Option (List ℕ)} None (text_at a p)
   within_else text f h = rw (← is, ← f) (rw (past (length a) (text_end p text) h) refl)

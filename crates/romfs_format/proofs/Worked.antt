@@ -1,6 +1,8 @@
--- The worked examples, by computation.
+-- The worked examples: each size and limit is a constant, so that it is the number named is had by
+-- computation (limits).
 use Rattle.std.proofs.Common.{refl}
 use Rattle.romfs_format.specs.Examples.{LimitExamples}
 
+-- the sizes and limits of an image are the numbers of the examples
 pub limits : LimitExamples
 limits = record { head = refl; name_field = refl; summed = refl; target = refl; major = refl; names = refl }

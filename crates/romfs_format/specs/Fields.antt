@@ -81,6 +81,7 @@ kind_of (suc (suc (suc (suc (suc zero))))) = Character
 kind_of (suc (suc (suc (suc (suc (suc zero)))))) = Socket
 kind_of _ = Fifo
 
+-- the kind of a header
 abbrev pub kind : List ℕ → ℕ → Kind
 kind a h = kind_of (word a h % 8)
 
@@ -96,6 +97,7 @@ next a h = cleared (word a h)
 abbrev pub spec : List ℕ → ℕ → ℕ
 spec a h = word a (h + 4)
 
+-- the size of its data, in bytes
 abbrev pub size : List ℕ → ℕ → ℕ
 size a h = word a (h + 8)
 

@@ -15,9 +15,11 @@ abbrev pub IsLink : List ℕ → Field → ℕ → Type 0
 IsLink a (first_of d) h = IsOpened a d × IsFirst a d h
 IsLink a (next_of g) h = (d : ℕ) × Stands a d g × IsNext a g h
 
+-- the header lies in the image and is a hard link
 abbrev pub IsHardLink : List ℕ → ℕ → Type 0
 IsHardLink a h = IsInside a h × (kind a h ≡ HardLink)
 
+-- the header lies in the image and is a directory
 abbrev pub IsDirectory : List ℕ → ℕ → Type 0
 IsDirectory a h = IsInside a h × (kind a h ≡ Directory)
 

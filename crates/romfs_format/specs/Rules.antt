@@ -17,6 +17,7 @@ use Rattle.romfs_format.specs.Links.{Field, IsLink, IsHardLink, EndsAs, IsTarget
 abbrev pub StartsWith : List ℕ → List ℕ → Type 0
 StartsWith b xs = (rest : List ℕ) × (b ≡ xs ++ rest)
 
+-- what every image begins with
 abbrev pub magic : List ℕ
 magic = codes "-rom1fs-"
 
@@ -29,9 +30,11 @@ IsNamed a h = IsInside a h × IsSome (name a h)
 abbrev pub IsUsed : List ℕ → ℕ → Type 0
 IsUsed a h = IsInside a h × (IsSomeMember a h ⊎ IsTarget a h)
 
+-- the header is of a kind that has data: a regular file or a symbolic link
 abbrev pub HasData : List ℕ → ℕ → Type 0
 HasData a h = (kind a h ≡ Regular) ⊎ (kind a h ≡ SymLink)
 
+-- the header is that of a device
 abbrev pub IsDevice : List ℕ → ℕ → Type 0
 IsDevice a h = (kind a h ≡ Block) ⊎ (kind a h ≡ Character)
 
@@ -106,10 +109,11 @@ BreaksAs profile b VolumeName p = IsNone (text_at (image b) HEAD_SIZE) × (p ≡
 BreaksAs profile b NoRoot p = HasNoRoot (image b) × (p ≡ root (image b))
 BreaksAs profile b r p = BreaksHeaderAs profile (image b) r p
 
--- the same under the usual profile
+-- the image with the accessible bytes a breaks the rule at the header h, under the usual profile
 abbrev pub BreaksHeader : List ℕ → Rule → ℕ → Type 0
 BreaksHeader a r h = BreaksHeaderAs Usual a r h
 
+-- the bytes b break the rule at the place p, under the usual profile
 abbrev pub Breaks : List ℕ → Rule → ℕ → Type 0
 Breaks b r p = BreaksAs Usual b r p
 
@@ -164,9 +168,10 @@ abbrev pub IsFaultOfAs : Profile → List ℕ → Option ImageFault → Type 0
 IsFaultOfAs profile b fault =
     MatchOption fault (IsSoundAs profile b) (λ f. IsFaultAs profile b f.rule f.place)
 
--- the same under the usual profile
+-- the image breaks r at p, and nothing that is named before it, under the usual profile
 abbrev pub IsFault : List ℕ → Rule → ℕ → Type 0
 IsFault b r p = IsFaultAs Usual b r p
 
+-- no rule of the usual profile is broken
 abbrev pub IsSound : List ℕ → Type 0
 IsSound b = IsSoundAs Usual b

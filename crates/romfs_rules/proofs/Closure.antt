@@ -1,4 +1,6 @@
--- The walk over the chains of directories other than the root, as lists.
+-- The walk over the chains of directories other than the root, as lists. It begins with the first
+-- headers of the root's own (Seeded, all_seeded); a word is let go (step_stale) or marked, and what
+-- it leads on to comes (step_fresh), until none is left and all is marked (all_marked).
 use Rattle.std.proofs.Common.{◌≡◌, ◌≢◌, ◌∙◌, sym, ap, subst, ℕ, zero, suc, ◌+◌, ◌*◌, ◌/◌, ◌<◌, ◌≤◌, ◌⊎◌, inl, inr, List, [], ◌∷◌, ◌++◌, length, get_or, set, replicate, Bool, true, false, Option, Some, None, arith, append_assoc, length-append}
 use Rattle.std.specs.List.{Contains}
 use Rattle.std.specs.Option.{option_to_list}
@@ -20,6 +22,8 @@ use Rattle.graph_climb.proofs.Marks.{no_marks, newly_set, still_set, unmarked, m
 abbrev pub IsSettled : List ℕ → List ℕ → List Bool → ℕ → Type 0
 IsSettled a todo marks g = Contains todo g ⊎ (¬ IsInside a g) ⊎ IsMarked marks g
 
+-- all marks and words to come are of other chains; what the marked lead on to, and each start, is
+-- settled
 pub record Walked (a todo : List ℕ) (marks : List Bool) : Type 0 where
   pub sized : length marks ≡ length a / 16
   pub each : (k : ℕ) → get_or marks k false ≡ true → IsElsewhere a (k * 16) × IsInside a (k * 16)
@@ -27,7 +31,7 @@ pub record Walked (a todo : List ℕ) (marks : List Bool) : Type 0 where
   pub closed : (k g : ℕ) → get_or marks k false ≡ true → LeadsOn a (k * 16) g → IsSettled a todo marks g
   pub seeds : (g : ℕ) → IsStart a g → IsSettled a todo marks g
 
--- what a walk has left
+-- what falls with each step: the words to come, and twice the headers without a mark
 unfoldable pub left : List ℕ → List Bool → ℕ
 left todo marks = length todo + 2 * unmarked marks
 
@@ -71,6 +75,7 @@ module _ (a : List ℕ) where
           (down z (record { inside = s; kind = t; kept = λ q. p (inr q) }) f) i
     ]
 
+    -- where no word is left to come, the marks are those of all chains but the root's
     pub all_marked : AreMarks a (IsElsewhere a) marks
     all_marked = record { sized = w.sized; each = w.each; all = λ h e i. along e.dir (λ g x. firsts e.dir g e.opened e.other x) e.in_chain.0
           h e.in_chain.1 i }
@@ -124,6 +129,7 @@ module _ (a : List ℕ) where
             seeds = λ g d. moves g (w.seeds g d);
           }
 
+  -- a walk begins with the starts to come, and no marks
   pub begun : (todo : List ℕ) (marks : List Bool) → AreStarts a todo → marks ≡ replicate (length a / 16) false → Walked a todo marks
   begun todo marks s e = record {
     sized = ap length e ∙ length-replicate (length a / 16) false;
@@ -138,19 +144,23 @@ module _ (a todo rest : List ℕ) (marks : List Bool) (at : ℕ) (taken : todo �
   ends : Walked a (rest ++ at ∷ []) marks
   ends = subst (λ x. Walked a x marks) taken w
 
+  -- a word that lies outside, or has a mark, is let go
   pub step_stale : (¬ IsInside a at) ⊎ IsMarked marks at → Walked a rest marks
   step_stale s = let_go a rest marks at s ends
 
+  -- a word that is let go leaves less to do
   pub less_stale : left rest marks < left todo marks
   unfolding left
   less_stale = let l : length todo ≡ length rest + 1 = rw taken (length-append rest (at ∷ [])) in omega arith
 
   module _ (after : List ℕ) (f : Adds (LeadsOn a at) rest after) (fits : at / 16 < length marks) where
+    -- a word inside gets a mark, and what it leads on to comes
     pub step_fresh : IsInside a at → Walked a after (set marks (at / 16) true)
     step_fresh i =
         let e : IsElsewhere a at = ends.waits at (Contains-append_right rest (at ∷ []) at (has_one at)) in
         rw f.is (mark a rest marks at f.new i (cleared_in_chain a e.dir at e.in_chain) fits f.only f.whole ends)
 
+    -- a header that is newly marked leaves less to do, with all that it adds
     pub less_fresh : get_or marks (at / 16) false ≡ false → left after (set marks (at / 16) true) < left todo marks
     unfolding left
     less_fresh u =
@@ -164,6 +174,7 @@ some_has : (w : Option ℕ) (g : ℕ) → Contains (option_to_list w) g → w �
 some_has None g c = absurd (none_in g c)
 some_has (Some n) g c = ap Some (one_in n g c)
 
+-- a word that is there is in its list
 pub has_some : (w : Option ℕ) (g : ℕ) → w ≡ Some g → Contains (option_to_list w) g
 has_some w g e = subst (λ x. Contains (option_to_list x) g) (sym e) (has_one g)
 
@@ -171,7 +182,8 @@ some_short : (w : Option ℕ) → length (option_to_list w) ≤ 1
 some_short None = omega arith
 some_short (Some n) = omega arith
 
--- what is added where both words are known
+-- the header after one and the first below it, as far as there are such, are all that it leads on
+-- to
 pub led : (a : List ℕ) (at : ℕ) (n f : Option ℕ) (before middle after : List ℕ) → IsTheOne (IsNext a at) n
     → IsTheOne (λ g. (at ≢ root a) × Opens a at × IsFirst a at g) f
     → middle ≡ before ++ option_to_list n → after ≡ middle ++ option_to_list f → Adds (LeadsOn a at) before after
@@ -190,17 +202,19 @@ led a at n f before middle after next first m k = record {
     all g (on x) = Contains-append_left (option_to_list n) (option_to_list f) g (has_some n g ((next.each g).1 x))
     all g (down z o x) = Contains-append_right (option_to_list n) (option_to_list f) g (has_some f g ((first.each g).1 (z, o, x)))
 
--- the seeds of the slots before n
+-- the words are starts, and among them are those of all directories in the slots before n
 pub record Seeded (a : List ℕ) (root_chain : List Bool) (n : ℕ) (todo : List ℕ) : Type 0 where
   pub each : (g : ℕ) → Contains todo g → IsStart a g
   pub all : (k g : ℕ) → k < n → get_or root_chain k false ≡ true → k * 16 ≢ root a → Opens a (k * 16) → IsFirst a (k * 16) g
       → Contains todo g
 
 module _ (a : List ℕ) (root_chain : List Bool) (r : AreMarks a (IsInRootChain a) root_chain) where
+  -- before the first slot there is no start
   pub unseeded : Seeded a root_chain 0 []
   unseeded = record { each = λ g c. absurd (none_in g c); all = λ k g l m z o f. absurd (omega arith) }
 
   module _ (n : ℕ) (todo : List ℕ) (s : Seeded a root_chain n todo) where
+    -- a slot that is not in the root's chain adds no start
     pub passed : get_or root_chain n false ≡ false → Seeded a root_chain (n + 1) todo
     passed u = record {
       each = s.each;
@@ -210,6 +224,7 @@ module _ (a : List ℕ) (root_chain : List Bool) (r : AreMarks a (IsInRootChain 
       ];
     }
 
+    -- a slot of the root's chain adds the first header below it, if there is one
     pub seeds_more : get_or root_chain n false ≡ true → (w : Option ℕ) (after : List ℕ)
         → IsTheOne (λ g. (n * 16 ≢ root a) × Opens a (n * 16) × IsFirst a (n * 16) g) w → after ≡ todo ++ option_to_list w
             → Seeded a root_chain (n + 1) after
@@ -227,11 +242,12 @@ module _ (a : List ℕ) (root_chain : List Bool) (r : AreMarks a (IsInRootChain 
       ];
     })
 
-  -- over slots that are not in the set
+  -- a run of slots that are not in the root's chain adds no start
   pub passed_to : (low high : ℕ) (todo : List ℕ) → low ≤ high → IsClear root_chain low high → Seeded a root_chain low todo
       → Seeded a root_chain high todo
   passed_to low high todo l c s = over_to (λ k. Seeded a root_chain k todo) low high l s (λ k m n x. passed k todo x (c.each k m n))
 
+  -- after the last slot the words are exactly the starts
   pub all_seeded : (n : ℕ) (todo : List ℕ) → length root_chain ≤ n → Seeded a root_chain n todo → AreStarts a todo
   all_seeded n todo l s = record { each = s.each; all = λ g d. seed g d }
     where

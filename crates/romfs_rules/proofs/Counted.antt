@@ -1,4 +1,6 @@
--- Counting links, as lists.
+-- Counting links, as lists. Tallied says which headers some link names, and which two do: of one
+-- field more (counts_more), so of both of a slot (passes), and slots in no chain add nothing
+-- (skipped_to). After the last slot, what two links name is known (all_twice).
 use Rattle.std.proofs.Common.{◌≡◌, ◌≢◌, ◌∙◌, sym, ap, subst, ℕ, ◌+◌, ◌*◌, ◌/◌, ◌<◌, ◌≤◌, ◌⊎◌, inl, inr, List, length, get_or, replicate, Bool, true, false, Option, refl, arith}
 use Rattle.std.proofs.lemmas.List.{length-replicate}
 use Rattle.std.proofs.lemmas.Bool.{cases_eq, cases_lt, true≢false}
@@ -20,7 +22,7 @@ module _ (a : List ℕ) where
   cleared_link (first_of d) h l = rw (l.1.0) (twice_cleared (spec a d))
   cleared_link (next_of g) h l = rw (l.2.1) (omega arith)
 
-  -- the marks say which headers the links of S name, once and twice
+  -- the marks say which headers in the image a link of S names, and which of them two do
   pub record Tallied (S : Field → ℕ → Type 0) (once twice : List Bool) : Type 0 where
     pub once_sized : length once ≡ length a / 16
     pub twice_sized : length twice ≡ length a / 16
@@ -47,6 +49,7 @@ module _ (a : List ℕ) where
     same_twice : (f d : Field) → (f ≢ d) → f ≡ g → d ≡ g → ⊥
     same_twice f d n p q = n (p ∙ sym q)
 
+    -- counting the link of a field that was not counted tallies it with the others
     pub counts_more : Tallied (With S g) once_after twice_after
     counts_more = record {
       once_sized = c.once_sized ∙ t.once_sized;
@@ -101,7 +104,7 @@ module _ (a : List ℕ) where
   inside_place v (first_of d) h l = inside_opened a v d l.0
   inside_place v (next_of g) h l = l.2.0
 
-  -- no link belongs to a header before the root's
+  -- no marks are the tally below the root's slot, as no header there has a link
   pub none_tallied : IsVolumeImage a → (slot : ℕ) → slot ≡ root a / 16 → (once twice : List Bool)
       → once ≡ replicate (length a / 16) false → twice ≡ replicate (length a / 16) false
       → Tallied (Below slot) once twice
@@ -141,6 +144,7 @@ module _ (a : List ℕ) where
   first_next : (d h : ℕ) → first_of d ≡ next_of h → ⊥
   first_next d h e = cc
 
+  -- counting both fields of the header at a slot gives the tally below the next slot
   pub passes : (slot : ℕ) (once twice once_after twice_after : List Bool)
       → CountsBoth a (slot * 16) once twice once_after twice_after → Tallied (Below slot) once twice
       → Tallied (Below (slot + 1)) once_after twice_after
@@ -162,7 +166,7 @@ module _ (a : List ℕ) where
   place_chained (first_of d) h l = elim ((opened a d).0 l.0) [ inl e ↦ inl e | inr x ↦ inr x.0 ]
   place_chained (next_of g) h l = inr (in_some_chain a l.0 g l.1.opened l.1.in_chain)
 
-  -- over slots, behind the root's, whose headers are in no chain
+  -- a run of slots behind the root's whose headers are in no chain adds nothing to the tally
   pub skipped_to : IsVolumeImage a → (headers : List Bool) → AreMarks a (IsInSomeChain a) headers
       → (low high : ℕ) (once twice : List Bool) → root a < low * 16 → low ≤ high → IsClear headers low high
       → Tallied (Below low) once twice → Tallied (Below high) once twice
@@ -184,6 +188,7 @@ module _ (a : List ℕ) where
         ],
       )) x)
 
+  -- after the last slot the second marks are those of the headers that two fields name
   pub all_twice : IsVolumeImage a → (once twice : List Bool) → Tallied (Below (length a / 16)) once twice
       → AreMarks a (IsLinkedTwice a) twice
   all_twice v once twice t = record {

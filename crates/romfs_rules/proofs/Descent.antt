@@ -1,4 +1,6 @@
--- The walk down from the root, as lists.
+-- The walk down from the root, as lists, where no other rule is broken, so that one number of names
+-- leads to each header (OnePath). Descends holds at each step (begun, step_stale, step_fresh);
+-- where nothing is left to come, the least header that is too deep was found (found).
 use Rattle.std.proofs.Common.{◌≡◌, ◌≢◌, ◌∙◌, sym, ap, subst, ℕ, zero, suc, ◌+◌, ◌*◌, ◌/◌, ◌<◌, ◌≤◌, ◌⊎◌, inl, inr, List, [], ◌∷◌, ◌++◌, length, get_or, set, min, Bool, true, false, Option, Some, None, IfSome, refl, arith, append_assoc, length-append}
 use Rattle.std.specs.Option.{IsSomeAnd, option_map_or}
 use Rattle.std.specs.List.{Contains}
@@ -22,6 +24,7 @@ use Rattle.romfs_rules.proofs.Standing.{opened}
 use Rattle.graph_climb.proofs.Marks.{unmarked, marks_fall, few_marks, newly_set, still_set, was_set}
 use Rattle.romfs_rules.proofs.OnePath.{IsBelow, StandsBelow, no_root, one_standing, inside_member, deep_at, stands_member, is_deep, too_deep}
 
+-- the header h as it waits, with n names that lead to its directory
 abbrev pub at_names : ℕ → ℕ → Waiting
 at_names h n = record { header = h; names = n }
 
@@ -36,7 +39,7 @@ one_waits : (o : Option ℕ) (n : ℕ) → length (waiting o n) ≤ 1
 one_waits None n = omega arith
 one_waits (Some h) n = omega arith
 
--- what is added where both headers are known
+-- the header after one, and the first below it at one name more, are all that it leads down to
 pub led : (a : List ℕ) (w : Waiting) (next first : Option ℕ) (before middle after : List Waiting) → IsTheOne (IsNext a w.header) next
     → IsTheOne (λ g. (w.header ≢ root a) × Opens a w.header × IsFirst a w.header g) first
     → middle ≡ before ++ waiting next w.names → after ≡ middle ++ waiting first (w.names + 1) → Adds (LeadsDown a w) before after
@@ -71,6 +74,8 @@ led a w next first before middle after x y m k = record {
 abbrev pub IsSettled : List ℕ → List Waiting → List Bool → Waiting → Type 0
 IsSettled a todo marks v = Contains todo v ⊎ (¬ IsInside a v.header) ⊎ IsMarked marks v.header
 
+-- what waits stands where it says, what the marked lead down to is settled, and deep is the least
+-- of the marked that are too deep
 pub record Descends (a : List ℕ) (todo : List Waiting) (marks : List Bool) (deep : Option ℕ) : Type 0 where
   pub sized : length marks ≡ length a / 16
   pub waits : (w : Waiting) → Contains todo w → StandsBelow a w.names w.header
@@ -81,7 +86,7 @@ pub record Descends (a : List ℕ) (todo : List Waiting) (marks : List Bool) (de
   pub holds : IfSome deep (λ h. BreaksHeader a Deep h)
   pub least : (k : ℕ) → get_or marks k false ≡ true → BreaksHeader a Deep (k * 16) → IsSomeAnd deep (λ h. h ≤ k * 16)
 
--- what the walk has left
+-- what falls with each step: the headers to come, and twice those without a mark
 unfoldable pub left : List Waiting → List Bool → ℕ
 left todo marks = length todo + 2 * unmarked marks
 
@@ -89,7 +94,7 @@ few_names : (a : List ℕ) (w v : Waiting) → LeadsDown a w v → v.names ≤ w
 few_names a w v (on i) = omega arith
 few_names a w v (down z o f) = omega arith
 
--- the lower of two headers
+-- the lower of a header and of one that was found before, if there is one
 abbrev pub lower : ℕ → Option ℕ → ℕ
 lower h deep = option_map_or (λ g. min g h) deep h
 
@@ -161,6 +166,7 @@ module _ (a : List ℕ) (keeps : KeepsAllHeaderRules Usual a) where
         let m = along n b.0 b.1 b.2.opened (λ h x. firsts n b.0 h b.1 b.2.opened x) b.2.in_chain.0 c b.2.in_chain.1 p.inside in
         led_marked n c (at_names g (n + 1)) (stands_member a keeps n b.0 c b.1 b.2) m (down z p f) j
 
+    -- where nothing is left to come, deep is the least header that is too deep
     pub found : IsLeast (λ h. BreaksHeader a Deep h) deep
     found = record {
       is = λ h e. (rw e at d.holds);
@@ -175,6 +181,7 @@ module _ (a : List ℕ) (keeps : KeepsAllHeaderRules Usual a) where
                 (d.least (g / 16) k (subst (λ q. BreaksHeader a Deep q) (sym e) x)));
     }
 
+  -- the walk begins with the root's first header to come, no marks and nothing found
   pub begun : (todo : List Waiting) (marks : List Bool) (first : Option ℕ) → length marks ≡ length a / 16
       → ((k : ℕ) → get_or marks k false ≡ false)
       → IsTheOne (IsFirst a (root a)) first → todo ≡ waiting first 0 → Descends a todo marks None
@@ -205,6 +212,7 @@ module _ (a : List ℕ) (keeps : KeepsAllHeaderRules Usual a) where
     itself : Contains todo w
     itself = subst (λ x. Contains x w) (sym taken) (Contains-append_right rest (w ∷ []) w (has_one w))
 
+    -- the header that is taken stands below as many names as it says
     pub stands : StandsBelow a w.names w.header
     stands = d.waits w itself
 
@@ -218,6 +226,7 @@ module _ (a : List ℕ) (keeps : KeepsAllHeaderRules Usual a) where
       let_go v (inl c) = elim (waits_or_is v c) [ inl x ↦ inl x | inr e ↦ inr
             (subst (λ u. (¬ IsInside a u.header) ⊎ IsMarked marks u.header) e s) ]
 
+      -- a header that lies outside, or has a mark, is let go
       pub step_stale : Descends a rest marks deep
       step_stale = record {
         sized = d.sized;
@@ -232,10 +241,12 @@ module _ (a : List ℕ) (keeps : KeepsAllHeaderRules Usual a) where
     long : length todo ≡ length rest + 1
     long = rw taken (length-append rest (w ∷ []))
 
+    -- a header that is let go leaves less to do
     pub less_stale : left rest marks < left todo marks
     unfolding left
     less_stale = let l = long in omega arith
 
+    -- the header that is taken, if it has no mark, has fewer names than there are slots
     pub names_fit : w.header / 16 < length marks → get_or marks (w.header / 16) false ≡ false → w.names + 1 ≤ length marks
     names_fit fits free = let m = marks_fall marks (w.header / 16) fits free in let l = d.low w itself in omega arith
 
@@ -298,6 +309,7 @@ module _ (a : List ℕ) (keeps : KeepsAllHeaderRules Usual a) where
           | inr x ↦ rw (x.1) y
         ]
 
+        -- a header is marked and noted, and what it leads down to comes
         pub step_fresh : Descends a after marked_too now
         step_fresh = record {
           sized = length-set marks (w.header / 16) true ∙ d.sized;
@@ -317,6 +329,7 @@ module _ (a : List ℕ) (keeps : KeepsAllHeaderRules Usual a) where
           ];
         }
 
+      -- a header that is newly marked leaves less to do, with all that it adds
       pub less_fresh : left after marked_too < left todo marks
       unfolding left
       less_fresh =

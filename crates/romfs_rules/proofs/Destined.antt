@@ -1,4 +1,6 @@
--- The walk over destination chains, as lists.
+-- The walk over destination chains, as lists. Walks is one walk, which marks what it comes to
+-- (marks_on); Reaches is the scan over slots that follows members' hard links (passes, skips).
+-- Marks that are closed hold whole chains (whole), so at last all targets (all_targets).
 use Rattle.std.proofs.Common.{◌≡◌, ◌∙◌, sym, subst, ℕ, ◌+◌, ◌*◌, ◌/◌, ◌^◌, ◌<◌, ◌≤◌, ◌⊎◌, inl, inr, List, length, get_or, set, Bool, true, false, arith}
 use Rattle.std.proofs.lemmas.List.{length-set}
 use Rattle.std.proofs.lemmas.Bool.{cases_eq}
@@ -14,7 +16,7 @@ use Rattle.romfs_rules.proofs.Slots.{outside_set, twice_cleared, cleared_in_chai
 use Rattle.romfs_rules.proofs.Standing.{member_in_chain}
 use Rattle.graph_climb.proofs.Marks.{unmarked, marks_fall, newly_set, still_set, was_set}
 
--- a chain goes on
+-- where a hard link on a destination chain leads is on that chain too
 pub goes_on : (a : List ℕ) {h g : ℕ} → IsDestination a h g → IsHardLink a g → IsDestination a h (destination a g)
 goes_on a (here l) m = there l (here m)
 goes_on a (there l d) m = there l (goes_on a d m)
@@ -24,7 +26,8 @@ hard a (here l) = l
 hard a (there l d) = l
 
 module _ (a : List ℕ) where
-  -- the walk from one header stands at another
+  -- the walk along one header's destinations stands at another; each marked hard link but that is
+  -- followed
   pub record Walks (from at : ℕ) (old marks : List Bool) : Type 0 where
     pub sized : length marks ≡ length a / 16
     pub small : at < 2 ^ 32
@@ -54,6 +57,7 @@ module _ (a : List ℕ) where
     stays_followed h (inl m) = inl (still_set marks (to / 16) (destination a h / 16) fits m)
     stays_followed h (inr n) = inr n
 
+    -- a destination inside the image gets a mark, and the walk stands there
     pub marks_on : Walks from to old (set marks (to / 16) true)
     marks_on = record {
       sized = length-set marks (to / 16) true ∙ w.sized;
@@ -71,10 +75,11 @@ module _ (a : List ℕ) where
       ];
     }
 
+    -- a destination that is newly marked leaves fewer without a mark
     pub fewer : get_or marks (to / 16) false ≡ false → unmarked (set marks (to / 16) true) < unmarked marks
     fewer u = let s = marks_fall marks (to / 16) fits u in omega arith
 
-  -- marks that are closed hold the whole chain of what is followed
+  -- marks that are closed hold the whole chain of what is followed, as far as it lies in the image
   pub whole : (marks : List Bool) → IsClosed a marks → {h g : ℕ} → IsDestination a h g → IsFollowed a marks h → IsInside a g
       → IsMarked marks g
   whole marks c (here l) f i = elim f [ inl m ↦ m | inr n ↦ absurd (n i) ]
@@ -87,7 +92,8 @@ module _ (a : List ℕ) where
         | inr n ↦ absurd (n m.0)
       ]
 
-  -- the members below a slot are followed
+  -- the marks are of targets and closed, and the members below a slot that are hard links are
+  -- followed
   pub record Reaches (slot : ℕ) (marks : List Bool) : Type 0 where
     pub sized : length marks ≡ length a / 16
     pub each : (k : ℕ) → get_or marks k false ≡ true → IsTarget a (k * 16) × IsInside a (k * 16)
@@ -98,7 +104,7 @@ module _ (a : List ℕ) where
   lifted old new from h f (inl m) = inl (f.kept (destination a h / 16) m)
   lifted old new from h f (inr n) = inr n
 
-  -- a slot with such a member, and one without
+  -- a slot whose member was followed is done
   pub passes : (slot : ℕ) (old new : List Bool) → IsSomeMember a (slot * 16)
       → FollowsLink a (slot * 16) old new → IsClosed a new → Reaches slot old → Reaches (slot + 1) new
   passes slot old new m f c r = record {
@@ -111,6 +117,7 @@ module _ (a : List ℕ) where
     ];
   }
 
+  -- a slot without a member that is a hard link is done as it is
   pub skips : (slot : ℕ) (marks : List Bool) → ¬ (IsHardLink a (slot * 16) × IsSomeMember a (slot * 16)) → Reaches slot marks
       → Reaches (slot + 1) marks
   skips slot marks z r = record {
@@ -123,7 +130,7 @@ module _ (a : List ℕ) where
     ];
   }
 
-  -- over slots whose headers are in no chain
+  -- a run of slots whose headers are in no chain is done as it is
   pub skipped_to : (headers : List Bool) → AreMarks a (IsInSomeChain a) headers
       → (low high : ℕ) (marks : List Bool) → low ≤ high → IsClear headers low high → Reaches low marks
       → Reaches high marks
@@ -131,6 +138,7 @@ module _ (a : List ℕ) where
       (λ k n o x. skips k marks (λ y. outside_set a (IsInSomeChain a) headers m low high c k n o y.0.0
       (member_in_chain a (k * 16) y.1)) x)
 
+  -- after the last slot the marks are those of all headers on members' destination chains
   pub all_targets : (marks : List Bool) → Reaches (length a / 16) marks → AreMarks a (IsTarget a) marks
   all_targets marks r = record { sized = r.sized; each = r.each; all = all }
     where

@@ -1,4 +1,6 @@
--- A header that is named . or .. has a dot as the first byte of its name.
+-- A header that is named . or .. has a dot as the first byte of its name (dot_first): a text begins
+-- as the bytes do that it stands in (first), so its first byte is where its field begins
+-- (first_byte).
 use Rattle.std.proofs.Common.{◌≡◌, ◌∙◌, sym, ap, ℕ, zero, suc, ◌+◌, ◌<◌, inl, inr, List, [], ◌∷◌, length, take, drop, get_or, Bool, true, false, Option, Some, None, refl, arith, leb, cond}
 use Rattle.std.specs.Option.{option_map}
 use Rattle.std.proofs.lemmas.List.{get_or-take, get_or-drop, length-take, length-drop}
@@ -35,5 +37,6 @@ first_byte a t p c e =
       ap (λ k. get_or a k 0) z ∙ sym (get_or-drop p a 0 0) ∙ sym (get_or-take 256 (drop p a) 0 0 (omega arith)) ∙ f.1,
     )
 
+-- where a header is named . or .., the byte at which its name begins is a dot
 pub dot_first : (a : List ℕ) (h : ℕ) → IsDotted a h → (h + 16 < length a) × (get_or a (h + 16) 0 ≡ 46)
 dot_first a h d = elim d.1 [ inl x ↦ first_byte a [] (h + 16) 46 x | inr x ↦ first_byte a (46 ∷ []) (h + 16) 46 x ]

@@ -1,4 +1,6 @@
--- The walk along a chain of hard links, as lists.
+-- The walk along a chain of hard links, as lists. Going is a walk under way (goes, passes) that
+-- ends with the chain (arrives), at its own number (comes_back) or at another's (meets). Passing is
+-- what it keeps of earlier marks. Found are the walks from slots so far, up to all (found_all).
 use Rattle.std.proofs.Common.{◌≡◌, ◌≢◌, ◌∙◌, sym, ap, subst, ℕ, zero, suc, ◌+◌, ◌-◌, ◌*◌, ◌/◌, ◌<◌, ◌≤◌, ◌^◌, ◌⊎◌, inl, inr, List, [], ◌∷◌, ◌++◌, length, get_or, set, replicate, Bool, true, false, refl, arith, length-append}
 use Rattle.std.specs.List.{sum_by}
 use Rattle.std.proofs.lemmas.List.Sums.{sum_by-set}
@@ -23,7 +25,7 @@ never_leaves : (a : List ℕ) (S : ℕ → Type 0) (inside : (h : ℕ) → S h �
 never_leaves a S inside (stays n) s = n (inside _ s).0
 never_leaves a S inside (follows l f) s = never_leaves a S inside f (inside _ s).1
 
--- what the header after a hard link ends as, the hard link does
+-- a hard link ends as its destination does
 pub back : (a : List ℕ) (h : ℕ) (r : End) → IsHardLink a h → EndsAs a (cleared (spec a h)) r → EndsAs a h r
 back a h AtDirectory l x = (x.0, follows l x.1, x.2)
 back a h AtOther l x = (x.0, follows l x.1, x.2)
@@ -33,14 +35,15 @@ back a h Nowhere l x = no l x
     no l x e (stays n) = n l
     no l x e (follows m f) = x e f
 
--- where a member leads as a hard link, and where that leads
+-- where a member that is a hard link leads is on a member's destination chain
 pub first_target : (a : List ℕ) (h : ℕ) → IsSomeMember a h → IsHardLink a h → IsTarget a (cleared (spec a h))
 first_target a h m l = (m.0, h, m.1, here l)
 
+-- where a hard link on a member's destination chain leads is on it too
 pub next_target : (a : List ℕ) (h : ℕ) → IsTarget a h → IsHardLink a h → IsTarget a (cleared (spec a h))
 next_target a h t l = (t.0, t.1, t.2, goes_on a t.3 l)
 
--- a walk that is under way, from one header to another
+-- a walk is under way from one header to another, and what has its number ends as the other does
 pub record Going (a : List ℕ) (ends : List End) (from at : ℕ) (marks : List ℕ) : Type 0 where
   pub sized : length marks ≡ length a / 16
   pub small : at < 2 ^ 32
@@ -53,15 +56,17 @@ pub record Going (a : List ℕ) (ends : List End) (from at : ℕ) (marks : List 
   pub closed : (k : ℕ) → get_or marks k 0 ≡ length ends + 1
       → (cleared (spec a (k * 16)) ≡ at) ⊎ (get_or marks (cleared (spec a (k * 16)) / 16) 0 ≡ length ends + 1)
 
+-- 1 where no walk passed, else 0
 abbrev pub fresh : ℕ → ℕ
 fresh zero = 1
 fresh (suc n) = 0
 
--- how many headers have no mark
+-- how many slots no walk passed
 unfoldable pub unmarked : List ℕ → ℕ
 unmarked marks = sum_by fresh marks
 
 module _ (a : List ℕ) (ends : List End) where
+  -- a walk begins where it stands, with the marks of earlier walks
   pub goes : (from : ℕ) (marks : List ℕ) → length marks ≡ length a / 16 → from < 2 ^ 32 → cleared from ≡ from
       → HasEnds a marks ends → Going a ends from from marks
   goes from marks s l c h = record {
@@ -83,7 +88,7 @@ module _ (a : List ℕ) (ends : List End) where
       none : (k : ℕ) → get_or marks k 0 ≡ length ends + 1 → ⊥
       none k e = let q : get_or marks k 0 ≡ suc (length ends) = omega arith in let l = (h.each k (length ends) q).0 in omega arith
 
-  -- the end of a walk is known
+  -- once it is known how the header ends that a walk came to, the end of this walk is known
   pub arrives : (from at : ℕ) (marks : List ℕ) (r : End) → Going a ends from at marks → EndsAs a at r → HasEnds a marks (ends ++ r ∷ [])
   arrives from at marks r g x = record { each = λ k n e. found k n e }
     where
@@ -101,7 +106,7 @@ module _ (a : List ℕ) (ends : List End) where
         | inr (inr l) ↦ (let h = g.high k in absurd (omega arith))
       ]
 
-  -- a chain that comes back to its own marks leaves nowhere
+  -- a walk that comes to its own number ends nowhere
   pub comes_back : (from at : ℕ) (marks : List ℕ) → Going a ends from at marks → get_or marks (at / 16) 0 ≡ length ends + 1
       → EndsAs a at Nowhere
   comes_back from at marks g m e f = never_leaves a S inside f (g.aligned, m)
@@ -142,6 +147,7 @@ module _ (a : List ℕ) (ends : List End) where
     kept k e = elim (cases_eq k (at / 16)) [ inl q ↦ rw q now_marked | inr q ↦ get_or-set_other marks (at / 16) k (length ends + 1) 0 q
           ∙ e ]
 
+    -- a hard link that no walk passed gets the number of this one, which goes on to its destination
     pub passes : spec a at < 2 ^ 32 → Going a ends from (cleared (spec a at)) (set marks (at / 16) (length ends + 1))
     passes w = record {
       sized = length-set marks (at / 16) (length ends + 1) ∙ g.sized;
@@ -157,6 +163,7 @@ module _ (a : List ℕ) (ends : List End) where
           (λ q. elim (g.closed k q) [ inl y ↦ inr (rw y now_marked) | inr y ↦ inr (kept _ y) ]);
     }
 
+    -- a header that gets a number leaves fewer that no walk passed
     pub fewer : unmarked (set marks (at / 16) (length ends + 1)) < unmarked marks
     unfolding unmarked
     fewer =
@@ -169,18 +176,19 @@ module _ (a : List ℕ) (ends : List End) where
         old zero h = absurd (omega arith)
         old (suc n) h = refl
 
-  -- a mark of an earlier walk says where the chain ends
+  -- the number of an earlier walk says how the chain ends from there
   pub meets : (from at m n : ℕ) (marks : List ℕ) → Going a ends from at marks → get_or marks (at / 16) 0 ≡ m
       → m ≢ 0 → m ≢ length ends + 1 → n ≡ m - 1 → EndsAs a at (get_or ends n AtDirectory)
   meets from at m n marks g e z o p = let h = g.high (at / 16) in let q : m ≡ suc n = omega arith in
       subst (λ y. EndsAs a y (get_or ends n AtDirectory)) g.aligned (g.past (at / 16) n (e ∙ q) (omega arith))
 
--- what a walk that is under way has left of the marks from before it, and of where it began
+-- a walk that is under way has kept earlier marks, and marked where it began unless it stands there
 pub record Passing (from at : ℕ) (before marks : List ℕ) : Type 0 where
   pub sized : length marks ≡ length before
   pub kept : (k : ℕ) → get_or before k 0 ≢ 0 → get_or marks k 0 ≢ 0
   pub began : (from ≡ at) ⊎ (get_or marks (from / 16) 0 ≢ 0)
 
+-- a walk that begins has changed no marks
 pub passing : (from : ℕ) (marks : List ℕ) → Passing from from marks marks
 passing from marks = record { sized = refl; kept = λ k h. h; began = inl refl }
 
@@ -190,6 +198,7 @@ set_mark marks i k n l h e = elim (cases_eq k i) [
   | inr q ↦ h (sym (get_or-set_other marks i k (n + 1) 0 q) ∙ e)
 ]
 
+-- a walk that marks where it stands, and goes on, keeps earlier marks
 pub passing_on : (from at to n : ℕ) (before marks : List ℕ) → Passing from at before marks
     → at / 16 < length marks → Passing from to before (set marks (at / 16) (n + 1))
 passing_on from at to n before marks p l = record {
@@ -201,21 +210,23 @@ passing_on from at to n before marks p l = record {
   ]);
 }
 
+-- a walk that ends at a marked header has passed where it began
 pub passed_at : (from at : ℕ) (before marks : List ℕ) → Passing from at before marks → get_or marks (at / 16) 0 ≢ 0
     → Passes from before marks
 passed_at from at before marks p h = record { sized = p.sized; kept = p.kept; passed = elim p.began [ inl q ↦ rw q h | inr x ↦ x ] }
 
+-- a walk that ends elsewhere than it began has passed where it began
 pub passed_on : (from at : ℕ) (before marks : List ℕ) → Passing from at before marks → (from ≡ at → ⊥) → Passes from before marks
 passed_on from at before marks p h = record { sized = p.sized; kept = p.kept; passed = elim p.began [ inl q ↦ absurd (h q) | inr x ↦ x ] }
 
--- the walks from all slots before this one
+-- the ends of all walks are known, and no target in the slots before this one was left out
 pub record Found (a walks : List ℕ) (ends : List End) (slot : ℕ) : Type 0 where
   pub sized : length walks ≡ length a / 16
   pub few : length ends ≤ slot
   pub known : HasEnds a walks ends
   pub passed : (k : ℕ) → k < slot → ¬ IsUnpassedTarget a walks k
 
--- where no walk has been
+-- before the first slot there is no walk, and no end to be known
 pub found_none : (a : List ℕ) (n : ℕ) → n ≡ length a / 16 → Found a (replicate n 0) [] 0
 found_none a n e = record {
   sized = length-replicate n 0 ∙ e;
@@ -234,6 +245,7 @@ slot_of : (k : ℕ) → k * 16 / 16 ≡ k
 slot_of k = omega arith
 
 module _ (a walks : List ℕ) (ends : List End) (slot : ℕ) (f : Found a walks ends slot) where
+  -- a walk from a slot, whose end is known, leaves no target out up to there
   pub found_more : (more : List ℕ) (r : End) → HasEnds a more (ends ++ r ∷ []) → Passes (slot * 16) walks more
       → Found a more (ends ++ r ∷ []) (slot + 1)
   found_more more r h p = record {
@@ -246,6 +258,7 @@ module _ (a walks : List ℕ) (ends : List End) (slot : ℕ) (f : Found a walks 
     ];
   }
 
+  -- a slot that holds no target without a walk needs none
   pub found_same : ¬ IsUnpassedTarget a walks slot → Found a walks ends (slot + 1)
   found_same same = record {
     sized = f.sized;
@@ -257,6 +270,8 @@ module _ (a walks : List ℕ) (ends : List End) (slot : ℕ) (f : Found a walks 
     ];
   }
 
+  -- after the last slot each hard link on a member's destination chain has a walk whose end is
+  -- known
   pub found_all : (slots : List Bool) → AreMarks a (IsTarget a) slots → length a / 16 ≤ slot
       → AreWalkedEnds a (record { slots = slots; by_slot = walks }) ends
   found_all slots m all = record {
@@ -266,7 +281,7 @@ module _ (a walks : List ℕ) (ends : List End) (slot : ℕ) (f : Found a walks 
     all = λ h c x e. f.passed (h / 16) (let i = x.0.1 in omega arith) (rw (cleared_destination a c.3) (c, (x, e)));
   }
 
--- over slots whose headers are on no destination chain
+-- a run of slots whose headers are on no member's destination chain needs no walk
 pub found_to : (a walks : List ℕ) (ends : List End) (targets : List Bool) → AreMarks a (IsTarget a) targets
     → (low high : ℕ) → low ≤ high → IsClear targets low high → Found a walks ends low
     → Found a walks ends high
@@ -276,6 +291,7 @@ found_to a walks ends targets m low high l c f = over_to (λ k. Found a walks en
 
 -- the number of a walk says where its chain ends
 module _ (a : List ℕ) (walks : Words) (ends : List End) (at : ℕ) (k : KnowsEnd a walks ends at) where
+  -- a hard link whose end is known is in the set
   pub known_slot : get_or walks.slots (at / 16) false ≡ true
   known_slot = k.known.targets.all at k.target k.hard.0
 
@@ -283,9 +299,11 @@ module _ (a : List ℕ) (walks : Words) (ends : List End) (at : ℕ) (k : KnowsE
     reads : get_or walks.by_slot (at / 16) 0 ≡ suc (walk - 1)
     reads = let m = k.known.all at k.target k.hard in omega arith
 
+    -- the walk that passed it has its end in the list
     pub ended_in : walk - 1 < length ends
     ended_in = (k.known.known.each (at / 16) (walk - 1) reads).0
 
+    -- the end of the walk that passed it is how its chain ends
     pub ended_as : (end : End) → end ≡ get_or ends (walk - 1) end → EndsAs a at end
     ended_as end e = subst (λ r. EndsAs a at r) (get_or_default ends (walk - 1) AtDirectory end ended_in
         ∙ sym e) (subst (λ y. EndsAs a y (get_or ends (walk - 1) AtDirectory))

@@ -1,4 +1,6 @@
--- Lists of headers that grow by one.
+-- Lists by the numbers of headers, which grow by one: the number of the header after each
+-- (follow_more, follow_all), and the headers that are noted (chooses_plain, chooses_noted). The
+-- rest says that such numbers and classes are in range, and what the list of a set holds.
 use Rattle.std.proofs.Common.{◌≡◌, ◌∙◌, sym, ap, subst, ℕ, ◌+◌, ◌*◌, ◌/◌, ◌<◌, inl, inr, List, [], ◌∷◌, ◌++◌, length, get_or, Bool, true, false, Option, refl, arith}
 use Rattle.std.proofs.lemmas.List.{get_or_append_left, get_or_default, length_push}
 use Rattle.std.proofs.lemmas.List.Elements.{Contains-append_left, Contains-append_right, Contains-append_cases}
@@ -13,12 +15,13 @@ use Rattle.graph_climb.specs.Climb.{AreBelow}
 use Rattle.name_classes.specs.Names.{AreClasses}
 use Rattle.romfs_rules.specs.SameNames.{IsNextNumber, AreNextNumbers, AreChosen}
 
--- the numbers of the headers after the first ones
+-- the list has, for each of the first headers, the number of the header after it
 pub record AreNextSoFar (a heads next : List ℕ) (count : ℕ) : Type 0 where
   pub sized : length next ≡ count
   pub each : (i : ℕ) → i < count → IsNextNumber a heads (get_or heads i 0) (get_or next i 0)
 
 module _ (a heads next : List ℕ) where
+  -- with the number of the header after it, one header more has its next number
   pub follow_more : (count n : ℕ) → AreNextSoFar a heads next count
       → IsNextNumber a heads (get_or heads count 0) n → AreNextSoFar a heads (next ++ n ∷ []) (count + 1)
   follow_more count n w k = record {
@@ -29,6 +32,7 @@ module _ (a heads next : List ℕ) where
     ];
   }
 
+  -- after the last header the number for none is added, which leads to itself
   pub follow_all : (n : ℕ) → n ≡ length heads → AreNextSoFar a heads next (length heads) → AreNextNumbers a heads (next ++ n ∷ [])
   follow_all n e w = record {
     sized = length_push next n ∙ ap (λ x. x + 1) w.sized;
@@ -38,6 +42,7 @@ module _ (a heads next : List ℕ) where
 
 module _ (heads : List ℕ) (noted : List Bool) (count : ℕ) (found : List ℕ) (fits : count < length heads)
     (up : (i j : ℕ) → i < j → j < length heads → get_or heads i 0 < get_or heads j 0) (w : AreChosen heads noted count found) where
+  -- a header that is not noted adds nothing to those chosen
   pub chooses_plain : get_or noted count false ≡ false → AreChosen heads noted (count + 1) found
   chooses_plain n = record {
     each = λ h c. (let r = w.each h c in let l = r.1 in (r.0, (let z = l in omega arith), r.2, r.3));
@@ -49,6 +54,7 @@ module _ (heads : List ℕ) (noted : List Bool) (count : ℕ) (found : List ℕ)
     rising = w.rising;
   }
 
+  -- a header that is noted is added to those chosen
   pub chooses_noted : get_or noted count false ≡ true → AreChosen heads noted (count + 1) (found ++ get_or heads count 0 ∷ [])
   chooses_noted n =
       let grown = length_push found (get_or heads count 0) in
@@ -77,7 +83,7 @@ module _ (heads : List ℕ) (noted : List Bool) (count : ℕ) (found : List ℕ)
         ];
       }
 
--- the number after each is one of theirs
+-- each number that leads on leads to one of these numbers
 pub next_below : {a heads next : List ℕ} → AreNextNumbers a heads next → AreBelow next (length next)
 next_below {heads = heads} {next = next} n = let s = n.sized in record {
   sized = refl;
@@ -87,7 +93,7 @@ next_below {heads = heads} {next = next} n = let s = n.sized in record {
   ];
 }
 
--- classes are numbers of headers
+-- each class is one of these numbers
 pub class_below : {a heads next class : List ℕ} {key : ℕ → Option (List ℕ)}
     → AreNextNumbers a heads next → AreClasses key (length heads) class → AreBelow class (length next)
 class_below {heads = heads} n c = let s = n.sized in let t = c.sized in record {
@@ -95,7 +101,7 @@ class_below {heads = heads} n c = let s = n.sized in let t = c.sized in record {
   each = λ k m. let b = c.below k (omega arith) in omega arith;
 }
 
--- the headers of a set, as a list
+-- the list of a set's places holds the headers inside the image that the set is of, rising
 pub lists_marks : (a : List ℕ) (P : ℕ → Type 0) (set : List Bool) (heads : List ℕ) → AreMarks a P set → AreCollected set (length set) heads
     → IsListOf a P heads
 lists_marks a P set heads m w = record {

@@ -1,4 +1,6 @@
--- What names are mixed to, and which names stand once.
+-- What names are mixed to, number by number (no_hashes, one_hash), and which names stand once: one
+-- name is mixed to one hash, so a hash that was seen once is that of a name which one number alone
+-- has (told_alone).
 use Rattle.std.proofs.Common.{◌≡◌, ◌∙◌, sym, ap, ℕ, ◌+◌, inl, inr, List, [], ◌∷◌, ◌++◌, length, Bool, Option, Some, None, arith, length-append}
 use Rattle.std.specs.Prelude.{slice_index}
 use Rattle.std.proofs.lemmas.List.{get_or_at, get_or_append_left}
@@ -7,15 +9,19 @@ use Rattle.name_classes.specs.Names.{name_hash}
 use Rattle.name_classes.proofs.Keyed.{below_or_at}
 use Rattle.romfs_rules.specs.Names.{AreNameHashes, HaveTheirsAlone}
 
+-- names that are there, and equal as such, are equal
 pub same_some : (x y : List ℕ) → ◌≡◌ {A = Option (List ℕ)} (Some x) (Some y) → x ≡ y
 same_some x y e = cc
 
+-- a name that is there is not missing
 pub some_none : (x : List ℕ) → ◌≡◌ {A = Option (List ℕ)} (Some x) None → ⊥
 some_none x e = cc
 
+-- before the first number there is no hash
 pub no_hashes : (name : ℕ → Option (List ℕ)) (hashes : List ℕ) → hashes ≡ [] → AreNameHashes name 0 hashes
 no_hashes name hashes e = record { level = ap length e; each = λ k q l. absurd (omega arith) }
 
+-- one number more has its hash once what its name is mixed to, if it has one, is added
 pub one_hash : (name : ℕ → Option (List ℕ)) (i h : ℕ) (hashes hashes' : List ℕ)
     → ((q : List ℕ) → name i ≡ Some q → h ≡ name_hash q) → hashes' ≡ hashes ++ h ∷ []
     → AreNameHashes name i hashes → AreNameHashes name (i + 1) hashes'
@@ -27,6 +33,7 @@ one_hash name i h hashes hashes' own push w = record {
   ];
 }
 
+-- a number whose hash was seen once has its name alone
 pub told_alone : (name : ℕ → Option (List ℕ)) (n : ℕ) (hashes : List ℕ) (once : List Bool)
     → AreNameHashes name n hashes → AreSeenOnce hashes once → HaveTheirsAlone name n once
 told_alone name n hashes once w seen k q l t e j m f =

@@ -1,4 +1,6 @@
--- Where no header is linked twice, each header has paths of one length.
+-- Where no header is linked twice, one number of names leads to each: it stands in one chain
+-- (one_dir), so one number leads to its directory (one_depth, one_standing). Then the number with
+-- which a walk comes to a header says whether it is too deep (is_deep, too_deep).
 use Rattle.std.proofs.Common.{◌≡◌, ◌≢◌, sym, ap, subst, ℕ, zero, suc, ◌+◌, ◌<◌, ◌≤◌, ◌⊎◌, inl, inr, List, [], ◌∷◌, ◌++◌, length, Option, Some, None, refl, arith, lit≤, lit<, length-append}
 use Rattle.std.proofs.lemmas.Bool.{cases_eq, cases_order}
 use Rattle.romfs_format.specs.declared.rule.Rule.TheVariants.{Outside, NameOpen, Twice, Deep}
@@ -50,6 +52,7 @@ module _ (a : List ℕ) (keeps : KeepsAllHeaderRules Usual a) where
       let s = one_next y.0 x.0 h (next_link e j y.0 h p y.1 y.2) (next_link d i x.0 h o x.1 x.2) in
       one_dir d e i j x.0 o p x.1 (subst (λ g. IsAt a e j g) s y.1)
 
+  -- a member is not the root's header
   pub no_root : (d h : ℕ) → IsMember a d h → h ≢ root a
   no_root d h m r = elim (cases_eq d (root a)) [
     | inl e ↦ m.kept (inl (e, r))
@@ -64,6 +67,7 @@ module _ (a : List ℕ) (keeps : KeepsAllHeaderRules Usual a) where
       let e = one_dir y.0 x.0 y.2.in_chain.0 x.2.in_chain.0 d y.2.opened x.2.opened y.2.in_chain.1 x.2.in_chain.1 in
       ap (λ k. suc k) (one_depth n m x.0 x.1 (subst (λ c. IsBelow a m c) e y.1))
 
+  -- a header stands below one number of names alone
   pub one_standing : (n m h : ℕ) → StandsBelow a n h → StandsBelow a m h → n ≡ m
   one_standing n m h x y =
       let e = one_dir y.dir x.dir y.in_chain.0 x.in_chain.0 h y.opened x.opened y.in_chain.1 x.in_chain.1 in
@@ -86,6 +90,7 @@ module _ (a : List ℕ) (keeps : KeepsAllHeaderRules Usual a) where
   reached : (d h : ℕ) → IsMember a d h → IsReached a h
   reached d h m = inr (inl (link_to a d m.in_chain.0 h m.opened m.in_chain.1))
 
+  -- a member lies in the image
   pub inside_member : (d h : ℕ) → IsMember a d h → IsInside a h
   inside_member d h m = elim (decide_inside h) [ inl i ↦ i | inr n ↦ absurd (keeps.keeps Outside h (lit≤ tt, lit< tt) (reached d h m, n)) ]
 
@@ -115,6 +120,8 @@ module _ (a : List ℕ) (keeps : KeepsAllHeaderRules Usual a) where
       let q : suc n + length path ≡ n + suc (length path) = omega arith in
       subst (λ k. IsBelow a k h) q (leads_below path (suc n) l.0 h (d, b, l.1) l.3)
 
+  -- a header that is too deep is a member of a directory to which at least as many names lead as a
+  -- path may have
   pub deep_at : (h : ℕ) → BreaksHeader a Deep h → (n : ℕ) × (MAX_NAMES ≤ n) × (d : ℕ) × IsBelow a n d × IsMember a d h
   deep_at h x = go (0 + length x.0) (leads_below x.0 0 (root a) h refl x.1) (let l = x.2 in omega arith)
     where
@@ -122,10 +129,11 @@ module _ (a : List ℕ) (keeps : KeepsAllHeaderRules Usual a) where
       go zero b l = absurd (omega arith)
       go (suc n) b l = (n, omega arith, b.0, b.1, b.2)
 
+  -- a member of a directory stands below as many names as lead to that
   pub stands_member : (n d h : ℕ) → IsBelow a n d → IsMember a d h → StandsBelow a n h
   stands_member n d h b m = record { dir = d; below = b; opened = m.opened; in_chain = m.in_chain }
 
-  -- what the header's own depth says
+  -- a header that a walk finds too deep breaks the rule on depth
   pub is_deep : (w : Waiting) → StandsBelow a w.names w.header → IsTooDeep a w → BreaksHeader a Deep w.header
   is_deep w s t =
       let m : IsMember a s.dir w.header = record { opened = s.opened; in_chain = s.in_chain; kept =
@@ -133,6 +141,7 @@ module _ (a : List ℕ) (keeps : KeepsAllHeaderRules Usual a) where
       let r = below_has (suc w.names) w.header (s.dir, s.below, m) in
       (r.0, r.1, (let k : length r.0 ≡ suc w.names = r.2 in let l = t.0 in omega arith))
 
+  -- a header that breaks the rule on depth is one that a walk finds too deep
   pub too_deep : (w : Waiting) → StandsBelow a w.names w.header → BreaksHeader a Deep w.header → IsTooDeep a w
   too_deep w s x =
       let y = deep_at w.header x in

@@ -1,4 +1,6 @@
--- The least headers outside the image that are reached.
+-- The least headers outside the image that are reached. Each reached header but the root's is named
+-- by one inside (reached_named), so a scan over slots notes what each names (noted, scans), but for
+-- those that name nothing (scanned_to). After the last slot the least is found (all_scanned).
 use Rattle.std.proofs.Common.{◌≡◌, ◌≢◌, sym, ap, subst, ℕ, ◌+◌, ◌*◌, ◌/◌, ◌<◌, ◌≤◌, ◌⊎◌, inl, inr, List, length, Bool, false, Option, Some, None, refl, arith, leb}
 use Rattle.std.proofs.lemmas.Bool.{cases_eq, cases_lt, le-leb}
 use Rattle.romfs_format.specs.Fields.{root, word, IsInside, cleared}
@@ -28,6 +30,7 @@ module _ (a : List ℕ) where
   destination_reached h g (inl m, l, e) = inr (inr (m.0, h, m.1, rw e (here l)))
   destination_reached h g (inr (d, m, x, y), l, e) = inr (inr (d, m, x, rw e (goes_on a y l)))
 
+  -- what a header names, by a field or as a hard link, is reached
   pub names_reached : (h g : ℕ) → Names a h g → IsReached a g
   names_reached h g (inl x) = inr (inl (next_of h, x))
   names_reached h g (inr (inl x)) = inr (inl (first_of h, x))
@@ -58,24 +61,30 @@ module _ (a : List ℕ) where
           | inr y ↦ record { from = r.0; inside = r.1.0; slot = cleared_destination a y; names = inr (inr (inr (d, h, m, y), r.1, r.2)) }
         ]
 
-    -- the reached headers but the root's are those that headers inside lead to
+    -- a reached header other than the root's is one that some header inside leads to
     pub reached_named : (g : ℕ) → IsReached a g → g ≢ root a → IsLedTo g
     reached_named g (inl e) n = absurd (n e)
     reached_named g (inr (inl l)) n = link_named l.0 g l.1
     reached_named g (inr (inr t)) n = target_named g t
 
 module _ (a : List ℕ) (at : ℕ) where
+  -- of a member, or a header that members' hard links lead over, the destination is named, if it
+  -- has one
   pub destination_named : (word : Option ℕ) → IsSomeMember a at ⊎ IsTarget a at
       → IsTheOne (λ g. IsHardLink a at × (g ≡ destination a at)) word → IsTheOne (NamesDestination a at) word
   destination_named word u o = record { each = λ g. (λ e. (let x = (o.each g).0 e in (u, x.0, x.1)), λ x. (o.each g).1 (x.1, x.2)) }
 
+  -- a header that is no hard link, or neither a member nor on a member's chain, names no
+  -- destination
   pub destination_unnamed : ¬ ((IsSomeMember a at ⊎ IsTarget a at) × IsHardLink a at) → IsTheOne (NamesDestination a at) None
   destination_unnamed n = nowhere (NamesDestination a at) (λ g x. n (x.0, x.1))
 
 module _ (Q : ℕ → Type 0) (found : Option ℕ) where
+  -- where there is no word, what was found stays
   pub unnamed : Notes (λ h. ◌≡◌ {A = Option ℕ} None (Some h)) Q found found
   unnamed = record { is = λ h e. inl e; old = λ h e. (h, e, omega arith); new = λ h e q. cc }
 
+  -- a word that is not looked for leaves what was found
   pub unnoted : (word : ℕ) → ¬ Q word → Notes (λ h. Some word ≡ Some h) Q found found
   unnoted word n = record { is = λ h e. inl e; old = λ h e. (h, e, omega arith); new =
         λ h e q. absurd (n (let x : word ≡ h = cc in subst Q (sym x) q)) }
@@ -101,6 +110,7 @@ lesser_is (Some least) word h e = elim (cases_lt word least) [
   | inr l ↦ inl (ap Some (rw (le-leb least word l) at e))
 ]
 
+-- a word that is looked for is noted, as the lesser of it and of what was found
 pub noted : (Q : ℕ → Type 0) (found : Option ℕ) (word : ℕ) → Q word → Notes (λ h. Some word ≡ Some h) Q found (Some (lesser found word))
 noted Q found word q = record {
   is = λ h e. elim (lesser_is found word h (cc)) [ inl x ↦ inl x | inr x ↦ inr (ap Some x, subst Q x q) ];
@@ -132,7 +142,7 @@ then_of V W Q before middle after m n = record {
     onward : (h g : ℕ) → middle ≡ Some g → g ≤ h → (k : ℕ) × (after ≡ Some k) × (k ≤ h)
     onward h g e l = let x = n.old g e in (x.0, x.1, omega arith)
 
--- what spec.info leads to is not outside where it lies in the image
+-- where spec.info names a place inside the image, nothing is noted
 pub noted_inside : (a : List ℕ) (at : ℕ) (Q : ℕ → Type 0) (found : Option ℕ) → IsInside a (cleared (word a (at + 4)))
     → ((h : ℕ) → IsInside a h → ¬ Q h) → Notes (NamesBySpec a at) Q found found
 noted_inside a at Q found i n = record { is = λ h e. inl e; old = λ h e. (h, e, omega arith); new = λ h w q. absurd (n h (named h w) q) }
@@ -141,7 +151,7 @@ noted_inside a at Q found i n = record { is = λ h e. inl e; old = λ h e. (h, e
     named h (inl x) = subst (IsInside a) (sym x.1.0) i
     named h (inr x) = subst (IsInside a) (sym x.2) i
 
--- what spec.info leads to is noted, word by word
+-- noting the first header, and then the destination, notes what spec.info names
 pub noted_spec : (a : List ℕ) (at : ℕ) (Q : ℕ → Type 0) (first hard before with_first after : Option ℕ)
     → IsTheOne (IsLink a (first_of at)) first → IsTheOne (NamesDestination a at) hard
     → Notes (λ h. first ≡ Some h) Q before with_first → Notes (λ h. hard ≡ Some h) Q with_first after
@@ -149,7 +159,7 @@ pub noted_spec : (a : List ℕ) (at : ℕ) (Q : ℕ → Type 0) (first hard befo
 noted_spec a at Q first hard before with_first after y z m n =
     then_of (IsLink a (first_of at)) (NamesDestination a at) Q before with_first after (of_one _ Q _ first _ y m) (of_one _ Q _ hard _ z n)
 
--- what a header leads to is noted, word by word
+-- noting the header after one, and then what its spec.info names, notes all that it names
 pub noted_named : (a : List ℕ) (at : ℕ) (Q : ℕ → Type 0) (next before with_next after : Option ℕ)
     → IsTheOne (IsLink a (next_of at)) next → Notes (λ h. next ≡ Some h) Q before with_next → Notes (NamesBySpec a at) Q with_next after
     → Notes (Names a at) Q before after
@@ -179,9 +189,11 @@ pub record IsLedToBefore (a : List ℕ) (n g : ℕ) : Type 0 where
   pub names : Names a (slot * 16) g
 
 module _ (a : List ℕ) (Q : ℕ → Type 0) where
+  -- what was found is the least of those looked for that headers in slots before n lead to
   abbrev pub IsFoundBefore : ℕ → Option ℕ → Type 0
   IsFoundBefore n found = IsLeast (λ g. IsLedToBefore a n g × Q g) found
 
+  -- below the root's slot nothing is found, as no header stands there
   pub nothing : (n : ℕ) → n ≡ root a / 16 → IsFoundBefore n None
   nothing n e = record { is = λ h x. cc; whole = λ h x. absurd (let c = cleared_root a in let l = x.0.early in let i = x.0.inside in
         omega arith) }
@@ -196,7 +208,7 @@ module _ (a : List ℕ) (Q : ℕ → Type 0) where
     | inr e ↦ (inl (record { slot = x.slot; early = (let l = x.early in omega arith); inside = x.inside; names = x.names }), q)
   ]
 
-  -- one slot more
+  -- once what its header names is noted, a slot is scanned
   pub scans : (n : ℕ) (before after : Option ℕ) → IsInside a (n * 16) → IsFoundBefore n before
       → Notes (Names a (n * 16)) Q before after → IsFoundBefore (n + 1) after
   scans n before after i l x = least_same _ _ after (to_next n i) (from_next n)
@@ -219,7 +231,7 @@ module _ (a : List ℕ) (Q : ℕ → Type 0) where
             y.names }, x.1)))
       l
 
-  -- over slots, behind the root's, whose headers are not reached
+  -- a run of slots behind the root's whose headers are not reached is scanned with nothing noted
   pub scanned_to : (headers targets : List Bool) → AreMarks a (IsInSomeChain a) headers
       → AreMarks a (IsTarget a) targets → (low high : ℕ) (found : Option ℕ) → root a < low * 16 → low ≤ high
       → IsClear headers low high → IsClear targets low high → IsFoundBefore low found
@@ -231,6 +243,7 @@ module _ (a : List ℕ) (Q : ℕ → Type 0) where
         | inr (inr z) ↦ outside_set a (IsTarget a) targets t low high d k n o i z
       ]) x)
 
+  -- after the last slot what was found is the least reached header of those looked for
   pub all_scanned : IsVolumeImage a → (n : ℕ) (found : Option ℕ) → length a / 16 ≤ n
       → ((g : ℕ) → Q g → g ≢ root a) → IsFoundBefore n found → IsLeast (λ g. IsReached a g × Q g) found
   all_scanned v n found l u f = least_same _ _ found (λ g x. (names_reached a (x.0.slot * 16) g x.0.names, x.1)) from f
@@ -242,5 +255,5 @@ module _ (a : List ℕ) (Q : ℕ → Type 0) where
           (record { slot = x.from / 16; early = omega arith; inside = rw (x.slot) i; names =
                 subst (λ y. Names a y g) (sym x.slot) x.names }, q)
 
--- what a header outside the image is noted for
+-- what becomes of what was found, by a word that is there or not
 pub ruleset notes = (unnamed, noted, unnoted)

@@ -1,4 +1,6 @@
--- The walk along the root's chain, as lists.
+-- The walk along the root's chain, as lists. Walked holds at its beginning (begun) and after each
+-- step, which marks where it stands (steps); where it stands outside or at a mark, all of the chain
+-- is marked (all_marked).
 use Rattle.std.proofs.Common.{◌≡◌, ◌≢◌, ◌∙◌, sym, ap, subst, ℕ, zero, suc, ◌*◌, ◌/◌, ◌<◌, ◌⊎◌, inl, inr, List, length, get_or, set, replicate, Bool, true, false, refl, arith}
 use Rattle.std.proofs.lemmas.List.{length-set, length-replicate}
 use Rattle.romfs_format.specs.Fields.{root, IsInside, next, spec, cleared}
@@ -27,6 +29,7 @@ module _ (a : List ℕ) where
     starts : cleared w ≡ cleared (spec a (root a))
     starts = ap cleared (f ∙ ap (spec a) t)
 
+    -- the walk begins at the root's first header, with no marks
     pub begun : (marks : List Bool) → marks ≡ replicate (length a / 16) false → Walked a marks (cleared w)
     begun marks e = record {
       sized = ap length e ∙ length-replicate (length a / 16) false;
@@ -49,6 +52,7 @@ module _ (a : List ℕ) where
       along (suc n) h x i = settled h i (w.closed (x.0 / 16) h (along n x.0 x.1 x.2.0)
             (subst (λ y. IsNext a y h) (sym (cleared_at a (root a) n x.0 x.1)) x.2))
 
+      -- where the walk stands outside or at a mark, the marks are those of the root's chain
       pub all_marked : AreMarks a (IsInRootChain a) marks
       all_marked = record { sized = w.sized; each = w.each; all = λ h c i. along c.0 h c.1 i }
 
@@ -62,6 +66,7 @@ module _ (a : List ℕ) where
       moves g (inr (inl n)) = inr (inl n)
       moves g (inr (inr m)) = inr (inr (still_set marks (at / 16) (g / 16) fits m))
 
+      -- the header where the walk stands gets a mark, and the walk goes on to the header after it
       pub steps : Walked a (set marks (at / 16) true) after
       steps = record {
         sized = length-set marks (at / 16) true ∙ w.sized;

@@ -1,4 +1,6 @@
--- Members of one name, by their numbers: one comes after the other.
+-- Members of one name, by their numbers. Of two headers in a chain one comes after the other
+-- (one_follows), and so do their numbers (forth, back), so a climb along next numbers that notes by
+-- classes notes the headers with the name of a lower one (noted_right, noted_whole, same_names).
 use Rattle.std.proofs.Common.{◌≡◌, ◌≢◌, ◌∙◌, sym, ap, subst, ℕ, zero, suc, ◌*◌, ◌/◌, ◌<◌, ◌⊎◌, inl, inr, List, [], length, get_or, Bool, true, false, Option, Some, None, IsSome, bytes_eq, codes, if◌then◌else◌, refl, arith}
 use Rattle.std.proofs.lemmas.Bool.{cases_eq, cases_order, false≢true, eqb-true, eq-eqb}
 use Rattle.std.proofs.lemmas.Slice.Eq.{bytes_eq-Decides}
@@ -56,6 +58,7 @@ module _ (a : List ℕ) where
     | inr (inr l) ↦ inr (later_follows d y.0 x.0 g h l y.1 x.1)
   ]
 
+  -- a header in a chain stands at a multiple of 16
   pub linked_clear : (h : ℕ) → IsLinked a h → h / 16 * 16 ≡ h
   linked_clear h l = cleared_in_chain a l.dir h l.stands.in_chain
 
@@ -67,7 +70,7 @@ module _ (a : List ℕ) where
         { opened = l.stands.opened; in_chain = (suc l.stands.in_chain.0, (h, l.stands.in_chain.1, n)) };
   }
 
-  -- what the set is of
+  -- the list of the set's places has all linked headers, each at the number of its slot
   pub numbered : (set : List Bool) (heads : List ℕ) → AreMarks a (IsInSomeChain a) set → AreCollected set (length set) heads
       → AreNumbered a heads set
   numbered set heads r c = record {
@@ -87,6 +90,8 @@ module _ (a : List ℕ) where
       linked : (k : ℕ) → get_or set k false ≡ true → IsLinked a (k * 16)
       linked k m = let p = r.each k m in let s = standing a (k * 16) p.0 in record { inside = p.1; dir = s.0; stands = s.1 }
 
+  -- the number of the header after one, where it lies inside, is how many of the set stand before
+  -- it
   pub next_number : (heads : List ℕ) (set : List Bool) (h after : ℕ) → AreNumbered a heads set → IsLinked a h
       → after ≡ next a h → after ≢ 0 → IsInside a after → IsNextNumber a heads h (rank set (after / 16))
   next_number heads set h after n l e z i =
@@ -155,6 +160,7 @@ names (Some n) q e d f =
     (both_false (bytes_eq n (codes ".")) (bytes_eq n (codes "..")) (apart n (codes ".") (λ y. d (sym z ∙ y)))
           (apart n (codes "..") (λ y. f (sym z ∙ y)))) e
 
+-- a header that keeps a name is not the root's, has that name, and is not . or ..
 pub kept : (a : List ℕ) (h : ℕ) (q : List ℕ) → kept_name a h ≡ Some q → (h ≢ root a) × (name a h ≡ Some q) × ¬ IsDotted a h
 kept a h q e =
     let r = given (h == root a) (unless_dotted (name a h)) q e in
@@ -164,6 +170,7 @@ kept a h q e =
       λ x. elim x.1 [ inl y ↦ k.1 (same_name q _ (sym k.0 ∙ y)) | inr y ↦ k.2 (same_name q _ (sym k.0 ∙ y)) ],
     )
 
+-- a header inside that is not the root's, and not . or .., keeps its name
 pub keeps : (a : List ℕ) (h : ℕ) (q : List ℕ) → h ≢ root a → IsInside a h → ¬ IsDotted a h → name a h ≡ Some q → kept_name a h ≡ Some q
 keeps a h q n i d e =
     gives (h == root a) (unless_dotted (name a h)) q (not_equal h (root a) n)
@@ -299,6 +306,7 @@ module _ (a heads : List ℕ) (set : List Bool) (next class : List ℕ) (noted :
         ),
       )
 
+  -- a header that is noted has the name of a member of its directory at a lower place
   pub noted_right : (i : ℕ) → i < length heads → get_or noted i false ≡ true → HasSameName a (get_or heads i 0)
   noted_right i l k =
       let h = m.each i k in
@@ -313,6 +321,7 @@ module _ (a heads : List ℕ) (set : List Bool) (next class : List ℕ) (noted :
             (n.each y s.0).dir p.opened (in_chain_too a _ p.in_chain (forth s.0 l r)) p.in_chain)
       ]
 
+  -- a header with the name of a member of its directory at a lower place is noted
   pub noted_whole : (h : ℕ) → HasSameName a h → (i : ℕ) × (i < length heads) × (get_or heads i 0 ≡ h) × (get_or noted i false ≡ true)
   noted_whole h x =
       let p = namesakes a heads set n only h x in
@@ -331,6 +340,8 @@ module _ (a heads : List ℕ) (set : List Bool) (next class : List ℕ) (noted :
             (p.lower, record { below = p.below; same = same; along = along }),
       )
 
+  -- the noted headers are exactly those with the name of a member of their directory at a lower
+  -- place
   pub same_names : (found : List ℕ) → AreChosen heads noted (length heads) found → HaveSameNames a found
   same_names found w = record {
     each = λ h x. (let r = w.each h x in subst (λ y. HasSameName a y) r.3 (noted_right r.0 r.1 r.2));

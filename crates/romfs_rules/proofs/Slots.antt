@@ -1,4 +1,6 @@
--- Headers and their slots.
+-- Headers and their slots. All that a field or a hard link names stands at a multiple of 16
+-- (cleared_root and those like it), so a set by slots loses nothing: a mark says what its set is of
+-- (marked, outside_set), also of two joined (united_marks) and with one more (one_more).
 use Rattle.std.proofs.Common.{◌≡◌, ◌∙◌, sym, ap, get_or, set, true, false, IsTrue, subst, ℕ, zero, suc, ◌*◌, ◌/◌, ◌<◌, ◌≤◌, ◌↔◌, ◌⊎◌, inl, inr, List, Bool, length, Some, None, refl, arith}
 use Rattle.std.proofs.lemmas.Bool.{true≢false}
 use Rattle.std.specs.Option.{option_map_or}
@@ -10,6 +12,7 @@ use Rattle.slot_sets.specs.Sets.{IsClear, IsUnion}
 use Rattle.graph_climb.proofs.Marks.{was_set}
 use Rattle.romfs_rules.specs.Marks.{HasSlot, IsVolumeImage, IsMarked, AreMarks}
 
+-- the root's header stands at a multiple of 16
 pub cleared_root : (a : List ℕ) → cleared (root a) ≡ root a
 unfolding root
 cleared_root a = elim (text_at a HEAD_SIZE) as (λ o. cleared (option_map_or (text_end HEAD_SIZE) o 0)
@@ -18,47 +21,56 @@ cleared_root a = elim (text_at a HEAD_SIZE) as (λ o. cleared (option_map_or (te
   | Some text ↦ omega arith
 ]
 
+-- a word whose low bits are cleared is not changed by clearing them
 pub twice_cleared : (n : ℕ) → cleared (cleared n) ≡ cleared n
 twice_cleared n = omega arith
 
+-- the root's header lies in an image that keeps the volume rules
 pub inside_root : (a : List ℕ) → IsVolumeImage a → IsInside a (root a)
 inside_root a v = (omega arith, v.inside)
 
+-- a header at some position of a chain stands at a multiple of 16
 pub cleared_at : (a : List ℕ) (d n h : ℕ) → IsAt a d n h → cleared h ≡ h
 cleared_at a d zero h x = rw (x.0) (omega arith)
 cleared_at a d (suc n) h x = rw (x.2.1) (omega arith)
 
+-- a header in a chain stands at a multiple of 16
 pub cleared_in_chain : (a : List ℕ) (d h : ℕ) → IsInChain a d h → cleared h ≡ h
 cleared_in_chain a d h c = cleared_at a d c.0 h c.1
 
+-- an opened directory lies in an image that keeps the volume rules
 pub inside_opened : (a : List ℕ) → IsVolumeImage a → (d : ℕ) → IsOpened a d → IsInside a d
 inside_opened a v d (at_root e) = rw e (inside_root a v)
 inside_opened a v d (below o c k i t) = i
 
+-- an opened directory stands at a multiple of 16
 pub cleared_opened : (a : List ℕ) (d : ℕ) → IsOpened a d → cleared d ≡ d
 cleared_opened a d (at_root e) = rw e (cleared_root a)
 cleared_opened a d (below {d = c} o k p i t) = cleared_in_chain a c d k
 
+-- a header on a destination chain stands at a multiple of 16
 pub cleared_destination : (a : List ℕ) {h g : ℕ} → IsDestination a h g → cleared g ≡ g
 cleared_destination a (here {h = h} l) = twice_cleared (spec a h)
 cleared_destination a (there l d) = cleared_destination a d
 
--- the slots from the root's on have headers inside
+-- a header at a slot from the root's on lies in the image
 pub slot_inside : (a : List ℕ) (slot : ℕ) → root a / 16 ≤ slot → slot < length a / 16 → IsInside a (slot * 16)
 slot_inside a slot l m = let c = cleared_root a in (omega arith, omega arith)
 
+-- a header may stand at each slot from the root's on
 pub slot_at : (a : List ℕ) (slot : ℕ) → root a / 16 ≤ slot → slot < length a / 16 → HasSlot a (slot * 16)
 slot_at a slot l m = record { inside = slot_inside a slot l m; aligned = omega arith }
 
+-- a header may stand where the root's does
 pub root_slot : (a : List ℕ) → IsVolumeImage a → (h : ℕ) → h ≡ root a → HasSlot a h
 root_slot a v h e = rw e (record { inside = inside_root a v; aligned = cleared_root a })
 
--- what the mark of a header says
+-- a header has a mark exactly where it is one of those that the marks are of
 pub marked : (a : List ℕ) (P : ℕ → Type 0) (marks : List Bool) (h : ℕ) → AreMarks a P marks → cleared h ≡ h → IsInside a h
     → IsMarked marks h ↔ P h
 marked a P marks h m c i = (λ x. subst P c (m.each (h / 16) x).0, λ p. m.all h p i)
 
--- what the mark of the root's header says
+-- the mark of the root's header says whether it is one of those that the marks are of
 pub root_marked : (a : List ℕ) → IsVolumeImage a → (P : ℕ → Type 0) (marks : List Bool) (flag : Bool) (h : ℕ)
     → AreMarks a P marks → h ≡ root a → flag ≡ get_or marks (h / 16) false → IsTrue flag ↔ P (root a)
 root_marked a v P marks flag h m e f =
@@ -82,7 +94,7 @@ united_marks a P Q one other both m n u = record {
   all = λ h p i. elim p [ inl q ↦ u.new (h / 16) (n.all h q i) | inr q ↦ u.old (h / 16) (m.all h q i) ];
 }
 
--- what holds of each marked header, and of this one
+-- what holds of each marked header, and of one more, holds of all once that is marked too
 pub one_more : (marks : List Bool) (at : ℕ) → cleared at ≡ at → (k : ℕ) (P : ℕ → Type 0)
     → (get_or marks k false ≡ true → P (k * 16)) → P at → get_or (set marks (at / 16) true) k false ≡ true
     → P (k * 16)

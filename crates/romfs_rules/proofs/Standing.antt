@@ -1,4 +1,6 @@
--- Which headers are opened, are members and are reached, by the chains that they stand in.
+-- Which headers are opened, are members and are reached, by the chains that they stand in, the
+-- root's or others: each is said exactly (opened, some_member, reached), so that the sets of
+-- headers in chains decide it.
 use Rattle.std.proofs.Common.{◌≡◌, ◌≢◌, ℕ, zero, suc, ◌⊎◌, inl, inr, ◌↔◌, List, Bool, true, false, not, IsTrue, refl, subst}
 use Rattle.std.proofs.lemmas.Bool.{cases_eq}
 use Rattle.romfs_format.specs.Fields.{root}
@@ -8,13 +10,14 @@ use Rattle.romfs_rules.specs.Marks.{IsInRootChain, IsElsewhere, Opens}
 use Rattle.romfs_rules.specs.Leads.{IsInSomeChain}
 
 module _ (a : List ℕ) where
-  -- of the root's chain, or elsewhere
+  -- a header in an opened directory's chain is in the root's, or elsewhere
   pub in_some_chain : (d h : ℕ) → IsOpened a d → IsInChain a d h → IsInSomeChain a h
   in_some_chain d h o c = elim (cases_eq d (root a)) [
     | inl e ↦ inl (subst (λ y. IsInChain a y h) e c)
     | inr n ↦ inr (record { dir = d; other = n; opened = o; in_chain = c })
   ]
 
+  -- the root is opened
   pub opened_root : (d : ℕ) → d ≡ root a → IsOpened a d
   opened_root d e = at_root e
 
@@ -56,16 +59,19 @@ module _ (a : List ℕ) where
   pub some_member : (h : ℕ) → IsSomeMember a h ↔ (((IsInRootChain a h × (h ≢ root a)) ⊎ IsElsewhere a h) × ¬ IsDotted a h)
   some_member h = (λ m. (member_of m.0 h m.1, λ x. m.1.kept (inr x)), λ x. to_member h x.0 x.1)
 
-  -- by a test for . and ..
+  -- of a header in a chain, but for the root's own there, a test for . and .. says whether it is a
+  -- member
   pub member_unless : (h : ℕ) (dotted : Bool) → (IsTrue dotted ↔ IsDotted a h)
       → (IsInRootChain a h × (h ≢ root a)) ⊎ IsElsewhere a h → IsTrue (not dotted) ↔ IsSomeMember a h
   member_unless h true t s = (λ e. cc, λ m. absurd (m.1.kept (inr (t.0 refl))))
   member_unless h false t s = (λ e. to_member h s (λ x. let y = t.1 x in cc), λ m. refl)
 
+  -- a header that a field names is in some chain
   pub linked : (f : Field) (h : ℕ) → IsLink a f h → IsInSomeChain a h
   linked (first_of d) h l = in_some_chain d h l.0 (zero, l.1)
   linked (next_of g) h (d, s, n) = in_some_chain d h s.opened (suc s.in_chain.0, (g, s.in_chain.1, n))
 
+  -- each header in an opened directory's chain is named by a field
   pub link_to : (d n h : ℕ) → IsOpened a d → IsAt a d n h → (f : Field) × IsLink a f h
   link_to d zero h o x = (first_of d, (o, x))
   link_to d (suc n) h o x = (next_of x.0, (d, record { opened = o; in_chain = (n, x.1) }, x.2))
@@ -74,6 +80,7 @@ module _ (a : List ℕ) where
   link_in h (inl c) = link_to (root a) c.0 h (at_root refl) c.1
   link_in h (inr e) = link_to e.dir e.in_chain.0 h e.opened e.in_chain.1
 
+  -- the reached headers are the root's, those in chains, and those on members' destination chains
   pub reached : (h : ℕ) → IsReached a h ↔ ((h ≡ root a) ⊎ IsInRootChain a h ⊎ IsElsewhere a h ⊎ IsTarget a h)
   reached h = (to, from)
     where
@@ -88,5 +95,6 @@ module _ (a : List ℕ) where
       from (inr (inr (inl e))) = inr (inl (link_in h (inr e)))
       from (inr (inr (inr t))) = inr (inr t)
 
+-- a member is in some chain
 pub member_in_chain : (a : List ℕ) (h : ℕ) → IsSomeMember a h → IsInSomeChain a h
 member_in_chain a h m = elim ((some_member a h).0 m).0 [ inl x ↦ inl x.0 | inr x ↦ inr x ]

@@ -1,4 +1,6 @@
--- Which breach of the rules is named first.
+-- Which breach is named first: on a header the rules are tried by number (one_tried, first_broken),
+-- the headers upward by slot (scan_more, asked_next, scan_all). The first breach is below the root,
+-- inside, or past the end (breach_..); else the depth is asked (fault_by_.., sound_by_depth).
 use Rattle.std.proofs.Common.{◌≡◌, ◌∙◌, sym, subst, ℕ, ◌+◌, ◌*◌, ◌/◌, ◌<◌, ◌≤◌, ◌↔◌, ◌⊎◌, inl, inr, List, length, Bool, true, false, get_or, Option, Some, None, refl, arith, lit<, lit≤}
 use Rattle.std.proofs.lemmas.Bool.{cases_order, cases_lt}
 use Rattle.romfs_format.specs.declared.rule.Rule.{Rule}
@@ -106,6 +108,7 @@ before s r q p hs hr (inl l) = let e = header_stage s hs in let f = header_stage
 before s r q p hs hr (inr x) = x.1
 
 module _ (a : List ℕ) where
+  -- a reached header stands at a multiple of 16
   pub reached_cleared : (h : ℕ) → IsReached a h → cleared h ≡ h
   reached_cleared h r = elim ((reached a h).0 r) [
     | inl e ↦ rw e (cleared_root a)
@@ -145,10 +148,11 @@ module _ (a : List ℕ) where
 
 -- the rules tried on a header one after the other
 module _ (profile : Profile) (a : List ℕ) (h : ℕ) where
+  -- a header that is not reached keeps all rules of file headers
   pub unreached : ¬ IsReached a h → KeepsHeaderRules profile a h
   unreached n = record { keeps = λ s x b. n (breach_reached a profile h s x b) }
 
-  -- a header inside the image keeps the first
+  -- a header inside the image keeps the first of these rules
   pub none_tried : IsInside a h → KeepsBefore profile a h 7
   none_tried i = record {
     keeps = λ s x l b. let e : rule_number s ≡ rule_number
@@ -156,6 +160,7 @@ module _ (profile : Profile) (a : List ℕ) (h : ℕ) where
         (one_rule s Outside e) b).1 i;
   }
 
+  -- a header that keeps the rules before one, and that one, keeps those before the next
   pub one_tried : (r : Rule) (n : ℕ) → rule_number r ≡ n → KeepsBefore profile a h n → ¬ BreaksHeaderAs profile a r h
       → KeepsBefore profile a h (n + 1)
   one_tried r n e k m = record {
@@ -166,6 +171,7 @@ module _ (profile : Profile) (a : List ℕ) (h : ℕ) where
     ];
   }
 
+  -- a rule that a header breaks is the first, where it keeps those before it
   pub first_broken : (r : Rule) (n : ℕ) → rule_number r ≡ n → IsHeaderRule r → KeepsBefore profile a h n
       → BreaksHeaderAs profile a r h → IsFirstRule profile a h r
   first_broken r n e x k b = record { rule = x; broken = b; before = subst (λ m. KeepsBefore profile a h m) (sym e) k }
@@ -181,6 +187,7 @@ module _ (profile : Profile) (a : List ℕ) (v : IsVolumeImage a) where
           (inr ((root_elsewhere a (root a) refl).0 e)))
   ]
 
+  -- where the headers below a slot and the one at it keep these rules, those below the next slot do
   pub scan_more : (slot : ℕ) → KeepsBelow profile a (slot * 16) → KeepsHeaderRules profile a (slot * 16)
       → KeepsBelow profile a ((slot + 1) * 16)
   scan_more slot k h = record {
@@ -191,7 +198,7 @@ module _ (profile : Profile) (a : List ℕ) (v : IsVolumeImage a) where
     ];
   }
 
-  -- over slots, behind the root's, whose headers are not reached
+  -- the headers of a run of slots behind the root's that are not reached keep these rules
   pub scanned_to : (headers targets : List Bool) → AreMarks a (IsInSomeChain a) headers
       → AreMarks a (IsTarget a) targets → (low high : ℕ) → root a < low * 16 → low ≤ high
       → high ≤ length a / 16 → IsClear headers low high → IsClear targets low high
@@ -215,10 +222,11 @@ module _ (profile : Profile) (a : List ℕ) (v : IsVolumeImage a) where
         elim y.0 [ inl z ↦ (reached a (slot * 16)).1 (inr (inl z)) | inr z ↦ (reached a (slot * 16)).1 (inr (inr (inl z))) ])
   slot_reached headers targets m t slot (inr x) = let y = t.each slot x in (record { inside = y.1; aligned = omega arith }, inr (inr y.0))
 
-  -- the scan asks for the root's header, then for the next of either set
+  -- the scan may ask for the root's header
   pub asked_root : (h : ℕ) → h ≡ root a → IsAsked a h
   asked_root h e = record { slot = root_slot a v h e; reached = inl e; alone = λ x. e }
 
+  -- the scan may ask for the next header of either set, and those below it keep these rules
   pub asked_next : (headers targets : List Bool) → AreMarks a (IsInSomeChain a) headers
       → AreMarks a (IsTarget a) targets → (from slot : ℕ) → root a < from * 16
       → KeepsBelow profile a (from * 16) → IsNextInEither headers targets from slot
@@ -234,14 +242,16 @@ module _ (profile : Profile) (a : List ℕ) (v : IsVolumeImage a) where
   none_below : KeepsBelow profile a (root a)
   none_below = record { keeps = λ h s l. let i = s.inside.0 in absurd (omega arith) }
 
-  -- the first fault is at the root, or further up
+  -- the fault of a header is the first inside the image, where those below it keep these rules
   pub at_slot : (f : ImageFault) (h : ℕ) → IsAsked a h → KeepsBelow profile a h
       → IsFirstAt profile a h f → IsFirstInside profile a f.rule f.place
   at_slot f h s k x = subst (IsFirstInside profile a f.rule) (sym x.place) (record { slot = s.slot; rule = x.rule; below = k })
 
+  -- a fault of the root's header is the first inside the image
   pub at_root : (f : ImageFault) (h : ℕ) → h ≡ root a → IsFirstAt profile a h f → IsFirstInside profile a f.rule f.place
   at_root f h e = at_slot f h (asked_root h e) (rw e none_below)
 
+  -- where the root's header keeps these rules, all below the slot after it do
   pub root_kept : (slot place : ℕ) → place ≡ root a → slot ≡ place / 16 + 1 → KeepsHeaderRules profile a place
       → KeepsBelow profile a (slot * 16)
   root_kept slot place t e k =
@@ -252,13 +262,15 @@ module _ (profile : Profile) (a : List ℕ) (v : IsVolumeImage a) where
       (subst (KeepsBelow profile a) (sym q) none_below)
       (subst (KeepsHeaderRules profile a) (t ∙ sym q) k))
 
+  -- after the last slot all headers inside the image keep these rules
   pub scan_all : (slot : ℕ) → length a / 16 ≤ slot → KeepsBelow profile a (slot * 16) → KeepsBelow profile a (length a)
   scan_all slot m k = record { keeps = λ h s l. k.keeps h s (let c = s.aligned in let i = s.inside.1 in omega arith) }
 
--- the two kinds of reached headers that lie outside
+-- the header is reached, and stands before the root's
 abbrev pub IsReachedBelow : List ℕ → ℕ → Type 0
 IsReachedBelow a h = IsReached a h × IsBelow a h
 
+-- the header is reached, and from the root's on it is not whole in the image
 abbrev pub IsReachedAbove : List ℕ → ℕ → Type 0
 IsReachedAbove a h = IsReached a h × IsPastEnd a h
 
@@ -271,6 +283,7 @@ no_least P least q l e x = let w = l.whole q x in cc
 -- the first breach of all, by the least headers outside the image and the first breach inside
 module _ (profile : Profile) (a : List ℕ) (below above : Option ℕ) (lb : IsLeast (IsReachedBelow a) below)
     (la : IsLeast (IsReachedAbove a) above) where
+  -- the least reached header before the root's is the first breach
   pub breach_below : (p : ℕ) → below ≡ Some p → IsFirstBreach profile a Outside p
   breach_below p e = record {
     rule = (lit≤ tt, lit< tt);
@@ -289,6 +302,7 @@ module _ (profile : Profile) (a : List ℕ) (below above : Option ℕ) (lb : IsL
     high : (h : ℕ) → IsReached a h → root a ≤ h
     high h r = elim (cases_lt h (root a)) [ inl l ↦ absurd (no_least (IsReachedBelow a) below h lb none (r, l)) | inr m ↦ m ]
 
+    -- where none stands before the root's, the first breach inside the image is the first of all
     pub breach_inside : (r : Rule) (p : ℕ) → IsFirstInside profile a r p → IsFirstBreach profile a r p
     breach_inside r p f = record {
       rule = f.rule.rule;
@@ -314,6 +328,8 @@ module _ (profile : Profile) (a : List ℕ) (below above : Option ℕ) (lb : IsL
       beyond : (s : Rule) (q : ℕ) → IsHeaderRule s → BreaksHeaderAs profile a s q → IsReachedAbove a q
       beyond s q hs b = let o = breach_reached a profile q s hs b in (o, (high q o, far s q hs b))
 
+      -- where none stands before, and those inside keep these rules, the least past the end is the
+      -- first breach
       pub breach_above : (p : ℕ) → above ≡ Some p → IsFirstBreach profile a Outside p
       breach_above p e = record {
         rule = (lit≤ tt, lit< tt);
@@ -324,11 +340,13 @@ module _ (profile : Profile) (a : List ℕ) (below above : Option ℕ) (lb : IsL
         ];
       }
 
+      -- where those inside keep these rules and no reached header is outside, all headers keep them
       pub no_breach : above ≡ None → KeepsAllHeaderRules profile a
       no_breach e = record { keeps = λ s q hs b. no_least (IsReachedAbove a) above q la e (beyond s q hs b) }
 
 -- the fault of an image that keeps the rules of the volume header
 module _ (profile : Profile) (b : List ℕ) (v : IsVolume b) where
+  -- the first breach of a rule of file headers is the fault of the image
   pub fault_by_header : (r : Rule) (p : ℕ) → IsFirstBreach profile (image b) r p → IsFaultAs profile b r p
   fault_by_header r p f = record {
     broken = (to_breaks profile b p r f.rule).0 f.broken;
@@ -342,6 +360,7 @@ module _ (profile : Profile) (b : List ℕ) (v : IsVolume b) where
   }
 
   module _ (k : KeepsAllHeaderRules profile (image b)) where
+    -- where all keep these rules, the least header that is too deep is the fault of the image
     pub fault_by_depth : (deep : Option ℕ) (p : ℕ) → IsLeast (BreaksHeader (image b) Deep) deep → deep ≡ Some p → IsFaultAs profile b Deep p
     fault_by_depth deep p d e = record {
       broken = d.is p e;
@@ -355,6 +374,7 @@ module _ (profile : Profile) (b : List ℕ) (v : IsVolume b) where
           ]);
     }
 
+    -- where all keep these rules, and no header is too deep, the image is sound
     pub sound_by_depth : (deep : Option ℕ) → IsLeast (BreaksHeader (image b) Deep) deep → deep ≡ None → IsSoundAs profile b
     sound_by_depth deep d e = record {
       keeps = by_part (λ s. (q : ℕ) → ¬ BreaksAs profile b s q)

@@ -19,6 +19,7 @@ pub record HasSlot (a : List ℕ) (h : ℕ) : Type 0 where
   pub inside : IsInside a h
   pub aligned : cleared h ≡ h
 
+-- the slot of the header has a mark
 abbrev pub IsMarked : List Bool → ℕ → Type 0
 IsMarked marks h = get_or marks (h / 16) false ≡ true
 
@@ -53,10 +54,11 @@ pub record IsElsewhere (a : List ℕ) (h : ℕ) : Type 0 where
 abbrev pub HasRootElsewhere : List ℕ → Type 0
 HasRootElsewhere a = IsElsewhere a (root a)
 
--- the marks are those of the root's chain, of the chains of other opened directories
+-- the marks are those of the headers in the root's chain
 abbrev pub AreInRootChain : List ℕ → List Bool → Type 0
 AreInRootChain a marks = AreMarks a (IsInRootChain a) marks
 
+-- the marks are those of the headers in chains of other opened directories
 abbrev pub AreElsewhere : List ℕ → List Bool → Type 0
 AreElsewhere a marks = AreMarks a (IsElsewhere a) marks
 

@@ -30,11 +30,11 @@ IsBelow a h = h < root a
 abbrev pub IsPastEnd : List ℕ → ℕ → Type 0
 IsPastEnd a h = (root a ≤ h) × (length a < h + HEAD_SIZE)
 
--- the least reached header before the root's, and the least from there on that is not whole in the
--- image
+-- the number is the least reached header before the root's
 abbrev pub IsLeastBelow : List ℕ → Option ℕ → Type 0
 IsLeastBelow a least = IsLeast (λ h. IsReached a h × IsBelow a h) least
 
+-- the number is the least reached header from the root's on that is not whole in the image
 abbrev pub IsLeastPastEnd : List ℕ → Option ℕ → Type 0
 IsLeastPastEnd a least = IsLeast (λ h. IsReached a h × IsPastEnd a h) least
 

@@ -1,4 +1,8 @@
 //! Which headers stand in the root's chain, and which in chains of other directories.
+//!
+//! Chains may merge, loop or be shared, so none but the root's is walked on its own: one list of
+//! headers to come serves all other directories together. A header that comes without a mark gets
+//! one, and adds the header after it and, as a directory, its first. So each is passed once.
 
 ghost use Rattle.std.specs.Prelude.{◌≡◌, ◌+◌, ◌/◌, ◌<◌, ◌++◌, IfOk};
 ghost use Rattle.std.specs.Option.{option_to_list};

@@ -1,8 +1,6 @@
-//! Where the hard links of an image end.
-//!
-//! Hard links may lead to one another in chains that many share. So each walk along a chain leaves
-//! its number at the headers that it passes, and a walk that comes to another's number ends as that
-//! one did:
+//! Where the hard links of an image end. They may lead to one another in chains that many share, so
+//! each walk along a chain leaves its number at the headers that it passes, and a walk that comes
+//! to another's number ends as that one did:
 //!
 //! ```text
 //! 3 -> 3 -> 1 -> 1 -> file      the third walk stops at the first 1, and ends at a file

@@ -1,4 +1,7 @@
 //! Headers that are reached, and lie outside the image.
+//!
+//! Only the least on each side can be the first fault, so two numbers are kept and no set. Each
+//! reached header but the root's is named by one inside, so the headers inside are gone over once.
 
 ghost use Rattle.std.specs.Prelude.{◌≡◌, ◌*◌, ◌/◌, ◌<◌, ◌⊎◌, ◌↔◌, IsTrue};
 ghost use Rattle.romfs_format.specs.Chains.{IsSomeMember};

@@ -44,6 +44,7 @@ fn summed(image: &[u8]) -> &[u8]
     }
 }
 
+// Whether an image begins as each has to.
 fn is_magic(bytes: &[u8]) -> bool
     ensures { IsTrue result ↔ StartsWith bytes.now magic }
 {

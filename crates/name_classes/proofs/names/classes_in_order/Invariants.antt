@@ -3,6 +3,7 @@ use Rattle.name_classes.specs.Names.{AreInNameOrder}
 use Rattle.name_classes.proofs.Classing.{IsClassing}
 use Rattle.name_classes.proofs.names.classes_in_order.Given as goal
 
+-- the names before this one have their classes
 abbrev pub invariant-loop-i : goal.invariant-loop-i
 invariant-loop-i g l = record {
   classing : (name : ℕ → Option (List ℕ)) → AreInNameOrder name l.count l.named.items

@@ -3,8 +3,10 @@ use Rattle.graph_climb.proofs.Marks.{unmarked}
 use Rattle.romfs_rules.proofs.RootWalk.{Walked}
 use Rattle.romfs_rules.proofs.chains.mark_root_chain.Given as goal
 
+-- the walk along the root's chain stands here, at a word, with these marks
 abbrev pub invariant-loop-marks : goal.invariant-loop-marks
 invariant-loop-marks g l = record { walked : Walked l.image.bytes.now l.marks l.at; narrow : l.at < 2 ^ 32 }
 
+-- how many slots have no mark
 abbrev pub decreases-loop-marks : goal.decreases-loop-marks
 decreases-loop-marks g l = unmarked l.marks

@@ -3,6 +3,7 @@ use Rattle.romfs_format.specs.Links.{IsTarget}
 use Rattle.romfs_rules.proofs.EndWalk.{Going, Passing, unmarked}
 use Rattle.romfs_rules.proofs.ends.end_of.Given as goal
 
+-- the walk stands at a target, over the same set, and has kept earlier marks
 abbrev pub invariant-loop-walks : goal.invariant-loop-walks
 invariant-loop-walks g l = record {
   target : IsTarget l.image.bytes.now l.at;
@@ -11,5 +12,6 @@ invariant-loop-walks g l = record {
   passing : Passing l.from l.at l.initial.walks.by_slot l.walks.by_slot;
 }
 
+-- how many slots no walk passed
 abbrev pub decreases-loop-walks : goal.decreases-loop-walks
 decreases-loop-walks g l = unmarked l.walks.by_slot

@@ -4,6 +4,7 @@ use Rattle.romfs_rules.specs.Outside.{IsBelow, IsPastEnd}
 use Rattle.romfs_rules.proofs.Reach.{IsFoundBefore}
 use Rattle.romfs_rules.proofs.outside.find_outside.Given as goal
 
+-- the least on each side of what headers below the next slot, behind the root's, lead to is found
 abbrev pub invariant-loop-slot : goal.invariant-loop-slot
 invariant-loop-slot g l = record {
   behind : root l.image.bytes.now < l.from * 16;
@@ -12,5 +13,6 @@ invariant-loop-slot g l = record {
   above : IsFoundBefore l.image.bytes.now (IsPastEnd l.image.bytes.now) l.from l.found.above;
 }
 
+-- how many slots are left
 abbrev pub decreases-loop-slot : goal.decreases-loop-slot
 decreases-loop-slot g l = length l.chains.headers - l.from

@@ -3,6 +3,7 @@ use Rattle.romfs_format.specs.Fields.{root}
 use Rattle.romfs_rules.proofs.Counted.{Tallied, Below}
 use Rattle.romfs_rules.proofs.twice.mark_twice.Given as goal
 
+-- the links below the next slot, which is behind the root's, are tallied
 abbrev pub invariant-loop-slot : goal.invariant-loop-slot
 invariant-loop-slot g l = record {
   behind : root l.image.bytes.now < l.from * 16;
@@ -10,5 +11,6 @@ invariant-loop-slot g l = record {
   tallied : Tallied l.image.bytes.now (Below l.image.bytes.now l.from) l.once l.twice;
 }
 
+-- how many slots are left
 abbrev pub decreases-loop-slot : goal.decreases-loop-slot
 decreases-loop-slot g l = length l.chains.headers - l.from
