@@ -1,4 +1,6 @@
--- A climb as a whole: the path that its steps are on, and what is still to be entered.
+-- A climb as a whole: the path that its steps are on, and what is still to be entered
+-- (`IsUnderWay`). It begins with no steps (`begins`), skips what was entered, enters and leaves
+-- points, and where it is over, all that leads to the point `bottom` has been entered (`ends`).
 use Rattle.std.proofs.Common.{◌≡◌, ◌∙◌, sym, ap, subst, ℕ, zero, suc, ◌+◌, ◌<◌, ◌≤◌, ◌⊎◌, inl, inr, List, [], ◌∷◌, length, get_or, set, min, drop, reverse, ◌++◌, Bool, true, false, refl, arith}
 use Rattle.std.proofs.lemmas.List.{get_or-set_other, reverse-append, reverse-reverse}
 use Rattle.std.proofs.Math.Seq.{drop-cons}
@@ -19,6 +21,7 @@ abbrev pub top_of : ℕ → List Step → ℕ
 top_of bottom [] = bottom
 top_of bottom (s ∷ steps) = s.at
 
+-- steps at points that each lead to the one below; each keeps what was lowest of its class there
 pub data Tower (next class cycle : List ℕ) (bottom : ℕ) : List Step → Type 0 where
   bare : Tower next class cycle bottom []
   over : {s : Step} {steps : List Step} → Tower next class cycle bottom steps → s.at < length next
@@ -30,7 +33,8 @@ pub data Waits (sibling : List ℕ) : List Step → ℕ → Type 0 where
   now : {s : Step} {steps : List Step} {x : ℕ} → Ahead sibling (get_or sibling s.at 0) x → Waits sibling (s ∷ steps) x
   then : {s : Step} {steps : List Step} {x : ℕ} → Waits sibling steps x → Waits sibling (s ∷ steps) x
 
--- a climb under way to what leads to `bottom`; the list of those to be entered now begins at `from`
+-- a climb under way to what leads to `bottom`; the list of those to be entered next begins at
+-- `from`
 pub record IsUnderWay (next class first sibling cycle rest : List ℕ) (bottom from : ℕ) (steps : List Step)
     (entered noted : List Bool) (low : List ℕ) : Type 0 where
   pub tower : Tower next class cycle bottom steps
@@ -50,10 +54,12 @@ on_right : {y : ℕ} (xs : List ℕ) {ys : List ℕ} → On ys y → On (xs ++ y
 on_right [] o = o
 on_right (x ∷ xs) o = under (on_right xs o)
 
+-- what is on a path is on it reversed
 pub on_reverse : {y : ℕ} {xs : List ℕ} → On xs y → On (reverse xs) y
 on_reverse {y = y} (top {path = xs}) = subst (λ p. On p y) (sym (reverse-append (y ∷ []) xs)) (on_right (reverse xs) top)
 on_reverse {y = y} (under {x = x} {path = xs} o) = subst (λ p. On p y) (sym (reverse-append (x ∷ []) xs)) (on_left (x ∷ []) (on_reverse o))
 
+-- what is on a path reversed is on the path
 pub on_reversed : {y : ℕ} (xs : List ℕ) → On (reverse xs) y → On xs y
 on_reversed {y = y} xs o = subst (λ p. On p y) (reverse-reverse xs) (on_reverse o)
 
@@ -62,28 +68,35 @@ on_at [] k l = absurd (omega arith)
 on_at (x ∷ xs) zero l = top
 on_at (x ∷ xs) (suc k) l = under (on_at xs k (omega arith))
 
+-- each point of a cycle is on it reversed
 pub on_turn : (cycle : List ℕ) (turn : ℕ) → turn < length cycle → On (reverse cycle) (get_or cycle turn 0)
 on_turn cycle turn l = on_reverse (on_at cycle turn l)
 
+-- what is left of a cycle from a turn on is the point of that turn, and what the next turn leaves
 pub drop_turn : (cycle : List ℕ) (turn : ℕ) → turn < length cycle → drop turn cycle ≡ get_or cycle turn 0 ∷ drop (turn + 1) cycle
 drop_turn cycle turn l = rw add-one (drop-cons cycle turn 0 l)
 
+-- a list with one more at its end, reversed, begins with that one
 pub reverse_push : {X : Type 0} (xs : List X) (x : X) → reverse (xs ++ x ∷ []) ≡ x ∷ reverse xs
 reverse_push xs x = reverse-append xs (x ∷ [])
 
+-- a list from whose end one was taken, reversed, begins with that one
 pub popped : {X : Type 0} (xs rest : List X) (x : X) → xs ≡ rest ++ x ∷ [] → reverse xs ≡ x ∷ reverse rest
 popped xs rest x e = ap reverse e ∙ reverse_push rest x
 
+-- an empty list reversed is empty
 pub no_steps : {X : Type 0} (xs : List X) → length xs ≡ 0 → reverse xs ≡ []
 no_steps [] e = refl
 no_steps (x ∷ xs) e = absurd (omega arith)
 
+-- marks that were kept stay kept where one more is set
 pub keeps : (before entered : List Bool) (at : ℕ) → at < length entered → AreMarksKept before entered
     → AreMarksKept before (set entered at true)
 keeps before entered at l k = record {
   each = λ x m. still_set entered at x l (k.each x m);
 }
 
+-- the last step of a climb is at a point of the graph
 pub step_fits : {next class first sibling cycle rest : List ℕ} {bottom from : ℕ} {s : Step} {steps : List Step} {entered noted : List Bool}
     {low : List ℕ}
     → IsUnderWay next class first sibling cycle rest bottom from (s ∷ steps) entered noted low → s.at < length next
@@ -96,6 +109,7 @@ ahead_cases : {sibling : List ℕ} {from x : ℕ} → Ahead sibling from x → (
 ahead_cases (here l) = inl refl
 ahead_cases (later l a) = inr a
 
+-- where `at` is entered, skipping goes on to the next of its list
 pub skips_on : (sibling : List ℕ) (entered : List Bool) (from at : ℕ) → at < length sibling
     → get_or entered at false ≡ true → IsSkipped sibling entered from at
     → IsSkipped sibling entered from (get_or sibling at 0)
@@ -149,6 +163,7 @@ module _ (next class first sibling cycle : List ℕ) (graph : IsGraph next class
   sibling_leads u x l a = graph.lists.same (get_or next u 0) x (graph.leads.each u l) (ahead_then (graph.lists.whole u l) a)
 
   module _ (rest : List ℕ) where
+    -- the climb to what leads to `bottom` begins with no steps, at the first of those points
     pub begins : (entered noted : List Bool) (low : List ℕ) → IsFound next class cycle (bottom ∷ rest) entered noted low
         → IsUnderWay next class first sibling cycle rest bottom (get_or first bottom 0) [] entered noted low
     begins entered noted low f = record {
@@ -167,6 +182,7 @@ module _ (next class first sibling cycle : List ℕ) (graph : IsGraph next class
       ];
     }
 
+    -- a climb under way stays so where entered points of the list are skipped
     pub skips : (from at : ℕ) (steps : List Step) (entered noted : List Bool) (low : List ℕ) → IsSkipped sibling entered from at
         → IsUnderWay next class first sibling cycle rest bottom from steps entered noted low
         → IsUnderWay next class first sibling cycle rest bottom at steps entered noted low
@@ -184,6 +200,7 @@ module _ (next class first sibling cycle : List ℕ) (graph : IsGraph next class
       ];
     }
 
+    -- `at` is entered as the last step, and what leads to it comes next
     pub enters : (at old : ℕ) (steps : List Step) (entered noted noted' : List Bool) (low low' : List ℕ) (s : Step) → s.at ≡ at
         → s.low ≡ old
         → at < length next → old ≡ get_or low (get_or class at 0) 0
@@ -225,6 +242,7 @@ module _ (next class first sibling cycle : List ℕ) (graph : IsGraph next class
           ];
         }
 
+    -- where a list is over, the last step is left: the climb goes on at its sibling
     pub leaves : (at : ℕ) (s : Step) (steps : List Step) (entered noted : List Bool) (low : List ℕ) → length next ≤ at
         → IsUnderWay next class first sibling cycle rest bottom at (s ∷ steps) entered noted low
         → IsUnderWay next class first sibling cycle rest bottom (get_or sibling s.at 0) steps entered noted
@@ -257,6 +275,7 @@ module _ (next class first sibling cycle : List ℕ) (graph : IsGraph next class
               ];
             }
 
+    -- where the list is over and no step is left, all that leads to `bottom` has been entered
     pub ends : (at : ℕ) (entered noted : List Bool) (low : List ℕ) → length next ≤ at
         → IsUnderWay next class first sibling cycle rest bottom at [] entered noted low → IsFound next class cycle rest entered noted low
     ends at entered noted low past w = record {

@@ -1,4 +1,6 @@
--- One step of a climb: a point that is put on the path, or taken off.
+-- One step of a climb: a point is put on the path, or taken off. A lemma each says what then is the
+-- lowest of each class (`low_enters`, `low_leaves`), what is noted (`spare_enters`,
+-- `lower_enters`), and what is compared (`compared_enters`).
 use Rattle.std.proofs.Common.{◌≡◌, ◌≢◌, ◌∙◌, sym, ap, subst, ℕ, ◌<◌, ◌≤◌, ◌⊎◌, inl, inr, List, ◌∷◌, length, get_or, set, min, max, Bool, true, false, refl, arith}
 use Rattle.std.proofs.lemmas.List.{get_or-set_same, get_or-set_other, length-set}
 use Rattle.std.proofs.lemmas.Bool.{cases_eq, cases_order}
@@ -9,19 +11,23 @@ pub record Covers (next path : List ℕ) (u : ℕ) : Type 0 where
   pub on : (y : ℕ) → After next u y → On path y
   pub after : (y : ℕ) → On path y → After next u y
 
+-- where y comes after x, so does the point that y leads on to
 pub then_next : {next : List ℕ} {x y : ℕ} → After next x y → After next x (get_or next y 0)
 then_next {next = next} (one e) = more e (one refl)
 then_next (more e a) = more e (then_next a)
 
+-- what comes after a point is the next one, or comes after that
 pub after_next : {next : List ℕ} {x y : ℕ} → After next x y → (get_or next x 0 ≡ y) ⊎ After next (get_or next x 0) y
 after_next (one e) = inl e
 after_next {next = next} {y = y} (more e a) = inr (subst (λ w. After next w y) (sym e) a)
 
+-- what is on a path is its first point, or on the rest
 pub on_cases : {x y : ℕ} {path : List ℕ} → On (x ∷ path) y → (y ≡ x) ⊎ On path y
 on_cases top = inl refl
 on_cases (under o) = inr o
 
 module _ (next path : List ℕ) where
+  -- what comes after a point that leads to u is u, and what comes after u
   pub covers_next : (u w : ℕ) → get_or next w 0 ≡ u → Covers next path u → Covers next (u ∷ path) w
   covers_next u w e c = record {
     on = λ y a. elim (after_next a) [
@@ -74,6 +80,7 @@ module _ (class low path : List ℕ) (u : ℕ) (fits : u < length class) (named 
     least = λ y o e. l.least y (under o) e;
   }
 
+  -- with u on the path, the lowest of its class is the lower one of u and what was lowest
   pub low_enters : IsLow class low path → IsLow class (set low (get_or class u 0) (min (get_or low (get_or class u 0) 0) u)) (u ∷ path)
   low_enters w = record {
     sized = length-set low _ _ ∙ w.sized;
@@ -85,6 +92,7 @@ module _ (class low path : List ℕ) (u : ℕ) (fits : u < length class) (named 
     ];
   }
 
+  -- with u taken off the path, the lowest of its class is what was lowest without it
   pub low_leaves : (old : ℕ) → IsLowest class path (length class) (get_or class u 0) old
       → IsLow class low (u ∷ path) → IsLow class (set low (get_or class u 0) old) path
   low_leaves old o w = record {
@@ -100,6 +108,7 @@ module _ (class low path : List ℕ) (u : ℕ) (fits : u < length class) (named 
 -- what is noted as u is put on the path, where v was the lowest of its class
 module _ (next class path : List ℕ) (u v : ℕ) (noted more : List Bool) (fits : u < length class)
     (lowest : IsLowest class path (length class) (get_or class u 0) v) (made : IsNoted noted more (length class) v u) where
+  -- with u on the path, all but the lowest of each class on it are noted
   pub spare_enters : IsSpare class path noted → IsSpare class (u ∷ path) more
   spare_enters s = record {
     sized = made.sized ∙ s.sized;
@@ -133,7 +142,7 @@ module _ (next class path : List ℕ) (u v : ℕ) (noted more : List Bool) (fits
           let k = lowest.least x q c in
           elim lowest.there [ inl e ↦ absurd (omega arith) | inr o ↦ here x i q c l k o.0 o.1 ]
 
-  -- u is compared with what comes after it
+  -- u, once entered, has been compared with what comes after it
   pub compared_enters : Covers next path u → (entered : List Bool) → u < length entered
       → IsCompared next class entered noted → IsSpare class (u ∷ path) more
       → IsCompared next class (set entered u true) more
@@ -149,7 +158,7 @@ module _ (next class path : List ℕ) (u v : ℕ) (noted more : List Bool) (fits
     ];
   }
 
-  -- what is noted at u is rightly noted
+  -- what is noted as u is entered has a lower point of its class before or after it
   pub lower_enters : ((y : ℕ) → On path y → After next u y ⊎ After next y u) → AreLower next class noted → AreLower next class more
   lower_enters r w = record {
     each = λ x m. elim (made.only x m) [

@@ -1,4 +1,6 @@
--- What is known of numbered points that each lead on to one, from the facts of their type.
+-- The facts that the type `Graph` holds, as one record (`graph_of`). The type says of its lists
+-- only that there are such facts, so whether a point is on a list is decided anew, by going along
+-- it (`ahead`).
 use Rattle.std.proofs.Common.{◌≢◌, refl, subst, ℕ, zero, suc, ◌+◌, ◌<◌, ◌≤◌, ◌⊎◌, inl, inr, List, length, get_or, arith}
 use Rattle.std.proofs.lemmas.Bool.{cases_eq, cases_lt}
 use Rattle.std.proofs.Props.{props}
@@ -29,6 +31,7 @@ ahead sibling r (suc n) from x l = elim (cases_lt from (length sibling)) [
   ]
 ]
 
+-- each value of the type `Graph` is a graph: points, classes, and the lists of what leads where
 pub graph_of : {A : Type 0} (g : Graph A) → IsGraph g.next.items g.class.items g.first.items g.sibling.items
 graph_of g = record {
   few = g.few;

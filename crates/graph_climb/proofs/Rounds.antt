@@ -1,4 +1,6 @@
--- Rings: how one is found, entered and left.
+-- Cycles: how one is found, entered and left. A walk that comes back to where it was has met a
+-- cycle (`meets`); its points are entered one by one (`IsRounding`) until it is whole (`gathered`);
+-- with all that leads to it entered, it is taken off the path (`IsClearing`, `left`).
 use Rattle.std.proofs.Common.{◌≡◌, ◌∙◌, sym, ap, subst, ℕ, zero, suc, ◌+◌, ◌<◌, ◌≤◌, ◌⊎◌, inl, inr, List, [], ◌∷◌, length, get_or, set, min, drop, reverse, Bool, true, false, refl, arith}
 use Rattle.std.proofs.lemmas.List.{get_or-set_same, get_or-set_other, length-set, get_or_read}
 use Rattle.std.proofs.lemmas.Bool.{cases_eq}
@@ -12,18 +14,22 @@ marked : (b : Bool) → (b ≡ true → ⊥) → b ≡ false
 marked true n = absurd (n refl)
 marked false n = refl
 
+-- a mark that is set is one of the list
 pub marked_inside : (xs : List Bool) (x : ℕ) → get_or xs x false ≡ true → x < length xs
 marked_inside [] zero m = cc
 marked_inside [] (suc x) m = cc
 marked_inside (b ∷ xs) zero m = omega arith
 marked_inside (b ∷ xs) (suc x) m = let l = marked_inside xs x m in omega arith
 
+-- a mark that was read as not set is not set
 pub unmarked : (xs : List Bool) (i : ℕ) (r : Bool) → i < length xs → r ≡ get_or xs i r → r ≡ false → get_or xs i false ≡ false
 unmarked xs i r l e f = sym (get_or_read xs i r l e false) ∙ f
 
+-- no truth value is both true and false
 pub clash : (b : Bool) → b ≡ true → b ≡ false → ⊥
 clash b t f = cc
 
+-- what comes after a point that comes after x comes after x
 pub then_after : {next : List ℕ} {x y z : ℕ} → After next x y → After next y z → After next x z
 then_after (one e) b = more e b
 then_after (more e a) b = more e (then_after a b)
@@ -46,7 +52,7 @@ goes_round {path = path} r (one e) p = subst (λ z. On path z) e (r _ p)
 goes_round {path = path} r (more e a) p = goes_round r a (subst (λ z. On path z) e (r _ p))
 
 module _ (next : List ℕ) where
-  -- a walk leaves a point for the next
+  -- a fresh walk leaves its point for the next, and stays fresh
   pub walks : (entered visited : List Bool) (from at : ℕ) → at < length next → at < length visited
       → IsClosed next entered → IsFreshWalk next entered visited from at
       → IsFreshWalk next entered (set visited at true) from (get_or next at 0)
@@ -59,10 +65,12 @@ module _ (next : List ℕ) where
     ];
   }
 
+  -- a walk from a point that is not entered begins fresh
   pub sets_out : (entered visited : List Bool) (from : ℕ) → AreMarksKept visited entered → get_or entered from false ≡ false
       → IsFreshWalk next entered visited from from
   sets_out entered visited from k f = record { fresh = f; leads = inl refl; left = λ x m. inl (k.each x m) }
 
+  -- a point that a fresh walk comes to again comes after itself
   pub meets : (entered visited : List Bool) (from at : ℕ) → get_or visited at false ≡ true → IsFreshWalk next entered visited from at
       → After next at at
   meets entered visited from at m w = elim (w.left at m) [ inl e ↦ absurd (clash _ e w.fresh) | inr a ↦ a ]
@@ -73,6 +81,7 @@ module _ (next : List ℕ) where
   leads_in entered b c {x = x} l (one e) m = c.each x l (rw e m)
   leads_in entered b c {x = x} l (more e a) m = c.each x l (rw e (leads_in entered b c (rw (← e) (b.each x l)) a m))
 
+-- where no points wait, each point that leads to an entered one is entered
 pub closed : {next class cycle : List ℕ} {entered noted : List Bool} {low : List ℕ} → IsFound next class cycle [] entered noted low
     → IsClosed next entered
 closed f = record { each = λ x l m. elim (f.closed x l m) [ inl e ↦ e | inr o ↦ absurd (elim o [ ]) ] }
@@ -96,6 +105,7 @@ pub record IsRounding (next class : List ℕ) (first entered : List Bool) (from 
 
 module _ (next class : List ℕ) (few : length class ≡ length next) (leads : AreBelow next (length next))
     (classes : AreBelow class (length next)) (from : ℕ) (cycle : After next from from) where
+  -- the entering of a cycle begins with an empty path
   pub begins : (entered noted : List Bool) (low : List ℕ) → get_or entered from false ≡ false
       → IsFound next class [] [] entered noted low
       → IsRounding next class entered entered from from [] noted low
@@ -121,6 +131,7 @@ module _ (next class : List ℕ) (few : length class ≡ length next) (leads : A
       let back : After next x from = elim a [ inl e ↦ subst (λ z. After next z from) (sym e) cycle | inr c ↦ comes_back c cycle ] in
       elim b [ inl e ↦ subst (λ z. After next x z) (sym e) back | inr c ↦ then_after back c ]
 
+  -- `at` is put on the path, and the next point is to be entered
   pub enters : (first entered noted noted' : List Bool) (at old : ℕ) (path low low' : List ℕ)
       → at < length next → at < length entered → old ≡ get_or low (get_or class at 0) 0
       → low' ≡ set low (get_or class at 0) (min old at) → IsNoted noted noted' (length class) old at
@@ -159,6 +170,7 @@ module _ (next class : List ℕ) (few : length class ≡ length next) (leads : A
         start = inr (elim w.start [ inl s ↦ subst (λ z. On (at ∷ path) z) s.0 top | inr p ↦ under p ]);
       }
 
+  -- where `at` is entered already, the whole cycle is on the path
   pub gathered : (first entered noted : List Bool) (at : ℕ) (xs low : List ℕ) → length entered ≡ length next
       → get_or entered at false ≡ true → IsRounding next class first entered from at (reverse xs) noted low
       → IsGathered next class from xs entered noted low
@@ -190,23 +202,26 @@ module _ (next class : List ℕ) (few : length class ≡ length next) (leads : A
         all = λ x p. w.all x (on_reverse p);
       }
 
+-- nothing is left of a list beyond its end
 pub drop_past : (xs : List ℕ) (k : ℕ) → length xs ≤ k → drop k xs ≡ []
 drop_past [] zero l = refl
 drop_past [] (suc k) l = refl
 drop_past (x ∷ xs) zero l = absurd (omega arith)
 drop_past (x ∷ xs) (suc k) l = drop_past xs k (omega arith)
 
--- a cycle that is being taken off the path
+-- a cycle that is being taken off the path: a class has no lowest, or still a point in the rest
 pub record IsClearing (class low rest : List ℕ) : Type 0 where
   pub sized : length low ≡ length class
   pub each : (c : ℕ) → c < length class → (get_or low c 0 ≡ length class) ⊎ ((x : ℕ) × On rest x × (get_or class x 0 ≡ c))
 
+-- at first all points of the cycle are still to be cleared
 pub clears_none : (class low cycle : List ℕ) → IsLow class low (reverse cycle) → IsClearing class low cycle
 clears_none class low cycle w = record {
   sized = w.sized;
   each = λ c l. elim ((w.each c l).there) [ inl e ↦ inl e | inr o ↦ inr (get_or low c 0, on_reversed cycle o.0, o.1) ];
 }
 
+-- where the class of a point is set to no lowest, that point is cleared
 pub clears_more : (class low cycle : List ℕ) (turn : ℕ) → turn < length cycle
     → get_or class (get_or cycle turn 0) 0 < length class → IsClearing class low (drop turn cycle)
     → IsClearing class (set low (get_or class (get_or cycle turn 0) 0) (length class)) (drop (turn + 1) cycle)
@@ -224,6 +239,7 @@ clears_more class low cycle turn l k w = record {
   ];
 }
 
+-- where all points are cleared, no class has a lowest on the path
 pub clears_all : (class low : List ℕ) → IsClearing class low [] → IsLow class low []
 clears_all class low w = record {
   sized = w.sized;
@@ -233,7 +249,7 @@ clears_all class low w = record {
   };
 }
 
--- where nothing has been entered
+-- where nothing has been entered or noted, what has been found is right
 pub nothing : (next class low : List ℕ) (entered noted : List Bool) → length class ≡ length next
     → length entered ≡ length next → length noted ≡ length class → length low ≡ length class
     → ((x : ℕ) → get_or entered x false ≡ false) → ((x : ℕ) → get_or noted x false ≡ false)

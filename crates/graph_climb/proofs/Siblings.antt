@@ -1,4 +1,5 @@
--- The lists of the points that lead to each point, from the last point down.
+-- The lists of the points that lead to each point, made from the last point down: each is put
+-- before those of its list, so lists rise, and the others stay as they were (`listed_more`).
 use Rattle.std.proofs.Common.{◌≡◌, ◌≢◌, ◌∙◌, sym, ap, subst, ℕ, ◌+◌, ◌<◌, ◌≤◌, ◌⊎◌, inl, inr, List, length, get_or, set, refl, arith}
 use Rattle.std.proofs.lemmas.List.{get_or-set_same, get_or-set_other, length-set}
 use Rattle.std.proofs.lemmas.Bool.{cases_eq}
@@ -95,6 +96,7 @@ module _ (next first sibling : List ℕ) (at : ℕ) (fits : at < length next) (b
       first_case (here l) = inl refl
       first_case (later l a) = inr a
 
+  -- with one point more put before those of its list, the lists are those from it on
   pub listed_more : AreListed next (set first (get_or next at 0) at) (set sibling at (get_or first (get_or next at 0) 0)) at
   unfolding more_first more_sibling
   listed_more = listed_here

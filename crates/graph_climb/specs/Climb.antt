@@ -18,6 +18,7 @@ pub record IsLower (next class : List ℕ) (y x : ℕ) : Type 0 where
   pub same : get_or class y 0 ≡ get_or class x 0
   pub along : After next x y ⊎ After next y x
 
+-- a lower point of its class comes before or after x
 abbrev pub HasLower : List ℕ → List ℕ → ℕ → Type 0
 HasLower next class x = (y : ℕ) × IsLower next class y x
 

@@ -1,4 +1,6 @@
--- The branches of two directories, laid one on another.
+-- The branches of two directories, laid one on another. `Merges` says in steps which branches come
+-- of both; these are in order, and have at each path what is laid there (`are_laid`). The loop
+-- keeps `Merging`: what merges the branches left merges all. Each turn and the end have a lemma.
 use Rattle.std.proofs.Common.{◌≡◌, sym, subst, ℕ, ◌+◌, ◌*◌, ◌<◌, ◌≤◌, inl, inr, List, [], ◌∷◌, ◌++◌, length, drop, refl, arith, append_assoc, length-append, Option, Some, None}
 use Rattle.std.proofs.lemmas.List.{append-nil}
 use Rattle.std.proofs.lemmas.Map.Lookups.{exact_bytes}
@@ -83,6 +85,7 @@ module _ {T : Type 0} (f : T → T → T) where
   each (High l h ls hs out lt m) r s = (s.0, each m r s.1)
   each (Both l h b ls hs out e c m) r s = (c.rising, each m r.1 s.1)
 
+  -- the branches that come of both directories are those of one laid on the other
   pub are_laid : {ls hs out : List (Shoot T)} → Merges f ls hs out → IsForest ls → IsForest hs → AreLaid f ls hs out
   are_laid {ls} {hs} {out} m r s =
       let names = rise m r.names s.names in
@@ -91,7 +94,7 @@ module _ {T : Type 0} (f : T → T → T) where
         at = λ n p. rw (at_spread out names n p, at_spread hs s.names n p, at_spread ls r.names n p) (found m r.names s.names n p);
       }
 
-  -- a branch over the laid children
+  -- a branch over children that are laid is the upper branch laid on the lower one
   pub branch_laid : (low high : Shoot T) (ls hs out : List (Shoot T)) → low.below ≡ spread ls
       → high.below ≡ spread hs → AreLaid f ls hs out
       → IsLaid f low high (record { name = high.name; value = f low.value high.value; below = spread out })
@@ -109,46 +112,54 @@ pub record Merging {T : Type 0} (f : T → T → T) (ls0 hs0 ls hs out : List (S
   pub merged : (more : List (Shoot T)) → Merges f ls hs more → Merges f ls0 hs0 (out ++ more)
   pub smaller : length (spread ls) + length (spread hs) ≤ length (spread ls0) + length (spread hs0)
 
+-- a branch adds one row to a directory, and those below it
 pub grown : {T : Type 0} (s : Shoot T) (ss : List (Shoot T)) → length (spread (s ∷ ss)) ≡ length s.below + length (spread ss) + 1
 grown s ss = omega (arith, length-append (prefixed s.name s.below) (spread ss), length_prefixed s.name s.below)
 
 -- of what is left, l and h are the first branches
 module _ {T : Type 0} (f : T → T → T) (ls0 hs0 ls hs out : List (Shoot T)) (l h : Shoot T)
     (inv : Merging f ls0 hs0 (l ∷ ls) (h ∷ hs) out) where
+  -- where the lower side's first name comes first, its branch is put out as it is
   pub low_first : name_cmp l.name h.name ≡ Less → Merging f ls0 hs0 ls (h ∷ hs) (out ++ l ∷ [])
   low_first lt = record {
     merged = λ more m. rw append_assoc (inv.merged (l ∷ more) (Low l h ls hs more lt m));
     smaller = omega (arith, grown l ls, inv.smaller);
   }
 
+  -- where the upper side's first name comes first, its branch is put out as it is
   pub high_first : name_cmp l.name h.name ≡ Greater → Merging f ls0 hs0 (l ∷ ls) hs (out ++ h ∷ [])
   high_first gt = record {
     merged = λ more m. rw append_assoc (inv.merged (h ∷ more) (High l h ls hs more (above_of l.name h.name gt) m));
     smaller = omega (arith, grown h hs, inv.smaller);
   }
 
+  -- where both first names are one, the branch put out is the upper one laid on the lower
   pub both_first : (b : Shoot T) → name_cmp l.name h.name ≡ Equal → IsLaid f l h b → Merging f ls0 hs0 ls hs (out ++ b ∷ [])
   both_first b e c = record {
     merged = λ more m. rw append_assoc (inv.merged (b ∷ more) (Both l h b ls hs more (exact_bytes l.name h.name e) c m));
     smaller = omega (arith, grown l ls, grown h hs, inv.smaller);
   }
 
+  -- what is below two first branches measures less than both directories
   pub below_measure : 2 * (length l.below + length h.below) + 1 < 2 * (length (spread ls0) + length (spread hs0))
   below_measure = omega (arith, grown l ls, grown h hs, inv.smaller)
 
 -- one side alone is left
 module _ {T : Type 0} (f : T → T → T) (ls0 hs0 ls hs out : List (Shoot T)) (inv : Merging f ls0 hs0 ls hs out) where
+  -- where no upper branches are left, the lower ones that are left complete the result
   pub lows_left : hs ≡ [] → Merges f ls0 hs0 ((out ++ ls) ++ hs)
   lows_left e = rw (e, append-nil) (inv.merged ls (rw e (Lows_left ls)))
 
+  -- where no lower branches are left, the upper ones that are left complete the result
   pub highs_left : ls ≡ [] → Merges f ls0 hs0 ((out ++ ls) ++ hs)
   highs_left e = rw (e, append-nil) (inv.merged hs (rw e (Highs_left hs)))
 
--- what a queue shows at its front is its first element; where it shows nothing, it is empty
+-- what a queue shows at its front is its first element
 pub shown : {X : Type 0} (xs : List X) (x : Bor X) → IsItemAt xs 0 (Some x) → xs ≡ x.now ∷ drop 1 xs
 shown [] x e = absurd (let n = e.0 in cc)
 shown (y ∷ ys) x e = let n : x.now ≡ y = e.1 in cc
 
+-- a queue that shows nothing at its front is empty
 pub nothing_shown : {X : Type 0} (xs : List X) → IsItemAt xs 0 None → xs ≡ []
 nothing_shown [] e = refl
 nothing_shown (y ∷ ys) e = absurd (let n = e.2 (omega arith) in cc)

@@ -1,4 +1,6 @@
--- Branches by the order of their names.
+-- Branches by the order of their names. Names rise strictly, so a directory has at most one branch
+-- of a name (`named_at`), and none where names pass from lower to higher ones (`named_between`);
+-- `from_name` says that a search by halves may be made.
 use Rattle.std.proofs.Common.{◌≡◌, ◌≢◌, ◌∙◌, sym, ap, subst, ℕ, zero, suc, ◌<◌, ◌≤◌, ◌⊎◌, inl, inr, List, [], ◌∷◌, length, get_or, refl, arith, Bool, true, false, Some, None}
 use Rattle.std.specs.declared.cmp.Ordering.{Ordering}
 use Rattle.std.specs.declared.cmp.Ordering.TheVariants.{Less, Equal, Greater}
@@ -12,9 +14,11 @@ use Rattle.std.proofs.lemmas.Cmp.{nat_list_cmp_total}
 use Rattle.std.proofs.lemmas.Map.Lookups.{exact_bytes}
 use Rattle.path_tree.specs.Rows.{Shoot, name_cmp, named, NamesRise}
 
+-- two names are the same and the test is true, or they differ and it is false
 abbrev pub IsSameOrNot : List ℕ → List ℕ → Type 0
 IsSameOrNot a b = ((a ≡ b) × (pointwise nat_eq a b ≡ true)) ⊎ ((a ≢ b) × (pointwise nat_eq a b ≡ false))
 
+-- the test of two names tells whether they are the same
 pub same_or_not : (a b : List ℕ) → IsSameOrNot a b
 same_or_not a b = pick (pointwise nat_eq a b) refl
   where
@@ -22,15 +26,19 @@ same_or_not a b = pick (pointwise nat_eq a b) refl
     pick true e = inl (same_text a b e, sym e)
     pick false e = inr (other_text a b e, sym e)
 
+-- no name comes before itself
 pub not_below_itself : (a : List ℕ) → name_cmp a a ≡ Less → ⊥
 not_below_itself a e = let s = nat_list_cmp_total.antisymm a a in let r : Less ≡ Greater = sym e ∙ s ∙ ap ordering_reverse e in cc
 
+-- a name that comes before another differs from it
 pub below_differs : (a b : List ℕ) → name_cmp a b ≡ Less → a ≢ b
 below_differs a b l e = not_below_itself a (subst (λ x. name_cmp a x ≡ Less) (sym e) l)
 
+-- where a name comes after another, that one comes before it
 pub above_of : (a b : List ℕ) → name_cmp a b ≡ Greater → name_cmp b a ≡ Less
 above_of a b e = nat_list_cmp_total.antisymm b a ∙ ap ordering_reverse e
 
+-- the order finds a name equal to itself
 pub itself : (a : List ℕ) → name_cmp a a ≡ Equal
 itself a = by_case (name_cmp a a) refl (nat_list_cmp_total.antisymm a a)
   where
@@ -39,12 +47,13 @@ itself a = by_case (name_cmp a a) refl (nat_list_cmp_total.antisymm a a)
     by_case Equal e s = refl
     by_case Greater e s = absurd (cc)
 
+-- branches that all come after a name come after each name before it
 pub all_above : {T : Type 0} (n m : List ℕ) (ss : List (Shoot T)) → name_cmp n m ≡ Less
     → AllByRecursion (λ t. name_cmp m t.name ≡ Less) ss → AllByRecursion (λ t. name_cmp n t.name ≡ Less) ss
 all_above n m [] l a = tt
 all_above n m (s ∷ ss) l a = (nat_list_cmp_total.trans n m s.name l a.0, all_above n m ss l a.1)
 
--- no branch has a name that comes before them all
+-- no branch has a name that comes before all of theirs
 pub named_below : {T : Type 0} (n : List ℕ) (ss : List (Shoot T)) → AllByRecursion (λ t. name_cmp n t.name ≡ Less) ss → named n ss ≡ None
 named_below n [] a = refl
 named_below n (s ∷ ss) a = elim (same_or_not s.name n) [ inl x ↦ absurd (below_differs n s.name a.0 (sym x.0)) | inr x ↦ rw x.1
@@ -56,6 +65,7 @@ all_at n [] a i d l = absurd (omega arith)
 all_at n (s ∷ ss) a zero d l = a.0
 all_at n (s ∷ ss) a (suc i) d l = all_at n ss a.1 i d (omega arith)
 
+-- a branch whose name compares as equal to a name is the one of that name
 pub named_at : {T : Type 0} (n : List ℕ) (ss : List (Shoot T)) → NamesRise ss → (i : ℕ) (d : Shoot T)
     → i < length ss → name_cmp (get_or ss i d).name n ≡ Equal → named n ss ≡ Some (get_or ss i d)
 named_at n [] r i d l e = absurd (omega arith)
@@ -75,12 +85,13 @@ named_nowhere n (s ∷ ss) f = elim (same_or_not s.name n) [
   | inr x ↦ rw x.1 (named_nowhere n ss (λ i d l. f (suc i) d (omega arith)))
 ]
 
--- names before i come first, and names from i on come later
+-- the branches before i have lesser names than n, and those from i on greater ones
 abbrev pub IsParted : {T : Type 0} → List ℕ → List (Shoot T) → ℕ → Type 0
 IsParted {T} n ss i =
     ((k : ℕ) (d : Shoot T) → 0 ≤ k → k < i → name_cmp (get_or ss k d).name n ≡ Less)
     × ((k : ℕ) (d : Shoot T) → i ≤ k → k < length ss → name_cmp (get_or ss k d).name n ≡ Greater)
 
+-- where branches part into lesser and greater names, none has the name
 pub named_between : {T : Type 0} (n : List ℕ) (ss : List (Shoot T)) (i : ℕ) → IsParted n ss i → named n ss ≡ None
 named_between n ss i p = named_nowhere n ss (λ k d l e. elim (cases_lt k i) [
   | inl lt ↦ absurd (let f = p.0 k d (omega arith) lt in cc)
@@ -102,7 +113,7 @@ keeps a b n l Greater Equal d e = absurd (not_below_itself a
     (above_of a n (sym d)))))
 keeps a b n l Greater Greater d e = omega arith
 
--- seen from any name, branches in order go from those before it to those after it
+-- compared with any name, branches in order are first less, then equal, then greater
 pub from_name : {T : Type 0} (n : List ℕ) (ss : List (Shoot T)) → NamesRise ss
     → IsNonDecreasingBy (λ s. ordering_index (name_cmp s.name n)) ss
 from_name n [] r i j d le lt = absurd (omega arith)

@@ -1,4 +1,6 @@
--- The rows of a branch rise where its names rise and the rows of each of its branches do.
+-- The rows of a branch rise where its names rise and the rows of each of its branches do
+-- (`branch_rises`): rows that begin with one name stay in order, and come before those that begin
+-- with a later name (`joined`).
 use Rattle.std.proofs.Common.{◌≡◌, ℕ, List, [], ◌∷◌, ◌++◌, refl}
 use Rattle.std.specs.declared.cmp.Ordering.TheVariants.{Less}
 use Rattle.std.specs.Cmp.Lexicographic.{slice_cmp}
@@ -41,6 +43,7 @@ module _ {T : Type 0} where
     joined n xs ss r.1 a q,
   )
 
+  -- the rows of branches rise, where their names do and the rows of each
   pub spread_rises : (ss : List (Shoot T)) → NamesRise ss → AllByRecursion IsRising ss → PathsRise (spread ss)
   spread_rises [] r e = tt
   spread_rises (s ∷ ss) r e =
@@ -59,5 +62,6 @@ module _ {T : Type 0} where
       root n [] = tt
       root n (x ∷ xs) = (refl, root n xs)
 
+  -- a branch over a forest has rising rows, whatever its name and value
   pub branch_rises : (n : List ℕ) (v : T) (ss : List (Shoot T)) → IsForest ss → IsRising (record { name = n; value = v; below = spread ss })
   branch_rises n v ss f = record { rises = (above_root ss, spread_rises ss f.names f.each) }

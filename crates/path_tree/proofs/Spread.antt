@@ -1,11 +1,13 @@
--- What a directory has at a path, by its branch of the path's first name.
+-- What a directory has at a path, by its branch of the path's first name (`at_spread`): the rows of
+-- other branches begin with other names, so a look-up goes past them (`at_prefixed_other`), and
+-- behind the name the branch's own rows are asked for the rest (`here`).
 use Rattle.std.proofs.Common.{◌≡◌, ◌≢◌, ◌∙◌, sym, ap, subst, ℕ, inl, inr, List, [], ◌∷◌, ◌++◌, refl, Option, Some, None, Bool, true, false}
 use Rattle.std.specs.Prelude.{nat_eq, cond}
 use Rattle.std.specs.Cmp.Lexicographic.{pointwise}
 use Rattle.path_tree.specs.Rows.{Shoot, prefixed, spread, whole, named, NamesRise, equal_names, at_path}
 use Rattle.path_tree.proofs.Names.{same_or_not, named_below}
 
--- what the found branch has
+-- what the branch that was found has; nothing where none was
 abbrev pub through : {T : Type 0} → Option (Shoot T) → List (List ℕ) → Option T
 through None rest = None
 through (Some s) rest = at_path (whole s) rest
@@ -61,6 +63,7 @@ module _ {T : Type 0} where
     g,
   ) (or_none (at_path s.below (m ∷ p)))
 
+  -- a directory has at a path what its branch of the first name has at the rest
   pub at_spread : (ss : List (Shoot T)) → NamesRise ss → (n : List ℕ) (p : List (List ℕ)) → at_path (spread ss) (n ∷ p)
       ≡ through (named n ss) p
   at_spread [] r n p = refl

@@ -3,6 +3,7 @@ use Rattle.std.specs.Prelude.{ℕ, ◌<◌, List, length, ⊤}
 use Rattle.path_tree.specs.declared.name.Bytes.{Bytes}
 use Rattle.path_tree.specs.declared.name.Bytes.TheVariants.{Here, There}
 
+-- the bytes of a name, whether they stand in the value or beside it
 abbrev pub bytes_of : {A : Type 0} → Bytes A → List ℕ
 bytes_of (Here short) = short
 bytes_of (There long) = long.value.items

@@ -80,6 +80,7 @@ pub record IsUnder {T : Type 0} (rows : List (List (List ℕ) × T)) (path : Lis
     (under : List (List (List ℕ) × T)) : Type 0 where
   pub at : (q : List (List ℕ)) → at_path rows (path ++ q) ≡ at_path under q
 
+-- with a name put before each path there are as many rows
 pub length_prefixed : {T : Type 0} (n : List ℕ) (xs : List (List (List ℕ) × T))
     → length (prefixed n xs) ≡ length xs
 length_prefixed n [] = omega arith
@@ -97,6 +98,7 @@ most_le_spread (s ∷ ss) =
       length_prefixed s.name s.below,
     )
 
+-- each branch of a directory has fewer rows below it than the directory has
 pub falls : {T : Type 0} (ss : List (Shoot T))
     → max (most (λ s. length s.below + 1) ss) 0 ≤ length (spread ss)
 falls ss = omega (arith, most_le_spread ss)

@@ -73,7 +73,7 @@ pub fn merge<T: Lay, A: Allocator + Copy>(
             }
         }
     }
-    // one of the two is empty now
+    // one of the two is empty here
     out.append(&mut Vec::from(lows))?;
     out.append(&mut Vec::from(highs))?;
     Ok(out)

@@ -1,4 +1,6 @@
--- A chain whose headers lie in the image and do not come twice ends, and is listed by walking along it.
+-- The chain of a directory, walked along. Where its headers lie in the image and none comes twice,
+-- it ends within as many steps as the image has places for headers (`ends`), since there is no room
+-- for one more (`no_room`); so the walk lists it position by position (`listed`).
 use Rattle.std.proofs.Common.{◌≡◌, ◌≢◌, ◌∙◌, sym, ap, subst, ℕ, zero, suc, ◌+◌, ◌*◌, ◌/◌, ◌<◌, ◌≤◌, ◌==◌, ◌⊎◌, inl, inr, List, [], ◌∷◌, Some, false, arith, refl}
 use Rattle.std.specs.Prelude.{slice_get}
 use Rattle.std.proofs.lemmas.Bool.{cases_order}
@@ -9,20 +11,22 @@ use Rattle.romfs_reader.specs.Readers.{IsListed}
 use Rattle.romfs_reader.specs.Walks.{chain_from, EndsWithin, places}
 use Rattle.romfs_reader.proofs.Pigeon.{no_room}
 
--- one header stands at a position
+-- at each position of a chain stands one header
 pub one_at : (a : List ℕ) (d n h g : ℕ) → IsAt a d n h → IsAt a d n g → h ≡ g
 one_at a d zero h g x y = x.0 ∙ sym y.0
 one_at a d (suc n) h g x y = x.2.1 ∙ ap (next a) (one_at a d n x.0 y.0 x.1 y.1) ∙ sym y.2.1
 
--- a header of a chain stands on a place for headers, and is not 0
+-- the offset of a header in a chain is a multiple of 16
 pub aligned : (a : List ℕ) (d n h : ℕ) → IsAt a d n h → h ≡ h / 16 * 16
 aligned a d zero h x = let e = x.0 in omega arith
 aligned a d (suc n) h x = let e = x.2.1 in omega arith
 
+-- no header of a chain has the offset 0
 pub not_zero : (a : List ℕ) (d n h : ℕ) → IsAt a d n h → h ≢ 0
 not_zero a d zero h x = x.1
 not_zero a d (suc n) h x = x.2.2
 
+-- a chain that has a header at one position has one at each position before it
 pub at_before : (a : List ℕ) (d n k h : ℕ) → k ≤ n → IsAt a d n h → (g : ℕ) × IsAt a d k g
 at_before a d zero k h l x = let e : 0 ≡ k = omega arith in (h, subst (λ m. IsAt a d m h) e x)
 at_before a d (suc n) k h l x = elim (cases_order k (suc n)) [
@@ -35,7 +39,7 @@ apart : (n : ℕ) → (n < 0) ⊎ (0 < n) → n ≢ 0
 apart n (inl l) e = omega arith
 apart n (inr l) e = omega arith
 
--- a number other than 0 fails the test
+-- a number other than 0 fails the test for 0
 pub other : (n : ℕ) → n ≢ 0 → (n == 0) ≡ false
 other n z = grind (arith, nat_tests)
 
@@ -91,6 +95,7 @@ module _ (a : List ℕ) (d start : ℕ) (good : IsGood a d) (begins : IsStart a 
         inr (nz, i, go m (suc n) (omega arith) (λ z. (place n, y, (i, refl, z)))))
   ]
 
+  -- the chain ends within as many headers as the image has places for
   pub ends : EndsWithin a (places a) start
   unfolding place
   ends = go (places a) 0 (omega arith) begins.some
@@ -128,6 +133,7 @@ module _ (a : List ℕ) (d start : ℕ) (good : IsGood a d) (begins : IsStart a 
       let s : n + suc k ≡ suc n + k = omega arith in
       rw (other at e.0) (back m (suc n) (next a at) e.2 (ap (next a) p) k h (subst (λ x. IsAt a d x h) s y))
 
+  -- the headers that the walk from the start lists are those of the chain, position by position
   pub listed : IsListed a d (chain_from a (places a) start)
   unfolding place
   listed = record {

@@ -1,4 +1,6 @@
--- What holds of the headers that a sound image gives.
+-- What holds of the headers that a sound image gives. Each is reached, so it lies in the image at a
+-- place for headers, and its name is ended unless it is the root's. A walk along hard links from
+-- one (`IsOnWay`) sets out, moves on, and ends at a header that is given as well (`arrived`).
 use Rattle.std.proofs.Common.{◌≡◌, ◌≢◌, ◌∙◌, sym, ap, subst, ℕ, ◌*◌, ◌/◌, ◌<◌, ◌⊎◌, inl, inr, List, Option, Some, None, arith, refl, IsSome}
 use Rattle.std.specs.Option.{option_map_or}
 use Rattle.romfs_format.specs.declared.head.Kind.TheVariants.{HardLink, Directory}
@@ -15,7 +17,7 @@ use Rattle.romfs_reader.proofs.Keeps.{root_directory, reached_inside, reached_na
 use Rattle.romfs_reader.specs.Walks.{places}
 use Rattle.romfs_reader.proofs.Hops.{is_hard, LeavesWithin, leaves, left_already, hops, count}
 
--- the header at h is given, as a place
+-- the header at h is given: it is the root's, a member, or where the hard links of a member end
 abbrev pub From : List ℕ → ℕ → Type 0
 From a h = (h ≡ root a) ⊎ IsSomeMember a h ⊎ IsEnd a h
 
@@ -23,6 +25,7 @@ destination_aligned : (a : List ℕ) {h g : ℕ} → IsDestination a h g → g �
 destination_aligned a (here {h = h} l) = (let e : destination a h ≡ destination a h = refl in omega arith)
 destination_aligned a (there l d) = destination_aligned a d
 
+-- the offset of the root's header is a multiple of 16
 pub root_aligned : (a : List ℕ) → root a ≡ root a / 16 * 16
 unfolding root
 root_aligned a = ends (text_at a 16)
@@ -32,7 +35,7 @@ root_aligned a = ends (text_at a 16)
     ends (Some t) = omega arith
 
 module _ (a : List ℕ) (i : IsImage a) where
-  -- where it comes from, with the hard links left behind
+  -- a header that is given is the root's, a member, or on the destination chain of a member
   pub used : (h : ℕ) → From a h → (h ≡ root a) ⊎ IsSomeMember a h ⊎ IsTarget a h
   used h (inl e) = inl e
   used h (inr (inl m)) = inr (inl m)
@@ -41,6 +44,7 @@ module _ (a : List ℕ) (i : IsImage a) where
     | inr d ↦ inr (inr (x.1.0, x.0, x.1.1, d))
   ]
 
+  -- a header that is given is one of those that the image leads to
   pub from_reached : (h : ℕ) → From a h → IsReached a h
   from_reached h f = elim (used h f) [
     | inl e ↦ inl e
@@ -48,12 +52,15 @@ module _ (a : List ℕ) (i : IsImage a) where
     | inr (inr t) ↦ inr (inr t)
   ]
 
+  -- a header that is given lies in the image
   pub from_inside : (h : ℕ) → From a h → IsInside a h
   from_inside h f = reached_inside a i h (from_reached h f)
 
+  -- the name of a header that is given is ended, unless it is the root's
   pub from_named : (h : ℕ) → From a h → h ≢ root a → IsSome (name a h)
   from_named h f n = reached_named a i h (from_reached h f) n
 
+  -- the offset of a header that is given is a multiple of 16
   pub from_aligned : (h : ℕ) → From a h → h ≡ h / 16 * 16
   from_aligned h f = elim (used h f) [
     | inl e ↦ (let r = root_aligned a in omega arith)
@@ -78,7 +85,7 @@ final_soft : (a : List ℕ) {h e : ℕ} → IsFinal a h e → ¬ IsHardLink a e
 final_soft a (stays n) = n
 final_soft a (follows l f) = final_soft a f
 
--- where a walk along hard links has come from a header that is given
+-- a walk along hard links from `head`, which is given, has come to the header `end`
 pub record IsOnWay (a : List ℕ) (head end : Head) : Type 0 where
   pub is : end ≡ head_of a end.offset
   pub inside : IsInside a end.offset
@@ -98,6 +105,7 @@ module _ (a : List ℕ) (i : IsImage a) where
   hard_member h (inr (inl m)) l = m
   hard_member h (inr (inr x)) l = absurd (final_soft a x.2 l)
 
+  -- a walk that has made no step is on the way, at the header that it began with
   pub sets_out : (head : Head) → IsGiven a head → IsOnWay a head head
   sets_out head g = record {
     is = g.is;
@@ -111,6 +119,8 @@ module _ (a : List ℕ) (i : IsImage a) where
     reached = inl refl;
   }
 
+  -- where the kind that was read is a hard link's, the header on the way is a hard link of the
+  -- image
   pub hard : (head end : Head) → IsOnWay a head end → end.kind ≡ HardLink → IsHardLink a end.offset
   hard head end w k = (w.inside, sym (ap (λ x. x.kind) w.is) ∙ k)
 
@@ -123,10 +133,11 @@ module _ (a : List ℕ) (i : IsImage a) where
         (m.0, head.offset, m.1, destination_more a d (hard head end w k)))
   ]
 
-  -- a destination lies in the image
+  -- what a hard link on the way leads to lies in the image
   pub next_inside : (head end : Head) → IsGiven a head → IsOnWay a head end → end.kind ≡ HardLink → IsInside a (destination a end.offset)
   next_inside head end g w k = reached_inside a i _ (inr (inr (target_of head end g w k)))
 
+  -- from a hard link on the way the walk comes to the header that it leads to
   pub moves_on : (head end after : Head) → IsGiven a head → IsOnWay a head end → end.kind ≡ HardLink
       → after ≡ head_of a (destination a end.offset) → IsOnWay a head after
   moves_on head end after g w k e =
@@ -143,15 +154,18 @@ module _ (a : List ℕ) (i : IsImage a) where
         ]);
       })
 
+  -- a step along a hard link leaves fewer steps to go
   pub way_falls : (head end after : Head) → IsOnWay a head end → end.kind ≡ HardLink
       → after ≡ head_of a (destination a end.offset)
       → count a (places a) after.offset < count a (places a) end.offset
   way_falls head end after w k e = subst (λ x. count a (places a) x.offset < count a (places a) end.offset)
       (sym e) (hops a (places a) end.offset (hard head end w k) w.leaves).1
 
+  -- a header on the way that is no hard link is where the hard links from the first one end
   pub arrives : (head end : Head) → IsOnWay a head end → end.kind ≢ HardLink → IsFinal a head.offset end.offset
   arrives head end w n = w.on end.offset (stays (λ l. n (ap (λ x. x.kind) w.is ∙ l.1)))
 
+  -- a header on the way that is no hard link is given by the image
   pub arrived : (head end : Head) → IsGiven a head → IsOnWay a head end → end.kind ≢ HardLink → IsGiven a end
   arrived head end g w n = record {
     is = w.is;

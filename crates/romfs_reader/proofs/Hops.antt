@@ -1,4 +1,6 @@
--- A chain of hard links that ends, ends within as many steps as the image has places for headers.
+-- A chain of hard links that ends at all ends within as many steps as the image has places for
+-- headers (`leaves`): in more steps it would come to one header twice. So the steps that a walk has
+-- left can be counted, and each step leaves fewer (`hops`).
 use Rattle.std.proofs.Common.{◌≡◌, ◌≢◌, ap, subst, ℕ, zero, suc, ◌+◌, ◌-◌, ◌*◌, ◌/◌, ◌<◌, ◌≤◌, ◌⊎◌, inl, inr, List, arith, refl}
 use Rattle.std.proofs.lemmas.Bool.{cases_order}
 use Rattle.romfs_format.specs.declared.head.Kind.{Kind}
@@ -30,6 +32,7 @@ kind_dec Character = inr (λ e. cc)
 kind_dec Socket = inr (λ e. cc)
 kind_dec Fifo = inr (λ e. cc)
 
+-- a header is a hard link or is not
 pub is_hard : (a : List ℕ) (h : ℕ) → IsHardLink a h ⊎ ¬ IsHardLink a h
 is_hard a h = elim (is_inside a h) [
   | inr n ↦ inr (λ l. n l.0)
@@ -122,7 +125,7 @@ decided a (suc n) h = elim (is_hard a h) [
   ]
 ]
 
--- where a chain does not end nowhere, it leaves within as many steps as there are places
+-- a chain of hard links that ends somewhere ends within as many steps as there are places
 pub leaves : (a : List ℕ) (h : ℕ) → h ≡ h / 16 * 16 → ¬ EndsAs a h Nowhere → LeavesWithin a (places a) h
 leaves a h e n = elim (decided a (places a) h) [
   | inl w ↦ w
@@ -136,11 +139,12 @@ leaves a h e n = elim (decided a (places a) h) [
       | inr (inr l) ↦ omega arith
     ]
 
--- how many steps of at most n the chain from h stays on hard links
+-- one step more on a hard link, else none
 counted : {P : Type 0} → P ⊎ ¬ P → ℕ → ℕ
 counted (inl l) n = suc n
 counted (inr m) n = 0
 
+-- how many steps, of at most n, the chain from h stays on hard links
 pub count : List ℕ → ℕ → ℕ → ℕ
 count a zero h = 0
 count a (suc n) h = counted (is_hard a h) (count a n (destination a h))
@@ -169,11 +173,11 @@ step_down a n (suc k) h l x f =
     let q = count_is a n (suc k) h x f in
     (record { steps = k; few = omega arith; out = x.1 }, omega arith)
 
--- a step along a hard link
+-- after a step along a hard link the chain still ends within n steps, and fewer of them are counted
 pub hops : (a : List ℕ) (n h : ℕ) → IsHardLink a h → LeavesWithin a n h → LeavesWithin a n (destination a h)
     × (count a n (destination a h) < count a n h)
 hops a n h l w = step_down a n w.steps h l w.out w.few
 
--- a chain that is not on a hard link has left them
+-- a header that is no hard link is the end of its chain, within any number of steps
 pub left_already : (a : List ℕ) (n h : ℕ) → ¬ IsHardLink a h → LeavesWithin a n h
 left_already a n h m = record { steps = zero; few = omega arith; out = now a h m }

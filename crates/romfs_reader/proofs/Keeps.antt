@@ -1,4 +1,6 @@
--- What a sound image keeps, said of its accessible bytes.
+-- What a sound image keeps, said of its accessible bytes: as no header breaks a rule, each header
+-- that the image leads to lies in it, with a name that is ended, and the chain of a directory comes
+-- to no header twice (`good`).
 use Rattle.std.proofs.Common.{◌≡◌, ◌≢◌, sym, ap, subst, ℕ, zero, suc, ◌+◌, ◌<◌, ◌≤◌, ◌⊎◌, inl, inr, List, length, Option, Some, None, arith, refl, IsSome, IsNone}
 use Rattle.std.proofs.lemmas.Bool.{cases_order}
 use Rattle.std.proofs.lemmas.List.{take_all}
@@ -13,6 +15,7 @@ use Rattle.romfs_format.specs.Rules.{BreaksHeader}
 use Rattle.romfs_reader.specs.Images.{IsImage}
 use Rattle.romfs_reader.proofs.Chain.{IsGood}
 
+-- of accessible bytes all are accessible
 pub whole : (a : List ℕ) → IsImage a → image a ≡ a
 unfolding image
 whole a i = let e = i.full in take_all _ a (omega arith)
@@ -50,21 +53,27 @@ module _ (a : List ℕ) (i : IsImage a) where
   to_image : (r : Rule) (h : ℕ) → BreaksHeader a r h → BreaksHeader (image a) r h
   to_image r h x = subst (λ y. BreaksHeader y r h) (sym (whole a i)) x
 
+  -- no header that is reached lies outside the image
   pub not_outside : (h : ℕ) → ¬ BreaksHeader a Outside h
   not_outside h x = i.sound.keeps Outside h (to_image Outside h x)
 
+  -- no header that is reached, but the root's, has a name that is not ended
   pub not_open : (h : ℕ) → ¬ BreaksHeader a NameOpen h
   not_open h x = i.sound.keeps NameOpen h (to_image NameOpen h x)
 
+  -- no header that is used has data that end beyond the image
   pub not_data_outside : (h : ℕ) → ¬ BreaksHeader a DataOutside h
   not_data_outside h x = i.sound.keeps DataOutside h (to_image DataOutside h x)
 
+  -- no header is named by two fields, nor is the root's in the chain of another directory
   pub not_twice : (h : ℕ) → ¬ BreaksHeader a Twice h
   not_twice h x = i.sound.keeps Twice h (to_image Twice h x)
 
+  -- no member is a hard link whose chain ends nowhere
   pub not_loop : (h : ℕ) → ¬ BreaksHeader a LinkLoop h
   not_loop h x = i.sound.keeps LinkLoop h (to_image LinkLoop h x)
 
+  -- no member is a hard link whose chain ends at a directory
   pub not_directory : (h : ℕ) → ¬ BreaksHeader a LinkDirectory h
   not_directory h x = i.sound.keeps LinkDirectory h (to_image LinkDirectory h x)
 
@@ -72,6 +81,7 @@ module _ (a : List ℕ) (i : IsImage a) where
   no_root x = i.sound.keeps NoRoot (root (image a)) (subst (λ y. (length y < root y + 16) ⊎ (kind y (root y) ≢ Directory))
         (sym (whole a i)) x, refl)
 
+  -- the root's header lies in the image
   pub root_inside : IsInside a (root a)
   root_inside = (
     omega arith,
@@ -82,19 +92,24 @@ module _ (a : List ℕ) (i : IsImage a) where
     ],
   )
 
+  -- the root is a directory
   pub root_directory : kind a (root a) ≡ Directory
   root_directory = is_directory (kind a (root a)) (λ n. no_root (inr n))
 
+  -- a header that is reached lies in the image
   pub reached_inside : (h : ℕ) → IsReached a h → IsInside a h
   reached_inside h r = elim (is_inside a h) [ inl y ↦ y | inr n ↦ absurd (not_outside h (r, n)) ]
 
+  -- a header that is reached has a name that is ended, unless it is the root's
   pub reached_named : (h : ℕ) → IsReached a h → h ≢ root a → IsSome (name a h)
   reached_named h r n = some_name (name a h) (λ o. not_open h (r, reached_inside h r, n, o))
 
+  -- each header in the chain of an opened directory is reached
   pub chain_reached : (d n h : ℕ) → IsOpened a d → IsAt a d n h → IsReached a h
   chain_reached d zero h o x = inr (inl (first_of d, (o, x)))
   chain_reached d (suc n) h o x = inr (inl (next_of x.0, (d, record { opened = o; in_chain = (n, x.1) }, x.2)))
 
+  -- each member is reached
   pub member_reached : (h : ℕ) → IsSomeMember a h → IsReached a h
   member_reached h m = chain_reached m.0 m.1.in_chain.0 h m.1.opened m.1.in_chain.1
 
@@ -131,6 +146,7 @@ module _ (a : List ℕ) (i : IsImage a) where
       differ p q (inl l) e = omega arith
       differ p q (inr l) e = omega arith
 
+  -- the chain of an opened directory stays in the image and comes to no header twice
   pub good : (d : ℕ) → IsOpened a d → IsGood a d
   good d o = record {
     once = λ n m h x y. one_place d o n m h x y;

@@ -1,4 +1,6 @@
--- The members of a directory: what is left of its chain when some headers are passed over.
+-- The members of a directory: what is left of its chain when some headers are passed over. The test
+-- `passes_over` says what the definition says (`passed`, `passes`), so what it keeps are the
+-- members, and all of them (`are_members`), and the image gives them (`are_given`).
 use Rattle.std.proofs.Common.{◌≡◌, sym, ap, subst, ℕ, zero, suc, ◌⊎◌, inl, inr, Bool, List, [], ◌∷◌, not, Option, Some, None, true, false, arith, refl, All, Contains, codes, ◌||◌, ◌&&◌, ◌==◌}
 use Rattle.std.specs.Prelude.{slice_get}
 use Rattle.std.specs.Option.{option_map_or}
@@ -53,16 +55,19 @@ eqb-refl : (m n : ℕ) → m ≡ n → (m == n) ≡ true
 eqb-refl m n e = grind (arith, nat_tests)
 
 module _ (a : List ℕ) (d h : ℕ) (inside : IsInside a h) where
+  -- a header that the test passes over is one to be passed over
   pub passed : passes_over a d h ≡ true → IsPassedOver a d h
   passed e = elim (either _ _ e) [
     | inl p ↦ (let q = both _ _ p in inl (eqb-true _ _ q.0, eqb-true _ _ q.1))
     | inr p ↦ inr (inside, is_dot (name a h) p)
   ]
 
+  -- a header that is to be passed over is passed over by the test
   pub passes : IsPassedOver a d h → passes_over a d h ≡ true
   passes (inl x) = or_left _ _ (and_both _ _ (eqb-refl d (root a) x.0) (eqb-refl h (root a) x.1))
   passes (inr x) = or_right _ _ (at_dots (name a h) x.1)
 
+  -- a header that the test keeps is not to be passed over
   pub kept_back : passes_over a d h ≡ false → ¬ IsPassedOver a d h
   kept_back e x = let t = passes x in cc
 
@@ -71,6 +76,7 @@ abbrev In : List ℕ → ℕ → Type 0
 In hs h = (n : ℕ) × (slice_get hs n ≡ Some h)
 
 module _ (a : List ℕ) (d : ℕ) where
+  -- what holds of each listed header that is not passed over holds of all that are kept
   pub kept_all : (P : Head → Type 0) (hs : List ℕ) → ((h : ℕ) → In hs h → passes_over a d h ≡ false → P (head_of a h)) → All P (kept a d hs)
   kept_all P [] f = λ k e l. absurd (omega arith)
   kept_all P (h ∷ hs) f = test (kept_all P hs (λ g n p. f g (suc n.0, n.1) p)) (passes_over a d h) refl
@@ -79,6 +85,7 @@ module _ (a : List ℕ) (d : ℕ) where
       test later true e = rw e later
       test later false e = rw e (All-cons P _ _ (f h (zero, refl) e) later)
 
+  -- a listed header that is not passed over is among those that are kept
   pub kept_has : (hs : List ℕ) (n h : ℕ) → slice_get hs n ≡ Some h → passes_over a d h ≡ false → Contains (kept a d hs) (head_of a h)
   kept_has [] n h e p = absurd (cc)
   kept_has (g ∷ hs) zero h e p = let q : g ≡ h = cc in subst (λ x. Contains (kept a d (x ∷ hs)) (head_of a h)) (sym q)
@@ -89,6 +96,7 @@ module _ (a : List ℕ) (d : ℕ) where
       test c true q = rw q c
       test c false q = rw q (suc c.0, (let l = c.1 in omega arith), c.2)
 
+-- a truth value that is not true is false
 pub not_passed : (b : Bool) → (b ≡ true → ⊥) → b ≡ false
 not_passed true n = absurd (n refl)
 not_passed false n = refl
@@ -113,6 +121,6 @@ module _ (a : List ℕ) (d : ℕ) (hs : List ℕ) (i : IsImage a) (o : IsOpened 
           (not_passed _ (λ e. m.kept (passed a d h (inside c.0 h c.1) e))));
   }
 
-  -- and the image gives them
+  -- the image gives each header that is kept
   pub are_given : All (λ head. IsGiven a head) (kept a d hs)
   are_given = kept_all a d (λ head. IsGiven a head) hs (λ h n e. record { is = refl; from = inr (inl (d, member h n e)) })

@@ -1,4 +1,5 @@
--- A name that is ended stands in the image's bytes.
+-- A name that is ended stands in the image's bytes: it is the front part of the field that it is
+-- read from (`front`), and lies in the image with its padding (`within`); `text_bytes` says both.
 use Rattle.std.proofs.Common.{◌≡◌, ◌∙◌, sym, ap, ℕ, zero, suc, ◌≤◌, Bool, List, [], ◌∷◌, ◌++◌, length, take, drop, Option, Some, None, true, false, arith, refl, leb, cond}
 use Rattle.std.specs.Option.{option_map}
 use Rattle.std.proofs.Common.{append_assoc}
@@ -28,7 +29,7 @@ within n p (Some u) t e = test (leb (text_end p u) n) refl e
     test true q e = let k : u ≡ t = cc in (e, rw (← k) (grind (arith, nat_tests)))
     test false q e = absurd (cc)
 
--- where a name that is ended lies
+-- an ended text lies in the image with its padding, and its bytes are those from its place on
 pub text_bytes : (a t : List ℕ) (p : ℕ) → p ≤ length a → text_at a p ≡ Some t → (text_end p t ≤ length a) × (take (length t) (drop p a) ≡ t)
 unfolding name_field
 text_bytes a t p l e =

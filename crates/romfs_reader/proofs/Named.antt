@@ -1,4 +1,5 @@
--- What the length of a name, or the name that stands for none, says of the name.
+-- What the name that was read says of the one that is there, where the empty name stands for one
+-- that is not ended: a name with bytes is ended (`some_name`), and none is `.` or `..` (`dotted`).
 use Rattle.std.proofs.Common.{◌≡◌, ◌≢◌, ℕ, List, [], length, Option, Some, None, IsSome, false, refl}
 use Rattle.std.specs.Prelude.{unwrap_or}
 use Rattle.std.specs.Option.{option_map_or}
@@ -9,6 +10,7 @@ some_text : (o : Option (List ℕ)) → length (unwrap_or o []) ≢ 0 → IsSome
 some_text None n = absurd (n refl)
 some_text (Some text) n = refl
 
+-- where the name that was read has bytes, the header's name is ended
 pub some_name : (a : List ℕ) (h : ℕ) → length (name_of a h) ≢ 0 → IsSome (name a h)
 some_name a h = some_text (name a h)
 
@@ -16,6 +18,6 @@ dotted_text : (o : Option (List ℕ)) → is_dot_name (unwrap_or o []) ≡ optio
 dotted_text None = refl
 dotted_text (Some text) = refl
 
--- no name is no dot
+-- the name that was read is `.` or `..` exactly where the header has such a name
 pub dotted : (a : List ℕ) (h : ℕ) → is_dot_name (name_of a h) ≡ option_map_or is_dot_name (name a h) false
 dotted a h = dotted_text (name a h)

@@ -1,4 +1,6 @@
--- Searches for the ends of hard links by those that are known, and what is noted.
+-- Searches for the ends of hard links by those that are known, and what is noted. All headers on
+-- the way of a search have one end (`final_on`), so to note it with each keeps what is known true
+-- (`one_more`); and the image gives the header at that end (`known_given`).
 use Rattle.std.proofs.Common.{◌≡◌, ◌∙◌, sym, ap, subst, cond, ℕ, inl, inr, List, Some, Bool, true, false, refl, arith}
 use Rattle.std.specs.Prelude.{nat_eq}
 use Rattle.std.specs.Ordering.{nat_cmp, is_eq}
@@ -21,7 +23,7 @@ end_after : (a : List ℕ) {h e : ℕ} → IsHardLink a h → IsFinal a h e → 
 end_after a l (stays n) = absurd (n l)
 end_after a l (follows m f) = f
 
--- a walk from head has come to the header at, whose chain of hard links ends at e
+-- a walk from head has come to the header at, whose hard links end at e, and what is known is true
 pub record IsNoting (a : List ℕ) (head at : Head) (e : ℕ) (ends : BTreeMap ℕ ℕ) : Type 0 where
   pub way : IsOnWay a head at
   pub final : IsFinal a at.offset e
@@ -30,7 +32,7 @@ pub record IsNoting (a : List ℕ) (head at : Head) (e : ℕ) (ends : BTreeMap �
 tie : (j k : ℕ) → is_eq (nat_cmp j k) ≡ nat_eq j k
 tie j k = grind (arith, nat_tests)
 
--- the end of one header more
+-- what is known stays true where one more header is noted with its end
 pub one_more : (a : List ℕ) (ends ends' : BTreeMap ℕ ℕ) (h e : ℕ) → AreEnds a ends → IsFinal a h e
     → ((q : ℕ) → get nat_cmp ends' q ≡ cond (is_eq (nat_cmp h q)) (Some e) (get nat_cmp ends q))
     → AreEnds a ends'
@@ -53,11 +55,14 @@ module _ (a : List ℕ) (i : IsImage a) (head at : Head) (g : IsGiven a head) (w
   known_from : (e : ℕ) → IsFinal a at.offset e → From a e
   known_from e f = inr (inr (head.offset, hard_member a i head.offset g.from hard_head, w.on e f))
 
+  -- the end of a hard link on the way lies in the image
   pub known_inside : (e : ℕ) → IsFinal a at.offset e → IsInside a e
   known_inside e f = from_inside a i e (known_from e f)
 
+  -- the header at the end of a hard link on the way is given by the image
   pub known_given : (e : ℕ) (end : Head) → IsFinal a at.offset e → end ≡ head_of a e → IsGiven a end
   known_given e end f p = subst (λ x. IsGiven a x) (sym p) (record { is = refl; from = known_from e f })
 
+  -- the end of a hard link on the way is the end of what it leads to, too
   pub final_on : (e : ℕ) → IsFinal a at.offset e → IsFinal a (destination a at.offset) e
   final_on e f = end_after a (hard a i head at w k) f

@@ -1,4 +1,6 @@
--- The paths of a sound image: each has one header and at most 512 names, and there are finitely many.
+-- The paths of a sound image. A directory has one member of a name, so a path has one header
+-- (`one_header`); no path has more than 512 names (`short`); so all are found by going down every
+-- directory 512 names deep (`all_paths`).
 use Rattle.std.proofs.Common.{◌≡◌, ◌∙◌, sym, ap, subst, ℕ, zero, suc, ◌≤◌, inl, inr, List, [], ◌∷◌, length, map, Some, arith, refl, IsSome, Contains, ◌⊎◌}
 use Rattle.std.specs.Prelude.{slice_get, unwrap_or}
 use Rattle.std.specs.List.{flat_map}
@@ -49,12 +51,14 @@ module _ (a : List ℕ) (i : IsImage a) where
           f ∙ sym e)))
   ]
 
+  -- names lead from a directory to one header
   pub one_header : (path : List (List ℕ)) (d g h : ℕ) → Leads a d path g → Leads a d path h → g ≡ h
   one_header [] d g h x y = sym x ∙ y
   one_header (n ∷ path) d g h x y =
       let e : y.0 ≡ x.0 = one_member d y.0 x.0 n y.1 x.1 y.2 x.2 in
       one_header path x.0 g h x.3 (subst (λ c. Leads a c path h) e y.3)
 
+  -- a path of the image has at most 512 names
   pub short : (path : List (List ℕ)) (h : ℕ) → Has a path h → length path ≤ 512
   short path h x = elim (cases_lt 512 (length path)) [ inl l ↦ absurd (keeps_depth h (path, x, l)) | inr l ↦ l ]
 
@@ -90,13 +94,14 @@ module _ (a : List ℕ) (i : IsImage a) where
       (λ y. Contains (flat_map (λ c. map (λ p. name_of a c ∷ p) (paths n c))
       (chain_from a (places a) (cleared (spec a d)))) (y ∷ path)) same here)
 
+  -- there is a list of all paths of the image
   pub all_paths : (all : List (List (List ℕ))) × ((path : List (List ℕ)) (h : ℕ) → Has a path h → Contains all path)
   all_paths = (paths 512 (root a), λ path h x. has_all 512 (root a) path h (short path h x) x)
 
 -- what holds of the paths of a sound image
 pub ruleset path_laws = (one_header, short, all_paths)
 
--- names lead nowhere, or to a member
+-- names from a directory lead to that directory, where there are none, or to a member
 pub leads_to : (a : List ℕ) (path : List (List ℕ)) (d h : ℕ) → Leads a d path h → (d ≡ h) ⊎ IsSomeMember a h
 leads_to a [] d h l = inl l
 leads_to a (n ∷ path) d h (c, m, f, l) =

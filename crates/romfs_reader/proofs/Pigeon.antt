@@ -1,4 +1,5 @@
--- n + 1 numbers below n are not all different.
+-- n + 1 numbers below n are not all different (`no_room`): where they were, the last one could take
+-- the place of the greatest (`swapped`), and would leave n different numbers below n - 1.
 use Rattle.std.proofs.Common.{◌≡◌, ◌≢◌, ℕ, zero, suc, ◌<◌, ◌≤◌, ◌⊎◌, inl, inr, cond, ◌==◌, arith}
 use Rattle.std.proofs.lemmas.Bool.{cases_order}
 use Rattle.std.proofs.lemmas.Bool.Decides.{nat_tests}
@@ -14,6 +15,7 @@ swapped_is m v f i = elim (cases_order (f i) m) [
   | inr o ↦ (let n : f i ≢ m = (λ e. elim o [ inl l ↦ omega arith | inr l ↦ omega arith ]) in inr (n, grind (arith, nat_tests)))
 ]
 
+-- a function cannot take the numbers up to n to different numbers below n
 pub no_room : (n : ℕ) (f : ℕ → ℕ) → ((i : ℕ) → i ≤ n → f i < n) → ((i j : ℕ) → i < j → j ≤ n → f i ≢ f j) → ⊥
 no_room zero f below apart = let h : f 0 < 0 = below 0 (omega arith) in omega arith
 no_room (suc m) f below apart =

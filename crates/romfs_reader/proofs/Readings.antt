@@ -1,4 +1,6 @@
--- Where the names and data of given headers lie, and which places hold them.
+-- Where the names and data of given headers lie, and which members a given directory has: that what
+-- the readers of `parts` read is what the definitions say. Names and data lie in the image, as the
+-- rules ask; members are those of the chain from the first header on (`chain_members`).
 use Rattle.std.proofs.Common.{◌≡◌, ◌≢◌, ◌∙◌, sym, ap, subst, ℕ, zero, suc, ◌+◌, ◌<◌, ◌≤◌, ◌⊎◌, inl, inr, List, [], length, take, drop, Option, Some, None, arith, refl, IsSome, IsNone, IsSomeAnd, MatchOption, All}
 use Rattle.std.specs.Prelude.{unwrap_or}
 use Rattle.std.proofs.lemmas.Bool.{cases_order}
@@ -29,7 +31,7 @@ root_or a i h f = test (name a h) refl
       | inr (inr l) ↦ absurd (let s : IsSome (name a h) = from_named a i h f (λ q. omega arith) in let t = rw (← e) at s in cc)
     ]
 
--- `head` gives a header back that is given
+-- the header found at the offset of a given one is that one, but for a root whose name is not ended
 pub given_place : (a : List ℕ) (i : IsImage a) (r : Option Head) (h : ℕ)
     → MatchOption r (¬ IsPlace a h) (λ head. IsPlace a h × (head ≡ head_of a h)) → (g : Head) → IsGiven a g
     → g.offset ≡ h → (r ≡ Some g) ⊎ ((h ≡ root a) × IsNone (name a h))
@@ -58,9 +60,11 @@ name_bytes a h l = test (name a h) refl
     test None e = (omega arith, refl)
     test (Some n) e = let t = text_bytes a n (h + 16) l (sym e) in (let t0 = t.0 in omega arith, t.1)
 
+-- a header that is given has the fields at its offset, and lies in the image
 pub given_head : (a : List ℕ) (i : IsImage a) (head : Head) → IsGiven a head → IsHeadIn a head
 given_head a i head g = record { is = g.is; inside = from_inside a i head.offset g.from }
 
+-- the name of a header lies in the image, where its fields say
 pub given_name : (a : List ℕ) (head : Head) → IsHeadIn a head
     → (head.name_at + head.name_len ≤ length a)
     × (bytes_at a head.name_at head.name_len ≡ name_of a head.offset)
@@ -95,6 +99,7 @@ has_data : (k : Kind) → (k ≡ Regular) ⊎ (k ≡ SymLink) → (a : List ℕ)
 has_data k (inl e) a h = rw e refl
 has_data k (inr e) a h = rw e refl
 
+-- the data of a regular file or symbolic link lie in the image, behind the padded name
 pub given_data : (a : List ℕ) (i : IsImage a) (head : Head) → IsGiven a head
     → (head.kind ≡ Regular) ⊎ (head.kind ≡ SymLink)
     → (head.name_at + padded (head.name_len + 1) + head.size ≤ length a)
@@ -118,6 +123,7 @@ no_data_kind Character p q a h = refl
 no_data_kind Socket p q a h = refl
 no_data_kind Fifo p q a h = refl
 
+-- a header that is neither a regular file nor a symbolic link has no data
 pub no_data : (a : List ℕ) (head : Head) → IsGiven a head → head.kind ≢ Regular → head.kind ≢ SymLink → data_of_header a head.offset ≡ []
 no_data a head g p q = let e = ap (λ x. x.kind) g.is in no_data_kind (kind a head.offset) (λ r. p (e ∙ r)) (λ r. q (e ∙ r)) a head.offset
 
@@ -125,7 +131,7 @@ zero_ends : (a : List ℕ) (n : ℕ) → EndsWithin a n 0
 zero_ends a zero = refl
 zero_ends a (suc n) = inl refl
 
--- a walk that is over
+-- a walk that has come to 0 can go on there, where it is over
 pub walk_over : (a : List ℕ) (i : IsImage a) (r : ℕ) → r ≡ root a → IsWalk a r 0
 walk_over a i r e = record { small = i.small; root = e; ends = zero_ends a (places a) }
 
@@ -160,16 +166,20 @@ module _ (a : List ℕ) (i : IsImage a) (head : Head) (g : IsGiven a head) (k : 
     only = λ x f. f.0 ∙ ap cleared (sym spec_is) ∙ sym c;
   }
 
+  -- a directory other than the root that names itself as its first header has no members
   pub empty_members : (h : ℕ) → h ≡ cleared head.spec → h ≡ head.offset → h ≢ root a
       → AreMembers a head.offset (members_from a head.offset 0)
   empty_members h c e n = (starts 0 (itself h c e n)).0
 
+  -- the members of a directory are what is kept of the chain from its first header on
   pub chain_members : (h : ℕ) → h ≡ cleared head.spec → (h ≡ head.offset → h ≡ root a)
       → AreMembers a head.offset (members_from a head.offset h)
   chain_members h c t = (starts h (onward h c t)).0
 
+  -- the image gives each of these members
   pub chain_given : (h : ℕ) → h ≡ cleared head.spec → (h ≡ head.offset → h ≡ root a) → All (λ x. IsGiven a x) (members_from a head.offset h)
   chain_given h c t = (starts h (onward h c t)).2
 
+  -- a walk along a directory's chain can begin at its first header
   pub chain_walk : (h r : ℕ) → h ≡ cleared head.spec → (h ≡ head.offset → h ≡ root a) → r ≡ root a → IsWalk a r h
   chain_walk h r c t e = record { small = i.small; root = e; ends = (starts h (onward h c t)).1 }

@@ -1,4 +1,6 @@
--- The data of a header are a part of its image, shorter than that by the headers before them.
+-- The data of a header are a part of its image, shorter than that by the headers before them. So a
+-- reply can say their length (`short_data`), and the part where they lie stands for them:
+-- `part_of_data` for files and symbolic links, `part_of_none` for all others.
 use Rattle.std.proofs.Common.{◌≡◌, ◌≢◌, ◌∙◌, sym, ap, subst, ℕ, ◌+◌, ◌<◌, ◌≤◌, ◌^◌, ◌⊎◌, inl, inr, List, [], ◌∷◌, length, drop, refl, arith, lit≤}
 use Rattle.std.proofs.lemmas.List.{length-take, length-drop}
 use Rattle.romfs_format.specs.declared.head.Kind.{Kind}
@@ -18,6 +20,7 @@ part a at n behind small =
     let f = length-drop at a in
     omega arith
 
+-- the data of a header are short enough that a reply's header can say its length with them
 pub short_data : (a : List ℕ) (h : ℕ) → IsImage a → 16 + length (data_of_header a h) < 2 ^ 32
 short_data a h image = go (kind a h)
   where
@@ -33,6 +36,7 @@ long a at n within =
     let f = length-drop at a in
     omega arith
 
+-- the bytes of a part are short enough that a reply's header can say its length with them
 pub part_short : (a : List ℕ) (part : Part) → IsPart a part → 16 + length (bytes_at a part.start part.len) < 2 ^ 32
 part_short a part p =
     let n = long a part.start part.len p.within in
@@ -57,6 +61,7 @@ module _ (a : List ℕ) (image : IsImage a) (head : Head) (given : IsGiven a hea
   size_same : (n : ℕ) → n ≡ data_size head.kind head.size → n ≡ data_size (kind a head.offset) (size a head.offset)
   size_same n e = subst (λ (x : Head). n ≡ data_size x.kind x.size) given.is e
 
+  -- the bytes behind the padded name, as many as the size, are the part of a file or symbolic link
   pub part_of_data : (head.kind ≡ Regular) ⊎ (head.kind ≡ SymLink)
       → IsDataPart a head.offset (record {
         start = head.name_at + padded (head.name_len + 1);
@@ -74,6 +79,7 @@ module _ (a : List ℕ) (image : IsImage a) (head : Head) (given : IsGiven a hea
         size_is = size_same head.size (size_with head.kind k head.size);
       }
 
+  -- a part of no bytes is that of a header whose kind has no data
   pub part_of_none : head.kind ≢ Regular → head.kind ≢ SymLink → IsDataPart a head.offset (record { start = 0; len = 0 })
   part_of_none p q = record {
     lies = record { within = omega arith; short = lit≤ tt };

@@ -1,4 +1,6 @@
--- The accessible bytes of an image are an image, with the same rules kept.
+-- The accessible bytes of a sound image are an image with the same rules kept. They hold the volume
+-- header, so what is accessible of them are all of them (`twice`), and each rule that speaks of
+-- accessible bytes says the same of both (`kept_all`); `checked` is what callers use.
 use Rattle.std.proofs.Common.{◌≡◌, ◌≢◌, ◌∙◌, sym, ap, subst, ℕ, ◌+◌, ◌-◌, ◌%◌, ◌<◌, ◌≤◌, ◌^◌, ◌⊎◌, inl, inr, List, length, take, drop, get_or, arith, refl, lit<}
 use Rattle.std.proofs.lemmas.List.{take_all, length-take-le, get_or-drop, get_or-take}
 use Rattle.std.proofs.lemmas.Bool.{cases_lt}
@@ -71,6 +73,7 @@ module _ (b : List ℕ) (v : IsVolume b) (long : 16 ≤ word b 8) (within : word
     kept_all HeaderSum p = λ x. x
     kept_all Deep p = header_kept Deep p (sound.keeps Deep p)
 
+    -- the accessible bytes of a sound image are an image, given the bounds of its full size
     pub is_image : word b 8 < 2 ^ 32 → IsImage (image b)
     is_image small = record {
       small = (let s = size_is in omega arith);
@@ -78,7 +81,7 @@ module _ (b : List ℕ) (v : IsVolume b) (long : 16 ≤ word b 8) (within : word
       sound = record { keeps = kept_all };
     }
 
--- what a sound image says of its volume header
+-- the full size of a sound image is at least 16 and at most the number of its bytes
 pub bounds : (b : List ℕ) → IsSound b → (16 ≤ length b) × (16 ≤ word b 8) × (word b 8 ≤ length b)
 bounds b s = (long, full, within)
   where
@@ -91,5 +94,6 @@ bounds b s = (long, full, within)
     within : word b 8 ≤ length b
     within = elim (cases_lt (length b) (word b 8)) [ inl l ↦ absurd (s.keeps FullSize 8 (inl l, refl)) | inr l ↦ l ]
 
+-- the accessible bytes of a sound image are an image
 pub checked : (b : List ℕ) → IsSound b → word b 8 < 2 ^ 32 → IsImage (image b)
 checked b s small = let l = bounds b s in is_image b (record { keeps = λ r p n. s.keeps r p }) l.1 l.2 s small

@@ -39,6 +39,7 @@ data_of_kind Regular a h = bytes_at a (data_at h (name_of a h)) (size a h)
 data_of_kind SymLink a h = bytes_at a (data_at h (name_of a h)) (size a h)
 data_of_kind _ a h = []
 
+-- the data of the header h, by its kind
 abbrev pub data_of_header : List ℕ → ℕ → List ℕ
 data_of_header a h = data_of_kind (kind a h) a h
 

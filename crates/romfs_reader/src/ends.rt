@@ -1,14 +1,9 @@
 //! Where many hard links end.
 //!
-//! Hard links may lead to one another in chains that many share. So each header that a search
-//! passes is noted with the end that was found, and a later search stops at the first that is
-//! noted. A link that leads to the end itself is noted only where a search came to it from another
-//! link:
-//!
-//! ```text
-//! link -> link -> link -> file
-//!          ^ noted, with the offset of the file
-//! ```
+//! Hard links may lead to one another in chains that many share: link -> link -> link -> file. So
+//! each link that a search passes is noted with the offset of the end that was found, and a later
+//! search stops at the first that is noted. A link that leads to the end itself is noted only where
+//! a search came to it from another link.
 //!
 //! All searches of an image together take n log n steps in the headers asked for and passed.
 

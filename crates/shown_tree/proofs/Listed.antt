@@ -1,4 +1,6 @@
--- The entries of a tree in the order of their paths are the listing of its run.
+-- The entries of a tree in the order of their paths are the listing of its run (`is_listing`): they
+-- rise, an entry at a path is among them (`among_at`) and each of them is at its path (`at_among`);
+-- and hard links end at one header (`one_end`), so each is at the place that is shown.
 use Rattle.std.proofs.Common.{◌≡◌, ◌∙◌, sym, ap, subst, ℕ, inl, inr, List, [], ◌∷◌, map, refl, arith, Option, Some, None}
 use Rattle.std.specs.Prelude.{IsSomeAnd}
 use Rattle.std.specs.List.{AllByRecursion}
@@ -110,5 +112,6 @@ module _ (layers : List (List ℕ)) (t : TreeRows) (is : IsTreeOf 0 layers t) wh
       let same : listed (l.path, e.0) ≡ l = same_entry (listed (l.path, e.0)) l refl (omega (arith, w.layer)) (one_end a h _ _ f final) in
       subst (λ k. IsAmong k (listing t)) same (among_at t.entries l.path e.0 e.1)
 
+  -- the entries of a stack's tree, in their order, are the listing of the stack
   pub is_listing : IsListing layers (listing t)
   is_listing = record { rising = rises_listed t.entries is.rising; exact = λ l. (is_shown l, is_among l) }

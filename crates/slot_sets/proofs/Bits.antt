@@ -1,4 +1,6 @@
--- What the words of a set of slots say of each slot.
+-- What the words of a set of slots say of each slot: that a bit set in its word adds it
+-- (`bits_set`); that the lowest bit left in a word is the next slot (`low_is`, `low_first`); and
+-- that the words of two sets, bit by bit, are those of their union (`next_in`, `none_in`).
 use Rattle.std.proofs.Common.{◌≡◌, ◌≢◌, ◌∙◌, sym, ap, subst, ℕ, zero, suc, max, map, ◌⊎◌, None, ◌+◌, ◌-◌, ◌*◌, ◌/◌, ◌%◌, ◌^◌, ◌<◌, ◌≤◌, ◌==◌, inl, inr, List, length, Bool, true, false, get_or, set, replicate, refl, arith, w64}
 use Rattle.std.specs.Int.{bit_at, trailing_zeros}
 use Rattle.std.specs.Int.RustNames.{bit_and, bit_or}
@@ -10,18 +12,21 @@ use Rattle.std.proofs.lemmas.List.FromFn.{get_or-map-range_with_len, length-map-
 use Rattle.std.specs.List.{range_with_len}
 use Rattle.slot_sets.specs.Sets.{is_bit, bits, IsClear, IsNextInEither, IsNextOfEither}
 
+-- a set has a truth value for each slot
 pub bits_length : (n : ℕ) (words : List ℕ) → length (bits n words) ≡ n
 unfolding bits
 bits_length n words = length-map-range_with_len (is_bit words) 0 n
 
+-- a slot is in the set where its bit is set
 pub bits_at : (n : ℕ) (words : List ℕ) (k : ℕ) → k < n → get_or (bits n words) k false ≡ is_bit words k
 unfolding bits
 bits_at n words k l = get_or-map-range_with_len (is_bit words) 0 n k k false l (omega arith)
 
+-- the word of each slot is there, where the words have enough bits for all
 pub is_bit_past : (words : List ℕ) (n : ℕ) → n ≤ length words * 64 → (k : ℕ) → k < n → k / 64 < length words
 is_bit_past words n h k l = omega arith
 
--- no bit is set in words of zeros
+-- words of zeros are the empty set
 pub bits_none : (n m : ℕ) (words : List ℕ) → words ≡ replicate m 0 → n ≤ m * 64 → bits n words ≡ replicate n false
 bits_none n m words e h = same_lists (bits n words) (replicate n false) (bits_length n words ∙ sym (length-replicate n false)) (λ k d l.
     let s : k < n = subst (λ x. k < x) (bits_length n words) l in
@@ -59,6 +64,7 @@ module _ (n : ℕ) (words : List ℕ) (slot w : ℕ) (h : n ≤ length words * 6
         ∙ sym (get_or-set_other (bits n words) slot k true d q)
   ]
 
+  -- to set the bit of a slot in its word adds the slot to the set
   pub bits_set : bits n (set words (slot / 64) (bit_or w (1 * 2 ^ (slot % 64) % 2 ^ 64))) ≡ set (bits n words) slot true
   unfolding with_bit
   bits_set = same_lists (bits n with_bit) (set (bits n words) slot true)
@@ -90,7 +96,7 @@ module _ (words : List ℕ) (slot word : ℕ) (e : word ≡ get_or words (slot /
       ap (λ x. bit_at (get_or words x 0) (k % 64) == 1) q ∙ ap (λ x. bit_at x (k % 64) == 1) (sym e)
       ∙ ap (λ x. x == 1) (sym (rest_from word slot (k % 64) (omega arith) (omega arith)))
 
-  -- where nothing is left the slots up to the next word are not in the set
+  -- where nothing is left, no slot from this one up to the next word is in the set
   pub none_left : rest word slot ≡ 0 → (k : ℕ) → slot ≤ k → k < (slot / 64 + 1) * 64 → is_bit words k ≡ false
   none_left z k l m = in_word k l m ∙ ap (λ x. bit_at x (k % 64) == 1) z ∙ ap (λ x. x == 1) (bit_at-zero (k % 64))
 
@@ -101,6 +107,7 @@ module _ (words : List ℕ) (slot word : ℕ) (e : word ≡ get_or words (slot /
         × ((i : ℕ) → i < trailing_zeros w64 (rest word slot) → bit_at (rest word slot) i ≡ 0)
     lowest = bit_at-trailing_zeros w64 (rest word slot) some (rest_fits word slot)
 
+    -- the lowest bit that is left is one of the word's, and not below the slot's
     pub low_from : (low : ℕ) → low ≡ trailing_zeros w64 (rest word slot) → (low < 64) × (slot % 64 ≤ low)
     low_from low f = (
       subst (λ x. x < 64) (sym f) lowest.0,
@@ -111,6 +118,7 @@ module _ (words : List ℕ) (slot word : ℕ) (e : word ≡ get_or words (slot /
       ],
     )
 
+    -- the slot of the lowest bit that is left is in the set
     pub low_is : (low : ℕ) → low ≡ trailing_zeros w64 (rest word slot) → is_bit words (slot / 64 * 64 + low) ≡ true
     low_is low f =
         let a = low_from low f in
@@ -120,20 +128,21 @@ module _ (words : List ℕ) (slot word : ℕ) (e : word ≡ get_or words (slot /
         in_word (slot / 64 * 64 + low) (omega arith) (omega arith) ∙ ap (λ x. bit_at (rest word slot) x == 1) (r ∙ f)
             ∙ ap (λ x. x == 1) lowest.1
 
+    -- no slot from this one up to that of the lowest bit that is left is in the set
     pub low_first : (low : ℕ) → low ≡ trailing_zeros w64 (rest word slot) → (k : ℕ) → slot ≤ k → k < slot / 64 * 64 + low
         → is_bit words k ≡ false
     low_first low f k l m =
         let h = (low_from low f).0 in
         in_word k l (omega arith) ∙ ap (λ x. x == 1) (lowest.2 (k % 64) (subst (λ x. k % 64 < x) f (omega arith)))
 
--- slots from `from` on that are not in the set, up to `slot`, and up to the end of its word
+-- if no slot up to `slot` is in the set, and none from there up to `high`, none up to `high` is
 pub clear_more : (words : List ℕ) (from slot high : ℕ)
     → ((k : ℕ) → from ≤ k → k < slot → is_bit words k ≡ false)
     → ((k : ℕ) → slot ≤ k → k < high → is_bit words k ≡ false) → (k : ℕ) → from ≤ k → k < high
     → is_bit words k ≡ false
 clear_more words from slot high c d k l m = elim (cases_lt k slot) [ inl x ↦ c k l x | inr x ↦ d k x m ]
 
--- the words of two sets together
+-- the words of the union of two sets
 unfoldable pub joined : ℕ → List ℕ → List ℕ → List ℕ
 joined n one other = map (λ i. bit_or (get_or one i 0) (get_or other i 0)) (range_with_len 0 n)
 
@@ -149,6 +158,7 @@ either_bit zero (suc (suc b)) l m = absurd (omega arith)
 either_bit (suc zero) (suc (suc b)) l m = absurd (omega arith)
 
 module _ (words : ℕ) (one other : List ℕ) where
+  -- a word of the union has the bits of both words
   pub joined_at : (i : ℕ) → i < words → get_or (joined words one other) i 0 ≡ bit_or (get_or one i 0) (get_or other i 0)
   unfolding joined
   joined_at i l = get_or-map-range_with_len (λ j. bit_or (get_or one j 0) (get_or other j 0)) 0 words i i 0 l (omega arith)
@@ -165,9 +175,11 @@ module _ (words : ℕ) (one other : List ℕ) where
     cases = either_bit (bit_at (get_or one (k / 64) 0) (k % 64)) (bit_at (get_or other (k / 64) 0) (k % 64))
         (bit_at-lt (get_or one (k / 64) 0) (k % 64)) (bit_at-lt (get_or other (k / 64) 0) (k % 64))
 
+    -- a slot of the union is in one of the sets
     pub in_either : is_bit (joined words one other) k ≡ true → (is_bit one k ≡ true) ⊎ (is_bit other k ≡ true)
     in_either e = cases.0 (ap (λ x. x == 1) (sym bit_is) ∙ e)
 
+    -- a slot that is not in the union is in neither set
     pub in_neither : is_bit (joined words one other) k ≡ false → (is_bit one k ≡ false) × (is_bit other k ≡ false)
     in_neither e = cases.1 (ap (λ x. x == 1) (sym bit_is) ∙ e)
 
@@ -181,6 +193,7 @@ module _ (n words : ℕ) (one other : List ℕ) (w : n ≤ words * 64) where
     record { each = λ j a b. bits_at n other j (omega arith) ∙ (in_neither words one other j (omega arith) (c j a b)).1 },
   )
 
+  -- the first slot of the union from a slot on is the next of either set
   pub next_in : (from k : ℕ) → from ≤ k → k < n → is_bit (joined words one other) k ≡ true
       → ((j : ℕ) → from ≤ j → j < k → is_bit (joined words one other) j ≡ false)
       → IsNextInEither (bits n one) (bits n other) from k
@@ -192,9 +205,11 @@ module _ (n words : ℕ) (one other : List ℕ) (w : n ≤ words * 64) where
     other_clear = (clear_below from k (omega arith) c).1;
   }
 
+  -- where the union has no slot from one on, neither set has one
   pub none_in : (from : ℕ) → ((k : ℕ) → from ≤ k → k < n → is_bit (joined words one other) k ≡ false)
       → IsNextOfEither (bits n one) (bits n other) from None
   none_in from c = rw (bits_length n one) (clear_below from n (omega arith) c)
 
+-- a set of fewer than 2^32 slots has fewer than 2^32 truth values
 pub small : (n : ℕ) (words : List ℕ) → n < 2 ^ 32 → length (bits n words) < 2 ^ 32
 small n words l = rw (bits_length n words) l

@@ -1,4 +1,6 @@
--- The places of the slots of a set, as a list that grows by one.
+-- The places of the slots of a set, as a list that grows: of no slots there are none
+-- (`collects_none`), each slot of the set adds its place at the end (`collects_marked`), and the
+-- slots between are passed in one step (`collects_to`).
 use Rattle.std.proofs.Common.{◌≡◌, ◌∙◌, sym, ap, ℕ, ◌+◌, ◌*◌, ◌<◌, ◌≤◌, ◌⊎◌, inl, inr, List, [], ◌∷◌, ◌++◌, length, get_or, Bool, true, false, refl, arith}
 use Rattle.std.proofs.lemmas.List.{get_or_at, get_or_append_left, length_push}
 use Rattle.std.proofs.lemmas.Bool.{cases_order, false≢true}
@@ -7,7 +9,7 @@ use Rattle.slot_sets.proofs.Unions.{over_to}
 use Rattle.slot_sets.specs.Sets.{rank, IsClear}
 use Rattle.slot_sets.specs.Listed.{AreCollected}
 
--- a place of a list with one more at the end
+-- what stands in a list with one more at its end stands in the list, or is that one
 pub places : (xs : List ℕ) (x k : ℕ) → k < length (xs ++ x ∷ [])
     → ((k < length xs) × (get_or (xs ++ x ∷ []) k 0 ≡ get_or xs k 0))
     ⊎ ((k ≡ length xs) × (get_or (xs ++ x ∷ []) k 0 ≡ x))
@@ -17,10 +19,12 @@ places xs x k l = let s = length_push xs x in elim (cases_order k (length xs)) [
   | inr (inr m) ↦ absurd (omega arith)
 ]
 
+-- with one more at the end of a list, that one stands at the old length
 pub last : (xs : List ℕ) (x : ℕ) → get_or (xs ++ x ∷ []) (length xs) 0 ≡ x
 last xs x = get_or_at xs x [] 0 (length xs) refl
 
 module _ (set : List Bool) where
+  -- of no slots there are no places
   pub collects_none : AreCollected set 0 []
   collects_none = record {
     count = sym (rank_zero set);
@@ -31,6 +35,7 @@ module _ (set : List Bool) where
   }
 
   module _ (slot : ℕ) (spots : List ℕ) (w : AreCollected set slot spots) where
+    -- a slot that is not in the set adds no place
     pub collects_plain : get_or set slot false ≡ false → AreCollected set (slot + 1) spots
     collects_plain n = record {
       count = w.count ∙ sym (rank_other set slot n);
@@ -44,6 +49,7 @@ module _ (set : List Bool) where
       ];
     }
 
+    -- a slot of the set adds its place at the end
     pub collects_marked : get_or set slot false ≡ true → AreCollected set (slot + 1) (spots ++ slot * 16 ∷ [])
     collects_marked e = record {
       count = length_push spots (slot * 16) ∙ ap (λ x. x + 1) w.count ∙ sym (rank_member set slot e);
@@ -75,7 +81,7 @@ module _ (set : List Bool) where
       ];
     }
 
-  -- over slots that are not in the set
+  -- slots of which none is in the set add no places
   pub collects_to : (low high : ℕ) (spots : List ℕ) → low ≤ high → IsClear set low high → AreCollected set low spots
       → AreCollected set high spots
   collects_to low high spots l c w = over_to (λ k. AreCollected set k spots) low high l w

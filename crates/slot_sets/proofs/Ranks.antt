@@ -1,4 +1,6 @@
--- How many slots of a set stand before a slot.
+-- How many slots of a set stand before a slot: its rank. It grows by one with each slot of the set,
+-- so these have different ranks (`rank_once`); within a word the rank grows by the lower bits
+-- (`counted`), so counts by word tell every rank (`counts_more`).
 use lib.Count.{ones_step}
 use lib.Arith.{mod-mul}
 use lib.Pow.{pow_pos}
@@ -12,6 +14,7 @@ use Rattle.std.proofs.lemmas.List.{get_or_at, get_or_append_left, length_push}
 use Rattle.slot_sets.specs.Sets.{is_bit, bits, rank}
 use Rattle.slot_sets.proofs.Bits.{bits_at}
 
+-- no slot of the set stands before slot 0
 pub rank_zero : (set : List Bool) → rank set 0 ≡ 0
 unfolding rank
 rank_zero set = refl
@@ -20,9 +23,11 @@ one_more : (set : List Bool) (n : ℕ) → rank set (n + 1) ≡ rank set n + con
 unfolding rank
 one_more set n = ap (rank set) (let e : n + 1 ≡ suc n = omega arith in e)
 
+-- a slot of the set adds one to those before the next slot
 pub rank_member : (set : List Bool) (n : ℕ) → get_or set n false ≡ true → rank set (n + 1) ≡ rank set n + 1
 rank_member set n e = one_more set n ∙ ap (λ b. rank set n + cond b 1 0) e
 
+-- a slot that is not in the set adds none to those before the next slot
 pub rank_other : (set : List Bool) (n : ℕ) → get_or set n false ≡ false → rank set (n + 1) ≡ rank set n
 rank_other set n e = let s = one_more set n ∙ ap (λ b. rank set n + cond b 1 0) e in omega arith
 
@@ -33,6 +38,7 @@ rank_step set n = go (get_or set n false) refl
     go true e = let r = rank_member set n e in (omega arith, omega arith)
     go false e = let r = rank_other set n e in (omega arith, omega arith)
 
+-- as many of the set, or more, stand before a slot that is `more` further on
 pub rank_rises : (set : List Bool) (n more : ℕ) → rank set n ≤ rank set (n + more)
 rank_rises set n zero = let e : rank set (n + 0) ≡ rank set n = ap (rank set) (let z : n + 0 ≡ n = omega arith in z) in omega arith
 rank_rises set n (suc more) =
@@ -41,10 +47,12 @@ rank_rises set n (suc more) =
     let s = (rank_step set (n + more)).0 in
     omega arith
 
+-- as many of the set, or more, stand before a later slot
 pub rank_up : (set : List Bool) (m n : ℕ) → m ≤ n → rank set m ≤ rank set n
 rank_up set m n l = let e : rank set (m + (n - m)) ≡ rank set n = ap (rank set)
     (let z : m + (n - m) ≡ n = omega arith in z) in let r = rank_rises set m (n - m) in omega arith
 
+-- no more of the set stand before a slot than there are slots before it
 pub rank_few : (set : List Bool) (n : ℕ) → rank set n ≤ n
 rank_few set zero = let z = rank_zero set in omega arith
 rank_few set (suc n) =
@@ -123,6 +131,7 @@ module _ (n : ℕ) (words : List ℕ) (word w : ℕ) (e : w ≡ get_or words wor
               omega arith)
       ]
 
+  -- before a slot of a word stand those before the word, and as many as lower bits are set
   pub counted : (i : ℕ) → i ≤ 64 → word * 64 + i ≤ n → rank (bits n words) (word * 64 + i) ≡ rank (bits n words) (word * 64)
       + count_ones (w % 2 ^ i)
   counted i l m = let r = ranked i l m in let c = count_low i w in omega arith
@@ -131,9 +140,11 @@ module _ (n : ℕ) (words : List ℕ) (word w : ℕ) (e : w ≡ get_or words wor
 pub record AreCountsSoFar (set : List Bool) (before : List ℕ) : Type 0 where
   pub each : (w : ℕ) → w < length before → get_or before w 0 ≡ rank set (w * 64)
 
+-- a list of no counts is right
 pub no_counts : (set : List Bool) → AreCountsSoFar set []
 no_counts set = record { each = λ w l. absurd (omega arith) }
 
+-- right counts stay so with that of the next word at their end
 pub counts_more : (set : List Bool) (before : List ℕ) (count : ℕ) → count ≡ rank set (length before * 64)
     → AreCountsSoFar set before → AreCountsSoFar set (before ++ count ∷ [])
 counts_more set before count e c = record {

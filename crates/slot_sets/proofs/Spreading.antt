@@ -1,4 +1,6 @@
--- Numbers for the slots of a set, by slot.
+-- Numbers for the slots of a set, by slot. They are kept by rank, which is among the numbers kept
+-- (`number_fits`), so a look-up at the rank reads the slot's number (`word_is`), and a number put
+-- there changes that of this slot alone (`put_is`).
 use Rattle.std.proofs.Common.{◌≡◌, ◌≢◌, ◌∙◌, sym, ap, subst, ℕ, ◌<◌, inl, inr, List, length, Bool, true, false, cond, get_or, set, replicate, refl, arith}
 use Rattle.std.proofs.lemmas.Bool.{cases_eq, cases_lt, true≢false}
 use Rattle.std.proofs.lemmas.List.{get_or_past, length-set, get_or-set_same, get_or-set_other, same_lists, get_or-replicate, length-replicate}
@@ -7,6 +9,7 @@ use Rattle.slot_sets.specs.Sets.{rank}
 use Rattle.slot_sets.specs.Words.{word_at, words_by_slot}
 use Rattle.slot_sets.proofs.Ranks.{rank_below, rank_once}
 
+-- there is a number by slot for each slot, whether in the set or not
 pub spread_length : (marks : List Bool) (words : List ℕ) → length (words_by_slot marks words) ≡ length marks
 unfolding words_by_slot
 spread_length marks words = length-map-range_with_len (word_at marks words) 0 (length marks)
@@ -16,17 +19,21 @@ spread_at : (marks : List Bool) (words : List ℕ) (k d : ℕ) → k < length ma
 unfolding words_by_slot
 spread_at marks words k d l = get_or-map-range_with_len (word_at marks words) 0 (length marks) k k d l (omega arith)
 
+-- a slot of the set is below the number of slots
 pub member_inside : (marks : List Bool) (k : ℕ) → get_or marks k false ≡ true → k < length marks
 member_inside marks k m = elim (cases_lt k (length marks)) [ inl l ↦ l | inr l ↦ absurd (true≢false (sym m ∙ get_or_past marks k false l)) ]
 
 -- of a slot of the set
 module _ (marks : List Bool) (words : List ℕ) (k : ℕ) (m : get_or marks k false ≡ true) where
+  -- the rank of a slot of the set is among the numbers kept
   pub number_fits : length words ≡ rank marks (length marks) → rank marks k < length words
   number_fits s = let r = rank_below marks k (length marks) m (member_inside marks k m) in omega arith
 
+  -- the number of a slot of the set is the one kept at its rank
   pub word_is : get_or (words_by_slot marks words) k 0 ≡ get_or words (rank marks k) 0
   word_is = spread_at marks words k 0 (member_inside marks k m) ∙ ap (λ b. cond b (get_or words (rank marks k) 0) 0) m
 
+  -- to keep a number at the rank of a slot of the set changes the number of that slot alone
   pub put_is : (v : ℕ) → rank marks k < length words → words_by_slot marks (set words (rank marks k) v)
       ≡ set (words_by_slot marks words) k v
   put_is v f = same_lists (words_by_slot marks (set words (rank marks k) v)) (set (words_by_slot marks words) k v)
@@ -51,6 +58,7 @@ module _ (marks : List Bool) (words : List ℕ) (k : ℕ) (m : get_or marks k fa
             ∙ sym (get_or-set_other (words_by_slot marks words) k j v d n)
       ]
 
+-- where only zeros are kept, each slot has the number 0
 pub spread_none : (marks : List Bool) (words : List ℕ) (n : ℕ) → words ≡ replicate n 0 → words_by_slot marks words
     ≡ replicate (length marks) 0
 spread_none marks words n e = same_lists (words_by_slot marks words) (replicate (length marks) 0)

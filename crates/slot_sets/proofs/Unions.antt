@@ -1,4 +1,6 @@
--- Walks over sets of slots: what holds below a slot, and the slots between that are not in the set.
+-- Walks over sets of slots. What holds at a slot and goes on from slot to slot holds at every later
+-- one (`over_to`). A union is made so: it holds the other set's slots below the one come to
+-- (`united_more`), and is whole where none is left (`united_all`).
 use Rattle.std.proofs.Common.{◌≡◌, ◌∙◌, sym, subst, ℕ, zero, suc, ◌+◌, ◌-◌, ◌<◌, ◌≤◌, ◌⊎◌, inl, inr, List, length, Bool, true, false, get_or, set, Option, Some, None, refl, arith}
 use Rattle.std.proofs.lemmas.Bool.{cases_eq, cases_lt, true≢false}
 use Rattle.std.proofs.lemmas.List.{length-set, get_or-set_same, get_or-set_other, get_or_past}
@@ -13,6 +15,7 @@ over P low (suc n) p step =
     let e : low + n + 1 ≡ low + suc n = omega arith in
     subst P e r
 
+-- what goes on from each slot to the next goes on from one slot to any later one
 pub over_to : (P : ℕ → Type 0) (low high : ℕ) → low ≤ high → P low → ((k : ℕ) → low ≤ k → k < high → P k → P (k + 1)) → P high
 over_to P low high l p step =
     let e : low + (high - low) ≡ high = omega arith in
@@ -26,9 +29,11 @@ pub record IsUnionBelow (n : ℕ) (one other both : List Bool) : Type 0 where
   pub new : (k : ℕ) → k < n → get_or other k false ≡ true → get_or both k false ≡ true
 
 module _ (one other : List Bool) where
+  -- with none of the other set's slots added, a set is the union so far
   pub united_none : IsUnionBelow 0 one other one
   united_none = record { sized = refl; each = λ k m. inl m; old = λ k m. m; new = λ k l m. absurd (omega arith) }
 
+  -- with the next slot of the other set added, the union is made up to that slot
   pub united_more : (from slot : ℕ) (both : List Bool) → length other ≡ length one
       → IsUnionBelow from one other both → IsNextIn other from slot
       → IsUnionBelow (slot + 1) one other (set both slot true)
@@ -54,6 +59,7 @@ module _ (one other : List Bool) where
       fits : slot < length both
       fits = let s = u.sized in let h = n.high in omega arith
 
+  -- where the other set has no more slots, the union is whole
   pub united_all : (from : ℕ) (both : List Bool) → IsUnionBelow from one other both → IsClear other from (length other)
       → IsUnion one other both
   united_all from both u c = record {
@@ -69,7 +75,7 @@ module _ (one other : List Bool) where
     ];
   }
 
--- the next slot of either of a set and the same is the next of the set
+-- of a set and itself the next of either is the next of the set
 pub next_of_one : (one : List Bool) (from : ℕ) (next : Option ℕ) → IsNextOfEither one one from next → IsNextSlot one from next
 next_of_one one from None c = c.0
 next_of_one one from (Some k) n = record { low = n.low; high = n.high; is = elim n.is [ inl x ↦ x | inr x ↦ x ]; clear = n.one_clear }

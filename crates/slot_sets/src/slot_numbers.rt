@@ -1,8 +1,5 @@
-//! The numbers of the slots of a set.
-//!
-//! The slots of a set are numbered from 0, upward. For each word of the set it is kept how many
-//! slots of the set stand in the words before it, so that a slot's number is had by a look at two
-//! words:
+//! The numbers of the slots of a set, from 0, upward. For each word of the set it is kept how many
+//! of its slots stand in the words before, so that a number is had by a look at two words:
 //!
 //! ```text
 //! set     ..1.1... 1....... .11.....

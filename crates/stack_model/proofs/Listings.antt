@@ -1,4 +1,6 @@
--- A stack has one listing, of places that paths of its layers lead to.
+-- A stack has one listing (`one_listing`), since lists that rise and have the same entries are one
+-- (`same_entries`); and each listed place is one that a path of its layer leads to, after hard
+-- links (`led_to`).
 use Rattle.std.proofs.Common.{◌≡◌, ◌∙◌, sym, ap, subst, ℕ, zero, suc, inl, inr, List, [], ◌∷◌, Some, refl}
 use Rattle.std.specs.Prelude.{slice_get}
 use Rattle.std.specs.declared.cmp.Ordering.TheVariants.{Less, Greater}
@@ -39,6 +41,7 @@ same_entries (x ∷ xs) (y ∷ ys) r s f g =
     (λ e m. elim (g e (inr m)) [ inl i ↦ absurd (not_itself e.path (rw (sym one ∙ sym i) at (above y ys e s.0 m))) | inr n ↦ n ]) in
     cc
 
+-- two listings of one stack are the same
 pub one_listing : (layers : List (List ℕ)) (xs ys : List Entry) → IsListing layers xs → IsListing layers ys → xs ≡ ys
 one_listing layers xs ys x y = same_entries xs ys x.rising y.rising (λ e m. (y.exact e).1 ((x.exact e).0 m))
     (λ e m. (x.exact e).1 ((y.exact e).0 m))

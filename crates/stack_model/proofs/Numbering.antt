@@ -1,4 +1,6 @@
--- Numbers and places are one to one.
+-- Numbers and places are one to one. Each place is noted once (`once_nodes`), so it has the number
+-- of its position, and no other (`number_used`); what is noted are the places of entries, and of
+-- all of them (`number_listed`, `entries_numbered`); the first is the root's (`root_first`).
 use Rattle.std.proofs.Common.{◌≡◌, ◌∙◌, sym, ap, ℕ, zero, suc, ◌+◌, ◌<◌, ◌≤◌, ◌⊎◌, ◌↔◌, inl, inr, List, [], ◌∷◌, ◌++◌, length, map, Bool, true, false, ◌||◌, Some, IsSome, cond, refl, arith}
 use Rattle.std.specs.Prelude.{slice_get, fold, nat_eq}
 use Rattle.std.specs.List.{list_any, position_from, AllByRecursion}
@@ -157,6 +159,7 @@ once_nodes : (entries : List Entry) → Once (nodes entries)
 unfolding nodes
 once_nodes entries = once_all [] (map place entries) tt
 
+-- a place has a number exactly where the node of that number is the place
 pub number_used : (entries : List Entry) (n : ℕ) (p : Place) → (number_of entries p ≡ Some n) ↔ (node_of entries n ≡ Some p)
 unfolding number_of
 number_used entries n p = (there, back n)
@@ -168,6 +171,7 @@ number_used entries n p = (there, back n)
     back zero e = absurd (cc)
     back (suc k) e = at_found 1 k p (nodes entries) (once_nodes entries) e ∙ ap Some (omega arith)
 
+-- the numbers in use are those from 1 to how many nodes there are
 pub numbers_all : (entries : List Entry) (n : ℕ) → IsSome (node_of entries n) ↔ ((1 ≤ n) × (n ≤ length (nodes entries)))
 numbers_all entries zero = (λ s. absurd (cc), λ b. absurd (let l = b.0 in omega arith))
 numbers_all entries (suc n) = (within (nodes entries) n, λ b. there (nodes entries) n (let l = b.1 in omega arith))
@@ -185,7 +189,7 @@ numbers_all entries (suc n) = (within (nodes entries) n, λ b. there (nodes entr
     within : (ps : List Place) (k : ℕ) → IsSome (slice_get ps k) → (1 ≤ suc k) × (suc k ≤ length ps)
     within ps k s = let l = under ps k s in (omega arith, omega arith)
 
--- a number that is used is that of an entry's place
+-- a number in use is that of an entry's place
 pub number_listed : (entries : List Entry) (n : ℕ) (p : Place) → node_of entries n ≡ Some p → (e : Entry) × IsAmong e entries
     × (place e ≡ p)
 unfolding nodes
@@ -196,6 +200,7 @@ numbered : (entries : List Entry) (e : Entry) → IsAmong e entries → (m : ℕ
 unfolding number_of nodes
 numbered entries e a = some_position 1 (place e) (nodes entries) (all_noted e entries [] a)
 
+-- each entry's place has a number, and two have one number exactly where they are one place
 pub entries_numbered : (entries : List Entry) (e f : Entry) → IsAmong e entries → IsAmong f entries
     → IsSome (number_of entries (place e))
     × ((number_of entries (place e) ≡ number_of entries (place f)) ↔ (place e ≡ place f))
@@ -209,6 +214,7 @@ entries_numbered entries e f a b =
         let y = (number_used entries m (place f)).0 j in
         let z : Some (place e) ≡ Some (place f) = sym x ∙ y in cc
 
+-- the place of the root has the number 1
 pub root_first : (layers : List (List ℕ)) (entries : List Entry) (e : Entry) → IsListing layers entries
     → IsAmong e entries → e.path ≡ [] → number_of entries (place e) ≡ Some 1
 unfolding number_of nodes
@@ -228,4 +234,5 @@ root_first layers (f ∷ fs) e l a p = let i : e ≡ f =
     begins : (f : Entry) (fs : List Entry) → number_of (f ∷ fs) (place f) ≡ Some 1
     begins f fs = let r = first_stays (place f) [] (map place fs) in rw (r.1, same_itself (place f)) refl
 
+-- how numbers and places go together
 pub ruleset numbering = (root_first, number_used, number_listed, numbers_all, entries_numbered)

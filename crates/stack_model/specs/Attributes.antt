@@ -8,6 +8,7 @@ use Rattle.stack_model.specs.Listing.{Entry}
 use Rattle.stack_model.specs.Numbers.{Place, place, same_place, children}
 use Rattle.std.specs.Prelude.{length}
 
+-- whether the kind is a directory's
 abbrev pub is_directory : Kind → Bool
 is_directory Directory = true
 is_directory _ = false
@@ -49,21 +50,27 @@ abbrev pub blocks_all : List (List ℕ) → ℕ
 blocks_all layers = sum_by (λ a. blocks_of (length a)) layers
 
 module _ (layers : List (List ℕ)) where
+  -- the bytes of the layer that a place is in; none where there is no such layer
   abbrev pub layer_of : Place → List ℕ
   layer_of p = slice_index_or layers p.0 []
 
+  -- the kind of the header at a place
   abbrev pub kind_at : Place → Kind
   kind_at p = kind (layer_of p) p.1
 
+  -- whether a directory stands at a place
   abbrev pub is_directory_at : Place → Bool
   is_directory_at p = is_directory (kind_at p)
 
+  -- the mode of a place, by its kind and whether it is executable
   abbrev pub mode : Place → ℕ
   mode p = mode_of (kind_at p) (exec (layer_of p) p.1)
 
+  -- how many bytes of data a place has
   abbrev pub size_at : Place → ℕ
   size_at p = size_of (kind_at p) (size (layer_of p) p.1)
 
+  -- the device number of a place; 0 where no device stands there
   abbrev pub rdev : Place → ℕ
   rdev p = rdev_of (kind_at p) (spec (layer_of p) p.1)
 

@@ -32,6 +32,7 @@ IsFinalIn layers i h header = (a : List ℕ) × (slice_get layers i ≡ Some a) 
 abbrev pub IsShown : List (List ℕ) → Entry → Type 0
 IsShown layers e = (h : ℕ) × Shows layers e.path e.layer h × IsFinalIn layers e.layer h e.header
 
+-- the entry is one of the list
 abbrev pub IsAmong : Entry → List Entry → Type 0
 IsAmong e [] = ⊥
 IsAmong e (f ∷ fs) = (e ≡ f) ⊎ IsAmong e fs

@@ -11,15 +11,19 @@ use Rattle.stack_model.specs.Listing.{Entry}
 abbrev pub Place : Type 0
 Place = ℕ × ℕ
 
+-- where the entry stands
 abbrev pub place : Entry → Place
 place e = (e.layer, e.header)
 
+-- whether layer and header are the same
 abbrev pub same_place : Place → Place → Bool
 same_place p q = p.0 == q.0 && p.1 == q.1
 
+-- whether the bytes are the same
 abbrev pub same_name : List ℕ → List ℕ → Bool
 same_name = pointwise nat_eq
 
+-- whether the names are the same
 abbrev pub same_path : Path → Path → Bool
 same_path = pointwise same_name
 

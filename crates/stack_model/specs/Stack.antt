@@ -18,6 +18,7 @@ marker = codes ".wh."
 abbrev pub opaque : List ℕ
 opaque = codes ".wh..wh..opq"
 
+-- the name begins as a marker's does
 abbrev pub IsMarker : List ℕ → Type 0
 IsMarker name = IsTrue (starts_with nat_eq name marker)
 
@@ -29,9 +30,11 @@ IsPlain path = AllByRecursion (λ name. ¬ IsMarker name) path
 abbrev pub IsIn : List ℕ → Path → Type 0
 IsIn a path = (h : ℕ) × Has a path h
 
+-- the layer a has a directory at the path
 abbrev pub HasDirectory : List ℕ → Path → Type 0
 HasDirectory a path = (h : ℕ) × Has a path h × (kind a h ≡ Directory)
 
+-- the layer a has the path, with a header that is no directory's
 abbrev pub HasOther : List ℕ → Path → Type 0
 HasOther a path = (h : ℕ) × Has a path h × (kind a h ≢ Directory)
 

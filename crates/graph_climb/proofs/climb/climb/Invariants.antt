@@ -4,6 +4,7 @@ use Rattle.graph_climb.proofs.Marks.{unmarked}
 use Rattle.graph_climb.proofs.Ascent.{IsUnderWay}
 use Rattle.graph_climb.proofs.climb.climb.Given as goal
 
+-- a climb is under way to the point of this turn, and marks are kept
 abbrev pub invariant-loop-found : goal.invariant-loop-found
 invariant-loop-found g l = record {
   under_way : IsUnderWay l.graph.next.items l.graph.class.items l.graph.first.items l.graph.sibling.items
@@ -13,5 +14,6 @@ invariant-loop-found g l = record {
   low : length l.found.low.items ≡ length l.graph.next.items;
 }
 
+-- the points that are not entered, counted twice, and the steps
 abbrev pub decreases-loop-found : goal.decreases-loop-found
 decreases-loop-found g l = 2 * unmarked l.found.entered.items + length l.steps.items

@@ -2,6 +2,7 @@ use Rattle.std.proofs.Common.{drop, reverse}
 use Rattle.graph_climb.specs.Climb.{IsFound, AreMarksKept}
 use Rattle.graph_climb.proofs.climb.enter_all.Given as goal
 
+-- only what leads to points from this turn on is still to be entered, and marks are kept
 abbrev pub invariant-loop-turn : goal.invariant-loop-turn
 invariant-loop-turn g l = record {
   found : IsFound l.graph.next.items l.graph.class.items (reverse l.cycle.items) (drop l.turn l.cycle.items)

@@ -3,6 +3,7 @@ use Rattle.graph_climb.proofs.Marks.{unmarked}
 use Rattle.graph_climb.proofs.Rounds.{IsRounding}
 use Rattle.graph_climb.proofs.climb.gather.Given as goal
 
+-- the entering of the cycle has come to `at`
 abbrev pub invariant-loop-found : goal.invariant-loop-found
 invariant-loop-found g l = record {
   rounding : IsRounding l.graph.next.items l.graph.class.items l.fn.found.entered.items l.found.entered.items
@@ -11,5 +12,6 @@ invariant-loop-found g l = record {
   low : length l.found.low.items ≡ length l.graph.next.items;
 }
 
+-- the points that are not entered
 abbrev pub decreases-loop-found : goal.decreases-loop-found
 decreases-loop-found g l = unmarked l.found.entered.items

@@ -2,6 +2,8 @@ use Rattle.std.proofs.Common.{◌≡◌, ℕ, ◌<◌, true, false, length, get_
 use Rattle.graph_climb.specs.Climb.{IsFound, AreMarksKept}
 use Rattle.graph_climb.proofs.climb.note_all.Given as goal
 
+-- what has been found is right, all that was visited is entered, and so are all points before this
+-- one
 abbrev pub invariant-loop-from : goal.invariant-loop-from
 invariant-loop-from g l = record {
   found : IsFound l.graph.next.items l.graph.class.items [] [] l.found.entered.items l.found.noted.items l.found.low.items;

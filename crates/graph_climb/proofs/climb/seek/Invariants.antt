@@ -3,6 +3,7 @@ use Rattle.graph_climb.specs.Climb.{AreMarksKept, IsClosed, IsFreshWalk}
 use Rattle.graph_climb.proofs.Marks.{unmarked}
 use Rattle.graph_climb.proofs.climb.seek.Given as goal
 
+-- over whatever was entered before, a fresh walk has come to `at`
 abbrev pub invariant-loop-visited : goal.invariant-loop-visited
 invariant-loop-visited l = record {
   inside : l.at < length l.next;
@@ -10,5 +11,6 @@ invariant-loop-visited l = record {
       → get_or entered l.from false ≡ false → IsFreshWalk l.next entered l.visited l.from l.at;
 }
 
+-- the points that the walk has not left
 abbrev pub decreases-loop-visited : goal.decreases-loop-visited
 decreases-loop-visited l = unmarked l.visited

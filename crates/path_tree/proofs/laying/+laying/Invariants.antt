@@ -3,14 +3,18 @@ use Rattle.path_tree.specs.Rows.{spread}
 use Rattle.path_tree.proofs.Merging.{Merging}
 use Rattle.path_tree.proofs.laying.+laying.Given as goal
 
+-- of two branches: the rows below both, counted twice, and one more
 abbrev pub decreases-cover : goal.decreases-cover
 decreases-cover g l = 2 * (length l.low.below + length l.high.below) + 1
 
+-- of two directories: the rows of both, counted twice
 abbrev pub decreases-merge : goal.decreases-merge
 decreases-merge g l = 2 * (length (spread l.lows.items) + length (spread l.highs.items))
 
+-- the directories are merged up to the branches that are left
 abbrev pub invariant-merge-loop-low : goal.invariant-merge-loop-low
 invariant-merge-loop-low g l = Merging g.T.Lay.laid l.fn.lows.items l.fn.highs.items l.lows.items l.highs.items l.out.items
 
+-- the branches that are left
 abbrev pub decreases-merge-loop-low : goal.decreases-merge-loop-low
 decreases-merge-loop-low g l = length l.lows.items + length l.highs.items

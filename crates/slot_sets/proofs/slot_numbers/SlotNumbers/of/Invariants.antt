@@ -3,6 +3,7 @@ use Rattle.slot_sets.specs.Sets.{rank}
 use Rattle.slot_sets.proofs.Ranks.{AreCountsSoFar}
 use Rattle.slot_sets.proofs.slot_numbers.SlotNumbers.of.Given as goal
 
+-- the words before this one have their counts, and `count` is the next
 abbrev pub invariant-loop-word : goal.invariant-loop-word
 invariant-loop-word g l = record {
   sized : length l.before.items ≡ l.word;

@@ -3,6 +3,7 @@ use Rattle.slot_sets.specs.Sets.{is_bit}
 use Rattle.slot_sets.proofs.Bits.{joined}
 use Rattle.slot_sets.proofs.slot_set.SlotSet.next_of_either.Given as goal
 
+-- no slot from the first one asked for up to this one is in the union
 abbrev pub invariant-loop-slot : goal.invariant-loop-slot
 invariant-loop-slot g l = record {
   low : l.initial.slot ≤ l.slot;
@@ -11,5 +12,6 @@ invariant-loop-slot g l = record {
       ≡ false;
 }
 
+-- the slots from this one on
 abbrev pub decreases-loop-slot : goal.decreases-loop-slot
 decreases-loop-slot g l = l.self-inside.slots - l.slot
