@@ -12,7 +12,7 @@ use Rattle.clap.proofs.OnLiterals.{clap_on_literals}
 use Rattle.clap.proofs.WalkLemmas.{both}
 use Rattle.command_line.specs.declared.options.Verb.{Verb}
 use Rattle.command_line.specs.declared.options.Verb.TheVariants as verbs
-use Rattle.command_line.specs.CommandLine.{AreCrossed, IsCrossed, names_both_of, IsMisnumbered, IsNumberTo, HaveNumbersInRange, IsTaken, Parts, Says, command_in, faults_in, parts_of, verb_word}
+use Rattle.command_line.specs.CommandLine.{AreCrossed, IsCrossed, names_both_of, IsMisnumbered, IsNumberTo, HaveNumbersInRange, IsTaken, LineParts, Says, command_in, faults_in, parts_of, verb_word}
 use Rattle.command_line.specs.LineExamples.{MisnumberedLines, ReadsAs, RefusedLines, TakenLines, words_of}
 use Rattle.command_line.proofs.Agreed.{one_name, one_word, same_rows}
 
@@ -67,7 +67,7 @@ is_numbered rows = passes MAX_WORKERS (first_of (codes "workers") rows)
 
 -- ---- what a text says, by the command that its words name and what its rows give
 
-reads : (text : Text) (verb : Verb) (rows : List Row) (parts : Parts) → IsTaken (words_of text) → command_in (words_of text)
+reads : (text : Text) (verb : Verb) (rows : List Row) (parts : LineParts) → IsTaken (words_of text) → command_in (words_of text)
     ≡ Some (verb_word verb, rows)
     → is_numbered rows ≡ true → names_both_of rows ≡ false → parts_of verb rows ≡ parts → ReadsAs text parts
 reads text verb rows parts taken command numbers apart are = record {
@@ -140,7 +140,8 @@ taken_lines = record {
       (rows_in (codes "serve --workers 0008 --batch 00000000000000000000256 f")) _ refl refl refl refl refl;
   options_last = reads (codes "serve f g --balances b") verbs.Serve (rows_in (codes "serve f g --balances b")) _ refl refl refl refl refl;
   option_between = reads (codes "serve f --batch 7 g") verbs.Serve (rows_in (codes "serve f --batch 7 g")) _ refl refl refl refl refl;
-  after_dashes = reads (codes "check -- --help --strict") verbs.Check (rows_in (codes "check -- --help --strict")) _ refl refl refl refl refl;
+  after_dashes = reads (codes "check -- --help --strict") verbs.Check
+      (rows_in (codes "check -- --help --strict")) _ refl refl refl refl refl;
   image_like_a_verb = reads (codes "list check") verbs.List (rows_in (codes "list check")) _ refl refl refl refl refl;
   socket_one = reads (codes "socket --listen s f") verbs.Socket (rows_in (codes "socket --listen s f")) _ refl refl refl refl refl;
   socket_options = reads (codes "socket --workers 2 --batch 3 --listen s --sessions 5 --lasting --strict f g") verbs.Socket

@@ -129,7 +129,7 @@ verb_word verbs.Check = codes "check"
 verb_word verbs.List = codes "list"
 
 -- what a line says, its files as text
-pub record Parts : Type 0 where
+pub record LineParts : Type 0 where
   pub verb : Verb
   pub strict : Bool
   pub device : Bool
@@ -145,7 +145,7 @@ pub record Parts : Type 0 where
 
 -- what the rows of a command give: whether there is each flag, the first value of each option or
 -- else its default, and all images in order
-abbrev pub parts_of : Verb → List Row → Parts
+abbrev pub parts_of : Verb → List Row → LineParts
 parts_of verb rows = record {
   verb = verb;
   strict = is_given (codes "strict") rows;
@@ -162,7 +162,7 @@ parts_of verb rows = record {
 }
 
 -- the line says this
-pub record Says (line : Line) (parts : Parts) : Type 0 where
+pub record Says (line : Line) (parts : LineParts) : Type 0 where
   pub verb : line.verb ≡ parts.verb
   pub strict : line.strict ≡ parts.strict
   pub device : line.device ≡ parts.device

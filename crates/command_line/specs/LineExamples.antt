@@ -7,7 +7,7 @@ use Rattle.clap.specs.declared.error.kind.ErrorKind.TheVariants as kind
 use Rattle.command_line.specs.declared.options.Line.{Line}
 use Rattle.command_line.specs.declared.options.Verb.{Verb}
 use Rattle.command_line.specs.declared.options.Verb.TheVariants as verbs
-use Rattle.command_line.specs.CommandLine.{IsCrossed, IsLineOf, IsMisnumbered, IsTaken, Parts, Says, faults_in}
+use Rattle.command_line.specs.CommandLine.{IsCrossed, IsLineOf, IsMisnumbered, IsTaken, LineParts, Says, faults_in}
 
 -- the words of a text, after those of which this is the last so far, cut at each blank
 abbrev pub cut : Text → Text → List Text
@@ -19,7 +19,7 @@ abbrev pub words_of : Text → List Text
 words_of = cut []
 
 -- a line with no option
-abbrev pub plain : Verb → Text → Parts
+abbrev pub plain : Verb → Text → LineParts
 plain verb images = record {
   verb = verb;
   strict = false;
@@ -36,12 +36,12 @@ plain verb images = record {
 }
 
 -- a line of the command `socket` with the path of a socket and no other option
-abbrev pub at_socket : Text → Text → Parts
+abbrev pub at_socket : Text → Text → LineParts
 at_socket path images = record (plain verbs.Socket images) { listen = Some path }
 
 -- the words are a command with numbers in their ranges and no file beside the device, and each line
 -- of them says this
-pub record ReadsAs (text : Text) (parts : Parts) : Type 0 where
+pub record ReadsAs (text : Text) (parts : LineParts) : Type 0 where
   pub taken : IsTaken (words_of text)
   pub numbered : ¬ IsMisnumbered (words_of text)
   pub apart : ¬ IsCrossed (words_of text)

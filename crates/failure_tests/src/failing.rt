@@ -38,7 +38,8 @@ fn replies_to(given: usize) -> usize {
     replies
 }
 
-/// The script over the sample image, served by each plan until the source fails behind so many bytes.
+/// The script over the sample image, served by each plan until the source fails behind so many
+/// bytes.
 fn source_fails<R: Threads + Sync>(
     rt: &R,
     global: Global,

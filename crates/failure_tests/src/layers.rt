@@ -76,7 +76,7 @@ fn refused_images_touch_no_device(rt: HostRuntime) -> Result<(), Fail> {
         (
             Layers::BadSumOverEmpty,
             usual,
-            untouched(fault(1, Rule::Sum, 12)),
+            untouched(fault(1, Rule::BadSum, 12)),
         ),
         (
             Layers::BadHeader,

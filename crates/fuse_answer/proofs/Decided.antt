@@ -17,8 +17,8 @@ use Rattle.reply_model.specs.Services.{refuse_if}
 use Rattle.reply_model.specs.Refusals.{first_refusal, refused_at}
 use Rattle.reply_model.specs.Rows.{is_too_small, rows_after, dirent_of, direntplus_of}
 use Rattle.fuse_answer.specs.declared.listing.Listing.{Listing}
-use Rattle.fuse_answer.specs.declared.content.Answer.{Answer}
-use Rattle.fuse_answer.specs.declared.content.Answer.TheVariants.{Rows}
+use Rattle.fuse_answer.specs.declared.outcome.Answer.{Answer}
+use Rattle.fuse_answer.specs.declared.outcome.Answer.TheVariants.{Rows}
 use Rattle.fuse_answer.specs.Answers.{DecidesAt, IsAnswerAt, TellsKind}
 use Rattle.fuse_answer.specs.Listings.{AreListed, IsWhole, is_cut_short, listed_data, listing_op}
 use Rattle.fuse_answer.proofs.Listed.{cut_same, data_same, moves_same, plain, size_same, with_entries}

@@ -13,7 +13,7 @@ use Rattle.fuse_wire.proofs.Sizes.{length-dirent, length-direntplus}
 use Rattle.stack_model.specs.Listing.{Entry}
 use Rattle.stack_model.specs.Attributes.{is_directory_at, mode}
 use Rattle.stack_model.specs.Numbers.{Place, Child, number, node_of, parent, children}
-use Rattle.stack_table.specs.declared.node.Attr.{Attr as Held}
+use Rattle.stack_table.specs.declared.node.NodeAttr.{NodeAttr as Held}
 use Rattle.stack_table.specs.Rows.{Line}
 use Rattle.stack_table.specs.Stacked.{Stacked}
 use Rattle.stack_table.specs.Readers.{attr_of, parent_at, rows_at}

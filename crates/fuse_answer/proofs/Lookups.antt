@@ -19,8 +19,8 @@ use Rattle.reply_model.specs.declared.session.Agreement.{Agreement}
 use Rattle.reply_model.specs.Lookups.{is_itself, is_parent, looked_up}
 use Rattle.reply_model.specs.Services.{refuse_if, unless_directory}
 use Rattle.reply_model.specs.Refusals.{first_refusal, refused_at}
-use Rattle.fuse_answer.specs.declared.content.Answer.{Answer}
-use Rattle.fuse_answer.specs.declared.content.Answer.TheVariants.{Entry}
+use Rattle.fuse_answer.specs.declared.outcome.Answer.{Answer}
+use Rattle.fuse_answer.specs.declared.outcome.Answer.TheVariants.{Entry}
 use Rattle.fuse_answer.specs.Answers.{DecidesAt, FindsBelow, IsAnswerAt, TellsEntry, TellsKind}
 use Rattle.fuse_answer.specs.Listings.{wired, wired_at}
 use Rattle.fuse_answer.proofs.Numbered.{IsNumbered, numbered_child, numbered_node, numbered_parent}

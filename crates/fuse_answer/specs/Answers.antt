@@ -20,8 +20,8 @@ use Rattle.reply_model.specs.Lookups.{is_itself, looked_up}
 use Rattle.reply_model.specs.Refusals.{refusal_in, refused_at}
 use Rattle.reply_model.specs.Replies.{answer, answer_at}
 use Rattle.reply_model.specs.Moves.{moved, gives_at, take_back}
-use Rattle.fuse_answer.specs.declared.content.Answer.{Answer}
-use Rattle.fuse_answer.specs.declared.content.Answer.TheVariants.{Done, Terms, Entry, NoEntry, Attributes, Opened, Data, Figures, Rows, Forgotten, AllForgotten}
+use Rattle.fuse_answer.specs.declared.outcome.Answer.{Answer}
+use Rattle.fuse_answer.specs.declared.outcome.Answer.TheVariants.{Done, Terms, Entry, NoEntry, Attributes, Opened, Data, Figures, Rows, Forgotten, AllForgotten}
 use Rattle.fuse_answer.specs.Listings.{listed_data, listed_moves, wired_at, IsWhole}
 
 -- the data of an answer

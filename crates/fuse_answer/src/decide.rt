@@ -5,7 +5,7 @@ ghost use Rattle.std.specs.Prelude.{true, false};
 ghost use Rattle.fuse_wire.specs.Reads.{asked_of};
 ghost use Rattle.fuse_answer.specs.Answers.{Decides, DecidesIn};
 
-use crate::content::Answer;
+use crate::outcome::Answer;
 use crate::listing::list;
 use crate::lookup::look_up;
 use crate::node::{get_attr, open_directory, open_file, read, read_link};

@@ -20,8 +20,8 @@
 #![tactic(auto)]
 
 mod balances;
-mod changes;
-mod content;
+mod moves;
+mod outcome;
 mod decide;
 mod listing;
 mod lookup;
@@ -31,7 +31,7 @@ mod rows;
 mod sessions;
 mod write;
 
-pub use changes::moves;
+pub use moves::moves;
 pub use replies::{answer, answer_and_move};
 pub use reply_model::{Move, Session};
 pub use sessions::after;

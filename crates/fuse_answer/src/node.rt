@@ -6,7 +6,7 @@ ghost use Rattle.reply_model.specs.Services.{opendir_flags};
 ghost use Rattle.fuse_answer.specs.Answers.{DecidesAt, TellsKind};
 ghost use Rattle.fuse_answer.specs.Listings.{wired};
 
-use crate::content::Answer;
+use crate::outcome::Answer;
 use fuse_wire::flags::{FOPEN_CACHE_DIR, FOPEN_KEEP_CACHE};
 use fuse_wire::limits::MAX_DATA_SIZE;
 use fuse_wire::{Attr, Errno};
@@ -124,7 +124,7 @@ fn part(bytes: &[u8], offset: u64, size: u32) -> &[u8]
 }
 
 // A table's attributes as a reply has them.
-pub(crate) fn wired(attr: stack_table::Attr) -> Attr
+pub(crate) fn wired(attr: stack_table::NodeAttr) -> Attr
     ensures { result ≡ wired attr }
 {
     Attr {

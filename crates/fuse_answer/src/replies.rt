@@ -8,7 +8,7 @@ ghost use Rattle.lookup_balances.specs.Balances.{AreWithin};
 ghost use Rattle.fuse_answer.specs.Puts.{PutsReply, AddsMoves};
 
 use crate::balances::add_moves;
-use crate::content::Answer;
+use crate::outcome::Answer;
 use crate::decide::decide;
 use crate::write::write;
 use fuse_wire::{Errno, Op, Request, opcode, put_error};

@@ -76,7 +76,7 @@ pub(crate) fn line_at<'a, A: Allocator>(rows: &Listing<'a, A>, index: usize) -> 
 }
 
 // The upper bits of a node's mode.
-fn file_type(attr: Option<stack_table::Attr>) -> u32
+fn file_type(attr: Option<stack_table::NodeAttr>) -> u32
     ensures { result ≡ option_map_or (λ a. a.mode / 2 ^ 12) attr 0 }
 {
     match attr {
@@ -86,7 +86,7 @@ fn file_type(attr: Option<stack_table::Attr>) -> u32
 }
 
 // The entry of a row; the first two, which are `.` and `..`, have none.
-fn entry_of(off: u64, attr: Option<stack_table::Attr>) -> Option<Attr>
+fn entry_of(off: u64, attr: Option<stack_table::NodeAttr>) -> Option<Attr>
     ensures { result ≡ (if nat_lt 2 off then option_map wired attr else None) }
 {
     if 2 < off { attr.map(wired) } else { None }

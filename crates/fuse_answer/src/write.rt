@@ -4,7 +4,7 @@ ghost use Rattle.fuse_wire.specs.Replies.{reply_with};
 ghost use Rattle.fuse_answer.specs.Answers.{IsSized, answer_data};
 ghost use Rattle.fuse_answer.specs.Puts.{Puts};
 
-use crate::content::Answer;
+use crate::outcome::Answer;
 use crate::rows::put_rows;
 use fuse_wire::{
     put_attr, put_data, put_entry, put_head, put_init, put_negative_entry, put_open, put_statfs,

@@ -13,7 +13,7 @@ use Rattle.romfs_format.specs.Chains.{Has}
 use Rattle.romfs_reader.specs.Images.{IsImage}
 use Rattle.romfs_reader.proofs.Paths.{short}
 use Rattle.stack_model.specs.Stack.{Path, IsMarker, marker}
-use Rattle.path_tree.specs.Rows.{Shoot, name_cmp, named, IsRising, IsForest}
+use Rattle.path_tree.specs.Rows.{Subtree, name_cmp, named, IsRising, IsForest}
 use Rattle.path_tree.proofs.Names.{same_or_not, named_below}
 use Rattle.path_tree.proofs.Spread.{through}
 use Rattle.shown_tree.specs.declared.place.Entry.{Entry}
@@ -23,13 +23,13 @@ use Rattle.layer_tree.specs.Reading.{IsBefore, NamedRise, IsNamedMember, IsAtDep
 use Rattle.layer_tree.proofs.Layered.{leads_on}
 
 -- what is built so far, with what the members that are left become, is what all become
-pub record Building (a : List ℕ) (layer : ℕ) (all left : List Named) (es : List (Shoot Entry)) (ks : List (Shoot Mark)) : Type 0 where
-  pub more : (es' : List (Shoot Entry)) (ks' : List (Shoot Mark)) → AreBuilt a layer left es' ks'
+pub record Building (a : List ℕ) (layer : ℕ) (all left : List Named) (es : List (Subtree Entry)) (ks : List (Subtree Mark)) : Type 0 where
+  pub more : (es' : List (Subtree Entry)) (ks' : List (Subtree Mark)) → AreBuilt a layer left es' ks'
       → AreBuilt a layer all (es ++ es') (ks ++ ks')
 
 -- the same of the marks of markers
-pub record Whitening (all left : List Named) (ks : List (Shoot Mark)) : Type 0 where
-  pub more : (ks' : List (Shoot Mark)) → AreWhiteouts left ks' → AreWhiteouts all (ks ++ ks')
+pub record Whitening (all left : List Named) (ks : List (Subtree Mark)) : Type 0 where
+  pub more : (ks' : List (Subtree Mark)) → AreWhiteouts left ks' → AreWhiteouts all (ks ++ ks')
 
 -- before the first member nothing is built
 pub building_begun : (a : List ℕ) (layer : ℕ) (all : List Named) → Building a layer all all [] []
@@ -54,15 +54,15 @@ at_index all i = get_or all i nothing
 next : (all : List Named) (i : ℕ) → i < length all → drop i all ≡ at_index all i ∷ drop (i + 1) all
 next all i l = rw add-one (drop-cons all i nothing l)
 
-module _ (a : List ℕ) (layer : ℕ) (all : List Named) (i : ℕ) (es : List (Shoot Entry))
-    (ks : List (Shoot Mark)) (l : i < length all) (w : Building a layer all (drop i all) es ks) where
+module _ (a : List ℕ) (layer : ℕ) (all : List Named) (i : ℕ) (es : List (Subtree Entry))
+    (ks : List (Subtree Mark)) (l : i < length all) (w : Building a layer all (drop i all) es ks) where
   -- a marker adds no branch
   pub build_hidden : IsMarker (at_index all i).name.now → Building a layer all (drop (i + 1) all) es ks
   build_hidden h = record { more = λ es' ks' b.
         w.more es' ks' (rw (next all i l) (hidden (at_index all i) (drop (i + 1) all) es' ks' h b)) }
 
   -- a member that needs no mark adds its branch of entries
-  pub build_alone : (e : Shoot Entry) (es' : List (Shoot Entry)) → ¬ IsMarker (at_index all i).name.now
+  pub build_alone : (e : Subtree Entry) (es' : List (Subtree Entry)) → ¬ IsMarker (at_index all i).name.now
       → IsBranchAlone a layer (at_index all i).head.offset (at_index all i).name.now e → es' ≡ es ++ e ∷ []
       → Building a layer all (drop (i + 1) all) es' ks
   build_alone e es' n b p = record {
@@ -72,7 +72,7 @@ module _ (a : List ℕ) (layer : ℕ) (all : List Named) (i : ℕ) (es : List (S
   }
 
   -- a member that needs a mark adds its branch of entries, and that of marks
-  pub build_one : (e : Shoot Entry) (k : Shoot Mark) (es' : List (Shoot Entry)) (ks' : List (Shoot Mark))
+  pub build_one : (e : Subtree Entry) (k : Subtree Mark) (es' : List (Subtree Entry)) (ks' : List (Subtree Mark))
       → ¬ IsMarker (at_index all i).name.now
       → AreBranchesOf a layer (at_index all i).head.offset (at_index all i).name.now e k → es' ≡ es ++ e ∷ []
       → ks' ≡ ks ++ k ∷ [] → Building a layer all (drop (i + 1) all) es' ks'
@@ -83,19 +83,19 @@ module _ (a : List ℕ) (layer : ℕ) (all : List Named) (i : ℕ) (es : List (S
   }
 
 -- past the last member all are built
-pub building_ended : (a : List ℕ) (layer : ℕ) (all : List Named) (i : ℕ) (es : List (Shoot Entry)) (ks : List (Shoot Mark))
+pub building_ended : (a : List ℕ) (layer : ℕ) (all : List Named) (i : ℕ) (es : List (Subtree Entry)) (ks : List (Subtree Mark))
     → length all ≤ i → Building a layer all (drop i all) es ks → AreBuilt a layer all es ks
 building_ended a layer all i es ks l w =
     let b : AreBuilt a layer (drop i all) [] [] = rw (drop_all i all l) none_built in
     subst (λ x. AreBuilt a layer all es x) (append-nil ks) (subst (λ x. AreBuilt a layer all x (ks ++ [])) (append-nil es) (w.more [] [] b))
 
-module _ (all : List Named) (i : ℕ) (ks : List (Shoot Mark)) (l : i < length all) (w : Whitening all (drop i all) ks) where
+module _ (all : List Named) (i : ℕ) (ks : List (Subtree Mark)) (l : i < length all) (w : Whitening all (drop i all) ks) where
   -- a member that is no marker adds no mark
   pub white_none : ¬ IsMarker (at_index all i).name.now → Whitening all (drop (i + 1) all) ks
   white_none h = record { more = λ ks' b. w.more ks' (rw (next all i l) (other (at_index all i) (drop (i + 1) all) ks' h b)) }
 
   -- a marker adds a cut mark, named as its name goes on after .wh.
-  pub white_one : (n : List ℕ) (k : Shoot Mark) (ks' : List (Shoot Mark))
+  pub white_one : (n : List ℕ) (k : Subtree Mark) (ks' : List (Subtree Mark))
       → (at_index all i).name.now ≡ marker ++ n → k ≡ record
       { name = n; value = record { cut = true; opaque = false }; below = [] } → ks' ≡ ks ++ k ∷ []
       → Whitening all (drop (i + 1) all) ks'
@@ -103,12 +103,12 @@ module _ (all : List Named) (i : ℕ) (ks : List (Shoot Mark)) (l : i < length a
     more = λ ks'' c. rw q
         (simp append_assoc (w.more (k ∷ ks'') (rw (next all i l)
         (white (at_index all i) (drop (i + 1) all) k ks''
-        (e ∙ ap (λ (x : Shoot Mark). marker ++ x.name) (sym f)) (ap (λ (x : Shoot Mark). x.value.cut) f)
-        (ap (λ (x : Shoot Mark). x.below) f) c))));
+        (e ∙ ap (λ (x : Subtree Mark). marker ++ x.name) (sym f)) (ap (λ (x : Subtree Mark). x.value.cut) f)
+        (ap (λ (x : Subtree Mark). x.below) f) c))));
   }
 
 -- past the last member all markers have marks
-pub whitening_ended : (all : List Named) (i : ℕ) (ks : List (Shoot Mark)) → length all ≤ i → Whitening all (drop i all) ks
+pub whitening_ended : (all : List Named) (i : ℕ) (ks : List (Subtree Mark)) → length all ≤ i → Whitening all (drop i all) ks
     → AreWhiteouts all ks
 whitening_ended all i ks l w = subst (AreWhiteouts all) (append-nil ks) (w.more [] (rw (drop_all i all l) none_white))
 
@@ -143,7 +143,7 @@ module _ (a : List ℕ) (s : IsImage a) (left : ℕ) (ms : List Named) (at : Are
   one_less = (longer, has_more, omega (arith, some_left, long_more))
 
 -- names of what is built rise
-before_built : (a : List ℕ) (layer : ℕ) {ms : List Named} {es : List (Shoot Entry)} {ks : List (Shoot Mark)}
+before_built : (a : List ℕ) (layer : ℕ) {ms : List Named} {es : List (Subtree Entry)} {ks : List (Subtree Mark)}
     → AreBuilt a layer ms es ks → (m : Named) → AllByRecursion (IsBefore m) ms
     → AllByRecursion (λ t. name_cmp m.name.now t.name ≡ Less) es
     × AllByRecursion (λ t. name_cmp m.name.now t.name ≡ Less) ks
@@ -154,7 +154,7 @@ before_built a layer (built x ms e es k ks n w b) m r = let t = before_built a l
     ((rw w.entry_name r.0, t.0), (rw w.mark_name r.0, t.1))
 
 -- of members in the order of names, the entries and the marks are forests
-pub forests : (a : List ℕ) (layer : ℕ) {ms : List Named} {es : List (Shoot Entry)} {ks : List (Shoot Mark)}
+pub forests : (a : List ℕ) (layer : ℕ) {ms : List Named} {es : List (Subtree Entry)} {ks : List (Subtree Mark)}
     → AreBuilt a layer ms es ks → NamedRise ms → IsForest es × IsForest ks
 forests a layer none_built r = (record { names = tt; each = tt }, record { names = tt; each = tt })
 forests a layer (hidden m ms es ks h b) r = forests a layer b r.1
@@ -173,7 +173,7 @@ forests a layer (built m ms e es k ks n w b) r =
 marked_before : (x y : List ℕ) → name_cmp (marker ++ x) (marker ++ y) ≡ name_cmp x y
 marked_before x y = refl
 
-before_white : {ms : List Named} {ks : List (Shoot Mark)} → AreWhiteouts ms ks → (m : Named) (n : List ℕ)
+before_white : {ms : List Named} {ks : List (Subtree Mark)} → AreWhiteouts ms ks → (m : Named) (n : List ℕ)
     → m.name.now ≡ marker ++ n → AllByRecursion (IsBefore m) ms
     → AllByRecursion (λ t. name_cmp n t.name ≡ Less) ks
 before_white none_white m n e r = tt
@@ -185,11 +185,11 @@ before_white (white x ms k ks f c d b) m n e r = (
   before_white b m n e r.1,
 )
 
-leaf_rises : {T : Type 0} (s : Shoot T) → s.below ≡ [] → IsRising s
+leaf_rises : {T : Type 0} (s : Subtree T) → s.below ≡ [] → IsRising s
 leaf_rises s e = record { rises = rw e (tt, tt) }
 
 -- of markers in the order of names, the marks are a forest
-pub white_forest : {ms : List Named} {ks : List (Shoot Mark)} → AreWhiteouts ms ks → NamedRise ms → IsForest ks
+pub white_forest : {ms : List Named} {ks : List (Subtree Mark)} → AreWhiteouts ms ks → NamedRise ms → IsForest ks
 white_forest none_white r = record { names = tt; each = tt }
 white_forest (other m ms ks h b) r = white_forest b r.1
 white_forest (white m ms k ks f c d b) r =
@@ -197,18 +197,19 @@ white_forest (white m ms k ks f c d b) r =
     record { names = (before_white b m k.name f r.0, w.names); each = (leaf_rises k d, w.each) }
 
 -- the branches that the name n has, and its member
-pub data FoundBuilt (a : List ℕ) (layer d : ℕ) (n : List ℕ) (ms : List Named) (es : List (Shoot Entry)) (ks : List (Shoot Mark)) : Type 0
+pub data FoundBuilt (a : List ℕ) (layer d : ℕ) (n : List ℕ) (ms : List Named) (es : List (Subtree Entry)) (ks : List (Subtree Mark)) : Type
+    0
     where
   nowhere : named n es ≡ None → named n ks ≡ None
       → ((j : ℕ) (m : Named) → slice_get ms j ≡ Some m → m.name.now ≡ n → IsMarker n)
       → FoundBuilt a layer d n ms es ks
-  somewhere : (m : Named) (e : Shoot Entry) (k : Option (Shoot Mark)) → named n es ≡ Some e → named n ks ≡ k
+  somewhere : (m : Named) (e : Subtree Entry) (k : Option (Subtree Mark)) → named n es ≡ Some e → named n ks ≡ k
       → m.name.now ≡ n → ¬ IsMarker n → IsNamedMember a d m → IsBranchOf a layer m.head.offset e
       → RemovesFrom a m.head.offset (through k) e → FoundBuilt a layer d n ms es ks
 
 module _ (a : List ℕ) (layer d : ℕ) (n : List ℕ) where
   -- what was found among later members is found among all, if the first has another name
-  found_later : (m : Named) (ms : List Named) (es es' : List (Shoot Entry)) (ks ks' : List (Shoot Mark)) → m.name.now ≢ n
+  found_later : (m : Named) (ms : List Named) (es es' : List (Subtree Entry)) (ks ks' : List (Subtree Mark)) → m.name.now ≢ n
       → named n es' ≡ named n es → named n ks' ≡ named n ks
       → FoundBuilt a layer d n ms es ks → FoundBuilt a layer d n (m ∷ ms) es' ks'
   found_later m ms es es' ks ks' o u v (nowhere f g q) = nowhere (u ∙ f) (v ∙ g) rest
@@ -219,7 +220,7 @@ module _ (a : List ℕ) (layer d : ℕ) (n : List ℕ) where
   found_later m ms es es' ks ks' o u v (somewhere x y z f g q r s t w) = somewhere x y z (u ∙ f) (v ∙ g) q r s t w
 
   -- each name has the branches of its member, or none
-  pub find_built : {ms : List Named} {es : List (Shoot Entry)} {ks : List (Shoot Mark)}
+  pub find_built : {ms : List Named} {es : List (Subtree Entry)} {ks : List (Subtree Mark)}
       → AreBuilt a layer ms es ks → AllByRecursion (IsNamedMember a d) ms → NamedRise ms → FoundBuilt a layer d n ms es ks
   find_built none_built p r = nowhere refl refl (λ j m f g. absurd (cc))
   find_built (hidden m ms es ks h b) p r = more (find_built b p.1 r.1)
@@ -250,9 +251,9 @@ module _ (a : List ℕ) (layer d : ℕ) (n : List ℕ) where
   ]
 
 -- a mark of the name n, and the marker that it is of
-pub data FoundWhite (n : List ℕ) (ms : List Named) (ks : List (Shoot Mark)) : Type 0 where
+pub data FoundWhite (n : List ℕ) (ms : List Named) (ks : List (Subtree Mark)) : Type 0 where
   unmarked : named n ks ≡ None → ((j : ℕ) (m : Named) → slice_get ms j ≡ Some m → m.name.now ≡ marker ++ n → ⊥) → FoundWhite n ms ks
-  marked : (j : ℕ) (m : Named) (k : Shoot Mark) → named n ks ≡ Some k → k.value.cut ≡ true
+  marked : (j : ℕ) (m : Named) (k : Subtree Mark) → named n ks ≡ Some k → k.value.cut ≡ true
       → slice_get ms j ≡ Some m → m.name.now ≡ marker ++ n → FoundWhite n ms ks
 
 marker_is : (n : List ℕ) → IsMarker (marker ++ n)
@@ -262,7 +263,7 @@ same_rest : (x y : List ℕ) → marker ++ x ≡ marker ++ y → x ≡ y
 same_rest x y e = ap (drop 4) e
 
 -- a name has a cut mark and a marker, or neither
-pub find_white : (n : List ℕ) {ms : List Named} {ks : List (Shoot Mark)} → AreWhiteouts ms ks → FoundWhite n ms ks
+pub find_white : (n : List ℕ) {ms : List Named} {ks : List (Subtree Mark)} → AreWhiteouts ms ks → FoundWhite n ms ks
 find_white n none_white = unmarked refl (λ j m f g. absurd (cc))
 find_white n (other m ms ks h b) = more (find_white n b)
   where

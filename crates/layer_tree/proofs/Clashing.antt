@@ -8,7 +8,7 @@ use Rattle.std.specs.List.{AllByRecursion}
 use Rattle.std.specs.declared.cmp.Ordering.TheVariants.{Less}
 use Rattle.stack_model.specs.Stack.{Path}
 use Rattle.stack_model.specs.Attributes.{is_directory}
-use Rattle.path_tree.specs.Rows.{Shoot, name_cmp, named, NamesRise, IsRising, at_path, spread, whole}
+use Rattle.path_tree.specs.Rows.{Subtree, name_cmp, named, NamesRise, IsRising, at_path, spread, whole}
 use Rattle.path_tree.specs.Laying.{laid_at}
 use Rattle.path_tree.proofs.Names.{same_or_not, named_below, not_below_itself}
 use Rattle.path_tree.proofs.Spread.{through, at_spread}
@@ -60,7 +60,7 @@ no_others f = record {
 
 module _ {T : Type 0} (m : T → Mark) where
   -- a cut mark stands for what cuts itself, whatever it clashes with
-  pub file_marked : (f o : Shoot T) (n : List ℕ) (mark : Mark) → mark.cut ≡ true → (m f.value).cut ≡ true
+  pub file_marked : (f o : Subtree T) (n : List ℕ) (mark : Mark) → mark.cut ≡ true → (m f.value).cut ≡ true
       → Clash (marked m (whole f)) (marked m (whole o)) (at_path (whole (record { name = n; value = mark; below = [] })))
   file_marked f o n mark cut file = record {
     sound = λ path e. cut_extends (marked m (whole f)) [] path file;
@@ -68,7 +68,7 @@ module _ {T : Type 0} (m : T → Mark) where
   }
 
   -- where the other one is a leaf, none is needed
-  pub file_alone : (f o : Shoot T) → IsBare m o → Clash (marked m (whole f)) (marked m (whole o)) (λ q. None)
+  pub file_alone : (f o : Subtree T) → IsBare m o → Clash (marked m (whole f)) (marked m (whole o)) (λ q. None)
   file_alone f o bare = record { sound = λ path e. absurd (let x = nothing_cut path in cc); whole = λ q e. inr (leaf q) }
     where
       below : (n : List ℕ) (p : Path) → marked m (whole o) (n ∷ p) ≡ None
@@ -79,7 +79,7 @@ module _ {T : Type 0} (m : T → Mark) where
       leaf (n ∷ q) = record { itself = ap is_uncut (below n q); below = λ k p. below n (q ++ k ∷ p) }
 
   -- two branches of which the first does not cut itself clash where those below them do
-  pub folders : (f o : Shoot T) (fs os : List (Shoot T)) (ks : List (Shoot Mark)) (n : List ℕ) (mark : Mark)
+  pub folders : (f o : Subtree T) (fs os : List (Subtree T)) (ks : List (Subtree Mark)) (n : List ℕ) (mark : Mark)
       → f.below ≡ spread fs → o.below ≡ spread os → (m f.value).cut ≡ false → mark.cut ≡ false
       → mark.opaque ≡ false → AreClashes m fs os ks
       → Clash (marked m (whole f)) (marked m (whole o)) (at_path (whole (record { name = n; value = mark; below = spread ks })))
@@ -101,7 +101,7 @@ module _ {T : Type 0} (m : T → Mark) where
       ]
 
   -- no mark is needed where none stands below
-  pub unmarked_folder : (f o : Shoot T) (fs os : List (Shoot T)) (ks : List (Shoot Mark)) → ks ≡ []
+  pub unmarked_folder : (f o : Subtree T) (fs os : List (Subtree T)) (ks : List (Subtree Mark)) → ks ≡ []
       → f.below ≡ spread fs → o.below ≡ spread os → (m f.value).cut ≡ false → AreClashes m fs os ks
       → Clash (marked m (whole f)) (marked m (whole o)) (λ q. None)
   unmarked_folder f o fs os ks e ef eo d w =
@@ -115,37 +115,37 @@ module _ {T : Type 0} (m : T → Mark) where
       none (n ∷ path) = nothing_cut path
 
 -- the marks of a branch that was found; none where none was
-abbrev pub marked_in : {T : Type 0} → (T → Mark) → Option (Shoot T) → Path → Option Mark
+abbrev pub marked_in : {T : Type 0} → (T → Mark) → Option (Subtree T) → Path → Option Mark
 marked_in m o q = option_map m (through o q)
 
 -- the files of a directory, each with its mark or none
-pub data Clashing {T : Type 0} (m : T → Mark) (os : List (Shoot T)) : List (Shoot T) → List (Shoot Mark) → Type 0 where
+pub data Clashing {T : Type 0} (m : T → Mark) (os : List (Subtree T)) : List (Subtree T) → List (Subtree Mark) → Type 0 where
   none_left : Clashing m os [] []
-  apart : (f : Shoot T) (fs : List (Shoot T)) (ks : List (Shoot Mark))
+  apart : (f : Subtree T) (fs : List (Subtree T)) (ks : List (Subtree Mark))
       → Clash (marked m (whole f)) (marked_in m (named f.name os)) (λ q. None)
       → Clashing m os fs ks → Clashing m os (f ∷ fs) ks
-  together : (f : Shoot T) (fs : List (Shoot T)) (k : Shoot Mark) (ks : List (Shoot Mark))
+  together : (f : Subtree T) (fs : List (Subtree T)) (k : Subtree Mark) (ks : List (Subtree Mark))
       → k.name ≡ f.name → IsRising k → Clash (marked m (whole f)) (marked_in m (named f.name os)) (at_path (whole k))
       → Clashing m os fs ks → Clashing m os (f ∷ fs) (k ∷ ks)
 
-module _ {T : Type 0} (m : T → Mark) (os : List (Shoot T)) where
-  above : {fs : List (Shoot T)} {ks : List (Shoot Mark)} → Clashing m os fs ks → (n : List ℕ)
+module _ {T : Type 0} (m : T → Mark) (os : List (Subtree T)) where
+  above : {fs : List (Subtree T)} {ks : List (Subtree Mark)} → Clashing m os fs ks → (n : List ℕ)
       → AllByRecursion (λ t. name_cmp n t.name ≡ Less) fs → AllByRecursion (λ t. name_cmp n t.name ≡ Less) ks
   above none_left n a = tt
   above (apart f fs ks w c) n a = above c n a.1
   above (together f fs k ks e r w c) n a = (rw e a.0, above c n a.1)
 
-  rise : {fs : List (Shoot T)} {ks : List (Shoot Mark)} → Clashing m os fs ks → NamesRise fs → NamesRise ks
+  rise : {fs : List (Subtree T)} {ks : List (Subtree Mark)} → Clashing m os fs ks → NamesRise fs → NamesRise ks
   rise none_left r = tt
   rise (apart f fs ks w c) r = rise c r.1
   rise (together f fs k ks e i w c) r = (rw e (above c f.name r.0), rise c r.1)
 
-  each : {fs : List (Shoot T)} {ks : List (Shoot Mark)} → Clashing m os fs ks → AllByRecursion IsRising ks
+  each : {fs : List (Subtree T)} {ks : List (Subtree Mark)} → Clashing m os fs ks → AllByRecursion IsRising ks
   each none_left = tt
   each (apart f fs ks w c) = each c
   each (together f fs k ks e i w c) = (i, each c)
 
-  found : {fs : List (Shoot T)} {ks : List (Shoot Mark)} → Clashing m os fs ks → NamesRise fs → (n : List ℕ)
+  found : {fs : List (Subtree T)} {ks : List (Subtree Mark)} → Clashing m os fs ks → NamesRise fs → (n : List ℕ)
       → Clash (marked_in m (named n fs)) (marked_in m (named n os)) (through (named n ks))
   found none_left r n = no_files (marked_in m (named n os))
   found (apart f fs ks w c) r n = elim (same_or_not f.name n) [
@@ -161,7 +161,7 @@ module _ {T : Type 0} (m : T → Mark) (os : List (Shoot T)) where
   ]
 
   -- the marks of one file after another are those of all clashes of two directories
-  pub are_clashes : {fs : List (Shoot T)} {ks : List (Shoot Mark)} → Clashing m os fs ks → NamesRise fs → NamesRise os
+  pub are_clashes : {fs : List (Subtree T)} {ks : List (Subtree Mark)} → Clashing m os fs ks → NamesRise fs → NamesRise os
       → AreClashes m fs os ks
   are_clashes {fs} {ks} c r s = record {
     forest = record { names = rise c r; each = each c };
@@ -172,21 +172,22 @@ module _ {T : Type 0} (m : T → Mark) (os : List (Shoot T)) where
   }
 
 -- files are gone through up to left, with the others up to rest
-pub record IsClashing {T : Type 0} (m : T → Mark) (files left others rest : List (Shoot T)) (marks : List (Shoot Mark)) : Type 0 where
-  pub clashing : (more : List (Shoot Mark)) → Clashing m others left more → Clashing m others files (marks ++ more)
+pub record IsClashing {T : Type 0} (m : T → Mark) (files left others rest : List (Subtree T)) (marks : List (Subtree Mark)) : Type 0 where
+  pub clashing : (more : List (Subtree Mark)) → Clashing m others left more → Clashing m others files (marks ++ more)
   pub names : NamesRise left
   pub rest_names : NamesRise rest
   pub same : AllByRecursion (λ f. named f.name rest ≡ named f.name others) left
   pub smaller : length (spread left) ≤ length (spread files)
 
 -- of what is left, f is the first branch
-module _ {T : Type 0} (m : T → Mark) (files later others rest rest' : List (Shoot T)) (marks : List (Shoot Mark)) (f : Shoot T)
+module _ {T : Type 0} (m : T → Mark) (files later others rest rest' : List (Subtree T)) (marks : List (Subtree Mark)) (f : Subtree T)
     (inv : IsClashing m files (f ∷ later) others rest marks) (from : IsFrom f.name rest rest') where
   -- passing over others leaves the one with the file's name, if there is one
   pub at_other : named f.name rest' ≡ named f.name others
   at_other = from.same f.name (not_below_itself f.name) ∙ inv.same.0
 
-  on : (marks' : List (Shoot Mark)) → ((more : List (Shoot Mark)) → Clashing m others later more → Clashing m others files (marks' ++ more))
+  on : (marks' : List (Subtree Mark)) → ((more : List (Subtree Mark)) → Clashing m others later more
+        → Clashing m others files (marks' ++ more))
       → IsClashing m files later others rest' marks'
   on marks' c = record {
     clashing = c;
@@ -201,12 +202,12 @@ module _ {T : Type 0} (m : T → Mark) (files later others rest rest' : List (Sh
   nothing_there n = on marks (λ more c. inv.clashing more (apart f later more (rw (sym at_other ∙ n) (no_others (marked m (whole f)))) c))
 
   -- where the branch of that name does not clash, no mark is added
-  pub no_clash : (o : Shoot T) → named f.name rest' ≡ Some o → Clash (marked m (whole f)) (marked m (whole o)) (λ q. None)
+  pub no_clash : (o : Subtree T) → named f.name rest' ≡ Some o → Clash (marked m (whole f)) (marked m (whole o)) (λ q. None)
       → IsClashing m files later others rest' marks
   no_clash o n w = on marks (λ more c. inv.clashing more (apart f later more (rw (sym at_other ∙ n) w) c))
 
   -- where the two clash, their mark is added
-  pub one_clash : (o : Shoot T) (k : Shoot Mark) → named f.name rest' ≡ Some o → IsClashMark m f o k
+  pub one_clash : (o : Subtree T) (k : Subtree Mark) → named f.name rest' ≡ Some o → IsClashMark m f o k
       → IsClashing m files later others rest' (marks ++ k ∷ [])
   one_clash o k n w = on (marks ++ k ∷ []) (λ more c. rw append_assoc
       (inv.clashing (k ∷ more) (together f later k more w.name w.rising (rw (sym at_other ∙ n) w.at) c)))
@@ -216,7 +217,7 @@ module _ {T : Type 0} (m : T → Mark) (files later others rest rest' : List (Sh
   deeper_measure = omega (arith, grown f later, inv.smaller)
 
 -- with no file left, the marks are those of all clashes of the two directories
-pub clashing_ended : {T : Type 0} (m : T → Mark) (files left others rest : List (Shoot T)) (marks : List (Shoot Mark))
+pub clashing_ended : {T : Type 0} (m : T → Mark) (files left others rest : List (Subtree T)) (marks : List (Subtree Mark))
     → IsClashing m files left others rest marks → left ≡ [] → NamesRise files → NamesRise others → AreClashes m files others marks
 clashing_ended m files left others rest marks inv e r s =
     are_clashes m others (subst (Clashing m others files) (append-nil marks) (inv.clashing [] (rw e none_left))) r s

@@ -12,7 +12,7 @@ use Rattle.romfs_reader.specs.Images.{IsImage}
 use Rattle.romfs_reader.proofs.Paths.{one_header}
 use Rattle.stack_model.specs.Stack.{Path, IsPlain, marker, opaque}
 use Rattle.stack_model.specs.Attributes.{is_directory}
-use Rattle.path_tree.specs.Rows.{Shoot, spread, whole, named, at_path, IsForest}
+use Rattle.path_tree.specs.Rows.{Subtree, spread, whole, named, at_path, IsForest}
 use Rattle.path_tree.specs.Laying.{AreLaid}
 use Rattle.path_tree.proofs.Spread.{through, at_spread}
 use Rattle.path_tree.proofs.Rising.{branch_rises}
@@ -69,8 +69,8 @@ single a i layer h n entry other file w = record {
     only [] e f = (let s : entry ≡ e = cc in (tt, (h, refl, subst (IsEntryIn a layer h) s w)))
     only (m ∷ path) e f = absurd (cc)
 
-module _ (a : List ℕ) (i : IsImage a) (layer h : ℕ) (ms : List Named) (es : List (Shoot Entry))
-    (mm ws out : List (Shoot Mark)) (members : AreByName a h ms) (b : AreBuilt a layer ms es mm)
+module _ (a : List ℕ) (i : IsImage a) (layer h : ℕ) (ms : List Named) (es : List (Subtree Entry))
+    (mm ws out : List (Subtree Mark)) (members : AreByName a h ms) (b : AreBuilt a layer ms es mm)
     (wh : AreWhiteouts ms ws) (laid : AreLaid united mm ws out) where
   -- the member of a name is among the sorted ones
   member_at : (n : List ℕ) (c : ℕ) → IsMember a h c → name a c ≡ Some n
@@ -171,7 +171,7 @@ module _ (a : List ℕ) (i : IsImage a) (layer h : ℕ) (ms : List Named) (es : 
 
   module _ (whole_cut : Bool) (is_whole : (whole_cut ≡ true) ↔ HasNamed a h opaque) (directory : kind a h ≡ Directory)
       (entry : Entry) (in_layer : IsEntryIn a layer h entry) where
-    branch : List ℕ → Shoot Entry
+    branch : List ℕ → Subtree Entry
     branch n = record { name = n; value = entry; below = spread es }
 
     -- the names below the directory's own that the markers cut, or what the members leave
@@ -265,7 +265,7 @@ module _ (a : List ℕ) (i : IsImage a) (layer h : ℕ) (ms : List Named) (es : 
       go (marked j m k f c s e) = (λ y. (let t = has_at j m s in (m.head.offset, t.member, t.name ∙ ap Some e)), λ x. rw f refl)
 
 -- a mark that cuts nothing is not needed
-pub alone_without : (a : List ℕ) (layer h : ℕ) (n : List ℕ) (e : Shoot Entry) (k : Shoot Mark)
+pub alone_without : (a : List ℕ) (layer h : ℕ) (n : List ℕ) (e : Subtree Entry) (k : Subtree Mark)
     → AreBranchesOf a layer h n e k → IsBlank k → IsBranchAlone a layer h n e
 alone_without a layer h n e k w blank = record { name = w.entry_name; entries = w.entries; exact = exact }
   where
@@ -285,13 +285,13 @@ no_true true e = sym e
 no_true false e = refl
 
 -- a mark that itself cuts nothing is blank exactly where it has no branches
-pub blank_below : (k : Shoot Mark) (ks : List (Shoot Mark)) (none : Bool) → k.value.cut ≡ false → k.value.opaque ≡ false
+pub blank_below : (k : Subtree Mark) (ks : List (Subtree Mark)) (none : Bool) → k.value.cut ≡ false → k.value.opaque ≡ false
     → k.below ≡ spread ks → none ≡ (length ks == 0) → (IsTrue none → IsBlank k) × (IsBlank k → IsTrue none)
 blank_below k [] none u o b e = (λ t. record { uncut = u; clear = o; nothing = b }, λ blank. e)
 blank_below k (s ∷ ss) none u o b e = (λ t. absurd (grind (arith, t, e)), λ blank. (let f = sym b ∙ blank.nothing in absurd (cc)))
 
 -- a mark where one is needed
-pub made_as_needed : (a : List ℕ) (layer h : ℕ) (n : List ℕ) (e : Shoot Entry) (k : Shoot Mark) (o : Option (Shoot Mark))
+pub made_as_needed : (a : List ℕ) (layer h : ℕ) (n : List ℕ) (e : Subtree Entry) (k : Subtree Mark) (o : Option (Subtree Mark))
     → AreBranchesOf a layer h n e k → MatchOption o (IsBlank k) (λ s. (s ≡ k) × ¬ IsBlank k) → IsMadeOf a layer h n (e, o)
 made_as_needed a layer h n e k None w p = alone_without a layer h n e k w p
 made_as_needed a layer h n e k (Some s) w p = subst (λ x. AreBranchesOf a layer h n e x) (sym p.0) w

@@ -6,7 +6,7 @@ use Rattle.std.specs.Prelude.{slice_get, Result, Ok, Err, IfOk}
 use Rattle.romfs_format.specs.declared.head.Kind.TheVariants.{Directory}
 use Rattle.stack_model.specs.Stack.{Path, IsPlain, Shows, IsTop, IsFree, IsCut}
 use Rattle.stack_model.proofs.Joined.{shows_joined, cuts_joined, free_is}
-use Rattle.path_tree.specs.Rows.{Shoot, whole, at_path}
+use Rattle.path_tree.specs.Rows.{Subtree, whole, at_path}
 use Rattle.path_tree.specs.Laying.{laid_at, IsLaid}
 use Rattle.shown_tree.specs.declared.place.Entry.{Entry}
 use Rattle.shown_tree.specs.declared.place.Mark.{Mark}
@@ -194,7 +194,7 @@ module _ (first : ℕ) (ls hs : List (List ℕ)) (low high out : TreeRows) (l : 
   }
 
 -- united marks of three trees cut what any of them cuts
-three_united : (lm hm rm am om : Shoot Mark) → IsLaid united rm hm am → IsLaid united lm am om → (path : Path)
+three_united : (lm hm rm am om : Subtree Mark) → IsLaid united rm hm am → IsLaid united lm am om → (path : Path)
     → cut_by (at_path (whole om)) path
     ≡ (cut_by (at_path (whole lm)) path || (cut_by (at_path (whole rm)) path || cut_by (at_path (whole hm)) path))
 three_united lm hm rm am om a m path =
@@ -203,7 +203,7 @@ three_united lm hm rm am om a m path =
     (cut_united (at_path (whole am)) (at_path (whole rm)) (at_path (whole hm)) a.at path)
 
 -- entries that cover what is kept, with united marks, are a tree laid on another
-pub lays_of : (le he one two oe : Shoot Entry) (lm hm hidden replaced am om : Shoot Mark)
+pub lays_of : (le he one two oe : Subtree Entry) (lm hm hidden replaced am om : Subtree Mark)
     → AreRootClashes mark_of he le hidden → AreRootClashes mark_of le he replaced → IsKept le hm one → IsKept one hidden two
     → IsLaid upper two he oe → IsLaid united replaced hm am → IsLaid united lm am om
     → Lays (record { entries = whole le; marks = whole lm }) (record { entries = whole he; marks = whole hm })
@@ -219,14 +219,14 @@ lays_of le he one two oe lm hm hidden replaced am om h r k l e a m =
     }
 
 -- no united mark cuts the root where neither does
-pub root_uncut : (lm hm om : Shoot Mark) → IsLaid united lm hm om → lm.value.cut ≡ false → hm.value.cut ≡ false → om.value.cut ≡ false
+pub root_uncut : (lm hm om : Subtree Mark) → IsLaid united lm hm om → lm.value.cut ≡ false → hm.value.cut ≡ false → om.value.cut ≡ false
 root_uncut lm hm om m e f =
     let s : Some om.value ≡ Some (united lm.value hm.value) = m.at [] in
     let v : om.value ≡ united lm.value hm.value = cc in
     ap (λ (x : Mark). x.cut) v ∙ rw (e, f) refl
 
 -- the root's entry is the upper tree's
-pub root_folder : (two he oe : Shoot Entry) → IsLaid upper two he oe → he.value.kind ≡ Directory → oe.value.kind ≡ Directory
+pub root_folder : (two he oe : Subtree Entry) → IsLaid upper two he oe → he.value.kind ≡ Directory → oe.value.kind ≡ Directory
 root_folder two he oe m k =
     let s : Some oe.value ≡ Some he.value = m.at [] in
     let v : oe.value ≡ he.value = cc in

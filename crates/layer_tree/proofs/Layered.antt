@@ -10,7 +10,7 @@ use Rattle.romfs_reader.specs.Images.{IsImage}
 use Rattle.romfs_reader.proofs.Keeps.{root_directory}
 use Rattle.stack_model.specs.Stack.{Path, IsPlain, marker, opaque, Cuts, Shows, IsCut}
 use Rattle.stack_model.proofs.Joined.{alone}
-use Rattle.path_tree.specs.Rows.{Shoot, whole, at_path}
+use Rattle.path_tree.specs.Rows.{Subtree, whole, at_path}
 use Rattle.shown_tree.specs.declared.place.Entry.{Entry}
 use Rattle.shown_tree.specs.declared.place.Mark.{Mark}
 use Rattle.shown_tree.specs.Marks.{covered_by, removed_by, is_plain}
@@ -123,7 +123,7 @@ module _ (a : List ℕ) (i : IsImage a) where
         (c.0, (r.above, r.first, r.rest, r.is, ((r.inside.0, r.inside.1, opened_directory a i r.inside.2), r.removes)))),
   )
 
-  module _ (layer : ℕ) (e : Shoot Entry) (k : Shoot Mark) (b : IsBranchOf a layer (root a) e)
+  module _ (layer : ℕ) (e : Subtree Entry) (k : Subtree Mark) (b : IsBranchOf a layer (root a) e)
       (m : RemovesFrom a (root a) (at_path (whole k)) e) where
     in_run : (h : ℕ) (x : Entry) → IsEntryIn a layer h x → IsEntryOf layer (a ∷ []) 0 h x
     in_run h x w = record { layer = omega (arith, w.number); end = (a, refl, w.final, w.kind) }

@@ -5,7 +5,7 @@ use Rattle.std.proofs.Common.{◌≡◌, ◌∙◌, sym, ap, subst, ℕ, ◌+◌
 use Rattle.std.specs.Prelude.{option_map}
 use Rattle.std.specs.List.{AllByRecursion}
 use Rattle.stack_model.specs.Stack.{Path}
-use Rattle.path_tree.specs.Rows.{Shoot, named, NamesRise, spread, whole}
+use Rattle.path_tree.specs.Rows.{Subtree, named, NamesRise, spread, whole}
 use Rattle.path_tree.proofs.Names.{same_or_not, not_below_itself}
 use Rattle.path_tree.proofs.Spread.{at_spread}
 use Rattle.path_tree.proofs.Merging.{grown}
@@ -20,14 +20,14 @@ abbrev pub Apart : (Path → Option Mark) → (Path → Option Mark) → Type 0
 Apart f o = Clash f o (λ q. None) × Clash o f (λ q. None)
 
 -- the branches of a directory, each apart from the other one of its name
-pub data Meeting {T : Type 0} (m : T → Mark) (os : List (Shoot T)) : List (Shoot T) → Type 0 where
+pub data Meeting {T : Type 0} (m : T → Mark) (os : List (Subtree T)) : List (Subtree T) → Type 0 where
   none_met : Meeting m os []
-  met : (f : Shoot T) (fs : List (Shoot T)) → Apart (marked m (whole f)) (marked_in m (named f.name os))
+  met : (f : Subtree T) (fs : List (Subtree T)) → Apart (marked m (whole f)) (marked_in m (named f.name os))
       → Meeting m os fs → Meeting m os (f ∷ fs)
 
-module _ {T : Type 0} (m : T → Mark) (os : List (Shoot T)) where
+module _ {T : Type 0} (m : T → Mark) (os : List (Subtree T)) where
   -- so it is at each name
-  found : {fs : List (Shoot T)} → Meeting m os fs → NamesRise fs → (n : List ℕ)
+  found : {fs : List (Subtree T)} → Meeting m os fs → NamesRise fs → (n : List ℕ)
       → Apart (marked_in m (named n fs)) (marked_in m (named n os))
   found none_met r n = (no_files (marked_in m (named n os)), no_others (marked_in m (named n os)))
   found (met f fs w c) r n = elim (same_or_not f.name n) [
@@ -36,7 +36,7 @@ module _ {T : Type 0} (m : T → Mark) (os : List (Shoot T)) where
   ]
 
   -- one way of two lists that are apart at each name
-  one_way : (fs gs : List (Shoot T)) → NamesRise fs → NamesRise gs
+  one_way : (fs gs : List (Subtree T)) → NamesRise fs → NamesRise gs
       → ((n : List ℕ) → Clash (marked_in m (named n fs)) (marked_in m (named n gs)) (λ q. None)) → AreClashes m fs gs []
   one_way fs gs r s c = record {
     forest = record { names = tt; each = tt };
@@ -47,14 +47,14 @@ module _ {T : Type 0} (m : T → Mark) (os : List (Shoot T)) where
   }
 
   -- branches that are apart at each name clash nowhere, whichever are the files
-  pub are_apart : {fs : List (Shoot T)} → Meeting m os fs → NamesRise fs → NamesRise os → AreApart m fs os
+  pub are_apart : {fs : List (Subtree T)} → Meeting m os fs → NamesRise fs → NamesRise os → AreApart m fs os
   are_apart {fs} c r s = record {
     low_files = one_way fs os r s (λ n. (found c r n).0);
     high_files = one_way os fs s r (λ n. (found c r n).1);
   }
 
 -- files are gone through up to left, with the others up to rest
-pub record IsMeeting {T : Type 0} (m : T → Mark) (files left others rest : List (Shoot T)) : Type 0 where
+pub record IsMeeting {T : Type 0} (m : T → Mark) (files left others rest : List (Subtree T)) : Type 0 where
   pub meeting : Meeting m others left → Meeting m others files
   pub names : NamesRise left
   pub rest_names : NamesRise rest
@@ -62,7 +62,7 @@ pub record IsMeeting {T : Type 0} (m : T → Mark) (files left others rest : Lis
   pub smaller : length (spread left) ≤ length (spread files)
 
 -- of what is left, f is the first branch
-module _ {T : Type 0} (m : T → Mark) (files later others rest rest' : List (Shoot T)) (f : Shoot T)
+module _ {T : Type 0} (m : T → Mark) (files later others rest rest' : List (Subtree T)) (f : Subtree T)
     (inv : IsMeeting m files (f ∷ later) others rest) (from : IsFrom f.name rest rest') where
   at_other : named f.name rest' ≡ named f.name others
   at_other = from.same f.name (not_below_itself f.name) ∙ inv.same.0
@@ -81,7 +81,7 @@ module _ {T : Type 0} (m : T → Mark) (files later others rest rest' : List (Sh
   alone n = on (rw n (no_others (marked m (whole f)), no_files (marked m (whole f))))
 
   -- a branch that is apart from the other one of its name is passed over
-  pub apart : (o : Shoot T) → named f.name rest' ≡ Some o → IsApart m f o → IsMeeting m files later others rest'
+  pub apart : (o : Subtree T) → named f.name rest' ≡ Some o → IsApart m f o → IsMeeting m files later others rest'
   apart o n w = on (rw n (w.low_file, w.high_file))
 
   -- there is less to go through below one of the files than in all of them
@@ -89,6 +89,6 @@ module _ {T : Type 0} (m : T → Mark) (files later others rest rest' : List (Sh
   deeper_measure = omega (arith, grown f later, inv.smaller)
 
 -- with none left, the branches of the two directories clash nowhere
-pub meeting_ended : {T : Type 0} (m : T → Mark) (files left others rest : List (Shoot T))
+pub meeting_ended : {T : Type 0} (m : T → Mark) (files left others rest : List (Subtree T))
     → IsMeeting m files left others rest → left ≡ [] → NamesRise files → NamesRise others → AreApart m files others
 meeting_ended m files left others rest inv e r s = are_apart m others (inv.meeting (rw e none_met)) r s

@@ -6,7 +6,7 @@ use Rattle.std.proofs.lemmas.List.{append-nil}
 use Rattle.std.proofs.lemmas.Cmp.{nat_list_cmp_total}
 use Rattle.std.specs.declared.cmp.Ordering.TheVariants.{Less, Equal, Greater}
 use Rattle.std.specs.List.{AllByRecursion}
-use Rattle.path_tree.specs.Rows.{Shoot, name_cmp, named, NamesRise, IsRising, IsForest, at_path, spread, whole}
+use Rattle.path_tree.specs.Rows.{Subtree, name_cmp, named, NamesRise, IsRising, IsForest, at_path, spread, whole}
 use Rattle.path_tree.proofs.Names.{same_or_not, not_below_itself, named_below, all_above, above_of}
 use Rattle.path_tree.proofs.Spread.{through, at_spread}
 use Rattle.path_tree.proofs.Rising.{branch_rises}
@@ -19,12 +19,12 @@ use Rattle.layer_tree.specs.Laying.{unless, AreKept, IsLeftOut, IsKept, IsFrom}
 use Rattle.shown_tree.proofs.Cutting.{nothing_cut, cut_same, cut_through, by_name}
 
 -- some branches were passed over, all with names before this one
-pub record IsPassed {T : Type 0} (name : List ℕ) (branches rest : List (Shoot T)) : Type 0 where
+pub record IsPassed {T : Type 0} (name : List ℕ) (branches rest : List (Subtree T)) : Type 0 where
   pub names : NamesRise rest
   pub same : (n : List ℕ) → name_cmp n name ≢ Less → named n rest ≡ named n branches
 
 -- of what is left, s is the first branch
-module _ {T : Type 0} (name : List ℕ) (branches rest later : List (Shoot T)) (s : Shoot T)
+module _ {T : Type 0} (name : List ℕ) (branches rest later : List (Subtree T)) (s : Subtree T)
     (inv : IsPassed name branches rest) (e : rest ≡ s ∷ later) where
   rises : NamesRise (s ∷ later)
   rises = subst NamesRise e inv.names
@@ -54,29 +54,29 @@ module _ {T : Type 0} (name : List ℕ) (branches rest later : List (Shoot T)) (
       ap (named name) e ∙ named_below name (s ∷ later) (l, all_above name s.name later l rises.0)
 
 -- what is left of branches, one by one
-pub data Keeps {T : Type 0} (marks : List (Shoot Mark)) : List (Shoot T) → List (Shoot T) → Type 0 where
+pub data Keeps {T : Type 0} (marks : List (Subtree Mark)) : List (Subtree T) → List (Subtree T) → Type 0 where
   None_left : Keeps marks [] []
-  Untouched : (l : Shoot T) (ls out : List (Shoot T)) → named l.name marks ≡ None → Keeps marks ls out → Keeps marks (l ∷ ls) (l ∷ out)
-  Left_out : (l : Shoot T) (ls out : List (Shoot T)) (m : Shoot Mark) → named l.name marks ≡ Some m
+  Untouched : (l : Subtree T) (ls out : List (Subtree T)) → named l.name marks ≡ None → Keeps marks ls out → Keeps marks (l ∷ ls) (l ∷ out)
+  Left_out : (l : Subtree T) (ls out : List (Subtree T)) (m : Subtree Mark) → named l.name marks ≡ Some m
       → IsLeftOut m → Keeps marks ls out → Keeps marks (l ∷ ls) out
-  Kept : (l b : Shoot T) (ls out : List (Shoot T)) (m : Shoot Mark) → named l.name marks ≡ Some m
+  Kept : (l b : Subtree T) (ls out : List (Subtree T)) (m : Subtree Mark) → named l.name marks ≡ Some m
       → IsKept l m b → Keeps marks ls out → Keeps marks (l ∷ ls) (b ∷ out)
 
-module _ {T : Type 0} (marks : List (Shoot Mark)) where
-  above : {ls out : List (Shoot T)} → Keeps marks ls out → (n : List ℕ)
+module _ {T : Type 0} (marks : List (Subtree Mark)) where
+  above : {ls out : List (Subtree T)} → Keeps marks ls out → (n : List ℕ)
       → AllByRecursion (λ t. name_cmp n t.name ≡ Less) ls → AllByRecursion (λ t. name_cmp n t.name ≡ Less) out
   above None_left n a = tt
   above (Untouched l ls out e k) n a = (a.0, above k n a.1)
   above (Left_out l ls out m e c k) n a = above k n a.1
   above (Kept l b ls out m e c k) n a = (rw c.name a.0, above k n a.1)
 
-  rise : {ls out : List (Shoot T)} → Keeps marks ls out → NamesRise ls → NamesRise out
+  rise : {ls out : List (Subtree T)} → Keeps marks ls out → NamesRise ls → NamesRise out
   rise None_left r = tt
   rise (Untouched l ls out e k) r = (above k l.name r.0, rise k r.1)
   rise (Left_out l ls out m e c k) r = rise k r.1
   rise (Kept l b ls out m e c k) r = (rw c.name (above k l.name r.0), rise k r.1)
 
-  each : {ls out : List (Shoot T)} → Keeps marks ls out → AllByRecursion IsRising ls → AllByRecursion IsRising out
+  each : {ls out : List (Subtree T)} → Keeps marks ls out → AllByRecursion IsRising ls → AllByRecursion IsRising out
   each None_left r = tt
   each (Untouched l ls out e k) r = (r.0, each k r.1)
   each (Left_out l ls out m e c k) r = each k r.1
@@ -90,7 +90,7 @@ module _ {T : Type 0} (marks : List (Shoot Mark)) where
   unless_none true = refl
   unless_none false = refl
 
-  found : {ls out : List (Shoot T)} → Keeps marks ls out → NamesRise ls → (n : List ℕ) (p : Path)
+  found : {ls out : List (Subtree T)} → Keeps marks ls out → NamesRise ls → (n : List ℕ) (p : Path)
       → through (named n out) p ≡ unless (cut_through (named n marks) p) (through (named n ls) p)
   found None_left r n p = sym (unless_none (cut_through (named n marks) p))
   found (Untouched l ls out e k) r n p = elim (same_or_not l.name n) [
@@ -111,7 +111,7 @@ module _ {T : Type 0} (marks : List (Shoot Mark)) where
   ]
 
   -- what is left of one branch after another is what marks leave of all
-  pub are_kept : {ls out : List (Shoot T)} → Keeps marks ls out → IsForest ls → NamesRise marks → AreKept ls marks out
+  pub are_kept : {ls out : List (Subtree T)} → Keeps marks ls out → IsForest ls → NamesRise marks → AreKept ls marks out
   are_kept {ls} {out} k f r =
       let names = rise k f.names in
       record {
@@ -122,14 +122,14 @@ module _ {T : Type 0} (marks : List (Shoot Mark)) where
       }
 
 -- with no marks all is kept
-pub no_marks : {T : Type 0} (ls : List (Shoot T)) → IsForest ls → AreKept ls [] ls
+pub no_marks : {T : Type 0} (ls : List (Subtree T)) → IsForest ls → AreKept ls [] ls
 no_marks ls f = record { forest = f; at = λ n p. rw (nothing_cut p) refl }
 
 not_less : (a b : List ℕ) → name_cmp a b ≡ Less → name_cmp b a ≢ Less
 not_less a b f g = not_below_itself a (nat_list_cmp_total.trans a b a f g)
 
 -- what was the same for later names is so when branches before one name are passed over
-pub still_same : {T U : Type 0} (name : List ℕ) (rest rest' all : List (Shoot U)) → IsFrom name rest rest' → (ls : List (Shoot T))
+pub still_same : {T U : Type 0} (name : List ℕ) (rest rest' all : List (Subtree U)) → IsFrom name rest rest' → (ls : List (Subtree T))
     → AllByRecursion (λ t. name_cmp name t.name ≡ Less) ls
     → AllByRecursion (λ k. named k.name rest ≡ named k.name all) ls
     → AllByRecursion (λ k. named k.name rest' ≡ named k.name all) ls
@@ -138,19 +138,20 @@ still_same name rest rest' all from (k ∷ ks) a s = (from.same k.name (not_less
       still_same name rest rest' all from ks a.1 s.1)
 
 -- lows are gone through up to ls, with the marks up to rest
-pub record Keeping {T : Type 0} (lows ls out : List (Shoot T)) (marks rest : List (Shoot Mark)) : Type 0 where
-  pub kept : (more : List (Shoot T)) → Keeps marks ls more → Keeps marks lows (out ++ more)
+pub record Keeping {T : Type 0} (lows ls out : List (Subtree T)) (marks rest : List (Subtree Mark)) : Type 0 where
+  pub kept : (more : List (Subtree T)) → Keeps marks ls more → Keeps marks lows (out ++ more)
   pub names : NamesRise ls
   pub rest_names : NamesRise rest
   pub same : AllByRecursion (λ l. named l.name rest ≡ named l.name marks) ls
   pub smaller : length (spread ls) ≤ length (spread lows)
 
-all_same : {T : Type 0} (ls : List (Shoot T)) (marks : List (Shoot Mark)) → AllByRecursion (λ l. named l.name marks ≡ named l.name marks) ls
+all_same : {T : Type 0} (ls : List (Subtree T)) (marks : List (Subtree Mark))
+    → AllByRecursion (λ l. named l.name marks ≡ named l.name marks) ls
 all_same [] marks = tt
 all_same (l ∷ ls) marks = (refl, all_same ls marks)
 
 -- before the first branch all branches and marks are to be gone through
-pub keeping_begun : {T : Type 0} (lows : List (Shoot T)) (marks : List (Shoot Mark)) → IsForest lows
+pub keeping_begun : {T : Type 0} (lows : List (Subtree T)) (marks : List (Subtree Mark)) → IsForest lows
     → NamesRise marks → Keeping lows lows [] marks marks
 keeping_begun lows marks f r = record {
   kept = λ more k. k;
@@ -161,15 +162,15 @@ keeping_begun lows marks f r = record {
 }
 
 -- of what is left, l is the first branch
-module _ {T : Type 0} (lows ls out : List (Shoot T)) (marks rest rest' : List (Shoot Mark)) (l : Shoot T)
+module _ {T : Type 0} (lows ls out : List (Subtree T)) (marks rest rest' : List (Subtree Mark)) (l : Subtree T)
     (inv : Keeping lows (l ∷ ls) out marks rest) (from : IsFrom l.name rest rest')
   where
     -- passing over marks leaves the one with the branch's name, if there is one
     pub at_mark : named l.name rest' ≡ named l.name marks
     at_mark = from.same l.name (not_below_itself l.name) ∙ inv.same.0
 
-    on : (out' : List (Shoot T))
-        → ((more : List (Shoot T)) → Keeps marks ls more → Keeps marks lows (out' ++ more))
+    on : (out' : List (Subtree T))
+        → ((more : List (Subtree T)) → Keeps marks ls more → Keeps marks lows (out' ++ more))
         → Keeping lows ls out' marks rest'
     on out' k = record {
       kept = k;
@@ -184,11 +185,11 @@ module _ {T : Type 0} (lows ls out : List (Shoot T)) (marks rest rest' : List (S
     untouched n = on (out ++ l ∷ []) (λ more k. rw append_assoc (inv.kept (l ∷ more) (Untouched l ls more (sym at_mark ∙ n) k)))
 
     -- of a branch that its mark cuts whole, nothing is left
-    pub left_out : (m : Shoot Mark) → named l.name rest' ≡ Some m → IsLeftOut m → Keeping lows ls out marks rest'
+    pub left_out : (m : Subtree Mark) → named l.name rest' ≡ Some m → IsLeftOut m → Keeping lows ls out marks rest'
     left_out m n c = on out (λ more k. inv.kept more (Left_out l ls more m (sym at_mark ∙ n) c k))
 
     -- of any other branch with a mark, what that leaves is left
-    pub kept_one : (m : Shoot Mark) (b : Shoot T) → named l.name rest' ≡ Some m → IsKept l m b
+    pub kept_one : (m : Subtree Mark) (b : Subtree T) → named l.name rest' ≡ Some m → IsKept l m b
         → Keeping lows ls (out ++ b ∷ []) marks rest'
     kept_one m b n c = on (out ++ b ∷ []) (λ more k. rw append_assoc (inv.kept (b ∷ more) (Kept l b ls more m (sym at_mark ∙ n) c k)))
 
@@ -197,14 +198,14 @@ module _ {T : Type 0} (lows ls out : List (Shoot T)) (marks rest rest' : List (S
     below_measure = omega (arith, grown l ls, inv.smaller)
 
 -- with no branch to go, what is left is what marks leave of all
-pub keeping_ended : {T : Type 0} (lows ls out : List (Shoot T)) (marks rest : List (Shoot Mark))
+pub keeping_ended : {T : Type 0} (lows ls out : List (Subtree T)) (marks rest : List (Subtree Mark))
     → Keeping lows ls out marks rest → ls ≡ [] → IsForest lows → NamesRise marks
     → AreKept lows marks out
 keeping_ended lows ls out marks rest inv e f r = are_kept marks (subst (Keeps marks lows) (append-nil out) (inv.kept [] (rw e None_left))) f
     r
 
 -- a mark that cuts its branch leaves nothing
-pub all_cut : (mark : Shoot Mark) → mark.value.cut ≡ true → IsLeftOut mark
+pub all_cut : (mark : Subtree Mark) → mark.value.cut ≡ true → IsLeftOut mark
 all_cut mark e = record { cut = cut }
   where
     cut : (path : Path) → cut_by (at_path (whole mark)) path ≡ true
@@ -212,7 +213,7 @@ all_cut mark e = record { cut = cut }
     cut (n ∷ path) = rw e refl
 
 -- an opaque mark leaves the branch alone
-pub alone : {T : Type 0} (low : Shoot T) (mark : Shoot Mark) → mark.value.cut ≡ false
+pub alone : {T : Type 0} (low : Subtree T) (mark : Subtree Mark) → mark.value.cut ≡ false
     → mark.value.opaque ≡ true → IsKept low mark (record { name = low.name; value = low.value; below = [] })
 alone low mark e o = record { name = refl; rising = branch_rises low.name low.value [] (record { names = tt; each = tt }); at = at }
   where
@@ -222,8 +223,8 @@ alone low mark e o = record { name = refl; rising = branch_rises low.name low.va
     at (n ∷ path) = rw (e, o) refl
 
 -- a mark that cuts nothing itself leaves of a branch what the marks below it leave
-pub inside : {T : Type 0} (low : Shoot T) (mark : Shoot Mark) (lows out : List (Shoot T))
-    (marks : List (Shoot Mark)) → mark.value.cut ≡ false → mark.value.opaque ≡ false → low.below ≡ spread lows
+pub inside : {T : Type 0} (low : Subtree T) (mark : Subtree Mark) (lows out : List (Subtree T))
+    (marks : List (Subtree Mark)) → mark.value.cut ≡ false → mark.value.opaque ≡ false → low.below ≡ spread lows
     → mark.below ≡ spread marks → AreKept lows marks out
     → IsKept low mark (record { name = low.name; value = low.value; below = spread out })
 inside low mark lows out marks e o f g k = record { name = refl; rising = branch_rises low.name low.value out k.forest; at = at }

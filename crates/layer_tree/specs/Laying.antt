@@ -2,7 +2,7 @@
 -- is left, and the marks are united, with marks for what the upper one's directories cover of the
 -- lower one's files.
 use Rattle.std.specs.Prelude.{◌≡◌, ◌≢◌, ℕ, ◌⊎◌, List, [], ◌∷◌, ◌++◌, Bool, true, false, not, ◌||◌, Option, Some, None, MatchOption, if◌then◌else◌}
-use Rattle.path_tree.specs.Rows.{Shoot, name_cmp, named, NamesRise, spread, whole, at_path, IsRising, IsForest, PathsRise}
+use Rattle.path_tree.specs.Rows.{Subtree, name_cmp, named, NamesRise, spread, whole, at_path, IsRising, IsForest, PathsRise}
 use Rattle.std.specs.declared.cmp.Ordering.TheVariants.{Less}
 use Rattle.path_tree.specs.Laying.{laid_at, IsLaid}
 use Rattle.stack_model.specs.Stack.{Path}
@@ -16,8 +16,8 @@ abbrev pub unless : {T : Type 0} → Bool → Option T → Option T
 unless cut value = if cut then None else value
 
 -- these branches are what marks at and below their paths leave of the others
-pub record AreKept {T : Type 0} (lows : List (Shoot T)) (marks : List (Shoot Mark))
-    (out : List (Shoot T)) : Type 0 where
+pub record AreKept {T : Type 0} (lows : List (Subtree T)) (marks : List (Subtree Mark))
+    (out : List (Subtree T)) : Type 0 where
   pub forest : IsForest out
   pub at : (n : List ℕ) (path : Path)
       → at_path (spread out) (n ∷ path)
@@ -25,11 +25,12 @@ pub record AreKept {T : Type 0} (lows : List (Shoot T)) (marks : List (Shoot Mar
       (at_path (spread lows) (n ∷ path))
 
 -- all of a branch is cut
-pub record IsLeftOut (mark : Shoot Mark) : Type 0 where
+pub record IsLeftOut (mark : Subtree Mark) : Type 0 where
   pub cut : (path : Path) → cut_by (at_path (whole mark)) path ≡ true
 
 -- the branch is what marks leave of another one
-pub record IsKept {T : Type 0} (low : Shoot T) (mark : Shoot Mark) (out : Shoot T) : Type 0 where
+pub record IsKept {T : Type 0} (low : Subtree T) (mark : Subtree Mark) (out : Subtree T)
+    : Type 0 where
   pub name : out.name ≡ low.name
   pub rising : IsRising out
   pub at : (path : Path)
@@ -37,7 +38,7 @@ pub record IsKept {T : Type 0} (low : Shoot T) (mark : Shoot Mark) (out : Shoot 
       ≡ unless (cut_by (at_path (whole mark)) path) (at_path (whole low) path)
 
 -- what marks leave of a branch; none where they cut all of it
-abbrev pub IsLeft : {T : Type 0} → Shoot T → Shoot Mark → Option (Shoot T) → Type 0
+abbrev pub IsLeft : {T : Type 0} → Subtree T → Subtree Mark → Option (Subtree T) → Type 0
 IsLeft low mark out = MatchOption out (IsLeftOut mark) (λ b. IsKept low mark b)
 
 -- the tree is high laid on low
@@ -50,17 +51,17 @@ pub record Lays (low high out : TreeRows) : Type 0 where
 
 -- what two marks leave of the lower tree's entries, one after the other, is covered by the upper
 -- one's
-pub record CoverTheKept (low high : Shoot Entry) (marks hidden : Shoot Mark)
-    (out : Shoot Entry) : Type 0 where
-  pub unmarked : Shoot Entry
-  pub kept : Shoot Entry
+pub record CoverTheKept (low high : Subtree Entry) (marks hidden : Subtree Mark)
+    (out : Subtree Entry) : Type 0 where
+  pub unmarked : Subtree Entry
+  pub kept : Subtree Entry
   pub unmarked_is : IsKept low marks unmarked
   pub kept_is : IsKept unmarked hidden kept
   pub covered : IsLaid upper kept high out
 
 -- the marks of both trees, and those of what was replaced
-pub record AreUnited (low replaced high out : Shoot Mark) : Type 0 where
-  pub above : Shoot Mark
+pub record AreUnited (low replaced high out : Subtree Mark) : Type 0 where
+  pub above : Subtree Mark
   pub above_is : IsLaid united replaced high above
   pub united_is : IsLaid united low above out
 
@@ -70,7 +71,7 @@ is_uncut None = false
 is_uncut (Some m) = not m.cut
 
 -- the branch cuts itself and has nothing below it
-pub record IsBare {T : Type 0} (m : T → Mark) (s : Shoot T) : Type 0 where
+pub record IsBare {T : Type 0} (m : T → Mark) (s : Subtree T) : Type 0 where
   pub itself : (m s.value).cut ≡ true
   pub nothing : s.below ≡ []
 
@@ -88,49 +89,49 @@ pub record Clash (files others marks : Path → Option Mark) : Type 0 where
       → (cut_by marks path ≡ true) ⊎ IsLeafAt others path
 
 -- the same of the branches of two directories
-pub record AreClashes {T : Type 0} (m : T → Mark) (files others : List (Shoot T))
-    (marks : List (Shoot Mark)) : Type 0 where
+pub record AreClashes {T : Type 0} (m : T → Mark) (files others : List (Subtree T))
+    (marks : List (Subtree Mark)) : Type 0 where
   pub forest : IsForest marks
   pub at : (n : List ℕ) → Clash (λ q. marked m (spread files) (n ∷ q))
       (λ q. marked m (spread others) (n ∷ q)) (λ q. at_path (spread marks) (n ∷ q))
 
 -- the mark is that of all clashes of two branches
-pub record IsClashMark {T : Type 0} (m : T → Mark) (file other : Shoot T)
-    (mark : Shoot Mark) : Type 0 where
+pub record IsClashMark {T : Type 0} (m : T → Mark) (file other : Subtree T)
+    (mark : Subtree Mark) : Type 0 where
   pub name : mark.name ≡ file.name
   pub rising : IsRising mark
   pub at : Clash (marked m (whole file)) (marked m (whole other)) (at_path (whole mark))
 
 -- the same of a mark that there may be
-abbrev pub HasClash : {T : Type 0} → (T → Mark) → Shoot T → Shoot T → Option (Shoot Mark)
+abbrev pub HasClash : {T : Type 0} → (T → Mark) → Subtree T → Subtree T → Option (Subtree Mark)
     → Type 0
 HasClash m file other mark = MatchOption mark
     (Clash (marked m (whole file)) (marked m (whole other)) (λ q. None))
     (λ k. IsClashMark m file other k)
 
 -- the same of two roots: no mark cuts the root itself
-pub record AreRootClashes {T : Type 0} (m : T → Mark) (file other : Shoot T)
-    (mark : Shoot Mark) : Type 0 where
+pub record AreRootClashes {T : Type 0} (m : T → Mark) (file other : Subtree T)
+    (mark : Subtree Mark) : Type 0 where
   pub uncut : mark.value.cut ≡ false
   pub at : Clash (marked m (whole file)) (marked m (whole other)) (at_path (whole mark))
 
 -- the branches of two directories clash nowhere, whichever of them are the files
-pub record AreApart {T : Type 0} (m : T → Mark) (lows highs : List (Shoot T)) : Type 0 where
+pub record AreApart {T : Type 0} (m : T → Mark) (lows highs : List (Subtree T)) : Type 0 where
   pub low_files : AreClashes m lows highs []
   pub high_files : AreClashes m highs lows []
 
 -- the same of two branches
-pub record IsApart {T : Type 0} (m : T → Mark) (low high : Shoot T) : Type 0 where
+pub record IsApart {T : Type 0} (m : T → Mark) (low high : Subtree T) : Type 0 where
   pub low_file : Clash (marked m (whole low)) (marked m (whole high)) (λ q. None)
   pub high_file : Clash (marked m (whole high)) (marked m (whole low)) (λ q. None)
 
 -- no branch has a name that comes before this one
-abbrev pub NoneBefore : {T : Type 0} → List ℕ → List (Shoot T) → Type 0
+abbrev pub NoneBefore : {T : Type 0} → List ℕ → List (Subtree T) → Type 0
 NoneBefore name [] = Unit {0}
 NoneBefore name (s ∷ ss) = name_cmp s.name name ≢ Less
 
 -- the rest of the branches from a name on
-pub record IsFrom {T : Type 0} (name : List ℕ) (branches rest : List (Shoot T)) : Type 0 where
+pub record IsFrom {T : Type 0} (name : List ℕ) (branches rest : List (Subtree T)) : Type 0 where
   pub none : NoneBefore name rest
   pub names : NamesRise rest
   pub same : (n : List ℕ) → name_cmp n name ≢ Less → named n rest ≡ named n branches

@@ -1,7 +1,7 @@
 -- What the laws of trees speak of.
 use Rattle.std.specs.Prelude.{◌≡◌, ℕ, List, [], ◌∷◌, ◌++◌, Option, Some, None, codes}
 use Rattle.stack_model.specs.Stack.{Path, IsIn, HasOther}
-use Rattle.path_tree.specs.Rows.{Shoot}
+use Rattle.path_tree.specs.Rows.{Subtree}
 use Rattle.shown_tree.specs.declared.place.Entry.{Entry}
 
 -- on the whole way along the path the layer has no marker for the next name, no marker of the whole
@@ -12,6 +12,6 @@ pub record IsUnremoved (a : List ℕ) (path : Path) : Type 0 where
       × (¬ HasOther a (q ++ y ∷ []))
 
 -- the entry of a found child
-abbrev pub value_of : Option (Shoot Entry) → Option Entry
+abbrev pub value_of : Option (Subtree Entry) → Option Entry
 value_of None = None
 value_of (Some child) = Some child.value

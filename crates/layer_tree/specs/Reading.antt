@@ -9,7 +9,7 @@ use Rattle.romfs_format.specs.Chains.{IsMember, Leads, Has}
 use Rattle.romfs_format.specs.Links.{IsFinal}
 use Rattle.romfs_reader.specs.Readers.{IsGiven}
 use Rattle.stack_model.specs.Stack.{Path, IsPlain, IsMarker, marker, opaque}
-use Rattle.path_tree.specs.Rows.{Shoot, name_cmp, whole, at_path, IsRising}
+use Rattle.path_tree.specs.Rows.{Subtree, name_cmp, whole, at_path, IsRising}
 use Rattle.shown_tree.specs.declared.place.Entry.{Entry}
 use Rattle.shown_tree.specs.declared.place.Mark.{Mark}
 use Rattle.layer_tree.specs.declared.members.Named.{Named}
@@ -69,7 +69,7 @@ pub record IsEntryIn (a : List ℕ) (layer h : ℕ) (entry : Entry) : Type 0 whe
   pub kind : entry.kind ≡ kind a entry.place.header
 
 -- the branch has the entries of all plain paths from the header h
-pub record IsBranchOf (a : List ℕ) (layer h : ℕ) (b : Shoot Entry) : Type 0 where
+pub record IsBranchOf (a : List ℕ) (layer h : ℕ) (b : Subtree Entry) : Type 0 where
   pub rising : IsRising b
   pub shown : (path : Path) (g : ℕ) → IsPlain path → Leads a h path g
       → IsSomeAnd (at_path (whole b) path) (λ entry. IsEntryIn a layer g entry)
@@ -77,19 +77,19 @@ pub record IsBranchOf (a : List ℕ) (layer h : ℕ) (b : Shoot Entry) : Type 0 
       → IsPlain path × ((g : ℕ) × Leads a h path g × IsEntryIn a layer g entry)
 
 -- marks and entries remove what the layer cuts from the header h
-abbrev pub RemovesFrom : List ℕ → ℕ → (Path → Option Mark) → Shoot Entry → Type 0
+abbrev pub RemovesFrom : List ℕ → ℕ → (Path → Option Mark) → Subtree Entry → Type 0
 RemovesFrom a h marks e = (path : Path) → IsPlain path
     → IsTrue (removed_by marks (at_path (whole e)) path) ↔ CutsAt a h path
 
 -- the branch of the header h with the name n, which needs no mark
-pub record IsBranchAlone (a : List ℕ) (layer h : ℕ) (n : List ℕ) (e : Shoot Entry) : Type 0 where
+pub record IsBranchAlone (a : List ℕ) (layer h : ℕ) (n : List ℕ) (e : Subtree Entry) : Type 0 where
   pub name : e.name ≡ n
   pub entries : IsBranchOf a layer h e
   pub exact : RemovesFrom a h (λ q. None) e
 
 -- the branch of the header h and its mark, with the name n
-pub record AreBranchesOf (a : List ℕ) (layer h : ℕ) (n : List ℕ) (e : Shoot Entry)
-    (k : Shoot Mark) : Type 0 where
+pub record AreBranchesOf (a : List ℕ) (layer h : ℕ) (n : List ℕ) (e : Subtree Entry)
+    (k : Subtree Mark) : Type 0 where
   pub entry_name : e.name ≡ n
   pub mark_name : k.name ≡ n
   pub entries : IsBranchOf a layer h e
@@ -97,43 +97,43 @@ pub record AreBranchesOf (a : List ℕ) (layer h : ℕ) (n : List ℕ) (e : Shoo
   pub exact : RemovesFrom a h (at_path (whole k)) e
 
 -- both are made of the header h under the name n
-abbrev pub AreMadeOf : List ℕ → ℕ → ℕ → List ℕ → (Shoot Entry × Shoot Mark) → Type 0
+abbrev pub AreMadeOf : List ℕ → ℕ → ℕ → List ℕ → (Subtree Entry × Subtree Mark) → Type 0
 AreMadeOf a layer h n made = AreBranchesOf a layer h n made.0 made.1
 
 -- the same, with a mark where one is needed
-abbrev pub IsMadeOf : List ℕ → ℕ → ℕ → List ℕ → (Shoot Entry × Option (Shoot Mark)) → Type 0
+abbrev pub IsMadeOf : List ℕ → ℕ → ℕ → List ℕ → (Subtree Entry × Option (Subtree Mark)) → Type 0
 IsMadeOf a layer h n made =
     MatchOption made.1 (IsBranchAlone a layer h n made.0) (λ k. AreBranchesOf a layer h n made.0 k)
 
 -- the mark cuts nothing, and has nothing below
-pub record IsBlank (k : Shoot Mark) : Type 0 where
+pub record IsBlank (k : Subtree Mark) : Type 0 where
   pub uncut : k.value.cut ≡ false
   pub clear : k.value.opaque ≡ false
   pub nothing : k.below ≡ []
 
 -- members that are no markers have become branches of entries, and of marks where they need one
-pub data AreBuilt (a : List ℕ) (layer : ℕ) : List Named → List (Shoot Entry) → List (Shoot Mark)
+pub data AreBuilt (a : List ℕ) (layer : ℕ) : List Named → List (Subtree Entry) → List (Subtree Mark)
     → Type 0 where
   none_built : AreBuilt a layer [] [] []
-  hidden : (m : Named) (ms : List Named) (es : List (Shoot Entry)) (ks : List (Shoot Mark))
+  hidden : (m : Named) (ms : List Named) (es : List (Subtree Entry)) (ks : List (Subtree Mark))
       → IsMarker m.name.now → AreBuilt a layer ms es ks → AreBuilt a layer (m ∷ ms) es ks
-  alone : (m : Named) (ms : List Named) (e : Shoot Entry) (es : List (Shoot Entry))
-      (ks : List (Shoot Mark))
+  alone : (m : Named) (ms : List Named) (e : Subtree Entry) (es : List (Subtree Entry))
+      (ks : List (Subtree Mark))
       → ¬ IsMarker m.name.now → IsBranchAlone a layer m.head.offset m.name.now e
       → AreBuilt a layer ms es ks
       → AreBuilt a layer (m ∷ ms) (e ∷ es) ks
-  built : (m : Named) (ms : List Named) (e : Shoot Entry) (es : List (Shoot Entry))
-      (k : Shoot Mark) (ks : List (Shoot Mark))
+  built : (m : Named) (ms : List Named) (e : Subtree Entry) (es : List (Subtree Entry))
+      (k : Subtree Mark) (ks : List (Subtree Mark))
       → ¬ IsMarker m.name.now → AreBranchesOf a layer m.head.offset m.name.now e k
       → AreBuilt a layer ms es ks
       → AreBuilt a layer (m ∷ ms) (e ∷ es) (k ∷ ks)
 
 -- markers have become cut marks of what their names say after .wh.
-pub data AreWhiteouts : List Named → List (Shoot Mark) → Type 0 where
+pub data AreWhiteouts : List Named → List (Subtree Mark) → Type 0 where
   none_white : AreWhiteouts [] []
-  other : (m : Named) (ms : List Named) (ks : List (Shoot Mark)) → ¬ IsMarker m.name.now
+  other : (m : Named) (ms : List Named) (ks : List (Subtree Mark)) → ¬ IsMarker m.name.now
       → AreWhiteouts ms ks → AreWhiteouts (m ∷ ms) ks
-  white : (m : Named) (ms : List Named) (k : Shoot Mark) (ks : List (Shoot Mark))
+  white : (m : Named) (ms : List Named) (k : Subtree Mark) (ks : List (Subtree Mark))
       → m.name.now ≡ marker ++ k.name → k.value.cut ≡ true → k.below ≡ [] → AreWhiteouts ms ks
       → AreWhiteouts (m ∷ ms) (k ∷ ks)
 

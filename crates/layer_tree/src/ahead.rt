@@ -12,16 +12,16 @@ const TOGETHER: usize = 64;
 
 /// How far a directory's members have been gone over.
 #[derive(Drop)]
-pub(crate) struct Ahead {
+pub(crate) struct NamesAhead {
     passed: usize,
     // A sum of all that was read, so that no compiler leaves the reading out.
     sum: u64,
 }
 
-impl Ahead {
+impl NamesAhead {
     /// At the first member.
     pub(crate) fn new() -> Self {
-        Ahead { passed: 0, sum: 0 }
+        NamesAhead { passed: 0, sum: 0 }
     }
 
     /// Goes over one member more of these; now and then the names of the next ones are read.

@@ -7,7 +7,7 @@ ghost use Rattle.romfs_reader.specs.Images.{IsImage};
 ghost use Rattle.romfs_format.specs.Chains.{Has};
 ghost use Rattle.stack_model.specs.Listing.{Entry as Listed, IsListing};
 ghost use Rattle.stack_model.specs.Stack.{Path, IsPlain, IsIn, Shows};
-ghost use Rattle.path_tree.specs.Rows.{Shoot, spread, named, at_path};
+ghost use Rattle.path_tree.specs.Rows.{Subtree, spread, named, at_path};
 ghost use Rattle.shown_tree.specs.declared.place.Entry.{Entry};
 ghost use Rattle.layer_tree.specs.Merging.{IsUnremoved, value_of};
 ghost use Rattle.shown_tree.specs.Trees.{TreeRows, entry_at, cuts_at, AreChildren, IsTreeOf, listing};
@@ -38,14 +38,14 @@ pub fn one_tree()
         (path : Path) → cuts_at s path ≡ cuts_at t path }
     ensures children { (first : ℕ) (layers : List (List ℕ)) (s t : TreeRows) →
         IsTreeOf first layers s → IsTreeOf first layers t →
-        (path : Path) (cs ds : List (Shoot Entry)) →
+        (path : Path) (cs ds : List (Subtree Entry)) →
         AreChildren s path cs → AreChildren t path ds → (name : List ℕ) (q : Path) →
         at_path (spread cs) (name ∷ q) ≡ at_path (spread ds) (name ∷ q) }
 {}
 
 /// The children of a directory are, by their names, what is one name below it.
 pub fn children_are_one_name_below()
-    ensures { (t : TreeRows) (path : Path) (children : List (Shoot Entry)) →
+    ensures { (t : TreeRows) (path : Path) (children : List (Subtree Entry)) →
         AreChildren t path children →
         (name : List ℕ) → value_of (named name children) ≡ entry_at t (path ++ name ∷ []) }
 {}

@@ -15,7 +15,7 @@ ghost use Rattle.shown_tree.specs.Trees.{IsTreeOf};
 ghost use Rattle.path_tree.specs.Rows.{NamesRise, named};
 ghost use Rattle.layer_tree.specs.Reading.{IsAtDepth, IsBranchAlone, AreByName, AreMadeOf, IsMadeOf, IsBlank, AreBuilt, AreWhiteouts, AreMembersAt, rest_of_opaque};
 
-use crate::ahead::Ahead;
+use crate::ahead::NamesAhead;
 use crate::members::{Named, sorted_members, whiteout_of};
 use path_tree::{Branch, Name, child, merge};
 use romfs_format::limits::MAX_NAMES;
@@ -169,7 +169,7 @@ fn branches_below<A: Allocator + Copy>(
 {
     let mut entries = Vec::with_capacity(alloc, members.len())?;
     let mut marks = Vec::new(alloc);
-    let mut ahead = Ahead::new();
+    let mut ahead = NamesAhead::new();
     for member in members {
         ahead.pass(members);
         if is_marker(member.name) {

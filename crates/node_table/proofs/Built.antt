@@ -10,7 +10,7 @@ use Rattle.std.proofs.lemmas.List.{take_rest, drop_at}
 use Rattle.romfs_format.specs.declared.head.Kind.{Kind}
 use Rattle.romfs_format.specs.declared.head.Kind.TheVariants.{HardLink, Directory, Regular, SymLink, Block, Character, Socket, Fifo}
 use Rattle.stack_model.specs.Attributes.{is_directory}
-use Rattle.path_tree.specs.Rows.{Shoot, whole, NamesRise, name_cmp}
+use Rattle.path_tree.specs.Rows.{Subtree, whole, NamesRise, name_cmp}
 use Rattle.romfs_format.specs.declared.head.Head.{Head}
 use Rattle.romfs_format.specs.Heads.{head_of}
 use Rattle.romfs_reader.specs.declared.parts.Part.{Part}
@@ -21,7 +21,7 @@ use Rattle.shown_tree.specs.declared.place.Place.{Place}
 use Rattle.shown_tree.specs.declared.place.Entry.{Entry}
 use Rattle.name_keys.specs.Names.{Rise}
 use Rattle.stack_table.specs.Rows.{Line, names}
-use Rattle.node_table.specs.Walks.{Spot}
+use Rattle.node_table.specs.Walks.{Visit}
 use Rattle.node_table.specs.Building.{line_in, directories, IsPosted, AreFollowing, AddsRows, AddsLinked, AddsNothing, AddsByKind, IsReadFrom, AddsNode}
 use Rattle.node_table.proofs.Walking.{longer_front}
 
@@ -36,18 +36,18 @@ not_directory Character f = refl
 not_directory Socket f = refl
 not_directory Fifo f = refl
 
-map_last : (tell : Place → ℕ) (cs : List (Shoot Entry)) (c : Shoot Entry) → map (line_in tell) (cs ++ c ∷ []) ≡ map (line_in tell) cs
+map_last : (tell : Place → ℕ) (cs : List (Subtree Entry)) (c : Subtree Entry) → map (line_in tell) (cs ++ c ∷ []) ≡ map (line_in tell) cs
     ++ line_in tell c ∷ []
 map_last tell [] c = refl
 map_last tell (x ∷ cs) c = ap (λ r. line_in tell x ∷ r) (map_last tell cs c)
 
 -- how far the rows of children have come
-pub record Rowing (tell : Place → ℕ) (cs : List (Shoot Entry)) (old new : List Line) (n i : ℕ) : Type 0 where
+pub record Rowing (tell : Place → ℕ) (cs : List (Subtree Entry)) (old new : List Line) (n i : ℕ) : Type 0 where
   pub rows : new ≡ old ++ map (line_in tell) (take i cs)
   pub count : n ≡ directories (take i cs)
   pub few : n ≤ i
 
-module _ (tell : Place → ℕ) (cs : List (Shoot Entry)) (old new new' : List Line) (n i : ℕ) (c : Shoot Entry) (lt : i < length cs)
+module _ (tell : Place → ℕ) (cs : List (Subtree Entry)) (old new new' : List Line) (n i : ℕ) (c : Subtree Entry) (lt : i < length cs)
     (at : c ≡ get_or cs i c) (r : Rowing tell cs old new n i) (line : Line) (is : line ≡ line_in tell c) (pushed : new' ≡ new ++ line ∷ [])
     where
   rows_now : new' ≡ old ++ map (line_in tell) (take (i + 1) cs)
@@ -59,42 +59,42 @@ module _ (tell : Place → ℕ) (cs : List (Shoot Entry)) (old new new' : List L
   -- the row of a directory is added, and the directory counted
   pub directory : c.value.kind ≡ Directory → Rowing tell cs old new' (n + 1) (i + 1)
   directory k =
-      let d : is_directory (get_or cs i c).value.kind ≡ true = ap (λ (s : Shoot Entry). is_directory s.value.kind) (sym at)
+      let d : is_directory (get_or cs i c).value.kind ≡ true = ap (λ (s : Subtree Entry). is_directory s.value.kind) (sym at)
           ∙ ap is_directory k in
-      let m = count_by_more_yes (λ (s : Shoot Entry). is_directory s.value.kind) cs i c lt d in
+      let m = count_by_more_yes (λ (s : Subtree Entry). is_directory s.value.kind) cs i c lt d in
       let few = r.few in
       record { rows = rows_now; count = ap (λ k. k + 1) r.count ∙ sym m; few = omega arith }
 
   -- the row of any other child is added, and nothing counted
   pub other : (c.value.kind ≡ Directory → ⊥) → Rowing tell cs old new' n (i + 1)
   other k =
-      let d : is_directory (get_or cs i c).value.kind ≡ false = ap (λ (s : Shoot Entry). is_directory s.value.kind) (sym at)
+      let d : is_directory (get_or cs i c).value.kind ≡ false = ap (λ (s : Subtree Entry). is_directory s.value.kind) (sym at)
           ∙ not_directory c.value.kind k in
-      let m = count_by_more_no (λ (s : Shoot Entry). is_directory s.value.kind) cs i c lt d in
+      let m = count_by_more_no (λ (s : Subtree Entry). is_directory s.value.kind) cs i c lt d in
       let few = r.few in
       record { rows = rows_now; count = r.count ∙ sym m; few = omega arith }
 
 -- of children that follow one another, the next one stands here and the rest after it
-pub follows : (tell : Place → ℕ) (numbers sizes : List ℕ) (at : ℕ) (cs : List (Shoot Entry)) (i : ℕ) (c : Shoot Entry) → i < length cs
+pub follows : (tell : Place → ℕ) (numbers sizes : List ℕ) (at : ℕ) (cs : List (Subtree Entry)) (i : ℕ) (c : Subtree Entry) → i < length cs
     → c ≡ get_or cs i c → AreFollowing tell numbers sizes at (drop i cs) → IsPosted tell numbers sizes at c
     × AreFollowing tell numbers sizes (at + length (whole c)) (drop (i + 1) cs)
 follows tell numbers sizes at cs i c l e f = let n : suc i ≡ i + 1 = omega arith in let r = go cs i l e f in
     (r.0, subst (λ n. AreFollowing tell numbers sizes (at + length (whole c)) (drop n cs)) n r.1)
   where
-    go : (cs : List (Shoot Entry)) (i : ℕ) → i < length cs → c ≡ get_or cs i c → AreFollowing tell numbers sizes at (drop i cs)
+    go : (cs : List (Subtree Entry)) (i : ℕ) → i < length cs → c ≡ get_or cs i c → AreFollowing tell numbers sizes at (drop i cs)
         → IsPosted tell numbers sizes at c × AreFollowing tell numbers sizes (at + length (whole c)) (drop (suc i) cs)
     go [] i l e f = absurd (omega arith)
-    go (x ∷ cs) zero l e f = subst (λ (y : Shoot Entry). IsPosted tell numbers sizes at y × AreFollowing tell numbers sizes
+    go (x ∷ cs) zero l e f = subst (λ (y : Subtree Entry). IsPosted tell numbers sizes at y × AreFollowing tell numbers sizes
           (at + length (whole y)) (drop 0 cs)) (sym e) (f.0, subst (AreFollowing tell numbers sizes (at + length (whole x)))
           (sym (all cs)) f.1)
       where
-        all : (cs : List (Shoot Entry)) → drop 0 cs ≡ cs
+        all : (cs : List (Subtree Entry)) → drop 0 cs ≡ cs
         all [] = refl
         all (y ∷ cs) = refl
     go (x ∷ cs) (suc i) l e f = go cs i (omega arith) e f
 
 -- before the first child no row is added
-pub starts : (tell : Place → ℕ) (cs : List (Shoot Entry)) (old : List Line) → Rowing tell cs old old 0 0
+pub starts : (tell : Place → ℕ) (cs : List (Subtree Entry)) (old : List Line) → Rowing tell cs old old 0 0
 starts tell cs old = record { rows = sym (none old); count = refl; few = omega arith }
   where
     none : (xs : List Line) → xs ++ [] ≡ xs
@@ -102,14 +102,14 @@ starts tell cs old = record { rows = sym (none old); count = refl; few = omega a
     none (x ∷ xs) = ap (λ r. x ∷ r) (none xs)
 
 -- past the last child the rows of all are added
-pub ends : (tell : Place → ℕ) (cs : List (Shoot Entry)) (old new : List Line) (n i : ℕ) → length cs ≤ i → Rowing tell cs old new n i
+pub ends : (tell : Place → ℕ) (cs : List (Subtree Entry)) (old new : List Line) (n i : ℕ) → length cs ≤ i → Rowing tell cs old new n i
     → AddsRows tell cs old new n
 ends tell cs old new n i le r = record {
   rows_are = r.rows ∙ ap (λ x. old ++ map (line_in tell) x) (all cs i le);
   count_is = r.count ∙ ap directories (all cs i le);
 }
   where
-    all : (cs : List (Shoot Entry)) (i : ℕ) → length cs ≤ i → take i cs ≡ cs
+    all : (cs : List (Subtree Entry)) (i : ℕ) → length cs ≤ i → take i cs ≡ cs
     all [] zero l = refl
     all [] (suc i) l = refl
     all (x ∷ cs) zero l = absurd (omega arith)
@@ -121,12 +121,12 @@ indexed (a ∷ layers) zero image x e f = let g : a ≡ image = cc in f ∙ g
 indexed (a ∷ layers) (suc k) image x e f = indexed layers k image x e f
 
 -- rows of branches come in the order of their names
-pub names_rise : (tell : Place → ℕ) (cs : List (Shoot Entry)) → NamesRise cs → Rise (names (map (line_in tell) cs))
+pub names_rise : (tell : Place → ℕ) (cs : List (Subtree Entry)) → NamesRise cs → Rise (names (map (line_in tell) cs))
 names_rise tell [] r i j d l m = absurd (omega arith)
 names_rise tell (c ∷ cs) r zero zero d l m = absurd (omega arith)
 names_rise tell (c ∷ cs) r zero (suc j) d l m = after cs r.0 j (omega arith)
   where
-    after : (cs : List (Shoot Entry)) → AllByRecursion (λ (s : Shoot Entry). name_cmp c.name s.name ≡ Less) cs → (j : ℕ)
+    after : (cs : List (Subtree Entry)) → AllByRecursion (λ (s : Subtree Entry). name_cmp c.name s.name ≡ Less) cs → (j : ℕ)
         → j < length (names (map (line_in tell) cs)) → name_cmp c.name (get_or (names (map (line_in tell) cs)) j d) ≡ Less
     after [] a j m = absurd (omega arith)
     after (s ∷ cs) a zero m = a.0
@@ -135,7 +135,7 @@ names_rise tell (c ∷ cs) r (suc i) zero d l m = absurd (omega arith)
 names_rise tell (c ∷ cs) r (suc i) (suc j) d l m = names_rise tell cs r.1 i j d (omega arith) (omega arith)
 
 -- the node of a branch
-module _ (layers : List (List ℕ)) (tell : Place → ℕ) (spot : Spot Entry) (paths : ℕ) (v : Entry) (is : v ≡ spot.0.now.value)
+module _ (layers : List (List ℕ)) (tell : Place → ℕ) (visit : Visit Entry) (paths : ℕ) (v : Entry) (is : v ≡ visit.0.now.value)
     (image : List ℕ) (index : image ≡ get_or layers v.place.layer image) (head : Head) (headed : head ≡ head_of image v.place.header)
     (part : Part) (lies : IsDataPart image head.offset part) (held held' : List Folder) (old new : List Line) (keys keys' : List ℕ)
     (nlink at : ℕ) (stands : at ≡ length held) where
@@ -150,8 +150,8 @@ module _ (layers : List (List ℕ)) (tell : Place → ℕ) (spot : Spot Entry) (
   }
 
   -- what a header says, with what the branch's kind adds, is the node of the branch
-  pub made : AddsByKind tell spot paths (is_directory v.kind) nlink held held' old new keys keys'
-      → AddsNode layers tell spot paths held held' old new keys keys' node
+  pub made : AddsByKind tell visit paths (is_directory v.kind) nlink held held' old new keys keys'
+      → AddsNode layers tell visit paths held held' old new keys keys' node
   made adds = record {
     kind_is = ap (λ (e : Entry). e.kind) is;
     place_is = ap (λ (e : Entry). e.place) is;
@@ -161,16 +161,16 @@ module _ (layers : List (List ℕ)) (tell : Place → ℕ) (spot : Spot Entry) (
   }
 
 -- what a directory adds, and what any other branch does
-module _ (tell : Place → ℕ) (spot : Spot Entry) (paths : ℕ) (kind : Kind) (nlink : ℕ) (held held' : List Folder) (old new : List Line)
+module _ (tell : Place → ℕ) (visit : Visit Entry) (paths : ℕ) (kind : Kind) (nlink : ℕ) (held held' : List Folder) (old new : List Line)
     (keys keys' : List ℕ) where
   -- where the kind is a directory, a linked directory is what is to be added
-  pub added_directory : kind ≡ Directory → AddsLinked tell spot nlink held held' old new keys keys'
-      → AddsByKind tell spot paths (is_directory kind) nlink held held' old new keys keys'
+  pub added_directory : kind ≡ Directory → AddsLinked tell visit nlink held held' old new keys keys'
+      → AddsByKind tell visit paths (is_directory kind) nlink held held' old new keys keys'
   added_directory k a = rw (ap is_directory k) a
 
   -- where it is none, nothing is to be added
   pub added_other : (kind ≡ Directory → ⊥) → AddsNothing paths nlink held held' old new keys keys'
-      → AddsByKind tell spot paths (is_directory kind) nlink held held' old new keys keys'
+      → AddsByKind tell visit paths (is_directory kind) nlink held held' old new keys keys'
   added_other k a = rw (not_directory kind k) a
 
 -- the rows from where the old ones end, as the code cuts them

@@ -1,5 +1,5 @@
--- Places numbered one after another. IsNumbered is the loop over spots: it begins with none, and a
--- spot has a place with a number (was_known) or a new one (is_new). The first place of its key
+-- Places numbered one after another. IsNumbered is the loop over visits: it begins with none, and a
+-- visit has a place with a number (was_known) or a new one (is_new). The first place of its key
 -- tells which of the two it is (known_before, has_none).
 use Rattle.std.proofs.Common.{◌≡◌, ◌≢◌, ◌∙◌, sym, ap, subst, ℕ, zero, suc, ◌+◌, ◌-◌, ◌^◌, ◌<◌, ◌≤◌, ◌⊎◌, inl, inr, List, [], ◌∷◌, ◌++◌, length, take, get_or, map, refl, arith, Bool, true, false, cond, Option, Some, None, IsSome, get_or-set_other, get_or-set_same, length-set}
 use Rattle.std.specs.Prelude.{slice_get, slice_index, slice_set, fold, nat_eq, min, count_by}
@@ -13,9 +13,9 @@ use Rattle.stack_model.proofs.Numbering.{number_used, number_listed, entries_num
 use Rattle.shown_tree.specs.declared.place.Place.{Place}
 use Rattle.shown_tree.specs.declared.place.Entry.{Entry}
 use Rattle.stack_table.specs.Readers.{placed}
-use Rattle.node_table.specs.Walks.{Spot}
+use Rattle.node_table.specs.Walks.{Visit}
 use Rattle.node_table.specs.Firsts.{IsFirstOf, AreFirsts}
-use Rattle.node_table.specs.Numbering.{place_key, key_of, one_more, spot_place, bare, seen, paths_of, IsFirstSpot, AreKeys, IsNumbered}
+use Rattle.node_table.specs.Numbering.{place_key, key_of, one_more, visit_place, bare, seen, paths_of, IsFirstVisit, AreKeys, IsNumbered}
 
 -- a place is told to be the same as itself
 pub same_itself : (p : ModelPlace) → same_place p p ≡ true
@@ -167,53 +167,54 @@ none_paths es p f = sym (counted (λ (e : Listed). same_place p (place e)) es) �
     go [] f = refl
     go (e ∷ es) f = rw (f e (inl refl)) (go es (λ g a. f g (inr a)))
 
--- one more spot
-seen_last : (spots : List (Spot Entry)) (i : ℕ) (spot : Spot Entry) → i < length spots → spot ≡ get_or spots i spot
-    → seen spots (i + 1) ≡ seen spots i ++ bare spot ∷ []
-seen_last spots i spot l e = let n : suc i ≡ i + 1 = omega arith in subst (λ n. seen spots n ≡ seen spots i ++ bare spot ∷ []) n
-    (go spots i l e)
+-- one more visit
+seen_last : (visits : List (Visit Entry)) (i : ℕ) (visit : Visit Entry) → i < length visits → visit ≡ get_or visits i visit
+    → seen visits (i + 1) ≡ seen visits i ++ bare visit ∷ []
+seen_last visits i visit l e = let n : suc i ≡ i + 1 = omega arith in subst (λ n. seen visits n ≡ seen visits i ++ bare visit ∷ []) n
+    (go visits i l e)
   where
-    go : (spots : List (Spot Entry)) (i : ℕ) → i < length spots → spot ≡ get_or spots i spot → seen spots (suc i) ≡ seen spots i
-        ++ bare spot ∷ []
+    go : (visits : List (Visit Entry)) (i : ℕ) → i < length visits → visit ≡ get_or visits i visit → seen visits (suc i) ≡ seen visits i
+        ++ bare visit ∷ []
     go [] i l e = absurd (omega arith)
-    go (x ∷ spots) zero l e = ap (λ (y : Spot Entry). bare y ∷ []) (sym e)
-    go (x ∷ spots) (suc i) l e = ap (λ r. bare x ∷ r) (go spots i (omega arith) e)
+    go (x ∷ visits) zero l e = ap (λ (y : Visit Entry). bare y ∷ []) (sym e)
+    go (x ∷ visits) (suc i) l e = ap (λ r. bare x ∷ r) (go visits i (omega arith) e)
 
-taken_last : (spots : List (Spot Entry)) (i : ℕ) (spot : Spot Entry) → i < length spots → spot ≡ get_or spots i spot
-    → take (i + 1) spots ≡ take i spots ++ spot ∷ []
-taken_last spots i spot l e = let n : suc i ≡ i + 1 = omega arith in subst (λ n. take n spots ≡ take i spots ++ spot ∷ []) n
-    (go spots i l e)
+taken_last : (visits : List (Visit Entry)) (i : ℕ) (visit : Visit Entry) → i < length visits → visit ≡ get_or visits i visit
+    → take (i + 1) visits ≡ take i visits ++ visit ∷ []
+taken_last visits i visit l e = let n : suc i ≡ i + 1 = omega arith in subst (λ n. take n visits ≡ take i visits ++ visit ∷ []) n
+    (go visits i l e)
   where
-    go : (spots : List (Spot Entry)) (i : ℕ) → i < length spots → spot ≡ get_or spots i spot → take (suc i) spots ≡ take i spots
-        ++ spot ∷ []
+    go : (visits : List (Visit Entry)) (i : ℕ) → i < length visits → visit ≡ get_or visits i visit → take (suc i) visits ≡ take i visits
+        ++ visit ∷ []
     go [] i l e = absurd (omega arith)
-    go (x ∷ spots) zero l e = ap (λ y. y ∷ []) (sym e)
-    go (x ∷ spots) (suc i) l e = ap (λ r. x ∷ r) (go spots i (omega arith) e)
+    go (x ∷ visits) zero l e = ap (λ y. y ∷ []) (sym e)
+    go (x ∷ visits) (suc i) l e = ap (λ r. x ∷ r) (go visits i (omega arith) e)
 
 -- one more key
-pub keys_more : (spots : List (Spot Entry)) (i : ℕ) (spot : Spot Entry) (keys keys' : List ℕ) (k : ℕ) → i < length spots
-    → spot ≡ get_or spots i spot → AreKeys (take i spots) keys → k ≡ key_of spot → spot.0.now.value.place.header < 2 ^ 32
-    → keys' ≡ keys ++ k ∷ [] → AreKeys (take (i + 1) spots) keys'
-keys_more spots i spot keys keys' k l e a k_is small p = subst (λ x. AreKeys x keys') (sym (taken_last spots i spot l e)) (record {
-  are = p ∙ ap (λ x. x ++ k ∷ []) a.are ∙ ap (λ n. map key_of (take i spots) ++ n ∷ []) k_is ∙ sym (last (take i spots));
-  small = All-push (λ (s : Spot Entry). s.0.now.value.place.header < 2 ^ 32) (take i spots) spot a.small small;
+pub keys_more : (visits : List (Visit Entry)) (i : ℕ) (visit : Visit Entry) (keys keys' : List ℕ) (k : ℕ) → i < length visits
+    → visit ≡ get_or visits i visit → AreKeys (take i visits) keys → k ≡ key_of visit → visit.0.now.value.place.header < 2 ^ 32
+    → keys' ≡ keys ++ k ∷ [] → AreKeys (take (i + 1) visits) keys'
+keys_more visits i visit keys keys' k l e a k_is small p = subst (λ x. AreKeys x keys') (sym (taken_last visits i visit l e)) (record {
+  are = p ∙ ap (λ x. x ++ k ∷ []) a.are ∙ ap (λ n. map key_of (take i visits) ++ n ∷ []) k_is ∙ sym (last (take i visits));
+  small = All-push (λ (s : Visit Entry). s.0.now.value.place.header < 2 ^ 32) (take i visits) visit a.small small;
 })
   where
-    last : (xs : List (Spot Entry)) → map key_of (xs ++ spot ∷ []) ≡ map key_of xs ++ key_of spot ∷ []
+    last : (xs : List (Visit Entry)) → map key_of (xs ++ visit ∷ []) ≡ map key_of xs ++ key_of visit ∷ []
     last [] = refl
     last (x ∷ xs) = ap (λ r. key_of x ∷ r) (last xs)
 
-spot_there : (spots : List (Spot Entry)) (i : ℕ) (spot : Spot Entry) → i < length spots → spot ≡ get_or spots i spot
-    → slice_get spots i ≡ Some spot
-spot_there [] i spot l e = absurd (omega arith)
-spot_there (x ∷ spots) zero spot l e = ap Some (sym e)
-spot_there (x ∷ spots) (suc i) spot l e = spot_there spots i spot (omega arith) e
+visit_there : (visits : List (Visit Entry)) (i : ℕ) (visit : Visit Entry) → i < length visits → visit ≡ get_or visits i visit
+    → slice_get visits i ≡ Some visit
+visit_there [] i visit l e = absurd (omega arith)
+visit_there (x ∷ visits) zero visit l e = ap Some (sym e)
+visit_there (x ∷ visits) (suc i) visit l e = visit_there visits i visit (omega arith) e
 
-get_map : (spots : List (Spot Entry)) (k : ℕ) (spot : Spot Entry) → slice_get spots k ≡ Some spot → slice_get (map spot_place spots) k
-    ≡ Some (spot_place spot)
-get_map [] k spot e = absurd (cc)
-get_map (x ∷ spots) zero spot e = let f : x ≡ spot = cc in ap (λ (y : Spot Entry). Some (spot_place y)) f
-get_map (x ∷ spots) (suc k) spot e = get_map spots k spot e
+get_map : (visits : List (Visit Entry)) (k : ℕ) (visit : Visit Entry) → slice_get visits k ≡ Some visit
+    → slice_get (map visit_place visits) k
+    ≡ Some (visit_place visit)
+get_map [] k visit e = absurd (cc)
+get_map (x ∷ visits) zero visit e = let f : x ≡ visit = cc in ap (λ (y : Visit Entry). Some (visit_place y)) f
+get_map (x ∷ visits) (suc k) visit e = get_map visits k visit e
 
 -- what a list has at a place stands below its length
 pub get_below : {X : Type 0} (xs : List X) (k : ℕ) (x : X) → slice_get xs k ≡ Some x → k < length xs
@@ -238,14 +239,14 @@ index_end : (xs : List ℕ) (y : ℕ) → slice_index (xs ++ y ∷ []) (length x
 index_end [] y = refl
 index_end (x ∷ xs) y = index_end xs y
 
-length_map : (spots : List (Spot Entry)) → length (map spot_place spots) ≡ length spots
+length_map : (visits : List (Visit Entry)) → length (map visit_place visits) ≡ length visits
 length_map [] = refl
-length_map (x ∷ spots) = ap suc (length_map spots)
+length_map (x ∷ visits) = ap suc (length_map visits)
 
-map_more : (spots : List (Spot Entry)) (spot : Spot Entry) → map spot_place (spots ++ spot ∷ []) ≡ map spot_place spots
-    ++ spot_place spot ∷ []
-map_more [] spot = refl
-map_more (x ∷ spots) spot = ap (λ r. spot_place x ∷ r) (map_more spots spot)
+map_more : (visits : List (Visit Entry)) (visit : Visit Entry) → map visit_place (visits ++ visit ∷ []) ≡ map visit_place visits
+    ++ visit_place visit ∷ []
+map_more [] visit = refl
+map_more (x ∷ visits) visit = ap (λ r. visit_place x ∷ r) (map_more visits visit)
 
 -- two places with one key are one
 key_tells : (q r : Place) → q.header < 2 ^ 32 → r.header < 2 ^ 32 → place_key q ≡ place_key r → placed q ≡ placed r
@@ -254,12 +255,12 @@ key_tells q r l m e =
     let b : q.header ≡ r.header = omega arith in
     cc
 
--- before the first spot no place is numbered
-pub begins : (spots first : List (Spot Entry)) (starts paths numbers : List ℕ) → first ≡ [] → starts ≡ [] → paths ≡ [] → numbers ≡ []
-    → IsNumbered spots 0 first starts paths numbers
+-- before the first visit no place is numbered
+pub begins : (visits first : List (Visit Entry)) (starts paths numbers : List ℕ) → first ≡ [] → starts ≡ [] → paths ≡ [] → numbers ≡ []
+    → IsNumbered visits 0 first starts paths numbers
 unfolding number_of nodes
-begins spots first starts paths numbers e d f n = record {
-  places = ap (map spot_place) e ∙ empty;
+begins visits first starts paths numbers e d f n = record {
+  places = ap (map visit_place) e ∙ empty;
   each = λ k x g. absurd (let h = rw e at g in cc);
   starts_level = ap length d ∙ sym (ap length e);
   starts_are = λ k x g. absurd (let h = rw e at g in cc);
@@ -282,50 +283,51 @@ below_or_at zero (suc i) l = inl (omega arith)
 below_or_at (suc k) zero l = absurd (omega arith)
 below_or_at (suc k) (suc i) l = elim (below_or_at k i (omega arith)) [ inl m ↦ inl (omega arith) | inr m ↦ inr (ap suc m) ]
 
-module _ (spots : List (Spot Entry)) (i : ℕ) (spot : Spot Entry) (first : List (Spot Entry)) (starts paths numbers : List ℕ)
-    (lt : i < length spots) (here : spot ≡ get_or spots i spot) (inv : IsNumbered spots i first starts paths numbers) where
-  more : seen spots (i + 1) ≡ seen spots i ++ bare spot ∷ []
-  more = seen_last spots i spot lt here
+module _ (visits : List (Visit Entry)) (i : ℕ) (visit : Visit Entry) (first : List (Visit Entry)) (starts paths numbers : List ℕ)
+    (lt : i < length visits) (here : visit ≡ get_or visits i visit) (inv : IsNumbered visits i first starts paths numbers) where
+  more : seen visits (i + 1) ≡ seen visits i ++ bare visit ∷ []
+  more = seen_last visits i visit lt here
 
-  -- the number of the place of a first spot
-  number_of_first : (k : ℕ) (x : Spot Entry) → slice_get first k ≡ Some x → number_of (seen spots i) (spot_place x) ≡ Some (suc k)
-  number_of_first k x e = (number_used (seen spots i) (suc k) (spot_place x)).1
-      (subst (λ ps. slice_get ps k ≡ Some (spot_place x)) inv.places (get_map first k x e))
+  -- the number of the place of a first visit
+  number_of_first : (k : ℕ) (x : Visit Entry) → slice_get first k ≡ Some x → number_of (seen visits i) (visit_place x) ≡ Some (suc k)
+  number_of_first k x e = (number_used (seen visits i) (suc k) (visit_place x)).1
+      (subst (λ ps. slice_get ps k ≡ Some (visit_place x)) inv.places (get_map first k x e))
 
   -- a known number counts from 1, and there is a count of paths for it
-  pub number_positive : (n : ℕ) → number_of (seen spots i) (spot_place spot) ≡ Some n → (1 ≤ n) × (n - 1 < length paths)
-  number_positive zero f = absurd (let z = (number_used (seen spots i) 0 (spot_place spot)).0 f in cc)
+  pub number_positive : (n : ℕ) → number_of (seen visits i) (visit_place visit) ≡ Some n → (1 ≤ n) × (n - 1 < length paths)
+  number_positive zero f = absurd (let z = (number_used (seen visits i) 0 (visit_place visit)).0 f in cc)
   number_positive (suc k) f =
-      let z = (number_used (seen spots i) (suc k) (spot_place spot)).0 f in
-      let l = get_below (nodes (seen spots i)) k (spot_place spot) z in
+      let z = (number_used (seen visits i) (suc k) (visit_place visit)).0 f in
+      let l = get_below (nodes (seen visits i)) k (visit_place visit) z in
       let m = ap length inv.places in
       let n = length_map first in
       let v = inv.level in
       (omega arith, omega arith)
 
   -- one entry more with the place p, or with another
-  paths_more : (q : ModelPlace) → paths_of (seen spots (i + 1)) q ≡ paths_of (seen spots i) q + cond (same_place q (spot_place spot)) 1 0
-  paths_more q = ap (λ es. paths_of es q) more ∙ paths_last (seen spots i) (bare spot) q
+  paths_more : (q : ModelPlace) → paths_of (seen visits (i + 1)) q ≡ paths_of (seen visits i) q + cond (same_place q (visit_place visit)) 1
+      0
+  paths_more q = ap (λ es. paths_of es q) more ∙ paths_last (seen visits i) (bare visit) q
 
   held : (a b c d : ℕ) → d ≡ one_more c → c ≡ min a (2 ^ 32 - 1) → b ≡ a + 1 → d ≡ min b (2 ^ 32 - 1)
   held a b c d e f g = omega arith
 
-  -- the numbers of the spots before this one, and its own
-  knows : (n : ℕ) → ((k : ℕ) (x : Spot Entry) → k < i → slice_get spots k ≡ Some x → number_of (seen spots (i + 1)) (spot_place x)
-        ≡ Some (slice_index numbers k)) → number_of (seen spots (i + 1)) (spot_place spot) ≡ Some n → (k : ℕ) (x : Spot Entry)
-      → slice_get spots k ≡ Some x → (k < i) ⊎ (k ≡ i) → number_of (seen spots (i + 1)) (spot_place x)
+  -- the numbers of the visits before this one, and its own
+  knows : (n : ℕ) → ((k : ℕ) (x : Visit Entry) → k < i → slice_get visits k ≡ Some x → number_of (seen visits (i + 1)) (visit_place x)
+        ≡ Some (slice_index numbers k)) → number_of (seen visits (i + 1)) (visit_place visit) ≡ Some n → (k : ℕ) (x : Visit Entry)
+      → slice_get visits k ≡ Some x → (k < i) ⊎ (k ≡ i) → number_of (seen visits (i + 1)) (visit_place x)
       ≡ Some (slice_index (numbers ++ n ∷ []) k)
   knows n before own k x e (inl l) = before k x l e ∙ ap Some (sym (index_last numbers n k (let v = inv.numbers_level in omega arith)))
   knows n before own k x e (inr l) =
-      let z : Some spot ≡ Some x = sym (spot_there spots i spot lt here) ∙ ap (slice_get spots) (sym l) ∙ e in
-      let same : spot ≡ x = cc in
-      ap (λ (y : Spot Entry). number_of (seen spots (i + 1)) (spot_place y)) (sym same) ∙ own
+      let z : Some visit ≡ Some x = sym (visit_there visits i visit lt here) ∙ ap (slice_get visits) (sym l) ∙ e in
+      let same : visit ≡ x = cc in
+      ap (λ (y : Visit Entry). number_of (seen visits (i + 1)) (visit_place y)) (sym same) ∙ own
       ∙ ap Some (sym (ap (slice_index (numbers ++ n ∷ [])) (l ∙ sym inv.numbers_level) ∙ index_end numbers n))
 
-  -- a spot whose place is known takes its number, and the place has one path more
-  pub was_known : (n : ℕ) (paths' numbers' : List ℕ) → number_of (seen spots i) (spot_place spot) ≡ Some n
+  -- a visit whose place is known takes its number, and the place has one path more
+  pub was_known : (n : ℕ) (paths' numbers' : List ℕ) → number_of (seen visits i) (visit_place visit) ≡ Some n
       → paths' ≡ slice_set paths (n - 1) (one_more (slice_index paths (n - 1))) → numbers' ≡ numbers ++ n ∷ []
-      → IsNumbered spots (i + 1) first starts paths' numbers'
+      → IsNumbered visits (i + 1) first starts paths' numbers'
   was_known n paths' numbers' k0 s m = record {
     places = inv.places ∙ sym same;
     each = inv.each;
@@ -334,19 +336,19 @@ module _ (spots : List (Spot Entry)) (i : ℕ) (spot : Spot Entry) (first : List
     level = ap length s ∙ simp length-set inv.level;
     counted = counts;
     numbers_level = ap length m ∙ length_more numbers n ∙ ap (λ k. k + 1) inv.numbers_level;
-    known = λ k x l e. subst (λ xs. number_of (seen spots (i + 1)) (spot_place x) ≡ Some (slice_index xs k)) (sym m)
-        (knows n (λ k x l e. number_by (seen spots (i + 1)) (seen spots i) (spot_place x) same ∙ inv.known k x l e)
-              (number_by (seen spots (i + 1)) (seen spots i) (spot_place spot) same ∙ k0) k x e (below_or_at k i l));
+    known = λ k x l e. subst (λ xs. number_of (seen visits (i + 1)) (visit_place x) ≡ Some (slice_index xs k)) (sym m)
+        (knows n (λ k x l e. number_by (seen visits (i + 1)) (seen visits i) (visit_place x) same ∙ inv.known k x l e)
+              (number_by (seen visits (i + 1)) (seen visits i) (visit_place visit) same ∙ k0) k x e (below_or_at k i l));
   }
     where
-      same : nodes (seen spots (i + 1)) ≡ nodes (seen spots i)
-      same = ap nodes more ∙ nodes_known (seen spots i) (bare spot) n k0
+      same : nodes (seen visits (i + 1)) ≡ nodes (seen visits i)
+      same = ap nodes more ∙ nodes_known (seen visits i) (bare visit) n k0
 
-      counts : (k : ℕ) (x : Spot Entry) → slice_get first k ≡ Some x → slice_index paths' k
-          ≡ min (paths_of (seen spots (i + 1)) (spot_place x)) (2 ^ 32 - 1)
-      counts k x f = elim (same_or_other (spot_place x) (spot_place spot)) [
+      counts : (k : ℕ) (x : Visit Entry) → slice_get first k ≡ Some x → slice_index paths' k
+          ≡ min (paths_of (seen visits (i + 1)) (visit_place x)) (2 ^ 32 - 1)
+      counts k x f = elim (same_or_other (visit_place x) (visit_place visit)) [
         | inl (q, t) ↦
-            let z : Some (suc k) ≡ Some n = sym (number_of_first k x f) ∙ ap (number_of (seen spots i)) q ∙ k0 in
+            let z : Some (suc k) ≡ Some n = sym (number_of_first k x f) ∙ ap (number_of (seen visits i)) q ∙ k0 in
             let y : suc k ≡ n = cc in
             let j : n - 1 ≡ k = omega arith in
             let b = number_positive n k0 in
@@ -355,115 +357,120 @@ module _ (spots : List (Spot Entry)) (i : ℕ) (spot : Spot Entry) (first : List
             let set_is : paths' ≡ slice_set paths k (one_more (slice_index paths k)) =
                 subst (λ m. paths' ≡ slice_set paths m (one_more (slice_index paths m))) j s in
             let at : slice_index paths' k ≡ one_more (slice_index paths k) = ap (λ xs. slice_index xs k) set_is ∙ rw get_or-set_same refl in
-            held (paths_of (seen spots i) (spot_place x)) (paths_of (seen spots (i + 1)) (spot_place x)) (slice_index paths k)
-                (slice_index paths' k) at (inv.counted k x f) (paths_more (spot_place x)
-                  ∙ ap (λ c. paths_of (seen spots i) (spot_place x) + cond c 1 0) t)
+            held (paths_of (seen visits i) (visit_place x)) (paths_of (seen visits (i + 1)) (visit_place x)) (slice_index paths k)
+                (slice_index paths' k) at (inv.counted k x f) (paths_more (visit_place x)
+                  ∙ ap (λ c. paths_of (seen visits i) (visit_place x) + cond c 1 0) t)
         | inr t ↦
             let ne : k ≢ n - 1 = apart k x f t in
             let at : slice_index paths' k ≡ slice_index paths k = ap (λ xs. slice_index xs k) s ∙ rw get_or-set_other refl in
             at ∙ inv.counted k x f ∙ ap (λ c. min c (2 ^ 32 - 1))
-                (sym (paths_more (spot_place x) ∙ ap (λ c. paths_of (seen spots i) (spot_place x) + cond c 1 0) t ∙ omega arith))
+                (sym (paths_more (visit_place x) ∙ ap (λ c. paths_of (seen visits i) (visit_place x) + cond c 1 0) t ∙ omega arith))
       ]
         where
-          apart : (k : ℕ) (x : Spot Entry) → slice_get first k ≡ Some x → same_place (spot_place x) (spot_place spot) ≡ false → k ≢ n - 1
+          apart : (k : ℕ) (x : Visit Entry) → slice_get first k ≡ Some x → same_place (visit_place x) (visit_place visit) ≡ false
+              → k ≢ n - 1
           apart k x f t q =
               let b = (number_positive n k0).0 in
               let y : suc k ≡ n = omega arith in
-              let u = (number_used (seen spots i) n (spot_place spot)).0 k0 in
-              let v = (number_used (seen spots i) (suc k) (spot_place x)).0 (number_of_first k x f) in
-              let w : Some (spot_place x) ≡ Some (spot_place spot) = sym v ∙ ap (node_of (seen spots i)) y ∙ u in
-              let z : spot_place x ≡ spot_place spot = cc in
-              let r : same_place (spot_place x) (spot_place spot) ≡ true = ap (λ q. same_place q (spot_place spot)) z
-                  ∙ same_itself (spot_place spot) in
+              let u = (number_used (seen visits i) n (visit_place visit)).0 k0 in
+              let v = (number_used (seen visits i) (suc k) (visit_place x)).0 (number_of_first k x f) in
+              let w : Some (visit_place x) ≡ Some (visit_place visit) = sym v ∙ ap (node_of (seen visits i)) y ∙ u in
+              let z : visit_place x ≡ visit_place visit = cc in
+              let r : same_place (visit_place x) (visit_place visit) ≡ true = ap (λ q. same_place q (visit_place visit)) z
+                  ∙ same_itself (visit_place visit) in
               cc
 
-  -- a spot whose place is new takes the next number, and the place has one path
-  pub is_new : (n : ℕ) (first' : List (Spot Entry)) (starts' paths' numbers' : List ℕ) → number_of (seen spots i) (spot_place spot) ≡ None
-      → n ≡ length first + 1 → first' ≡ first ++ spot ∷ [] → starts' ≡ starts ++ i ∷ [] → paths' ≡ paths ++ 1 ∷ []
-      → numbers' ≡ numbers ++ n ∷ [] → IsNumbered spots (i + 1) first' starts' paths' numbers'
+  -- a visit whose place is new takes the next number, and the place has one path
+  pub is_new : (n : ℕ) (first' : List (Visit Entry)) (starts' paths' numbers' : List ℕ) → number_of (seen visits i) (visit_place visit)
+      ≡ None
+      → n ≡ length first + 1 → first' ≡ first ++ visit ∷ [] → starts' ≡ starts ++ i ∷ [] → paths' ≡ paths ++ 1 ∷ []
+      → numbers' ≡ numbers ++ n ∷ [] → IsNumbered visits (i + 1) first' starts' paths' numbers'
   is_new n first' starts' paths' numbers' k0 l m d o u = record {
-    places = ap (map spot_place) m ∙ map_more first spot ∙ ap (λ ps. ps ++ spot_place spot ∷ []) inv.places ∙ sym grown;
-    each = λ k x f. elim (get_last first spot k x (subst (λ xs. slice_get xs k ≡ Some x) m f)) [
+    places = ap (map visit_place) m ∙ map_more first visit ∙ ap (λ ps. ps ++ visit_place visit ∷ []) inv.places ∙ sym grown;
+    each = λ k x f. elim (get_last first visit k x (subst (λ xs. slice_get xs k ≡ Some x) m f)) [
       | inl g ↦ inv.each k x g
-      | inr (a, b) ↦ subst (IsFirstSpot spots) b (record { at = i; is = spot_there spots i spot lt here; new = k0 })
+      | inr (a, b) ↦ subst (IsFirstVisit visits) b (record { at = i; is = visit_there visits i visit lt here; new = k0 })
     ];
-    starts_level = ap length d ∙ length_more starts i ∙ ap (λ k. k + 1) inv.starts_level ∙ sym (ap length m ∙ length_more first spot);
-    starts_are = λ k x f. subst (λ xs. slice_get spots (slice_index xs k) ≡ Some x) (sym d)
-        (starting k x (get_last first spot k x (subst (λ xs. slice_get xs k ≡ Some x) m f)));
-    level = ap length o ∙ length_more paths 1 ∙ ap (λ k. k + 1) inv.level ∙ sym (ap length m ∙ length_more first spot);
-    counted = λ k x f. counts k x (get_last first spot k x (subst (λ xs. slice_get xs k ≡ Some x) m f));
+    starts_level = ap length d ∙ length_more starts i ∙ ap (λ k. k + 1) inv.starts_level ∙ sym (ap length m ∙ length_more first visit);
+    starts_are = λ k x f. subst (λ xs. slice_get visits (slice_index xs k) ≡ Some x) (sym d)
+        (starting k x (get_last first visit k x (subst (λ xs. slice_get xs k ≡ Some x) m f)));
+    level = ap length o ∙ length_more paths 1 ∙ ap (λ k. k + 1) inv.level ∙ sym (ap length m ∙ length_more first visit);
+    counted = λ k x f. counts k x (get_last first visit k x (subst (λ xs. slice_get xs k ≡ Some x) m f));
     numbers_level = ap length u ∙ length_more numbers n ∙ ap (λ k. k + 1) inv.numbers_level;
-    known = λ k x l e. subst (λ xs. number_of (seen spots (i + 1)) (spot_place x) ≡ Some (slice_index xs k)) (sym u)
+    known = λ k x l e. subst (λ xs. number_of (seen visits (i + 1)) (visit_place x) ≡ Some (slice_index xs k)) (sym u)
         (knows n before own k x e (below_or_at k i l));
   }
     where
-      grown : nodes (seen spots (i + 1)) ≡ nodes (seen spots i) ++ spot_place spot ∷ []
-      grown = ap nodes more ∙ nodes_new (seen spots i) (bare spot) k0
+      grown : nodes (seen visits (i + 1)) ≡ nodes (seen visits i) ++ visit_place visit ∷ []
+      grown = ap nodes more ∙ nodes_new (seen visits i) (bare visit) k0
 
-      n_is : n ≡ length (nodes (seen spots i)) + 1
+      n_is : n ≡ length (nodes (seen visits i)) + 1
       n_is = l ∙ ap (λ k. k + 1) (sym (length_map first) ∙ ap length inv.places)
 
-      own : number_of (seen spots (i + 1)) (spot_place spot) ≡ Some n
-      own = ap (λ es. number_of es (spot_place spot)) more ∙ number_new (seen spots i) (bare spot) k0 ∙ ap Some (sym n_is)
+      own : number_of (seen visits (i + 1)) (visit_place visit) ≡ Some n
+      own = ap (λ es. number_of es (visit_place visit)) more ∙ number_new (seen visits i) (bare visit) k0 ∙ ap Some (sym n_is)
 
-      before : (k : ℕ) (x : Spot Entry) → k < i → slice_get spots k ≡ Some x → number_of (seen spots (i + 1)) (spot_place x)
+      before : (k : ℕ) (x : Visit Entry) → k < i → slice_get visits k ≡ Some x → number_of (seen visits (i + 1)) (visit_place x)
           ≡ Some (slice_index numbers k)
-      before k x l e = elim (same_or_other (spot_place x) (spot_place spot)) [
-        | inl q ↦ absurd (let z : Some (slice_index numbers k) ≡ None = sym (inv.known k x l e) ∙ ap (number_of (seen spots i)) q.0 ∙ k0 in
+      before k x l e = elim (same_or_other (visit_place x) (visit_place visit)) [
+        | inl q ↦ absurd (let z : Some (slice_index numbers k) ≡ None = sym (inv.known k x l e) ∙ ap (number_of (seen visits i)) q.0 ∙ k0 in
               cc)
-        | inr t ↦ ap (λ es. number_of es (spot_place x)) more ∙ number_other (seen spots i) (bare spot) (spot_place x) k0 t
+        | inr t ↦ ap (λ es. number_of es (visit_place x)) more ∙ number_other (seen visits i) (bare visit) (visit_place x) k0 t
             ∙ inv.known k x l e
       ]
 
-      starting : (k : ℕ) (x : Spot Entry) → (slice_get first k ≡ Some x) ⊎ ((k ≡ length first) × (spot ≡ x))
-          → slice_get spots (slice_index (starts ++ i ∷ []) k) ≡ Some x
+      starting : (k : ℕ) (x : Visit Entry) → (slice_get first k ≡ Some x) ⊎ ((k ≡ length first) × (visit ≡ x))
+          → slice_get visits (slice_index (starts ++ i ∷ []) k) ≡ Some x
       starting k x (inl f) =
           let b = get_below first k x f in
           let v = inv.starts_level in
-          ap (slice_get spots) (index_last starts i k (omega arith)) ∙ inv.starts_are k x f
-      starting k x (inr (a, b)) = ap (slice_get spots) (ap (slice_index (starts ++ i ∷ [])) (a ∙ sym inv.starts_level) ∙ index_end starts i)
-          ∙ spot_there spots i spot lt here ∙ ap Some b
+          ap (slice_get visits) (index_last starts i k (omega arith)) ∙ inv.starts_are k x f
+      starting k x (inr (a, b)) = ap (slice_get visits) (ap (slice_index (starts ++ i ∷ [])) (a ∙ sym inv.starts_level)
+            ∙ index_end starts i)
+          ∙ visit_there visits i visit lt here ∙ ap Some b
 
-      counts : (k : ℕ) (x : Spot Entry) → (slice_get first k ≡ Some x) ⊎ ((k ≡ length first) × (spot ≡ x)) → slice_index paths' k
-          ≡ min (paths_of (seen spots (i + 1)) (spot_place x)) (2 ^ 32 - 1)
+      counts : (k : ℕ) (x : Visit Entry) → (slice_get first k ≡ Some x) ⊎ ((k ≡ length first) × (visit ≡ x)) → slice_index paths' k
+          ≡ min (paths_of (seen visits (i + 1)) (visit_place x)) (2 ^ 32 - 1)
       counts k x (inl f) =
           let b = get_below first k x f in
           let v = inv.level in
-          let t : same_place (spot_place x) (spot_place spot) ≡ false = other k x f in
+          let t : same_place (visit_place x) (visit_place visit) ≡ false = other k x f in
           ap (λ xs. slice_index xs k) o ∙ index_last paths 1 k (omega arith) ∙ inv.counted k x f
-          ∙ ap (λ c. min c (2 ^ 32 - 1)) (sym (paths_more (spot_place x) ∙ ap (λ c. paths_of (seen spots i) (spot_place x) + cond c 1 0) t
+          ∙ ap (λ c. min c (2 ^ 32 - 1)) (sym (paths_more (visit_place x) ∙ ap (λ c. paths_of (seen visits i) (visit_place x) + cond c 1 0)
+                t
                 ∙ omega arith))
         where
-          other : (k : ℕ) (x : Spot Entry) → slice_get first k ≡ Some x → same_place (spot_place x) (spot_place spot) ≡ false
-          other k x f = elim (same_or_other (spot_place x) (spot_place spot)) [
+          other : (k : ℕ) (x : Visit Entry) → slice_get first k ≡ Some x → same_place (visit_place x) (visit_place visit) ≡ false
+          other k x f = elim (same_or_other (visit_place x) (visit_place visit)) [
             | inr t ↦ t
-            | inl q ↦ absurd (let z : Some (suc k) ≡ None = sym (number_of_first k x f) ∙ ap (number_of (seen spots i)) q.0 ∙ k0 in cc)
+            | inl q ↦ absurd (let z : Some (suc k) ≡ None = sym (number_of_first k x f) ∙ ap (number_of (seen visits i)) q.0 ∙ k0 in cc)
           ]
       counts k x (inr (a, b)) =
-          let zero_paths : paths_of (seen spots i) (spot_place spot) ≡ 0 = none_paths (seen spots i) (spot_place spot)
-              (not_among (seen spots i) (spot_place spot) k0) in
-          let one : paths_of (seen spots (i + 1)) (spot_place spot) ≡ 1 = paths_more (spot_place spot)
-              ∙ ap (λ c. paths_of (seen spots i) (spot_place spot) + cond c 1 0) (same_itself (spot_place spot))
+          let zero_paths : paths_of (seen visits i) (visit_place visit) ≡ 0 = none_paths (seen visits i) (visit_place visit)
+              (not_among (seen visits i) (visit_place visit) k0) in
+          let one : paths_of (seen visits (i + 1)) (visit_place visit) ≡ 1 = paths_more (visit_place visit)
+              ∙ ap (λ c. paths_of (seen visits i) (visit_place visit) + cond c 1 0) (same_itself (visit_place visit))
               ∙ ap (λ c. c + 1) zero_paths in
           let j : k ≡ length paths = a ∙ sym inv.level in
           ap (λ xs. slice_index xs k) o ∙ ap (slice_index (paths ++ 1 ∷ [])) j ∙ index_end paths 1
-          ∙ sym (ap (λ (y : Spot Entry). min (paths_of (seen spots (i + 1)) (spot_place y)) (2 ^ 32 - 1)) (sym b)
+          ∙ sym (ap (λ (y : Visit Entry). min (paths_of (seen visits (i + 1)) (visit_place y)) (2 ^ 32 - 1)) (sym b)
                 ∙ ap (λ c. min c (2 ^ 32 - 1)) one)
 
--- what is among the first spots
-among_seen : (spots : List (Spot Entry)) (i : ℕ) (e : Listed) → IsAmong e (map bare (take i spots)) → (j : ℕ) × (s : Spot Entry) × (j < i)
-    × (slice_get spots j ≡ Some s) × (e ≡ bare s)
+-- what is among the first visits
+among_seen : (visits : List (Visit Entry)) (i : ℕ) (e : Listed) → IsAmong e (map bare (take i visits)) → (j : ℕ) × (s : Visit Entry)
+    × (j < i)
+    × (slice_get visits j ≡ Some s) × (e ≡ bare s)
 among_seen [] zero e a = absurd a
 among_seen [] (suc i) e a = absurd a
-among_seen (x ∷ spots) zero e a = absurd a
-among_seen (x ∷ spots) (suc i) e (inl q) = (0, x, omega arith, refl, q)
-among_seen (x ∷ spots) (suc i) e (inr a) = let m = among_seen spots i e a in (suc m.0, m.1, (let l = m.2 in omega arith), m.3, m.4)
+among_seen (x ∷ visits) zero e a = absurd a
+among_seen (x ∷ visits) (suc i) e (inl q) = (0, x, omega arith, refl, q)
+among_seen (x ∷ visits) (suc i) e (inr a) = let m = among_seen visits i e a in (suc m.0, m.1, (let l = m.2 in omega arith), m.3, m.4)
 
--- below the length of a list of spots there is one
-pub spot_below : (spots : List (Spot Entry)) (k : ℕ) → k < length spots → (s : Spot Entry) × (slice_get spots k ≡ Some s)
-spot_below [] k l = absurd (omega arith)
-spot_below (x ∷ spots) zero l = (x, refl)
-spot_below (x ∷ spots) (suc k) l = spot_below spots k (omega arith)
+-- below the length of a list of visits there is one
+pub visit_below : (visits : List (Visit Entry)) (k : ℕ) → k < length visits → (s : Visit Entry) × (slice_get visits k ≡ Some s)
+visit_below [] k l = absurd (omega arith)
+visit_below (x ∷ visits) zero l = (x, refl)
+visit_below (x ∷ visits) (suc k) l = visit_below visits k (omega arith)
 
 -- where there is an element, it is what stands there, whatever stands for places beyond
 pub get_or_is : {X : Type 0} (xs : List X) (k : ℕ) (x d : X) → slice_get xs k ≡ Some x → get_or xs k d ≡ x
@@ -471,56 +478,57 @@ get_or_is [] k x d e = absurd (cc)
 get_or_is (y ∷ xs) zero x d e = cc
 get_or_is (y ∷ xs) (suc k) x d e = get_or_is xs k x d e
 
--- the same, of the spot that the code finds there
-pub spot_at : (spots : List (Spot Entry)) (i : ℕ) → i < length spots → (s : Spot Entry) × (s ≡ get_or spots i s)
-spot_at spots i l = let x = spot_below spots i l in (x.0, sym (get_or_is spots i x.0 x.0 x.1))
+-- the same, of the visit that the code finds there
+pub visit_at : (visits : List (Visit Entry)) (i : ℕ) → i < length visits → (s : Visit Entry) × (s ≡ get_or visits i s)
+visit_at visits i l = let x = visit_below visits i l in (x.0, sym (get_or_is visits i x.0 x.0 x.1))
 
-key_at : (spots : List (Spot Entry)) (k : ℕ) (s : Spot Entry) → slice_get spots k ≡ Some s → slice_index (map key_of spots) k ≡ key_of s
+key_at : (visits : List (Visit Entry)) (k : ℕ) (s : Visit Entry) → slice_get visits k ≡ Some s → slice_index (map key_of visits) k
+    ≡ key_of s
 key_at [] k s e = absurd (cc)
-key_at (x ∷ spots) zero s e = let f : x ≡ s = cc in ap (λ (y : Spot Entry). key_of y) f
-key_at (x ∷ spots) (suc k) s e = key_at spots k s e
+key_at (x ∷ visits) zero s e = let f : x ≡ s = cc in ap (λ (y : Visit Entry). key_of y) f
+key_at (x ∷ visits) (suc k) s e = key_at visits k s e
 
-keys_length : (spots : List (Spot Entry)) → length (map key_of spots) ≡ length spots
+keys_length : (visits : List (Visit Entry)) → length (map key_of visits) ≡ length visits
 keys_length [] = refl
-keys_length (x ∷ spots) = ap suc (keys_length spots)
+keys_length (x ∷ visits) = ap suc (keys_length visits)
 
-module _ (spots : List (Spot Entry)) (keys firsts : List ℕ) (are : AreKeys spots keys) (f : AreFirsts keys firsts) where
-  -- there is a key for each spot
-  pub keys_level : length keys ≡ length spots
-  keys_level = ap length are.are ∙ keys_length spots
+module _ (visits : List (Visit Entry)) (keys firsts : List ℕ) (are : AreKeys visits keys) (f : AreFirsts keys firsts) where
+  -- there is a key for each visit
+  pub keys_level : length keys ≡ length visits
+  keys_level = ap length are.are ∙ keys_length visits
 
-  key_is : (k : ℕ) (s : Spot Entry) → slice_get spots k ≡ Some s → slice_index keys k ≡ key_of s
-  key_is k s e = ap (λ xs. slice_index xs k) are.are ∙ key_at spots k s e
+  key_is : (k : ℕ) (s : Visit Entry) → slice_get visits k ≡ Some s → slice_index keys k ≡ key_of s
+  key_is k s e = ap (λ xs. slice_index xs k) are.are ∙ key_at visits k s e
 
-  small : (k : ℕ) (s : Spot Entry) → slice_get spots k ≡ Some s → s.0.now.value.place.header < 2 ^ 32
-  small k s e = subst (λ (x : Spot Entry). x.0.now.value.place.header < 2 ^ 32) (get_or_is spots k s s e)
-      (are.small k s (get_below spots k s e))
+  small : (k : ℕ) (s : Visit Entry) → slice_get visits k ≡ Some s → s.0.now.value.place.header < 2 ^ 32
+  small k s e = subst (λ (x : Visit Entry). x.0.now.value.place.header < 2 ^ 32) (get_or_is visits k s s e)
+      (are.small k s (get_below visits k s e))
 
-  -- spots with one key have one place
-  one_place : (j k : ℕ) (s t : Spot Entry) → slice_get spots j ≡ Some s → slice_get spots k ≡ Some t
-      → slice_index keys j ≡ slice_index keys k → spot_place s ≡ spot_place t
+  -- visits with one key have one place
+  one_place : (j k : ℕ) (s t : Visit Entry) → slice_get visits j ≡ Some s → slice_get visits k ≡ Some t
+      → slice_index keys j ≡ slice_index keys k → visit_place s ≡ visit_place t
   one_place j k s t d e q = key_tells s.0.now.value.place t.0.now.value.place (small j s d) (small k t e) (sym (key_is j s d) ∙ q
         ∙ key_is k t e)
 
-  module _ (i : ℕ) (spot : Spot Entry) (lt : i < length spots) (here : spot ≡ get_or spots i spot) where
+  module _ (i : ℕ) (visit : Visit Entry) (lt : i < length visits) (here : visit ≡ get_or visits i visit) where
     told : IsFirstOf keys (slice_index keys i) (slice_index firsts i)
     told = f.each i (let level = keys_level in omega arith)
 
-    -- the first place of a spot's key is among the spots
-    pub first_within : slice_index firsts i < length spots
+    -- the first place of a visit's key is among the visits
+    pub first_within : slice_index firsts i < length visits
     first_within = let w = told.within in let level = keys_level in omega arith
 
     not_after : i < slice_index firsts i → ⊥
     not_after l = told.before i l refl
 
-    -- a place that some spot before has, has that spot's number
-    pub has_number : (first : List (Spot Entry)) (starts paths numbers : List ℕ) → IsNumbered spots i first starts paths numbers
+    -- a place that some visit before has, has that visit's number
+    pub has_number : (first : List (Visit Entry)) (starts paths numbers : List ℕ) → IsNumbered visits i first starts paths numbers
         → slice_index firsts i ≢ i → (slice_index firsts i < i)
-        × (number_of (seen spots i) (spot_place spot) ≡ Some (slice_index numbers (slice_index firsts i)))
+        × (number_of (seen visits i) (visit_place visit) ≡ Some (slice_index numbers (slice_index firsts i)))
     has_number first starts paths numbers inv ne =
-        let x = spot_below spots (slice_index firsts i) first_within in
-        let same = one_place (slice_index firsts i) i x.0 spot x.1 (spot_there spots i spot lt here) told.at in
-        (before, sym (ap (number_of (seen spots i)) same) ∙ inv.known (slice_index firsts i) x.0 before x.1)
+        let x = visit_below visits (slice_index firsts i) first_within in
+        let same = one_place (slice_index firsts i) i x.0 visit x.1 (visit_there visits i visit lt here) told.at in
+        (before, sym (ap (number_of (seen visits i)) same) ∙ inv.known (slice_index firsts i) x.0 before x.1)
       where
         before : slice_index firsts i < i
         before = elim (cases_order (slice_index firsts i) i) [
@@ -529,30 +537,31 @@ module _ (spots : List (Spot Entry)) (keys firsts : List ℕ) (are : AreKeys spo
           | inr (inr q) ↦ absurd (not_after q)
         ]
 
-    -- a place that no spot before has, has no number
-    pub has_none : slice_index firsts i ≡ i → number_of (seen spots i) (spot_place spot) ≡ None
-    has_none same = test (number_of (seen spots i) (spot_place spot)) refl
+    -- a place that no visit before has, has no number
+    pub has_none : slice_index firsts i ≡ i → number_of (seen visits i) (visit_place visit) ≡ None
+    has_none same = test (number_of (seen visits i) (visit_place visit)) refl
       where
-        test : (o : Option ℕ) → number_of (seen spots i) (spot_place spot) ≡ o → o ≡ None
+        test : (o : Option ℕ) → number_of (seen visits i) (visit_place visit) ≡ o → o ≡ None
         test None e = refl
         test (Some n) e = absurd (
-            let a = number_listed (seen spots i) n (spot_place spot) ((number_used (seen spots i) n (spot_place spot)).0 e) in
-            let b = among_seen spots i a.0 a.1 in
-            let p : spot_place b.1 ≡ spot_place spot = ap place (sym b.4) ∙ a.2 in
+            let a = number_listed (seen visits i) n (visit_place visit) ((number_used (seen visits i) n (visit_place visit)).0 e) in
+            let b = among_seen visits i a.0 a.1 in
+            let p : visit_place b.1 ≡ visit_place visit = ap place (sym b.4) ∙ a.2 in
             let layers = ap (λ (q : ModelPlace). q.0) p in
             let headers = ap (λ (q : ModelPlace). q.1) p in
-            let k : key_of b.1 ≡ key_of spot = omega arith in
-            told.before b.0 (let l = b.2 in omega arith) (key_is b.0 b.1 b.3 ∙ k ∙ sym (key_is i spot (spot_there spots i spot lt here))))
+            let k : key_of b.1 ≡ key_of visit = omega arith in
+            told.before b.0 (let l = b.2 in omega arith) (key_is b.0 b.1 b.3 ∙ k
+                  ∙ sym (key_is i visit (visit_there visits i visit lt here))))
 
     -- the number that the code reads at the first place of the key is the place's
-    pub known_before : (first : List (Spot Entry)) (starts paths numbers : List ℕ) → IsNumbered spots i first starts paths numbers
+    pub known_before : (first : List (Visit Entry)) (starts paths numbers : List ℕ) → IsNumbered visits i first starts paths numbers
         → (before n : ℕ) → before ≡ slice_index firsts i → n ≡ slice_index numbers before → before ≢ i
-        → number_of (seen spots i) (spot_place spot) ≡ Some n
+        → number_of (seen visits i) (visit_place visit) ≡ Some n
     known_before first starts paths numbers inv before n b m ne = (has_number first starts paths numbers inv (λ e. ne (b ∙ e))).1
         ∙ ap Some (sym (m ∙ ap (slice_index numbers) b))
 
     -- where the first place of the key is another one, it comes before
-    pub is_before : (first : List (Spot Entry)) (starts paths numbers : List ℕ) → IsNumbered spots i first starts paths numbers
+    pub is_before : (first : List (Visit Entry)) (starts paths numbers : List ℕ) → IsNumbered visits i first starts paths numbers
         → (before : ℕ) → before ≡ slice_index firsts i → before ≢ i → before < i
     is_before first starts paths numbers inv before b ne = let l = (has_number first starts paths numbers inv (λ e. ne (b ∙ e))).0 in
         omega arith

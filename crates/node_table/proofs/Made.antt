@@ -13,15 +13,15 @@ use Rattle.stack_model.specs.Numbers.{Place as ModelPlace, Child, place, same_pl
 use Rattle.stack_model.specs.Attributes.{is_directory, is_directory_at, kind_at, mode_of, mode, size_of, size_at, rdev_of, rdev, nlink, blocks_all}
 use Rattle.shown_tree.specs.declared.place.Place.{Place}
 use Rattle.shown_tree.specs.declared.place.Entry.{Entry}
-use Rattle.path_tree.specs.Rows.{Shoot}
+use Rattle.path_tree.specs.Rows.{Subtree}
 use Rattle.stack_table.specs.declared.node.Node.{Node}
 use Rattle.stack_table.specs.declared.directory.Directory.{Directory as Folder}
 use Rattle.name_keys.specs.Keys.{key}
 use Rattle.name_keys.specs.Keyed.{AreKeyed}
 use Rattle.stack_table.specs.Rows.{Line, names}
 use Rattle.stack_table.specs.Readers.{placed}
-use Rattle.node_table.specs.Walks.{Spot}
-use Rattle.node_table.specs.Numbering.{spot_place}
+use Rattle.node_table.specs.Walks.{Visit}
+use Rattle.node_table.specs.Numbering.{visit_place}
 use Rattle.node_table.specs.Building.{line_in, IsReadFrom, IsMade, AddsLinked, AddsByKind, AddsNode, completed}
 use Rattle.node_table.specs.Seeds.{AreSeedlings, IsSeed, AreSeeds, AreMade}
 use Rattle.stack_table.specs.Held.{IsHeldDirectory, HoldsDirectory, IsNode, AreNodes, IsSomeTable}
@@ -162,8 +162,9 @@ grown layers entries folders d rows more keys more_keys node p level n = record 
 }
 
 -- a directory that was added last is the place's
-module _ (layers : List (List ℕ)) (entries : List Listed) (tell : Place → ℕ) (spot : Spot Entry) (old new : List Line) (keys keys' : List ℕ)
-    (level : length keys ≡ length old) (cs : List (Shoot Entry)) (d : Folder) (m : IsMade tell spot cs old new keys keys' d) where
+module _ (layers : List (List ℕ)) (entries : List Listed) (tell : Place → ℕ) (visit : Visit Entry) (old new : List Line)
+    (keys keys' : List ℕ)
+    (level : length keys ≡ length old) (cs : List (Subtree Entry)) (d : Folder) (m : IsMade tell visit cs old new keys keys' d) where
   -- a key was added for each row
   pub level_made : length keys' ≡ length new
   level_made =
@@ -188,7 +189,7 @@ module _ (layers : List (List ℕ)) (entries : List Listed) (tell : Place → �
       ∙ range_last keys m.keys_are.keys
 
   -- a directory that was made of a place's branch holds the rows and the parent of the place
-  pub is_made : (p : ModelPlace) → is_directory_at layers p ≡ true → tell spot.1.place ≡ number entries (parent entries p)
+  pub is_made : (p : ModelPlace) → is_directory_at layers p ≡ true → tell visit.1.place ≡ number entries (parent entries p)
       → AreSeedlings layers entries tell p cs → IsHeldDirectory layers entries new keys' d p
   is_made p e above below = record {
     parent_is = m.parent_is ∙ above;
@@ -199,14 +200,14 @@ module _ (layers : List (List ℕ)) (entries : List Listed) (tell : Place → �
     keyed = keyed_by d.shared _ _ _ _ (sym keys_range_is) (sym range_is) m.keys_are.keyed;
   }
 
-module _ (layers : List (List ℕ)) (entries : List Listed) (tell : Place → ℕ) (paths : ℕ) (spot : Spot Entry)
-    (seed : IsSeed layers entries tell paths spot) (folders folders' : List Folder) (old new : List Line) (keys keys' : List ℕ)
-    (level : length keys ≡ length old) (node : Node) (a : AddsNode layers tell spot paths folders folders' old new keys keys' node) where
+module _ (layers : List (List ℕ)) (entries : List Listed) (tell : Place → ℕ) (paths : ℕ) (visit : Visit Entry)
+    (seed : IsSeed layers entries tell paths visit) (folders folders' : List Folder) (old new : List Line) (keys keys' : List ℕ)
+    (level : length keys ≡ length old) (node : Node) (a : AddsNode layers tell visit paths folders folders' old new keys keys' node) where
   p : ModelPlace
-  p = spot_place spot
+  p = visit_place visit
 
   q : Place
-  q = spot.0.now.value.place
+  q = visit.0.now.value.place
 
   image : List ℕ
   image = seed.seat.image
@@ -214,73 +215,74 @@ module _ (layers : List (List ℕ)) (entries : List Listed) (tell : Place → �
   here : slice_get layers node.place.layer ≡ Some seed.seat.image
   here = ap (λ (x : Place). slice_get layers x.layer) a.place_is ∙ seed.seat.is
 
-  read : IsReadFrom seed.seat.image spot.0.now.value.place.header node
+  read : IsReadFrom seed.seat.image visit.0.now.value.place.header node
   read = subst (λ (x : Place). IsReadFrom seed.seat.image x.header node) a.place_is (a.read seed.seat.image here)
 
-  layer : slice_index_or layers spot.0.now.value.place.layer [] ≡ seed.seat.image
-  layer = layer_is layers spot.0.now.value.place.layer seed.seat.image seed.seat.is
+  layer : slice_index_or layers visit.0.now.value.place.layer [] ≡ seed.seat.image
+  layer = layer_is layers visit.0.now.value.place.layer seed.seat.image seed.seat.is
 
-  kind_is : node.kind ≡ kind_at layers (spot_place spot)
+  kind_is : node.kind ≡ kind_at layers (visit_place visit)
   kind_is = a.kind_is ∙ seed.kind_is
 
-  directory_is : is_directory node.kind ≡ is_directory_at layers (spot_place spot)
+  directory_is : is_directory node.kind ≡ is_directory_at layers (visit_place visit)
   directory_is = ap is_directory kind_is
 
-  size_is : node.part.len ≡ size_at layers (spot_place spot)
-  size_is = read.data_is.size_is ∙ sizes_agree (kind seed.seat.image spot.0.now.value.place.header) _
-      ∙ ap (λ x. size_of (kind x spot.0.now.value.place.header) (size x spot.0.now.value.place.header)) (sym layer)
+  size_is : node.part.len ≡ size_at layers (visit_place visit)
+  size_is = read.data_is.size_is ∙ sizes_agree (kind seed.seat.image visit.0.now.value.place.header) _
+      ∙ ap (λ x. size_of (kind x visit.0.now.value.place.header) (size x visit.0.now.value.place.header)) (sym layer)
 
-  mode_is : mode_of node.kind node.exec ≡ mode layers (spot_place spot)
-  mode_is = ap (λ k. mode_of k node.exec) kind_is ∙ ap (mode_of (kind_at layers (spot_place spot))) read.exec_is
-      ∙ ap (λ x. mode_of (kind_at layers (spot_place spot)) (exec x spot.0.now.value.place.header)) (sym layer)
+  mode_is : mode_of node.kind node.exec ≡ mode layers (visit_place visit)
+  mode_is = ap (λ k. mode_of k node.exec) kind_is ∙ ap (mode_of (kind_at layers (visit_place visit))) read.exec_is
+      ∙ ap (λ x. mode_of (kind_at layers (visit_place visit)) (exec x visit.0.now.value.place.header)) (sym layer)
 
-  rdev_is : rdev_of node.kind node.rdev ≡ rdev layers (spot_place spot)
-  rdev_is = ap (λ k. rdev_of k node.rdev) kind_is ∙ ap (rdev_of (kind_at layers (spot_place spot))) read.spec_is
-      ∙ ap (λ x. rdev_of (kind_at layers (spot_place spot)) (spec x spot.0.now.value.place.header)) (sym layer)
+  rdev_is : rdev_of node.kind node.rdev ≡ rdev layers (visit_place visit)
+  rdev_is = ap (λ k. rdev_of k node.rdev) kind_is ∙ ap (rdev_of (kind_at layers (visit_place visit))) read.spec_is
+      ∙ ap (λ x. rdev_of (kind_at layers (visit_place visit)) (spec x visit.0.now.value.place.header)) (sym layer)
 
   -- what a directory adds
-  module _ (d : is_directory_at layers (spot_place spot) ≡ true) (l : AddsLinked tell spot node.nlink folders folders' old new keys keys')
+  module _ (d : is_directory_at layers (visit_place visit) ≡ true) (l : AddsLinked tell visit node.nlink folders folders' old new keys
+        keys')
       where
-    below : AreSeedlings layers entries tell (spot_place spot) l.added.children
+    below : AreSeedlings layers entries tell (visit_place visit) l.added.children
     below = seed.below l.added.children l.added.below l.added.forest
 
-    nlink_directory : node.nlink ≡ nlink layers entries (spot_place spot)
+    nlink_directory : node.nlink ≡ nlink layers entries (visit_place visit)
     nlink_directory =
         l.nlink_is ∙ ap (λ n. min (2 + n) (2 ^ 32 - 1)) (l.added.count_is ∙ below.count_is)
-        ∙ sym (ap (λ b. min (cond b (2 + count_by (λ (c : Child). is_directory_at layers c.place) (children entries (spot_place spot)))
-              (count_by (λ (f : Listed). same_place (spot_place spot) (place f)) entries)) (2 ^ 32 - 1)) d)
+        ∙ sym (ap (λ b. min (cond b (2 + count_by (λ (c : Child). is_directory_at layers c.place) (children entries (visit_place visit)))
+              (count_by (λ (f : Listed). same_place (visit_place visit) (place f)) entries)) (2 ^ 32 - 1)) d)
 
-    has_directory : HoldsDirectory layers entries folders' new keys' (completed node) (spot_place spot)
+    has_directory : HoldsDirectory layers entries folders' new keys' (completed node) (visit_place visit)
     has_directory = record {
       directory = l.added.directory;
       is = ap (λ (x : List Folder). slice_get x node.directory) l.added.is
           ∙ ap (slice_get (folders ++ l.added.directory ∷ [])) a.directory_is ∙ get_new folders l.added.directory;
-      holds = is_made layers entries tell spot old new keys keys' level l.added.children l.added.directory l.added.made
-          (spot_place spot) d seed.parent_is below;
+      holds = is_made layers entries tell visit old new keys keys' level l.added.children l.added.directory l.added.made
+          (visit_place visit) d seed.parent_is below;
     }
 
   -- how often it is linked, and its directory
-  held_by : (b : Bool) → is_directory_at layers (spot_place spot) ≡ b → AddsByKind tell spot paths b node.nlink folders folders' old new
+  held_by : (b : Bool) → is_directory_at layers (visit_place visit) ≡ b → AddsByKind tell visit paths b node.nlink folders folders' old new
       keys keys' →
-      (node.nlink ≡ nlink layers entries (spot_place spot)) × (is_directory_at layers (spot_place spot) ≡ true
-            → HoldsDirectory layers entries folders' new keys' (completed node) (spot_place spot))
+      (node.nlink ≡ nlink layers entries (visit_place visit)) × (is_directory_at layers (visit_place visit) ≡ true
+            → HoldsDirectory layers entries folders' new keys' (completed node) (visit_place visit))
   held_by true e l = (nlink_directory e l, λ d. has_directory e l)
   held_by false e n = (n.nlink_is ∙ seed.paths_are e, λ d. absurd (let f : true ≡ false = sym d ∙ e in cc))
 
-  holds_both : (node.nlink ≡ nlink layers entries (spot_place spot)) × (is_directory_at layers (spot_place spot) ≡ true
-        → HoldsDirectory layers entries folders' new keys' (completed node) (spot_place spot))
-  holds_both = held_by (is_directory_at layers (spot_place spot)) refl
-      (subst (λ b. AddsByKind tell spot paths b node.nlink folders folders' old new keys keys') directory_is a.adds)
+  holds_both : (node.nlink ≡ nlink layers entries (visit_place visit)) × (is_directory_at layers (visit_place visit) ≡ true
+        → HoldsDirectory layers entries folders' new keys' (completed node) (visit_place visit))
+  holds_both = held_by (is_directory_at layers (visit_place visit)) refl
+      (subst (λ b. AddsByKind tell visit paths b node.nlink folders folders' old new keys keys') directory_is a.adds)
 
-  level_by : (b : Bool) → AddsByKind tell spot paths b node.nlink folders folders' old new keys keys' → length keys' ≡ length new
-  level_by true l = level_made layers entries tell spot old new keys keys' level l.added.children l.added.directory l.added.made
+  level_by : (b : Bool) → AddsByKind tell visit paths b node.nlink folders folders' old new keys keys' → length keys' ≡ length new
+  level_by true l = level_made layers entries tell visit old new keys keys' level l.added.children l.added.directory l.added.made
   level_by false n = ap length n.keys_are ∙ level ∙ sym (ap length n.rows_are)
 
   -- there is a key for each row
   pub level_still : length keys' ≡ length new
   level_still = level_by (is_directory node.kind) a.adds
 
-  grown_by : (b : Bool) → AddsByKind tell spot paths b node.nlink folders folders' old new keys keys' → (n : Node) (q : ModelPlace)
+  grown_by : (b : Bool) → AddsByKind tell visit paths b node.nlink folders folders' old new keys keys' → (n : Node) (q : ModelPlace)
       → IsNode layers entries folders old keys n q → IsNode layers entries folders' new keys' n q
   grown_by true l n q i =
       let m = l.added.made in
@@ -299,7 +301,7 @@ module _ (layers : List (List ℕ)) (entries : List Listed) (tell : Place → �
   stays = grown_by (is_directory node.kind) a.adds
 
   -- a node that was made of a place's first branch is the place's, once completed
-  pub is_node : IsNode layers entries folders' new keys' (completed node) (spot_place spot)
+  pub is_node : IsNode layers entries folders' new keys' (completed node) (visit_place visit)
   is_node = record {
     place = ap placed a.place_is;
     holds = record {
@@ -323,41 +325,43 @@ begins layers entries held folders rows keys e r k = record { level = ap length 
       λ k node p f g. absurd (let h = rw e at f in cc) }
 
 -- with the node of the next first branch one node more is made
-pub goes_on : (layers : List (List ℕ)) (entries : List Listed) (tell : Place → ℕ) (first : List (Spot Entry)) (paths : List ℕ)
+pub goes_on : (layers : List (List ℕ)) (entries : List Listed) (tell : Place → ℕ) (first : List (Visit Entry)) (paths : List ℕ)
     (s : AreSeeds layers entries tell first paths) (held held' : List Node) (folders folders' : List Folder) (rows rows' : List Line)
-    (keys keys' : List ℕ) (i : ℕ) (spot : Spot Entry) → i < length first → spot ≡ get_or first i spot
-    → Making layers entries held folders rows keys i → (node : Node) → AddsNode layers tell spot (slice_index paths i) folders folders' rows
+    (keys keys' : List ℕ) (i : ℕ) (visit : Visit Entry) → i < length first → visit ≡ get_or first i visit
+    → Making layers entries held folders rows keys i → (node : Node) → AddsNode layers tell visit (slice_index paths i) folders folders'
+        rows
     rows' keys keys' node → held' ≡ held ++ node ∷ [] → Making layers entries held' folders' rows' keys' (i + 1)
-goes_on layers entries tell first paths s held held' folders folders' rows rows' keys keys' i spot lt at m node a push =
-    let h = get_there first i spot lt at in
+goes_on layers entries tell first paths s held held' folders folders' rows rows' keys keys' i visit lt at m node a push =
+    let h = get_there first i visit lt at in
     record {
       level = (let l = ap length push in let v = m.level in omega (arith, length-append held (node ∷ [])));
-      keys_level = level_still layers entries tell (slice_index paths i) spot (s.each i spot h) folders folders' rows rows' keys keys'
+      keys_level = level_still layers entries tell (slice_index paths i) visit (s.each i visit h) folders folders' rows rows' keys keys'
           m.keys_level node a;
       each = λ k n p e f. elim (get_last held node k n (subst (λ x. slice_get x k ≡ Some n) push e)) [
-        | inl g ↦ stays layers entries tell (slice_index paths i) spot (s.each i spot h) folders folders' rows rows' keys keys' m.keys_level
+        | inl g ↦ stays layers entries tell (slice_index paths i) visit (s.each i visit h) folders folders' rows rows' keys keys'
+            m.keys_level
             node a (completed n) p (m.each k n p g f)
         | inr (j, g) ↦
             let k_is : k ≡ i = j ∙ m.level in
-            let z : Some p ≡ Some (spot_place spot) = sym f ∙ ap (slice_get (nodes entries)) k_is
-                ∙ subst (λ ps. slice_get ps i ≡ Some (spot_place spot)) s.places (get_map spot_place first i spot h) in
-            let p_is : spot_place spot ≡ p = cc in
+            let z : Some p ≡ Some (visit_place visit) = sym f ∙ ap (slice_get (nodes entries)) k_is
+                ∙ subst (λ ps. slice_get ps i ≡ Some (visit_place visit)) s.places (get_map visit_place first i visit h) in
+            let p_is : visit_place visit ≡ p = cc in
             subst (λ (x : Node). IsNode layers entries folders' rows' keys' (completed x) p) g
                 (subst (IsNode layers entries folders' rows' keys' (completed node)) p_is
-                  (is_node layers entries tell (slice_index paths i) spot (s.each i spot h) folders folders' rows rows' keys keys'
+                  (is_node layers entries tell (slice_index paths i) visit (s.each i visit h) folders folders' rows rows' keys keys'
                   m.keys_level node a))
       ];
     }
 
 -- past the last first branch all nodes are made
-pub ends : (layers : List (List ℕ)) (entries : List Listed) (tell : Place → ℕ) (first : List (Spot Entry)) (paths : List ℕ)
+pub ends : (layers : List (List ℕ)) (entries : List Listed) (tell : Place → ℕ) (first : List (Visit Entry)) (paths : List ℕ)
     (s : AreSeeds layers entries tell first paths) (held : List Node) (folders : List Folder) (rows : List Line) (keys : List ℕ) (i : ℕ)
     → i ≡ length first → Making layers entries held folders rows keys i → AreMade layers held folders rows keys
 ends layers entries tell first paths s held folders rows keys i e m = (
   entries,
   s.listing,
   record {
-    level = length_map completed held ∙ m.level ∙ e ∙ sym (length_map spot_place first) ∙ ap length s.places;
+    level = length_map completed held ∙ m.level ∙ e ∙ sym (length_map visit_place first) ∙ ap length s.places;
     keys_level = m.keys_level;
     each = λ k node p f g. let x = get_of_map completed held k node f in subst (λ (n : Node). IsNode layers entries folders rows keys n p)
         x.2 (m.each k x.0 p x.1 g);

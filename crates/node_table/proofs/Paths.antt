@@ -6,11 +6,11 @@ use Rattle.std.specs.Prelude.{find}
 use Rattle.std.specs.List.{AllByRecursion}
 use Rattle.std.specs.Option.{option_map}
 use Rattle.std.specs.declared.cmp.Ordering.TheVariants.{Less}
-use Rattle.path_tree.specs.Rows.{Shoot, Rows, prefixed, spread, whole, name_cmp, NamesRise}
+use Rattle.path_tree.specs.Rows.{Subtree, Rows, prefixed, spread, whole, name_cmp, NamesRise}
 use Rattle.path_tree.proofs.Names.{same_or_not, below_differs}
 use Rattle.stack_model.specs.Stack.{Path}
 use Rattle.stack_model.specs.Numbers.{same_name, same_path}
-use Rattle.node_table.specs.Walks.{under, extends, AreApart, IsLocated}
+use Rattle.node_table.specs.Walks.{under, extends, IsApart, IsLocated}
 
 -- a name is told to be the same as itself
 pub same_itself : (n : List ℕ) → same_name n n ≡ true
@@ -82,29 +82,29 @@ module _ {T : Type 0} where
       ∙ ap (λ r. ((top ++ n ∷ []) ++ x.0, x.1) ∷ r) (under_prefixed top n xs)
 
   -- the rows of two lists of branches stand one after the other
-  pub spread_append : (ls bs : List (Shoot T)) → spread (ls ++ bs) ≡ spread ls ++ spread bs
+  pub spread_append : (ls bs : List (Subtree T)) → spread (ls ++ bs) ≡ spread ls ++ spread bs
   spread_append [] bs = refl
   spread_append (s ∷ ls) bs =
       ap (λ r. (s.name ∷ [], s.value) ∷ (prefixed s.name s.below ++ r)) (spread_append ls bs)
       ∙ ap (λ r. (s.name ∷ [], s.value) ∷ r) (sym (append_assoc (prefixed s.name s.below) (spread ls) (spread bs)))
 
   -- two lists of rows that are apart from a path are apart from it together
-  pub apart_append : (top : Path) (xs ys : Rows T) → AreApart top xs → AreApart top ys → AreApart top (xs ++ ys)
+  pub apart_append : (top : Path) (xs ys : Rows T) → IsApart top xs → IsApart top ys → IsApart top (xs ++ ys)
   apart_append top [] ys a b = b
   apart_append top (x ∷ xs) ys a b = (a.0, apart_append top xs ys a.1 b)
 
   -- rows of which none begins with a path have none that begins with a longer one
-  pub apart_more : (top : Path) (n : List ℕ) (xs : Rows T) → AreApart top xs → AreApart (top ++ n ∷ []) xs
+  pub apart_more : (top : Path) (n : List ℕ) (xs : Rows T) → IsApart top xs → IsApart (top ++ n ∷ []) xs
   apart_more top n [] a = tt
   apart_more top n (x ∷ xs) a = (extends_more top n x.0 a.0, apart_more top n xs a.1)
 
-  apart_prefixed : (top : Path) (n m : List ℕ) (xs : Rows T) → n ≢ m → AreApart (top ++ n ∷ []) (under top (prefixed m xs))
+  apart_prefixed : (top : Path) (n m : List ℕ) (xs : Rows T) → n ≢ m → IsApart (top ++ n ∷ []) (under top (prefixed m xs))
   apart_prefixed top n m [] d = tt
   apart_prefixed top n m (x ∷ xs) d = (other_name top n m x.0 d, apart_prefixed top n m xs d)
 
   -- the rows of branches with other names do not begin with this name's path
-  pub apart_spread : (top : Path) (n : List ℕ) (ss : List (Shoot T)) → AllByRecursion (λ s. n ≢ s.name) ss
-      → AreApart (top ++ n ∷ []) (under top (spread ss))
+  pub apart_spread : (top : Path) (n : List ℕ) (ss : List (Subtree T)) → AllByRecursion (λ s. n ≢ s.name) ss
+      → IsApart (top ++ n ∷ []) (under top (spread ss))
   apart_spread top n [] a = tt
   apart_spread top n (s ∷ ss) a = (
     other_name top n s.name [] a.0,
@@ -114,26 +114,26 @@ module _ {T : Type 0} where
   )
 
   -- the branches before one have other names
-  pub before_differs : (ls : List (Shoot T)) (c : Shoot T) (bs : List (Shoot T)) → NamesRise (ls ++ c ∷ bs)
+  pub before_differs : (ls : List (Subtree T)) (c : Subtree T) (bs : List (Subtree T)) → NamesRise (ls ++ c ∷ bs)
       → AllByRecursion (λ s. c.name ≢ s.name) ls
   before_differs [] c bs r = tt
   before_differs (a ∷ ls) c bs r = ((λ e. below_differs a.name c.name (among ls r.0) (sym e)), before_differs ls c bs r.1)
     where
-      among : (ls : List (Shoot T)) → AllByRecursion (λ t. name_cmp a.name t.name ≡ Less) (ls ++ c ∷ bs) → name_cmp a.name c.name ≡ Less
+      among : (ls : List (Subtree T)) → AllByRecursion (λ t. name_cmp a.name t.name ≡ Less) (ls ++ c ∷ bs) → name_cmp a.name c.name ≡ Less
       among [] l = l.0
       among (x ∷ ls) l = among ls l.1
 
   -- the branches after one have other names
-  pub after_differs : (ls : List (Shoot T)) (c : Shoot T) (bs : List (Shoot T)) → NamesRise (ls ++ c ∷ bs)
+  pub after_differs : (ls : List (Subtree T)) (c : Subtree T) (bs : List (Subtree T)) → NamesRise (ls ++ c ∷ bs)
       → AllByRecursion (λ s. c.name ≢ s.name) bs
   after_differs [] c bs r = later bs r.0
     where
-      later : (bs : List (Shoot T)) → AllByRecursion (λ t. name_cmp c.name t.name ≡ Less) bs → AllByRecursion (λ s. c.name ≢ s.name) bs
+      later : (bs : List (Subtree T)) → AllByRecursion (λ t. name_cmp c.name t.name ≡ Less) bs → AllByRecursion (λ s. c.name ≢ s.name) bs
       later [] l = tt
       later (b ∷ bs) l = (below_differs c.name b.name l.0, later bs l.1)
   after_differs (a ∷ ls) c bs r = after_differs ls c bs r.1
 
-  find_at : (top : Path) (before : Rows T) (v : T) (rest : Rows T) → AreApart top before
+  find_at : (top : Path) (before : Rows T) (v : T) (rest : Rows T) → IsApart top before
       → find (λ row. same_path top row.0) (before ++ (top ++ [], v) ∷ rest) ≡ Some (top ++ [], v)
   find_at top [] v rest a = rw (same_top top) refl
   find_at top (x ∷ before) v rest a = rw (not_same top x.0 a.0) (find_at top before v rest a.1)
@@ -145,8 +145,8 @@ module _ {T : Type 0} where
       ∙ sym (append_assoc (a ++ r ∷ b) c (d ++ e) ∙ append_assoc a (r ∷ b) (c ++ (d ++ e)))
 
   -- a child of a located branch is located, after the branch and the children before it
-  pub child_located : (rows : Rows T) (j : ℕ) (s : Shoot T) (above : T) → IsLocated rows j s above
-      → (ls : List (Shoot T)) (c : Shoot T) (bs : List (Shoot T)) → s.below ≡ spread (ls ++ c ∷ bs) → NamesRise (ls ++ c ∷ bs)
+  pub child_located : (rows : Rows T) (j : ℕ) (s : Subtree T) (above : T) → IsLocated rows j s above
+      → (ls : List (Subtree T)) (c : Subtree T) (bs : List (Subtree T)) → s.below ≡ spread (ls ++ c ∷ bs) → NamesRise (ls ++ c ∷ bs)
       → IsLocated rows (j + suc (length (spread ls))) c s.value
   child_located rows j s above l ls c bs e r =
       let top = l.top in

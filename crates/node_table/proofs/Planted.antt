@@ -10,13 +10,13 @@ use Rattle.stack_model.specs.Stack.{Path}
 use Rattle.stack_model.specs.Listing.{Entry as Listed}
 use Rattle.stack_model.specs.Numbers.{Place as ModelPlace, Child, place, same_place, number, children}
 use Rattle.stack_model.specs.Attributes.{is_directory, is_directory_at, data_of}
-use Rattle.path_tree.specs.Rows.{Shoot, Rows, prefixed, spread, whole, NamesRise, IsForest, length_prefixed}
+use Rattle.path_tree.specs.Rows.{Subtree, Rows, prefixed, spread, whole, NamesRise, IsForest, length_prefixed}
 use Rattle.shown_tree.specs.declared.place.Entry.{Entry}
 use Rattle.shown_tree.specs.Trees.{TreeRows, IsTreeOf, listed}
 use Rattle.shown_tree.proofs.Listed.{is_listing}
 use Rattle.stack_table.specs.Readers.{placed}
-use Rattle.node_table.specs.Walks.{Spot, under, IsLocated, AreWalked, spot_size, AreAbove, AddsWalk}
-use Rattle.node_table.specs.Numbering.{spot_place, bare, seen, paths_of, number_among, IsFirstSpot, IsNumbered}
+use Rattle.node_table.specs.Walks.{Visit, under, IsLocated, AreWalked, visit_size, AreAbove, AddsWalk}
+use Rattle.node_table.specs.Numbering.{visit_place, bare, seen, paths_of, number_among, IsFirstVisit, IsNumbered}
 use Rattle.node_table.specs.Building.{line_in, IsPosted, AreFollowing, ArePosts}
 use Rattle.node_table.specs.Seeds.{shown_line, AreSeedlings, IsSeed, AreSomeSeeds}
 use Rattle.node_table.proofs.Paths.{spread_append, child_located}
@@ -47,7 +47,7 @@ under_root : (rows : Rows Entry) → under [] rows ≡ rows
 under_root [] = refl
 under_root (x ∷ rows) = ap (λ r. x ∷ r) (under_root rows)
 
-root_located : (root : Shoot Entry) → IsLocated (whole root) 0 root root.value
+root_located : (root : Subtree Entry) → IsLocated (whole root) 0 root root.value
 root_located root = record {
   top = [];
   before = [];
@@ -79,153 +79,159 @@ there [] k l = absurd (omega arith)
 there (x ∷ xs) zero l = (x, refl)
 there (x ∷ xs) (suc k) l = there xs k (omega arith)
 
-module _ (layers : List (List ℕ)) (t : TreeRows) (is : IsTreeOf 0 layers t) (sound : AllByRecursion IsImage layers) (root : Shoot Entry)
-    (whole_is : t.entries ≡ whole root) (spots : List (Spot Entry)) (walked : AreWalked root root.value spots) (first : List (Spot Entry))
-    (starts paths numbers : List ℕ) (num : IsNumbered spots (length spots) first starts paths numbers) where
-  level : length spots ≡ length t.entries
+module _ (layers : List (List ℕ)) (t : TreeRows) (is : IsTreeOf 0 layers t) (sound : AllByRecursion IsImage layers) (root : Subtree Entry)
+    (whole_is : t.entries ≡ whole root) (visits : List (Visit Entry)) (walked : AreWalked root root.value visits)
+        (first : List (Visit Entry))
+    (starts paths numbers : List ℕ) (num : IsNumbered visits (length visits) first starts paths numbers) where
+  level : length visits ≡ length t.entries
   level = walked.level ∙ ap length (sym whole_is)
 
-  at : (k : ℕ) (spot : Spot Entry) → slice_get spots k ≡ Some spot → IsLocated t.entries k spot.0.now spot.1
-  at k spot e = subst (λ rows. IsLocated rows k spot.0.now spot.1) (sym whole_is) (let n : 0 + k ≡ k = omega arith in
-        subst (λ n. IsLocated (whole root) n spot.0.now spot.1) n (walked.each (whole root) 0 (root_located root) k spot e))
+  at : (k : ℕ) (visit : Visit Entry) → slice_get visits k ≡ Some visit → IsLocated t.entries k visit.0.now visit.1
+  at k visit e = subst (λ rows. IsLocated rows k visit.0.now visit.1) (sym whole_is) (let n : 0 + k ≡ k = omega arith in
+        subst (λ n. IsLocated (whole root) n visit.0.now visit.1) n (walked.each (whole root) 0 (root_located root) k visit e))
 
   abbrev entries : List Listed
   entries = map listed t.entries
 
-  places_are : map place (map listed t.entries) ≡ map place (seen spots (length spots))
-  places_are = places_same t.entries spots level at ∙ sym (ap (λ x. map place (map bare x)) (take_all spots) ∙ bare_places spots)
+  places_are : map place (map listed t.entries) ≡ map place (seen visits (length visits))
+  places_are = places_same t.entries visits level at ∙ sym (ap (λ x. map place (map bare x)) (take_all visits) ∙ bare_places visits)
 
   all_placed : AllByRecursion (λ (r : Path × Entry). IsPlaced layers r.1) t.entries
   all_placed = rows_placed layers t is sound
 
-  numbered : (e : Entry) → number_among spots e.place ≡ number (map listed t.entries) (placed e.place)
+  numbered : (e : Entry) → number_among visits e.place ≡ number (map listed t.entries) (placed e.place)
   unfolding number_among
-  numbered e = ap (λ o. unwrap_or o 0) (number_of_by (seen spots (length spots)) (map listed t.entries) (placed e.place) (sym places_are))
+  numbered e = ap (λ o. unwrap_or o 0) (number_of_by (seen visits (length visits)) (map listed t.entries) (placed e.place) (sym places_are))
 
-  spot_placed : (k : ℕ) (spot : Spot Entry) → slice_get spots k ≡ Some spot → IsPlaced layers spot.0.now.value
-  spot_placed k spot e = let l = at k spot e in all_get (λ (r : Path × Entry). IsPlaced layers r.1) t.entries k (l.top ++ [],
-        spot.0.now.value) all_placed (row_at t.entries k spot.0.now spot.1 l)
+  visit_placed : (k : ℕ) (visit : Visit Entry) → slice_get visits k ≡ Some visit → IsPlaced layers visit.0.now.value
+  visit_placed k visit e = let l = at k visit e in all_get (λ (r : Path × Entry). IsPlaced layers r.1) t.entries k (l.top ++ [],
+        visit.0.now.value) all_placed (row_at t.entries k visit.0.now visit.1 l)
 
-  children_placed : (k : ℕ) (spot : Spot Entry) → slice_get spots k ≡ Some spot → (cs : List (Shoot Entry)) → spot.0.now.below ≡ spread cs
-      → AllByRecursion (λ (c : Shoot Entry). IsPlaced layers c.value) cs
-  children_placed k spot e cs below =
-      let l = at k spot e in
+  children_placed : (k : ℕ) (visit : Visit Entry) → slice_get visits k ≡ Some visit → (cs : List (Subtree Entry))
+      → visit.0.now.below ≡ spread cs
+      → AllByRecursion (λ (c : Subtree Entry). IsPlaced layers c.value) cs
+  children_placed k visit e cs below =
+      let l = at k visit e in
       let P : Path × Entry → Type 0 = λ (r : Path × Entry). IsPlaced layers r.1 in
-      let row : Path × Entry = (l.top ++ [], spot.0.now.value) in
-      let s = seeded.split t.entries spots level at k spot.0.now spot.1 l ∙ ap (λ b. l.before ++ row ∷ (under l.top b ++ l.after)) below in
+      let row : Path × Entry = (l.top ++ [], visit.0.now.value) in
+      let s = seeded.split t.entries visits level at k visit.0.now visit.1 l
+          ∙ ap (λ b. l.before ++ row ∷ (under l.top b ++ l.after)) below in
       let tail = all_back P l.before (row ∷ (under l.top (spread cs) ++ l.after)) (subst (AllByRecursion P) s all_placed) in
       go l.top cs (all_front P (under l.top (spread cs)) l.after tail.1)
     where
-      go : (top : Path) (cs : List (Shoot Entry)) → AllByRecursion (λ (r : Path × Entry). IsPlaced layers r.1) (under top (spread cs))
-          → AllByRecursion (λ (c : Shoot Entry). IsPlaced layers c.value) cs
+      go : (top : Path) (cs : List (Subtree Entry)) → AllByRecursion (λ (r : Path × Entry). IsPlaced layers r.1) (under top (spread cs))
+          → AllByRecursion (λ (c : Subtree Entry). IsPlaced layers c.value) cs
       go top [] a = tt
       go top (c ∷ cs) a = (a.0, go top cs (all_back (λ (r : Path × Entry). IsPlaced layers r.1) (under top (prefixed c.name c.below))
             (under top (spread cs)) (subst (AllByRecursion (λ (r : Path × Entry). IsPlaced layers r.1))
             (seeded.under_append top (prefixed c.name c.below) (spread cs)) a.1)))
 
-  seedlings : (k : ℕ) (spot : Spot Entry) (f : IsFirstSpot spots spot) (cs : List (Shoot Entry)) → spot.0.now.below ≡ spread cs
-      → IsForest cs → AreSeedlings layers (map listed t.entries) (number_among spots) (spot_place spot) cs
-  seedlings k spot f cs below forest =
-      let c = seeded.children_are t.entries spots level at spot f cs below forest in
-      let p = children_placed f.at spot f.is cs below in
+  seedlings : (k : ℕ) (visit : Visit Entry) (f : IsFirstVisit visits visit) (cs : List (Subtree Entry)) → visit.0.now.below ≡ spread cs
+      → IsForest cs → AreSeedlings layers (map listed t.entries) (number_among visits) (visit_place visit) cs
+  seedlings k visit f cs below forest =
+      let c = seeded.children_are t.entries visits level at visit f cs below forest in
+      let p = children_placed f.at visit f.is cs below in
       record {
         rows_are = lines cs p ∙ ap (map (shown_line (map listed t.entries))) (sym c);
-        count_is = sym (counted (λ (c : Shoot Entry). is_directory c.value.kind) cs) ∙ kinds cs p
+        count_is = sym (counted (λ (c : Subtree Entry). is_directory c.value.kind) cs) ∙ kinds cs p
             ∙ counted (λ (c : Child). is_directory_at layers c.place) (map child_of cs)
             ∙ ap (count_by (λ (c : Child). is_directory_at layers c.place)) (sym c);
       }
     where
-      lines : (cs : List (Shoot Entry)) → AllByRecursion (λ (c : Shoot Entry). IsPlaced layers c.value) cs
-          → map (line_in (number_among spots)) cs ≡ map (shown_line (map listed t.entries)) (map child_of cs)
+      lines : (cs : List (Subtree Entry)) → AllByRecursion (λ (c : Subtree Entry). IsPlaced layers c.value) cs
+          → map (line_in (number_among visits)) cs ≡ map (shown_line (map listed t.entries)) (map child_of cs)
       lines [] a = refl
-      lines (c ∷ cs) a = ap (λ (n : ℕ). record { number = n; name = c.name } ∷ map (line_in (number_among spots)) cs) (numbered c.value)
+      lines (c ∷ cs) a = ap (λ (n : ℕ). record { number = n; name = c.name } ∷ map (line_in (number_among visits)) cs) (numbered c.value)
           ∙ ap (λ r. record { number = number (map listed t.entries) (placed c.value.place); name = c.name } ∷ r) (lines cs a.1)
 
-      kinds : (cs : List (Shoot Entry)) → AllByRecursion (λ (c : Shoot Entry). IsPlaced layers c.value) cs
-          → count (λ (c : Shoot Entry). is_directory c.value.kind) cs ≡ count (λ (c : Child). is_directory_at layers c.place)
+      kinds : (cs : List (Subtree Entry)) → AllByRecursion (λ (c : Subtree Entry). IsPlaced layers c.value) cs
+          → count (λ (c : Subtree Entry). is_directory c.value.kind) cs ≡ count (λ (c : Child). is_directory_at layers c.place)
           (map child_of cs)
       kinds [] a = refl
-      kinds (c ∷ cs) a = ap (λ b. cond b (1 + count (λ (c : Shoot Entry). is_directory c.value.kind) cs)
-            (count (λ (c : Shoot Entry). is_directory c.value.kind) cs)) (ap is_directory (kind_placed layers c.value a.0))
+      kinds (c ∷ cs) a = ap (λ b. cond b (1 + count (λ (c : Subtree Entry). is_directory c.value.kind) cs)
+            (count (λ (c : Subtree Entry). is_directory c.value.kind) cs)) (ap is_directory (kind_placed layers c.value a.0))
           ∙ ap (λ n. cond (is_directory_at layers (placed c.value.place)) (1 + n) n) (kinds cs a.1)
 
-  seed : (k : ℕ) (spot : Spot Entry) → slice_get first k ≡ Some spot → IsSeed layers (map listed t.entries) (number_among spots)
-      (slice_index paths k) spot
-  seed k spot e =
-      let f = num.each k spot e in
-      let v = spot.0.now.value in
-      let p = spot_placed f.at spot f.is in
+  seed : (k : ℕ) (visit : Visit Entry) → slice_get first k ≡ Some visit → IsSeed layers (map listed t.entries) (number_among visits)
+      (slice_index paths k) visit
+  seed k visit e =
+      let f = num.each k visit e in
+      let v = visit.0.now.value in
+      let p = visit_placed f.at visit f.is in
       record {
         seat = record { image = p.image; is = p.is; given = p.given };
         data_is = λ image s. let z : Some p.image ≡ Some image = sym p.is ∙ s in let q : p.image ≡ image = cc in
-            subst (λ x. data_in x v.place.header ≡ data_of layers (spot_place spot)) q (data_placed layers v p);
+            subst (λ x. data_in x v.place.header ≡ data_of layers (visit_place visit)) q (data_placed layers v p);
         kind_is = kind_placed layers v p;
-        parent_is = numbered spot.1 ∙ ap (number (map listed t.entries)) (sym (seeded.parent_is t.entries spots level at spot f));
-        below = seedlings k spot f;
-        paths_are = λ other. num.counted k spot e
-            ∙ ap (λ c. min c (2 ^ 32 - 1)) (paths_by (seen spots (length spots)) (map listed t.entries) (spot_place spot) (sym places_are))
+        parent_is = numbered visit.1 ∙ ap (number (map listed t.entries)) (sym (seeded.parent_is t.entries visits level at visit f));
+        below = seedlings k visit f;
+        paths_are = λ other. num.counted k visit e
+            ∙ ap (λ c. min c (2 ^ 32 - 1)) (paths_by (seen visits (length visits)) (map listed t.entries) (visit_place visit)
+                  (sym places_are))
             ∙ ap (λ b. min (cond b (2 + count_by (λ (c : Child). is_directory_at layers c.place)
-              (children (map listed t.entries) (spot_place spot))) (paths_of (map listed t.entries) (spot_place spot))) (2 ^ 32 - 1))
+              (children (map listed t.entries) (visit_place visit))) (paths_of (map listed t.entries) (visit_place visit))) (2 ^ 32 - 1))
             (sym other);
       }
 
   -- the first branches of all places, by number, agree with the listing of the layers
-  pub seeds : AreSomeSeeds layers (number_among spots) first paths
+  pub seeds : AreSomeSeeds layers (number_among visits) first paths
   seeds = (
     map listed t.entries,
     record {
       listing = is_listing layers t is;
       level = num.level;
-      places = num.places ∙ nodes_by (seen spots (length spots)) (map listed t.entries) (sym places_are);
+      places = num.places ∙ nodes_by (seen visits (length visits)) (map listed t.entries) (sym places_are);
       each = seed;
     },
   )
 
-  -- where the numbers and sizes of spots stand
-  module _ (places sizes : List ℕ) (stand : AreAbove spots spots places) (sized : sizes ≡ map spot_size spots) where
-    numbers_level : length numbers ≡ length spots
+  -- where the numbers and sizes of visits stand
+  module _ (places sizes : List ℕ) (stand : AreAbove visits visits places) (sized : sizes ≡ map visit_size visits) where
+    numbers_level : length numbers ≡ length visits
     numbers_level = num.numbers_level
 
-    tells : (k : ℕ) (spot : Spot Entry) → slice_get spots k ≡ Some spot → slice_index numbers k ≡ number_among spots spot.0.now.value.place
+    tells : (k : ℕ) (visit : Visit Entry) → slice_get visits k ≡ Some visit → slice_index numbers k
+        ≡ number_among visits visit.0.now.value.place
     unfolding number_among
-    tells k spot e = ap (λ o. unwrap_or o 0) (sym (num.known k spot (below spots k spot e) e))
+    tells k visit e = ap (λ o. unwrap_or o 0) (sym (num.known k visit (below visits k visit e) e))
 
-    size_at : (k : ℕ) (spot : Spot Entry) → slice_get spots k ≡ Some spot → (k < length sizes) × (slice_index sizes k ≡ spot_size spot)
-    size_at k spot e = (rw sized (go spots k spot e).0, rw sized (go spots k spot e).1)
+    size_at : (k : ℕ) (visit : Visit Entry) → slice_get visits k ≡ Some visit → (k < length sizes)
+        × (slice_index sizes k ≡ visit_size visit)
+    size_at k visit e = (rw sized (go visits k visit e).0, rw sized (go visits k visit e).1)
       where
-        go : (xs : List (Spot Entry)) (k : ℕ) (spot : Spot Entry) → slice_get xs k ≡ Some spot → (k < length (map spot_size xs))
-            × (slice_index (map spot_size xs) k ≡ spot_size spot)
-        go [] k spot e = absurd (cc)
-        go (x ∷ xs) zero spot e = let f : x ≡ spot = cc in (omega arith, ap (λ (y : Spot Entry). spot_size y) f)
-        go (x ∷ xs) (suc k) spot e = let r = go xs k spot e in (let l = r.0 in omega arith, r.1)
+        go : (xs : List (Visit Entry)) (k : ℕ) (visit : Visit Entry) → slice_get xs k ≡ Some visit → (k < length (map visit_size xs))
+            × (slice_index (map visit_size xs) k ≡ visit_size visit)
+        go [] k visit e = absurd (cc)
+        go (x ∷ xs) zero visit e = let f : x ≡ visit = cc in (omega arith, ap (λ (y : Visit Entry). visit_size y) f)
+        go (x ∷ xs) (suc k) visit e = let r = go xs k visit e in (let l = r.0 in omega arith, r.1)
 
     -- a branch that is located has its number and size there
-    posted : (j : ℕ) (c : Shoot Entry) (above : Entry) → IsLocated t.entries j c above → IsPosted (number_among spots) numbers sizes j c
+    posted : (j : ℕ) (c : Subtree Entry) (above : Entry) → IsLocated t.entries j c above → IsPosted (number_among visits) numbers sizes j c
     posted j c above l =
         let last = ends_within t.entries j c above l in
         let nl = numbers_level in
         let sl = level in
-        let x = there spots j (omega arith) in
+        let x = there visits j (omega arith) in
         let l' = at j x.0 x.1 in
         let size = size_at j x.0 x.1 in
         record {
           within = omega arith;
           sized = size.0;
-          number_is = tells j x.0 x.1 ∙ ap (λ (e : Entry). number_among spots e.place)
+          number_is = tells j x.0 x.1 ∙ ap (λ (e : Entry). number_among visits e.place)
               (same_value t.entries j x.0.0.now c x.0.1 above l' l);
           size_is = size.1 ∙ same_size t.entries j x.0.0.now c x.0.1 above l' l;
           ends = omega arith;
         }
 
-    following : (j : ℕ) (s : Shoot Entry) (above : Entry) → IsLocated t.entries j s above → (ls cs : List (Shoot Entry))
-        → s.below ≡ spread (ls ++ cs) → NamesRise (ls ++ cs) → AreFollowing (number_among spots) numbers sizes
+    following : (j : ℕ) (s : Subtree Entry) (above : Entry) → IsLocated t.entries j s above → (ls cs : List (Subtree Entry))
+        → s.below ≡ spread (ls ++ cs) → NamesRise (ls ++ cs) → AreFollowing (number_among visits) numbers sizes
         (j + suc (length (spread ls))) cs
     following j s above l ls [] below rise = tt
     following j s above l ls (c ∷ cs) below rise =
         let here = child_located t.entries j s above l ls c cs below rise in
         let again = append_assoc ls (c ∷ []) cs in
         let rest = following j s above l (ls ++ c ∷ []) cs (below ∙ ap spread (sym again)) (subst NamesRise (sym again) rise) in
-        (posted (j + suc (length (spread ls))) c s.value here, subst (λ n. AreFollowing (number_among spots) numbers sizes n cs) longer
+        (posted (j + suc (length (spread ls))) c s.value here, subst (λ n. AreFollowing (number_among visits) numbers sizes n cs) longer
               rest)
       where
         longer : j + suc (length (spread (ls ++ c ∷ []))) ≡ j + suc (length (spread ls)) + length (whole c)
@@ -237,40 +243,40 @@ module _ (layers : List (List ℕ)) (t : TreeRows) (is : IsTreeOf 0 layers t) (s
             omega arith
 
     -- they stand where starts say, with the numbers of their parents and children at hand
-    pub posts : ArePosts (number_among spots) spots numbers places sizes first starts
+    pub posts : ArePosts (number_among visits) visits numbers places sizes first starts
     posts = record {
       level = num.starts_level;
       there = num.starts_are;
-      above = λ k spot e.
+      above = λ k visit e.
           let p = slice_index starts k in
-          let s = stand.each p spot (num.starts_are k spot e) in
-          let l = below spots p spot (num.starts_are k spot e) in
+          let s = stand.each p visit (num.starts_are k visit e) in
+          let l = below visits p visit (num.starts_are k visit e) in
           let pl = stand.level in
           let nl = numbers_level in
-          let m = below spots (slice_index places p) s.spot s.is in
+          let m = below visits (slice_index places p) s.visit s.is in
           record {
             placed = omega arith;
             within = omega arith;
-            number_is = tells (slice_index places p) s.spot s.is ∙ ap (λ (e : Entry). number_among spots e.place) s.value_is;
+            number_is = tells (slice_index places p) s.visit s.is ∙ ap (λ (e : Entry). number_among visits e.place) s.value_is;
           };
-      children = λ k spot e.
+      children = λ k visit e.
           let p = slice_index starts k in
-          let l = below spots p spot (num.starts_are k spot e) in
+          let l = below visits p visit (num.starts_are k visit e) in
           let nl = numbers_level in
           record {
             within = omega arith;
-            each = λ cs under forest. following p spot.0.now spot.1 (at p spot (num.starts_are k spot e)) [] cs under forest.names;
+            each = λ cs under forest. following p visit.0.now visit.1 (at p visit (num.starts_are k visit e)) [] cs under forest.names;
           };
     }
 
 -- a walk that began with nothing
-pub walked_all : (root : Shoot Entry) (above : Entry) (old out : List (Spot Entry)) (places places' sizes sizes' : List ℕ) → old ≡ []
+pub walked_all : (root : Subtree Entry) (above : Entry) (old out : List (Visit Entry)) (places places' sizes sizes' : List ℕ) → old ≡ []
     → places ≡ [] → sizes ≡ [] → above ≡ root.value → AddsWalk root above old out places places' sizes sizes'
-    → AreWalked root root.value out × AreAbove out out places' × (sizes' ≡ map spot_size out)
+    → AreWalked root root.value out × AreAbove out out places' × (sizes' ≡ map visit_size out)
 walked_all root above old out places places' sizes sizes' none no_places no_sizes same a =
-    let is : out ≡ a.spots = a.is ∙ ap (λ x. x ++ a.spots) none in (
+    let is : out ≡ a.visits = a.is ∙ ap (λ x. x ++ a.visits) none in (
       subst (λ v. AreWalked root v out) same (subst (AreWalked root above) (sym is) a.walked),
-      subst (λ (x : List (Spot Entry)). AreAbove out x places') (sym is)
-          (subst (AreAbove out a.spots) (sym (a.places_are ∙ ap (λ x. x ++ a.more) no_places)) a.stand),
-      a.sizes_are ∙ ap (λ x. x ++ map spot_size a.spots) no_sizes ∙ ap (map spot_size) (sym is),
+      subst (λ (x : List (Visit Entry)). AreAbove out x places') (sym is)
+          (subst (AreAbove out a.visits) (sym (a.places_are ∙ ap (λ x. x ++ a.more) no_places)) a.stand),
+      a.sizes_are ∙ ap (λ x. x ++ map visit_size a.visits) no_sizes ∙ ap (map visit_size) (sym is),
     )

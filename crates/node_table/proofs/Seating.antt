@@ -9,7 +9,7 @@ use Rattle.std.specs.Ordering.{is_lt, nat_cmp, ordering_then}
 use Rattle.std.proofs.lemmas.Bool.{cases_order}
 use Rattle.std.proofs.lemmas.Bool.Decides.{nat_tests}
 use Rattle.std.proofs.lemmas.List.Sorted.{All-permutation, Contains-permutation}
-use Rattle.lone_keys.specs.Once.{IsOnce}
+use Rattle.equal_keys.specs.Once.{IsOnce}
 use Rattle.node_table.specs.Firsts.{AreSeats, AreThemselves, IsFirstOf, AreFirsts}
 
 -- of the first keys those that may stand at other places too have seats

@@ -1,4 +1,4 @@
--- The branches of a stack's tree agree with the listing of its layers. Rows and spots have the same
+-- The branches of a stack's tree agree with the listing of its layers. Rows and visits have the same
 -- places in the same order (places_same); where a place's first branch stands among the rows gives
 -- what the listing says of the place: path_is, parent_is and children_are.
 use Rattle.std.proofs.Common.{◌≡◌, ◌∙◌, sym, ap, subst, ℕ, zero, suc, ◌-◌, inl, inr, List, [], ◌∷◌, ◌++◌, length, take, map, refl, arith, append_assoc, Bool, true, false, Option, Some, None}
@@ -11,12 +11,12 @@ use Rattle.std.specs.declared.cmp.Ordering.TheVariants.{Less}
 use Rattle.stack_model.specs.Stack.{Path}
 use Rattle.stack_model.specs.Listing.{Entry as Listed, IsAmong}
 use Rattle.stack_model.specs.Numbers.{Place as ModelPlace, Child, place, same_place, same_name, same_path, noted, nodes, number_of, path_of, parent, name_below, child_in, children}
-use Rattle.path_tree.specs.Rows.{Shoot, Rows, prefixed, spread, whole, IsForest, IsRising, name_cmp}
+use Rattle.path_tree.specs.Rows.{Subtree, Rows, prefixed, spread, whole, IsForest, IsRising, name_cmp}
 use Rattle.shown_tree.specs.declared.place.Entry.{Entry}
 use Rattle.shown_tree.specs.Trees.{listed}
 use Rattle.stack_table.specs.Readers.{placed}
-use Rattle.node_table.specs.Walks.{Spot, under, extends, AreApart, IsLocated}
-use Rattle.node_table.specs.Numbering.{spot_place, bare, seen, IsFirstSpot}
+use Rattle.node_table.specs.Walks.{Visit, under, extends, IsApart, IsLocated}
+use Rattle.node_table.specs.Numbering.{visit_place, bare, seen, IsFirstVisit}
 use Rattle.node_table.proofs.Paths.{same_itself as name_itself}
 use Rattle.node_table.proofs.Counting.{not_among, same_itself as place_itself}
 
@@ -74,7 +74,7 @@ abbrev located_place : Path × Entry → ModelPlace
 located_place r = place (listed r)
 
 -- the row of a branch that is located
-pub row_at : (rows : Rows Entry) (j : ℕ) (s : Shoot Entry) (above : Entry) (l : IsLocated rows j s above)
+pub row_at : (rows : Rows Entry) (j : ℕ) (s : Subtree Entry) (above : Entry) (l : IsLocated rows j s above)
     → slice_get rows j ≡ Some (l.top ++ [], s.value)
 row_at rows j s above l = subst (λ n. slice_get rows n ≡ Some (l.top ++ [], s.value)) l.at
     (subst (λ x. slice_get x (length l.before) ≡ Some (l.top ++ [], s.value))
@@ -84,24 +84,24 @@ row_at rows j s above l = subst (λ n. slice_get rows n ≡ Some (l.top ++ [], s
     there [] = refl
     there (x ∷ before) = there before
 
--- the rows of a walk have the places of its spots
-pub places_same : (rows : Rows Entry) (spots : List (Spot Entry)) → length spots ≡ length rows
-    → ((k : ℕ) (spot : Spot Entry) → slice_get spots k ≡ Some spot → IsLocated rows k spot.0.now spot.1) → map place (map listed rows)
-    ≡ map spot_place spots
-places_same rows spots level at = ext (map place (map listed rows)) (map spot_place spots) (length_map place (map listed rows)
-      ∙ length_map listed rows ∙ sym level ∙ sym (length_map spot_place spots)) one
+-- the rows of a walk have the places of its visits
+pub places_same : (rows : Rows Entry) (visits : List (Visit Entry)) → length visits ≡ length rows
+    → ((k : ℕ) (visit : Visit Entry) → slice_get visits k ≡ Some visit → IsLocated rows k visit.0.now visit.1) → map place (map listed rows)
+    ≡ map visit_place visits
+places_same rows visits level at = ext (map place (map listed rows)) (map visit_place visits) (length_map place (map listed rows)
+      ∙ length_map listed rows ∙ sym level ∙ sym (length_map visit_place visits)) one
   where
-    one : (k : ℕ) (y : ModelPlace) → slice_get (map spot_place spots) k ≡ Some y → slice_get (map place (map listed rows)) k ≡ Some y
+    one : (k : ℕ) (y : ModelPlace) → slice_get (map visit_place visits) k ≡ Some y → slice_get (map place (map listed rows)) k ≡ Some y
     one k y e =
-        let x = get_of_map spot_place spots k y e in
+        let x = get_of_map visit_place visits k y e in
         let l = at k x.0 x.1 in
         get_map place (map listed rows) k (listed (l.top ++ [], x.0.0.now.value)) (get_map listed rows k (l.top ++ [], x.0.0.now.value)
               (row_at rows k x.0.0.now x.0.1 l)) ∙ ap Some x.2
 
--- entries made of spots have the spots' places
-pub bare_places : (spots : List (Spot Entry)) → map place (map bare spots) ≡ map spot_place spots
+-- entries made of visits have the visits' places
+pub bare_places : (visits : List (Visit Entry)) → map place (map bare visits) ≡ map visit_place visits
 bare_places [] = refl
-bare_places (s ∷ spots) = ap (λ r. spot_place s ∷ r) (bare_places spots)
+bare_places (s ∷ visits) = ap (λ r. visit_place s ∷ r) (bare_places visits)
 
 -- entries with the same places have the same nodes
 pub nodes_by : (es fs : List Listed) → map place es ≡ map place fs → nodes es ≡ nodes fs
@@ -161,10 +161,10 @@ filter_append {Y = Y} f (x ∷ xs) ys = go (f x) (filter_append f xs ys)
     go (Some y) e = ap (λ r. y ∷ r) e
 
 -- a child as the listing has it
-abbrev pub child_of : Shoot Entry → Child
+abbrev pub child_of : Subtree Entry → Child
 child_of c = record { name = c.name; place = placed c.value.place }
 
-none_apart : (top : Path) (xs : Rows Entry) → AreApart top xs → filter_map (child_in top) (map listed xs) ≡ []
+none_apart : (top : Path) (xs : Rows Entry) → IsApart top xs → filter_map (child_in top) (map listed xs) ≡ []
 none_apart top [] a = refl
 none_apart top (x ∷ xs) a = ap (λ o. cons_option (option_map (λ n. record { name = n; place = place (listed x) }) o)
       (filter_map (child_in top) (map listed xs))) (below_none top x.0 a.0) ∙ none_apart top xs a.1
@@ -188,7 +188,7 @@ pub under_append : (top : Path) (xs ys : Rows Entry) → under top (xs ++ ys) �
 under_append top xs ys = map_append (λ (row : Path × Entry). (top ++ row.0, row.1)) xs ys
 
 -- of the rows of branches below a path, the children of the path are the branches
-pub children_under : (top : Path) (cs : List (Shoot Entry)) → AllByRecursion IsRising cs
+pub children_under : (top : Path) (cs : List (Subtree Entry)) → AllByRecursion IsRising cs
     → filter_map (child_in top) (map listed (under top (spread cs))) ≡ map child_of cs
 children_under top [] a = refl
 children_under top (c ∷ cs) a =
@@ -201,73 +201,75 @@ children_under top (c ∷ cs) a =
     ∙ ap (λ x. x ++ filter_map (child_in top) (map listed (under top (spread cs)))) (none_long top c.name c.below a.0.rises.0)
     ∙ children_under top cs a.1)
 
-module _ (rows : Rows Entry) (spots : List (Spot Entry)) (level : length spots ≡ length rows) (at : (k : ℕ) (spot : Spot Entry)
-      → slice_get spots k ≡ Some spot → IsLocated rows k spot.0.now spot.1) where
+module _ (rows : Rows Entry) (visits : List (Visit Entry)) (level : length visits ≡ length rows) (at : (k : ℕ) (visit : Visit Entry)
+      → slice_get visits k ≡ Some visit → IsLocated rows k visit.0.now visit.1) where
   -- the entries of the rows, as a listing has them
   pub entries : List Listed
   entries = map listed rows
 
   -- the rows are those before a located branch, its own, those below it and those after
-  pub split : (j : ℕ) (s : Shoot Entry) (above : Entry) (l : IsLocated rows j s above) → rows ≡ l.before ++ (l.top ++ [], s.value) ∷
+  pub split : (j : ℕ) (s : Subtree Entry) (above : Entry) (l : IsLocated rows j s above) → rows ≡ l.before ++ (l.top ++ [], s.value) ∷
       (under l.top s.below ++ l.after)
   split j s above l = l.is ∙ append_assoc l.before (under l.top (whole s)) l.after
 
-  -- the places before a branch are those of the spots before it
-  places_before : (j : ℕ) (s : Shoot Entry) (above : Entry) (l : IsLocated rows j s above) → map place (map listed l.before)
-      ≡ map place (seen spots j)
+  -- the places before a branch are those of the visits before it
+  places_before : (j : ℕ) (s : Subtree Entry) (above : Entry) (l : IsLocated rows j s above) → map place (map listed l.before)
+      ≡ map place (seen visits j)
   places_before j s above l =
       sym (ap (λ x. map place (map listed x)) front)
       ∙ sym (ap (map place) (take_map listed j rows)) ∙ sym (take_map place j (map listed rows))
-      ∙ ap (take j) (places_same rows spots level at)
-      ∙ take_map spot_place j spots ∙ sym (bare_places (take j spots))
+      ∙ ap (take j) (places_same rows visits level at)
+      ∙ take_map visit_place j visits ∙ sym (bare_places (take j visits))
     where
       front : take j rows ≡ l.before
       front = ap (take j) (split j s above l) ∙ subst (λ n. take n (l.before ++ (l.top ++ [], s.value) ∷ (under l.top s.below ++ l.after))
             ≡ l.before) l.at (take_front l.before ((l.top ++ [], s.value) ∷ (under l.top s.below ++ l.after)))
 
   -- the path of a place is that of the first branch with the place
-  pub path_is : (spot : Spot Entry) (f : IsFirstSpot spots spot) → path_of (map listed rows) (spot_place spot) ≡ (at f.at spot f.is).top
-  path_is spot f =
-      let l = at f.at spot f.is in
-      let s = spot.0.now in
-      let p = spot_place spot in
+  pub path_is : (visit : Visit Entry) (f : IsFirstVisit visits visit) → path_of (map listed rows) (visit_place visit)
+      ≡ (at f.at visit f.is).top
+  path_is visit f =
+      let l = at f.at visit f.is in
+      let s = visit.0.now in
+      let p = visit_place visit in
       let e : Listed = listed (l.top ++ [], s.value) in
-      let none : number_of (map listed l.before) p ≡ None = number_of_by (map listed l.before) (seen spots f.at) p
-          (places_before f.at s spot.1 l) ∙ f.new in
+      let none : number_of (map listed l.before) p ≡ None = number_of_by (map listed l.before) (seen visits f.at) p
+          (places_before f.at s visit.1 l) ∙ f.new in
       let found : find (λ (e : Listed). same_place p (place e)) (map listed rows) ≡ Some e =
-      ap (λ x. find (λ (e : Listed). same_place p (place e)) x) (ap (map listed) (split f.at s spot.1 l)
+      ap (λ x. find (λ (e : Listed). same_place p (place e)) x) (ap (map listed) (split f.at s visit.1 l)
             ∙ map_append listed l.before ((l.top ++ [], s.value) ∷ (under l.top s.below ++ l.after)))
       ∙ find_past p (map listed l.before) (map listed (under l.top s.below ++ l.after)) e
           (λ g a. not_among (map listed l.before) p none g a) (place_itself p) in
       ap (λ o. option_map_or (λ (e : Listed). e.path) o []) found ∙ nil_right l.top
 
   -- the parent of a place is the place of the branch above its first branch
-  pub parent_is : (spot : Spot Entry) (f : IsFirstSpot spots spot) → parent (map listed rows) (spot_place spot) ≡ placed spot.1.place
+  pub parent_is : (visit : Visit Entry) (f : IsFirstVisit visits visit) → parent (map listed rows) (visit_place visit) ≡ placed visit.1.place
   unfolding parent
-  parent_is spot f =
-      let l = at f.at spot f.is in
+  parent_is visit f =
+      let l = at f.at visit f.is in
       ap (λ (q : Path). option_map_or place (find (λ (e : Listed). same_path (take (length q - 1) q) e.path) (map listed rows))
-            (spot_place spot)) (path_is spot f)
-      ∙ ap (λ o. option_map_or place o (spot_place spot)) (find_map (same_path (take (length l.top - 1) l.top)) rows)
+            (visit_place visit)) (path_is visit f)
+      ∙ ap (λ o. option_map_or place o (visit_place visit)) (find_map (same_path (take (length l.top - 1) l.top)) rows)
       ∙ above (find (λ (r : Path × Entry). same_path (take (length l.top - 1) l.top) r.0) rows) l.above_is
     where
-      above : (o : Option (Path × Entry)) → option_map (λ r. r.1) o ≡ Some spot.1 → option_map_or place (option_map listed o)
-          (spot_place spot) ≡ placed spot.1.place
+      above : (o : Option (Path × Entry)) → option_map (λ r. r.1) o ≡ Some visit.1 → option_map_or place (option_map listed o)
+          (visit_place visit) ≡ placed visit.1.place
       above None e = absurd (cc)
-      above (Some r) e = let g : r.1 ≡ spot.1 = cc in ap (λ (v : Entry). placed v.place) g
+      above (Some r) e = let g : r.1 ≡ visit.1 = cc in ap (λ (v : Entry). placed v.place) g
 
   -- the children of a place are those of its first branch
-  pub children_are : (spot : Spot Entry) (f : IsFirstSpot spots spot) (cs : List (Shoot Entry)) → spot.0.now.below ≡ spread cs → IsForest cs
-      → children (map listed rows) (spot_place spot) ≡ map child_of cs
+  pub children_are : (visit : Visit Entry) (f : IsFirstVisit visits visit) (cs : List (Subtree Entry)) → visit.0.now.below ≡ spread cs
+      → IsForest cs
+      → children (map listed rows) (visit_place visit) ≡ map child_of cs
   unfolding children
-  children_are spot f cs below forest =
-      let l = at f.at spot f.is in
-      let s = spot.0.now in
+  children_are visit f cs below forest =
+      let l = at f.at visit f.is in
+      let s = visit.0.now in
       let top = l.top in
       let row : Path × Entry = (l.top ++ [], s.value) in
       let mine = under l.top (spread cs) in
-      ap (λ (q : Path). filter_map (child_in q) (map listed rows)) (path_is spot f)
-      ∙ ap (λ x. filter_map (child_in top) (map listed x)) (split f.at s spot.1 l
+      ap (λ (q : Path). filter_map (child_in q) (map listed rows)) (path_is visit f)
+      ∙ ap (λ x. filter_map (child_in top) (map listed x)) (split f.at s visit.1 l
             ∙ ap (λ b. l.before ++ row ∷ (under l.top b ++ l.after)) below)
       ∙ ap (filter_map (child_in top)) (map_append listed l.before (row ∷ (mine ++ l.after)))
       ∙ filter_append (child_in top) (map listed l.before) (map listed (row ∷ (mine ++ l.after)))

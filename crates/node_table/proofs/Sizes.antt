@@ -4,9 +4,9 @@
 use Rattle.std.proofs.Common.{◌≡◌, ◌∙◌, sym, ap, ℕ, suc, ◌+◌, ◌≤◌, [], ◌∷◌, ◌++◌, length, refl, arith, length-append, Bool, true, false, Some, cond}
 use Rattle.std.specs.Prelude.{slice_get}
 use Rattle.stack_model.specs.Stack.{Path}
-use Rattle.path_tree.specs.Rows.{Shoot, Rows, whole}
+use Rattle.path_tree.specs.Rows.{Subtree, Rows, whole}
 use Rattle.shown_tree.specs.declared.place.Entry.{Entry}
-use Rattle.node_table.specs.Walks.{under, extends, AreApart, IsLocated}
+use Rattle.node_table.specs.Walks.{under, extends, IsApart, IsLocated}
 use Rattle.node_table.proofs.Paths.{same_itself}
 use Rattle.node_table.proofs.Seeded.{row_at, nil_right}
 
@@ -24,7 +24,7 @@ count_append top (x ∷ xs) ys = go (extends top x.0) (count_append top xs ys)
     go true e = omega arith
     go false e = e
 
-count_apart : (top : Path) (xs : Rows Entry) → AreApart top xs → count top xs ≡ 0
+count_apart : (top : Path) (xs : Rows Entry) → IsApart top xs → count top xs ≡ 0
 count_apart top [] a = refl
 count_apart top (x ∷ xs) a = rw a.0 (count_apart top xs a.1)
 
@@ -36,7 +36,7 @@ count_under : (top : Path) (xs : Rows Entry) → count top (under top xs) ≡ le
 count_under top [] = refl
 count_under top (x ∷ xs) = rw (extends_on top x.0) (let e = count_under top xs in omega arith)
 
-rows_below : (rows : Rows Entry) (j : ℕ) (s : Shoot Entry) (above : Entry) (l : IsLocated rows j s above)
+rows_below : (rows : Rows Entry) (j : ℕ) (s : Subtree Entry) (above : Entry) (l : IsLocated rows j s above)
     → count l.top rows ≡ length (whole s)
 rows_below rows j s above l =
     ap (count l.top) l.is ∙ count_append l.top (l.before ++ under l.top (whole s)) l.after
@@ -47,7 +47,7 @@ rows_below rows j s above l =
     sums a b c e f g = omega arith
 
 -- branches that stand at one place have as many rows below them, and one value
-module _ (rows : Rows Entry) (j : ℕ) (s s' : Shoot Entry) (above above' : Entry) (l : IsLocated rows j s above)
+module _ (rows : Rows Entry) (j : ℕ) (s s' : Subtree Entry) (above above' : Entry) (l : IsLocated rows j s above)
     (l' : IsLocated rows j s' above') where
   tops : (a b : Path × Entry) → slice_get rows j ≡ Some a → slice_get rows j ≡ Some b → a ≡ b
   tops a b e f = let g : Some a ≡ Some b = sym e ∙ f in cc
@@ -67,7 +67,7 @@ module _ (rows : Rows Entry) (j : ℕ) (s s' : Shoot Entry) (above above' : Entr
       sym (rows_below rows j s above l) ∙ ap (λ t. count t rows) top ∙ rows_below rows j s' above' l'
 
 -- a branch ends within the rows
-pub ends_within : (rows : Rows Entry) (j : ℕ) (s : Shoot Entry) (above : Entry) → IsLocated rows j s above → j + length (whole s)
+pub ends_within : (rows : Rows Entry) (j : ℕ) (s : Subtree Entry) (above : Entry) → IsLocated rows j s above → j + length (whole s)
     ≤ length rows
 ends_within rows j s above l =
     let a = ap length l.is in

@@ -4,32 +4,32 @@ use Rattle.romfs_format.specs.Fields.{exec, spec}
 use Rattle.romfs_format.specs.Heads.{head_of}
 use Rattle.romfs_reader.specs.Readers.{IsGiven, IsDataPart}
 use Rattle.stack_model.specs.Attributes.{is_directory, mode_of, rdev_of}
-use Rattle.path_tree.specs.Rows.{Shoot, spread, whole, IsForest}
+use Rattle.path_tree.specs.Rows.{Subtree, spread, whole, IsForest}
 use Rattle.shown_tree.specs.declared.place.Place.{Place}
 use Rattle.shown_tree.specs.declared.place.Entry.{Entry}
 use Rattle.stack_table.specs.declared.node.Node.{Node}
 use Rattle.stack_table.specs.declared.directory.Directory.{Directory}
 use Rattle.name_keys.specs.Keyed.{AddsKeys}
 use Rattle.stack_table.specs.Rows.{Line, names}
-use Rattle.node_table.specs.Walks.{Spot}
+use Rattle.node_table.specs.Walks.{Visit}
 
 -- the row of a child
-abbrev pub line_in : (Place → ℕ) → Shoot Entry → Line
+abbrev pub line_in : (Place → ℕ) → Subtree Entry → Line
 line_in tell c = record { number = tell c.value.place; name = c.name }
 
 -- how many of these branches are directories
-abbrev pub directories : List (Shoot Entry) → ℕ
+abbrev pub directories : List (Subtree Entry) → ℕ
 directories cs = count_by (λ c. is_directory c.value.kind) cs
 
 -- the rows of children are added at the end, and the directories among these counted
-pub record AddsRows (tell : Place → ℕ) (cs : List (Shoot Entry)) (old new : List Line)
+pub record AddsRows (tell : Place → ℕ) (cs : List (Subtree Entry)) (old new : List Line)
     (n : ℕ) : Type 0 where
   pub rows_are : new ≡ old ++ map (line_in tell) cs
   pub count_is : n ≡ directories cs
 
 -- a branch's number and size stand at this place
 pub record IsPosted (tell : Place → ℕ) (numbers sizes : List ℕ) (at : ℕ)
-    (c : Shoot Entry) : Type 0 where
+    (c : Subtree Entry) : Type 0 where
   pub within : at < length numbers
   pub sized : at < length sizes
   pub number_is : slice_index numbers at ≡ tell c.value.place
@@ -37,38 +37,38 @@ pub record IsPosted (tell : Place → ℕ) (numbers sizes : List ℕ) (at : ℕ)
   pub ends : at + length (whole c) ≤ length numbers
 
 -- branches stand from this place on, each after the one before it and all below that
-abbrev pub AreFollowing : (Place → ℕ) → List ℕ → List ℕ → ℕ → List (Shoot Entry) → Type 0
+abbrev pub AreFollowing : (Place → ℕ) → List ℕ → List ℕ → ℕ → List (Subtree Entry) → Type 0
 AreFollowing tell numbers sizes at [] = ⊤
 AreFollowing tell numbers sizes at (c ∷ cs) =
     IsPosted tell numbers sizes at c × AreFollowing tell numbers sizes (at + length (whole c)) cs
 
--- the children of a spot stand after it
+-- the children of a visit stand after it
 pub record AreChildPosts (tell : Place → ℕ) (numbers sizes : List ℕ) (at : ℕ)
-    (spot : Spot Entry) : Type 0 where
+    (visit : Visit Entry) : Type 0 where
   pub within : at < length numbers
-  pub each : (cs : List (Shoot Entry)) → spot.0.now.below ≡ spread cs → IsForest cs
+  pub each : (cs : List (Subtree Entry)) → visit.0.now.below ≡ spread cs → IsForest cs
       → AreFollowing tell numbers sizes (at + 1) cs
 
--- the number of the branch above a spot stands at the place that is held for it
+-- the number of the branch above a visit stands at the place that is held for it
 pub record IsAbove (tell : Place → ℕ) (numbers places : List ℕ) (at : ℕ)
-    (spot : Spot Entry) : Type 0 where
+    (visit : Visit Entry) : Type 0 where
   pub placed : at < length places
   pub within : slice_index places at < length numbers
-  pub number_is : slice_index numbers (slice_index places at) ≡ tell spot.1.place
+  pub number_is : slice_index numbers (slice_index places at) ≡ tell visit.1.place
 
--- these spots stand at these places
-pub record ArePosts (tell : Place → ℕ) (spots : List (Spot Entry)) (numbers places sizes : List ℕ)
-    (first : List (Spot Entry)) (starts : List ℕ) : Type 0 where
+-- these visits stand at these places
+pub record ArePosts (tell : Place → ℕ) (visits : List (Visit Entry)) (numbers places sizes : List ℕ)
+    (first : List (Visit Entry)) (starts : List ℕ) : Type 0 where
   pub level : length starts ≡ length first
-  pub there : (k : ℕ) (spot : Spot Entry) → slice_get first k ≡ Some spot
-      → slice_get spots (slice_index starts k) ≡ Some spot
-  pub above : (k : ℕ) (spot : Spot Entry) → slice_get first k ≡ Some spot
-      → IsAbove tell numbers places (slice_index starts k) spot
-  pub children : (k : ℕ) (spot : Spot Entry) → slice_get first k ≡ Some spot
-      → AreChildPosts tell numbers sizes (slice_index starts k) spot
+  pub there : (k : ℕ) (visit : Visit Entry) → slice_get first k ≡ Some visit
+      → slice_get visits (slice_index starts k) ≡ Some visit
+  pub above : (k : ℕ) (visit : Visit Entry) → slice_get first k ≡ Some visit
+      → IsAbove tell numbers places (slice_index starts k) visit
+  pub children : (k : ℕ) (visit : Visit Entry) → slice_get first k ≡ Some visit
+      → AreChildPosts tell numbers sizes (slice_index starts k) visit
 
 -- the header at a branch's place is one that the place's image gives
-pub record IsSeat (layers : List (List ℕ)) (branch : Shoot Entry) : Type 0 where
+pub record IsSeat (layers : List (List ℕ)) (branch : Subtree Entry) : Type 0 where
   pub image : List ℕ
   pub is : slice_get layers branch.value.place.layer ≡ Some image
   pub given : IsGiven image (head_of image branch.value.place.header)
@@ -80,31 +80,31 @@ pub record IsReadFrom (image : List ℕ) (header : ℕ) (node : Node) : Type 0 w
   pub spec_is : node.rdev ≡ spec image header
 
 -- the directory that a branch with these children is: its rows are added at the end, and their keys
-pub record IsMade (tell : Place → ℕ) (spot : Spot Entry) (cs : List (Shoot Entry))
+pub record IsMade (tell : Place → ℕ) (visit : Visit Entry) (cs : List (Subtree Entry))
     (old new : List Line) (keys keys' : List ℕ) (directory : Directory) : Type 0 where
-  pub parent_is : directory.parent ≡ tell spot.1.place
+  pub parent_is : directory.parent ≡ tell visit.1.place
   pub start_is : directory.rows_start ≡ length old
   pub end_is : directory.rows_end ≡ length new
   pub rows_are : new ≡ old ++ map (line_in tell) cs
   pub keys_are : AddsKeys directory.shared (names (map (line_in tell) cs)) keys keys'
 
 -- a branch's directory is added, and the directories in it are counted
-pub record AddsDirectory (tell : Place → ℕ) (spot : Spot Entry) (held held' : List Directory)
+pub record AddsDirectory (tell : Place → ℕ) (visit : Visit Entry) (held held' : List Directory)
     (old new : List Line) (keys keys' : List ℕ) (n : ℕ) : Type 0 where
-  pub children : List (Shoot Entry)
-  pub below : spot.0.now.below ≡ spread children
+  pub children : List (Subtree Entry)
+  pub below : visit.0.now.below ≡ spread children
   pub forest : IsForest children
   pub directory : Directory
   pub is : held' ≡ held ++ directory ∷ []
-  pub made : IsMade tell spot children old new keys keys' directory
+  pub made : IsMade tell visit children old new keys keys' directory
   pub count_is : n ≡ directories children
 
 -- a directory is added, which is linked by its name, its own dot and the directories in it
-pub record AddsLinked (tell : Place → ℕ) (spot : Spot Entry) (nlink : ℕ)
+pub record AddsLinked (tell : Place → ℕ) (visit : Visit Entry) (nlink : ℕ)
     (held held' : List Directory)
     (old new : List Line) (keys keys' : List ℕ) : Type 0 where
   pub count : ℕ
-  pub added : AddsDirectory tell spot held held' old new keys keys' count
+  pub added : AddsDirectory tell visit held held' old new keys keys' count
   pub nlink_is : nlink ≡ min (2 + count) (2 ^ 32 - 1)
 
 -- nothing is added, and the node is linked by its paths
@@ -116,23 +116,23 @@ pub record AddsNothing (paths nlink : ℕ) (held held' : List Directory) (old ne
   pub nlink_is : nlink ≡ paths
 
 -- what is added for a node that is a directory, or is none
-abbrev pub AddsByKind : (Place → ℕ) → Spot Entry → ℕ → Bool → ℕ → List Directory → List Directory
+abbrev pub AddsByKind : (Place → ℕ) → Visit Entry → ℕ → Bool → ℕ → List Directory → List Directory
     → List Line → List Line → List ℕ → List ℕ → Type 0
-AddsByKind tell spot paths true nlink held held' old new keys keys' =
-    AddsLinked tell spot nlink held held' old new keys keys'
-AddsByKind tell spot paths false nlink held held' old new keys keys' =
+AddsByKind tell visit paths true nlink held held' old new keys keys' =
+    AddsLinked tell visit nlink held held' old new keys keys'
+AddsByKind tell visit paths false nlink held held' old new keys keys' =
     AddsNothing paths nlink held held' old new keys keys'
 
 -- the node of a branch, before it is completed
-pub record AddsNode (layers : List (List ℕ)) (tell : Place → ℕ) (spot : Spot Entry) (paths : ℕ)
+pub record AddsNode (layers : List (List ℕ)) (tell : Place → ℕ) (visit : Visit Entry) (paths : ℕ)
     (held held' : List Directory) (old new : List Line) (keys keys' : List ℕ)
     (node : Node) : Type 0 where
-  pub kind_is : node.kind ≡ spot.0.now.value.kind
-  pub place_is : node.place ≡ spot.0.now.value.place
+  pub kind_is : node.kind ≡ visit.0.now.value.kind
+  pub place_is : node.place ≡ visit.0.now.value.place
   pub read : (image : List ℕ) → slice_get layers node.place.layer ≡ Some image
       → IsReadFrom image node.place.header node
   pub directory_is : node.directory ≡ length held
-  pub adds : AddsByKind tell spot paths
+  pub adds : AddsByKind tell visit paths
       (is_directory node.kind) node.nlink held held' old new keys keys'
 
 -- the node with what its kind makes of that

@@ -5,73 +5,74 @@ use Rattle.stack_model.specs.Numbers.{Place as ModelPlace, place, same_place, no
 use Rattle.shown_tree.specs.declared.place.Place.{Place}
 use Rattle.shown_tree.specs.declared.place.Entry.{Entry}
 use Rattle.stack_table.specs.Readers.{placed}
-use Rattle.node_table.specs.Walks.{Spot}
+use Rattle.node_table.specs.Walks.{Visit}
 
 -- a place as one number
 abbrev pub place_key : Place → ℕ
 place_key q = q.layer * 0x100000000 + q.header
 
--- that of a spot
-abbrev pub key_of : Spot Entry → ℕ
-key_of spot = place_key spot.0.now.value.place
+-- that of a visit
+abbrev pub key_of : Visit Entry → ℕ
+key_of visit = place_key visit.0.now.value.place
 
 -- a number of paths and one more, held at the greatest 32-bit number
 abbrev pub one_more : ℕ → ℕ
 one_more n = min (n + 1) (2 ^ 32 - 1)
 
 -- the place of a branch's value
-abbrev pub spot_place : Spot Entry → ModelPlace
-spot_place spot = placed spot.0.now.value.place
+abbrev pub visit_place : Visit Entry → ModelPlace
+visit_place visit = placed visit.0.now.value.place
 
 -- an entry with the branch's place
-abbrev pub bare : Spot Entry → Listed
-bare spot =
+abbrev pub bare : Visit Entry → Listed
+bare visit =
     record {
       path = [];
-      layer = spot.0.now.value.place.layer;
+      layer = visit.0.now.value.place.layer;
       header =
-          spot.0.now.value.place.header;
+          visit.0.now.value.place.header;
     }
 
--- as many of the first spots as entries
-abbrev pub seen : List (Spot Entry) → ℕ → List Listed
-seen spots i = map bare (take i spots)
+-- as many of the first visits as entries
+abbrev pub seen : List (Visit Entry) → ℕ → List Listed
+seen visits i = map bare (take i visits)
 
 -- how many entries have the place
 abbrev pub paths_of : List Listed → ModelPlace → ℕ
 paths_of entries p = count_by (λ e. same_place p (place e)) entries
 
--- the spot is the first with its place
-pub record IsFirstSpot (spots : List (Spot Entry)) (spot : Spot Entry) : Type 0 where
+-- the visit is the first with its place
+pub record IsFirstVisit (visits : List (Visit Entry)) (visit : Visit Entry) : Type 0 where
   pub at : ℕ
-  pub is : slice_get spots at ≡ Some spot
-  pub new : number_of (seen spots at) (spot_place spot) ≡ None
+  pub is : slice_get visits at ≡ Some visit
+  pub new : number_of (seen visits at) (visit_place visit) ≡ None
 
--- the places of spots, each as one number
-pub record AreKeys (spots : List (Spot Entry)) (keys : List ℕ) : Type 0 where
-  pub are : keys ≡ map key_of spots
-  pub small : All (λ (spot : Spot Entry). spot.0.now.value.place.header < 2 ^ 32) spots
+-- the places of visits, each as one number
+pub record AreKeys (visits : List (Visit Entry)) (keys : List ℕ) : Type 0 where
+  pub are : keys ≡ map key_of visits
+  pub small : All (λ (visit : Visit Entry). visit.0.now.value.place.header < 2 ^ 32) visits
 
--- the places of the first i spots are numbered
-pub record IsNumbered (spots : List (Spot Entry)) (i : ℕ) (first : List (Spot Entry))
+-- the places of the first i visits are numbered
+pub record IsNumbered (visits : List (Visit Entry)) (i : ℕ) (first : List (Visit Entry))
     (starts paths numbers : List ℕ) : Type 0 where
-  pub places : map spot_place first ≡ nodes (seen spots i)
-  pub each : (k : ℕ) (spot : Spot Entry) → slice_get first k ≡ Some spot → IsFirstSpot spots spot
+  pub places : map visit_place first ≡ nodes (seen visits i)
+  pub each : (k : ℕ) (visit : Visit Entry) → slice_get first k ≡ Some visit
+      → IsFirstVisit visits visit
   pub starts_level : length starts ≡ length first
-  pub starts_are : (k : ℕ) (spot : Spot Entry) → slice_get first k ≡ Some spot
-      → slice_get spots (slice_index starts k) ≡ Some spot
+  pub starts_are : (k : ℕ) (visit : Visit Entry) → slice_get first k ≡ Some visit
+      → slice_get visits (slice_index starts k) ≡ Some visit
   pub level : length paths ≡ length first
-  pub counted : (k : ℕ) (spot : Spot Entry) → slice_get first k ≡ Some spot
-      → slice_index paths k ≡ min (paths_of (seen spots i) (spot_place spot)) (2 ^ 32 - 1)
+  pub counted : (k : ℕ) (visit : Visit Entry) → slice_get first k ≡ Some visit
+      → slice_index paths k ≡ min (paths_of (seen visits i) (visit_place visit)) (2 ^ 32 - 1)
   pub numbers_level : length numbers ≡ i
-  pub known : (k : ℕ) (spot : Spot Entry) → k < i → slice_get spots k ≡ Some spot
-      → number_of (seen spots i) (spot_place spot) ≡ Some (slice_index numbers k)
+  pub known : (k : ℕ) (visit : Visit Entry) → k < i → slice_get visits k ≡ Some visit
+      → number_of (seen visits i) (visit_place visit) ≡ Some (slice_index numbers k)
 
 -- all places are numbered, by what some branches are the first of
-abbrev pub AreNumbered : List (Spot Entry) → List ℕ → List ℕ → List ℕ → Type 0
-AreNumbered spots starts paths numbers =
-    (first : List (Spot Entry)) × IsNumbered spots (length spots) first starts paths numbers
+abbrev pub AreNumbered : List (Visit Entry) → List ℕ → List ℕ → List ℕ → Type 0
+AreNumbered visits starts paths numbers =
+    (first : List (Visit Entry)) × IsNumbered visits (length visits) first starts paths numbers
 
--- the number of a place that spots have; 0 for another one
-unfoldable pub number_among : List (Spot Entry) → Place → ℕ
-number_among spots q = unwrap_or (number_of (seen spots (length spots)) (placed q)) 0
+-- the number of a place that visits have; 0 for another one
+unfoldable pub number_among : List (Visit Entry) → Place → ℕ
+number_among visits q = unwrap_or (number_of (seen visits (length visits)) (placed q)) 0

@@ -15,16 +15,16 @@ const TOGETHER: usize = 64;
 
 /// How far the places have been gone over.
 #[derive(Drop)]
-pub(crate) struct Ahead {
+pub(crate) struct HeadersAhead {
     passed: usize,
     // A sum of all that was read, so that no compiler leaves the reading out.
     sum: u64,
 }
 
-impl Ahead {
+impl HeadersAhead {
     /// At the first place.
     pub(crate) fn new() -> Self {
-        Ahead { passed: 0, sum: 0 }
+        HeadersAhead { passed: 0, sum: 0 }
     }
 
     /// Goes over one place more of these; now and then the headers of the next ones are read.
@@ -63,8 +63,8 @@ fn byte_at<A: Allocator>(
     walk: &Walked<'_, Entry, A>,
     start: usize,
 ) -> Option<u8> {
-    let spot = walk.spots.get(start)?;
-    let place = spot.0.value().place;
+    let visit = walk.visits.get(start)?;
+    let place = visit.0.value().place;
     let image = images.get(place.layer as usize)?;
     let end = image.glance(place.header.wrapping_add(31))?;
     Some(image.glance(place.header)? ^ end)

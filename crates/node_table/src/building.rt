@@ -8,9 +8,9 @@ ghost use Rattle.node_table.specs.Building.{IsAbove, AreFollowing, AreChildPosts
 ghost use Rattle.node_table.specs.Building.{AddsRows, AddsDirectory, AddsNode, IsSeat};
 ghost use Rattle.node_table.specs.Seeds.{AreSeated, AreMade};
 
-use crate::ahead::Ahead;
+use crate::ahead::HeadersAhead;
 use crate::numbering::Numbered;
-use crate::walk::{Spot, Walked};
+use crate::walk::{Visit, Walked};
 use name_keys::add_keys;
 use romfs_reader::{Head, Image, Kind};
 use shown_tree::{Child, Entry};
@@ -19,7 +19,7 @@ use std::alloc::{AllocError, Allocator};
 
 /// What a table is made of beside its images.
 #[derive(Drop)]
-pub(crate) struct Parts<A: Allocator> {
+pub(crate) struct TableParts<A: Allocator> {
     pub(crate) nodes: Vec<Node, A>,
     pub(crate) directories: Directories<A>,
 }
@@ -46,9 +46,9 @@ fn add_rows<A: Allocator + Copy>(
     children: &[Child<A>],
     rows: &mut Vec<Row<A>, A>,
 ) -> Result<u64, AllocError>
-    requires { AreFollowing (number_among walk.now.spots.items)
+    requires { AreFollowing (number_among walk.now.visits.items)
         numbers.now walk.now.sizes.items start children.now }
-    ensures { IfOk result (λ n. AddsRows (number_among walk.now.spots.items)
+    ensures { IfOk result (λ n. AddsRows (number_among walk.now.visits.items)
         children.now rows.old.items rows.new.items n) }
 {
     let mut directories = 0;
@@ -75,18 +75,18 @@ fn add_directory<A: Allocator + Copy>(
     walk: &Walked<'_, Entry, A>,
     numbers: &[u64],
     start: usize,
-    spot: &Spot<'_, Entry, A>,
+    visit: &Visit<'_, Entry, A>,
     into: &mut Directories<A>,
 ) -> Result<u64, AllocError>
-    requires above { IsAbove (number_among walk.now.spots.items)
-        numbers.now walk.now.above.items start spot.now }
-    requires children { AreChildPosts (number_among walk.now.spots.items)
-        numbers.now walk.now.sizes.items start spot.now }
-    ensures { IfOk result (λ n. AddsDirectory (number_among walk.now.spots.items) spot.now
+    requires above { IsAbove (number_among walk.now.visits.items)
+        numbers.now walk.now.above.items start visit.now }
+    requires children { AreChildPosts (number_among walk.now.visits.items)
+        numbers.now walk.now.sizes.items start visit.now }
+    ensures { IfOk result (λ n. AddsDirectory (number_among walk.now.visits.items) visit.now
         into.old.all.items into.new.all.items into.old.rows.items into.new.rows.items
         into.old.keys.items into.new.keys.items n) }
 {
-    let children = spot.0.children();
+    let children = visit.0.children();
     let above = walk.above[start];
     let parent = numbers[above];
     let rows_start = into.rows.len();
@@ -109,27 +109,27 @@ pub(crate) fn add_node<A: Allocator + Copy>(
     walk: &Walked<'_, Entry, A>,
     numbers: &[u64],
     start: usize,
-    spot: &Spot<'_, Entry, A>,
+    visit: &Visit<'_, Entry, A>,
     paths: u32,
     into: &mut Directories<A>,
 ) -> Result<Node, AllocError>
-    requires seat { IsSeat images.now spot.now.0.now }
-    requires above { IsAbove (number_among walk.now.spots.items)
-        numbers.now walk.now.above.items start spot.now }
-    requires children { AreChildPosts (number_among walk.now.spots.items)
-        numbers.now walk.now.sizes.items start spot.now }
-    ensures { IfOk result (λ node. AddsNode images.now (number_among walk.now.spots.items)
-        spot.now paths into.old.all.items into.new.all.items into.old.rows.items into.new.rows.items
-        into.old.keys.items into.new.keys.items node) }
+    requires seat { IsSeat images.now visit.now.0.now }
+    requires above { IsAbove (number_among walk.now.visits.items)
+        numbers.now walk.now.above.items start visit.now }
+    requires children { AreChildPosts (number_among walk.now.visits.items)
+        numbers.now walk.now.sizes.items start visit.now }
+    ensures { IfOk result (λ node. AddsNode images.now (number_among walk.now.visits.items)
+        visit.now paths into.old.all.items into.new.all.items
+        into.old.rows.items into.new.rows.items into.old.keys.items into.new.keys.items node) }
 {
-    let Entry { kind, place } = spot.0.value();
+    let Entry { kind, place } = visit.0.value();
     let image = &images[place.layer as usize];
     let head = header_in(image, place.header);
     let part = image.data_part(&head);
     let directory = into.all.len();
     let nlink = match kind {
         Kind::Directory => {
-            let directories = add_directory(alloc, walk, numbers, start, spot, into)?;
+            let directories = add_directory(alloc, walk, numbers, start, visit, into)?;
             directories.saturating_add(2).min(u64::from(u32::MAX)) as u32
         }
         _ => paths,
@@ -152,8 +152,8 @@ pub(crate) fn make<A: Allocator + Copy>(
     images: &[Image<A>],
     walk: &Walked<'_, Entry, A>,
     numbered: &Numbered<A>,
-) -> Result<Parts<A>, AllocError>
-    requires { AreSeated images.now walk.now.spots.items walk.now.above.items
+) -> Result<TableParts<A>, AllocError>
+    requires { AreSeated images.now walk.now.visits.items walk.now.above.items
         walk.now.sizes.items numbered.now.starts.items numbered.now.paths.items
         numbered.now.numbers.items }
     ensures { IfOk result (λ made. AreMade images.now made.nodes.items
@@ -162,13 +162,13 @@ pub(crate) fn make<A: Allocator + Copy>(
     let mut nodes = Vec::with_capacity(alloc, numbered.starts.len())?;
     let mut directories = Directories {
         all: Vec::new(alloc),
-        rows: Vec::with_capacity(alloc, walk.spots.len())?,
-        keys: Vec::with_capacity(alloc, walk.spots.len())?,
+        rows: Vec::with_capacity(alloc, walk.visits.len())?,
+        keys: Vec::with_capacity(alloc, walk.visits.len())?,
     };
-    let mut ahead = Ahead::new();
+    let mut ahead = HeadersAhead::new();
     for (at, start) in numbered.starts.iter().enumerate() {
         ahead.pass(images, walk, &numbered.starts);
-        let spot = &walk.spots[*start];
+        let visit = &walk.visits[*start];
         let paths = numbered.paths[at];
         let node = add_node(
             alloc,
@@ -176,11 +176,11 @@ pub(crate) fn make<A: Allocator + Copy>(
             walk,
             &numbered.numbers,
             *start,
-            spot,
+            visit,
             paths,
             &mut directories,
         )?;
         nodes.push(node)?;
     }
-    Ok(Parts { nodes, directories })
+    Ok(TableParts { nodes, directories })
 }

@@ -5,7 +5,7 @@
 ghost use Rattle.std.specs.Prelude.{IfOk};
 ghost use Rattle.node_table.specs.Firsts.{AreSeats, AreFirsts, AreThemselves};
 
-use lone_keys::seen_once;
+use equal_keys::seen_once;
 use std::alloc::{AllocError, Allocator};
 
 // Keys with their places, all but some that stand once, in the order of keys, and of places where

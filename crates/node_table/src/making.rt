@@ -8,7 +8,7 @@ ghost use Rattle.shown_tree.specs.Trees.{IsTreeOf};
 ghost use Rattle.stack_table.specs.Stacked.{IsTableOf};
 ghost use Rattle.node_table.specs.Seeds.{AreMade};
 
-use crate::building::{Parts, make};
+use crate::building::{TableParts, make};
 use crate::completing::{blocks_of, complete_all};
 use crate::numbering::number_places;
 use crate::walk::{Walked, count_branches, walk};
@@ -57,7 +57,8 @@ impl<A: Allocator + Copy> OfTree for Table<A> {
     ghost use Rattle.shown_tree.specs.Trees.{IsTreeOf};
     ghost use Rattle.stack_model.specs.declared.limits.TheConstants.{MAX_LAYERS};
 
-    ghost fits = { λ tree images. IsTreeOf 0 images.items tree × (length images.items ≤ MAX_LAYERS) };
+    ghost fits = { λ tree images.
+        IsTreeOf 0 images.items tree × (length images.items ≤ MAX_LAYERS) };
 
     /// The table of a stack of images, from its tree. The images are the layers, the lowest first.
     ///
@@ -75,7 +76,7 @@ impl<A: Allocator + Copy> OfTree for Table<A> {
         ensures { IfOk result (λ table. IsTableOf images.items table) }
     {
         let blocks = blocks_of(&images);
-        let Parts {
+        let TableParts {
             mut nodes,
             directories,
         } = parts_of(alloc, &tree, &images)?;
@@ -89,7 +90,7 @@ fn parts_of<A: Allocator + Copy>(
     alloc: A,
     tree: &Tree<A>,
     images: &[Image<A>],
-) -> Result<Parts<A>, AllocError>
+) -> Result<TableParts<A>, AllocError>
     requires tree { IsTreeOf 0 images.now tree.now }
     requires sound { AllByRecursion IsImage images.now }
     ensures { IfOk result (λ made. AreMade images.now made.nodes.items
@@ -98,6 +99,6 @@ fn parts_of<A: Allocator + Copy>(
     let root = tree.root();
     let mut all = Walked::with_room(alloc, count_branches(root))?;
     walk(root, root.value(), 0, &mut all)?;
-    let numbered = number_places(alloc, &all.spots)?;
+    let numbered = number_places(alloc, &all.visits)?;
     make(alloc, images, &all, &numbered)
 }

@@ -4,7 +4,7 @@ ghost use Rattle.std.specs.Prelude.{◌≡◌, ◌<◌, ◌^◌, length, slice_i
 ghost use Rattle.node_table.specs.Numbering.{place_key, one_more, AreKeys, AreNumbered};
 
 use crate::firsts::firsts_of;
-use crate::walk::Spot;
+use crate::walk::Visit;
 use shown_tree::{Entry, Place};
 use std::alloc::{AllocError, Allocator};
 
@@ -30,13 +30,13 @@ fn place_key(place: Place) -> u64
 // The places of branches, each as one number.
 fn keys_of<'t, A: Allocator + Copy>(
     alloc: A,
-    spots: &[Spot<'t, Entry, A>],
+    visits: &[Visit<'t, Entry, A>],
 ) -> Result<Vec<u64, A>, AllocError>
-    ensures { IfOk result (λ keys. AreKeys spots.now keys.items) }
+    ensures { IfOk result (λ keys. AreKeys visits.now keys.items) }
 {
-    let mut keys = Vec::with_capacity(alloc, spots.len())?;
-    for spot in spots {
-        keys.push(place_key(spot.0.value().place))?;
+    let mut keys = Vec::with_capacity(alloc, visits.len())?;
+    for visit in visits {
+        keys.push(place_key(visit.0.value().place))?;
     }
     Ok(keys)
 }
@@ -54,17 +54,17 @@ fn count_one<A: Allocator>(paths: &mut Vec<u32, A>, at: usize)
 // Numbers the places of these branches. It takes n log n steps.
 pub(crate) fn number_places<A: Allocator + Copy>(
     alloc: A,
-    spots: &[Spot<'_, Entry, A>],
+    visits: &[Visit<'_, Entry, A>],
 ) -> Result<Numbered<A>, AllocError>
     ensures { IfOk result
-        (λ n. AreNumbered spots.now n.starts.items n.paths.items n.numbers.items) }
+        (λ n. AreNumbered visits.now n.starts.items n.paths.items n.numbers.items) }
 {
-    let keys = keys_of(alloc, spots)?;
+    let keys = keys_of(alloc, visits)?;
     let firsts = firsts_of(alloc, &keys)?;
-    let mut starts = Vec::with_capacity(alloc, spots.len())?;
-    let mut paths = Vec::with_capacity(alloc, spots.len())?;
-    let mut numbers = Vec::with_capacity(alloc, spots.len())?;
-    for at in 0..spots.len() {
+    let mut starts = Vec::with_capacity(alloc, visits.len())?;
+    let mut paths = Vec::with_capacity(alloc, visits.len())?;
+    let mut numbers = Vec::with_capacity(alloc, visits.len())?;
+    for at in 0..visits.len() {
         let before = firsts[at];
         if before == at {
             starts.push(at)?;

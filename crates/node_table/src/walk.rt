@@ -7,12 +7,12 @@ use path_tree::Branch;
 use std::alloc::{AllocError, Allocator};
 
 /// A branch of a tree, and the value of the branch above it.
-pub(crate) type Spot<'t, T, A> = (&'t Branch<T, A>, T);
+pub(crate) type Visit<'t, T, A> = (&'t Branch<T, A>, T);
 
 /// Branches in the order of their paths.
 #[derive(Drop)]
 pub(crate) struct Walked<'t, T: Copy + Drop, A: Allocator> {
-    pub(crate) spots: Vec<Spot<'t, T, A>, A>,
+    pub(crate) visits: Vec<Visit<'t, T, A>, A>,
     /// Where the branch above each one stands; the root is above itself.
     pub(crate) above: Vec<usize, A>,
     /// How many branches each one is with all below it.
@@ -23,10 +23,10 @@ impl<'t, T: Copy + Drop, A: Allocator + Copy> Walked<'t, T, A> {
     // No branch yet, with room for this many.
     pub(crate) fn with_room(alloc: A, room: usize) -> Result<Self, AllocError>
         ensures { IfOk result
-            (λ w. (w.spots.items ≡ []) × (w.above.items ≡ []) × (w.sizes.items ≡ [])) }
+            (λ w. (w.visits.items ≡ []) × (w.above.items ≡ []) × (w.sizes.items ≡ [])) }
     {
         Ok(Walked {
-            spots: Vec::with_capacity(alloc, room)?,
+            visits: Vec::with_capacity(alloc, room)?,
             above: Vec::with_capacity(alloc, room)?,
             sizes: Vec::with_capacity(alloc, room)?,
         })
@@ -50,20 +50,20 @@ pub(crate) fn walk<'t, T: Copy + Drop, A: Allocator>(
     place: usize,
     out: &mut Walked<'t, T, A>,
 ) -> Result<(), AllocError>
-    requires level { length out.old.sizes.items ≡ length out.old.spots.items }
-    requires above { StandsAt out.old.spots.items place above
-        ⊎ ((place ≡ length out.old.spots.items) × (branch.now.value ≡ above)) }
-    ensures { OnOk result (AddsWalk branch.now above out.old.spots.items out.new.spots.items
+    requires level { length out.old.sizes.items ≡ length out.old.visits.items }
+    requires above { StandsAt out.old.visits.items place above
+        ⊎ ((place ≡ length out.old.visits.items) × (branch.now.value ≡ above)) }
+    ensures { OnOk result (AddsWalk branch.now above out.old.visits.items out.new.visits.items
         out.old.above.items out.new.above.items out.old.sizes.items out.new.sizes.items) }
 {
-    let at = out.spots.len();
-    out.spots.push((branch, above))?;
+    let at = out.visits.len();
+    out.visits.push((branch, above))?;
     out.above.push(place)?;
     out.sizes.push(0)?;
     let value = branch.value();
     for child in branch.children() {
         walk(child, value, at, out)?;
     }
-    out.sizes[at] = out.spots.len() - at;
+    out.sizes[at] = out.visits.len() - at;
     Ok(())
 }

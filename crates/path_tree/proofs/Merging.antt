@@ -8,21 +8,21 @@ use Rattle.std.specs.declared.cmp.Ordering.TheVariants.{Less, Equal, Greater}
 use Rattle.std.specs.List.{AllByRecursion}
 use Rattle.std.specs.Slice.{IsItemAt}
 use Rattle.std.specs.Borrow.{Bor}
-use Rattle.path_tree.specs.Rows.{Shoot, name_cmp, named, NamesRise, IsRising, IsForest, at_path, spread, whole, prefixed, length_prefixed}
+use Rattle.path_tree.specs.Rows.{Subtree, name_cmp, named, NamesRise, IsRising, IsForest, at_path, spread, whole, prefixed, length_prefixed}
 use Rattle.path_tree.specs.Laying.{laid_at, IsLaid, AreLaid}
 use Rattle.path_tree.proofs.Names.{same_or_not, named_below, all_above, above_of}
 use Rattle.path_tree.proofs.Spread.{through, at_spread}
 use Rattle.path_tree.proofs.Rising.{branch_rises}
 
 -- which branches come of both
-pub data Merges {T : Type 0} (f : T → T → T) : List (Shoot T) → List (Shoot T) → List (Shoot T) → Type 0 where
-  Lows_left : (ls : List (Shoot T)) → Merges f ls [] ls
-  Highs_left : (hs : List (Shoot T)) → Merges f [] hs hs
-  Low : (l h : Shoot T) (ls hs out : List (Shoot T)) → name_cmp l.name h.name ≡ Less → Merges f ls (h ∷ hs) out
+pub data Merges {T : Type 0} (f : T → T → T) : List (Subtree T) → List (Subtree T) → List (Subtree T) → Type 0 where
+  Lows_left : (ls : List (Subtree T)) → Merges f ls [] ls
+  Highs_left : (hs : List (Subtree T)) → Merges f [] hs hs
+  Low : (l h : Subtree T) (ls hs out : List (Subtree T)) → name_cmp l.name h.name ≡ Less → Merges f ls (h ∷ hs) out
       → Merges f (l ∷ ls) (h ∷ hs) (l ∷ out)
-  High : (l h : Shoot T) (ls hs out : List (Shoot T)) → name_cmp h.name l.name ≡ Less → Merges f (l ∷ ls) hs out
+  High : (l h : Subtree T) (ls hs out : List (Subtree T)) → name_cmp h.name l.name ≡ Less → Merges f (l ∷ ls) hs out
       → Merges f (l ∷ ls) (h ∷ hs) (h ∷ out)
-  Both : (l h b : Shoot T) (ls hs out : List (Shoot T)) → l.name ≡ h.name → IsLaid f l h b → Merges f ls hs out
+  Both : (l h b : Subtree T) (ls hs out : List (Subtree T)) → l.name ≡ h.name → IsLaid f l h b → Merges f ls hs out
       → Merges f (l ∷ ls) (h ∷ hs) (b ∷ out)
 
 laid_none : {T : Type 0} (f : T → T → T) (x : Option T) → laid_at f None x ≡ x
@@ -30,7 +30,7 @@ laid_none f None = refl
 laid_none f (Some e) = refl
 
 module _ {T : Type 0} (f : T → T → T) where
-  found : {ls hs out : List (Shoot T)} → Merges f ls hs out → NamesRise ls → NamesRise hs
+  found : {ls hs out : List (Subtree T)} → Merges f ls hs out → NamesRise ls → NamesRise hs
       → (n : List ℕ) (p : List (List ℕ))
       → through (named n out) p ≡ laid_at f (through (named n ls) p) (through (named n hs) p)
   found (Lows_left ls) r s n p = refl
@@ -56,7 +56,7 @@ module _ {T : Type 0} (f : T → T → T) where
     | inr x ↦ rw (c.name, e, x.1) (found m r.1 s.1 n p)
   ]
 
-  above : {ls hs out : List (Shoot T)} → Merges f ls hs out → (n : List ℕ)
+  above : {ls hs out : List (Subtree T)} → Merges f ls hs out → (n : List ℕ)
       → AllByRecursion (λ t. name_cmp n t.name ≡ Less) ls → AllByRecursion (λ t. name_cmp n t.name ≡ Less) hs
       → AllByRecursion (λ t. name_cmp n t.name ≡ Less) out
   above (Lows_left ls) n a b = a
@@ -65,7 +65,7 @@ module _ {T : Type 0} (f : T → T → T) where
   above (High l h ls hs out lt m) n a b = (b.0, above m n a b.1)
   above (Both l h x ls hs out e c m) n a b = (rw c.name b.0, above m n a.1 b.1)
 
-  rise : {ls hs out : List (Shoot T)} → Merges f ls hs out → NamesRise ls → NamesRise hs → NamesRise out
+  rise : {ls hs out : List (Subtree T)} → Merges f ls hs out → NamesRise ls → NamesRise hs → NamesRise out
   rise (Lows_left ls) r s = r
   rise (Highs_left hs) r s = s
   rise (Low l h ls hs out lt m) r s = (above m l.name r.0 (lt, all_above l.name h.name hs lt s.0), rise m r.1 s)
@@ -77,7 +77,7 @@ module _ {T : Type 0} (f : T → T → T) where
         s.1,
   )
 
-  each : {ls hs out : List (Shoot T)} → Merges f ls hs out → AllByRecursion IsRising ls → AllByRecursion IsRising hs
+  each : {ls hs out : List (Subtree T)} → Merges f ls hs out → AllByRecursion IsRising ls → AllByRecursion IsRising hs
       → AllByRecursion IsRising out
   each (Lows_left ls) r s = r
   each (Highs_left hs) r s = s
@@ -86,7 +86,7 @@ module _ {T : Type 0} (f : T → T → T) where
   each (Both l h b ls hs out e c m) r s = (c.rising, each m r.1 s.1)
 
   -- the branches that come of both directories are those of one laid on the other
-  pub are_laid : {ls hs out : List (Shoot T)} → Merges f ls hs out → IsForest ls → IsForest hs → AreLaid f ls hs out
+  pub are_laid : {ls hs out : List (Subtree T)} → Merges f ls hs out → IsForest ls → IsForest hs → AreLaid f ls hs out
   are_laid {ls} {hs} {out} m r s =
       let names = rise m r.names s.names in
       record {
@@ -95,7 +95,7 @@ module _ {T : Type 0} (f : T → T → T) where
       }
 
   -- a branch over children that are laid is the upper branch laid on the lower one
-  pub branch_laid : (low high : Shoot T) (ls hs out : List (Shoot T)) → low.below ≡ spread ls
+  pub branch_laid : (low high : Subtree T) (ls hs out : List (Subtree T)) → low.below ≡ spread ls
       → high.below ≡ spread hs → AreLaid f ls hs out
       → IsLaid f low high (record { name = high.name; value = f low.value high.value; below = spread out })
   branch_laid low high ls hs out e d a = record { name = refl; rising = branch_rises high.name (f low.value high.value) out a.forest; at =
@@ -108,16 +108,16 @@ module _ {T : Type 0} (f : T → T → T) where
       at (n ∷ p) = rw (e, d) (a.at n p)
 
 -- ls0 and hs0 are merged up to ls and hs, which are left
-pub record Merging {T : Type 0} (f : T → T → T) (ls0 hs0 ls hs out : List (Shoot T)) : Type 0 where
-  pub merged : (more : List (Shoot T)) → Merges f ls hs more → Merges f ls0 hs0 (out ++ more)
+pub record Merging {T : Type 0} (f : T → T → T) (ls0 hs0 ls hs out : List (Subtree T)) : Type 0 where
+  pub merged : (more : List (Subtree T)) → Merges f ls hs more → Merges f ls0 hs0 (out ++ more)
   pub smaller : length (spread ls) + length (spread hs) ≤ length (spread ls0) + length (spread hs0)
 
 -- a branch adds one row to a directory, and those below it
-pub grown : {T : Type 0} (s : Shoot T) (ss : List (Shoot T)) → length (spread (s ∷ ss)) ≡ length s.below + length (spread ss) + 1
+pub grown : {T : Type 0} (s : Subtree T) (ss : List (Subtree T)) → length (spread (s ∷ ss)) ≡ length s.below + length (spread ss) + 1
 grown s ss = omega (arith, length-append (prefixed s.name s.below) (spread ss), length_prefixed s.name s.below)
 
 -- of what is left, l and h are the first branches
-module _ {T : Type 0} (f : T → T → T) (ls0 hs0 ls hs out : List (Shoot T)) (l h : Shoot T)
+module _ {T : Type 0} (f : T → T → T) (ls0 hs0 ls hs out : List (Subtree T)) (l h : Subtree T)
     (inv : Merging f ls0 hs0 (l ∷ ls) (h ∷ hs) out) where
   -- where the lower side's first name comes first, its branch is put out as it is
   pub low_first : name_cmp l.name h.name ≡ Less → Merging f ls0 hs0 ls (h ∷ hs) (out ++ l ∷ [])
@@ -134,7 +134,7 @@ module _ {T : Type 0} (f : T → T → T) (ls0 hs0 ls hs out : List (Shoot T)) (
   }
 
   -- where both first names are one, the branch put out is the upper one laid on the lower
-  pub both_first : (b : Shoot T) → name_cmp l.name h.name ≡ Equal → IsLaid f l h b → Merging f ls0 hs0 ls hs (out ++ b ∷ [])
+  pub both_first : (b : Subtree T) → name_cmp l.name h.name ≡ Equal → IsLaid f l h b → Merging f ls0 hs0 ls hs (out ++ b ∷ [])
   both_first b e c = record {
     merged = λ more m. rw append_assoc (inv.merged (b ∷ more) (Both l h b ls hs more (exact_bytes l.name h.name e) c m));
     smaller = omega (arith, grown l ls, grown h hs, inv.smaller);
@@ -145,7 +145,7 @@ module _ {T : Type 0} (f : T → T → T) (ls0 hs0 ls hs out : List (Shoot T)) (
   below_measure = omega (arith, grown l ls, grown h hs, inv.smaller)
 
 -- one side alone is left
-module _ {T : Type 0} (f : T → T → T) (ls0 hs0 ls hs out : List (Shoot T)) (inv : Merging f ls0 hs0 ls hs out) where
+module _ {T : Type 0} (f : T → T → T) (ls0 hs0 ls hs out : List (Subtree T)) (inv : Merging f ls0 hs0 ls hs out) where
   -- where no upper branches are left, the lower ones that are left complete the result
   pub lows_left : hs ≡ [] → Merges f ls0 hs0 ((out ++ ls) ++ hs)
   lows_left e = rw (e, append-nil) (inv.merged ls (rw e (Lows_left ls)))

@@ -12,7 +12,7 @@ use Rattle.std.specs.Cmp.Lexicographic.{pointwise, same_text, other_text}
 use Rattle.std.proofs.lemmas.Bool.{cases_lt}
 use Rattle.std.proofs.lemmas.Cmp.{nat_list_cmp_total}
 use Rattle.std.proofs.lemmas.Map.Lookups.{exact_bytes}
-use Rattle.path_tree.specs.Rows.{Shoot, name_cmp, named, NamesRise}
+use Rattle.path_tree.specs.Rows.{Subtree, name_cmp, named, NamesRise}
 
 -- two names are the same and the test is true, or they differ and it is false
 abbrev pub IsSameOrNot : List ℕ → List ℕ → Type 0
@@ -48,25 +48,25 @@ itself a = by_case (name_cmp a a) refl (nat_list_cmp_total.antisymm a a)
     by_case Greater e s = absurd (cc)
 
 -- branches that all come after a name come after each name before it
-pub all_above : {T : Type 0} (n m : List ℕ) (ss : List (Shoot T)) → name_cmp n m ≡ Less
+pub all_above : {T : Type 0} (n m : List ℕ) (ss : List (Subtree T)) → name_cmp n m ≡ Less
     → AllByRecursion (λ t. name_cmp m t.name ≡ Less) ss → AllByRecursion (λ t. name_cmp n t.name ≡ Less) ss
 all_above n m [] l a = tt
 all_above n m (s ∷ ss) l a = (nat_list_cmp_total.trans n m s.name l a.0, all_above n m ss l a.1)
 
 -- no branch has a name that comes before all of theirs
-pub named_below : {T : Type 0} (n : List ℕ) (ss : List (Shoot T)) → AllByRecursion (λ t. name_cmp n t.name ≡ Less) ss → named n ss ≡ None
+pub named_below : {T : Type 0} (n : List ℕ) (ss : List (Subtree T)) → AllByRecursion (λ t. name_cmp n t.name ≡ Less) ss → named n ss ≡ None
 named_below n [] a = refl
 named_below n (s ∷ ss) a = elim (same_or_not s.name n) [ inl x ↦ absurd (below_differs n s.name a.0 (sym x.0)) | inr x ↦ rw x.1
       (named_below n ss a.1) ]
 
-all_at : {T : Type 0} (n : List ℕ) (ss : List (Shoot T)) → AllByRecursion (λ t. name_cmp n t.name ≡ Less) ss
-    → (i : ℕ) (d : Shoot T) → i < length ss → name_cmp n (get_or ss i d).name ≡ Less
+all_at : {T : Type 0} (n : List ℕ) (ss : List (Subtree T)) → AllByRecursion (λ t. name_cmp n t.name ≡ Less) ss
+    → (i : ℕ) (d : Subtree T) → i < length ss → name_cmp n (get_or ss i d).name ≡ Less
 all_at n [] a i d l = absurd (omega arith)
 all_at n (s ∷ ss) a zero d l = a.0
 all_at n (s ∷ ss) a (suc i) d l = all_at n ss a.1 i d (omega arith)
 
 -- a branch whose name compares as equal to a name is the one of that name
-pub named_at : {T : Type 0} (n : List ℕ) (ss : List (Shoot T)) → NamesRise ss → (i : ℕ) (d : Shoot T)
+pub named_at : {T : Type 0} (n : List ℕ) (ss : List (Subtree T)) → NamesRise ss → (i : ℕ) (d : Subtree T)
     → i < length ss → name_cmp (get_or ss i d).name n ≡ Equal → named n ss ≡ Some (get_or ss i d)
 named_at n [] r i d l e = absurd (omega arith)
 named_at n (s ∷ ss) r zero d l e = elim (same_or_not s.name n) [ inl x ↦ rw x.1 | inr x ↦ absurd (x.0 (exact_bytes s.name n e)) ]
@@ -77,8 +77,8 @@ named_at n (s ∷ ss) r (suc i) d l e =
       | inr x ↦ rw x.1 (named_at n ss r.1 i d lt e)
     ]
 
-named_nowhere : {T : Type 0} (n : List ℕ) (ss : List (Shoot T))
-    → ((i : ℕ) (d : Shoot T) → i < length ss → name_cmp (get_or ss i d).name n ≢ Equal) → named n ss ≡ None
+named_nowhere : {T : Type 0} (n : List ℕ) (ss : List (Subtree T))
+    → ((i : ℕ) (d : Subtree T) → i < length ss → name_cmp (get_or ss i d).name n ≢ Equal) → named n ss ≡ None
 named_nowhere n [] f = refl
 named_nowhere n (s ∷ ss) f = elim (same_or_not s.name n) [
   | inl x ↦ absurd (f 0 s (omega arith) (rw x.0 (itself n)))
@@ -86,13 +86,13 @@ named_nowhere n (s ∷ ss) f = elim (same_or_not s.name n) [
 ]
 
 -- the branches before i have lesser names than n, and those from i on greater ones
-abbrev pub IsParted : {T : Type 0} → List ℕ → List (Shoot T) → ℕ → Type 0
+abbrev pub IsParted : {T : Type 0} → List ℕ → List (Subtree T) → ℕ → Type 0
 IsParted {T} n ss i =
-    ((k : ℕ) (d : Shoot T) → 0 ≤ k → k < i → name_cmp (get_or ss k d).name n ≡ Less)
-    × ((k : ℕ) (d : Shoot T) → i ≤ k → k < length ss → name_cmp (get_or ss k d).name n ≡ Greater)
+    ((k : ℕ) (d : Subtree T) → 0 ≤ k → k < i → name_cmp (get_or ss k d).name n ≡ Less)
+    × ((k : ℕ) (d : Subtree T) → i ≤ k → k < length ss → name_cmp (get_or ss k d).name n ≡ Greater)
 
 -- where branches part into lesser and greater names, none has the name
-pub named_between : {T : Type 0} (n : List ℕ) (ss : List (Shoot T)) (i : ℕ) → IsParted n ss i → named n ss ≡ None
+pub named_between : {T : Type 0} (n : List ℕ) (ss : List (Subtree T)) (i : ℕ) → IsParted n ss i → named n ss ≡ None
 named_between n ss i p = named_nowhere n ss (λ k d l e. elim (cases_lt k i) [
   | inl lt ↦ absurd (let f = p.0 k d (omega arith) lt in cc)
   | inr ge ↦ absurd (let f = p.1 k d ge l in cc)
@@ -114,7 +114,7 @@ keeps a b n l Greater Equal d e = absurd (not_below_itself a
 keeps a b n l Greater Greater d e = omega arith
 
 -- compared with any name, branches in order are first less, then equal, then greater
-pub from_name : {T : Type 0} (n : List ℕ) (ss : List (Shoot T)) → NamesRise ss
+pub from_name : {T : Type 0} (n : List ℕ) (ss : List (Subtree T)) → NamesRise ss
     → IsNonDecreasingBy (λ s. ordering_index (name_cmp s.name n)) ss
 from_name n [] r i j d le lt = absurd (omega arith)
 from_name n (s ∷ ss) r zero zero d le lt = omega arith

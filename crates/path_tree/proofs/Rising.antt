@@ -5,7 +5,7 @@ use Rattle.std.proofs.Common.{◌≡◌, ℕ, List, [], ◌∷◌, ◌++◌, ref
 use Rattle.std.specs.declared.cmp.Ordering.TheVariants.{Less}
 use Rattle.std.specs.Cmp.Lexicographic.{slice_cmp}
 use Rattle.std.specs.List.{AllByRecursion}
-use Rattle.path_tree.specs.Rows.{Shoot, name_cmp, prefixed, spread, NamesRise, PathsRise, whole, IsRising, IsForest}
+use Rattle.path_tree.specs.Rows.{Subtree, name_cmp, prefixed, spread, NamesRise, PathsRise, whole, IsRising, IsForest}
 use Rattle.path_tree.proofs.Names.{itself}
 
 abbrev Above : {T : Type 0} → List (List ℕ) → List (List (List ℕ) × T) → Type 0
@@ -24,7 +24,7 @@ module _ {T : Type 0} where
   above_other n m p [] l = tt
   above_other n m p (x ∷ xs) l = (rw l, above_other n m p xs l)
 
-  above_spread : (n : List ℕ) (p : List (List ℕ)) (ss : List (Shoot T)) → AllByRecursion (λ t. name_cmp n t.name ≡ Less) ss
+  above_spread : (n : List ℕ) (p : List (List ℕ)) (ss : List (Subtree T)) → AllByRecursion (λ t. name_cmp n t.name ≡ Less) ss
       → Above (n ∷ p) (spread ss)
   above_spread n p [] a = tt
   above_spread n p (s ∷ ss) a = (
@@ -33,7 +33,7 @@ module _ {T : Type 0} where
         (above_other n s.name p s.below a.0) (above_spread n p ss a.1),
   )
 
-  joined : (n : List ℕ) (xs : List (List (List ℕ) × T)) (ss : List (Shoot T)) → PathsRise xs
+  joined : (n : List ℕ) (xs : List (List (List ℕ) × T)) (ss : List (Subtree T)) → PathsRise xs
       → AllByRecursion (λ t. name_cmp n t.name ≡ Less) ss → PathsRise (spread ss)
       → PathsRise (prefixed n xs ++ spread ss)
   joined n [] ss r a q = q
@@ -44,7 +44,7 @@ module _ {T : Type 0} where
   )
 
   -- the rows of branches rise, where their names do and the rows of each
-  pub spread_rises : (ss : List (Shoot T)) → NamesRise ss → AllByRecursion IsRising ss → PathsRise (spread ss)
+  pub spread_rises : (ss : List (Subtree T)) → NamesRise ss → AllByRecursion IsRising ss → PathsRise (spread ss)
   spread_rises [] r e = tt
   spread_rises (s ∷ ss) r e =
       let all : PathsRise (whole s) = e.0.rises in (
@@ -54,7 +54,7 @@ module _ {T : Type 0} where
             all.1 r.0 (spread_rises ss r.1 e.1),
       )
 
-  above_root : (ss : List (Shoot T)) → Above [] (spread ss)
+  above_root : (ss : List (Subtree T)) → Above [] (spread ss)
   above_root [] = tt
   above_root (s ∷ ss) = (refl, above_append [] (prefixed s.name s.below) (spread ss) (root s.name s.below) (above_root ss))
     where
@@ -63,5 +63,6 @@ module _ {T : Type 0} where
       root n (x ∷ xs) = (refl, root n xs)
 
   -- a branch over a forest has rising rows, whatever its name and value
-  pub branch_rises : (n : List ℕ) (v : T) (ss : List (Shoot T)) → IsForest ss → IsRising (record { name = n; value = v; below = spread ss })
+  pub branch_rises : (n : List ℕ) (v : T) (ss : List (Subtree T)) → IsForest ss
+      → IsRising (record { name = n; value = v; below = spread ss })
   branch_rises n v ss f = record { rises = (above_root ss, spread_rises ss f.names f.each) }

@@ -4,11 +4,11 @@
 use Rattle.std.proofs.Common.{◌≡◌, ◌≢◌, ◌∙◌, sym, ap, subst, ℕ, inl, inr, List, [], ◌∷◌, ◌++◌, refl, Option, Some, None, Bool, true, false}
 use Rattle.std.specs.Prelude.{nat_eq, cond}
 use Rattle.std.specs.Cmp.Lexicographic.{pointwise}
-use Rattle.path_tree.specs.Rows.{Shoot, prefixed, spread, whole, named, NamesRise, equal_names, at_path}
+use Rattle.path_tree.specs.Rows.{Subtree, prefixed, spread, whole, named, NamesRise, equal_names, at_path}
 use Rattle.path_tree.proofs.Names.{same_or_not, named_below}
 
 -- what the branch that was found has; nothing where none was
-abbrev pub through : {T : Type 0} → Option (Shoot T) → List (List ℕ) → Option T
+abbrev pub through : {T : Type 0} → Option (Subtree T) → List (List ℕ) → Option T
 through None rest = None
 through (Some s) rest = at_path (whole s) rest
 
@@ -44,7 +44,7 @@ module _ {T : Type 0} where
   or_none None = refl
   or_none (Some e) = refl
 
-  at_none : (n : List ℕ) (ss : List (Shoot T)) (p : List (List ℕ)) → named n ss ≡ None → at_path (spread ss) (n ∷ p) ≡ None
+  at_none : (n : List ℕ) (ss : List (Subtree T)) (p : List (List ℕ)) → named n ss ≡ None → at_path (spread ss) (n ∷ p) ≡ None
   at_none n [] p e = refl
   at_none n (s ∷ ss) p e = elim (same_or_not s.name n) [
     | inl x ↦ absurd (let f = rw x.1 at e in cc)
@@ -52,7 +52,7 @@ module _ {T : Type 0} where
         (at_none n ss p (rw x.1 at e))
   ]
 
-  here : (s : Shoot T) (ss : List (Shoot T)) (p : List (List ℕ)) → at_path (spread ss) (s.name ∷ p) ≡ None
+  here : (s : Subtree T) (ss : List (Subtree T)) (p : List (List ℕ)) → at_path (spread ss) (s.name ∷ p) ≡ None
       → at_path (spread (s ∷ ss)) (s.name ∷ p) ≡ at_path (whole s) p
   here s ss [] g = rw (same_itself s.name)
   here s ss (m ∷ p) g = rw (
@@ -64,7 +64,7 @@ module _ {T : Type 0} where
   ) (or_none (at_path s.below (m ∷ p)))
 
   -- a directory has at a path what its branch of the first name has at the rest
-  pub at_spread : (ss : List (Shoot T)) → NamesRise ss → (n : List ℕ) (p : List (List ℕ)) → at_path (spread ss) (n ∷ p)
+  pub at_spread : (ss : List (Subtree T)) → NamesRise ss → (n : List ℕ) (p : List (List ℕ)) → at_path (spread ss) (n ∷ p)
       ≡ through (named n ss) p
   at_spread [] r n p = refl
   at_spread (s ∷ ss) r n p = elim (same_or_not s.name n) [

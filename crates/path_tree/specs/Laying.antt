@@ -1,6 +1,6 @@
 -- One tree laid on another: at each path the values of both.
 use Rattle.std.specs.Prelude.{◌≡◌, ℕ, List, ◌∷◌, Option, Some, None}
-use Rattle.path_tree.specs.Rows.{Shoot, spread, whole, at_path, IsRising, IsForest}
+use Rattle.path_tree.specs.Rows.{Subtree, spread, whole, at_path, IsRising, IsForest}
 
 -- what is at a path where one tree lies on another: f of both values where both have one, else that
 -- of the one that has
@@ -10,14 +10,14 @@ laid_at f None (Some h) = Some h
 laid_at f (Some l) (Some h) = Some (f l h)
 
 -- the branch b is high laid on low
-pub record IsLaid {T : Type 0} (f : T → T → T) (low high b : Shoot T) : Type 0 where
+pub record IsLaid {T : Type 0} (f : T → T → T) (low high b : Subtree T) : Type 0 where
   pub name : b.name ≡ high.name
   pub rising : IsRising b
   pub at : (path : List (List ℕ))
       → at_path (whole b) path ≡ laid_at f (at_path (whole low) path) (at_path (whole high) path)
 
 -- the branches of a directory, laid on those of another one
-pub record AreLaid {T : Type 0} (f : T → T → T) (lows highs out : List (Shoot T)) : Type 0 where
+pub record AreLaid {T : Type 0} (f : T → T → T) (lows highs out : List (Subtree T)) : Type 0 where
   pub forest : IsForest out
   pub at : (n : List ℕ) (path : List (List ℕ)) → at_path (spread out) (n ∷ path)
       ≡ laid_at f (at_path (spread lows) (n ∷ path)) (at_path (spread highs) (n ∷ path))

@@ -15,7 +15,7 @@ abbrev pub Rows : Type 0 → Type 0
 Rows T = List (List (List ℕ) × T)
 
 -- a branch: its name, its value, and the rows below it by their paths from it
-pub record Shoot (T : Type 0) : Type 0 where
+pub record Subtree (T : Type 0) : Type 0 where
   pub name : List ℕ
   pub value : T
   pub below : List (List (List ℕ) × T)
@@ -26,12 +26,12 @@ prefixed n [] = []
 prefixed n (x ∷ xs) = (n ∷ x.0, x.1) ∷ prefixed n xs
 
 -- the rows of branches, one after another, each path beginning with its branch's name
-abbrev pub spread : {T : Type 0} → List (Shoot T) → List (List (List ℕ) × T)
+abbrev pub spread : {T : Type 0} → List (Subtree T) → List (List (List ℕ) × T)
 spread [] = []
 spread (s ∷ ss) = (s.name ∷ [], s.value) ∷ prefixed s.name s.below ++ spread ss
 
 -- the branch's own row and those below it
-abbrev pub whole : {T : Type 0} → Shoot T → List (List (List ℕ) × T)
+abbrev pub whole : {T : Type 0} → Subtree T → List (List (List ℕ) × T)
 whole s = ([], s.value) ∷ s.below
 
 -- by their bytes
@@ -39,7 +39,7 @@ abbrev pub name_cmp : List ℕ → List ℕ → Ordering
 name_cmp = slice_cmp nat_cmp
 
 -- the names rise
-abbrev pub NamesRise : {T : Type 0} → List (Shoot T) → Type 0
+abbrev pub NamesRise : {T : Type 0} → List (Subtree T) → Type 0
 NamesRise [] = Unit {0}
 NamesRise (s ∷ ss) = AllByRecursion (λ t. name_cmp s.name t.name ≡ Less) ss × NamesRise ss
 
@@ -49,21 +49,22 @@ PathsRise [] = Unit {0}
 PathsRise (x ∷ xs) = AllByRecursion (λ y. slice_cmp name_cmp x.0 y.0 ≡ Less) xs × PathsRise xs
 
 -- the paths of a branch rise
-pub record IsRising {T : Type 0} (s : Shoot T) : Type 0 where
+pub record IsRising {T : Type 0} (s : Subtree T) : Type 0 where
   pub rises : PathsRise (whole s)
 
 -- branches in the order of their names, each with rising paths
-pub record IsForest {T : Type 0} (ss : List (Shoot T)) : Type 0 where
+pub record IsForest {T : Type 0} (ss : List (Subtree T)) : Type 0 where
   pub names : NamesRise ss
   pub each : AllByRecursion IsRising ss
 
 -- the first branch of that name
-abbrev pub named : {T : Type 0} → List ℕ → List (Shoot T) → Option (Shoot T)
+abbrev pub named : {T : Type 0} → List ℕ → List (Subtree T) → Option (Subtree T)
 named n [] = None
 named n (s ∷ ss) = if pointwise nat_eq s.name n then Some s else named n ss
 
 -- it is found; none where no branch has the name
-abbrev pub IsFirstNamed : {T : Type 0} → List ℕ → List (Shoot T) → Option (Bor (Shoot T)) → Type 0
+abbrev pub IsFirstNamed : {T : Type 0} → List ℕ → List (Subtree T) → Option (Bor (Subtree T))
+    → Type 0
 IsFirstNamed n ss found = MatchOption found (named n ss ≡ None) (λ c. named n ss ≡ Some c.now)
 
 -- two lists of names are the same
@@ -87,7 +88,7 @@ length_prefixed n [] = omega arith
 length_prefixed n (x ∷ xs) = omega (arith, length_prefixed n xs)
 
 -- a branch has more below it than each of its branches
-most_le_spread : {T : Type 0} (ss : List (Shoot T))
+most_le_spread : {T : Type 0} (ss : List (Subtree T))
     → most (λ s. length s.below + 1) ss ≤ length (spread ss)
 most_le_spread [] = omega arith
 most_le_spread (s ∷ ss) =
@@ -99,6 +100,6 @@ most_le_spread (s ∷ ss) =
     )
 
 -- each branch of a directory has fewer rows below it than the directory has
-pub falls : {T : Type 0} (ss : List (Shoot T))
+pub falls : {T : Type 0} (ss : List (Subtree T))
     → max (most (λ s. length s.below + 1) ss) 0 ≤ length (spread ss)
 falls ss = omega (arith, most_le_spread ss)

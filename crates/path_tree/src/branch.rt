@@ -18,9 +18,9 @@ pub struct Branch<T: Copy + Drop, A: Allocator> {
 
 impl<T: Copy + Drop, A: Allocator> Model for Branch<T, A> {
     ghost use Rattle.std.specs.Prelude.{ℕ, length};
-    ghost use Rattle.path_tree.specs.Rows.{Shoot, spread, IsForest, falls};
+    ghost use Rattle.path_tree.specs.Rows.{Subtree, spread, IsForest, falls};
 
-    ghost Value = { Shoot T };
+    ghost Value = { Subtree T };
 
     ghost view = { λ b.
         record { name = b.name; value = b.value; below = spread b.children.items } };

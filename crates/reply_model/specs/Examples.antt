@@ -3,7 +3,7 @@ use Rattle.std.specs.Prelude.{◌≡◌, false, map, ℤ, pos, negsuc, ℕ, zero
 use Rattle.std.specs.List.{flat_map}
 use Rattle.byteorder.specs.Endian.{big_bytes}
 use Rattle.romfs_format.specs.declared.head.Kind.TheVariants.{HardLink, Directory}
-use Rattle.romfs_format.specs.declared.rule.Rule.TheVariants.{Short, Magic, FullSize, NoRoot, Outside, NameBad, DataOutside, Twice, SameName, MajorLarge, Deep}
+use Rattle.romfs_format.specs.declared.rule.Rule.TheVariants.{Short, Magic, FullSize, NoRoot, Outside, NameBad, DataOutside, LinkedTwice, SameName, MajorLarge, TooDeep}
 use Rattle.romfs_format.specs.Rules.{IsNamedBefore, IsFault}
 use Rattle.romfs_format.specs.Fields.{padded, image, root, kind, exec, next, spec, size, name}
 use Rattle.fuse_wire.specs.declared.limits.TheConstants.{HEADER_SIZE, MAX_DATA_SIZE, MAX_MESSAGE_SIZE}
@@ -116,8 +116,8 @@ pub record FaultOrder : Type 0 where
   pub volume_first : IsNamedBefore NoRoot 0x20 Outside 0x10
   pub lower_place : IsNamedBefore MajorLarge 0x60 Outside 0x80
   pub lower_rule : IsNamedBefore NameBad 0x60 DataOutside 0x60
-  pub twice_before_name : IsNamedBefore Twice 0x60 SameName 0x60
-  pub depth_last : IsNamedBefore MajorLarge 0xfff0 Deep 0x20
+  pub twice_before_name : IsNamedBefore LinkedTwice 0x60 SameName 0x60
+  pub depth_last : IsNamedBefore MajorLarge 0xfff0 TooDeep 0x20
 
 -- the empty image with a wrong first byte and a wrong full size
 abbrev pub two_faults : List ℕ

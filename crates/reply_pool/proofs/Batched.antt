@@ -30,7 +30,8 @@ reaches_end jobs size some = let d : jobs + size - 1 < (jobs + size - 1) / size 
 
 -- jobs have no more batches than a round has messages, where they are no more
 pub batches_few : (jobs size : ℕ) → 1 ≤ size → jobs ≤ MAX_ROUND_MESSAGES → (jobs + size - 1) / size ≤ MAX_ROUND_MESSAGES
-batches_few jobs size some few = dite (dec_le ((jobs + size - 1) / size) MAX_ROUND_MESSAGES) (λ d. d) (λ d. let more : MAX_ROUND_MESSAGES + 1 ≤ (jobs + size - 1) / size =
+batches_few jobs size some few = dite (dec_le ((jobs + size - 1) / size) MAX_ROUND_MESSAGES) (λ d. d) (λ d. let more : MAX_ROUND_MESSAGES
+      + 1 ≤ (jobs + size - 1) / size =
       lt_of_not-le d in
     let m = mul-le-mul_right size more in let e = div-mul-le_self (jobs + size - 1) size in absurd (omega arith))
 

@@ -5,7 +5,8 @@ use Rattle.reply_pool.specs.declared.plan.Plan.{Plan}
 
 -- there are 1 to 64 workers, and 1 to 256 requests in a batch
 abbrev pub IsInRange : ℕ → ℕ → Type 0
-IsInRange workers batch = ((1 ≤ workers) × (workers ≤ MAX_WORKERS)) × (1 ≤ batch) × (batch ≤ MAX_BATCH)
+IsInRange workers batch =
+    ((1 ≤ workers) × (workers ≤ MAX_WORKERS)) × (1 ≤ batch) × (batch ≤ MAX_BATCH)
 
 -- there is a plan exactly for these numbers, and it has them
 abbrev pub IsPlan : ℕ → ℕ → Option Plan → Type 0

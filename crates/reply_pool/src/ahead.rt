@@ -16,7 +16,7 @@ use std::alloc::Allocator;
 
 /// What was read ahead.
 #[derive(Drop)]
-pub(crate) struct Ahead {
+pub(crate) struct LookupsAhead {
     // Where the rows of LOOKUPs may stand, and how many these are.
     places: [usize; MAX_ROUND_MESSAGES],
     len: usize,
@@ -24,10 +24,10 @@ pub(crate) struct Ahead {
     sum: u64,
 }
 
-impl Ahead {
+impl LookupsAhead {
     // Nothing yet.
     pub(crate) fn new() -> Self {
-        Ahead {
+        LookupsAhead {
             places: [0; MAX_ROUND_MESSAGES],
             len: 0,
             sum: 0,

@@ -23,7 +23,7 @@ use std::alloc::Allocator;
 const WORTH: u64 = 1_000_000;
 
 /// The most bytes of replies of a round that workers answer: 2 MiB.
-const MOST_REPLIES: u64 = 2_097_152;
+const MAX_REPLIES: u64 = 2_097_152;
 
 /// The part of each message in a whole round that is just worth workers.
 const PACE: u64 = WORTH / MAX_ROUND_MESSAGES as u64;
@@ -70,7 +70,7 @@ pub(crate) fn worth_workers<A: Allocator>(table: &Table<A>, stream: &[u8]) -> Op
             break;
         };
         let load = expected(table, &Request::read(&rest[..len]));
-        if MOST_REPLIES < room + load.room {
+        if MAX_REPLIES < room + load.room {
             break;
         }
         time += load.time;

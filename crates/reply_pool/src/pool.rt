@@ -8,7 +8,7 @@ ghost use Rattle.serve_loop.specs.Rounds.{change, AppendsAnswer};
 ghost use Rattle.reply_pool.specs.Answers.{answering};
 ghost use Rattle.reply_pool.specs.Spread.{IsSpreadable};
 
-use crate::ahead::Ahead;
+use crate::ahead::LookupsAhead;
 use crate::gathered::Gathered;
 use crate::load::worth_workers;
 use crate::plan::{Plan, pass_batch};
@@ -138,7 +138,7 @@ impl<
             let gathered = (self.workers)(stream, session, messages)?;
             return gathered.append(replies, balances);
         }
-        let mut ahead = Ahead::new();
+        let mut ahead = LookupsAhead::new();
         ahead.read(self.table, stream, balances);
         walk(self, stream, session, replies, balances)
     }

@@ -4,21 +4,21 @@
 use Rattle.std.proofs.Common.{◌≡◌, ◌∙◌, sym, ap, ℕ, inl, inr, List, [], ◌∷◌, get_or, refl}
 use Rattle.std.proofs.lemmas.Bool.{cases_order}
 use Rattle.romfs_format.specs.declared.rule.Rule.{Rule}
-use Rattle.romfs_format.specs.declared.rule.Rule.TheVariants.{Short, Magic, FullSize, Sum, VolumeName, NoRoot, Outside, NameOpen, NameBad, DataOutside, TargetLong, Twice, SameName, LinkLoop, LinkDirectory, MajorLarge, HeaderSum, Deep}
+use Rattle.romfs_format.specs.declared.rule.Rule.TheVariants.{Short, Magic, FullSize, BadSum, VolumeName, NoRoot, Outside, NameOpen, NameBad, DataOutside, TargetLong, LinkedTwice, SameName, LinkLoop, LinkDirectory, MajorLarge, HeaderSum, TooDeep}
 use Rattle.romfs_format.specs.declared.rule.Profile.{Profile}
 use Rattle.romfs_format.specs.declared.rule.Profile.TheVariants.{Usual, Strict}
 use Rattle.romfs_format.specs.Rules.{rule_number, stage, Breaks, BreaksAs, IsFaultAs, IsSoundAs}
 
 rules : List Rule
-rules = Short ∷ Magic ∷ FullSize ∷ Sum ∷ VolumeName ∷ NoRoot ∷ Outside ∷ NameOpen ∷ NameBad ∷ DataOutside
-    ∷ TargetLong ∷ Twice ∷ SameName ∷ LinkLoop ∷ LinkDirectory ∷ MajorLarge ∷ HeaderSum ∷ Deep ∷ []
+rules = Short ∷ Magic ∷ FullSize ∷ BadSum ∷ VolumeName ∷ NoRoot ∷ Outside ∷ NameOpen ∷ NameBad ∷ DataOutside
+    ∷ TargetLong ∷ LinkedTwice ∷ SameName ∷ LinkLoop ∷ LinkDirectory ∷ MajorLarge ∷ HeaderSum ∷ TooDeep ∷ []
 
 numbered : (r : Rule) → get_or rules (rule_number r) Short ≡ r
 unfolding rules
 numbered Short = refl
 numbered Magic = refl
 numbered FullSize = refl
-numbered Sum = refl
+numbered BadSum = refl
 numbered VolumeName = refl
 numbered NoRoot = refl
 numbered Outside = refl
@@ -26,13 +26,13 @@ numbered NameOpen = refl
 numbered NameBad = refl
 numbered DataOutside = refl
 numbered TargetLong = refl
-numbered Twice = refl
+numbered LinkedTwice = refl
 numbered SameName = refl
 numbered LinkLoop = refl
 numbered LinkDirectory = refl
 numbered MajorLarge = refl
 numbered HeaderSum = refl
-numbered Deep = refl
+numbered TooDeep = refl
 
 -- rules with one number are one rule
 pub one_rule : (r s : Rule) → rule_number r ≡ rule_number s → r ≡ s
@@ -65,7 +65,7 @@ strict_breaks : (b : List ℕ) (r : Rule) (p : ℕ) → Breaks b r p → BreaksA
 strict_breaks b Short p x = x
 strict_breaks b Magic p x = x
 strict_breaks b FullSize p x = x
-strict_breaks b Sum p x = x
+strict_breaks b BadSum p x = x
 strict_breaks b VolumeName p x = x
 strict_breaks b NoRoot p x = x
 strict_breaks b Outside p x = x
@@ -73,13 +73,13 @@ strict_breaks b NameOpen p x = x
 strict_breaks b NameBad p x = x
 strict_breaks b DataOutside p x = x
 strict_breaks b TargetLong p x = x
-strict_breaks b Twice p x = x
+strict_breaks b LinkedTwice p x = x
 strict_breaks b SameName p x = x
 strict_breaks b LinkLoop p x = x
 strict_breaks b LinkDirectory p x = x
 strict_breaks b MajorLarge p x = x
 strict_breaks b HeaderSum p x = absurd x
-strict_breaks b Deep p x = x
+strict_breaks b TooDeep p x = x
 
 -- what is sound under the strict profile is sound under the usual one
 pub strict_sound : (b : List ℕ) → IsSoundAs Strict b → IsSoundAs Usual b

@@ -8,7 +8,7 @@ use Rattle.romfs_format.specs.declared.rule.Rule.{Rule}
 use Rattle.romfs_format.specs.declared.rule.ImageFault.{ImageFault}
 use Rattle.romfs_format.specs.declared.rule.Profile.{Profile}
 use Rattle.romfs_format.specs.declared.rule.Profile.TheVariants.{Usual, Strict}
-use Rattle.romfs_format.specs.declared.rule.Rule.TheVariants.{Short, Magic, FullSize, Sum, VolumeName, NoRoot, Outside, NameOpen, NameBad, DataOutside, TargetLong, Twice, SameName, LinkLoop, LinkDirectory, MajorLarge, HeaderSum, Deep}
+use Rattle.romfs_format.specs.declared.rule.Rule.TheVariants.{Short, Magic, FullSize, BadSum, VolumeName, NoRoot, Outside, NameOpen, NameBad, DataOutside, TargetLong, LinkedTwice, SameName, LinkLoop, LinkDirectory, MajorLarge, HeaderSum, TooDeep}
 use Rattle.romfs_format.specs.Fields.{word, image, summed, text_at, word_sum, root, IsInside, kind, spec, size, name, data_at, header_bytes}
 use Rattle.romfs_format.specs.Chains.{Stands, IsMember, IsSomeMember, Has}
 use Rattle.romfs_format.specs.Links.{Field, IsLink, IsHardLink, EndsAs, IsTarget, IsReached}
@@ -84,7 +84,7 @@ BreaksHeaderAs profile a NameBad h =
 BreaksHeaderAs profile a DataOutside h =
     IsUsed a h × HasData a h × IsSomeAnd (name a h) (EndsOutside a h)
 BreaksHeaderAs profile a TargetLong h = IsUsed a h × HasLongTarget a h
-BreaksHeaderAs profile a Twice h = IsLinkedTwice a h ⊎ IsRootElsewhere a h
+BreaksHeaderAs profile a LinkedTwice h = IsLinkedTwice a h ⊎ IsRootElsewhere a h
 BreaksHeaderAs profile a SameName h = (g : ℕ) × IsNamesake a g h
 BreaksHeaderAs profile a LinkLoop h = IsSomeMember a h × IsHardLink a h × EndsAs a h Nowhere
 BreaksHeaderAs profile a LinkDirectory h =
@@ -92,7 +92,8 @@ BreaksHeaderAs profile a LinkDirectory h =
 BreaksHeaderAs profile a MajorLarge h = IsUsed a h × HasLargeMajor a h
 BreaksHeaderAs Strict a HeaderSum h = IsReached a h × IsInside a h × HasBadSum a h
 BreaksHeaderAs Usual a HeaderSum h = ⊥
-BreaksHeaderAs profile a Deep h = (path : List (List ℕ)) × Has a path h × (MAX_NAMES < length path)
+BreaksHeaderAs profile a TooDeep h =
+    (path : List (List ℕ)) × Has a path h × (MAX_NAMES < length path)
 BreaksHeaderAs profile a _ h = ⊥
 
 -- no header fits at the root's place, or it is no directory's
@@ -104,7 +105,7 @@ abbrev pub BreaksAs : Profile → List ℕ → Rule → ℕ → Type 0
 BreaksAs profile b Short p = (length b < HEAD_SIZE) × (p ≡ 0)
 BreaksAs profile b Magic p = (¬ StartsWith b magic) × (p ≡ 0)
 BreaksAs profile b FullSize p = ((length b < word b 8) ⊎ (word b 8 < HEAD_SIZE)) × (p ≡ 8)
-BreaksAs profile b Sum p = (word_sum (summed (image b)) % 2 ^ 32 ≢ 0) × (p ≡ 12)
+BreaksAs profile b BadSum p = (word_sum (summed (image b)) % 2 ^ 32 ≢ 0) × (p ≡ 12)
 BreaksAs profile b VolumeName p = IsNone (text_at (image b) HEAD_SIZE) × (p ≡ HEAD_SIZE)
 BreaksAs profile b NoRoot p = HasNoRoot (image b) × (p ≡ root (image b))
 BreaksAs profile b r p = BreaksHeaderAs profile (image b) r p
@@ -122,7 +123,7 @@ abbrev pub rule_number : Rule → ℕ
 rule_number Short = 0
 rule_number Magic = 1
 rule_number FullSize = 2
-rule_number Sum = 3
+rule_number BadSum = 3
 rule_number VolumeName = 4
 rule_number NoRoot = 5
 rule_number Outside = 6
@@ -130,13 +131,13 @@ rule_number NameOpen = 7
 rule_number NameBad = 8
 rule_number DataOutside = 9
 rule_number TargetLong = 10
-rule_number Twice = 11
+rule_number LinkedTwice = 11
 rule_number SameName = 12
 rule_number LinkLoop = 13
 rule_number LinkDirectory = 14
 rule_number MajorLarge = 15
 rule_number HeaderSum = 16
-rule_number Deep = 17
+rule_number TooDeep = 17
 
 -- the rules of the volume header one by one, then all rules of file headers together, then the
 -- depth

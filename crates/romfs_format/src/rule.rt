@@ -14,7 +14,7 @@ pub enum Rule {
     /// The full size is 16 or more, and no more than there are bytes.
     FullSize,
     /// The words of the first [`SUMMED_SIZE`](crate::limits::SUMMED_SIZE) bytes sum to 0.
-    Sum,
+    BadSum,
     /// The volume name ends, and its padding lies within the full size.
     VolumeName,
     /// A directory's header stands after the volume name.
@@ -30,7 +30,7 @@ pub enum Rule {
     /// A link's target has at most [`MAX_TARGET_SIZE`](crate::limits::MAX_TARGET_SIZE) bytes.
     TargetLong,
     /// A header is named by one link alone, and the root's by no other directory's chain.
-    Twice,
+    LinkedTwice,
     /// A directory holds a name once.
     SameName,
     /// A hard link leads to something that is no hard link.
@@ -43,7 +43,7 @@ pub enum Rule {
     /// profile alone asks it.
     HeaderSum,
     /// A path has at most [`MAX_NAMES`](crate::limits::MAX_NAMES) names.
-    Deep,
+    TooDeep,
 }
 
 /// Which rules an image has to keep: all of them, or all but [`Rule::HeaderSum`].
@@ -73,7 +73,7 @@ impl fmt::Display for Rule {
             Rule::Short => write!(f, "too short"),
             Rule::Magic => write!(f, "not romfs"),
             Rule::FullSize => write!(f, "bad full size"),
-            Rule::Sum => write!(f, "bad sum"),
+            Rule::BadSum => write!(f, "bad sum"),
             Rule::VolumeName => write!(f, "bad volume name"),
             Rule::NoRoot => write!(f, "no root"),
             Rule::Outside => write!(f, "header outside"),
@@ -81,13 +81,13 @@ impl fmt::Display for Rule {
             Rule::NameBad => write!(f, "bad name"),
             Rule::DataOutside => write!(f, "data outside"),
             Rule::TargetLong => write!(f, "target too long"),
-            Rule::Twice => write!(f, "linked twice"),
+            Rule::LinkedTwice => write!(f, "linked twice"),
             Rule::SameName => write!(f, "name twice"),
             Rule::LinkLoop => write!(f, "link loop"),
             Rule::LinkDirectory => write!(f, "link to directory"),
             Rule::MajorLarge => write!(f, "major too large"),
             Rule::HeaderSum => write!(f, "bad header sum"),
-            Rule::Deep => write!(f, "too deep"),
+            Rule::TooDeep => write!(f, "too deep"),
         }
     }
 }

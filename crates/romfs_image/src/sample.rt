@@ -9,7 +9,7 @@ ghost use Rattle.romfs_image.specs.declared.sample.BuildFault.TheVariants.{Memor
 mod layout;
 
 use byteorder::{BigEndian, ByteOrder};
-use layout::{Layout, Spot, data_of, is_directory, is_listing};
+use layout::{Layout, Placement, data_of, is_directory, is_listing};
 use romfs_format::limits::{HEAD_SIZE, SUMMED_SIZE};
 use romfs_format::read::{word, word_sum};
 use std::alloc::{AllocError, AllocFailed, Allocator};
@@ -108,8 +108,8 @@ pub fn build<A: Allocator + Copy>(
     let mut image = Vec::with_capacity(alloc, layout.full as usize)?;
     put_volume(&mut image, layout.full, volume)?;
     put_root(&mut image, &layout.root)?;
-    for (item, spot) in items.iter().zip(&layout.spots) {
-        put_item(&mut image, &layout, spot, item)?;
+    for (item, placement) in items.iter().zip(&layout.placements) {
+        put_item(&mut image, &layout, placement, item)?;
     }
     seal(&mut image);
     Ok(image)
@@ -150,7 +150,7 @@ fn put_volume<A: Allocator>(
 }
 
 /// The root's `.`, an executable directory, and its `..`, which is a hard link to it.
-fn put_root<A: Allocator>(image: &mut Vec<u8, A>, root: &Spot) -> Result<(), AllocError> {
+fn put_root<A: Allocator>(image: &mut Vec<u8, A>, root: &Placement) -> Result<(), AllocError> {
     put_head(image, [root.dot_dot | 9, root.at, 0], b".")?;
     put_head(image, [root.first, root.above, 0], b"..")
 }
@@ -159,17 +159,17 @@ fn put_root<A: Allocator>(image: &mut Vec<u8, A>, root: &Spot) -> Result<(), All
 fn put_item<A: Allocator>(
     image: &mut Vec<u8, A>,
     layout: &Layout<A>,
-    spot: &Spot,
+    placement: &Placement,
     item: &Item<A>,
 ) -> Result<(), BuildFault> {
     let data = data_of(item);
     let exec = if item.exec { 8 } else { 0 };
-    let (kind, info) = kind_and_info(layout, spot, &item.what);
+    let (kind, info) = kind_and_info(layout, placement, &item.what);
     let size = u32::try_from(data.len()).map_err(|_| BuildFault::Size)?;
-    put_head(image, [spot.next | exec | kind, info, size], &item.name)?;
+    put_head(image, [placement.next | exec | kind, info, size], &item.name)?;
     if is_directory(item) {
-        put_head(image, [spot.dot_dot, spot.at, 0], b".")?;
-        put_head(image, [spot.first, spot.above, 0], b"..")?;
+        put_head(image, [placement.dot_dot, placement.at, 0], b".")?;
+        put_head(image, [placement.first, placement.above, 0], b"..")?;
     }
     image.extend_from_slice(data)?;
     put_zeros(image)?;
@@ -177,10 +177,14 @@ fn put_item<A: Allocator>(
 }
 
 /// The kind of a header as a number, and its spec.info.
-fn kind_and_info<A: Allocator>(layout: &Layout<A>, spot: &Spot, what: &What<A>) -> (u32, u32) {
+fn kind_and_info<A: Allocator>(
+    layout: &Layout<A>,
+    placement: &Placement,
+    what: &What<A>,
+) -> (u32, u32) {
     match what {
         What::Hard(index) => (0, layout.place_of(*index)),
-        What::Directory => (1, spot.dot),
+        What::Directory => (1, placement.dot),
         What::Regular(_) => (2, 0),
         What::SymLink(_) => (3, 0),
         What::Block(major, minor) => (4, device(*major, *minor)),

@@ -7,7 +7,7 @@ use Rattle.std.proofs.lemmas.List.{take_all}
 use Rattle.romfs_format.specs.declared.head.Kind.{Kind}
 use Rattle.romfs_format.specs.declared.head.Kind.TheVariants.{HardLink, Directory, Regular, SymLink, Block, Character, Socket, Fifo}
 use Rattle.romfs_format.specs.declared.rule.Rule.{Rule}
-use Rattle.romfs_format.specs.declared.rule.Rule.TheVariants.{NoRoot, Outside, NameOpen, DataOutside, Twice, LinkLoop, LinkDirectory}
+use Rattle.romfs_format.specs.declared.rule.Rule.TheVariants.{NoRoot, Outside, NameOpen, DataOutside, LinkedTwice, LinkLoop, LinkDirectory}
 use Rattle.romfs_format.specs.Fields.{image, root, IsInside, kind, name}
 use Rattle.romfs_format.specs.Chains.{IsAt, IsOpened, IsSomeMember}
 use Rattle.romfs_format.specs.Links.{first_of, next_of, IsReached}
@@ -66,8 +66,8 @@ module _ (a : List ℕ) (i : IsImage a) where
   not_data_outside h x = i.sound.keeps DataOutside h (to_image DataOutside h x)
 
   -- no header is named by two fields, nor is the root's in the chain of another directory
-  pub not_twice : (h : ℕ) → ¬ BreaksHeader a Twice h
-  not_twice h x = i.sound.keeps Twice h (to_image Twice h x)
+  pub not_twice : (h : ℕ) → ¬ BreaksHeader a LinkedTwice h
+  not_twice h x = i.sound.keeps LinkedTwice h (to_image LinkedTwice h x)
 
   -- no member is a hard link whose chain ends nowhere
   pub not_loop : (h : ℕ) → ¬ BreaksHeader a LinkLoop h

@@ -6,7 +6,7 @@ use Rattle.std.proofs.lemmas.List.{take_all, length-take-le, get_or-drop, get_or
 use Rattle.std.proofs.lemmas.Bool.{cases_lt}
 use Rattle.std.proofs.Math.Seq.{take-append-add}
 use Rattle.romfs_format.specs.declared.rule.Rule.{Rule}
-use Rattle.romfs_format.specs.declared.rule.Rule.TheVariants.{Short, Magic, FullSize, Sum, VolumeName, NoRoot, Outside, NameOpen, NameBad, DataOutside, TargetLong, Twice, SameName, LinkLoop, LinkDirectory, MajorLarge, HeaderSum, Deep}
+use Rattle.romfs_format.specs.declared.rule.Rule.TheVariants.{Short, Magic, FullSize, BadSum, VolumeName, NoRoot, Outside, NameOpen, NameBad, DataOutside, TargetLong, LinkedTwice, SameName, LinkLoop, LinkDirectory, MajorLarge, HeaderSum, TooDeep}
 use Rattle.std.specs.Prelude.{IsNone}
 use Rattle.romfs_format.specs.declared.head.Kind.TheVariants.{Directory}
 use Rattle.romfs_format.specs.Fields.{word, image, root, word_sum, summed, text_at, kind}
@@ -44,7 +44,7 @@ module _ (b : List ℕ) (v : IsVolume b) (long : 16 ≤ word b 8) (within : word
   kept Short p l x = let s = size_is in let y = x.0 in omega arith
   kept Magic p l x = v.keeps Magic p l ((λ s. x.0 (cut s)), x.1)
   kept FullSize p l x = let s = size_is in let w = same_word in elim x.0 [ inl y ↦ omega arith | inr y ↦ omega arith ]
-  kept Sum p l x = v.keeps Sum p l (subst (λ a. (word_sum (summed a) % 2 ^ 32 ≢ 0) × (p ≡ 12)) twice x)
+  kept BadSum p l x = v.keeps BadSum p l (subst (λ a. (word_sum (summed a) % 2 ^ 32 ≢ 0) × (p ≡ 12)) twice x)
   kept VolumeName p l x = v.keeps VolumeName p l (subst (λ a. IsNone (text_at a 16) × (p ≡ 16)) twice x)
   kept NoRoot p l x = v.keeps NoRoot p l (subst (λ a. ((length a < root a + 16) ⊎ (kind a (root a) ≢ Directory)) × (p ≡ root a)) twice x)
   kept _ p l x = omega arith
@@ -57,7 +57,7 @@ module _ (b : List ℕ) (v : IsVolume b) (long : 16 ≤ word b 8) (within : word
     kept_all Short p = kept Short p (lit< tt)
     kept_all Magic p = kept Magic p (lit< tt)
     kept_all FullSize p = kept FullSize p (lit< tt)
-    kept_all Sum p = kept Sum p (lit< tt)
+    kept_all BadSum p = kept BadSum p (lit< tt)
     kept_all VolumeName p = kept VolumeName p (lit< tt)
     kept_all NoRoot p = kept NoRoot p (lit< tt)
     kept_all Outside p = header_kept Outside p (sound.keeps Outside p)
@@ -65,13 +65,13 @@ module _ (b : List ℕ) (v : IsVolume b) (long : 16 ≤ word b 8) (within : word
     kept_all NameBad p = header_kept NameBad p (sound.keeps NameBad p)
     kept_all DataOutside p = header_kept DataOutside p (sound.keeps DataOutside p)
     kept_all TargetLong p = header_kept TargetLong p (sound.keeps TargetLong p)
-    kept_all Twice p = header_kept Twice p (sound.keeps Twice p)
+    kept_all LinkedTwice p = header_kept LinkedTwice p (sound.keeps LinkedTwice p)
     kept_all SameName p = header_kept SameName p (sound.keeps SameName p)
     kept_all LinkLoop p = header_kept LinkLoop p (sound.keeps LinkLoop p)
     kept_all LinkDirectory p = header_kept LinkDirectory p (sound.keeps LinkDirectory p)
     kept_all MajorLarge p = header_kept MajorLarge p (sound.keeps MajorLarge p)
     kept_all HeaderSum p = λ x. x
-    kept_all Deep p = header_kept Deep p (sound.keeps Deep p)
+    kept_all TooDeep p = header_kept TooDeep p (sound.keeps TooDeep p)
 
     -- the accessible bytes of a sound image are an image, given the bounds of its full size
     pub is_image : word b 8 < 2 ^ 32 → IsImage (image b)

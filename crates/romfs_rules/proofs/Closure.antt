@@ -16,7 +16,7 @@ use Rattle.romfs_rules.specs.Leads.{IsTheOne, LeadsOn, on, down, IsStart, AreSta
 use Rattle.romfs_rules.proofs.Lists.{none_in, one_in, has_one}
 use Rattle.romfs_rules.proofs.Slots.{cleared_at, cleared_in_chain, one_more}
 use Rattle.romfs_rules.proofs.Standing.{opened_in}
-use Rattle.graph_climb.proofs.Marks.{no_marks, newly_set, still_set, unmarked, marks_fall}
+use Rattle.successor_graph.proofs.Marks.{no_marks, newly_set, still_set, unmarked, marks_fall}
 
 -- g has been marked, lies outside, or is still to come
 abbrev pub IsSettled : List ℕ → List ℕ → List Bool → ℕ → Type 0

@@ -15,7 +15,7 @@ use Rattle.romfs_rules.specs.Leads.{IsInSomeChain}
 use Rattle.slot_sets.proofs.Unions.{over_to}
 use Rattle.romfs_rules.proofs.Slots.{outside_set, twice_cleared, cleared_root, cleared_in_chain, inside_opened, cleared_opened}
 use Rattle.romfs_rules.proofs.Standing.{opened, in_some_chain}
-use Rattle.graph_climb.proofs.Marks.{no_marks}
+use Rattle.successor_graph.proofs.Marks.{no_marks}
 
 module _ (a : List ℕ) where
   cleared_link : (f : Field) (h : ℕ) → IsLink a f h → cleared h ≡ h

@@ -14,7 +14,7 @@ use Rattle.romfs_rules.specs.Leads.{IsInSomeChain}
 use Rattle.slot_sets.proofs.Unions.{over_to}
 use Rattle.romfs_rules.proofs.Slots.{outside_set, twice_cleared, cleared_in_chain}
 use Rattle.romfs_rules.proofs.Standing.{member_in_chain}
-use Rattle.graph_climb.proofs.Marks.{unmarked, marks_fall, newly_set, still_set, was_set}
+use Rattle.successor_graph.proofs.Marks.{unmarked, marks_fall, newly_set, still_set, was_set}
 
 -- where a hard link on a destination chain leads is on that chain too
 pub goes_on : (a : List ℕ) {h g : ℕ} → IsDestination a h g → IsHardLink a g → IsDestination a h (destination a g)

@@ -11,8 +11,8 @@ use Rattle.slot_sets.proofs.Listing.{places, last}
 use Rattle.slot_sets.specs.Sets.{rank}
 use Rattle.slot_sets.specs.Listed.{AreCollected}
 use Rattle.romfs_rules.specs.Marks.{AreMarks, IsListOf}
-use Rattle.graph_climb.specs.Climb.{AreBelow}
-use Rattle.name_classes.specs.Names.{AreClasses}
+use Rattle.successor_graph.specs.Climb.{AreBelow}
+use Rattle.equal_keys.specs.Names.{AreClasses}
 use Rattle.romfs_rules.specs.SameNames.{IsNextNumber, AreNextNumbers, AreChosen}
 
 -- the list has, for each of the first headers, the number of the header after it

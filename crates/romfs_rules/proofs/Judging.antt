@@ -5,7 +5,7 @@ use Rattle.std.proofs.Common.{◌≡◌, ◌∙◌, sym, subst, ℕ, ◌/◌, �
 use Rattle.std.proofs.lemmas.Bool.{false≢true}
 use Rattle.romfs_format.specs.declared.head.End.{End}
 use Rattle.romfs_format.specs.declared.head.End.TheVariants.{AtDirectory, AtOther, Nowhere}
-use Rattle.romfs_format.specs.declared.rule.Rule.TheVariants.{DataOutside, Twice, SameName}
+use Rattle.romfs_format.specs.declared.rule.Rule.TheVariants.{DataOutside, LinkedTwice, SameName}
 use Rattle.romfs_format.specs.Fields.{root, name}
 use Rattle.romfs_format.specs.Chains.{IsSomeMember}
 use Rattle.romfs_format.specs.Links.{IsHardLink, IsDirectory, IsFinal, stays, follows, EndsAs}
@@ -80,12 +80,12 @@ data_says a h n b e l t = (
 )
 
 -- equal names are known of a header that no two links name
-alone : (a : List ℕ) (h : ℕ) → (IsElsewhere a (root a) → h ≡ root a) → ¬ BreaksHeader a Twice h → ¬ IsElsewhere a (root a)
+alone : (a : List ℕ) (h : ℕ) → (IsElsewhere a (root a) → h ≡ root a) → ¬ BreaksHeader a LinkedTwice h → ¬ IsElsewhere a (root a)
 alone a h only once e = once (inr ((root_elsewhere a h (only e)).0 (subst (λ y. IsElsewhere a y) (sym (only e)) e)))
 
 -- where no two links name a header, looking it up among equal names says if it breaks that rule
 pub listed_says : (a : List ℕ) (h : ℕ) (hs : List ℕ) (b : Bool) → HaveSameNamesIfAlone a hs
-    → (IsElsewhere a (root a) → h ≡ root a) → IsTrue b ↔ Contains hs h → ¬ BreaksHeader a Twice h
+    → (IsElsewhere a (root a) → h ≡ root a) → IsTrue b ↔ Contains hs h → ¬ BreaksHeader a LinkedTwice h
     → IsTrue b ↔ BreaksHeader a SameName h
 listed_says a h hs b s only t once =
     let n = s.names (alone a h only once) in

@@ -4,9 +4,9 @@
 use Rattle.std.proofs.Common.{◌≡◌, ◌∙◌, sym, ap, ℕ, ◌+◌, inl, inr, List, [], ◌∷◌, ◌++◌, length, Bool, Option, Some, None, arith, length-append}
 use Rattle.std.specs.Prelude.{slice_index}
 use Rattle.std.proofs.lemmas.List.{get_or_at, get_or_append_left}
-use Rattle.lone_keys.specs.Once.{AreSeenOnce}
-use Rattle.name_classes.specs.Names.{name_hash}
-use Rattle.name_classes.proofs.Keyed.{below_or_at}
+use Rattle.equal_keys.specs.Once.{AreSeenOnce}
+use Rattle.equal_keys.specs.Names.{name_hash}
+use Rattle.equal_keys.proofs.Keyed.{below_or_at}
 use Rattle.romfs_rules.specs.Names.{AreNameHashes, HaveTheirsAlone}
 
 -- names that are there, and equal as such, are equal

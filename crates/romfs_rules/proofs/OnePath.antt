@@ -3,7 +3,7 @@
 -- which a walk comes to a header says whether it is too deep (is_deep, too_deep).
 use Rattle.std.proofs.Common.{◌≡◌, ◌≢◌, sym, ap, subst, ℕ, zero, suc, ◌+◌, ◌<◌, ◌≤◌, ◌⊎◌, inl, inr, List, [], ◌∷◌, ◌++◌, length, Option, Some, None, refl, arith, lit≤, lit<, length-append}
 use Rattle.std.proofs.lemmas.Bool.{cases_eq, cases_order}
-use Rattle.romfs_format.specs.declared.rule.Rule.TheVariants.{Outside, NameOpen, Twice, Deep}
+use Rattle.romfs_format.specs.declared.rule.Rule.TheVariants.{Outside, NameOpen, LinkedTwice, TooDeep}
 use Rattle.romfs_rules.specs.declared.depth.Waiting.{Waiting}
 use Rattle.romfs_format.specs.declared.limits.TheConstants.{HEAD_SIZE, MAX_NAMES}
 use Rattle.romfs_format.specs.Fields.{root, IsInside, name}
@@ -29,7 +29,7 @@ pub record StandsBelow (a : List ℕ) (n h : ℕ) : Type 0 where
 
 module _ (a : List ℕ) (keeps : KeepsAllHeaderRules Usual a) where
   not_twice : (h : ℕ) (f g : Field) → f ≢ g → IsLink a f h → IsLink a g h → ⊥
-  not_twice h f g n l m = keeps.keeps Twice h (lit≤ tt, lit< tt) (inl (f, g, n, l, m))
+  not_twice h f g n l m = keeps.keeps LinkedTwice h (lit≤ tt, lit< tt) (inl (f, g, n, l, m))
 
   one_first : (d e h : ℕ) → IsLink a (first_of d) h → IsLink a (first_of e) h → d ≡ e
   one_first d e h l m = elim (cases_eq d e) [ inl s ↦ s | inr n ↦ absurd (not_twice h (first_of d) (first_of e) (λ s. n cc) l m) ]
@@ -56,7 +56,7 @@ module _ (a : List ℕ) (keeps : KeepsAllHeaderRules Usual a) where
   pub no_root : (d h : ℕ) → IsMember a d h → h ≢ root a
   no_root d h m r = elim (cases_eq d (root a)) [
     | inl e ↦ m.kept (inl (e, r))
-    | inr n ↦ keeps.keeps Twice h (lit≤ tt, lit< tt) (inr (r, (d, n, record { opened = m.opened; in_chain = m.in_chain })))
+    | inr n ↦ keeps.keeps LinkedTwice h (lit≤ tt, lit< tt) (inr (r, (d, n, record { opened = m.opened; in_chain = m.in_chain })))
   ]
 
   one_depth : (n m d : ℕ) → IsBelow a n d → IsBelow a m d → n ≡ m
@@ -122,7 +122,7 @@ module _ (a : List ℕ) (keeps : KeepsAllHeaderRules Usual a) where
 
   -- a header that is too deep is a member of a directory to which at least as many names lead as a
   -- path may have
-  pub deep_at : (h : ℕ) → BreaksHeader a Deep h → (n : ℕ) × (MAX_NAMES ≤ n) × (d : ℕ) × IsBelow a n d × IsMember a d h
+  pub deep_at : (h : ℕ) → BreaksHeader a TooDeep h → (n : ℕ) × (MAX_NAMES ≤ n) × (d : ℕ) × IsBelow a n d × IsMember a d h
   deep_at h x = go (0 + length x.0) (leads_below x.0 0 (root a) h refl x.1) (let l = x.2 in omega arith)
     where
       go : (k : ℕ) → IsBelow a k h → MAX_NAMES < k → (n : ℕ) × (MAX_NAMES ≤ n) × (d : ℕ) × IsBelow a n d × IsMember a d h
@@ -134,7 +134,7 @@ module _ (a : List ℕ) (keeps : KeepsAllHeaderRules Usual a) where
   stands_member n d h b m = record { dir = d; below = b; opened = m.opened; in_chain = m.in_chain }
 
   -- a header that a walk finds too deep breaks the rule on depth
-  pub is_deep : (w : Waiting) → StandsBelow a w.names w.header → IsTooDeep a w → BreaksHeader a Deep w.header
+  pub is_deep : (w : Waiting) → StandsBelow a w.names w.header → IsTooDeep a w → BreaksHeader a TooDeep w.header
   is_deep w s t =
       let m : IsMember a s.dir w.header = record { opened = s.opened; in_chain = s.in_chain; kept =
             elim [ inl x ↦ t.1 x.1 | inr x ↦ t.2 x ] } in
@@ -142,7 +142,7 @@ module _ (a : List ℕ) (keeps : KeepsAllHeaderRules Usual a) where
       (r.0, r.1, (let k : length r.0 ≡ suc w.names = r.2 in let l = t.0 in omega arith))
 
   -- a header that breaks the rule on depth is one that a walk finds too deep
-  pub too_deep : (w : Waiting) → StandsBelow a w.names w.header → BreaksHeader a Deep w.header → IsTooDeep a w
+  pub too_deep : (w : Waiting) → StandsBelow a w.names w.header → BreaksHeader a TooDeep w.header → IsTooDeep a w
   too_deep w s x =
       let y = deep_at w.header x in
       let e = one_standing y.0 w.names w.header (stands_member y.0 y.2 w.header y.3 y.4) s in

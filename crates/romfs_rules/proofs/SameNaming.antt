@@ -8,8 +8,8 @@ use Rattle.std.specs.Prelude.{◌==◌, ◌||◌, Contains}
 use Rattle.romfs_format.specs.Fields.{root, IsInside, name, next, is_dot_name}
 use Rattle.romfs_format.specs.Chains.{IsNext, IsAt, IsInChain, IsPassedOver, IsDotted, IsOpened, IsMember}
 use Rattle.romfs_rules.specs.Marks.{IsElsewhere, HasSameName, AreMarks}
-use Rattle.graph_climb.specs.Climb.{After, one, more, AreNoted}
-use Rattle.name_classes.specs.Names.{AreClasses, AreApart}
+use Rattle.successor_graph.specs.Climb.{After, one, more, AreNoted}
+use Rattle.equal_keys.specs.Names.{AreClasses, AreNamesApart}
 use Rattle.romfs_rules.specs.Names.{unless_dotted, kept_name}
 use Rattle.slot_sets.specs.Listed.{AreCollected}
 use Rattle.romfs_rules.specs.SameNames.{IsLinked, AreNumbered, IsNextNumber, AreNextNumbers, AreChosen, HaveSameNames}
@@ -245,7 +245,7 @@ module _ (a heads : List ℕ) (set : List Bool) (n : AreNumbered a heads set) (o
           }
 
   -- where no two headers have one name, none has the name of another
-  pub none_alike : AreApart (λ i. kept_name a (get_or heads i 0)) (length heads) → HaveSameNames a []
+  pub none_alike : AreNamesApart (λ i. kept_name a (get_or heads i 0)) (length heads) → HaveSameNames a []
   none_alike w = record {
     each = λ h x. absurd (let l = x.1 in omega arith);
     all = λ h x. (

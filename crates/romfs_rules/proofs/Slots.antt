@@ -9,7 +9,7 @@ use Rattle.romfs_format.specs.Fields.{root, text_at, text_end, IsInside, spec, c
 use Rattle.romfs_format.specs.Chains.{IsAt, IsInChain, IsOpened, at_root, below}
 use Rattle.romfs_format.specs.Links.{IsDestination, here, there}
 use Rattle.slot_sets.specs.Sets.{IsClear, IsUnion}
-use Rattle.graph_climb.proofs.Marks.{was_set}
+use Rattle.successor_graph.proofs.Marks.{was_set}
 use Rattle.romfs_rules.specs.Marks.{HasSlot, IsVolumeImage, IsMarked, AreMarks}
 
 -- the root's header stands at a multiple of 16

@@ -4,7 +4,7 @@
 use Rattle.std.proofs.Common.{◌≡◌, ◌∙◌, sym, subst, ℕ, ◌+◌, ◌*◌, ◌/◌, ◌<◌, ◌≤◌, ◌↔◌, ◌⊎◌, inl, inr, List, length, Bool, true, false, get_or, Option, Some, None, refl, arith, lit<, lit≤}
 use Rattle.std.proofs.lemmas.Bool.{cases_order, cases_lt}
 use Rattle.romfs_format.specs.declared.rule.Rule.{Rule}
-use Rattle.romfs_format.specs.declared.rule.Rule.TheVariants.{Short, Magic, FullSize, Sum, VolumeName, NoRoot, Outside, NameOpen, NameBad, DataOutside, TargetLong, Twice, SameName, LinkLoop, LinkDirectory, MajorLarge, HeaderSum, Deep}
+use Rattle.romfs_format.specs.declared.rule.Rule.TheVariants.{Short, Magic, FullSize, BadSum, VolumeName, NoRoot, Outside, NameOpen, NameBad, DataOutside, TargetLong, LinkedTwice, SameName, LinkLoop, LinkDirectory, MajorLarge, HeaderSum, TooDeep}
 use Rattle.romfs_format.specs.declared.limits.TheConstants.{HEAD_SIZE}
 use Rattle.romfs_format.specs.Fields.{root, image, IsInside, cleared}
 use Rattle.romfs_format.specs.Chains.{IsSomeMember}
@@ -26,11 +26,11 @@ use Rattle.romfs_rules.proofs.Standing.{reached, member_in_chain}
 use Rattle.romfs_rules.proofs.Judging.{root_elsewhere}
 
 -- a fact of every rule, by its part in the order
-by_part : (Q : Rule → Type 0) → ((r : Rule) → rule_number r < 6 → Q r) → ((r : Rule) → IsHeaderRule r → Q r) → Q Deep → (r : Rule) → Q r
+by_part : (Q : Rule → Type 0) → ((r : Rule) → rule_number r < 6 → Q r) → ((r : Rule) → IsHeaderRule r → Q r) → Q TooDeep → (r : Rule) → Q r
 by_part Q v h d Short = v Short (lit< tt)
 by_part Q v h d Magic = v Magic (lit< tt)
 by_part Q v h d FullSize = v FullSize (lit< tt)
-by_part Q v h d Sum = v Sum (lit< tt)
+by_part Q v h d BadSum = v BadSum (lit< tt)
 by_part Q v h d VolumeName = v VolumeName (lit< tt)
 by_part Q v h d NoRoot = v NoRoot (lit< tt)
 by_part Q v h d Outside = h Outside (lit≤ tt, lit< tt)
@@ -38,22 +38,22 @@ by_part Q v h d NameOpen = h NameOpen (lit≤ tt, lit< tt)
 by_part Q v h d NameBad = h NameBad (lit≤ tt, lit< tt)
 by_part Q v h d DataOutside = h DataOutside (lit≤ tt, lit< tt)
 by_part Q v h d TargetLong = h TargetLong (lit≤ tt, lit< tt)
-by_part Q v h d Twice = h Twice (lit≤ tt, lit< tt)
+by_part Q v h d LinkedTwice = h LinkedTwice (lit≤ tt, lit< tt)
 by_part Q v h d SameName = h SameName (lit≤ tt, lit< tt)
 by_part Q v h d LinkLoop = h LinkLoop (lit≤ tt, lit< tt)
 by_part Q v h d LinkDirectory = h LinkDirectory (lit≤ tt, lit< tt)
 by_part Q v h d MajorLarge = h MajorLarge (lit≤ tt, lit< tt)
 by_part Q v h d HeaderSum = h HeaderSum (lit≤ tt, lit< tt)
-by_part Q v h d Deep = d
+by_part Q v h d TooDeep = d
 
 -- a fact of every rule of file headers
-by_rule : (Q : Rule → Type 0) → Q Outside → Q NameOpen → Q NameBad → Q DataOutside → Q TargetLong → Q Twice
+by_rule : (Q : Rule → Type 0) → Q Outside → Q NameOpen → Q NameBad → Q DataOutside → Q TargetLong → Q LinkedTwice
     → Q SameName → Q LinkLoop → Q LinkDirectory → Q MajorLarge → Q HeaderSum → (r : Rule) → IsHeaderRule r
     → Q r
 by_rule Q a b c d e f g h i j k Short x = absurd (omega arith)
 by_rule Q a b c d e f g h i j k Magic x = absurd (omega arith)
 by_rule Q a b c d e f g h i j k FullSize x = absurd (omega arith)
-by_rule Q a b c d e f g h i j k Sum x = absurd (omega arith)
+by_rule Q a b c d e f g h i j k BadSum x = absurd (omega arith)
 by_rule Q a b c d e f g h i j k VolumeName x = absurd (omega arith)
 by_rule Q a b c d e f g h i j k NoRoot x = absurd (omega arith)
 by_rule Q a b c d e f g h i j k Outside x = a
@@ -61,13 +61,13 @@ by_rule Q a b c d e f g h i j k NameOpen x = b
 by_rule Q a b c d e f g h i j k NameBad x = c
 by_rule Q a b c d e f g h i j k DataOutside x = d
 by_rule Q a b c d e f g h i j k TargetLong x = e
-by_rule Q a b c d e f g h i j k Twice x = f
+by_rule Q a b c d e f g h i j k LinkedTwice x = f
 by_rule Q a b c d e f g h i j k SameName x = g
 by_rule Q a b c d e f g h i j k LinkLoop x = h
 by_rule Q a b c d e f g h i j k LinkDirectory x = i
 by_rule Q a b c d e f g h i j k MajorLarge x = j
 by_rule Q a b c d e f g h i j k HeaderSum x = k
-by_rule Q a b c d e f g h i j k Deep x = absurd (omega arith)
+by_rule Q a b c d e f g h i j k TooDeep x = absurd (omega arith)
 
 header_stage : (r : Rule) → IsHeaderRule r → stage r ≡ 6
 header_stage = by_rule (λ r. stage r ≡ 6) refl refl refl refl refl refl refl refl refl refl refl
@@ -85,7 +85,7 @@ volume_kept : (profile : Profile) (b : List ℕ) → IsVolume b → (r : Rule) �
 volume_kept profile b v Short l q x = v.keeps Short q l x
 volume_kept profile b v Magic l q x = v.keeps Magic q l x
 volume_kept profile b v FullSize l q x = v.keeps FullSize q l x
-volume_kept profile b v Sum l q x = v.keeps Sum q l x
+volume_kept profile b v BadSum l q x = v.keeps BadSum q l x
 volume_kept profile b v VolumeName l q x = v.keeps VolumeName q l x
 volume_kept profile b v NoRoot l q x = v.keeps NoRoot q l x
 volume_kept profile b v Outside l q x = absurd (omega arith)
@@ -93,13 +93,13 @@ volume_kept profile b v NameOpen l q x = absurd (omega arith)
 volume_kept profile b v NameBad l q x = absurd (omega arith)
 volume_kept profile b v DataOutside l q x = absurd (omega arith)
 volume_kept profile b v TargetLong l q x = absurd (omega arith)
-volume_kept profile b v Twice l q x = absurd (omega arith)
+volume_kept profile b v LinkedTwice l q x = absurd (omega arith)
 volume_kept profile b v SameName l q x = absurd (omega arith)
 volume_kept profile b v LinkLoop l q x = absurd (omega arith)
 volume_kept profile b v LinkDirectory l q x = absurd (omega arith)
 volume_kept profile b v MajorLarge l q x = absurd (omega arith)
 volume_kept profile b v HeaderSum l q x = absurd (omega arith)
-volume_kept profile b v Deep l q x = absurd (omega arith)
+volume_kept profile b v TooDeep l q x = absurd (omega arith)
 
 -- of two breaches of these rules the one at the lower place is named, or by the lower number
 before : (s r : Rule) (q p : ℕ) → IsHeaderRule s → IsHeaderRule r → IsNamedBefore s q r p
@@ -123,7 +123,7 @@ module _ (a : List ℕ) where
   used_reached : (h : ℕ) → IsUsed a h → IsReached a h
   used_reached h u = elim u.1 [ inl m ↦ member_reached h m | inr t ↦ inr (inr t) ]
 
-  twice_reached : (h : ℕ) → BreaksHeader a Twice h → IsReached a h
+  twice_reached : (h : ℕ) → BreaksHeader a LinkedTwice h → IsReached a h
   twice_reached h (inl x) = inr (inl (x.0, x.3))
   twice_reached h (inr x) = inl x.0
 
@@ -183,7 +183,7 @@ module _ (profile : Profile) (a : List ℕ) (v : IsVolumeImage a) where
   root_first p k l e = elim (cases_order p (root a)) [
     | inl q ↦ q
     | inr (inl m) ↦ absurd (omega arith)
-    | inr (inr m) ↦ absurd ((k.keeps (root a) (root_slot a v (root a) refl) m).keeps Twice (lit≤ tt, lit< tt)
+    | inr (inr m) ↦ absurd ((k.keeps (root a) (root_slot a v (root a) refl) m).keeps LinkedTwice (lit≤ tt, lit< tt)
           (inr ((root_elsewhere a (root a) refl).0 e)))
   ]
 
@@ -361,24 +361,25 @@ module _ (profile : Profile) (b : List ℕ) (v : IsVolume b) where
 
   module _ (k : KeepsAllHeaderRules profile (image b)) where
     -- where all keep these rules, the least header that is too deep is the fault of the image
-    pub fault_by_depth : (deep : Option ℕ) (p : ℕ) → IsLeast (BreaksHeader (image b) Deep) deep → deep ≡ Some p → IsFaultAs profile b Deep p
+    pub fault_by_depth : (deep : Option ℕ) (p : ℕ) → IsLeast (BreaksHeader (image b) TooDeep) deep → deep ≡ Some p
+        → IsFaultAs profile b TooDeep p
     fault_by_depth deep p d e = record {
       broken = d.is p e;
-      first = by_part (λ s. (q : ℕ) → BreaksAs profile b s q → ¬ IsNamedBefore s q Deep p)
+      first = by_part (λ s. (q : ℕ) → BreaksAs profile b s q → ¬ IsNamedBefore s q TooDeep p)
           (λ s l q x. absurd (volume_kept profile b v s l q x))
           (λ s h q x. absurd (k.keeps s q h ((to_breaks profile b q s h).1 x)))
           (λ q x. elim [
             | inl l ↦ omega arith
-            | inr (f, inl l) ↦ (let o = least_is (BreaksHeader (image b) Deep) deep p q d e x in omega arith)
+            | inr (f, inl l) ↦ (let o = least_is (BreaksHeader (image b) TooDeep) deep p q d e x in omega arith)
             | inr (f, inr y) ↦ (let m = y.1 in omega arith)
           ]);
     }
 
     -- where all keep these rules, and no header is too deep, the image is sound
-    pub sound_by_depth : (deep : Option ℕ) → IsLeast (BreaksHeader (image b) Deep) deep → deep ≡ None → IsSoundAs profile b
+    pub sound_by_depth : (deep : Option ℕ) → IsLeast (BreaksHeader (image b) TooDeep) deep → deep ≡ None → IsSoundAs profile b
     sound_by_depth deep d e = record {
       keeps = by_part (λ s. (q : ℕ) → ¬ BreaksAs profile b s q)
           (λ s l q x. volume_kept profile b v s l q x)
           (λ s h q x. k.keeps s q h ((to_breaks profile b q s h).1 x))
-          (λ q x. no_least (BreaksHeader (image b) Deep) deep q d e x);
+          (λ q x. no_least (BreaksHeader (image b) TooDeep) deep q d e x);
     }

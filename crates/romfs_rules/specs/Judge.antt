@@ -1,7 +1,7 @@
 -- The first rule that an image breaks, of the rules of file headers, and of all.
 use Rattle.std.specs.Prelude.{◌≡◌, ℕ, ◌<◌, ◌≤◌, List, Option, MatchOption, IsNone}
 use Rattle.romfs_format.specs.declared.rule.Rule.{Rule}
-use Rattle.romfs_format.specs.declared.rule.Rule.TheVariants.{Deep}
+use Rattle.romfs_format.specs.declared.rule.Rule.TheVariants.{TooDeep}
 use Rattle.romfs_format.specs.declared.rule.Profile.{Profile}
 use Rattle.romfs_format.specs.declared.rule.ImageFault.{ImageFault}
 use Rattle.romfs_format.specs.Rules.{BreaksHeader, BreaksHeaderAs, rule_number, IsNamedBefore}
@@ -64,4 +64,4 @@ IsHeaderFault profile a fault =
 
 -- the least header that is too deep, where no header breaks another rule
 abbrev pub IsDeepFault : List ℕ → Option ImageFault → Option ℕ → Type 0
-IsDeepFault a fault deep = IsNone fault → IsLeast (BreaksHeader a Deep) deep
+IsDeepFault a fault deep = IsNone fault → IsLeast (BreaksHeader a TooDeep) deep

@@ -1,7 +1,7 @@
 -- The names of headers, and classes of their numbers by them.
 use Rattle.std.specs.Prelude.{◌≡◌, ℕ, ◌==◌, ◌<◌, List, length, get_or, slice_index, Option, Some, None, Bool, true, false, if◌then◌else◌}
 use Rattle.romfs_format.specs.Fields.{root, name, is_dot_name}
-use Rattle.name_classes.specs.Names.{name_hash, IsItsAlone, AreClasses, AreApart}
+use Rattle.equal_keys.specs.Names.{name_hash, IsItsAlone, AreClasses, AreNamesApart}
 
 -- the name, unless it is . or ..
 abbrev pub unless_dotted : Option (List ℕ) → Option (List ℕ)
@@ -33,4 +33,4 @@ AreClassesOf a heads class = AreClasses (kept_names a heads) (length heads) clas
 
 -- no two headers have one name
 abbrev pub HaveNamesApart : List ℕ → List ℕ → Type 0
-HaveNamesApart a heads = AreApart (kept_names a heads) (length heads)
+HaveNamesApart a heads = AreNamesApart (kept_names a heads) (length heads)

@@ -90,7 +90,7 @@ pub(crate) fn find_deep<A: Allocator + Copy>(
     image: &Volume,
 ) -> Result<Option<u32>, AllocError>
     requires keeps { KeepsAllHeaderRules Usual image.now.bytes.now }
-    ensures { IfOk result (λ deep. IsLeast (BreaksHeader image.now.bytes.now Rule.Deep) deep) }
+    ensures { IfOk result (λ deep. IsLeast (BreaksHeader image.now.bytes.now Rule.TooDeep) deep) }
 {
     let mut marks = SlotSet::new(alloc, image.bytes.len() / 16)?;
     let mut todo = Vec::new(alloc);

@@ -191,7 +191,8 @@ impl<'h> Header<'h> {
     // The first rule of its name and its data that it breaks.
     fn first_of_bytes(&self) -> Option<Rule>
         ensures { (profile : Profile)
-            → IsFirstBelow profile self.now.image self.now.at (rule_number Rule.Twice) result }
+            → IsFirstBelow profile self.now.image self.now.at
+                (rule_number Rule.LinkedTwice) result }
     {
         let _ = &self.image;
         if self.breaks_name_open() {
@@ -213,11 +214,11 @@ impl<'h> Header<'h> {
     // before these.
     fn first_of_links(&self) -> Option<Rule>
         ensures { (profile : Profile)
-            → KeepsBefore profile self.now.image self.now.at (rule_number Rule.Twice)
+            → KeepsBefore profile self.now.image self.now.at (rule_number Rule.LinkedTwice)
             → IsFirstBelow profile self.now.image self.now.at (rule_number Rule.MajorLarge) result }
     {
         if self.twice {
-            return Some(Rule::Twice);
+            return Some(Rule::LinkedTwice);
         }
         if self.same_name {
             return Some(Rule::SameName);

@@ -70,7 +70,7 @@ impl<'s, A: Allocator> Sets<'s, A> {
     // Whether two links name a header, or another directory's chain holds the root's.
     fn is_twice(&self, at: usize) -> bool
         requires { HasSlot self.now at }
-        ensures { IsTrue result ↔ BreaksHeader self.now Rule.Twice at }
+        ensures { IsTrue result ↔ BreaksHeader self.now Rule.LinkedTwice at }
     {
         is_listed(self.twice, at) || at == self.image.root && self.chains.root_elsewhere
     }
@@ -160,7 +160,7 @@ pub(crate) fn fault_of(header: Option<ImageFault>, deep: Option<u32>) -> Option<
         Some(fault) => Some(fault),
         None => match deep {
             Some(place) => Some(ImageFault {
-                rule: Rule::Deep,
+                rule: Rule::TooDeep,
                 place,
             }),
             None => None,

@@ -6,13 +6,13 @@
 ghost use Rattle.std.specs.Prelude.{◌≡◌, ◌+◌, ◌<◌, ◌≤◌, ◌^◌, ℕ, IfOk, MatchOption, length, get_or};
 ghost use Rattle.std.specs.Option.{option_map};
 ghost use Rattle.romfs_format.specs.declared.limits.TheConstants.{HEAD_SIZE};
-ghost use Rattle.lone_keys.specs.Once.{AreSeenOnce};
-ghost use Rattle.name_classes.specs.Names.{HoldTheShared};
+ghost use Rattle.equal_keys.specs.Once.{AreSeenOnce};
+ghost use Rattle.equal_keys.specs.Names.{HoldTheShared};
 ghost use Rattle.romfs_rules.specs.Names.{kept_name, kept_names, AreClassesOf, AreNameHashes, HaveNamesApart, HaveTheirsAlone};
 
 use crate::volume::Volume;
-use lone_keys::seen_once;
-use name_classes::{Named, classes, hash_of};
+use equal_keys::seen_once;
+use equal_keys::{Named, classes, hash_of};
 use romfs_format::limits::HEAD_SIZE;
 use romfs_format::read::{is_dot_name, text_at};
 use std::alloc::{AllocError, Allocator};

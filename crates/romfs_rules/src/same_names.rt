@@ -2,9 +2,9 @@
 //!
 //! Chains may merge and go round, so that a header may stand in the chains of many directories, and
 //! to compare the names of each chain on its own would be quadratic. But each header leads on to
-//! one, in whatever chain. So the headers are numbered, equal names are one class (`name_classes`),
-//! and `graph_climb` notes the numbers with a lower one of their class on their way or before them.
-//! Where no two names are equal, there is nothing to be climbed.
+//! one, in whatever chain. So the headers are numbered, equal names are one class (`equal_keys`),
+//! and `successor_graph` notes the numbers with a lower one of their class on their way or before
+//! them. Where no two names are equal, there is nothing to be climbed.
 
 ghost use Rattle.std.specs.Prelude.{◌+◌, ◌/◌, ◌^◌, ◌<◌, ◌≤◌, ℕ, IfOk, length, get_or};
 ghost use Rattle.romfs_rules.specs.Marks.{HasRootElsewhere};
@@ -17,7 +17,7 @@ use crate::chains::Chains;
 use crate::names::name_classes_of;
 use crate::slot::is_inside;
 use crate::volume::Volume;
-use graph_climb::note_higher;
+use successor_graph::note_repeats;
 use romfs_format::read::{cleared, word};
 use slot_sets::{SlotNumbers, places_of};
 use std::alloc::{AllocError, Allocator};
@@ -95,7 +95,7 @@ fn same_names_by<A: Allocator + Copy>(
     let numbers = SlotNumbers::of(alloc, &chains.headers)?;
     let next = next_numbers(alloc, image, heads, &numbers)?;
     drop(numbers);
-    let noted = note_higher(alloc, next, class)?;
+    let noted = note_repeats(alloc, next, class)?;
     chosen(alloc, heads, &noted)
 }
 

@@ -80,7 +80,7 @@ pub(crate) fn volume_fault(bytes: &[u8]) -> Option<ImageFault>
     let image = image_of(bytes, full);
     if word_sum(summed(image)) != 0 {
         return Some(ImageFault {
-            rule: Rule::Sum,
+            rule: Rule::BadSum,
             place: 12,
         });
     }

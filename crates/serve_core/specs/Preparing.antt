@@ -44,7 +44,8 @@ pub record IsLowestBroken (profile : Profile) (images : List (List ℕ)) (layer 
 -- why images can't be served: there are none or too many; or the lowest that is broken; or memory
 -- ran out
 abbrev pub AreRefused : Profile → List (List ℕ) → Stop → Type 0
-AreRefused profile images (Layers count) = (count ≡ length images) × ((count ≡ 0) ⊎ (MAX_LAYERS < count))
+AreRefused profile images (Layers count) =
+    (count ≡ length images) × ((count ≡ 0) ⊎ (MAX_LAYERS < count))
 AreRefused profile images (Layer layer fault) =
     IsFew (length images) × IsLowestBroken profile images layer fault
 AreRefused profile images Memory = IsFew (length images)

@@ -6,7 +6,7 @@ use Rattle.std.specs.Prelude.{nat_eq, option_map}
 use Rattle.std.specs.List.{starts_with}
 use Rattle.std.proofs.Math.Seq.{drop-cons}
 use Rattle.std.proofs.lemmas.List.{drop_all}
-use Rattle.path_tree.specs.Rows.{Shoot, spread, whole, named, NamesRise, at_path}
+use Rattle.path_tree.specs.Rows.{Subtree, spread, whole, named, NamesRise, at_path}
 use Rattle.path_tree.proofs.Under.{step}
 use Rattle.path_tree.proofs.Spread.{through, at_spread}
 use Rattle.stack_model.specs.Stack.{marker}
@@ -40,17 +40,17 @@ nothing_cut [] = refl
 nothing_cut (n ∷ path) = nothing_cut path
 
 -- what the marks of a found branch cut
-abbrev pub cut_through : Option (Shoot Mark) → List (List ℕ) → Bool
+abbrev pub cut_through : Option (Subtree Mark) → List (List ℕ) → Bool
 cut_through None path = false
 cut_through (Some s) path = cut_by (at_path (whole s)) path
 
 -- seen through what was found, marks cut as the branch does; nothing where none was found
-pub by_through : (o : Option (Shoot Mark)) (path : List (List ℕ)) → cut_by (through o) path ≡ cut_through o path
+pub by_through : (o : Option (Subtree Mark)) (path : List (List ℕ)) → cut_by (through o) path ≡ cut_through o path
 by_through None path = nothing_cut path
 by_through (Some s) path = refl
 
 -- below a name, the marks of a directory cut what its branch of that name cuts
-pub by_name : (ms : List (Shoot Mark)) → NamesRise ms → (n : List ℕ) (path : List (List ℕ))
+pub by_name : (ms : List (Subtree Mark)) → NamesRise ms → (n : List ℕ) (path : List (List ℕ))
     → cut_by (λ q. at_path (spread ms) (n ∷ q)) path ≡ cut_through (named n ms) path
 by_name ms r n path = cut_same (λ q. at_path (spread ms) (n ∷ q)) (through (named n ms)) (λ q. at_spread ms r n q) path
     ∙ by_through (named n ms) path
@@ -67,15 +67,15 @@ cut_by_themselves rows path = cut_same (λ q. option_map (λ m. m) (at_path rows
 
 module _ {T : Type 0} (m : T → Mark) where
   -- what a branch cuts by what its values remove
-  abbrev pub cut_in : Shoot T → List (List ℕ) → Bool
+  abbrev pub cut_in : Subtree T → List (List ℕ) → Bool
   cut_in s path = cut_by (λ q. option_map m (at_path (whole s) q)) path
 
   -- what the branch that was found cuts by what its values remove
-  abbrev pub cut_in_found : Option (Shoot T) → List (List ℕ) → Bool
+  abbrev pub cut_in_found : Option (Subtree T) → List (List ℕ) → Bool
   cut_in_found o path = cut_by (λ q. option_map m (through o q)) path
 
   -- a path is cut by the value above all of it, or by the branch of its first name
-  cut_step : (s : Shoot T) (ss : List (Shoot T)) (o : Option (Shoot T)) (n : List ℕ) (path : List (List ℕ))
+  cut_step : (s : Subtree T) (ss : List (Subtree T)) (o : Option (Subtree T)) (n : List ℕ) (path : List (List ℕ))
       → s.below ≡ spread ss → NamesRise ss → named n ss ≡ o
       → cut_in s (n ∷ path) ≡ (cuts_below (Some (m s.value)) || cut_in_found o path)
   cut_step s ss o n path e r f = ap (λ b. cuts_below (Some (m s.value)) || b)
@@ -83,10 +83,10 @@ module _ {T : Type 0} (m : T → Mark) where
       (λ q. ap (λ x. option_map m x) (step s ss o n q e r f)) path)
 
   -- the walk stands at `here`, with no cut above it, and the names from the i-th on are left
-  pub record IsCutFrom (tree : Shoot T) (path : List (Bor (List ℕ))) (i : ℕ) (here : Shoot T) : Type 0 where
+  pub record IsCutFrom (tree : Subtree T) (path : List (Bor (List ℕ))) (i : ℕ) (here : Subtree T) : Type 0 where
     pub same : cut_in tree (map (λ n. n.now) path) ≡ cut_in here (map (λ n. n.now) (drop i path))
 
-  module _ (tree : Shoot T) (path : List (Bor (List ℕ))) (i : ℕ) (s : Shoot T) (d : Bor (List ℕ))
+  module _ (tree : Subtree T) (path : List (Bor (List ℕ))) (i : ℕ) (s : Subtree T) (d : Bor (List ℕ))
       (l : i < length path) (w : IsCutFrom tree path i s) where
     at_name : cut_in tree (map (λ n. n.now) path) ≡ cut_in s ((get_or path i d).now ∷ map (λ n. n.now) (drop (i + 1) path))
     at_name = w.same ∙ rw (add-one, drop-cons path i d l) refl
@@ -97,14 +97,14 @@ module _ {T : Type 0} (m : T → Mark) where
 
     -- where the value cuts nothing below it, the path is cut as the child of the next name cuts the
     -- rest
-    pub cut_deeper : (ss : List (Shoot T)) (o : Option (Shoot T)) → s.below ≡ spread ss → NamesRise ss
+    pub cut_deeper : (ss : List (Subtree T)) (o : Option (Subtree T)) → s.below ≡ spread ss → NamesRise ss
         → named (get_or path i d).now ss ≡ o → cuts_below (Some (m s.value)) ≡ false
         → cut_in tree (map (λ n. n.now) path)
         ≡ cut_in_found o (map (λ n. n.now) (drop (i + 1) path))
     cut_deeper ss o e r f none = at_name ∙ cut_step s ss o _ _ e r f ∙ rw none refl
 
     -- where the value cuts nothing below it, and no child has the next name, the path is not cut
-    pub cut_nowhere : (ss : List (Shoot T)) → s.below ≡ spread ss → NamesRise ss
+    pub cut_nowhere : (ss : List (Subtree T)) → s.below ≡ spread ss → NamesRise ss
         → named (get_or path i d).now ss ≡ None → cuts_below (Some (m s.value)) ≡ false
         → cut_in tree (map (λ n. n.now) path) ≡ false
     cut_nowhere ss e r f none = cut_deeper ss None e r f none ∙ nothing_cut (map (λ n. n.now) (drop (i + 1) path))

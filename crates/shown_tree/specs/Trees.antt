@@ -5,7 +5,7 @@ use Rattle.romfs_format.specs.Fields.{kind}
 use Rattle.romfs_format.specs.Links.{IsFinal}
 use Rattle.stack_model.specs.Stack.{Path, Shows, IsCut}
 use Rattle.stack_model.specs.Listing.{Entry as Listed}
-use Rattle.path_tree.specs.Rows.{Shoot, spread, at_path, PathsRise, IsForest}
+use Rattle.path_tree.specs.Rows.{Subtree, spread, at_path, PathsRise, IsForest}
 use Rattle.shown_tree.specs.declared.place.Entry.{Entry}
 use Rattle.shown_tree.specs.declared.place.Mark.{Mark}
 use Rattle.shown_tree.specs.Marks.{removed_by, is_plain}
@@ -29,7 +29,7 @@ abbrev pub cuts_at : TreeRows → Path → Bool
 cuts_at t path = is_plain path && removes t path
 
 -- the children of a directory, in the order of their names, with all that is below them
-pub record AreChildren (t : TreeRows) (path : Path) (children : List (Shoot Entry)) : Type 0 where
+pub record AreChildren (t : TreeRows) (path : Path) (children : List (Subtree Entry)) : Type 0 where
   pub forest : IsForest children
   pub at : (name : List ℕ) (q : Path)
       → entry_at t (path ++ name ∷ q) ≡ at_path (spread children) (name ∷ q)

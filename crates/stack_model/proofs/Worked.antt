@@ -46,5 +46,6 @@ unfolding Rattle.stack_model.specs.Numbers.parent Rattle.stack_model.specs.Numbe
 nested = record { of_root = refl; of_c = refl; above = refl; names_of_root = refl; names_of_a = refl; names_of_c = refl; names_of_f = refl;
       no_data = refl }
 
+-- the limit of a stack
 pub limits : LimitExamples
 limits = record { layers = refl }

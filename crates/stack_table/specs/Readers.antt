@@ -6,7 +6,7 @@ use Rattle.stack_model.specs.Listing.{Entry}
 use Rattle.stack_model.specs.Numbers.{Place as ModelPlace, number, node_of, parent, children, child}
 use Rattle.stack_model.specs.Attributes.{is_directory_at, kind_at, mode, size_at, rdev, blocks_of, nlink, data_of}
 use Rattle.shown_tree.specs.declared.place.Place.{Place}
-use Rattle.stack_table.specs.declared.node.Attr.{Attr}
+use Rattle.stack_table.specs.declared.node.NodeAttr.{NodeAttr}
 use Rattle.stack_table.specs.declared.node.Node.{Node}
 use Rattle.stack_table.specs.Rows.{Line}
 use Rattle.stack_table.specs.Stacked.{Stacked}
@@ -17,7 +17,7 @@ placed place = (place.layer, place.header)
 
 module _ (layers : List (List ℕ)) (entries : List Entry) where
   -- the attributes of a place
-  abbrev pub attr_of : ModelPlace → Attr
+  abbrev pub attr_of : ModelPlace → NodeAttr
   attr_of p = record {
     ino = number entries p;
     size = size_at layers p;
@@ -54,7 +54,7 @@ TellsNode stack n found =
     MatchOption found (node_of stack.entries n ≡ None) (λ node. IsNodeOf stack n node.now)
 
 -- the attributes of a number
-abbrev pub attr_at : Stacked → ℕ → Option Attr
+abbrev pub attr_at : Stacked → ℕ → Option NodeAttr
 attr_at stack n = option_map (attr_of stack.layers stack.entries) (node_of stack.entries n)
 
 -- the number of the directory above

@@ -7,7 +7,7 @@ ghost use Rattle.stack_table.specs.Held.{attr_held, held_at, directory_held};
 ghost use Rattle.stack_table.specs.Rows.{names, number_named};
 
 use crate::directory::{Directories, Directory};
-use crate::node::{Attr, Node};
+use crate::node::{NodeAttr, Node};
 use crate::row::Row;
 use name_keys::{Guesses, find};
 use romfs_reader::Kind;
@@ -25,11 +25,11 @@ pub(crate) fn node_at(nodes: &[Node], number: u64) -> Option<&Node>
 }
 
 // The attributes of a node with this number.
-pub(crate) fn attr_of(number: u64, node: &Node) -> Attr
+pub(crate) fn attr_of(number: u64, node: &Node) -> NodeAttr
     ensures { result ≡ attr_held number node.now }
 {
     let size = u64::from(node.part.len);
-    Attr {
+    NodeAttr {
         ino: number,
         size,
         blocks: (size + 511) / 512,

@@ -5,7 +5,7 @@ use shown_tree::Place;
 
 /// The attributes of a node, as stat(2) has them. Owners and times are 0 for all nodes.
 #[derive(Clone, Copy, Debug, PartialEq, Eq)]
-pub struct Attr {
+pub struct NodeAttr {
     /// The node's number.
     pub ino: u64,
     /// In bytes.

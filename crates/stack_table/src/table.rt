@@ -10,7 +10,7 @@ ghost use Rattle.stack_table.specs.Readers.{TellsNode, attr_at, parent_at, child
 
 use crate::directory::{Directories, Directory};
 use crate::lookup::{attr_of, directory_at, guesses_of, keys_of, node_at, number_named, rows_of};
-use crate::node::{Attr, Node};
+use crate::node::{NodeAttr, Node};
 use crate::row::Row;
 use name_keys::Guesses;
 use romfs_reader::Image;
@@ -153,7 +153,7 @@ impl<A: Allocator> Table<A> {
     }
 
     /// The attributes of a node; none where the number is not in use.
-    pub fn attr(&self, number: u64) -> Option<Attr>
+    pub fn attr(&self, number: u64) -> Option<NodeAttr>
         ensures { result ≡ attr_at self.now number }
     {
         let node = node_at(&self.nodes, number)?;

@@ -51,7 +51,7 @@ pub(super) fn data_of<A: Allocator>(item: &Item<A>) -> &[u8] {
 
 /// The place of a header, and the places that it and its directory's dots name. 0 is none.
 #[derive(Clone, Copy)]
-pub(super) struct Spot {
+pub(super) struct Placement {
     pub at: u32,
     /// The header after it in the same directory.
     pub next: u32,
@@ -69,9 +69,9 @@ pub(super) struct Spot {
 #[derive(Drop)]
 pub(super) struct Layout<A: Allocator> {
     /// The root, which is its own `.`.
-    pub root: Spot,
+    pub root: Placement,
     /// The items, in their order.
-    pub spots: Vec<Spot, A>,
+    pub placements: Vec<Placement, A>,
     /// Where the image ends.
     pub full: u32,
 }
@@ -82,7 +82,7 @@ impl<A: Allocator + Copy> Layout<A> {
         let at = after(0, volume, &[])?;
         let dot_dot = after(at, b".", &[])?;
         let mut layout = Layout {
-            root: Spot {
+            root: Placement {
                 at,
                 next: 0,
                 above: at,
@@ -90,7 +90,7 @@ impl<A: Allocator + Copy> Layout<A> {
                 dot_dot,
                 first: 0,
             },
-            spots: Vec::new(alloc),
+            placements: Vec::new(alloc),
             full: after(dot_dot, b"..", &[])?,
         };
         layout.place(alloc, items)?;
@@ -121,7 +121,7 @@ impl<A: Allocator + Copy> Layout<A> {
         } else {
             (0, end)
         };
-        self.spots.push(Spot {
+        self.placements.push(Placement {
             at,
             next: 0,
             above,
@@ -137,12 +137,12 @@ impl<A: Allocator + Copy> Layout<A> {
     /// goes backwards, and keeps for each depth the header that was met last in the open directory.
     fn chain(&mut self, alloc: A, items: &[Item<A>]) -> Result<(), AllocError> {
         let mut later = Vec::new(alloc);
-        for (spot, item) in self.spots.iter_mut().zip(items).rev() {
+        for (placement, item) in self.placements.iter_mut().zip(items).rev() {
             let depth = usize::from(item.depth);
             later.resize(depth + 2, 0)?;
-            spot.first = later[depth + 1];
-            spot.next = later[depth];
-            later[depth] = spot.at;
+            placement.first = later[depth + 1];
+            placement.next = later[depth];
+            later[depth] = placement.at;
             later.truncate(depth + 1);
         }
         self.root.first = later.get(1).copied().unwrap_or(0);
@@ -153,8 +153,8 @@ impl<A: Allocator + Copy> Layout<A> {
 impl<A: Allocator> Layout<A> {
     /// Where an item stands.
     pub fn place_of(&self, index: usize) -> u32 {
-        match self.spots.get(index) {
-            Some(spot) => spot.at,
+        match self.placements.get(index) {
+            Some(placement) => placement.at,
             None => 0,
         }
     }

@@ -11,7 +11,7 @@ use Rattle.node_table.proofs.building.add_directory.Goals as goal
 
 pub add_keys-requires : goal.add_keys-requires
 add_keys-requires g c =
-    let tell = number_among c.args.walk.now.spots.items in
+    let tell = number_among c.args.walk.now.visits.items in
     let cs = c.children-children.result.now in
     let old = c.args.into.now.rows.items in
     let start : c.len-rows_start.result ≡ length old = omega (arith, c.len-rows_start.ensures, c.args.into.now.rows.ok.0) in
@@ -21,7 +21,7 @@ add_keys-requires g c =
 
 pub returns : goal.returns
 returns g c =
-    let tell = number_among c.args.walk.now.spots.items in
+    let tell = number_among c.args.walk.now.visits.items in
     let cs = c.children-children.result.now in
     let old = c.args.into.now.rows.items in
     let start : c.len-rows_start.result ≡ length old = omega (arith, c.len-rows_start.ensures, c.args.into.now.rows.ok.0) in

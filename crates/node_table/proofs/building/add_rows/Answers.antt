@@ -10,7 +10,7 @@ use Rattle.node_table.proofs.building.add_rows.Goals.{in-Directory, in_default}
 
 pub loop-child-preserved : goal.loop-child-preserved
 loop-child-preserved g c =
-    let tell = number_among c.args.walk.now.spots.items in
+    let tell = number_among c.args.walk.now.visits.items in
     let lt : c.loop-child.child-index < length c.args.children.now = omega arith in
     let nm : c.in_ok-name.name ≡ c.child-item.result.name = c.in_ok-name.ensures in
     let f = follows tell c.args.numbers.now c.args.walk.now.sizes.items c.loop-child.at c.args.children.now c.loop-child.child-index

@@ -1,7 +1,7 @@
 use Rattle.std.proofs.Common.{List}
 use Rattle.stack_model.specs.Listing.{Entry as Listed}
 use Rattle.shown_tree.specs.declared.place.Entry.{Entry}
-use Rattle.node_table.specs.Walks.{Spot}
+use Rattle.node_table.specs.Walks.{Visit}
 use Rattle.node_table.specs.Numbering.{number_among}
 use Rattle.node_table.specs.Building.{ArePosts}
 use Rattle.node_table.specs.Seeds.{AreSeeds}
@@ -10,8 +10,8 @@ use Rattle.node_table.proofs.building.make.Given as goal
 
 -- first branches stand at their places, and agree with a listing; those so far have nodes
 abbrev pub invariant-loop-at : goal.invariant-loop-at
-invariant-loop-at g l = (first : List (Spot Entry)) × (entries : List Listed)
-    × AreSeeds l.images entries (number_among l.walk.spots.items) first l.numbered.paths.items
-    × ArePosts (number_among l.walk.spots.items) l.walk.spots.items l.numbered.numbers.items l.walk.above.items l.walk.sizes.items first
+invariant-loop-at g l = (first : List (Visit Entry)) × (entries : List Listed)
+    × AreSeeds l.images entries (number_among l.walk.visits.items) first l.numbered.paths.items
+    × ArePosts (number_among l.walk.visits.items) l.walk.visits.items l.numbered.numbers.items l.walk.above.items l.walk.sizes.items first
         l.numbered.starts.items
     × Making l.images entries l.nodes.items l.directories.all.items l.directories.rows.items l.directories.keys.items l.at

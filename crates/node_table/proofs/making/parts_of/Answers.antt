@@ -8,7 +8,7 @@ make-requires g c =
     let numbered = rw c.deref.ensures.value at c.in_ok-numbered.ensures in (
       numbered.0,
       seeds c.args.images.now c.args.tree.now c.requires.tree c.requires.sound c.root-root.result.now c.root-root.ensures
-          c.walk.new.out.spots.items all.0 _ _ _ _ numbered.1,
+          c.walk.new.out.visits.items all.0 _ _ _ _ numbered.1,
       posts c.args.images.now c.args.tree.now c.requires.tree c.requires.sound c.root-root.result.now c.root-root.ensures
-          c.walk.new.out.spots.items all.0 _ _ _ _ numbered.1 _ _ all.1 all.2,
+          c.walk.new.out.visits.items all.0 _ _ _ _ numbered.1 _ _ all.1 all.2,
     )

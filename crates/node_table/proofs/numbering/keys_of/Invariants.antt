@@ -2,6 +2,6 @@ use Rattle.std.proofs.Common.{take}
 use Rattle.node_table.specs.Numbering.{AreKeys}
 use Rattle.node_table.proofs.numbering.keys_of.Given as goal
 
--- the spots so far have keys
-abbrev pub invariant-loop-spot : goal.invariant-loop-spot
-invariant-loop-spot g l = AreKeys (take l.spot-index l.spots) l.keys.items
+-- the visits so far have keys
+abbrev pub invariant-loop-visit : goal.invariant-loop-visit
+invariant-loop-visit g l = AreKeys (take l.visit-index l.visits) l.keys.items

@@ -1,7 +1,7 @@
 use Rattle.std.proofs.Common.{ℕ, List, Option, MatchOption, length, subst, sym}
 use Rattle.std.proofs.lemmas.Result.{IfOk-weaker}
-use Rattle.lone_keys.specs.Once.{AreSeenOnce}
-use Rattle.name_classes.specs.Names.{HoldTheShared, AreClasses, AreApart}
+use Rattle.equal_keys.specs.Once.{AreSeenOnce}
+use Rattle.equal_keys.specs.Names.{HoldTheShared, AreClasses, AreNamesApart}
 use Rattle.romfs_rules.specs.Names.{kept_names, HaveTheirsAlone, AreClassesOf, HaveNamesApart}
 use Rattle.romfs_rules.proofs.NameHashes.{told_alone}
 use Rattle.romfs_rules.proofs.names.name_classes_of.Goals as goal
@@ -23,6 +23,6 @@ returns g c =
     let n = length heads in
     IfOk-weaker c.classes.result
     (λ classes. (name : ℕ → Option (List ℕ)) → HoldTheShared name n c.in_ok-named.named.items
-    → MatchOption classes (AreApart name n) (λ some. AreClasses name n some.items))
+    → MatchOption classes (AreNamesApart name n) (λ some. AreClasses name n some.items))
     (λ classes. MatchOption classes (HaveNamesApart a heads) (λ some. AreClassesOf a heads some.items))
     (λ classes w. w (kept_names a heads) c.in_ok-named.ensures) c.classes.ensures

@@ -1,5 +1,5 @@
 use Rattle.std.proofs.Common.{◌<◌, ◌∙◌, sym, refl, length, arith}
-use Rattle.name_classes.proofs.Keyed.{none_some, one_named, one_without, all_held}
+use Rattle.equal_keys.proofs.Keyed.{none_some, one_named, one_without, all_held}
 use Rattle.romfs_rules.specs.Names.{kept_names}
 use Rattle.romfs_rules.proofs.names.named_headers.Goals as goal
 use Rattle.romfs_rules.proofs.names.named_headers.Goals.{in-Some+in_ok-push, in_default}

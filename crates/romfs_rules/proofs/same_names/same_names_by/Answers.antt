@@ -23,16 +23,16 @@ returns g c =
     c.in_ok-noted.ensures c.requires.alone found.items w)
     (rw c.deref.ensures.value at c.chosen.ensures)
 
-pub note_higher-requires-clause-few : goal.note_higher-requires-clause-few
-note_higher-requires-clause-few g c =
+pub note_repeats-requires-clause-few : goal.note_repeats-requires-clause-few
+note_repeats-requires-clause-few g c =
     let few = c.requires.heads.few in
     let sized = c.requires.chains.headers.sized in
     let small = c.args.image.now.keeps.small in
     let next = c.in_ok-next.ensures.sized in
     omega arith
 
-pub note_higher-requires-clause-leads : goal.note_higher-requires-clause-leads
-note_higher-requires-clause-leads g c = next_below c.in_ok-next.ensures
+pub note_repeats-requires-clause-leads : goal.note_repeats-requires-clause-leads
+note_repeats-requires-clause-leads g c = next_below c.in_ok-next.ensures
 
-pub note_higher-requires-clause-classes : goal.note_higher-requires-clause-classes
-note_higher-requires-clause-classes g c = class_below c.in_ok-next.ensures c.requires.class
+pub note_repeats-requires-clause-classes : goal.note_repeats-requires-clause-classes
+note_repeats-requires-clause-classes g c = class_below c.in_ok-next.ensures c.requires.class

@@ -1,0 +1,4 @@
+pub mod Classing
+pub mod FilledSlots
+pub mod Keyed
+pub mod SeenKeys

@@ -1,0 +1,3 @@
+pub mod Names
+pub mod Once
+pub mod Slots

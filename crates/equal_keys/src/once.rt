@@ -1,0 +1,22 @@
+//! Which keys stand once.
+
+ghost use Rattle.std.specs.Prelude.{IfOk};
+ghost use Rattle.equal_keys.specs.Once.{AreSeenOnce};
+
+use crate::occupancy::{occupancy_of, is_alone};
+use std::alloc::{AllocError, Allocator};
+
+/// For each of these keys whether it was seen that no other place of the list has the same key.
+/// Where it was not seen, it may be so all the same.
+///
+/// `AllocError` comes only where memory was refused.
+pub fn seen_once<A: Allocator + Copy>(alloc: A, keys: &[u64]) -> Result<Vec<bool, A>, AllocError>
+    ensures { IfOk result (λ once. AreSeenOnce keys.now once.items) }
+{
+    let occupancy = occupancy_of(alloc, keys)?;
+    let mut once = Vec::with_capacity(alloc, keys.len())?;
+    for key in keys {
+        once.push(is_alone(&occupancy, *key))?;
+    }
+    Ok(once)
+}

@@ -1,0 +1,164 @@
+//! The lookups that a request gives and takes, as a list.
+
+ghost use Rattle.std.specs.Prelude.{◌≤◌, ◌<◌, ◌+◌, ◌^◌, ◌∷◌, [], length, unsigned_abs};
+ghost use Rattle.fuse_wire.specs.Reads.{asked_of, items_of};
+ghost use Rattle.fuse_answer.specs.Answers.{IsSized, answer_moves, taken_back};
+ghost use Rattle.fuse_answer.specs.Listings.{lines_answered, lines_given, row_given};
+ghost use Rattle.fuse_answer.specs.Puts.{AreSmall, Puts, PutsMoves, Grows};
+
+use crate::outcome::Answer;
+use crate::decide::decide;
+use crate::listing::Listing;
+use crate::rows::line_at;
+use fuse_wire::Request;
+use fuse_wire::forget::{Forget, Forgets};
+use reply_model::{Move, Session};
+use stack_table::Table;
+use std::alloc::{AllocError, Allocator};
+
+/// Appends what a request gives and takes, in order: one lookup for the entry of a LOOKUP and for
+/// each row of a READDIRPLUS but `.` and `..`, and what FORGET and BATCH_FORGET take back. Numbers
+/// that are not in use, and requests that are refused, change nothing.
+///
+/// The session is the one before the request. `AllocError` comes only where the vector had no room
+/// for the moves and got none; it is then as before. No amount is of more than 64 bits.
+pub fn moves<A: Allocator, M: Allocator>(
+    table: &Table<A>,
+    session: Session,
+    request: &Request<'_>,
+    into: &mut Vec<Move, M>,
+) -> Result<(), AllocError>
+    ensures moves { PutsMoves table.now session (asked_of request.now) result into.old into.new }
+    ensures small { AreSmall into.old.items → AreSmall into.new.items }
+{
+    match decide(table, session, request) {
+        Ok(answer) => put_moves(table, &answer, into),
+        Err(_) => Ok(()),
+    }
+}
+
+// Appends what an answer gives and takes.
+fn put_moves<A: Allocator, M: Allocator>(
+    table: &Table<A>,
+    answer: &Answer<'_, A>,
+    into: &mut Vec<Move, M>,
+) -> Result<(), AllocError>
+    requires { IsSized table.now answer.now }
+    ensures moves { Puts result into.old into.new (answer_moves table.now answer.now) }
+    ensures small { AreSmall into.old.items → AreSmall into.new.items }
+{
+    let len = into.len();
+    let grown = grow(table, answer, into);
+    if grown.is_err() {
+        into.truncate(len);
+    }
+    grown
+}
+
+// Appends the same, or some of it where memory is refused.
+fn grow<A: Allocator, M: Allocator>(
+    table: &Table<A>,
+    answer: &Answer<'_, A>,
+    into: &mut Vec<Move, M>,
+) -> Result<(), AllocError>
+    requires { IsSized table.now answer.now }
+    ensures moves { Grows result into.old into.new (answer_moves table.now answer.now) }
+    ensures small { AreSmall into.old.items → AreSmall into.new.items }
+{
+    match answer {
+        Answer::Entry(attr) => put(into, attr.ino, 1),
+        Answer::Rows(rows) if rows.with_entries => grow_rows(rows, into),
+        Answer::Forgotten { node, nlookup } => {
+            let forget = Forget {
+                node: *node,
+                nlookup: *nlookup,
+            };
+            put_taken(table, forget, into)
+        }
+        Answer::AllForgotten(items) => grow_taken(table, *items, into),
+        _ => Ok(()),
+    }
+}
+
+// Appends what the rows of a READDIRPLUS give.
+fn grow_rows<A: Allocator, M: Allocator>(
+    rows: &Listing<'_, A>,
+    into: &mut Vec<Move, M>,
+) -> Result<(), AllocError>
+    requires in_order { rows.now.from ≤ rows.now.until }
+    requires there { rows.now.until ≤ 2 + length rows.now.children.now }
+    ensures moves { Grows result into.old into.new (lines_given (lines_answered rows.now)) }
+    ensures small { AreSmall into.old.items → AreSmall into.new.items }
+{
+    for index in rows.from..rows.until {
+        put_given(rows, index, into)?;
+    }
+    Ok(())
+}
+
+// Appends what a row gives: a lookup of its node. The first two, which are `.` and `..`, give
+// nothing.
+fn put_given<A: Allocator, M: Allocator>(
+    rows: &Listing<'_, A>,
+    index: usize,
+    into: &mut Vec<Move, M>,
+) -> Result<(), AllocError>
+    requires until { index < rows.now.until }
+    requires there { rows.now.until ≤ 2 + length rows.now.children.now }
+    ensures moves { Puts result into.old into.new (row_given rows.now index) }
+    ensures small { AreSmall into.old.items → AreSmall into.new.items }
+{
+    let (number, _) = line_at(rows, index);
+    let place = index as u64 + 1;
+    if 2 < place {
+        put(into, number, 1)
+    } else {
+        Ok(())
+    }
+}
+
+// Appends what is taken back of a node, where the number is in use.
+fn put_taken<A: Allocator, M: Allocator>(
+    table: &Table<A>,
+    forget: Forget,
+    into: &mut Vec<Move, M>,
+) -> Result<(), AllocError>
+    ensures moves { Puts result into.old into.new (taken_back table.now (forget ∷ [])) }
+    ensures small { AreSmall into.old.items → AreSmall into.new.items }
+{
+    if table.node(forget.node).is_some() {
+        put(into, forget.node, -i128::from(forget.nlookup))
+    } else {
+        Ok(())
+    }
+}
+
+// Appends what is taken back of all items.
+fn grow_taken<A: Allocator, M: Allocator>(
+    table: &Table<A>,
+    items: Forgets<'_>,
+    into: &mut Vec<Move, M>,
+) -> Result<(), AllocError>
+    ensures moves { Grows result into.old into.new (taken_back table.now (items_of items.entry)) }
+    ensures small { AreSmall into.old.items → AreSmall into.new.items }
+{
+    let mut rest = items;
+    for _taken in 0..items.len() {
+        let Some((forget, later)) = rest.split_first() else {
+            return Ok(());
+        };
+        put_taken(table, forget, into)?;
+        rest = later;
+    }
+    Ok(())
+}
+
+// Appends one move.
+fn put<M: Allocator>(into: &mut Vec<Move, M>, node: u64, amount: i128) -> Result<(), AllocError>
+    requires { unsigned_abs amount ≤ 2 ^ 64 }
+    ensures moves { Puts result into.old into.new (record { node = node; amount = amount } ∷ []) }
+    ensures small { AreSmall into.old.items → AreSmall into.new.items }
+{
+    into.push(Move { node, amount })?;
+    Ok(())
+}

@@ -1,2 +1,0 @@
-pub mod Once
-pub mod Falling

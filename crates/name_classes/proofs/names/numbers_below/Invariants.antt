@@ -1,6 +1,0 @@
-use Rattle.name_classes.specs.Names.{AreNumbersBelow}
-use Rattle.name_classes.proofs.names.numbers_below.Given as goal
-
--- the list holds the numbers below this one
-abbrev pub invariant-loop-number : goal.invariant-loop-number
-invariant-loop-number g l = AreNumbersBelow l.number l.numbers.items

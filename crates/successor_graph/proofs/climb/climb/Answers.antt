@@ -1,0 +1,97 @@
+use Rattle.std.proofs.Common.{◌≡◌, ◌∙◌, ap, ◌<◌, length, get_or, arith, refl}
+use Rattle.std.proofs.lemmas.List.{get_or_read, length-set, length-append}
+use Rattle.successor_graph.specs.Climb.{IsSkipped}
+use Rattle.successor_graph.proofs.Marks.{unmarked, marks_fall}
+use Rattle.successor_graph.proofs.Ascent.{begins, skips, enters, leaves, ends, on_turn, drop_turn, reverse_push, keeps, popped, no_steps, step_fits}
+use Rattle.successor_graph.proofs.Graphs.{graph_of}
+use Rattle.successor_graph.proofs.climb.climb.Goals as goal
+
+pub index-from-requires : goal.index-from-requires
+index-from-requires g c =
+    let i = c.requires.cycle.inside _ (on_turn c.args.cycle.now c.args.turn c.requires.turn) in
+    let f = (graph_of c.args.graph.now).lists.firsts in
+    omega (arith, c.args.graph.now.first.ok.0)
+
+pub loop-found-init : goal.loop-found-init
+loop-found-init g c =
+    let f = graph_of c.args.graph.now in
+    let o = on_turn c.args.cycle.now c.args.turn c.requires.turn in
+    let i = c.requires.cycle.inside _ o in
+    let e = get_or_read c.args.graph.now.first.items (get_or c.args.cycle.now c.args.turn 0)
+    c.index-from.result.now (let k = f.lists.firsts in omega arith) c.index-from.ensures 0 in
+    record {
+      under_way = rw (c.new-steps.ensures.items, e) (begins _ _ _ _ _ f _ c.requires.cycle o _ _ _ _
+          (rw (← drop_turn c.args.cycle.now c.args.turn c.requires.turn) c.requires.found));
+      kept = record { each = λ x m. m };
+      low = c.requires.found.lowest.sized ∙ f.classes.sized;
+    }
+
+pub loop-found-smaller-then-at-len : goal.loop-found-smaller-then-at-len
+loop-found-smaller-then-at-len g c =
+    let fresh = rw (c.deref.ensures.value) at c.skip_entered-at.ensures.fresh in
+    let s = c.args.graph.now.siblings in
+    let v = c.loop-found.found.entered_sized in
+    let w = c.loop-found.invariant.low in
+    let k = marks_fall c.loop-found.found.entered.items c.skip_entered-at.result (omega arith) (fresh (omega arith)) in
+    let u = ap unmarked c.enter-low.ensures.entered in
+    let n = ap length c.in_ok-push.ensures.items ∙ length-append c.loop-found.steps.items _ in
+    omega arith
+
+pub loop-found-preserved-then-at-len : goal.loop-found-preserved-then-at-len
+loop-found-preserved-then-at-len g c =
+    let f = graph_of c.args.graph.now in
+    let l = c.loop-found.invariant in
+    let at = c.skip_entered-at.result in
+    let o = on_turn c.args.cycle.now c.args.turn c.requires.turn in
+    let s : IsSkipped c.args.graph.now.sibling.items c.loop-found.found.entered.items c.loop-found.from
+    at = rw (c.deref.ensures.value) at
+    c.skip_entered-at.ensures.skipped in
+    let i : at < length c.args.graph.now.next.items = omega arith in
+    let e = get_or_read c.args.graph.now.first.items at c.index-from-then-at-len.result.now
+    (let k = f.lists.firsts in omega arith) c.index-from-then-at-len.ensures 0 in
+    record {
+      under_way = rw (c.in_ok-push.ensures.items, reverse_push, c.enter-low.ensures.entered, e)
+          (enters _ _ _ _ _ f _ c.requires.cycle o _ at _ _ _ _ _ _ _
+          (record { at = at; low = c.enter-low.result }) refl refl i c.enter-low.ensures.lowest
+          c.enter-low.ensures.low (rw f.classes.sized c.enter-low.ensures.noted)
+          (skips _ _ _ _ _ f _ c.requires.cycle o _ _ at _ _ _ _ s l.under_way));
+      kept = rw c.enter-low.ensures.entered (keeps _ _ at (let v = c.loop-found.found.entered_sized in let w = l.low in
+            omega arith) l.kept);
+      low = ap length c.enter-low.ensures.low ∙ length-set c.loop-found.found.low.items _ _ ∙ l.low;
+    }
+
+pub leave-from-requires-clause-at : goal.leave-from-requires-clause-at
+leave-from-requires-clause-at g c = step_fits (rw (popped _ _ _ c.in-Some.ensures.items) at c.loop-found.invariant.under_way)
+
+pub loop-found-preserved : goal.loop-found-preserved
+loop-found-preserved g c =
+    let f = graph_of c.args.graph.now in
+    let l = c.loop-found.invariant in
+    let at = c.skip_entered-at.result in
+    let o = on_turn c.args.cycle.now c.args.turn c.requires.turn in
+    let s : IsSkipped c.args.graph.now.sibling.items c.loop-found.found.entered.items c.loop-found.from
+    at = rw (c.deref.ensures.value) at
+    c.skip_entered-at.ensures.skipped in
+    let e = c.leave-from.ensures in
+    record {
+      under_way = rw (e.next, e.low, e.entered, e.noted)
+          (leaves _ _ _ _ _ f _ c.requires.cycle o _ at _ _ _ _ _ (omega arith)
+          (rw (popped _ _ _ c.in-Some.ensures.items) at
+          (skips _ _ _ _ _ f _ c.requires.cycle o _ _ at _ _ _ _ s l.under_way)));
+      kept = rw e.entered l.kept;
+      low = ap length e.low ∙ length-set c.loop-found.found.low.items _ _ ∙ l.low;
+    }
+
+pub returns-in-None-clause-found : goal.returns-in-None-clause-found
+returns-in-None-clause-found g c =
+    let f = graph_of c.args.graph.now in
+    let l = c.loop-found.invariant in
+    let at = c.skip_entered-at.result in
+    let o = on_turn c.args.cycle.now c.args.turn c.requires.turn in
+    let s : IsSkipped c.args.graph.now.sibling.items c.loop-found.found.entered.items c.loop-found.from
+    at = rw (c.deref.ensures.value) at
+    c.skip_entered-at.ensures.skipped in
+    let n : length c.loop-found.steps.items ≡ 0 = (let z = c.in-None.ensures.cases.0 in omega (arith, c.loop-found.steps.ok.0)) in
+    ends _ _ _ _ _ f _ c.requires.cycle o _ at _ _ _ (omega arith)
+    (rw (no_steps c.loop-found.steps.items n) at (skips _ _ _ _ _ f _ c.requires.cycle o _ _ at _ _ _ _ s
+    l.under_way))
