@@ -7,6 +7,7 @@ use Rattle.std.specs.List.{AllByRecursion}
 use Rattle.std.specs.declared.cmp.Ordering.TheVariants.{Less}
 use Rattle.std.proofs.Math.Seq.{drop-cons}
 use Rattle.std.proofs.lemmas.List.{append-nil, drop_all}
+use Rattle.romfs_format.specs.declared.limits.TheConstants.{MAX_NAMES}
 use Rattle.romfs_format.specs.declared.head.Kind.TheVariants.{HardLink}
 use Rattle.romfs_format.specs.Fields.{root}
 use Rattle.romfs_format.specs.Chains.{Has}
@@ -130,7 +131,7 @@ module _ (a : List ℕ) (s : IsImage a) (left : ℕ) (ms : List Named) (at : Are
   unfolding longer
   has_more = leads_on a (root a) at.2.0 at.0 (at_index ms i).name.now (at_index ms i).head.offset at.2.1 member_here.member member_here.name
 
-  long_more : length longer + left ≡ 513
+  long_more : length longer + left ≡ MAX_NAMES + 1
   unfolding longer
   long_more = omega (arith, length-append at.2.0 ((at_index ms i).name.now ∷ []), at.2.2)
 

@@ -279,8 +279,8 @@ pub record ReaddirplusExamples : Type 0 where
   pub one : over_sample (request 44 2 3 (read_in 0 319))
       ≡ headed 2 176 ++ replicate 128 0 ++ u64 3 ++ drop 8 own_row
   pub upper : take 32 (drop 304 (over_sample (request 44 2 3 (read_in 0 4096)))) ≡ upper_row
-  pub mode : take 4 (drop 76 (drop 336 (over_sample (request 44 2 3 (read_in 0 4096)))))
-      ≡ dump (0x00000000 ∷ [])
+  pub mode : take 4 (drop 100 (drop 336 (over_sample (request 44 2 3 (read_in 0 4096)))))
+      ≡ dump (0xa4810000 ∷ [])
 
 -- 5,000 bytes are 4,096 and 904
 pub record ReadExamples : Type 0 where

@@ -6,6 +6,7 @@ use Rattle.std.proofs.Common.{append_assoc}
 use Rattle.std.proofs.Math.Seq.{take-append_seam}
 use Rattle.std.proofs.lemmas.List.{take-append-drop}
 use Rattle.std.proofs.lemmas.Bool.Decides.{nat_tests}
+use Rattle.romfs_format.specs.declared.limits.TheConstants.{NAME_FIELD_SIZE}
 use Rattle.romfs_format.specs.Fields.{text_at, text_end, if_within, ended, name_field}
 
 -- the text before the first zero byte is a front part
@@ -34,7 +35,7 @@ pub text_bytes : (a t : List ℕ) (p : ℕ) → p ≤ length a → text_at a p �
 unfolding name_field
 text_bytes a t p l e =
     let w = within (length a) p (ended (name_field a p)) t e in
-    let f = front (take 256 (drop p a)) t w.0 in
-    let g : drop p a ≡ t ++ (f.0 ++ drop 256 (drop p a)) = sym (take-append-drop 256 (drop p a))
-    ∙ ap (λ x. x ++ drop 256 (drop p a)) f.1 ∙ append_assoc t f.0 (drop 256 (drop p a)) in
-    (w.1, rw g (take-append_seam t (f.0 ++ drop 256 (drop p a))))
+    let f = front (take NAME_FIELD_SIZE (drop p a)) t w.0 in
+    let g : drop p a ≡ t ++ (f.0 ++ drop NAME_FIELD_SIZE (drop p a)) = sym (take-append-drop NAME_FIELD_SIZE (drop p a))
+    ∙ ap (λ x. x ++ drop NAME_FIELD_SIZE (drop p a)) f.1 ∙ append_assoc t f.0 (drop NAME_FIELD_SIZE (drop p a)) in
+    (w.1, rw g (take-append_seam t (f.0 ++ drop NAME_FIELD_SIZE (drop p a))))

@@ -6,6 +6,7 @@ use Rattle.std.specs.Prelude.{slice_get, unwrap_or}
 use Rattle.std.specs.List.{flat_map}
 use Rattle.std.proofs.lemmas.Bool.{cases_order, cases_lt}
 use Rattle.std.proofs.lemmas.List.Elements.{Contains-append_left, Contains-append_right}
+use Rattle.romfs_format.specs.declared.limits.TheConstants.{MAX_NAMES}
 use Rattle.romfs_format.specs.declared.rule.Rule.TheVariants.{SameName, TooDeep}
 use Rattle.romfs_format.specs.Fields.{root, IsInside, name, spec, cleared}
 use Rattle.romfs_format.specs.Chains.{IsFirst, IsAt, IsMember, IsSomeMember, Leads, Has}
@@ -58,9 +59,9 @@ module _ (a : List ℕ) (i : IsImage a) where
       let e : y.0 ≡ x.0 = one_member d y.0 x.0 n y.1 x.1 y.2 x.2 in
       one_header path x.0 g h x.3 (subst (λ c. Leads a c path h) e y.3)
 
-  -- a path of the image has at most 512 names
-  pub short : (path : List (List ℕ)) (h : ℕ) → Has a path h → length path ≤ 512
-  short path h x = elim (cases_lt 512 (length path)) [ inl l ↦ absurd (keeps_depth h (path, x, l)) | inr l ↦ l ]
+  -- a path of the image has at most MAX_NAMES names
+  pub short : (path : List (List ℕ)) (h : ℕ) → Has a path h → length path ≤ MAX_NAMES
+  short path h x = elim (cases_lt MAX_NAMES (length path)) [ inl l ↦ absurd (keeps_depth h (path, x, l)) | inr l ↦ l ]
 
   -- all paths of at most n names below d, and some more
   paths : ℕ → ℕ → List (List (List ℕ))
@@ -96,7 +97,7 @@ module _ (a : List ℕ) (i : IsImage a) where
 
   -- there is a list of all paths of the image
   pub all_paths : (all : List (List (List ℕ))) × ((path : List (List ℕ)) (h : ℕ) → Has a path h → Contains all path)
-  all_paths = (paths 512 (root a), λ path h x. has_all 512 (root a) path h (short path h x) x)
+  all_paths = (paths MAX_NAMES (root a), λ path h x. has_all MAX_NAMES (root a) path h (short path h x) x)
 
 -- what holds of the paths of a sound image
 pub ruleset path_laws = (one_header, short, all_paths)

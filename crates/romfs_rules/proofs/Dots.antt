@@ -4,6 +4,7 @@
 use Rattle.std.proofs.Common.{◌≡◌, ◌∙◌, sym, ap, ℕ, zero, suc, ◌+◌, ◌<◌, inl, inr, List, [], ◌∷◌, length, take, drop, get_or, Bool, true, false, Option, Some, None, refl, arith, leb, cond}
 use Rattle.std.specs.Option.{option_map}
 use Rattle.std.proofs.lemmas.List.{get_or-take, get_or-drop, length-take, length-drop}
+use Rattle.romfs_format.specs.declared.limits.TheConstants.{NAME_FIELD_SIZE}
 use Rattle.romfs_format.specs.Fields.{text_at, text_end, if_within, ended, name_field}
 use Rattle.romfs_format.specs.Chains.{IsDotted}
 
@@ -30,11 +31,11 @@ within n p (Some u) t e = test (leb (text_end p u) n) e
 first_byte : (a t : List ℕ) (p c : ℕ) → text_at a p ≡ Some (c ∷ t) → (p < length a) × (get_or a p 0 ≡ c)
 unfolding name_field
 first_byte a t p c e =
-    let f = first (take 256 (drop p a)) t c (within (length a) p (ended (name_field a p)) (c ∷ t) e) in
-    let l : 0 < length (drop p a) = omega (arith, length-take 256 (drop p a), f.0) in
+    let f = first (take NAME_FIELD_SIZE (drop p a)) t c (within (length a) p (ended (name_field a p)) (c ∷ t) e) in
+    let l : 0 < length (drop p a) = omega (arith, length-take NAME_FIELD_SIZE (drop p a), f.0) in
     let z : p ≡ p + 0 = omega arith in (
       omega (arith, length-drop p a, l),
-      ap (λ k. get_or a k 0) z ∙ sym (get_or-drop p a 0 0) ∙ sym (get_or-take 256 (drop p a) 0 0 (omega arith)) ∙ f.1,
+      ap (λ k. get_or a k 0) z ∙ sym (get_or-drop p a 0 0) ∙ sym (get_or-take NAME_FIELD_SIZE (drop p a) 0 0 (omega arith)) ∙ f.1,
     )
 
 -- where a header is named . or .., the byte at which its name begins is a dot
