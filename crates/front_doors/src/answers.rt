@@ -2,6 +2,8 @@
 //! batches.
 
 ghost use Rattle.draw_board.specs.Hands.{IsHandOf};
+ghost use Rattle.fuse_answer.specs.Puts.{PutsMoves};
+ghost use Rattle.fuse_answer.specs.Reads.{asked_of};
 
 pub use draw_board::{Board, Few, Hand};
 pub use fuse_answer::{Move, Session, after, answer, moves};
@@ -35,7 +37,9 @@ pub fn moved<A: Allocator>(
     session: Session,
     request: &Request<'_>,
     into: &mut Vec<Move, A>,
-) -> Result<(), AllocError> {
+) -> Result<(), AllocError>
+    ensures { PutsMoves table.now session (asked_of request.now) result into.old into.new }
+{
     moves(table, session, request, into)
 }
 

@@ -1,6 +1,6 @@
 //! `romfs_image`: one image.
 
-ghost use Rattle.romfs_format.specs.Rules.{IsSound};
+ghost use Rattle.romfs_image.specs.Rules.{IsSound};
 
 pub use romfs_image::sample::{BuildFault, Item, What, build, seal};
 pub use romfs_image::{Check, CheckFault, Head, Image, ImageFault, Kind, Members, Profile, Rule};

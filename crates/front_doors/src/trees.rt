@@ -1,6 +1,10 @@
 //! `layer_tree`, `stack_core` and `node_table`: layers, their stack, and its nodes by number.
 
-ghost use Rattle.std.specs.Prelude.{◌≤◌, length};
+ghost use Rattle.std.specs.Prelude.{◌≤◌, ◌∷◌, [], length, IfOk};
+ghost use Rattle.layer_tree.specs.Trees.{IsTreeOf};
+ghost use Rattle.node_table.specs.Stacked.{IsTableOf};
+ghost use Rattle.stack_core.specs.Trees.{IsTreeOf as IsTreeOfAll};
+ghost use Rattle.stack_model.specs.declared.limits.TheConstants.{MAX_LAYERS};
 
 pub use layer_tree::{Child, Entry, OfLayer, Place, Tree, lay};
 pub use node_table::{NodeAttr, Node, OfTree, Row, Table};
@@ -14,7 +18,9 @@ pub fn tree_of<A: Allocator + Copy>(
     alloc: A,
     image: &Image<A>,
     layer: u16,
-) -> Result<Tree<A>, AllocError> {
+) -> Result<Tree<A>, AllocError>
+    ensures { IfOk result (λ tree. IsTreeOf layer (image.now ∷ []) tree) }
+{
     Tree::of(alloc, image, layer)
 }
 
@@ -25,7 +31,8 @@ pub fn stacked<R: Threads + Sync, A: Allocator + Copy + Send + Sync>(
     images: &[Image<A>],
 ) -> Result<Tree<A>, AllocError>
     requires some { 1 ≤ length images.now }
-    requires few { length images.now ≤ 128 }
+    requires few { length images.now ≤ MAX_LAYERS }
+    ensures { IfOk result (λ tree. IsTreeOfAll 0 images.now tree) }
 {
     stack(rt, alloc, images, &FreePass)
 }
@@ -37,7 +44,8 @@ pub fn tabled<R: Threads + Sync, A: Allocator + Copy + Send + Sync>(
     images: Vec<Image<A>, A>,
 ) -> Result<Table<A>, AllocError>
     requires some { 1 ≤ length images.items }
-    requires few { length images.items ≤ 128 }
+    requires few { length images.items ≤ MAX_LAYERS }
+    ensures { IfOk result (λ table. IsTableOf images.items table) }
 {
     let tree = stack(rt, alloc, &images, &FreePass)?;
     Table::of(rt, alloc, tree, images)

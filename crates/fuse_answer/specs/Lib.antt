@@ -1,3 +1,5 @@
 pub mod Answers
 pub mod Listings
 pub mod Puts
+pub use Rattle.fuse_wire.specs.Reads
+pub use Rattle.lookup_balances.specs.Balances

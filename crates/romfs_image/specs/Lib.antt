@@ -1,1 +1,4 @@
 pub mod Texts
+pub use Rattle.romfs_check.specs.Checks
+pub use Rattle.romfs_check.specs.Refusals
+pub use Rattle.romfs_format.specs.Rules

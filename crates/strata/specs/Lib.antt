@@ -5,3 +5,7 @@ pub mod Sessions
 pub mod Ending
 pub mod Laws
 pub mod Mounts
+pub use Rattle.command_line.specs.CommandLine
+pub use Rattle.devices.specs.States
+pub use Rattle.serve_core.specs.Preparing
+pub use Rattle.serve_loop.specs.Serving

@@ -1,0 +1,1 @@
+pub use Rattle.shown_tree.specs.Trees
