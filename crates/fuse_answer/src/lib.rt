@@ -20,18 +20,18 @@
 #![tactic(auto)]
 
 mod balances;
-mod moves;
-mod outcome;
 mod decide;
 mod listing;
 mod lookup;
+mod move_list;
 mod node;
+mod outcome;
 mod replies;
 mod rows;
 mod sessions;
 mod write;
 
-pub use moves::moves;
+pub use move_list::moves;
 pub use replies::{answer, answer_and_move};
 pub use reply_model::{Move, Session};
 pub use sessions::after;

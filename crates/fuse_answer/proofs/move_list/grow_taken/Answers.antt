@@ -4,7 +4,7 @@ use Rattle.fuse_wire.specs.declared.forget.Forget.{Forget}
 use Rattle.fuse_wire.specs.Reads.{items_of}
 use Rattle.fuse_answer.specs.Answers.{taken_back}
 use Rattle.fuse_answer.proofs.Moving.{none_appended, one_appended, taken_less}
-use Rattle.fuse_answer.proofs.moves.grow_taken.Goals as goal
+use Rattle.fuse_answer.proofs.move_list.grow_taken.Goals as goal
 
 empty : (fs : List Forget) → length fs ≤ 0 → fs ≡ []
 empty [] le = refl

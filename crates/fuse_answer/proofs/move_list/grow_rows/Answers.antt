@@ -2,7 +2,7 @@ use Rattle.std.proofs.Common.{◌∙◌, ap, ◌+◌, ◌<◌, length, arith, le
 use Rattle.std.proofs.lemmas.Result.{err_from_is_err_and}
 use Rattle.fuse_answer.specs.Listings.{row_given}
 use Rattle.fuse_answer.proofs.Moving.{given, given_less, given_next, none_given, row_appended}
-use Rattle.fuse_answer.proofs.moves.grow_rows.Goals as goal
+use Rattle.fuse_answer.proofs.move_list.grow_rows.Goals as goal
 
 pub loop-index-init : goal.loop-index-init
 loop-index-init g c = record { so_far = none_given c.args.rows.now c.args.into.now.items; room = omega arith; small = λ s. s }

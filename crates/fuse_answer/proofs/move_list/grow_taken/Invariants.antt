@@ -2,7 +2,7 @@ use Rattle.std.proofs.Common.{◌≡◌, length, ◌+◌, ◌≤◌, vec_capacit
 use Rattle.fuse_wire.specs.Reads.{items_of}
 use Rattle.fuse_answer.specs.Puts.{AreSmall}
 use Rattle.fuse_answer.proofs.Moving.{AreTaken}
-use Rattle.fuse_answer.proofs.moves.grow_taken.Given as goal
+use Rattle.fuse_answer.proofs.move_list.grow_taken.Given as goal
 
 -- what is taken back of so many items is appended, in no less room, and the rest is left
 abbrev pub invariant-loop-taken : goal.invariant-loop-taken

@@ -1,7 +1,7 @@
 use Rattle.std.proofs.Common.{◌≡◌, ◌++◌, ◌≤◌, vec_capacity}
 use Rattle.fuse_answer.specs.Puts.{AreSmall}
 use Rattle.fuse_answer.proofs.Moving.{given}
-use Rattle.fuse_answer.proofs.moves.grow_rows.Given as goal
+use Rattle.fuse_answer.proofs.move_list.grow_rows.Given as goal
 
 -- what the rows before the index give is appended, in no less room
 abbrev pub invariant-loop-index : goal.invariant-loop-index
