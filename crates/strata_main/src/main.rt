@@ -5,6 +5,7 @@ use command_line::{line, words};
 use devices::{Spout, Tap};
 use fuse_device::{MessageTap, ReplySpout};
 use std::alloc::{Allocator, Global};
+use std::fs;
 use std::fs::Files;
 use std::io::{Read, Write};
 use std::net::Net;
@@ -24,7 +25,19 @@ fn keep_freed_blocks<A: Allocator>(alloc: A) {
     drop(block);
 }
 
+// Opens a file that has nothing three times, to be held while the program runs. The system gives the
+// next file the lowest number that is free, so none that the words name takes that of a standard
+// stream that is closed: to read from it then gives nothing, and to write to it fails.
+fn stand_ins<R: Files>(rt: &R) -> [Option<R::File>; 3] {
+    [stand_in(rt), stand_in(rt), stand_in(rt)]
+}
+
+fn stand_in<R: Files>(rt: &R) -> Option<R::File> {
+    fs::open(rt, "/dev/null").ok()
+}
+
 fn main(rt: HostRuntime) -> ExitCode {
+    let _held = stand_ins(&rt);
     let alloc = rt.alloc();
     keep_freed_blocks(alloc);
     let mut faults = rt.stderr();
