@@ -63,7 +63,7 @@ module _ (rows : Rows Entry) (j : ℕ) (s s' : Subtree Entry) (above above' : En
   pub same_size : length (whole s) ≡ length (whole s')
   same_size =
       let top = sym (nil_right l.top) ∙ ap (λ (r : Path × Entry). r.0) (rows_are (l.top ++ [], s.value) (l'.top ++ [], s'.value) refl refl)
-          ∙ nil_right l'.top in
+      ∙ nil_right l'.top in
       sym (rows_below rows j s above l) ∙ ap (λ t. count t rows) top ∙ rows_below rows j s' above' l'
 
 -- a branch ends within the rows

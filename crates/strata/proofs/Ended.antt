@@ -61,8 +61,10 @@ pub unread : {X : Type 0} (A : Type 0) (words : List (List ℕ)) (line : Line) (
 unread A words line count old (Ok u) l n fault f e = absurd e
 unread A words line count old (Err told) l n fault (inl f) e = inl (record { kept = refl; which = inr (inr (e ∙ f)) })
 unread A words line count old (Err told) l n fault (inr f) e =
-    inl (record { kept = refl; which =
-      inr (inl (record { line = line; image = f.0; line_is = l; named = subst (λ k. f.0 < k) n f.1; told = e ∙ f.2 })) })
+    inl (record {
+      kept = refl;
+      which = inr (inl (record { line = line; image = f.0; line_is = l; named = subst (λ k. f.0 < k) n f.1; told = e ∙ f.2 }));
+    })
 
 -- no fault has the status 0
 stop_fails : (stop : Stop) → stop_status stop ≢ 0
