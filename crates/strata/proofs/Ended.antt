@@ -65,7 +65,13 @@ unread A words line count old (Err told) l n fault (inl f) e = inl (record { kep
 unread A words line count old (Err told) l n fault (inr f) e =
     inl (record {
       kept = refl;
-      which = inr (inl (record { line = line; image = f.0; line_is = l; named = subst (λ k. f.0 < k) n f.1; told = e ∙ ap files_told_of f.2 }));
+      which = inr (inl (record {
+        line = line;
+        image = f.0;
+        line_is = l;
+        named = subst (λ k. f.0 < k) n f.1;
+        told = e ∙ ap files_told_of f.2;
+      }));
     })
 
 -- no fault has the status 0
