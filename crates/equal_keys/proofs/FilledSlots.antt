@@ -8,7 +8,7 @@ use Rattle.std.proofs.lemmas.Option.{get_or_from_slice_get}
 use Rattle.equal_keys.specs.declared.occupancy.Occupancy.{Occupancy}
 use Rattle.equal_keys.specs.declared.occupancy.Occupancy.TheVariants.{Nothing, One, More}
 use Rattle.equal_keys.specs.Slots.{slot_of, and_one, AreOccupied}
-use Rattle.equal_keys.proofs.SeenKeys.{below_or_at}
+use Rattle.equal_keys.proofs.Keyed.{below_or_at}
 
 abbrev at : List Occupancy → ℕ → Occupancy
 at occupancy s = get_or occupancy s More

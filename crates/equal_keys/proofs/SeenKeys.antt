@@ -4,13 +4,7 @@
 use Rattle.std.proofs.Common.{◌≡◌, ◌∙◌, sym, ap, subst, ℕ, zero, suc, ◌+◌, ◌<◌, ◌⊎◌, inl, inr, List, [], ◌∷◌, ◌++◌, length, get_or, Bool, true, false, refl, arith, length-append}
 use Rattle.std.proofs.lemmas.List.{get_or_at, get_or_append_left}
 use Rattle.equal_keys.specs.Once.{IsOnce, AreSeenOnce}
-
--- what is below the number after i is below i, or is i
-pub below_or_at : (k i : ℕ) → k < i + 1 → (k < i) ⊎ (k ≡ i)
-below_or_at zero zero l = inr refl
-below_or_at zero (suc i) l = inl (omega arith)
-below_or_at (suc k) zero l = absurd (omega arith)
-below_or_at (suc k) (suc i) l = elim (below_or_at k i (omega arith)) [ inl m ↦ inl (omega arith) | inr m ↦ inr (ap suc m) ]
+use Rattle.equal_keys.proofs.Keyed.{below_or_at}
 
 -- of each of the first i keys it is told, and only of those that stand once
 pub record Told (keys : List ℕ) (once : List Bool) (i : ℕ) : Type 0 where

@@ -14,7 +14,7 @@ use Rattle.romfs_format.specs.Chains.{Has}
 use Rattle.romfs_reader.specs.Images.{IsImage}
 use Rattle.romfs_reader.proofs.Paths.{short}
 use Rattle.stack_model.specs.Stack.{Path, IsMarker, marker}
-use Rattle.path_tree.specs.Rows.{Subtree, name_cmp, named, IsRising, IsForest}
+use Rattle.path_tree.specs.Rows.{Subtree, name_cmp, named, IsForest}
 use Rattle.path_tree.proofs.Names.{same_or_not, named_below}
 use Rattle.path_tree.proofs.Spread.{through}
 use Rattle.shown_tree.specs.declared.place.Entry.{Entry}
@@ -22,6 +22,7 @@ use Rattle.shown_tree.specs.declared.place.Mark.{Mark}
 use Rattle.layer_tree.specs.declared.members.Named.{Named}
 use Rattle.layer_tree.specs.Reading.{IsBefore, NamedRise, IsNamedMember, IsAtDepth, AreMembersAt, IsBranchOf, RemovesFrom, IsBranchAlone, AreBranchesOf, AreBuilt, none_built, hidden, alone, built, AreWhiteouts, none_white, other, white}
 use Rattle.layer_tree.proofs.Layered.{leads_on}
+use Rattle.layer_tree.proofs.Stepping.{leaf_rises}
 
 -- what is built so far, with what the members that are left become, is what all become
 pub record Building (a : List ℕ) (layer : ℕ) (all left : List Named) (es : List (Subtree Entry)) (ks : List (Subtree Mark)) : Type 0 where
@@ -187,9 +188,6 @@ before_white (white x ms k ks f c d b) m n e r = (
       p,
   before_white b m n e r.1,
 )
-
-leaf_rises : {T : Type 0} (s : Subtree T) → s.below ≡ [] → IsRising s
-leaf_rises s e = record { rises = rw e (tt, tt) }
 
 -- of markers in the order of names, the marks are a forest
 pub white_forest : {ms : List Named} {ks : List (Subtree Mark)} → AreWhiteouts ms ks → NamedRise ms → IsForest ks

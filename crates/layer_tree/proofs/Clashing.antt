@@ -2,6 +2,7 @@
 -- directory, Clashing what it makes of each, are_clashes what that is for all. By the marks,
 -- what_is_left of the lower tree is known, and what_both_remove.
 use Rattle.std.proofs.Common.{◌≡◌, ◌∙◌, sym, ap, subst, ℕ, ◌+◌, ◌*◌, ◌<◌, ◌≤◌, ◌⊎◌, inl, inr, List, [], ◌∷◌, ◌++◌, append_assoc, length, refl, arith, Option, Some, None, Bool, true, false, ◌||◌, not}
+use Rattle.std.proofs.lemmas.Bool.{not-false, or_cases, or_left, or_right}
 use Rattle.std.proofs.lemmas.List.{append-nil}
 use Rattle.std.specs.Prelude.{option_map}
 use Rattle.std.specs.List.{AllByRecursion}
@@ -19,8 +20,8 @@ use Rattle.shown_tree.specs.Marks.{cuts_itself, cuts_below, cut_by, marked, mark
 use Rattle.layer_tree.specs.Laying.{unless, IsFrom, is_uncut, IsBare, IsLeafAt, Clash, AreClashes, IsClashMark}
 use Rattle.shown_tree.specs.Marks.{upper}
 use Rattle.shown_tree.proofs.Cutting.{nothing_cut, cut_same}
-use Rattle.layer_tree.proofs.Removing.{IsFile, or_true, or_left, or_right, both_ways, cut_extends, covering_file, file_covers, removed_extends}
-use Rattle.layer_tree.proofs.Stepping.{all_cut, still_same}
+use Rattle.layer_tree.proofs.Removing.{IsFile, both_ways, cut_extends, covering_file, file_covers, removed_extends}
+use Rattle.layer_tree.proofs.Stepping.{unless_none, all_cut, still_same}
 
 module _ (f f' o o' c c' : Path → Option Mark) (ef : (q : Path) → f q ≡ f' q)
     (eo : (q : Path) → o q ≡ o' q) (ec : (q : Path) → c q ≡ c' q) where
@@ -226,14 +227,6 @@ not_there : (o : Option Entry) → option_map mark_of o ≡ None → o ≡ None
 not_there None e = refl
 not_there (Some x) e = absurd (cc)
 
-not_not : (b : Bool) → not b ≡ false → b ≡ true
-not_not true e = refl
-not_not false e = absurd (cc)
-
-unless_none : (b : Bool) → unless {T = Entry} b None ≡ None
-unless_none true = refl
-unless_none false = refl
-
 -- the upper tree's marks, and then those of the paths at which it has a file over something, leave
 -- of the lower one what the upper one does not remove, as far as it does not cover it itself
 module _ (el eh one two eo : Path → Option Entry) (mh hidden : Path → Option Mark)
@@ -303,7 +296,7 @@ module _ (el eh eo : Path → Option Entry) (ml mh replaced mo : Path → Option
   by_file path q r e x = or_right (cut_by mo path) (covered_by eo path) (file_covers eo path q r e x)
 
   of_high : (path : Path) → removed_by mh eh path ≡ true → removed_by mo eo path ≡ true
-  of_high path e = elim (or_true (cut_by mh path) (covered_by eh path) e) [
+  of_high path e = elim (or_cases (cut_by mh path) (covered_by eh path) e) [
     | inl x ↦ by_marks path (or_right (cut_by ml path) _ (or_right (cut_by replaced path) _ x))
     | inr x ↦ (let w = covering_file eh path x in by_file path w.0 w.1 w.2 (kept w.0 (eh w.0) refl w.3))
   ]
@@ -313,7 +306,7 @@ module _ (el eh eo : Path → Option Entry) (ml mh replaced mo : Path → Option
       kept q (Some y) e x = file_here q (Some y) (sym (upper_stays q y e)) (rw e at x)
 
   of_low : (path : Path) → removed_by ml el path ≡ true → removed_by mo eo path ≡ true
-  of_low path e = elim (or_true (cut_by ml path) (covered_by el path) e) [
+  of_low path e = elim (or_cases (cut_by ml path) (covered_by el path) e) [
     | inl x ↦ by_marks path (or_left (cut_by ml path) _ x)
     | inr x ↦ (let w = covering_file el path x in file path w.0 w.1 w.2 w.3)
   ]
@@ -321,7 +314,7 @@ module _ (el eh eo : Path → Option Entry) (ml mh replaced mo : Path → Option
       kept : (path q r : Path) (o : Option Entry) (b : Bool) → path ≡ q ++ r → eh q ≡ o → removed_by mh eh q ≡ b
           → is_uncut (option_map mark_of o) ≡ false → IsFile (el q) → removed_by mo eo path ≡ true
       kept path q r (Some y) b i e f l x = by_file path q r i (file_here q (Some y) (sym (upper_stays q y e))
-          (not_not (not (is_directory y.kind)) l))
+          (not-false (not (is_directory y.kind)) l))
       kept path q r None true i e f l x = removed_extends mo eo path q r i (of_high q f)
       kept path q r None false i e f l x = by_file path q r i (file_here q (el q) (sym (lower_stays q false e f)) x)
 
@@ -333,10 +326,10 @@ module _ (el eh eo : Path → Option Entry) (ml mh replaced mo : Path → Option
       ]
 
   of_either : (path : Path) → removed_by mo eo path ≡ true → (removed_by ml el path || removed_by mh eh path) ≡ true
-  of_either path e = elim (or_true (cut_by mo path) (covered_by eo path) e) [
-    | inl x ↦ elim (or_true (cut_by ml path) _ (sym (all path) ∙ x)) [
+  of_either path e = elim (or_cases (cut_by mo path) (covered_by eo path) e) [
+    | inl x ↦ elim (or_cases (cut_by ml path) _ (sym (all path) ∙ x)) [
       | inl y ↦ or_left (removed_by ml el path) _ (or_left (cut_by ml path) _ y)
-      | inr y ↦ elim (or_true (cut_by replaced path) _ y) [
+      | inr y ↦ elim (or_cases (cut_by replaced path) _ y) [
         | inl z ↦ or_left (removed_by ml el path) _ (or_right (cut_by ml path) _ (c.sound path z))
         | inr z ↦ or_right (removed_by ml el path) _ (or_left (cut_by mh path) _ z)
       ]
@@ -355,8 +348,4 @@ module _ (el eh eo : Path → Option Entry) (ml mh replaced mo : Path → Option
   -- a path is removed where one of the two trees removes it, and nowhere else
   pub what_both_remove : (path : Path) → removed_by mo eo path ≡ (removed_by ml el path || removed_by mh eh path)
   what_both_remove path = both_ways (removed_by mo eo path) (removed_by ml el path || removed_by mh eh path) (of_either path)
-      (λ e. elim (or_true (removed_by ml el path) _ e) [ inl x ↦ of_low path x | inr x ↦ of_high path x ])
-
--- a branch with nothing below has rising paths
-pub leaf_rises : {T : Type 0} (n : List ℕ) (value : T) → IsRising (record { name = n; value = value; below = [] })
-leaf_rises n value = record { rises = (tt, tt) }
+      (λ e. elim (or_cases (removed_by ml el path) _ e) [ inl x ↦ of_low path x | inr x ↦ of_high path x ])

@@ -7,7 +7,7 @@ use Rattle.std.proofs.lemmas.List.Elements.{All-contains, Contains-append_right}
 use Rattle.romfs_format.specs.declared.head.Kind.TheVariants.{Directory}
 use Rattle.romfs_format.specs.declared.head.Head.{Head}
 use Rattle.romfs_format.specs.Fields.{root, kind, name, spec, cleared}
-use Rattle.romfs_format.specs.Chains.{IsFirst, IsOpened, at_root, below, IsMember, IsSomeMember, Leads, Has}
+use Rattle.romfs_format.specs.Chains.{IsFirst, IsOpened, at_root, below, IsMember, Leads, Has}
 use Rattle.romfs_format.specs.Links.{IsFinal, stays, follows, destination}
 use Rattle.romfs_format.specs.Heads.{head_of}
 use Rattle.romfs_reader.specs.Images.{IsImage}

@@ -4,6 +4,7 @@
 use Rattle.std.proofs.Common.{◌≡◌, ◌≢◌, ◌∙◌, sym, ap, subst, ℕ, zero, suc, ◌↔◌, inl, inr, List, [], ◌∷◌, ◌++◌, refl, Some, None, Option, Bool, true, false, ◌||◌, not, IsTrue, IsSomeAnd, length, arith}
 use Rattle.std.specs.Prelude.{◌==◌, slice_get, is_some, option_map, MatchOption}
 use Rattle.std.specs.List.{AllByRecursion}
+use Rattle.std.proofs.lemmas.Bool.{or_cases, or_left, or_right}
 use Rattle.romfs_format.specs.declared.head.Kind.{Kind}
 use Rattle.romfs_format.specs.declared.head.Kind.TheVariants.{HardLink, Directory, Regular, SymLink, Block, Character, Socket, Fifo}
 use Rattle.romfs_format.specs.Fields.{kind, name}
@@ -23,7 +24,7 @@ use Rattle.shown_tree.specs.Marks.{cut_by, mark_of, covered_by, removed_by}
 use Rattle.shown_tree.specs.Marks.{united}
 use Rattle.layer_tree.specs.Reading.{IsNamedMember, AreByName, HasNamed, CutsFrom, CutsAt, IsEntryIn, IsBranchOf, RemovesFrom, IsBranchAlone, AreBranchesOf, IsMadeOf, IsBlank, AreBuilt, AreWhiteouts, rest_of_opaque}
 use Rattle.shown_tree.proofs.Cutting.{nothing_cut, cut_same, cut_through, by_name, by_through}
-use Rattle.layer_tree.proofs.Removing.{or_true, or_left, or_right, file_covers}
+use Rattle.layer_tree.proofs.Removing.{file_covers}
 use Rattle.layer_tree.proofs.Joining.{cut_united}
 use Rattle.layer_tree.proofs.Stepping.{all_cut}
 use Rattle.layer_tree.proofs.Layered.{opened_directory, final_directory}
@@ -72,21 +73,6 @@ single a i layer h n entry other file w = record {
 module _ (a : List ℕ) (i : IsImage a) (layer h : ℕ) (ms : List Named) (es : List (Subtree Entry))
     (mm ws out : List (Subtree Mark)) (members : AreByName a h ms) (b : AreBuilt a layer ms es mm)
     (wh : AreWhiteouts ms ws) (laid : AreLaid united mm ws out) where
-  -- the member of a name is among the sorted ones
-  member_at : (n : List ℕ) (c : ℕ) → IsMember a h c → name a c ≡ Some n
-      → (j : ℕ) × (m : Named) × (slice_get ms j ≡ Some m) × (m.head.offset ≡ c) × (m.name.now ≡ n)
-  member_at n c x f =
-      let w = members.whole c x in
-      let e = each_at ms w.0 w.1 members.each w.2 in
-      let g : Some w.1.name.now ≡ Some n = sym e.name ∙ ap (name a) w.3 ∙ f in
-      (w.0, w.1, w.2, w.3, (let q : w.1.name.now ≡ n = cc in q))
-    where
-      each_at : (xs : List Named) (j : ℕ) (m : Named) → AllByRecursion (IsNamedMember a h) xs → slice_get xs j ≡ Some m
-          → IsNamedMember a h m
-      each_at [] j m p e = absurd (cc)
-      each_at (x ∷ xs) zero m p e = (let s : x ≡ m = cc in subst (IsNamedMember a h) s p.0)
-      each_at (x ∷ xs) (suc j) m p e = each_at xs j m p.1 e
-
   has_at : (j : ℕ) (m : Named) → slice_get ms j ≡ Some m → IsNamedMember a h m
   has_at j m e = each_at ms j m members.each e
     where
@@ -95,6 +81,15 @@ module _ (a : List ℕ) (i : IsImage a) (layer h : ℕ) (ms : List Named) (es : 
       each_at [] j m p e = absurd (cc)
       each_at (x ∷ xs) zero m p e = (let s : x ≡ m = cc in subst (IsNamedMember a h) s p.0)
       each_at (x ∷ xs) (suc j) m p e = each_at xs j m p.1 e
+
+  -- the member of a name is among the sorted ones
+  member_at : (n : List ℕ) (c : ℕ) → IsMember a h c → name a c ≡ Some n
+      → (j : ℕ) × (m : Named) × (slice_get ms j ≡ Some m) × (m.head.offset ≡ c) × (m.name.now ≡ n)
+  member_at n c x f =
+      let w = members.whole c x in
+      let e = has_at w.0 w.1 w.2 in
+      let g : Some w.1.name.now ≡ Some n = sym e.name ∙ ap (name a) w.3 ∙ f in
+      (w.0, w.1, w.2, w.3, (let q : w.1.name.now ≡ n = cc in q))
 
   entries_forest : IsForest es
   entries_forest = (forests a layer b members.rising).0
@@ -192,9 +187,9 @@ module _ (a : List ℕ) (i : IsImage a) (layer h : ℕ) (ms : List Named) (es : 
     to_cuts : (n : List ℕ) (path : Path) → IsPlain (n ∷ path)
         → (whole_cut || (removed_by (through (named n mm)) (through (named n es)) path || cut_through (named n ws) path)) ≡ true
         → CutsFrom a h (n ∷ path)
-    to_cuts n path p e = elim (or_true whole_cut _ e) [
+    to_cuts n path p e = elim (or_cases whole_cut _ e) [
       | inl x ↦ inr (inl (is_whole.0 x))
-      | inr y ↦ elim (or_true (removed_by (through (named n mm)) (through (named n es)) path) _ y) [
+      | inr y ↦ elim (or_cases (removed_by (through (named n mm)) (through (named n es)) path) _ y) [
         | inl x ↦ inr (inr ((below_is n path p (find_built a layer h n b members.each members.rising)).0 x))
         | inr x ↦ inl ((white_is n path (find_white n wh)).0 x)
       ]
@@ -283,11 +278,6 @@ alone_without a layer h n e k w blank = record { name = w.entry_name; entries = 
         let same : removed_by (λ q. None) (at_path (whole e)) path ≡ removed_by (at_path (whole k)) (at_path (whole e)) path
         = ap (λ x. x || covered_by (at_path (whole e)) path) (nothing_cut path ∙ sym (nothing path)) in
         subst (λ x. IsTrue x ↔ CutsAt a h path) (sym same) (w.exact path p)
-
--- a Boolean whose opposite is true is false
-pub no_true : (b : Bool) → not b ≡ true → b ≡ false
-no_true true e = sym e
-no_true false e = refl
 
 -- a mark that itself cuts nothing is blank exactly where it has no branches
 pub blank_below : (k : Subtree Mark) (ks : List (Subtree Mark)) (none : Bool) → k.value.cut ≡ false → k.value.opaque ≡ false

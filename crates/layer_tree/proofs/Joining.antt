@@ -3,6 +3,7 @@
 -- branches that are made, by the marks of clashes.
 use Rattle.std.proofs.Common.{◌≡◌, ◌∙◌, sym, ap, subst, ℕ, zero, suc, ◌+◌, ◌↔◌, inl, inr, List, [], ◌∷◌, ◌++◌, length, refl, arith, Option, Some, None, Bool, true, false, ◌||◌, ◌&&◌, IsTrue, IsSomeAnd}
 use Rattle.std.specs.Prelude.{slice_get, Result, Ok, Err, IfOk}
+use Rattle.std.proofs.lemmas.Bool.{or_cases, or_right}
 use Rattle.romfs_format.specs.declared.head.Kind.TheVariants.{Directory}
 use Rattle.stack_model.specs.Stack.{Path, IsPlain, Shows, IsTop, IsFree, IsCut}
 use Rattle.stack_model.proofs.Joined.{shows_joined, cuts_joined, free_is}
@@ -15,7 +16,6 @@ use Rattle.shown_tree.specs.Trees.{TreeRows, entry_at, removes, cuts_at, IsEntry
 use Rattle.layer_tree.specs.Laying.{unless, IsKept, AreRootClashes, Lays}
 use Rattle.shown_tree.specs.Marks.{upper, united}
 use Rattle.layer_tree.proofs.Plain.{plain_is}
-use Rattle.layer_tree.proofs.Removing.{or_true}
 use Rattle.layer_tree.proofs.Clashing.{what_is_left, what_both_remove}
 
 or_four : (a b c d : Bool) → ((a || b) || (c || d)) ≡ ((a || c) || (b || d))
@@ -51,10 +51,6 @@ cut_united f g h e (n ∷ path) =
 and_or : (p a b : Bool) → (p && (a || b)) ≡ ((p && a) || (p && b))
 and_or true a b = refl
 and_or false a b = refl
-
-or_right : (a : Bool) → (a || true) ≡ true
-or_right true = refl
-or_right false = refl
 
 get_low : (ls hs : List (List ℕ)) (i : ℕ) (a : List ℕ) → slice_get ls i ≡ Some a → slice_get (ls ++ hs) i ≡ Some a
 get_low [] hs i a e = absurd (cc)
@@ -180,13 +176,13 @@ module _ (first : ℕ) (ls hs : List (List ℕ)) (low high out : TreeRows) (l : 
 
   cuts_exactly : (path : Path) → IsTrue (cuts_at out path) ↔ IsCut (ls ++ hs) path
   cuts_exactly path = (
-    λ t. elim (or_true (cuts_at low path) (cuts_at high path) (sym (cuts_both path) ∙ t)) [
+    λ t. elim (or_cases (cuts_at low path) (cuts_at high path) (sym (cuts_both path) ∙ t)) [
       | inl x ↦ (cuts_joined ls hs path).1 (inl ((l.cuts path).0 x))
       | inr x ↦ (cuts_joined ls hs path).1 (inr ((h.cuts path).0 x))
     ],
     λ c. elim ((cuts_joined ls hs path).0 c) [
       | inl x ↦ cuts_both path ∙ rw ((l.cuts path).1 x) refl
-      | inr x ↦ cuts_both path ∙ rw ((h.cuts path).1 x) (or_right (cuts_at low path))
+      | inr x ↦ cuts_both path ∙ rw ((h.cuts path).1 x) (or_right (cuts_at low path) true refl)
     ],
   )
 

@@ -2,6 +2,7 @@
 -- branch and mark are the layer's tree. cuts_is says what a layer cuts by going down from the root,
 -- name by name, as branches are made; removed_cut and cut_removed are its two ways.
 use Rattle.std.proofs.Common.{◌≡◌, ◌≢◌, ◌∙◌, sym, ap, subst, ℕ, ◌⊎◌, ◌↔◌, inl, inr, List, [], ◌∷◌, ◌++◌, refl, arith, Option, Some, None, Bool, true, false, IsTrue, IsSomeAnd, ◌&&◌}
+use Rattle.std.proofs.lemmas.Bool.{or_left}
 use Rattle.romfs_format.specs.declared.head.Kind.TheVariants.{Directory}
 use Rattle.romfs_format.specs.Fields.{root, kind, name}
 use Rattle.romfs_format.specs.Chains.{IsOpened, at_root, below, IsMember, Leads}
@@ -17,7 +18,6 @@ use Rattle.shown_tree.specs.Marks.{covered_by, removed_by, is_plain}
 use Rattle.shown_tree.specs.Trees.{IsEntryOf, IsTreeOf}
 use Rattle.layer_tree.specs.Reading.{CutsFrom, CutsAt, IsEntryIn, IsBranchOf, RemovesFrom}
 use Rattle.layer_tree.proofs.Plain.{plain_is}
-use Rattle.layer_tree.proofs.Removing.{or_left}
 
 -- hard links from a directory end at a directory
 pub final_directory : (a : List ℕ) (h e : ℕ) → IsFinal a h e → kind a h ≡ Directory → kind a e ≡ Directory

@@ -1,28 +1,14 @@
 -- What marks and files remove: a path is removed where it, or a path above it, is. removed_extends
 -- says so of both, cut_extends of marks; covering_file and file_covers find the file above a
 -- covered path.
-use Rattle.std.proofs.Common.{◌≡◌, sym, ap, subst, ◌⊎◌, inl, inr, [], ◌∷◌, ◌++◌, refl, Option, Some, None, Bool, true, false, ◌||◌, not}
+use Rattle.std.proofs.Common.{◌≡◌, sym, ap, subst, inl, inr, [], ◌∷◌, ◌++◌, refl, Option, Some, None, Bool, true, false, not}
 use Rattle.std.specs.Prelude.{option_map}
+use Rattle.std.proofs.lemmas.Bool.{or_cases, or_left, or_right}
 use Rattle.stack_model.specs.Stack.{Path}
 use Rattle.stack_model.specs.Attributes.{is_directory}
 use Rattle.shown_tree.specs.declared.place.Entry.{Entry}
 use Rattle.shown_tree.specs.declared.place.Mark.{Mark}
 use Rattle.shown_tree.specs.Marks.{cuts_itself, cuts_below, cut_by, mark_of, covered_by, removed_by}
-
--- where one of two is true, it is the first or the second
-pub or_true : (a b : Bool) → (a || b) ≡ true → (a ≡ true) ⊎ (b ≡ true)
-or_true true b e = inl refl
-or_true false b e = inr e
-
--- where the first of two is true, one of them is
-pub or_left : (a b : Bool) → a ≡ true → (a || b) ≡ true
-or_left true b e = refl
-or_left false b e = absurd (cc)
-
--- where the second of two is true, one of them is
-pub or_right : (a b : Bool) → b ≡ true → (a || b) ≡ true
-or_right true b e = refl
-or_right false b e = e
 
 -- booleans that are true together are the same
 pub both_ways : (a b : Bool) → (a ≡ true → b ≡ true) → (b ≡ true → a ≡ true) → a ≡ b
@@ -38,7 +24,7 @@ below_itself (Some m) e = or_left m.cut m.opaque e
 pub cut_extends : (m : Path → Option Mark) (q r : Path) → cut_by m q ≡ true → cut_by m (q ++ r) ≡ true
 cut_extends m [] [] e = e
 cut_extends m [] (n ∷ r) e = or_left (cuts_below (m [])) (cut_by (λ p. m (n ∷ p)) r) (below_itself (m []) e)
-cut_extends m (n ∷ q) r e = elim (or_true (cuts_below (m [])) (cut_by (λ p. m (n ∷ p)) q) e) [
+cut_extends m (n ∷ q) r e = elim (or_cases (cuts_below (m [])) (cut_by (λ p. m (n ∷ p)) q) e) [
   | inl x ↦ or_left (cuts_below (m [])) (cut_by (λ p. m (n ∷ p)) (q ++ r)) x
   | inr y ↦ or_right (cuts_below (m [])) (cut_by (λ p. m (n ∷ p)) (q ++ r)) (cut_extends (λ p. m (n ∷ p)) q r y)
 ]
@@ -54,13 +40,13 @@ IsFile o = cuts_itself (option_map mark_of o) ≡ true
 
 file_below : (o : Option Entry) → cuts_below (option_map mark_of o) ≡ true → IsFile o
 file_below None e = absurd (cc)
-file_below (Some x) e = elim (or_true (not (is_directory x.kind)) false e) [ inl y ↦ y | inr y ↦ absurd (cc) ]
+file_below (Some x) e = elim (or_cases (not (is_directory x.kind)) false e) [ inl y ↦ y | inr y ↦ absurd (cc) ]
 
 -- a covered path has a file at it or above it
 pub covering_file : (f : Path → Option Entry) (path : Path) → covered_by f path ≡ true
     → (q : Path) × (r : Path) × (path ≡ q ++ r) × IsFile (f q)
 covering_file f [] e = ([], [], refl, e)
-covering_file f (n ∷ path) e = elim (or_true (cuts_below (option_map mark_of (f []))) (covered_by (λ p. f (n ∷ p)) path) e) [
+covering_file f (n ∷ path) e = elim (or_cases (cuts_below (option_map mark_of (f []))) (covered_by (λ p. f (n ∷ p)) path) e) [
   | inl x ↦ ([], n ∷ path, refl, file_below (f []) x)
   | inr y ↦ (let w = covering_file (λ p. f (n ∷ p)) path y in (n ∷ w.0, w.1, ap (λ p. n ∷ p) w.2, w.3))
 ]
@@ -73,7 +59,7 @@ file_covers f path q r e x = subst (λ p. covered_by f p ≡ true) (sym e)
 -- what is removed is so with more names
 pub removed_extends : (m : Path → Option Mark) (f : Path → Option Entry) (path q r : Path) → path ≡ q ++ r
     → removed_by m f q ≡ true → removed_by m f path ≡ true
-removed_extends m f path q r e x = subst (λ p. removed_by m f p ≡ true) (sym e) (elim (or_true (cut_by m q) (covered_by f q) x) [
+removed_extends m f path q r e x = subst (λ p. removed_by m f p ≡ true) (sym e) (elim (or_cases (cut_by m q) (covered_by f q) x) [
   | inl y ↦ or_left (cut_by m (q ++ r)) (covered_by f (q ++ r)) (cut_extends m q r y)
   | inr y ↦ or_right (cut_by m (q ++ r)) (covered_by f (q ++ r)) (cut_extends (λ p. option_map mark_of (f p)) q r y)
 ])

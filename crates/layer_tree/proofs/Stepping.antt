@@ -62,6 +62,11 @@ pub data Keeps {T : Type 0} (marks : List (Subtree Mark)) : List (Subtree T) →
   Kept : (l b : Subtree T) (ls out : List (Subtree T)) (m : Subtree Mark) → named l.name marks ≡ Some m
       → IsKept l m b → Keeps marks ls out → Keeps marks (l ∷ ls) (b ∷ out)
 
+-- of nothing, nothing is left
+pub unless_none : {T : Type 0} (b : Bool) → unless {T = T} b None ≡ None
+unless_none true = refl
+unless_none false = refl
+
 module _ {T : Type 0} (marks : List (Subtree Mark)) where
   above : {ls out : List (Subtree T)} → Keeps marks ls out → (n : List ℕ)
       → AllByRecursion (λ t. name_cmp n t.name ≡ Less) ls → AllByRecursion (λ t. name_cmp n t.name ≡ Less) out
@@ -85,10 +90,6 @@ module _ {T : Type 0} (marks : List (Subtree Mark)) where
   cut_off : (b : Bool) (x : Option T) → b ≡ true → unless b x ≡ None
   cut_off true x e = refl
   cut_off false x e = absurd (cc)
-
-  unless_none : (b : Bool) → unless {T = T} b None ≡ None
-  unless_none true = refl
-  unless_none false = refl
 
   found : {ls out : List (Subtree T)} → Keeps marks ls out → NamesRise ls → (n : List ℕ) (p : Path)
       → through (named n out) p ≡ unless (cut_through (named n marks) p) (through (named n ls) p)
@@ -214,10 +215,14 @@ all_cut mark e = record { cut = cut }
     cut [] = e
     cut (n ∷ path) = rw e refl
 
+-- a branch with nothing below it has rising paths
+pub leaf_rises : {T : Type 0} (s : Subtree T) → s.below ≡ [] → IsRising s
+leaf_rises s e = record { rises = rw e (tt, tt) }
+
 -- an opaque mark leaves the branch alone
 pub alone : {T : Type 0} (low : Subtree T) (mark : Subtree Mark) → mark.value.cut ≡ false
     → mark.value.opaque ≡ true → IsKept low mark (record { name = low.name; value = low.value; below = [] })
-alone low mark e o = record { name = refl; rising = branch_rises low.name low.value [] (record { names = tt; each = tt }); at = at }
+alone low mark e o = record { name = refl; rising = leaf_rises _ refl; at = at }
   where
     at : (path : Path) → at_path (whole (record { name = low.name; value = low.value; below = [] })) path
         ≡ unless (cut_by (at_path (whole mark)) path) (at_path (whole low) path)

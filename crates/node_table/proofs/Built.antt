@@ -1,12 +1,12 @@
 -- The rows of children and the node of a branch. Rowing is the loop over children: it starts with
 -- none, a child is a directory or another (follows tells where it stands), and it ends with
 -- AddsRows. made has the node of a branch, from what its kind adds.
-use Rattle.std.proofs.Common.{◌≡◌, ◌∙◌, sym, ap, subst, ℕ, zero, suc, ◌+◌, ◌-◌, ◌<◌, ◌≤◌, List, [], ◌∷◌, ◌++◌, length, map, take, drop, get_or, refl, arith, append_assoc, length-append, true, false, Some}
-use Rattle.std.specs.Prelude.{slice_get}
+use Rattle.std.proofs.Common.{◌≡◌, ◌∙◌, sym, ap, subst, ℕ, zero, suc, ◌+◌, ◌-◌, ◌<◌, ◌≤◌, List, [], ◌∷◌, ◌++◌, length, map, take, drop, get_or, refl, arith, append_assoc, length-append, true, false}
 use Rattle.std.specs.List.{AllByRecursion}
 use Rattle.std.specs.declared.cmp.Ordering.TheVariants.{Less}
 use Rattle.std.proofs.lemmas.List.Sums.{count_by_more_yes, count_by_more_no}
-use Rattle.std.proofs.lemmas.List.{take_rest, drop_at}
+use Rattle.std.proofs.lemmas.List.{append-nil, map_push, take_all, take_rest, drop_at}
+use Rattle.std.proofs.lemmas.Option.{get_or_from_slice_get}
 use Rattle.romfs_format.specs.declared.head.Kind.{Kind}
 use Rattle.romfs_format.specs.declared.head.Kind.TheVariants.{HardLink, Directory, Regular, SymLink, Block, Character, Socket, Fifo}
 use Rattle.stack_model.specs.Attributes.{is_directory}
@@ -23,7 +23,7 @@ use Rattle.name_keys.specs.Names.{Rise}
 use Rattle.stack_table.specs.Rows.{Line, names}
 use Rattle.node_table.specs.Walks.{Visit}
 use Rattle.node_table.specs.Building.{line_in, directories, IsPosted, AreFollowing, AddsRows, AddsLinked, AddsNothing, AddsByKind, IsReadFrom, AddsNode}
-use Rattle.node_table.proofs.Walking.{longer_front}
+use Rattle.node_table.proofs.Lists.{take_one_more}
 
 -- no kind but Directory passes the test for directories
 pub not_directory : (k : Kind) → (k ≡ Directory → ⊥) → is_directory k ≡ false
@@ -35,11 +35,6 @@ not_directory Block f = refl
 not_directory Character f = refl
 not_directory Socket f = refl
 not_directory Fifo f = refl
-
-map_last : (tell : Place → ℕ) (cs : List (Subtree Entry)) (c : Subtree Entry) → map (line_in tell) (cs ++ c ∷ []) ≡ map (line_in tell) cs
-    ++ line_in tell c ∷ []
-map_last tell [] c = refl
-map_last tell (x ∷ cs) c = ap (λ r. line_in tell x ∷ r) (map_last tell cs c)
 
 -- how far the rows of children have come
 pub record Rowing (tell : Place → ℕ) (cs : List (Subtree Entry)) (old new : List Line) (n i : ℕ) : Type 0 where
@@ -54,7 +49,7 @@ module _ (tell : Place → ℕ) (cs : List (Subtree Entry)) (old new new' : List
     rows_now =
         pushed ∙ ap (λ x. x ++ line ∷ []) r.rows ∙ append_assoc old (map (line_in tell) (take i cs)) (line ∷ [])
         ∙ ap (λ x. old ++ x) (ap (λ l. map (line_in tell) (take i cs) ++ l ∷ []) is
-        ∙ sym (ap (map (line_in tell)) (longer_front cs i c lt at) ∙ map_last tell (take i cs) c))
+        ∙ sym (ap (map (line_in tell)) (take_one_more cs i c lt at) ∙ map_push (line_in tell) (take i cs) c))
 
     -- the row of a directory is added, and the directory counted
     pub directory : c.value.kind ≡ Directory → Rowing tell cs old new' (n + 1) (i + 1)
@@ -97,31 +92,16 @@ follows tell numbers sizes at cs i c l e f = let n : suc i ≡ i + 1 = omega ari
     go (x ∷ cs) (suc i) l e f = go cs i (omega arith) e f
 
 -- before the first child no row is added
-pub starts : (tell : Place → ℕ) (cs : List (Subtree Entry)) (old : List Line) → Rowing tell cs old old 0 0
-starts tell cs old = record { rows = sym (none old); count = refl; few = omega arith }
-  where
-    none : (xs : List Line) → xs ++ [] ≡ xs
-    none [] = refl
-    none (x ∷ xs) = ap (λ r. x ∷ r) (none xs)
+pub rows_begun : (tell : Place → ℕ) (cs : List (Subtree Entry)) (old : List Line) → Rowing tell cs old old 0 0
+rows_begun tell cs old = record { rows = sym (append-nil old); count = refl; few = omega arith }
 
 -- past the last child the rows of all are added
-pub ends : (tell : Place → ℕ) (cs : List (Subtree Entry)) (old new : List Line) (n i : ℕ) → length cs ≤ i → Rowing tell cs old new n i
+pub rows_ended : (tell : Place → ℕ) (cs : List (Subtree Entry)) (old new : List Line) (n i : ℕ) → length cs ≤ i → Rowing tell cs old new n i
     → AddsRows tell cs old new n
-ends tell cs old new n i le r = record {
-  rows_are = r.rows ∙ ap (λ x. old ++ map (line_in tell) x) (all cs i le);
-  count_is = r.count ∙ ap directories (all cs i le);
+rows_ended tell cs old new n i le r = record {
+  rows_are = r.rows ∙ ap (λ x. old ++ map (line_in tell) x) (take_all i cs le);
+  count_is = r.count ∙ ap directories (take_all i cs le);
 }
-  where
-    all : (cs : List (Subtree Entry)) (i : ℕ) → length cs ≤ i → take i cs ≡ cs
-    all [] zero l = refl
-    all [] (suc i) l = refl
-    all (x ∷ cs) zero l = absurd (omega arith)
-    all (x ∷ cs) (suc i) l = ap (λ r. x ∷ r) (all cs i (omega arith))
-
-indexed : (layers : List (List ℕ)) (k : ℕ) (image x : List ℕ) → slice_get layers k ≡ Some image → x ≡ get_or layers k x → x ≡ image
-indexed [] k image x e f = absurd (cc)
-indexed (a ∷ layers) zero image x e f = let g : a ≡ image = cc in f ∙ g
-indexed (a ∷ layers) (suc k) image x e f = indexed layers k image x e f
 
 -- rows of branches come in the order of their names
 pub names_rise : (tell : Place → ℕ) (cs : List (Subtree Entry)) → NamesRise cs → Rise (names (map (line_in tell) cs))
@@ -158,7 +138,7 @@ module _ (layers : List (List ℕ)) (tell : Place → ℕ) (visit : Visit Entry)
   made adds = record {
     kind_is = ap (λ (e : Entry). e.kind) is;
     place_is = ap (λ (e : Entry). e.place) is;
-    read = λ a at. subst (λ x. IsReadFrom x v.place.header node) (indexed layers v.place.layer a image at index) read;
+    read = λ a at. subst (λ x. IsReadFrom x v.place.header node) (index ∙ get_or_from_slice_get layers v.place.layer a image at) read;
     directory_is = stands;
     adds = adds;
   }

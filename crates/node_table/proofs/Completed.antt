@@ -1,9 +1,10 @@
 -- All nodes completed, and all blocks summed. Changing is the loop over nodes, Summing the one over
--- images: each begins with nothing done, goes on by one, and ends with all (ends, sums_all).
+-- images: each begins with nothing done, goes on by one, and ends with all (change_ended, sums_all).
 use Rattle.std.proofs.Common.{◌≡◌, ◌≢◌, ◌∙◌, sym, ap, subst, ℕ, zero, suc, ◌+◌, ◌*◌, ◌/◌, ◌^◌, ◌<◌, ◌≤◌, inl, inr, List, [], ◌∷◌, length, take, get_or, map, refl, arith, get_or-set_other, get_or-set_same}
 use Rattle.std.specs.Prelude.{slice_set}
 use Rattle.std.specs.List.{AllByRecursion}
 use Rattle.std.proofs.lemmas.Bool.{cases_order}
+use Rattle.std.proofs.lemmas.List.{get_or_default, take_all}
 use Rattle.std.proofs.lemmas.List.Sums.{sum_by_more}
 use Rattle.romfs_reader.specs.Images.{IsImage}
 use Rattle.stack_model.specs.Attributes.{blocks_of, blocks_all}
@@ -16,19 +17,13 @@ pub record Changing {X : Type 0} (f : X → X) (old now : List X) (i : ℕ) : Ty
 
 module _ {X : Type 0} (f : X → X) where
   -- before the first element nothing is changed
-  pub begins : (old : List X) → Changing f old old 0
-  begins old = record { level = refl; done = λ k d l m. absurd (omega arith); left = λ k d l. refl }
-
-  -- below the length it does not matter what stands for a place beyond it
-  pub default : (xs : List X) (k : ℕ) (a b : X) → k < length xs → get_or xs k a ≡ get_or xs k b
-  default [] k a b l = absurd (omega arith)
-  default (z ∷ xs) zero a b l = refl
-  default (z ∷ xs) (suc k) a b l = default xs k a b (omega arith)
+  pub change_begun : (old : List X) → Changing f old old 0
+  change_begun old = record { level = refl; done = λ k d l m. absurd (omega arith); left = λ k d l. refl }
 
   -- when the element at a place is changed, all up to that place are
-  pub goes_on : (old now now' : List X) (i : ℕ) (x y : X) → Changing f old now i → i < length now → x ≡ get_or now i x → y ≡ f x
+  pub element_changed : (old now now' : List X) (i : ℕ) (x y : X) → Changing f old now i → i < length now → x ≡ get_or now i x → y ≡ f x
       → now' ≡ slice_set now i y → length now' ≡ length now → Changing f old now' (i + 1)
-  goes_on old now now' i x y c lt at e s len = record {
+  element_changed old now now' i x y c lt at e s len = record {
     level = len ∙ c.level;
     done = λ k d l m. elim (cases_order k i) [
       | inl q ↦ same k d q
@@ -44,7 +39,7 @@ module _ {X : Type 0} (f : X → X) where
       same : (k : ℕ) (d : X) → k ≡ i → get_or now' k d ≡ f (get_or old k d)
       same k d q =
           let here : get_or now' i d ≡ y = ap (λ xs. get_or xs i d) s ∙ rw get_or-set_same refl in
-          let was : x ≡ get_or old i d = at ∙ default now i x d lt ∙ c.left i d (omega arith) in
+          let was : x ≡ get_or old i d = at ∙ get_or_default now i x d lt ∙ c.left i d (omega arith) in
           subst (λ j. get_or now' j d ≡ f (get_or old j d)) (sym q) (here ∙ e ∙ ap f was)
 
   -- a list as long as another, with each element the changed one, is that list changed
@@ -57,8 +52,8 @@ module _ {X : Type 0} (f : X → X) where
       ∙ ap (λ zs. f x ∷ zs) (all_changed old now (omega arith) (λ k d m. g (suc k) d (omega arith)))
 
   -- past the last element the whole list is changed
-  pub ends : (old now : List X) (i : ℕ) → length now ≤ i → Changing f old now i → now ≡ map f old
-  ends old now i le c = all_changed old now c.level (λ k d m. let l = c.level in c.done k d (omega arith) m)
+  pub change_ended : (old now : List X) (i : ℕ) → length now ≤ i → Changing f old now i → now ≡ map f old
+  change_ended old now i le c = all_changed old now c.level (λ k d m. let l = c.level in c.done k d (omega arith) m)
 
 -- how far a sum of blocks has come
 pub record Summing (images : List (List ℕ)) (blocks i : ℕ) : Type 0 where
@@ -98,11 +93,5 @@ sums_on images blocks i full a s lt at f image =
 -- past the last image the sum is that of all images, and all are sound
 pub sums_all : (images : List (List ℕ)) (blocks i : ℕ) → Summing images blocks i → length images ≤ i → (blocks ≡ blocks_all images)
     × AllByRecursion IsImage images
-sums_all images blocks i s le = let w = whole images i le in
+sums_all images blocks i s le = let w = take_all i images le in
     (s.value ∙ ap blocks_all w, subst (λ (x : List (List ℕ)). AllByRecursion IsImage x) w s.sound)
-  where
-    whole : (xs : List (List ℕ)) (i : ℕ) → length xs ≤ i → take i xs ≡ xs
-    whole [] zero l = refl
-    whole [] (suc i) l = refl
-    whole (x ∷ xs) zero l = absurd (omega arith)
-    whole (x ∷ xs) (suc i) l = ap (λ r. x ∷ r) (whole xs i (omega arith))

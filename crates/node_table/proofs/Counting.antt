@@ -5,8 +5,12 @@ use Rattle.std.proofs.Common.{◌≡◌, ◌≢◌, ◌∙◌, sym, ap, subst, �
 use Rattle.std.specs.Prelude.{slice_get, slice_index, slice_set, fold, nat_eq, min, count_by}
 use Rattle.std.specs.List.{list_any, position_from}
 use Rattle.std.proofs.lemmas.Bool.{cases_order, eqb-true, eq-eqb, and_parts}
+use Rattle.std.proofs.lemmas.List.{get_or_append_left, get_or_push, length-map, length_push, map_push}
 use Rattle.std.proofs.lemmas.List.Elements.{All-push}
 use Rattle.std.proofs.lemmas.List.Recursion.{is_count_by}
+use Rattle.std.proofs.lemmas.List.Sums.{fold-append}
+use Rattle.std.proofs.lemmas.Option.{slice_get_within, slice_get_read, get_or_from_slice_get}
+use Rattle.equal_keys.proofs.Keyed.{below_or_at}
 use Rattle.stack_model.specs.Listing.{Entry as Listed, IsAmong}
 use Rattle.stack_model.specs.Numbers.{Place as ModelPlace, place, same_place, noted, nodes, number_of, node_of}
 use Rattle.stack_model.proofs.Numbering.{number_used, number_listed, entries_numbered}
@@ -16,6 +20,7 @@ use Rattle.stack_table.specs.Readers.{placed}
 use Rattle.node_table.specs.Walks.{Visit}
 use Rattle.node_table.specs.Firsts.{IsFirstOf, AreFirsts}
 use Rattle.node_table.specs.Numbering.{place_key, key_of, one_more, visit_place, bare, seen, paths_of, IsFirstVisit, AreKeys, IsNumbered}
+use Rattle.node_table.proofs.Lists.{element_below, get_push, get_map, index_map, take_one_more}
 
 -- a place is told to be the same as itself
 pub same_itself : (p : ModelPlace) → same_place p p ≡ true
@@ -74,17 +79,9 @@ last_other : (n : ℕ) (t : ModelPlace → Bool) (qs : List ModelPlace) (p : Mod
 last_other n t [] p f = step n t p [] false f
 last_other n t (q ∷ qs) p f = ap (λ o. cond (t q) (Some n) o) (last_other (n + 1) t qs p f)
 
-fold_last : (ps qs : List ModelPlace) (p : ModelPlace) → fold noted ps (qs ++ p ∷ []) ≡ noted (fold noted ps qs) p
-fold_last ps [] p = refl
-fold_last ps (q ∷ qs) p = fold_last (noted ps q) qs p
-
-map_last : (es : List Listed) (e : Listed) → map place (es ++ e ∷ []) ≡ map place es ++ place e ∷ []
-map_last [] e = refl
-map_last (f ∷ es) e = ap (λ r. place f ∷ r) (map_last es e)
-
 nodes_last : (es : List Listed) (e : Listed) → nodes (es ++ e ∷ []) ≡ noted (nodes es) (place e)
 unfolding nodes
-nodes_last es e = ap (fold noted []) (map_last es e) ∙ fold_last [] (map place es) (place e)
+nodes_last es e = ap (fold noted []) (map_push place es e) ∙ fold-append noted [] (map place es) (place e ∷ [])
 
 noted_known : (ps : List ModelPlace) (p : ModelPlace) → list_any (same_place p) ps ≡ true → noted ps p ≡ ps
 noted_known ps p e = rw e refl
@@ -170,83 +167,16 @@ none_paths es p f = sym (counted (λ (e : Listed). same_place p (place e)) es) �
 -- one more visit
 seen_last : (visits : List (Visit Entry)) (i : ℕ) (visit : Visit Entry) → i < length visits → visit ≡ get_or visits i visit
     → seen visits (i + 1) ≡ seen visits i ++ bare visit ∷ []
-seen_last visits i visit l e = let n : suc i ≡ i + 1 = omega arith in subst (λ n. seen visits n ≡ seen visits i ++ bare visit ∷ []) n
-    (go visits i l e)
-  where
-    go : (visits : List (Visit Entry)) (i : ℕ) → i < length visits → visit ≡ get_or visits i visit → seen visits (suc i) ≡ seen visits i
-        ++ bare visit ∷ []
-    go [] i l e = absurd (omega arith)
-    go (x ∷ visits) zero l e = ap (λ (y : Visit Entry). bare y ∷ []) (sym e)
-    go (x ∷ visits) (suc i) l e = ap (λ r. bare x ∷ r) (go visits i (omega arith) e)
-
-taken_last : (visits : List (Visit Entry)) (i : ℕ) (visit : Visit Entry) → i < length visits → visit ≡ get_or visits i visit
-    → take (i + 1) visits ≡ take i visits ++ visit ∷ []
-taken_last visits i visit l e = let n : suc i ≡ i + 1 = omega arith in subst (λ n. take n visits ≡ take i visits ++ visit ∷ []) n
-    (go visits i l e)
-  where
-    go : (visits : List (Visit Entry)) (i : ℕ) → i < length visits → visit ≡ get_or visits i visit → take (suc i) visits ≡ take i visits
-        ++ visit ∷ []
-    go [] i l e = absurd (omega arith)
-    go (x ∷ visits) zero l e = ap (λ y. y ∷ []) (sym e)
-    go (x ∷ visits) (suc i) l e = ap (λ r. x ∷ r) (go visits i (omega arith) e)
+seen_last visits i visit l e = ap (map bare) (take_one_more visits i visit l e) ∙ map_push bare (take i visits) visit
 
 -- one more key
 pub keys_more : (visits : List (Visit Entry)) (i : ℕ) (visit : Visit Entry) (keys keys' : List ℕ) (k : ℕ) → i < length visits
     → visit ≡ get_or visits i visit → AreKeys (take i visits) keys → k ≡ key_of visit → visit.0.now.value.place.header < 2 ^ 32
     → keys' ≡ keys ++ k ∷ [] → AreKeys (take (i + 1) visits) keys'
-keys_more visits i visit keys keys' k l e a k_is small p = subst (λ x. AreKeys x keys') (sym (taken_last visits i visit l e)) (record {
-  are = p ∙ ap (λ x. x ++ k ∷ []) a.are ∙ ap (λ n. map key_of (take i visits) ++ n ∷ []) k_is ∙ sym (last (take i visits));
+keys_more visits i visit keys keys' k l e a k_is small p = subst (λ x. AreKeys x keys') (sym (take_one_more visits i visit l e)) (record {
+  are = p ∙ ap (λ x. x ++ k ∷ []) a.are ∙ ap (λ n. map key_of (take i visits) ++ n ∷ []) k_is ∙ sym (map_push key_of (take i visits) visit);
   small = All-push (λ (s : Visit Entry). s.0.now.value.place.header < 2 ^ 32) (take i visits) visit a.small small;
 })
-  where
-    last : (xs : List (Visit Entry)) → map key_of (xs ++ visit ∷ []) ≡ map key_of xs ++ key_of visit ∷ []
-    last [] = refl
-    last (x ∷ xs) = ap (λ r. key_of x ∷ r) (last xs)
-
-visit_there : (visits : List (Visit Entry)) (i : ℕ) (visit : Visit Entry) → i < length visits → visit ≡ get_or visits i visit
-    → slice_get visits i ≡ Some visit
-visit_there [] i visit l e = absurd (omega arith)
-visit_there (x ∷ visits) zero visit l e = ap Some (sym e)
-visit_there (x ∷ visits) (suc i) visit l e = visit_there visits i visit (omega arith) e
-
-get_map : (visits : List (Visit Entry)) (k : ℕ) (visit : Visit Entry) → slice_get visits k ≡ Some visit
-    → slice_get (map visit_place visits) k
-    ≡ Some (visit_place visit)
-get_map [] k visit e = absurd (cc)
-get_map (x ∷ visits) zero visit e = let f : x ≡ visit = cc in ap (λ (y : Visit Entry). Some (visit_place y)) f
-get_map (x ∷ visits) (suc k) visit e = get_map visits k visit e
-
--- what a list has at a place stands below its length
-pub get_below : {X : Type 0} (xs : List X) (k : ℕ) (x : X) → slice_get xs k ≡ Some x → k < length xs
-get_below [] k x e = absurd (cc)
-get_below (y ∷ xs) zero x e = omega arith
-get_below (y ∷ xs) (suc k) x e = let l = get_below xs k x e in omega arith
-
--- the last of a list, or one before it
-get_last : {X : Type 0} (xs : List X) (y : X) (k : ℕ) (x : X) → slice_get (xs ++ y ∷ []) k ≡ Some x → (slice_get xs k ≡ Some x)
-    ⊎ ((k ≡ length xs) × (y ≡ x))
-get_last [] y zero x e = inr (refl, (let f : y ≡ x = cc in f))
-get_last [] y (suc k) x e = absurd (cc)
-get_last (z ∷ xs) y zero x e = inl e
-get_last (z ∷ xs) y (suc k) x e = elim (get_last xs y k x e) [ inl f ↦ inl f | inr f ↦ inr (ap suc f.0, f.1) ]
-
-index_last : (xs : List ℕ) (y k : ℕ) → k < length xs → slice_index (xs ++ y ∷ []) k ≡ slice_index xs k
-index_last [] y k l = absurd (omega arith)
-index_last (x ∷ xs) y zero l = refl
-index_last (x ∷ xs) y (suc k) l = index_last xs y k (omega arith)
-
-index_end : (xs : List ℕ) (y : ℕ) → slice_index (xs ++ y ∷ []) (length xs) ≡ y
-index_end [] y = refl
-index_end (x ∷ xs) y = index_end xs y
-
-length_map : (visits : List (Visit Entry)) → length (map visit_place visits) ≡ length visits
-length_map [] = refl
-length_map (x ∷ visits) = ap suc (length_map visits)
-
-map_more : (visits : List (Visit Entry)) (visit : Visit Entry) → map visit_place (visits ++ visit ∷ []) ≡ map visit_place visits
-    ++ visit_place visit ∷ []
-map_more [] visit = refl
-map_more (x ∷ visits) visit = ap (λ r. visit_place x ∷ r) (map_more visits visit)
 
 -- two places with one key are one
 key_tells : (q r : Place) → q.header < 2 ^ 32 → r.header < 2 ^ 32 → place_key q ≡ place_key r → placed q ≡ placed r
@@ -256,10 +186,10 @@ key_tells q r l m e =
     cc
 
 -- before the first visit no place is numbered
-pub begins : (visits first : List (Visit Entry)) (starts paths numbers : List ℕ) → first ≡ [] → starts ≡ [] → paths ≡ [] → numbers ≡ []
-    → IsNumbered visits 0 first starts paths numbers
+pub numbers_begun : (visits first : List (Visit Entry)) (starts paths numbers : List ℕ) → first ≡ [] → starts ≡ [] → paths ≡ []
+    → numbers ≡ [] → IsNumbered visits 0 first starts paths numbers
 unfolding number_of nodes
-begins visits first starts paths numbers e d f n = record {
+numbers_begun visits first starts paths numbers e d f n = record {
   places = ap (map visit_place) e ∙ empty;
   each = λ k x g. absurd (let h = rw e at g in cc);
   starts_level = ap length d ∙ sym (ap length e);
@@ -273,16 +203,6 @@ begins visits first starts paths numbers e d f n = record {
     empty : [] ≡ nodes []
     empty = refl
 
-length_more : {X : Type 0} (xs : List X) (x : X) → length (xs ++ x ∷ []) ≡ length xs + 1
-length_more [] x = omega arith
-length_more (y ∷ xs) x = omega (arith, length_more xs x)
-
-below_or_at : (k i : ℕ) → k < i + 1 → (k < i) ⊎ (k ≡ i)
-below_or_at zero zero l = inr refl
-below_or_at zero (suc i) l = inl (omega arith)
-below_or_at (suc k) zero l = absurd (omega arith)
-below_or_at (suc k) (suc i) l = elim (below_or_at k i (omega arith)) [ inl m ↦ inl (omega arith) | inr m ↦ inr (ap suc m) ]
-
 module _ (visits : List (Visit Entry)) (i : ℕ) (visit : Visit Entry) (first : List (Visit Entry)) (starts paths numbers : List ℕ)
     (lt : i < length visits) (here : visit ≡ get_or visits i visit) (inv : IsNumbered visits i first starts paths numbers) where
   more : seen visits (i + 1) ≡ seen visits i ++ bare visit ∷ []
@@ -291,16 +211,16 @@ module _ (visits : List (Visit Entry)) (i : ℕ) (visit : Visit Entry) (first : 
   -- the number of the place of a first visit
   number_of_first : (k : ℕ) (x : Visit Entry) → slice_get first k ≡ Some x → number_of (seen visits i) (visit_place x) ≡ Some (suc k)
   number_of_first k x e = (number_used (seen visits i) (suc k) (visit_place x)).1
-      (subst (λ ps. slice_get ps k ≡ Some (visit_place x)) inv.places (get_map first k x e))
+      (subst (λ ps. slice_get ps k ≡ Some (visit_place x)) inv.places (get_map visit_place first k x e))
 
   -- a known number counts from 1, and there is a count of paths for it
   pub number_positive : (n : ℕ) → number_of (seen visits i) (visit_place visit) ≡ Some n → (1 ≤ n) × (n - 1 < length paths)
   number_positive zero f = absurd (let z = (number_used (seen visits i) 0 (visit_place visit)).0 f in cc)
   number_positive (suc k) f =
       let z = (number_used (seen visits i) (suc k) (visit_place visit)).0 f in
-      let l = get_below (nodes (seen visits i)) k (visit_place visit) z in
+      let l = slice_get_within (nodes (seen visits i)) k (visit_place visit) z in
       let m = ap length inv.places in
-      let n = length_map first in
+      let n = length-map first visit_place in
       let v = inv.level in
       (omega arith, omega arith)
 
@@ -317,12 +237,13 @@ module _ (visits : List (Visit Entry)) (i : ℕ) (visit : Visit Entry) (first : 
       ≡ Some (slice_index numbers k)) → number_of (seen visits (i + 1)) (visit_place visit) ≡ Some n → (k : ℕ) (x : Visit Entry)
       → slice_get visits k ≡ Some x → (k < i) ⊎ (k ≡ i) → number_of (seen visits (i + 1)) (visit_place x)
       ≡ Some (slice_index (numbers ++ n ∷ []) k)
-  knows n before own k x e (inl l) = before k x l e ∙ ap Some (sym (index_last numbers n k (let v = inv.numbers_level in omega arith)))
+  knows n before own k x e (inl l) = before k x l e
+      ∙ ap Some (sym (get_or_append_left numbers (n ∷ []) 0 k (let v = inv.numbers_level in omega arith)))
   knows n before own k x e (inr l) =
-      let z : Some visit ≡ Some x = sym (visit_there visits i visit lt here) ∙ ap (slice_get visits) (sym l) ∙ e in
+      let z : Some visit ≡ Some x = sym (slice_get_read visits _ i visit refl lt here) ∙ ap (slice_get visits) (sym l) ∙ e in
       let same : visit ≡ x = cc in
       ap (λ (y : Visit Entry). number_of (seen visits (i + 1)) (visit_place y)) (sym same) ∙ own
-      ∙ ap Some (sym (ap (slice_index (numbers ++ n ∷ [])) (l ∙ sym inv.numbers_level) ∙ index_end numbers n))
+      ∙ ap Some (sym (ap (slice_index (numbers ++ n ∷ [])) (l ∙ sym inv.numbers_level) ∙ get_or_push numbers n 0 (length numbers) refl))
 
   -- a visit whose place is known takes its number, and the place has one path more
   pub was_known : (n : ℕ) (paths' numbers' : List ℕ) → number_of (seen visits i) (visit_place visit) ≡ Some n
@@ -335,7 +256,7 @@ module _ (visits : List (Visit Entry)) (i : ℕ) (visit : Visit Entry) (first : 
     starts_are = inv.starts_are;
     level = ap length s ∙ simp length-set inv.level;
     counted = counts;
-    numbers_level = ap length m ∙ length_more numbers n ∙ ap (λ k. k + 1) inv.numbers_level;
+    numbers_level = ap length m ∙ length_push numbers n ∙ ap (λ k. k + 1) inv.numbers_level;
     known = λ k x l e. subst (λ xs. number_of (seen visits (i + 1)) (visit_place x) ≡ Some (slice_index xs k)) (sym m)
         (knows n (λ k x l e. number_by (seen visits (i + 1)) (seen visits i) (visit_place x) same ∙ inv.known k x l e)
         (number_by (seen visits (i + 1)) (seen visits i) (visit_place visit) same ∙ k0) k x e (below_or_at k i l));
@@ -386,17 +307,17 @@ module _ (visits : List (Visit Entry)) (i : ℕ) (visit : Visit Entry) (first : 
       → n ≡ length first + 1 → first' ≡ first ++ visit ∷ [] → starts' ≡ starts ++ i ∷ [] → paths' ≡ paths ++ 1 ∷ []
       → numbers' ≡ numbers ++ n ∷ [] → IsNumbered visits (i + 1) first' starts' paths' numbers'
   is_new n first' starts' paths' numbers' k0 l m d o u = record {
-    places = ap (map visit_place) m ∙ map_more first visit ∙ ap (λ ps. ps ++ visit_place visit ∷ []) inv.places ∙ sym grown;
-    each = λ k x f. elim (get_last first visit k x (subst (λ xs. slice_get xs k ≡ Some x) m f)) [
+    places = ap (map visit_place) m ∙ map_push visit_place first visit ∙ ap (λ ps. ps ++ visit_place visit ∷ []) inv.places ∙ sym grown;
+    each = λ k x f. elim (get_push first visit k x (subst (λ xs. slice_get xs k ≡ Some x) m f)) [
       | inl g ↦ inv.each k x g
-      | inr (a, b) ↦ subst (IsFirstVisit visits) b (record { at = i; is = visit_there visits i visit lt here; new = k0 })
+      | inr (a, b) ↦ subst (IsFirstVisit visits) b (record { at = i; is = slice_get_read visits _ i visit refl lt here; new = k0 })
     ];
-    starts_level = ap length d ∙ length_more starts i ∙ ap (λ k. k + 1) inv.starts_level ∙ sym (ap length m ∙ length_more first visit);
+    starts_level = ap length d ∙ length_push starts i ∙ ap (λ k. k + 1) inv.starts_level ∙ sym (ap length m ∙ length_push first visit);
     starts_are = λ k x f. subst (λ xs. slice_get visits (slice_index xs k) ≡ Some x) (sym d)
-        (starting k x (get_last first visit k x (subst (λ xs. slice_get xs k ≡ Some x) m f)));
-    level = ap length o ∙ length_more paths 1 ∙ ap (λ k. k + 1) inv.level ∙ sym (ap length m ∙ length_more first visit);
-    counted = λ k x f. counts k x (get_last first visit k x (subst (λ xs. slice_get xs k ≡ Some x) m f));
-    numbers_level = ap length u ∙ length_more numbers n ∙ ap (λ k. k + 1) inv.numbers_level;
+        (starting k x (get_push first visit k x (subst (λ xs. slice_get xs k ≡ Some x) m f)));
+    level = ap length o ∙ length_push paths 1 ∙ ap (λ k. k + 1) inv.level ∙ sym (ap length m ∙ length_push first visit);
+    counted = λ k x f. counts k x (get_push first visit k x (subst (λ xs. slice_get xs k ≡ Some x) m f));
+    numbers_level = ap length u ∙ length_push numbers n ∙ ap (λ k. k + 1) inv.numbers_level;
     known = λ k x l e. subst (λ xs. number_of (seen visits (i + 1)) (visit_place x) ≡ Some (slice_index xs k)) (sym u)
         (knows n before own k x e (below_or_at k i l));
   }
@@ -405,7 +326,7 @@ module _ (visits : List (Visit Entry)) (i : ℕ) (visit : Visit Entry) (first : 
       grown = ap nodes more ∙ nodes_new (seen visits i) (bare visit) k0
 
       n_is : n ≡ length (nodes (seen visits i)) + 1
-      n_is = l ∙ ap (λ k. k + 1) (sym (length_map first) ∙ ap length inv.places)
+      n_is = l ∙ ap (λ k. k + 1) (sym (length-map first visit_place) ∙ ap length inv.places)
 
       own : number_of (seen visits (i + 1)) (visit_place visit) ≡ Some n
       own = ap (λ es. number_of es (visit_place visit)) more ∙ number_new (seen visits i) (bare visit) k0 ∙ ap Some (sym n_is)
@@ -422,20 +343,20 @@ module _ (visits : List (Visit Entry)) (i : ℕ) (visit : Visit Entry) (first : 
       starting : (k : ℕ) (x : Visit Entry) → (slice_get first k ≡ Some x) ⊎ ((k ≡ length first) × (visit ≡ x))
           → slice_get visits (slice_index (starts ++ i ∷ []) k) ≡ Some x
       starting k x (inl f) =
-          let b = get_below first k x f in
+          let b = slice_get_within first k x f in
           let v = inv.starts_level in
-          ap (slice_get visits) (index_last starts i k (omega arith)) ∙ inv.starts_are k x f
+          ap (slice_get visits) (get_or_append_left starts (i ∷ []) 0 k (omega arith)) ∙ inv.starts_are k x f
       starting k x (inr (a, b)) = ap (slice_get visits) (ap (slice_index (starts ++ i ∷ [])) (a ∙ sym inv.starts_level)
-          ∙ index_end starts i)
-          ∙ visit_there visits i visit lt here ∙ ap Some b
+          ∙ get_or_push starts i 0 (length starts) refl)
+          ∙ slice_get_read visits _ i visit refl lt here ∙ ap Some b
 
       counts : (k : ℕ) (x : Visit Entry) → (slice_get first k ≡ Some x) ⊎ ((k ≡ length first) × (visit ≡ x)) → slice_index paths' k
           ≡ min (paths_of (seen visits (i + 1)) (visit_place x)) (2 ^ 32 - 1)
       counts k x (inl f) =
-          let b = get_below first k x f in
+          let b = slice_get_within first k x f in
           let v = inv.level in
           let t : same_place (visit_place x) (visit_place visit) ≡ false = other k x f in
-          ap (λ xs. slice_index xs k) o ∙ index_last paths 1 k (omega arith) ∙ inv.counted k x f
+          ap (λ xs. slice_index xs k) o ∙ get_or_append_left paths (1 ∷ []) 0 k (omega arith) ∙ inv.counted k x f
           ∙ ap (λ c. min c (2 ^ 32 - 1)) (sym (paths_more (visit_place x) ∙ ap (λ c. paths_of (seen visits i) (visit_place x) + cond c 1 0)
           t
           ∙ omega arith))
@@ -452,7 +373,7 @@ module _ (visits : List (Visit Entry)) (i : ℕ) (visit : Visit Entry) (first : 
           ∙ ap (λ c. paths_of (seen visits i) (visit_place visit) + cond c 1 0) (same_itself (visit_place visit))
           ∙ ap (λ c. c + 1) zero_paths in
           let j : k ≡ length paths = a ∙ sym inv.level in
-          ap (λ xs. slice_index xs k) o ∙ ap (slice_index (paths ++ 1 ∷ [])) j ∙ index_end paths 1
+          ap (λ xs. slice_index xs k) o ∙ ap (slice_index (paths ++ 1 ∷ [])) j ∙ get_or_push paths 1 0 (length paths) refl
           ∙ sym (ap (λ (y : Visit Entry). min (paths_of (seen visits (i + 1)) (visit_place y)) (2 ^ 32 - 1)) (sym b)
           ∙ ap (λ c. min c (2 ^ 32 - 1)) one)
 
@@ -466,43 +387,21 @@ among_seen (x ∷ visits) zero e a = absurd a
 among_seen (x ∷ visits) (suc i) e (inl q) = (0, x, omega arith, refl, q)
 among_seen (x ∷ visits) (suc i) e (inr a) = let m = among_seen visits i e a in (suc m.0, m.1, (let l = m.2 in omega arith), m.3, m.4)
 
--- below the length of a list of visits there is one
-pub visit_below : (visits : List (Visit Entry)) (k : ℕ) → k < length visits → (s : Visit Entry) × (slice_get visits k ≡ Some s)
-visit_below [] k l = absurd (omega arith)
-visit_below (x ∷ visits) zero l = (x, refl)
-visit_below (x ∷ visits) (suc k) l = visit_below visits k (omega arith)
-
--- where there is an element, it is what stands there, whatever stands for places beyond
-pub get_or_is : {X : Type 0} (xs : List X) (k : ℕ) (x d : X) → slice_get xs k ≡ Some x → get_or xs k d ≡ x
-get_or_is [] k x d e = absurd (cc)
-get_or_is (y ∷ xs) zero x d e = cc
-get_or_is (y ∷ xs) (suc k) x d e = get_or_is xs k x d e
-
--- the same, of the visit that the code finds there
+-- below the length there is a visit, which the code finds
 pub visit_at : (visits : List (Visit Entry)) (i : ℕ) → i < length visits → (s : Visit Entry) × (s ≡ get_or visits i s)
-visit_at visits i l = let x = visit_below visits i l in (x.0, sym (get_or_is visits i x.0 x.0 x.1))
-
-key_at : (visits : List (Visit Entry)) (k : ℕ) (s : Visit Entry) → slice_get visits k ≡ Some s → slice_index (map key_of visits) k
-    ≡ key_of s
-key_at [] k s e = absurd (cc)
-key_at (x ∷ visits) zero s e = let f : x ≡ s = cc in ap (λ (y : Visit Entry). key_of y) f
-key_at (x ∷ visits) (suc k) s e = key_at visits k s e
-
-keys_length : (visits : List (Visit Entry)) → length (map key_of visits) ≡ length visits
-keys_length [] = refl
-keys_length (x ∷ visits) = ap suc (keys_length visits)
+visit_at visits i l = let x = element_below visits i l in (x.0, sym (get_or_from_slice_get visits i x.0 x.0 x.1))
 
 module _ (visits : List (Visit Entry)) (keys firsts : List ℕ) (are : AreKeys visits keys) (f : AreFirsts keys firsts) where
   -- there is a key for each visit
   pub keys_level : length keys ≡ length visits
-  keys_level = ap length are.are ∙ keys_length visits
+  keys_level = ap length are.are ∙ length-map visits key_of
 
   key_is : (k : ℕ) (s : Visit Entry) → slice_get visits k ≡ Some s → slice_index keys k ≡ key_of s
-  key_is k s e = ap (λ xs. slice_index xs k) are.are ∙ key_at visits k s e
+  key_is k s e = ap (λ xs. slice_index xs k) are.are ∙ index_map key_of visits k s e
 
   small : (k : ℕ) (s : Visit Entry) → slice_get visits k ≡ Some s → s.0.now.value.place.header < 2 ^ 32
-  small k s e = subst (λ (x : Visit Entry). x.0.now.value.place.header < 2 ^ 32) (get_or_is visits k s s e)
-      (are.small k s (get_below visits k s e))
+  small k s e = subst (λ (x : Visit Entry). x.0.now.value.place.header < 2 ^ 32) (get_or_from_slice_get visits k s s e)
+      (are.small k s (slice_get_within visits k s e))
 
   -- visits with one key have one place
   one_place : (j k : ℕ) (s t : Visit Entry) → slice_get visits j ≡ Some s → slice_get visits k ≡ Some t
@@ -526,8 +425,8 @@ module _ (visits : List (Visit Entry)) (keys firsts : List ℕ) (are : AreKeys v
         → slice_index firsts i ≢ i → (slice_index firsts i < i)
         × (number_of (seen visits i) (visit_place visit) ≡ Some (slice_index numbers (slice_index firsts i)))
     has_number first starts paths numbers inv ne =
-        let x = visit_below visits (slice_index firsts i) first_within in
-        let same = one_place (slice_index firsts i) i x.0 visit x.1 (visit_there visits i visit lt here) told.at in
+        let x = element_below visits (slice_index firsts i) first_within in
+        let same = one_place (slice_index firsts i) i x.0 visit x.1 (slice_get_read visits _ i visit refl lt here) told.at in
         (before, sym (ap (number_of (seen visits i)) same) ∙ inv.known (slice_index firsts i) x.0 before x.1)
       where
         before : slice_index firsts i < i
@@ -551,7 +450,7 @@ module _ (visits : List (Visit Entry)) (keys firsts : List ℕ) (are : AreKeys v
             let headers = ap (λ (q : ModelPlace). q.1) p in
             let k : key_of b.1 ≡ key_of visit = omega arith in
             told.before b.0 (let l = b.2 in omega arith) (key_is b.0 b.1 b.3 ∙ k
-            ∙ sym (key_is i visit (visit_there visits i visit lt here))))
+            ∙ sym (key_is i visit (slice_get_read visits _ i visit refl lt here))))
 
     -- the number that the code reads at the first place of the key is the place's
     pub known_before : (first : List (Visit Entry)) (starts paths numbers : List ℕ) → IsNumbered visits i first starts paths numbers

@@ -1,3 +1,4 @@
+pub mod Lists
 pub mod Paths
 pub mod Walking
 pub mod Seating

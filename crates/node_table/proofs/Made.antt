@@ -1,9 +1,11 @@
 -- Nodes and rows made one by one are those of a table. Making is the loop over first branches: a
 -- node that is made is the listing's (is_node, is_made for its directory), and those before it stay
 -- so (stays). With all made and completed, table_made has what a table holds.
-use Rattle.std.proofs.Common.{◌≡◌, ◌∙◌, sym, ap, subst, ℕ, zero, suc, ◌+◌, ◌-◌, ◌^◌, ◌<◌, ◌≤◌, ◌⊎◌, inl, inr, List, [], ◌∷◌, ◌++◌, length, take, drop, get_or, map, refl, arith, length-append, Bool, true, false, cond, Some}
+use Rattle.std.proofs.Common.{◌≡◌, ◌∙◌, sym, ap, subst, ℕ, ◌+◌, ◌-◌, ◌^◌, ◌<◌, ◌≤◌, inl, inr, List, [], ◌∷◌, ◌++◌, length, take, drop, get_or, map, refl, arith, length-append, Bool, true, false, cond, Some}
 use Rattle.std.specs.Prelude.{slice_get, slice_index, slice_range, min, count_by}
 use Rattle.std.specs.List.{slice_index_or}
+use Rattle.std.proofs.lemmas.List.{drop-append-le, drop_at, length-drop, length-map, take-append-le, take_all, take_at}
+use Rattle.std.proofs.lemmas.Option.{slice_get_read, get_or_from_slice_get}
 use Rattle.romfs_format.specs.declared.head.Kind.{Kind}
 use Rattle.romfs_format.specs.declared.head.Kind.TheVariants.{HardLink, Directory, Regular, SymLink, Block, Character, Socket, Fifo}
 use Rattle.romfs_format.specs.Fields.{kind, exec, size, spec}
@@ -24,6 +26,7 @@ use Rattle.node_table.specs.Walks.{Visit}
 use Rattle.node_table.specs.Numbering.{visit_place}
 use Rattle.node_table.specs.Building.{line_in, IsReadFrom, IsMade, AddsLinked, AddsByKind, AddsNode, completed}
 use Rattle.node_table.specs.Seeds.{AreSeedlings, IsSeed, AreSeeds, AreMade}
+use Rattle.node_table.proofs.Lists.{get_front, get_end, get_push, get_map, get_of_map}
 use Rattle.stack_table.specs.Held.{IsHeldDirectory, HoldsDirectory, IsNode, AreNodes, IsSomeTable}
 
 -- how far the making of nodes has come
@@ -34,70 +37,15 @@ pub record Making (layers : List (List ℕ)) (entries : List Listed) (held : Lis
   pub each : (k : ℕ) (node : Node) (p : ModelPlace) → slice_get held k ≡ Some node → slice_get (nodes entries) k ≡ Some p
       → IsNode layers entries folders rows keys (completed node) p
 
-get_map : {X Y : Type 0} (f : X → Y) (xs : List X) (k : ℕ) (x : X) → slice_get xs k ≡ Some x → slice_get (map f xs) k ≡ Some (f x)
-get_map f [] k x e = absurd (cc)
-get_map f (y ∷ xs) zero x e = let g : y ≡ x = cc in ap (λ z. Some (f z)) g
-get_map f (y ∷ xs) (suc k) x e = get_map f xs k x e
-
-get_of_map : {X Y : Type 0} (f : X → Y) (xs : List X) (k : ℕ) (y : Y) → slice_get (map f xs) k ≡ Some y
-    → (x : X) × (slice_get xs k ≡ Some x) × (f x ≡ y)
-get_of_map f [] k y e = absurd (cc)
-get_of_map f (x ∷ xs) zero y e = (x, refl, (let g : f x ≡ y = cc in g))
-get_of_map f (x ∷ xs) (suc k) y e = get_of_map f xs k y e
-
-length_map : {X Y : Type 0} (f : X → Y) (xs : List X) → length (map f xs) ≡ length xs
-length_map f [] = refl
-length_map f (x ∷ xs) = ap suc (length_map f xs)
-
--- what stands at a place below the length of a list is found there
-pub get_there : {X : Type 0} (xs : List X) (k : ℕ) (x : X) → k < length xs → x ≡ get_or xs k x → slice_get xs k ≡ Some x
-get_there [] k x l e = absurd (omega arith)
-get_there (y ∷ xs) zero x l e = ap Some (sym e)
-get_there (y ∷ xs) (suc k) x l e = get_there xs k x (omega arith) e
-
-get_last : {X : Type 0} (xs : List X) (y : X) (k : ℕ) (x : X) → slice_get (xs ++ y ∷ []) k ≡ Some x → (slice_get xs k ≡ Some x)
-    ⊎ ((k ≡ length xs) × (y ≡ x))
-get_last [] y zero x e = inr (refl, (let f : y ≡ x = cc in f))
-get_last [] y (suc k) x e = absurd (cc)
-get_last (z ∷ xs) y zero x e = inl e
-get_last (z ∷ xs) y (suc k) x e = elim (get_last xs y k x e) [ inl f ↦ inl f | inr f ↦ inr (ap suc f.0, f.1) ]
-
 -- rows that stand stay as more are added
-nothing : {X : Type 0} (ys : List X) → take 0 ys ≡ []
-nothing [] = refl
-nothing (y ∷ ys) = refl
-
-front_stays : {X : Type 0} (xs ys : List X) (b : ℕ) → b ≤ length xs → take b (xs ++ ys) ≡ take b xs
-front_stays [] ys zero m = nothing ys ∙ sym (nothing [])
-front_stays [] ys (suc b) m = absurd (omega arith)
-front_stays (x ∷ xs) ys zero m = refl
-front_stays (x ∷ xs) ys (suc b) m = ap (λ r. x ∷ r) (front_stays xs ys b (omega arith))
-
 range_stays : {X : Type 0} (xs ys : List X) (a b : ℕ) → a ≤ b → b ≤ length xs → slice_range (xs ++ ys) a b ≡ slice_range xs a b
-range_stays xs ys zero b l m = go xs ys b m
-  where
-    go : {X : Type 0} (xs ys : List X) (b : ℕ) → b ≤ length xs → slice_range (xs ++ ys) 0 b ≡ slice_range xs 0 b
-    go [] [] b m = refl
-    go [] (y ∷ ys) b m = let z : b - 0 ≡ b = omega arith in ap (λ n. take n (y ∷ ys)) z ∙ front_stays [] (y ∷ ys) b m
-        ∙ sym (ap (λ n. take n []) z)
-    go (x ∷ xs) ys b m = let z : b - 0 ≡ b = omega arith in ap (λ n. take n (x ∷ xs ++ ys)) z ∙ front_stays (x ∷ xs) ys b m
-        ∙ sym (ap (λ n. take n (x ∷ xs)) z)
-range_stays [] ys (suc a) b l m = absurd (omega arith)
-range_stays (x ∷ xs) ys (suc a) zero l m = absurd (omega arith)
-range_stays (x ∷ xs) ys (suc a) (suc b) l m =
-    let z : suc b - suc a ≡ b - a = omega arith in
-    ap (λ n. take n (drop a (xs ++ ys))) z ∙ range_stays xs ys a b (omega arith) (omega arith) ∙ sym (ap (λ n. take n (drop a xs)) z)
+range_stays xs ys a b l m = ap (take (b - a)) (drop-append-le a xs ys (omega arith))
+    ∙ take-append-le (b - a) (drop a xs) ys (omega (arith, length-drop a xs))
 
 -- and those that were added last are a range
-take_all : {X : Type 0} (ys : List X) → take (length ys) ys ≡ ys
-take_all [] = refl
-take_all (y ∷ ys) = ap (λ r. y ∷ r) (take_all ys)
-
 range_last : {X : Type 0} (xs ys : List X) → slice_range (xs ++ ys) (length xs) (length (xs ++ ys)) ≡ ys
-range_last [] [] = refl
-range_last [] (y ∷ ys) = let z : length (y ∷ ys) - 0 ≡ length (y ∷ ys) = omega arith in ap (λ n. take n (y ∷ ys)) z ∙ take_all (y ∷ ys)
-range_last (x ∷ xs) ys = let z : suc (length (xs ++ ys)) - suc (length xs) ≡ length (xs ++ ys) - length xs = omega arith in
-    ap (λ n. take n (drop (length xs) (xs ++ ys))) z ∙ range_last xs ys
+range_last xs ys = ap (take (length (xs ++ ys) - length xs)) (drop_at xs ys (length xs) refl)
+    ∙ take_all (length (xs ++ ys) - length xs) ys (omega (arith, length-append xs ys))
 
 -- the same keys are those of the same rows
 keyed_by : (shared : ℕ) (keys keys' : List ℕ) (rows rows' : List Line) → keys ≡ keys' → rows ≡ rows' → AreKeyed shared keys (names rows)
@@ -114,20 +62,6 @@ sizes_agree Block n = refl
 sizes_agree Character n = refl
 sizes_agree Socket n = refl
 sizes_agree Fifo n = refl
-
-layer_is : (layers : List (List ℕ)) (k : ℕ) (image : List ℕ) → slice_get layers k ≡ Some image → slice_index_or layers k [] ≡ image
-layer_is [] k image e = absurd (cc)
-layer_is (x ∷ layers) zero image e = cc
-layer_is (x ∷ layers) (suc k) image e = layer_is layers k image e
-
-get_front : {X : Type 0} (xs ys : List X) (k : ℕ) (x : X) → slice_get xs k ≡ Some x → slice_get (xs ++ ys) k ≡ Some x
-get_front [] ys k x e = absurd (cc)
-get_front (z ∷ xs) ys zero x e = e
-get_front (z ∷ xs) ys (suc k) x e = get_front xs ys k x e
-
-get_new : {X : Type 0} (xs : List X) (y : X) → slice_get (xs ++ y ∷ []) (length xs) ≡ Some y
-get_new [] y = refl
-get_new (x ∷ xs) y = get_new xs y
 
 grown_directory : (layers : List (List ℕ)) (entries : List Listed) (rows more : List Line) (keys more_keys : List ℕ) (d : Folder)
     (p : ModelPlace) → length keys ≡ length rows → IsHeldDirectory layers entries rows keys d p
@@ -171,8 +105,8 @@ module _ (layers : List (List ℕ)) (entries : List Listed) (tell : Place → �
       let lines = map (line_in tell) cs in
       let k = ap length m.keys_are.is in
       let f = ap length m.keys_are.keyed.made in
-      let n = length_map (λ (name : List ℕ). key 8 (drop d.shared name)) (names lines) in
-      let o = length_map (λ (line : Line). line.name) lines in
+      let n = length-map (names lines) (λ (name : List ℕ). key 8 (drop d.shared name)) in
+      let o = length-map lines (λ (line : Line). line.name) in
       let r = ap length m.rows_are in
       omega (arith, length-append keys m.keys_are.keys, length-append old lines)
 
@@ -219,7 +153,7 @@ module _ (layers : List (List ℕ)) (entries : List Listed) (tell : Place → �
   read = subst (λ (x : Place). IsReadFrom seed.seat.image x.header node) a.place_is (a.read seed.seat.image here)
 
   layer : slice_index_or layers visit.0.now.value.place.layer [] ≡ seed.seat.image
-  layer = layer_is layers visit.0.now.value.place.layer seed.seat.image seed.seat.is
+  layer = get_or_from_slice_get layers visit.0.now.value.place.layer seed.seat.image [] seed.seat.is
 
   kind_is : node.kind ≡ kind_at layers (visit_place visit)
   kind_is = a.kind_is ∙ seed.kind_is
@@ -256,7 +190,7 @@ module _ (layers : List (List ℕ)) (entries : List Listed) (tell : Place → �
       has_directory = record {
         directory = l.added.directory;
         is = ap (λ (x : List Folder). slice_get x node.directory) l.added.is
-            ∙ ap (slice_get (folders ++ l.added.directory ∷ [])) a.directory_is ∙ get_new folders l.added.directory;
+            ∙ ap (slice_get (folders ++ l.added.directory ∷ [])) a.directory_is ∙ get_end folders [] l.added.directory;
         holds = is_made layers entries tell visit old new keys keys' level l.added.children l.added.directory l.added.made
             (visit_place visit) d seed.parent_is below;
       }
@@ -319,28 +253,28 @@ module _ (layers : List (List ℕ)) (entries : List Listed) (tell : Place → �
   }
 
 -- before the first branch no node is made
-pub begins : (layers : List (List ℕ)) (entries : List Listed) (held : List Node) (folders : List Folder) (rows : List Line) (keys : List ℕ)
-    → held ≡ [] → rows ≡ [] → keys ≡ [] → Making layers entries held folders rows keys 0
-begins layers entries held folders rows keys e r k = record {
+pub nodes_begun : (layers : List (List ℕ)) (entries : List Listed) (held : List Node) (folders : List Folder) (rows : List Line)
+    (keys : List ℕ) → held ≡ [] → rows ≡ [] → keys ≡ [] → Making layers entries held folders rows keys 0
+nodes_begun layers entries held folders rows keys e r k = record {
   level = ap length e;
   keys_level = ap length k ∙ sym (ap length r);
   each = λ k node p f g. absurd (let h = rw e at f in cc);
 }
 
 -- with the node of the next first branch one node more is made
-pub goes_on : (layers : List (List ℕ)) (entries : List Listed) (tell : Place → ℕ) (first : List (Visit Entry)) (paths : List ℕ)
+pub node_made : (layers : List (List ℕ)) (entries : List Listed) (tell : Place → ℕ) (first : List (Visit Entry)) (paths : List ℕ)
     (s : AreSeeds layers entries tell first paths) (held held' : List Node) (folders folders' : List Folder) (rows rows' : List Line)
     (keys keys' : List ℕ) (i : ℕ) (visit : Visit Entry) → i < length first → visit ≡ get_or first i visit
     → Making layers entries held folders rows keys i → (node : Node) → AddsNode layers tell visit (slice_index paths i) folders folders'
     rows
     rows' keys keys' node → held' ≡ held ++ node ∷ [] → Making layers entries held' folders' rows' keys' (i + 1)
-goes_on layers entries tell first paths s held held' folders folders' rows rows' keys keys' i visit lt at m node a push =
-    let h = get_there first i visit lt at in
+node_made layers entries tell first paths s held held' folders folders' rows rows' keys keys' i visit lt at m node a push =
+    let h = slice_get_read first _ i visit refl lt at in
     record {
       level = (let l = ap length push in let v = m.level in omega (arith, length-append held (node ∷ [])));
       keys_level = level_still layers entries tell (slice_index paths i) visit (s.each i visit h) folders folders' rows rows' keys keys'
           m.keys_level node a;
-      each = λ k n p e f. elim (get_last held node k n (subst (λ x. slice_get x k ≡ Some n) push e)) [
+      each = λ k n p e f. elim (get_push held node k n (subst (λ x. slice_get x k ≡ Some n) push e)) [
         | inl g ↦ stays layers entries tell (slice_index paths i) visit (s.each i visit h) folders folders' rows rows' keys keys'
             m.keys_level
             node a (completed n) p (m.each k n p g f)
@@ -357,27 +291,19 @@ goes_on layers entries tell first paths s held held' folders folders' rows rows'
     }
 
 -- past the last first branch all nodes are made
-pub ends : (layers : List (List ℕ)) (entries : List Listed) (tell : Place → ℕ) (first : List (Visit Entry)) (paths : List ℕ)
+pub nodes_ended : (layers : List (List ℕ)) (entries : List Listed) (tell : Place → ℕ) (first : List (Visit Entry)) (paths : List ℕ)
     (s : AreSeeds layers entries tell first paths) (held : List Node) (folders : List Folder) (rows : List Line) (keys : List ℕ) (i : ℕ)
     → i ≡ length first → Making layers entries held folders rows keys i → AreMade layers held folders rows keys
-ends layers entries tell first paths s held folders rows keys i e m = (
+nodes_ended layers entries tell first paths s held folders rows keys i e m = (
   entries,
   s.listing,
   record {
-    level = length_map completed held ∙ m.level ∙ e ∙ sym (length_map visit_place first) ∙ ap length s.places;
+    level = length-map held completed ∙ m.level ∙ e ∙ sym (length-map first visit_place) ∙ ap length s.places;
     keys_level = m.keys_level;
     each = λ k node p f g. let x = get_of_map completed held k node f in subst (λ (n : Node). IsNode layers entries folders rows keys n p)
         x.2 (m.each k x.0 p x.1 g);
   },
 )
-
--- a part that is as long as asked for is whole
-front_whole : {X : Type 0} (xs tail : List X) (n : ℕ) → n ≡ length xs → take n (xs ++ tail) ≡ xs
-front_whole xs tail n e = ap (λ k. take k (xs ++ tail)) e ∙ go xs tail
-  where
-    go : {X : Type 0} (xs tail : List X) → take (length xs) (xs ++ tail) ≡ xs
-    go [] tail = nothing tail
-    go (x ∷ xs) tail = ap (λ r. x ∷ r) (go xs tail)
 
 -- all nodes, completed, with their rows and the sum of blocks are what a table holds
 pub table_made : (layers : List (List ℕ)) (held new tail : List Node) (folders : List Folder) (rows : List Line) (keys : List ℕ)
@@ -387,7 +313,7 @@ table_made layers held new tail folders rows keys n blocks (entries, listing, ar
   entries,
   record {
     listing = listing;
-    are = subst (λ x. AreNodes layers entries x folders rows keys) (sym (front_whole new tail n l ∙ e)) are;
+    are = subst (λ x. AreNodes layers entries x folders rows keys) (sym (take_at new tail n (sym l) ∙ e)) are;
     blocks_are = b;
   },
 )

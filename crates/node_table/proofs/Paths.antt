@@ -1,10 +1,11 @@
 -- Paths that begin with a path, and rows below one. The main lemma is child_located: a child of a
 -- located branch is located too. The lemmas before it tell that no other row begins with the
 -- child's path: not those before and after the branch, and not those of children with other names.
-use Rattle.std.proofs.Common.{◌≡◌, ◌≢◌, ◌∙◌, sym, ap, subst, ℕ, zero, suc, ◌+◌, ◌-◌, inl, inr, List, [], ◌∷◌, ◌++◌, length, take, refl, arith, append_assoc, true, false, Some}
+use Rattle.std.proofs.Common.{◌≡◌, ◌≢◌, ◌∙◌, sym, ap, ℕ, suc, ◌+◌, ◌-◌, inl, inr, List, [], ◌∷◌, ◌++◌, length, take, refl, arith, append_assoc, length-append, true, false, Some}
 use Rattle.std.specs.Prelude.{find}
 use Rattle.std.specs.List.{AllByRecursion}
 use Rattle.std.specs.Option.{option_map}
+use Rattle.std.proofs.lemmas.List.{take_at, length_push, length-map, map-append}
 use Rattle.std.specs.declared.cmp.Ordering.TheVariants.{Less}
 use Rattle.path_tree.specs.Rows.{Subtree, Rows, prefixed, spread, whole, name_cmp, NamesRise}
 use Rattle.path_tree.proofs.Names.{same_or_not, below_differs}
@@ -55,24 +56,16 @@ other_name (k ∷ top) n m q d = rw (same_itself k) (other_name top n m q d)
 
 -- a path one name longer, but for its last name, is the path
 pub upper : (top : Path) (n : List ℕ) → take (length (top ++ n ∷ []) - 1) (top ++ n ∷ []) ≡ top
-upper top n = ap (λ k. take (k - 1) (top ++ n ∷ [])) (count top) ∙ front top
-  where
-    count : (top : Path) → length (top ++ n ∷ []) ≡ suc (length top)
-    count [] = omega arith
-    count (m ∷ top) = omega (arith, count top)
-
-    front : (top : Path) → take (suc (length top) - 1) (top ++ n ∷ []) ≡ top
-    front top = subst (λ k. take k (top ++ n ∷ []) ≡ top) (omega arith) (whole_front top)
-      where
-        whole_front : (top : Path) → take (length top) (top ++ n ∷ []) ≡ top
-        whole_front [] = refl
-        whole_front (m ∷ top) = ap (λ t. m ∷ t) (whole_front top)
+upper top n = take_at top (n ∷ []) (length (top ++ n ∷ []) - 1) (omega (arith, length_push top n))
 
 module _ {T : Type 0} where
   -- two lists of rows, one after the other, are so too when put below a path
   pub under_append : (top : Path) (xs ys : Rows T) → under top (xs ++ ys) ≡ under top xs ++ under top ys
-  under_append top [] ys = refl
-  under_append top (x ∷ xs) ys = ap (λ r. (top ++ x.0, x.1) ∷ r) (under_append top xs ys)
+  under_append top xs ys = map-append (λ (row : Path × T). (top ++ row.0, row.1)) xs ys
+
+  -- below a path are as many rows
+  pub length_under : (top : Path) (xs : Rows T) → length (under top xs) ≡ length xs
+  length_under top xs = length-map xs (λ (row : Path × T). (top ++ row.0, row.1))
 
   -- rows behind a name and then below a path are rows below the path with the name
   pub under_prefixed : (top : Path) (n : List ℕ) (xs : Rows T) → under top (prefixed n xs) ≡ under (top ++ n ∷ []) xs
@@ -173,12 +166,6 @@ module _ {T : Type 0} where
             (ap (option_map (λ (x : Path × T). x.1)) (find_at top l.before s.value (under top s.below ++ l.after) l.apart_before));
       }
     where
-      count_under : (top : Path) (xs : Rows T) → length (under top xs) ≡ length xs
-      count_under top [] = refl
-      count_under top (x ∷ xs) = ap suc (count_under top xs)
-
       lengths : (before : Rows T) (row : Path × T) (xs : Rows T) (top : Path) (j : ℕ) → length before ≡ j
           → length (before ++ row ∷ under top xs) ≡ j + suc (length xs)
-      lengths [] row xs top j e = omega (arith, count_under top xs)
-      lengths (x ∷ before) row xs top zero e = absurd (omega arith)
-      lengths (x ∷ before) row xs top (suc j) e = omega (arith, lengths before row xs top j (omega arith))
+      lengths before row xs top j e = omega (arith, length-append before (row ∷ under top xs), length_under top xs)

@@ -1,9 +1,11 @@
 -- The first branches of a stack's tree, by number, agree with the listing of its layers: seeds says
 -- so of what the tree shows, by Shown and Seeded; posts says where they and their children stand,
 -- and where their parents' numbers do. Both are of a walk over the whole tree (walked_all).
-use Rattle.std.proofs.Common.{◌≡◌, ◌∙◌, sym, ap, subst, ℕ, zero, suc, ◌+◌, ◌-◌, ◌^◌, ◌<◌, List, [], ◌∷◌, ◌++◌, length, take, map, refl, arith, append_assoc, length-append, cond, Some}
+use Rattle.std.proofs.Common.{◌≡◌, ◌∙◌, sym, ap, subst, ℕ, suc, ◌+◌, ◌-◌, ◌^◌, ◌<◌, List, [], ◌∷◌, ◌++◌, length, map, refl, arith, append_assoc, length-append, cond, Some}
 use Rattle.std.specs.Prelude.{slice_get, slice_index, min, count_by, unwrap_or}
 use Rattle.std.specs.List.{AllByRecursion}
+use Rattle.std.proofs.lemmas.List.{append-nil, length-map, take_all}
+use Rattle.std.proofs.lemmas.Option.{slice_get_within}
 use Rattle.romfs_reader.specs.Images.{IsImage}
 use Rattle.romfs_reader.specs.Readers.{data_of_header as data_in}
 use Rattle.stack_model.specs.Stack.{Path}
@@ -19,17 +21,13 @@ use Rattle.node_table.specs.Walks.{Visit, under, IsLocated, AreWalked, visit_siz
 use Rattle.node_table.specs.Numbering.{visit_place, bare, seen, paths_of, number_among, IsFirstVisit, IsNumbered}
 use Rattle.node_table.specs.Building.{line_in, IsPosted, AreFollowing, ArePosts}
 use Rattle.node_table.specs.Seeds.{shown_line, AreSeedlings, IsSeed, AreSomeSeeds}
-use Rattle.node_table.proofs.Paths.{spread_append, child_located}
+use Rattle.node_table.proofs.Lists.{element_below, index_map, all_get}
+use Rattle.node_table.proofs.Paths.{spread_append, under_append, child_located}
 use Rattle.node_table.proofs.Sizes.{same_value, same_size, ends_within}
 use Rattle.node_table.proofs.Counting.{count, counted}
 use Rattle.node_table.proofs.Seeded as seeded
-use Rattle.node_table.proofs.Seeded.{child_of, row_at, places_same, bare_places, nodes_by, number_of_by, nil_right}
+use Rattle.node_table.proofs.Seeded.{child_of, row_at, places_same, bare_places, nodes_by, number_of_by}
 use Rattle.node_table.proofs.Shown.{IsPlaced, rows_placed, kind_placed, data_placed}
-
-all_get : {X : Type 0} (P : X → Type 0) (xs : List X) (k : ℕ) (x : X) → AllByRecursion P xs → slice_get xs k ≡ Some x → P x
-all_get P [] k x a e = absurd (cc)
-all_get P (y ∷ xs) zero x a e = let f : y ≡ x = cc in subst P f a.0
-all_get P (y ∷ xs) (suc k) x a e = all_get P xs k x a.1 e
 
 all_back : {X : Type 0} (P : X → Type 0) (xs ys : List X) → AllByRecursion P (xs ++ ys) → AllByRecursion P ys
 all_back P [] ys a = a
@@ -38,10 +36,6 @@ all_back P (x ∷ xs) ys a = all_back P xs ys a.1
 all_front : {X : Type 0} (P : X → Type 0) (xs ys : List X) → AllByRecursion P (xs ++ ys) → AllByRecursion P xs
 all_front P [] ys a = tt
 all_front P (x ∷ xs) ys a = (a.0, all_front P xs ys a.1)
-
-take_all : {X : Type 0} (xs : List X) → take (length xs) xs ≡ xs
-take_all [] = refl
-take_all (x ∷ xs) = ap (λ r. x ∷ r) (take_all xs)
 
 under_root : (rows : Rows Entry) → under [] rows ≡ rows
 under_root [] = refl
@@ -52,7 +46,7 @@ root_located root = record {
   top = [];
   before = [];
   after = [];
-  is = sym (nil_right (under [] (whole root)) ∙ under_root (whole root));
+  is = sym (append-nil (under [] (whole root)) ∙ under_root (whole root));
   at = refl;
   apart_before = tt;
   apart_after = tt;
@@ -69,16 +63,6 @@ paths_by es fs p e =
     ∙ ap (count (same_place p)) e
     ∙ sym (count_places p fs) ∙ counted (λ (e : Listed). same_place p (place e)) fs
 
-below : {X : Type 0} (xs : List X) (k : ℕ) (x : X) → slice_get xs k ≡ Some x → k < length xs
-below [] k x e = absurd (cc)
-below (y ∷ xs) zero x e = omega arith
-below (y ∷ xs) (suc k) x e = let l = below xs k x e in omega arith
-
-there : {X : Type 0} (xs : List X) (k : ℕ) → k < length xs → (x : X) × (slice_get xs k ≡ Some x)
-there [] k l = absurd (omega arith)
-there (x ∷ xs) zero l = (x, refl)
-there (x ∷ xs) (suc k) l = there xs k (omega arith)
-
 module _ (layers : List (List ℕ)) (t : TreeRows) (is : IsTreeOf 0 layers t) (sound : AllByRecursion IsImage layers) (root : Subtree Entry)
     (whole_is : t.entries ≡ whole root) (visits : List (Visit Entry)) (walked : AreWalked root root.value visits)
     (first : List (Visit Entry))
@@ -94,7 +78,8 @@ module _ (layers : List (List ℕ)) (t : TreeRows) (is : IsTreeOf 0 layers t) (s
   entries = map listed t.entries
 
   places_are : map place (map listed t.entries) ≡ map place (seen visits (length visits))
-  places_are = places_same t.entries visits level at ∙ sym (ap (λ x. map place (map bare x)) (take_all visits) ∙ bare_places visits)
+  places_are = places_same t.entries visits level at
+      ∙ sym (ap (λ x. map place (map bare x)) (take_all (length visits) visits (omega arith)) ∙ bare_places visits)
 
   all_placed : AllByRecursion (λ (r : Path × Entry). IsPlaced layers r.1) t.entries
   all_placed = rows_placed layers t is sound
@@ -128,7 +113,7 @@ module _ (layers : List (List ℕ)) (t : TreeRows) (is : IsTreeOf 0 layers t) (s
         a.0,
         go top cs (all_back (λ (r : Path × Entry). IsPlaced layers r.1) (under top (prefixed c.name c.below))
             (under top (spread cs)) (subst (AllByRecursion (λ (r : Path × Entry). IsPlaced layers r.1))
-            (seeded.under_append top (prefixed c.name c.below) (spread cs)) a.1)),
+            (under_append top (prefixed c.name c.below) (spread cs)) a.1)),
       )
 
   seedlings : (k : ℕ) (visit : Visit Entry) (f : IsFirstVisit visits visit) (cs : List (Subtree Entry)) → visit.0.now.below ≡ spread cs
@@ -198,17 +183,14 @@ module _ (layers : List (List ℕ)) (t : TreeRows) (is : IsTreeOf 0 layers t) (s
     tells : (k : ℕ) (visit : Visit Entry) → slice_get visits k ≡ Some visit → slice_index numbers k
         ≡ number_among visits visit.0.now.value.place
     unfolding number_among
-    tells k visit e = ap (λ o. unwrap_or o 0) (sym (num.known k visit (below visits k visit e) e))
+    tells k visit e = ap (λ o. unwrap_or o 0) (sym (num.known k visit (slice_get_within visits k visit e) e))
 
     size_at : (k : ℕ) (visit : Visit Entry) → slice_get visits k ≡ Some visit → (k < length sizes)
         × (slice_index sizes k ≡ visit_size visit)
-    size_at k visit e = (rw sized (go visits k visit e).0, rw sized (go visits k visit e).1)
-      where
-        go : (xs : List (Visit Entry)) (k : ℕ) (visit : Visit Entry) → slice_get xs k ≡ Some visit → (k < length (map visit_size xs))
-            × (slice_index (map visit_size xs) k ≡ visit_size visit)
-        go [] k visit e = absurd (cc)
-        go (x ∷ xs) zero visit e = let f : x ≡ visit = cc in (omega arith, ap (λ (y : Visit Entry). visit_size y) f)
-        go (x ∷ xs) (suc k) visit e = let r = go xs k visit e in (let l = r.0 in omega arith, r.1)
+    size_at k visit e =
+        let l = slice_get_within visits k visit e in
+        let n = length-map visits visit_size in
+        (rw sized (omega arith), rw sized (index_map visit_size visits k visit e))
 
     -- a branch that is located has its number and size there
     posted : (j : ℕ) (c : Subtree Entry) (above : Entry) → IsLocated t.entries j c above → IsPosted (number_among visits) numbers sizes j c
@@ -216,7 +198,7 @@ module _ (layers : List (List ℕ)) (t : TreeRows) (is : IsTreeOf 0 layers t) (s
         let last = ends_within t.entries j c above l in
         let nl = numbers_level in
         let sl = level in
-        let x = there visits j (omega arith) in
+        let x = element_below visits j (omega arith) in
         let l' = at j x.0 x.1 in
         let size = size_at j x.0 x.1 in
         record {
@@ -257,10 +239,10 @@ module _ (layers : List (List ℕ)) (t : TreeRows) (is : IsTreeOf 0 layers t) (s
       above = λ k visit e.
           let p = slice_index starts k in
           let s = stand.each p visit (num.starts_are k visit e) in
-          let l = below visits p visit (num.starts_are k visit e) in
+          let l = slice_get_within visits p visit (num.starts_are k visit e) in
           let pl = stand.level in
           let nl = numbers_level in
-          let m = below visits (slice_index places p) s.visit s.is in
+          let m = slice_get_within visits (slice_index places p) s.visit s.is in
           record {
             placed = omega arith;
             within = omega arith;
@@ -268,7 +250,7 @@ module _ (layers : List (List ℕ)) (t : TreeRows) (is : IsTreeOf 0 layers t) (s
           };
       children = λ k visit e.
           let p = slice_index starts k in
-          let l = below visits p visit (num.starts_are k visit e) in
+          let l = slice_get_within visits p visit (num.starts_are k visit e) in
           let nl = numbers_level in
           record {
             within = omega arith;

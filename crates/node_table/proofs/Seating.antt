@@ -6,10 +6,12 @@ use Rattle.std.specs.Prelude.{slice_index, slice_set, All}
 use Rattle.std.specs.List.{Contains}
 use Rattle.std.specs.List.Sorted.{IsSorted, IsPermutation}
 use Rattle.std.specs.Ordering.{is_lt, nat_cmp, ordering_then}
-use Rattle.std.proofs.lemmas.Bool.{cases_order}
+use Rattle.std.proofs.lemmas.Bool.{cases_lt, cases_order}
 use Rattle.std.proofs.lemmas.Bool.Decides.{nat_tests}
+use Rattle.std.proofs.lemmas.List.{get_or_append_left, get_or_push, get_or_default}
 use Rattle.std.proofs.lemmas.List.Sorted.{All-permutation, Contains-permutation}
 use Rattle.equal_keys.specs.Once.{IsOnce}
+use Rattle.equal_keys.proofs.Keyed.{below_or_at}
 use Rattle.node_table.specs.Firsts.{AreSeats, AreThemselves, IsFirstOf, AreFirsts}
 
 -- of the first keys those that may stand at other places too have seats
@@ -17,28 +19,12 @@ pub record Seating (keys : List ℕ) (seats : List (ℕ × ℕ)) (i : ℕ) : Typ
   pub own : All (λ seat. (seat.1 < i) × (slice_index keys seat.1 ≡ seat.0)) seats
   pub every : (k : ℕ) → k < i → Contains seats (slice_index keys k, k) ⊎ IsOnce keys k
 
-get_front : {X : Type 0} (xs : List X) (y : X) (k : ℕ) (d : X) → k < length xs → get_or (xs ++ y ∷ []) k d ≡ get_or xs k d
-get_front [] y k d l = absurd (omega arith)
-get_front (x ∷ xs) y zero d l = refl
-get_front (x ∷ xs) y (suc k) d l = get_front xs y k d (omega arith)
-
-get_end : {X : Type 0} (xs : List X) (y : X) (d : X) → get_or (xs ++ y ∷ []) (length xs) d ≡ y
-get_end [] y d = refl
-get_end (x ∷ xs) y d = get_end xs y d
-
 -- before the first key there are no seats
 pub seats_none : (keys : List ℕ) (seats : List (ℕ × ℕ)) → seats ≡ [] → Seating keys seats 0
 seats_none keys seats e = record {
   own = λ k d l. absurd (let m : length seats ≡ 0 = ap length e in omega arith);
   every = λ k l. absurd (omega arith);
 }
-
--- a number below the next one is below this one, or this one
-pub below_or_at : (k i : ℕ) → k < i + 1 → (k < i) ⊎ (k ≡ i)
-below_or_at zero zero l = inr refl
-below_or_at zero (suc i) l = inl (omega arith)
-below_or_at (suc k) zero l = absurd (omega arith)
-below_or_at (suc k) (suc i) l = elim (below_or_at k i (omega arith)) [ inl m ↦ inl (omega arith) | inr m ↦ inr (ap suc m) ]
 
 further : (keys : List ℕ) (seats : List (ℕ × ℕ)) (i : ℕ) → All (λ seat. (seat.1 < i) × (slice_index keys seat.1 ≡ seat.0)) seats
     → All (λ seat. (seat.1 < i + 1) × (slice_index keys seat.1 ≡ seat.0)) seats
@@ -67,25 +53,26 @@ seats_more keys seats seats' i key e p s = record {
     at : (k : ℕ) (d : ℕ × ℕ) → k < length seats' → (k < length seats) ⊎ (k ≡ length seats) → ((get_or seats' k d).1 < i + 1)
         × (slice_index keys (get_or seats' k d).1 ≡ (get_or seats' k d).0)
     at k d l (inl m) =
-        let g : get_or seats' k d ≡ get_or seats k d = ap (λ x. get_or x k d) p ∙ get_front seats (key, i) k d m in
+        let g : get_or seats' k d ≡ get_or seats k d = ap (λ x. get_or x k d) p ∙ get_or_append_left seats ((key, i) ∷ []) d k m in
         subst (λ (x : ℕ × ℕ). (x.1 < i + 1) × (slice_index keys x.1 ≡ x.0)) (sym g) (further keys seats i s.own k d m)
     at k d l (inr m) =
         let g : get_or seats' k d ≡ (key, i) = ap (λ x. get_or x k d) p ∙ ap (λ n. get_or (seats ++ (key, i) ∷ []) n d) m
-        ∙ get_end seats (key, i) d in
+        ∙ get_or_push seats (key, i) d (length seats) refl in
         subst (λ (x : ℕ × ℕ). (x.1 < i + 1) × (slice_index keys x.1 ≡ x.0)) (sym g) (omega arith, sym e)
 
     here : Contains seats' (slice_index keys i, i)
     here = (
       length seats,
       (let m : length seats' ≡ length seats + 1 = ap length p ∙ length-append seats ((key, i) ∷ []) in omega arith),
-      ap (λ x. get_or x (length seats) (slice_index keys i, i)) p ∙ get_end seats (key, i) (slice_index keys i, i) ∙ ap (λ x. (x, i)) e,
+      ap (λ x. get_or x (length seats) (slice_index keys i, i)) p
+          ∙ get_or_push seats (key, i) (slice_index keys i, i) (length seats) refl ∙ ap (λ x. (x, i)) e,
     )
 
     there : (x : ℕ × ℕ) → Contains seats x → Contains seats' x
     there x (j, m, q) = (
       j,
       (let n : length seats' ≡ length seats + 1 = ap length p ∙ length-append seats ((key, i) ∷ []) in omega arith),
-      ap (λ y. get_or y j x) p ∙ get_front seats (key, i) j x m ∙ q,
+      ap (λ y. get_or y j x) p ∙ get_or_append_left seats ((key, i) ∷ []) x j m ∙ q,
     )
 
     one : (k : ℕ) → (k < i) ⊎ (k ≡ i) → Contains seats' (slice_index keys k, k) ⊎ IsOnce keys k
@@ -129,12 +116,6 @@ module _ (seats : List (ℕ × ℕ)) (r : IsSorted (λ x y. ordering_then (nat_c
   ordered i j d l m = let n : i + (j - i) ≡ j = omega arith in subst (λ n. Before (get_or seats i d) (get_or seats n d)) n
       (far i (j - i) d (omega arith))
 
--- below the length it does not matter what stands for a place beyond it
-pub default : {X : Type 0} (xs : List X) (k : ℕ) (a b : X) → k < length xs → get_or xs k a ≡ get_or xs k b
-default [] k a b l = absurd (omega arith)
-default (z ∷ xs) zero a b l = refl
-default (z ∷ xs) (suc k) a b l = default xs k a b (omega arith)
-
 -- the seat at a place
 abbrev pub seat_at : List (ℕ × ℕ) → ℕ → ℕ × ℕ
 seat_at seats i = get_or seats i (0, 0)
@@ -167,13 +148,8 @@ fills_none keys seats firsts group s t = record {
 
     one : (k : ℕ) → k < length keys → Contains seats (slice_index keys k, k) ⊎ IsOnce keys k
         → IsFirstOf keys (slice_index keys k) (slice_index firsts k) ⊎ IsWaiting keys seats 0 k
-    one k l (inl (j, m, at)) = inr (j, omega arith, m, default seats j (0, 0) (slice_index keys k, k) m ∙ at)
+    one k l (inl (j, m, at)) = inr (j, omega arith, m, get_or_default seats j (0, 0) (slice_index keys k, k) m ∙ at)
     one k l (inr o) = inl (subst (IsFirstOf keys (slice_index keys k)) (sym (t.each k l)) (alone k l o))
-
-below_or_from : (a b : ℕ) → (a < b) ⊎ (b ≤ a)
-below_or_from a zero = inr (omega arith)
-below_or_from zero (suc b) = inl (omega arith)
-below_or_from (suc a) (suc b) = elim (below_or_from a b) [ inl m ↦ inl (omega arith) | inr m ↦ inr (omega arith) ]
 
 after : (x y : ℕ × ℕ) → Before x y → y.0 ≡ x.0 → y.1 < x.1 → ⊥
 after x y (inl b) e l = absurd (omega arith)
@@ -194,8 +170,8 @@ module _ (keys : List ℕ) (seats : List (ℕ × ℕ)) (firsts : List ℕ) (grou
   own = (f.seated.own i (0, 0) lt).1
 
   -- a seat whose key is not that of the one before it is the first with its key
-  begins : (i ≡ 0) ⊎ ((seat_at seats i).0 ≢ group.0) → IsFirstOf keys (seat_at seats i).0 (seat_at seats i).1
-  begins n = record {
+  is_first : (i ≡ 0) ⊎ ((seat_at seats i).0 ≢ group.0) → IsFirstOf keys (seat_at seats i).0 (seat_at seats i).1
+  is_first n = record {
     within = (f.seated.own i (0, 0) lt).0;
     at = own;
     before = λ k l e. earlier k l e (f.seated.every k (let o = (f.seated.own i (0, 0) lt).0 in omega arith));
@@ -216,7 +192,7 @@ module _ (keys : List ℕ) (seats : List (ℕ × ℕ)) (firsts : List ℕ) (grou
 
       earlier : (k : ℕ) → k < (seat_at seats i).1 → slice_index keys k ≡ (seat_at seats i).0 → Contains seats (slice_index keys k, k)
           ⊎ IsOnce keys k → ⊥
-      earlier k l e (inl (j, m, at)) = placed k j l e m (default seats j (0, 0) (slice_index keys k, k) m ∙ at) (below_or_from j i) n
+      earlier k l e (inl (j, m, at)) = placed k j l e m (get_or_default seats j (0, 0) (slice_index keys k, k) m ∙ at) (cases_lt j i) n
       earlier k l e (inr o) = let same = o (seat_at seats i).1 (f.seated.own i (0, 0) lt).0 (own ∙ sym e) in omega arith
 
   -- once the first place of the key is written
@@ -261,15 +237,15 @@ module _ (keys : List ℕ) (seats : List (ℕ × ℕ)) (firsts : List ℕ) (grou
       one m (inr (inr q)) d = apart m (λ e. omega arith) d
 
   -- a seat with the key of the one before it is told that key's first place
-  pub goes_on : (firsts' : List ℕ) → firsts' ≡ slice_set firsts (seat_at seats i).1 group.1 → 0 < i → (seat_at seats i).0 ≡ group.0
+  pub key_goes_on : (firsts' : List ℕ) → firsts' ≡ slice_set firsts (seat_at seats i).1 group.1 → 0 < i → (seat_at seats i).0 ≡ group.0
       → Filling keys seats firsts' group (i + 1)
-  goes_on firsts' set l e = told group firsts' (sym e) (f.head l) set
+  key_goes_on firsts' set l e = told group firsts' (sym e) (f.head l) set
 
   -- a seat with another key, or the first one, names the first place of its key
-  pub begins_anew : (group' : ℕ × ℕ) (firsts' : List ℕ) → group' ≡ seat_at seats i → firsts' ≡ slice_set firsts (seat_at seats i).1 group'.1
+  pub key_begins : (group' : ℕ × ℕ) (firsts' : List ℕ) → group' ≡ seat_at seats i → firsts' ≡ slice_set firsts (seat_at seats i).1 group'.1
       → (i ≡ 0) ⊎ ((seat_at seats i).0 ≢ group.0) → Filling keys seats firsts' group' (i + 1)
-  begins_anew group' firsts' g set n = told group' firsts' (ap (λ (x : ℕ × ℕ). x.0) g) (subst (λ (x : ℕ × ℕ). IsFirstOf keys x.0 x.1)
-      (sym g) (begins n)) set
+  key_begins group' firsts' g set n = told group' firsts' (ap (λ (x : ℕ × ℕ). x.0) g) (subst (λ (x : ℕ × ℕ). IsFirstOf keys x.0 x.1)
+      (sym g) (is_first n)) set
 
 -- past the last seat each place has the first place with its key
 pub all_told : (keys : List ℕ) (seats : List (ℕ × ℕ)) (firsts : List ℕ) (group : ℕ × ℕ) (i : ℕ) → length seats ≤ i

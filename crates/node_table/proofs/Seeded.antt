@@ -6,6 +6,8 @@ use Rattle.std.specs.Prelude.{slice_get, find, fold}
 use Rattle.std.specs.List.{AllByRecursion, filter_map, position_from}
 use Rattle.std.specs.List.{cons_option}
 use Rattle.std.specs.Option.{option_map, option_map_or}
+use Rattle.std.proofs.lemmas.List.{append-nil, length-map, map-append, take-map, take_at}
+use Rattle.std.proofs.lemmas.List.Elements.{filter_map-append}
 use Rattle.std.specs.Cmp.Lexicographic.{slice_cmp}
 use Rattle.std.specs.declared.cmp.Ordering.TheVariants.{Less}
 use Rattle.stack_model.specs.Stack.{Path}
@@ -17,7 +19,8 @@ use Rattle.shown_tree.specs.Trees.{listed}
 use Rattle.stack_table.specs.Readers.{placed}
 use Rattle.node_table.specs.Walks.{Visit, under, extends, IsApart, IsLocated}
 use Rattle.node_table.specs.Numbering.{visit_place, bare, seen, IsFirstVisit}
-use Rattle.node_table.proofs.Paths.{same_itself as name_itself}
+use Rattle.node_table.proofs.Lists.{get_end, get_map, get_of_map}
+use Rattle.node_table.proofs.Paths.{same_itself as name_itself, under_append}
 use Rattle.node_table.proofs.Counting.{not_among, same_itself as place_itself}
 
 -- lists with the same elements at each place
@@ -31,41 +34,6 @@ ext (x ∷ xs) (y ∷ ys) l f =
     let h : x ≡ y = cc in
     ap (λ z. z ∷ xs) h ∙ ap (λ zs. y ∷ zs) (ext xs ys (omega arith) (λ k z e. f (suc k) z e))
 
-get_map : {X Y : Type 0} (f : X → Y) (xs : List X) (k : ℕ) (x : X) → slice_get xs k ≡ Some x → slice_get (map f xs) k ≡ Some (f x)
-get_map f [] k x e = absurd (cc)
-get_map f (y ∷ xs) zero x e = let g : y ≡ x = cc in ap (λ z. Some (f z)) g
-get_map f (y ∷ xs) (suc k) x e = get_map f xs k x e
-
-get_of_map : {X Y : Type 0} (f : X → Y) (xs : List X) (k : ℕ) (y : Y) → slice_get (map f xs) k ≡ Some y
-    → (x : X) × (slice_get xs k ≡ Some x) × (f x ≡ y)
-get_of_map f [] k y e = absurd (cc)
-get_of_map f (x ∷ xs) zero y e = (x, refl, (let g : f x ≡ y = cc in g))
-get_of_map f (x ∷ xs) (suc k) y e = get_of_map f xs k y e
-
-length_map : {X Y : Type 0} (f : X → Y) (xs : List X) → length (map f xs) ≡ length xs
-length_map f [] = refl
-length_map f (x ∷ xs) = ap suc (length_map f xs)
-
-take_map : {X Y : Type 0} (f : X → Y) (n : ℕ) (xs : List X) → take n (map f xs) ≡ map f (take n xs)
-take_map f zero [] = refl
-take_map f zero (x ∷ xs) = refl
-take_map f (suc n) [] = refl
-take_map f (suc n) (x ∷ xs) = ap (λ r. f x ∷ r) (take_map f n xs)
-
-map_append : {X Y : Type 0} (f : X → Y) (xs ys : List X) → map f (xs ++ ys) ≡ map f xs ++ map f ys
-map_append f [] ys = refl
-map_append f (x ∷ xs) ys = ap (λ r. f x ∷ r) (map_append f xs ys)
-
-take_front : {X : Type 0} (xs ys : List X) → take (length xs) (xs ++ ys) ≡ xs
-take_front [] [] = refl
-take_front [] (y ∷ ys) = refl
-take_front (x ∷ xs) ys = ap (λ r. x ∷ r) (take_front xs ys)
-
--- a list with nothing after it is the list
-pub nil_right : {X : Type 0} (xs : List X) → xs ++ [] ≡ xs
-nil_right [] = refl
-nil_right (x ∷ xs) = ap (λ r. x ∷ r) (nil_right xs)
-
 -- the place of a row
 pub row_place : Path × Entry → ModelPlace
 row_place r = placed r.1.place
@@ -78,18 +46,15 @@ pub row_at : (rows : Rows Entry) (j : ℕ) (s : Subtree Entry) (above : Entry) (
     → slice_get rows j ≡ Some (l.top ++ [], s.value)
 row_at rows j s above l = subst (λ n. slice_get rows n ≡ Some (l.top ++ [], s.value)) l.at
     (subst (λ x. slice_get x (length l.before) ≡ Some (l.top ++ [], s.value))
-    (sym (l.is ∙ append_assoc l.before (under l.top (whole s)) l.after)) (there l.before))
-  where
-    there : (before : Rows Entry) → slice_get (before ++ (under l.top (whole s) ++ l.after)) (length before) ≡ Some (l.top ++ [], s.value)
-    there [] = refl
-    there (x ∷ before) = there before
+    (sym (l.is ∙ append_assoc l.before (under l.top (whole s)) l.after))
+    (get_end l.before (under l.top s.below ++ l.after) (l.top ++ [], s.value)))
 
 -- the rows of a walk have the places of its visits
 pub places_same : (rows : Rows Entry) (visits : List (Visit Entry)) → length visits ≡ length rows
     → ((k : ℕ) (visit : Visit Entry) → slice_get visits k ≡ Some visit → IsLocated rows k visit.0.now visit.1) → map place (map listed rows)
     ≡ map visit_place visits
-places_same rows visits level at = ext (map place (map listed rows)) (map visit_place visits) (length_map place (map listed rows)
-    ∙ length_map listed rows ∙ sym level ∙ sym (length_map visit_place visits)) one
+places_same rows visits level at = ext (map place (map listed rows)) (map visit_place visits) (length-map (map listed rows) place
+    ∙ length-map rows listed ∙ sym level ∙ sym (length-map visits visit_place)) one
   where
     one : (k : ℕ) (y : ModelPlace) → slice_get (map visit_place visits) k ≡ Some y → slice_get (map place (map listed rows)) k ≡ Some y
     one k y e =
@@ -151,15 +116,6 @@ below_more : (top : Path) (n m : List ℕ) (q : Path) → name_below top (top ++
 below_more [] n m q = refl
 below_more (k ∷ top) n m q = rw (name_itself k) (below_more top n m q)
 
-filter_append : {X Y : Type 0} (f : X → Option Y) (xs ys : List X) → filter_map f (xs ++ ys) ≡ filter_map f xs ++ filter_map f ys
-filter_append f [] ys = refl
-filter_append {Y = Y} f (x ∷ xs) ys = go (f x) (filter_append f xs ys)
-  where
-    go : (o : Option Y) → filter_map f (xs ++ ys) ≡ filter_map f xs ++ filter_map f ys → cons_option o (filter_map f (xs ++ ys))
-        ≡ cons_option o (filter_map f xs) ++ filter_map f ys
-    go None e = e
-    go (Some y) e = ap (λ r. y ∷ r) e
-
 -- a child as the listing has it
 abbrev pub child_of : Subtree Entry → Child
 child_of c = record { name = c.name; place = placed c.value.place }
@@ -183,10 +139,6 @@ none_long top n (x ∷ xs) a = ap (λ o. cons_option (option_map (λ m. record {
     one [] e = absurd (cc)
     one (m ∷ q) e = below_more top n m q
 
--- two lists of rows, one after the other, are so too when put below a path
-pub under_append : (top : Path) (xs ys : Rows Entry) → under top (xs ++ ys) ≡ under top xs ++ under top ys
-under_append top xs ys = map_append (λ (row : Path × Entry). (top ++ row.0, row.1)) xs ys
-
 -- of the rows of branches below a path, the children of the path are the branches
 pub children_under : (top : Path) (cs : List (Subtree Entry)) → AllByRecursion IsRising cs
     → filter_map (child_in top) (map listed (under top (spread cs))) ≡ map child_of cs
@@ -196,8 +148,8 @@ children_under top (c ∷ cs) a =
     (filter_map (child_in top) (map listed (under top (prefixed c.name c.below ++ spread cs))))) (below_one top c.name)
     ∙ ap (λ r. record { name = c.name; place = placed c.value.place } ∷ r) (
     ap (λ xs. filter_map (child_in top) (map listed xs)) (under_append top (prefixed c.name c.below) (spread cs))
-    ∙ ap (filter_map (child_in top)) (map_append listed (under top (prefixed c.name c.below)) (under top (spread cs)))
-    ∙ filter_append (child_in top) (map listed (under top (prefixed c.name c.below))) (map listed (under top (spread cs)))
+    ∙ ap (filter_map (child_in top)) (map-append listed (under top (prefixed c.name c.below)) (under top (spread cs)))
+    ∙ filter_map-append (child_in top) (map listed (under top (prefixed c.name c.below))) (map listed (under top (spread cs)))
     ∙ ap (λ x. x ++ filter_map (child_in top) (map listed (under top (spread cs)))) (none_long top c.name c.below a.0.rises.0)
     ∙ children_under top cs a.1)
 
@@ -217,13 +169,12 @@ module _ (rows : Rows Entry) (visits : List (Visit Entry)) (level : length visit
       ≡ map place (seen visits j)
   places_before j s above l =
       sym (ap (λ x. map place (map listed x)) front)
-      ∙ sym (ap (map place) (take_map listed j rows)) ∙ sym (take_map place j (map listed rows))
+      ∙ sym (ap (map place) (take-map listed j rows)) ∙ sym (take-map place j (map listed rows))
       ∙ ap (take j) (places_same rows visits level at)
-      ∙ take_map visit_place j visits ∙ sym (bare_places (take j visits))
+      ∙ take-map visit_place j visits ∙ sym (bare_places (take j visits))
     where
       front : take j rows ≡ l.before
-      front = ap (take j) (split j s above l) ∙ subst (λ n. take n (l.before ++ (l.top ++ [], s.value) ∷ (under l.top s.below ++ l.after))
-          ≡ l.before) l.at (take_front l.before ((l.top ++ [], s.value) ∷ (under l.top s.below ++ l.after)))
+      front = ap (take j) (split j s above l) ∙ take_at l.before ((l.top ++ [], s.value) ∷ (under l.top s.below ++ l.after)) j l.at
 
   -- the path of a place is that of the first branch with the place
   pub path_is : (visit : Visit Entry) (f : IsFirstVisit visits visit) → path_of (map listed rows) (visit_place visit)
@@ -237,10 +188,10 @@ module _ (rows : Rows Entry) (visits : List (Visit Entry)) (level : length visit
       (places_before f.at s visit.1 l) ∙ f.new in
       let found : find (λ (e : Listed). same_place p (place e)) (map listed rows) ≡ Some e =
       ap (λ x. find (λ (e : Listed). same_place p (place e)) x) (ap (map listed) (split f.at s visit.1 l)
-      ∙ map_append listed l.before ((l.top ++ [], s.value) ∷ (under l.top s.below ++ l.after)))
+      ∙ map-append listed l.before ((l.top ++ [], s.value) ∷ (under l.top s.below ++ l.after)))
       ∙ find_past p (map listed l.before) (map listed (under l.top s.below ++ l.after)) e
       (λ g a. not_among (map listed l.before) p none g a) (place_itself p) in
-      ap (λ o. option_map_or (λ (e : Listed). e.path) o []) found ∙ nil_right l.top
+      ap (λ o. option_map_or (λ (e : Listed). e.path) o []) found ∙ append-nil l.top
 
   -- the parent of a place is the place of the branch above its first branch
   pub parent_is : (visit : Visit Entry) (f : IsFirstVisit visits visit)
@@ -272,13 +223,13 @@ module _ (rows : Rows Entry) (visits : List (Visit Entry)) (level : length visit
       ap (λ (q : Path). filter_map (child_in q) (map listed rows)) (path_is visit f)
       ∙ ap (λ x. filter_map (child_in top) (map listed x)) (split f.at s visit.1 l
       ∙ ap (λ b. l.before ++ row ∷ (under l.top b ++ l.after)) below)
-      ∙ ap (filter_map (child_in top)) (map_append listed l.before (row ∷ (mine ++ l.after)))
-      ∙ filter_append (child_in top) (map listed l.before) (map listed (row ∷ (mine ++ l.after)))
+      ∙ ap (filter_map (child_in top)) (map-append listed l.before (row ∷ (mine ++ l.after)))
+      ∙ filter_map-append (child_in top) (map listed l.before) (map listed (row ∷ (mine ++ l.after)))
       ∙ ap (λ x. x ++ filter_map (child_in top) (map listed (row ∷ (mine ++ l.after)))) (none_apart top l.before l.apart_before)
       ∙ ap (λ o. cons_option (option_map (λ n. record { name = n; place = placed s.value.place }) o)
       (filter_map (child_in top) (map listed (mine ++ l.after)))) (below_itself top)
-      ∙ ap (filter_map (child_in top)) (map_append listed mine l.after)
-      ∙ filter_append (child_in top) (map listed mine) (map listed l.after)
+      ∙ ap (filter_map (child_in top)) (map-append listed mine l.after)
+      ∙ filter_map-append (child_in top) (map listed mine) (map listed l.after)
       ∙ ap (λ x. filter_map (child_in top) (map listed mine) ++ x) (none_apart top l.after l.apart_after)
-      ∙ nil_right (filter_map (child_in top) (map listed mine))
+      ∙ append-nil (filter_map (child_in top) (map listed mine))
       ∙ children_under top cs forest.each

@@ -1,7 +1,7 @@
 -- What the images say of the places in a stack's tree. The main lemma is rows_placed: each entry's
 -- place is in an image of the stack (IsPlaced). The lemmas after it say what follows of one entry:
 -- its kind, the size of its offset and its data.
-use Rattle.std.proofs.Common.{◌≡◌, ◌≢◌, ◌∙◌, sym, ap, subst, ℕ, zero, suc, ◌^◌, ◌<◌, inl, inr, List, [], ◌∷◌, take, drop, map, refl, arith, Option, Some, None, IsSome}
+use Rattle.std.proofs.Common.{◌≡◌, ◌≢◌, ◌∙◌, sym, ap, subst, ℕ, ◌^◌, ◌<◌, inl, inr, List, [], ◌∷◌, take, drop, map, refl, arith, Option, Some, None, IsSome}
 use Rattle.std.specs.Prelude.{slice_get, unwrap_or}
 use Rattle.std.specs.List.{AllByRecursion, slice_index_or}
 use Rattle.std.specs.Option.{option_map_or}
@@ -10,6 +10,7 @@ use Rattle.std.specs.declared.cmp.Ordering.TheVariants.{Less}
 use Rattle.std.specs.declared.cmp.Ordering.TheVariants.{Greater}
 use Rattle.std.specs.Ordering.{ordering_reverse}
 use Rattle.std.proofs.lemmas.Cmp.{nat_list_cmp_total, lists_total}
+use Rattle.std.proofs.lemmas.Option.{get_or_from_slice_get}
 use Rattle.romfs_format.specs.declared.head.Kind.{Kind}
 use Rattle.romfs_format.specs.declared.head.Kind.TheVariants.{HardLink, Directory, Regular, SymLink, Block, Character, Socket, Fifo}
 use Rattle.romfs_format.specs.Fields.{root, kind, name, size, data_at}
@@ -31,6 +32,7 @@ use Rattle.shown_tree.specs.Trees.{TreeRows, IsTreeOf, listed, listing}
 use Rattle.romfs_reader.proofs.Paths.{leads_to}
 use Rattle.shown_tree.proofs.Listed.{is_listing}
 use Rattle.stack_table.specs.Readers.{placed}
+use Rattle.node_table.proofs.Lists.{all_get}
 
 -- an entry's place is in an image of the stack, which gives its header, and the entry's kind is
 -- that header's
@@ -89,11 +91,6 @@ both : {X : Type 0} (P Q R : X → Type 0) → ((x : X) → P x → Q x → R x)
 both P Q R f [] a b = tt
 both P Q R f (x ∷ xs) a b = (f x a.0 b.0, both P Q R f xs a.1 b.1)
 
-image_of : (layers : List (List ℕ)) (k : ℕ) (a : List ℕ) → AllByRecursion IsImage layers → slice_get layers k ≡ Some a → IsImage a
-image_of [] k a s e = absurd (cc)
-image_of (x ∷ layers) zero a s e = let f : x ≡ a = cc in subst IsImage f s.0
-image_of (x ∷ layers) (suc k) a s e = image_of layers k a s.1 e
-
 -- each row's entry is placed
 pub rows_placed : (layers : List (List ℕ)) (t : TreeRows) → IsTreeOf 0 layers t → AllByRecursion IsImage layers
     → AllByRecursion (λ (r : Path × Entry). IsPlaced layers r.1) t.entries
@@ -110,7 +107,7 @@ rows_placed layers t is sound = both (λ (r : Path × Entry). at_path t.entries 
         let here : slice_get layers r.1.place.layer ≡ Some w.end.0 = subst (λ k. slice_get layers k ≡ Some w.end.0) i w.end.1 in
         let z : Some l.bytes ≡ Some w.end.0 = sym l.is ∙ here in
         let b : l.bytes ≡ w.end.0 = cc in
-        let s = image_of layers r.1.place.layer l.bytes sound l.is in
+        let s = all_get IsImage layers r.1.place.layer l.bytes sound l.is in
         record {
           image = l.bytes;
           is = l.is;
@@ -154,12 +151,7 @@ same_data a h i f = go (kind a h) refl
 
 module _ (layers : List (List ℕ)) (e : Entry) (p : IsPlaced layers e) where
   layer_is : slice_index_or layers e.place.layer [] ≡ p.image
-  layer_is = go layers e.place.layer p.is
-    where
-      go : (xs : List (List ℕ)) (k : ℕ) → slice_get xs k ≡ Some p.image → slice_index_or xs k [] ≡ p.image
-      go [] k f = absurd (cc)
-      go (x ∷ xs) zero f = cc
-      go (x ∷ xs) (suc k) f = go xs k f
+  layer_is = get_or_from_slice_get layers e.place.layer p.image [] p.is
 
   -- a placed entry's kind is what the layers have at its place
   pub kind_placed : e.kind ≡ kind_at layers (placed e.place)

@@ -1,14 +1,15 @@
 -- How many rows stand below a path, and so how large a branch is. A located branch has all rows
 -- that begin with its path, and no others (rows_below): so two branches at one place agree in value
 -- and in size, and a branch ends within the rows.
-use Rattle.std.proofs.Common.{◌≡◌, ◌∙◌, sym, ap, ℕ, suc, ◌+◌, ◌≤◌, [], ◌∷◌, ◌++◌, length, refl, arith, length-append, Bool, true, false, Some, cond}
+use Rattle.std.proofs.Common.{◌≡◌, ◌∙◌, sym, ap, ℕ, ◌+◌, ◌≤◌, [], ◌∷◌, ◌++◌, length, refl, arith, length-append, Bool, true, false, Some, cond}
 use Rattle.std.specs.Prelude.{slice_get}
+use Rattle.std.proofs.lemmas.List.{append-nil}
 use Rattle.stack_model.specs.Stack.{Path}
 use Rattle.path_tree.specs.Rows.{Subtree, Rows, whole}
 use Rattle.shown_tree.specs.declared.place.Entry.{Entry}
 use Rattle.node_table.specs.Walks.{under, extends, IsApart, IsLocated}
-use Rattle.node_table.proofs.Paths.{same_itself}
-use Rattle.node_table.proofs.Seeded.{row_at, nil_right}
+use Rattle.node_table.proofs.Paths.{same_itself, length_under}
+use Rattle.node_table.proofs.Seeded.{row_at}
 
 -- how many rows begin with a path
 abbrev count : Path → Rows Entry → ℕ
@@ -62,8 +63,8 @@ module _ (rows : Rows Entry) (j : ℕ) (s s' : Subtree Entry) (above above' : En
   -- two branches that stand at one place have as many rows
   pub same_size : length (whole s) ≡ length (whole s')
   same_size =
-      let top = sym (nil_right l.top) ∙ ap (λ (r : Path × Entry). r.0) (rows_are (l.top ++ [], s.value) (l'.top ++ [], s'.value) refl refl)
-      ∙ nil_right l'.top in
+      let top = sym (append-nil l.top) ∙ ap (λ (r : Path × Entry). r.0) (rows_are (l.top ++ [], s.value) (l'.top ++ [], s'.value) refl refl)
+      ∙ append-nil l'.top in
       sym (rows_below rows j s above l) ∙ ap (λ t. count t rows) top ∙ rows_below rows j s' above' l'
 
 -- a branch ends within the rows
@@ -74,9 +75,5 @@ ends_within rows j s above l =
     let b = length-append (l.before ++ under l.top (whole s)) l.after in
     let c = length-append l.before (under l.top (whole s)) in
     let d = l.at in
-    let e = count_length (whole s) in
+    let e = length_under l.top (whole s) in
     omega arith
-  where
-    count_length : (xs : Rows Entry) → length (under l.top xs) ≡ length xs
-    count_length [] = refl
-    count_length (x ∷ xs) = ap suc (count_length xs)

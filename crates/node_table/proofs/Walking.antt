@@ -4,62 +4,19 @@
 use Rattle.std.proofs.Common.{◌≡◌, ◌∙◌, sym, ap, subst, ℕ, zero, suc, ◌+◌, ◌-◌, ◌<◌, ◌≤◌, ◌⊎◌, inl, inr, List, [], ◌∷◌, ◌++◌, length, take, drop, get_or, refl, arith, append_assoc, length-append, Some}
 use Rattle.std.specs.Prelude.{slice_get, slice_index, slice_set, map}
 use Rattle.std.specs.Borrow.{Bor}
+use Rattle.std.proofs.lemmas.List.{get_or_append_left, get_or-append-add, length-map, map-append, set_at, take_all}
+use Rattle.std.proofs.lemmas.Option.{slice_get_within}
 use Rattle.path_tree.specs.Rows.{Subtree, Rows, prefixed, spread, NamesRise, IsForest, length_prefixed}
 use Rattle.node_table.specs.Walks.{Visit, IsLocated, visit_size, StandsAt, AreAbove, AddsWalk}
+use Rattle.node_table.proofs.Lists.{get_front, get_end, get_append, take_one_more}
 use Rattle.node_table.proofs.Paths.{spread_append, child_located}
 
--- what stands at a place still stands there as more are added
-get_stays : {X : Type 0} (xs ys : List X) (k : ℕ) (x : X) → slice_get xs k ≡ Some x → slice_get (xs ++ ys) k ≡ Some x
-get_stays [] ys k x e = absurd (cc)
-get_stays (y ∷ xs) ys zero x e = e
-get_stays (y ∷ xs) ys (suc k) x e = get_stays xs ys k x e
-
-get_end : {X : Type 0} (xs ys : List X) (x : X) → slice_get (xs ++ x ∷ ys) (length xs) ≡ Some x
-get_end [] ys x = refl
-get_end (y ∷ xs) ys x = get_end xs ys x
-
-index_front : (xs ys : List ℕ) (k : ℕ) → k < length xs → slice_index (xs ++ ys) k ≡ slice_index xs k
-index_front [] ys k l = absurd (omega arith)
-index_front (x ∷ xs) ys zero l = refl
-index_front (x ∷ xs) ys (suc k) l = index_front xs ys k (omega arith)
-
-index_back : (xs ys : List ℕ) (k : ℕ) → slice_index (xs ++ ys) (length xs + k) ≡ slice_index ys k
-index_back [] ys k = let n : 0 + k ≡ k = omega arith in ap (slice_index ys) n
-index_back (x ∷ xs) ys k = let n : suc (length xs) + k ≡ suc (length xs + k) = omega arith in ap (slice_index (x ∷ xs ++ ys)) n
-    ∙ index_back xs ys k
-
-below : {X : Type 0} (xs : List X) (k : ℕ) (x : X) → slice_get xs k ≡ Some x → k < length xs
-below [] k x e = absurd (cc)
-below (y ∷ xs) zero x e = omega arith
-below (y ∷ xs) (suc k) x e = let l = below xs k x e in omega arith
-
-written : (xs ys : List ℕ) (x y : ℕ) → slice_set (xs ++ x ∷ ys) (length xs) y ≡ xs ++ y ∷ ys
-written [] ys x y = refl
-written (z ∷ xs) ys x y = ap (λ r. z ∷ r) (written xs ys x y)
-
 module _ {T : Type 0} where
-  -- what stands where in two lists one after another
-  get_append : (xs ys : List (Visit T)) (k : ℕ) (x : Visit T) → slice_get (xs ++ ys) k ≡ Some x → (slice_get xs k ≡ Some x)
-      ⊎ ((m : ℕ) × (k ≡ length xs + m) × (slice_get ys m ≡ Some x))
-  get_append [] ys k x e = inr (k, omega arith, e)
-  get_append (y ∷ xs) ys zero x e = inl e
-  get_append (y ∷ xs) ys (suc k) x e = elim (get_append xs ys k x e) [ inl f ↦ inl f | inr f ↦ inr (f.0, omega (arith, f.1), f.2) ]
-
   -- a list is what stands before a child, the child, and what stands after it
   pub parted : (cs : List (Subtree T)) (i : ℕ) (c : Subtree T) → i < length cs → c ≡ get_or cs i c → cs ≡ take i cs ++ c ∷ drop (suc i) cs
   parted [] i c l e = absurd (omega arith)
   parted (x ∷ cs) zero c l e = ap (λ y. y ∷ cs) (sym e)
   parted (x ∷ cs) (suc i) c l e = ap (λ r. x ∷ r) (parted cs i c (omega arith) e)
-
-  -- the front one longer is the front and the child at its end
-  pub longer_front : (cs : List (Subtree T)) (i : ℕ) (c : Subtree T) → i < length cs → c ≡ get_or cs i c → take (i + 1) cs ≡ take i cs
-      ++ c ∷ []
-  longer_front cs i c l e = let n : suc i ≡ i + 1 = omega arith in subst (λ n. take n cs ≡ take i cs ++ c ∷ []) n (go cs i l e)
-    where
-      go : (cs : List (Subtree T)) (i : ℕ) → i < length cs → c ≡ get_or cs i c → take (suc i) cs ≡ take i cs ++ c ∷ []
-      go [] i l e = absurd (omega arith)
-      go (x ∷ cs) zero l e = ap (λ y. y ∷ []) (sym e)
-      go (x ∷ cs) (suc i) l e = ap (λ r. x ∷ r) (go cs i (omega arith) e)
 
   -- a child has fewer rows below it
   pub falls : (cs : List (Subtree T)) (below : Rows T) (i : ℕ) (c : Subtree T) → below ≡ spread cs → i < length cs → c ≡ get_or cs i c
@@ -79,7 +36,7 @@ module _ {T : Type 0} where
           omega arith
 
   stands_more : (all more : List (Visit T)) (place : ℕ) (value : T) → StandsAt all place value → StandsAt (all ++ more) place value
-  stands_more all more place value s = record { visit = s.visit; is = get_stays all more place s.visit s.is; value_is = s.value_is }
+  stands_more all more place value s = record { visit = s.visit; is = get_front all more place s.visit s.is; value_is = s.value_is }
 
   above_more : (all more visits : List (Visit T)) (places : List ℕ) → AreAbove all visits places → AreAbove (all ++ more) visits places
   above_more all more visits places a = record {
@@ -93,20 +50,12 @@ module _ {T : Type 0} where
   above_joined all xs ys ps qs a b = record {
     level = length-append ps qs ∙ ap (λ n. n + length qs) a.level ∙ ap (λ n. length xs + n) b.level ∙ sym (length-append xs ys);
     each = λ k visit e. elim (get_append xs ys k visit e) [
-      | inl f ↦ subst (λ n. StandsAt all n visit.1) (sym (index_front ps qs k (let l = below xs k visit f in let level = a.level in
-          omega arith))) (a.each k visit f)
+      | inl f ↦ subst (λ n. StandsAt all n visit.1) (sym (get_or_append_left ps qs 0 k
+          (let l = slice_get_within xs k visit f in let level = a.level in omega arith))) (a.each k visit f)
       | inr (m, f, g) ↦ subst (λ n. StandsAt all n visit.1) (sym (ap (slice_index (ps ++ qs)) (f ∙ ap (λ n. n + m) (sym a.level))
-          ∙ index_back ps qs m)) (b.each m visit g)
+          ∙ get_or-append-add ps qs m 0)) (b.each m visit g)
     ];
   }
-
-  map_append : (xs ys : List (Visit T)) → map visit_size (xs ++ ys) ≡ map visit_size xs ++ map visit_size ys
-  map_append [] ys = refl
-  map_append (x ∷ xs) ys = ap (λ r. visit_size x ∷ r) (map_append xs ys)
-
-  map_length : (xs : List (Visit T)) → length (map visit_size xs) ≡ length xs
-  map_length [] = refl
-  map_length (x ∷ xs) = ap suc (map_length xs)
 
   -- how far a walk has come: the branch, whose size is still to be written, and the children below
   -- the place i with all below them
@@ -127,11 +76,11 @@ module _ {T : Type 0} where
     pub sizes_level : length sizes ≡ length old
 
   -- with the branch put down, and a size of 0 for it, no child is walked over
-  pub begins : (branch : Bor (Subtree T)) (above : T) (place : ℕ) (cs : List (Subtree T)) (old out : List (Visit T))
+  pub walk_begun : (branch : Bor (Subtree T)) (above : T) (place : ℕ) (cs : List (Subtree T)) (old out : List (Visit T))
       (places places' sizes sizes' : List ℕ) → StandsAt old place above ⊎ ((place ≡ length old) × (branch.now.value ≡ above))
       → length sizes ≡ length old → out ≡ old ++ (branch, above) ∷ [] → places' ≡ places ++ place ∷ [] → sizes' ≡ sizes ++ 0 ∷ []
       → Walking branch.now above cs old out places places' sizes sizes' 0
-  begins branch above place cs old out places places' sizes sizes' up level e p s = record {
+  walk_begun branch above place cs old out places places' sizes sizes' up level e p s = record {
     first = branch;
     first_is = refl;
     rest = [];
@@ -186,14 +135,15 @@ module _ {T : Type 0} where
       let a = ap length w.sizes_are in
       let b = ap length w.is in
       let level = w.sizes_level in
-      omega (arith, length-append sizes (0 ∷ map visit_size w.rest), length-append old ((w.first, above) ∷ w.rest), map_length w.rest)
+      let n = length-map w.rest visit_size in
+      omega (arith, length-append sizes (0 ∷ map visit_size w.rest), length-append old ((w.first, above) ∷ w.rest))
 
   -- a walk over the next child is one child more
-  pub goes_on : (branch : Subtree T) (above : T) (cs : List (Subtree T)) (old out out' : List (Visit T)) (places p p' sizes s s' : List ℕ)
-      (i : ℕ) (c : Subtree T) → branch.below ≡ spread cs → IsForest cs → i < length cs → c ≡ get_or cs i c
+  pub child_walked : (branch : Subtree T) (above : T) (cs : List (Subtree T)) (old out out' : List (Visit T))
+      (places p p' sizes s s' : List ℕ) (i : ℕ) (c : Subtree T) → branch.below ≡ spread cs → IsForest cs → i < length cs → c ≡ get_or cs i c
       → Walking branch above cs old out places p sizes s i → AddsWalk c branch.value out out' p p' s s'
       → Walking branch above cs old out' places p' sizes s' (i + 1)
-  goes_on branch above cs old out out' places p p' sizes s s' i c below forest lt at w a = record {
+  child_walked branch above cs old out out' places p p' sizes s s' i c below forest lt at w a = record {
     first = w.first;
     first_is = w.first_is;
     rest = w.rest ++ a.visits;
@@ -210,7 +160,7 @@ module _ {T : Type 0} where
         (subst (λ (x : List (Visit T)). AreAbove x ((w.first, above) ∷ w.rest) w.more) (sym a.is)
         (above_more out a.visits ((w.first, above) ∷ w.rest) w.more w.stand)) a.stand;
     sizes_are = a.sizes_are ∙ ap (λ x. x ++ map visit_size a.visits) w.sizes_are ∙ append_assoc sizes (0 ∷ map visit_size w.rest)
-        (map visit_size a.visits) ∙ ap (λ x. sizes ++ 0 ∷ x) (sym (map_append w.rest a.visits));
+        (map visit_size a.visits) ∙ ap (λ x. sizes ++ 0 ∷ x) (sym (map-append visit_size w.rest a.visits));
     sizes_level = w.sizes_level;
   }
     where
@@ -227,7 +177,7 @@ module _ {T : Type 0} where
           let wl = w.level in
           let al = a.walked.level in
           let n = length-append w.rest a.visits in
-          let t = ap (λ x. length (spread x)) (longer_front cs i c lt at) in
+          let t = ap (λ x. length (spread x)) (take_one_more cs i c lt at) in
           let u = ap length (spread_append (take i cs) (c ∷ [])) in
           let v = length-append (spread (take i cs)) (spread (c ∷ [])) in
           let p = length_prefixed c.name c.below in
@@ -235,10 +185,10 @@ module _ {T : Type 0} where
           omega arith
 
   -- past the last child, and with its size written, all of the branch is walked over
-  pub ends : (branch : Subtree T) (above : T) (cs : List (Subtree T)) (old out : List (Visit T)) (places places' sizes s s' : List ℕ)
+  pub walk_ended : (branch : Subtree T) (above : T) (cs : List (Subtree T)) (old out : List (Visit T)) (places places' sizes s s' : List ℕ)
       (i at size : ℕ) → branch.below ≡ spread cs → length cs ≤ i → at ≡ length old → size ≡ length out - at → s' ≡ slice_set s at size
       → Walking branch above cs old out places places' sizes s i → AddsWalk branch above old out places places' sizes s'
-  ends branch above cs old out places places' sizes s s' i at size below le at_is size_is set w = record {
+  walk_ended branch above cs old out places places' sizes s s' i at size below le at_is size_is set w = record {
     visits = (w.first, above) ∷ w.rest;
     is = w.is;
     walked = record { level = level; each = w.each };
@@ -248,17 +198,11 @@ module _ {T : Type 0} where
     sizes_are =
         set ∙ ap (λ x. slice_set x at size) w.sizes_are ∙ ap (λ n. slice_set (sizes ++ 0 ∷ map visit_size w.rest) n size) (at_is
         ∙ sym w.sizes_level)
-        ∙ written sizes (map visit_size w.rest) 0 size ∙ ap (λ n. sizes ++ n ∷ map visit_size w.rest) mine;
+        ∙ set_at sizes 0 (map visit_size w.rest) size (length sizes) refl ∙ ap (λ n. sizes ++ n ∷ map visit_size w.rest) mine;
   }
     where
-      all : (cs : List (Subtree T)) (i : ℕ) → length cs ≤ i → take i cs ≡ cs
-      all [] zero l = refl
-      all [] (suc i) l = refl
-      all (x ∷ cs) zero l = absurd (omega arith)
-      all (x ∷ cs) (suc i) l = ap (λ r. x ∷ r) (all cs i (omega arith))
-
       rest_level : length w.rest ≡ length branch.below
-      rest_level = w.level ∙ ap (λ x. length (spread x)) (all cs i le) ∙ ap length (sym below)
+      rest_level = w.level ∙ ap (λ x. length (spread x)) (take_all i cs le) ∙ ap length (sym below)
 
       level : suc (length w.rest) ≡ suc (length branch.below)
       level = ap suc rest_level

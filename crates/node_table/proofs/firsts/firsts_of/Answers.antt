@@ -1,5 +1,5 @@
 use Rattle.std.proofs.Common.{arith, refl, ◌<◌, inl, inr, length}
-use Rattle.node_table.proofs.Seating.{fills_none, goes_on, begins_anew, all_told}
+use Rattle.node_table.proofs.Seating.{fills_none, key_goes_on, key_begins, all_told}
 use Rattle.node_table.proofs.firsts.firsts_of.Goals as goal
 use Rattle.node_table.proofs.firsts.firsts_of.Goals.{then-i-eq0, then-i-eq0-via-then-i-eq0, then-i-eq0-via-else-i-eq0+then-seat-group, else-i-eq0+else-seat-group}
 
@@ -11,11 +11,11 @@ loop-i-preserved g c =
     let lt : c.loop-i.i < length c.deref-seat-items.result.now = omega arith in
     elim c.if-i-eq0.branch [
       | then-i-eq0 w ↦ elim w.then-i-eq0.branch [
-        | then-i-eq0-via-then-i-eq0 v ↦ begins_anew _ _ _ _ _ c.loop-i.invariant lt _ _ w.group-is refl (inl (omega (arith, v.if-i-eq0)))
-        | then-i-eq0-via-else-i-eq0+then-seat-group v ↦ begins_anew _ _ _ _ _ c.loop-i.invariant lt _ _ w.group-is refl
+        | then-i-eq0-via-then-i-eq0 v ↦ key_begins _ _ _ _ _ c.loop-i.invariant lt _ _ w.group-is refl (inl (omega (arith, v.if-i-eq0)))
+        | then-i-eq0-via-else-i-eq0+then-seat-group v ↦ key_begins _ _ _ _ _ c.loop-i.invariant lt _ _ w.group-is refl
             (inr v.if-seat-group.true)
       ]
-      | else-i-eq0+else-seat-group w ↦ rw w.group-is (goes_on _ _ _ _ _ c.loop-i.invariant lt _ refl (omega (arith, w.if-i-eq0))
+      | else-i-eq0+else-seat-group w ↦ rw w.group-is (key_goes_on _ _ _ _ _ c.loop-i.invariant lt _ refl (omega (arith, w.if-i-eq0))
           w.if-seat-group.false)
     ]
 

@@ -1,5 +1,6 @@
 use Rattle.std.proofs.Common.{◌∙◌, sym, subst, arith, refl, false, ◌≡◌, ◌<◌, length}
-use Rattle.node_table.proofs.Seating.{Seating, default, seats_more, seats_same, seated}
+use Rattle.std.proofs.lemmas.List.{get_or_default}
+use Rattle.node_table.proofs.Seating.{Seating, seats_more, seats_same, seated}
 use Rattle.node_table.proofs.firsts.seats_of.Goals as goal
 
 pub loop-at-preserved-then-index : goal.loop-at-preserved-then-index
@@ -9,7 +10,7 @@ loop-at-preserved-then-index g c =
     let at = c.loop-at.at in
     let lt : at < length keys = omega arith in
     let level = c.in_ok-once.ensures.level in
-    let told = default once at false c.index.result.now (omega arith) ∙ sym c.index.ensures ∙ c.if-index.true in
+    let told = get_or_default once at false c.index.result.now (omega arith) ∙ sym c.index.ensures ∙ c.if-index.true in
     seats_same keys _ at c.loop-at.invariant (c.in_ok-once.ensures.each at lt told)
 
 pub loop-at-preserved : goal.loop-at-preserved

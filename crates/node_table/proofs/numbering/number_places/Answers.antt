@@ -1,12 +1,12 @@
 use Rattle.std.proofs.Common.{◌≡◌, ◌∙◌, ◌<◌, ◌+◌, [], ◌∷◌, ◌++◌, length, sym, refl, arith}
 use Rattle.std.specs.Prelude.{slice_index}
 use Rattle.std.proofs.lemmas.List.{get_or_default}
-use Rattle.node_table.proofs.Counting.{visit_at, begins, keys_level, number_positive, known_before, is_before, has_none, was_known, is_new}
+use Rattle.node_table.proofs.Counting.{visit_at, numbers_begun, keys_level, number_positive, known_before, is_before, has_none, was_known, is_new}
 use Rattle.node_table.proofs.numbering.number_places.Goals as goal
 use Rattle.node_table.proofs.numbering.number_places.Goals.{then-before-at+in_ok-push+in_ok-push-2+in_ok-push-3, else-before-at+in_ok-push-4}
 
 pub loop-at-init : goal.loop-at-init
-loop-at-init g c = ([], begins _ _ _ _ _ refl c.in_ok-starts.ensures.items c.in_ok-paths.ensures.items c.in_ok-numbers.ensures.items)
+loop-at-init g c = ([], numbers_begun _ _ _ _ _ refl c.in_ok-starts.ensures.items c.in_ok-paths.ensures.items c.in_ok-numbers.ensures.items)
 
 pub index-number-requires : goal.index-number-requires
 index-number-requires g c =
