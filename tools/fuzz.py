@@ -13,8 +13,8 @@ Each try of a part makes its inputs of a seed of its own, from N (1) on, and goe
 - `made`: genromfs's images of random folders with bits flipped, records swapped and words changed, through `check`, `list`
   and one of these ways; `kernel`: the requests of a real mount over the demo's layers, changed in the same spirit.
 
-With --minutes the parts go on by turns, and end then. Where a try differs, or takes more than two seconds of processor time,
-its files are kept, its words are printed, and how to make it again alone; where the words name no file of requests, that
+With --minutes the parts go on by turns, and end then. Where a try differs, or takes more than two seconds of processor time three
+times, its files are kept, its words are printed, and how to make it again alone; where the words name no file of requests, that
 file's bytes came through a pipe or as packets, and those of requests-1 and so on from the clients.
 """
 import argparse
@@ -27,7 +27,7 @@ import time
 
 import plain
 from clients import Client
-from fuzz_runs import Difference, Running, Wanted
+from fuzz_runs import Difference, Running, TooSlow, Wanted
 from images import EMPTY
 from mutations import Made, demo_images, has_genromfs, mutated_image, mutated_stream, recorded
 from random_inputs import kinds_of, long_stack, long_stream, mutated, others_of, random_image, random_stack, random_stream
@@ -263,12 +263,23 @@ class Counts:
         return "%-8s %d tries, seeds %d to %d: %s" % (self.part, self.tries, self.first, self.first + self.tries - 1, seen)
 
 
+def make(running, counts, seed):
+    """Makes a try. A slow one is made again: on a full machine a program that waits for its threads takes time for that."""
+    for again in (True, True, False):
+        try:
+            PARTS[counts.part](running, random.Random("%s %d" % (counts.part, seed)), counts.seen)
+            return
+        except TooSlow:
+            if not again:
+                raise
+
+
 def go_on(running, counts, tries):
     """Some more tries of a part."""
     for _ in range(tries):
         seed = counts.first + counts.tries
         try:
-            PARTS[counts.part](running, random.Random("%s %d" % (counts.part, seed)), counts.seen)
+            make(running, counts, seed)
         except Difference as difference:
             raise Difference("%s\nonce more: python3 tools/fuzz.py PROGRAM --seed %d --tries 1 %s" % (
                 difference, seed, counts.part)) from None

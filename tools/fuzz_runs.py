@@ -25,6 +25,10 @@ class Difference(Exception):
     """The program did something else than the plain reading says."""
 
 
+class TooSlow(Difference):
+    """All is as it should be, but the processor time that it took."""
+
+
 Wanted = collections.namedtuple("Wanted", "status output line files")
 
 
@@ -72,7 +76,7 @@ class Running:
             raise Difference("%s: the status and the line should be %r, and are %r" % (
                 self.told(words), (want.status, want.line), got))
         if done.seconds > SECONDS:
-            raise Difference("%s takes %.1f s of processor time" % (self.told(words), done.seconds))
+            raise TooSlow("%s takes %.1f s of processor time" % (self.told(words), done.seconds))
 
     def hold_sessions(self, words, clients, lines):
         """Runs the program with these words for clients, and holds what comes to them, and the fault lines of those that stay."""
@@ -91,7 +95,8 @@ class Running:
             wrong.append("the socket is there still")
         if wrong or done.output or done.seconds > SECONDS:
             habits = ["closes" if it.closes else "is deaf" if it.is_deaf else "stays" for it in clients]
-            raise Difference("%s: %s; %.1f s of processor time; the clients: %s" % (
+            kind = Difference if wrong or done.output else TooSlow
+            raise kind("%s: %s; %.1f s of processor time; the clients: %s" % (
                 self.told(words), "; ".join(wrong), done.seconds, ", ".join(habits)))
 
     def hold_device(self, words, want, replies, pieces, patience=None):

@@ -52,9 +52,9 @@ faultless words line Memory is told = refl
 faultless words line (Usage text) is told = elim told [
   | inl refused ↦ absurd (refused is.taken)
   | inr (inl bad) ↦ absurd (bad.wrong (subst HaveNumbersInRange (same_rows (command_in words) _ _ is.rows bad.rows is.command bad.command)
-        is.holds.numbered))
+      is.holds.numbered))
   | inr (inr bad) ↦ absurd (is.holds.apart (subst AreCrossed (same_rows (command_in words) _ _ bad.rows is.rows bad.command is.command)
-        bad.crossed))
+      bad.crossed))
 ]
 
 -- words that have a line meet no fault but want of memory

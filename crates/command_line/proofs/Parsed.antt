@@ -116,11 +116,11 @@ both_parts (Some p) name rows e f = ap₂ (λ n r. Some (n, r)) (ap (λ o. unwra
 -- the command that was met, by its name and its rows
 pub met_command : (m : ArgMatches) (words : List Text) (o : Option (Bor Text × Bor ArgMatches)) (p : Bor Text × Bor ArgMatches)
     → option_map (λ p. p.0.now) o ≡ subcommand_name_of m → option_map (λ p. rows_of (found_of p.1.now)) o ≡ option_map (λ p. p.1)
-        (subcommand_rows_of m)
+    (subcommand_rows_of m)
     → o ≡ Some p → subcommand_rows_of m ≡ command_in words → command_in words ≡ Some (p.0.now, rows_of (found_of p.1.now))
 met_command m words o p name_is rows_are some is =
     let name = ap (option_map (λ (q : Bor Text × Bor ArgMatches). q.0.now)) (sym some) ∙ name_is
-        ∙ name_in_rows (out-ArgMatches m).subcommand in
+    ∙ name_in_rows (out-ArgMatches m).subcommand in
     let rows = ap (option_map (λ (q : Bor Text × Bor ArgMatches). rows_of (found_of q.1.now))) (sym some) ∙ rows_are in
     sym is ∙ both_parts (subcommand_rows_of m) p.0.now (rows_of (found_of p.1.now)) name rows
 
@@ -167,7 +167,7 @@ some_command m words taken is =
 -- the numbers, as the rows give them
 pub numbers_are : (f : Found) (workers batch sessions : ℕ) → IsNumberOf MAX_WORKERS 4 (first_value f (codes "workers")) workers
     → IsNumberOf MAX_BATCH 16 (first_value f (codes "batch")) batch
-        → IsNumberOf MAX_SESSIONS 1 (first_value f (codes "sessions")) sessions
+    → IsNumberOf MAX_SESSIONS 1 (first_value f (codes "sessions")) sessions
     → HaveNumbersInRange (rows_of f) × (workers ≡ number_or 4 (first_of (codes "workers") (rows_of f)))
     × (batch ≡ number_or 16 (first_of (codes "batch") (rows_of f))) × (sessions ≡ number_or 1 (first_of (codes "sessions") (rows_of f)))
 numbers_are f workers batch sessions w b s =
@@ -198,7 +198,7 @@ pub batch_fault : (f : Found) (fault : LineFault) → (fault ≡ Memory) ⊎ (¬
     → (fault ≡ Memory) ⊎ ((¬ HaveNumbersInRange (rows_of f)) ⊎ AreCrossed (rows_of f))
 batch_fault f fault (inl memory) = inl memory
 batch_fault f fault (inr bad) = inr (inl
-      (λ numbered. bad (subst (λ o. IfSome o (IsNumberTo MAX_BATCH)) (sym (first_value-rows f (codes "batch"))) numbered.batch)))
+    (λ numbered. bad (subst (λ o. IfSome o (IsNumberTo MAX_BATCH)) (sym (first_value-rows f (codes "batch"))) numbered.batch)))
 
 -- so is a fault of the number of sessions
 pub sessions_fault : (f : Found) (fault : LineFault) → (fault ≡ Memory)
@@ -207,7 +207,7 @@ pub sessions_fault : (f : Found) (fault : LineFault) → (fault ≡ Memory)
 sessions_fault f fault (inl memory) = inl memory
 sessions_fault f fault (inr bad) = inr
     (inl (λ numbered. bad (subst (λ o. IfSome o (IsNumberTo MAX_SESSIONS)) (sym (first_value-rows f (codes "sessions")))
-      numbered.sessions)))
+    numbered.sessions)))
 
 -- an option that is given, as the line has it
 some_named : (o : Option (Bor Text)) (p : Option Text) → option_map (λ file. file.now) o ≡ p → is_some o ≡ is_some p
@@ -222,8 +222,12 @@ names_socket verb rows listen gives listen_is is = some_named listen (first_of (
 -- the line names a file beside the device where the rows do
 pub names_as : (rows : List Row) (line : Line) → Says line (parts_of line.verb rows) → names_both line ≡ names_both_of rows
 names_as rows line says =
-    rw (says.device, some_named line.requests _ says.requests, some_named line.replies _ says.replies,
-          some_named line.balances _ says.balances) refl
+    rw (
+      says.device,
+      some_named line.requests _ says.requests,
+      some_named line.replies _ says.replies,
+      some_named line.balances _ says.balances,
+    ) refl
 
 -- a line that says what the rows give, and names no file beside the device, holds them
 pub held : (rows : List Row) (line : Line) → HaveNumbersInRange rows → Says line (parts_of line.verb rows) → names_both line ≡ false

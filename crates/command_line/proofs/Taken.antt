@@ -113,7 +113,7 @@ pub record NamesCommand (o : Option (Text × List Row)) : Type 0 where
 -- the command that is met, by which name its word is
 abbrev met : Bool → Bool → Bool → Bool → Bool → Option Shape
 met a b c d f = cond a (Some served) (cond b (Some listening)
-      (cond c (Some checked) (cond d (Some listed) (cond f (Some (slice_index_or made.subs 4 served)) None))))
+    (cond c (Some checked) (cond d (Some listed) (cond f (Some (slice_index_or made.subs 4 served)) None))))
 
 -- the command that was entered is one of the four
 entered_names : (p : Text × List Text) → stop_helps (Some p) ≡ false → entered_fault made (Some p) ≡ [] → is_some (entered made (Some p))
@@ -125,14 +125,34 @@ entered_names p helps e some =
   where
     go : (a b c d f : Bool) → f ≡ false → option_map_or (λ s. level_fault s [] nothing_held p.1 false []) (met a b c d f) [] ≡ []
         → is_some (option_map (λ s. rows_at s p.1) (met a b c d f)) ≡ true → NamesCommand (option_map (λ s. rows_at s p.1) (met a b c d f))
-    go true b c d f none e some = record { verb = verbs.Serve; rows = rows_after served.rules [] p.1; is = refl; filled =
-          serve_filled p.1 e; gives = λ same. absurd (cc) }
-    go false true c d f none e some = record { verb = verbs.Socket; rows = rows_after listening.rules [] p.1; is = refl; filled =
-          socket_filled p.1 e; gives = λ _. socket_given p.1 e }
-    go false false true d f none e some = record { verb = verbs.Check; rows = rows_after checked.rules [] p.1; is = refl; filled =
-          check_filled p.1 e; gives = λ same. absurd (cc) }
-    go false false false true f none e some = record { verb = verbs.List; rows = rows_after listed.rules [] p.1; is = refl; filled =
-          list_filled p.1 e; gives = λ same. absurd (cc) }
+    go true b c d f none e some = record {
+      verb = verbs.Serve;
+      rows = rows_after served.rules [] p.1;
+      is = refl;
+      filled = serve_filled p.1 e;
+      gives = λ same. absurd (cc);
+    }
+    go false true c d f none e some = record {
+      verb = verbs.Socket;
+      rows = rows_after listening.rules [] p.1;
+      is = refl;
+      filled = socket_filled p.1 e;
+      gives = λ _. socket_given p.1 e;
+    }
+    go false false true d f none e some = record {
+      verb = verbs.Check;
+      rows = rows_after checked.rules [] p.1;
+      is = refl;
+      filled = check_filled p.1 e;
+      gives = λ same. absurd (cc);
+    }
+    go false false false true f none e some = record {
+      verb = verbs.List;
+      rows = rows_after listed.rules [] p.1;
+      is = refl;
+      filled = list_filled p.1 e;
+      gives = λ same. absurd (cc);
+    }
     go false false false false true none e some = absurd (true≢false none)
     go false false false false false none e some = absurd (true≢false (sym some))
 
@@ -167,4 +187,4 @@ taken_names words e =
     let stop = (walk made.top.rules (names_of made) nothing_held words).stopped in
     let helps = walk_no_help made.top refl (names_of made) (walk_from nothing_held) words walk_on.0 refl in
     some_entered stop helps below_on.0 (one_wanted (rows_after made.top.rules (names_of made) words) (is_some (entered made stop))
-          check_on.1)
+    check_on.1)

@@ -91,10 +91,10 @@ added_filled id how s values rows none new filled =
 
 set_filled : (id : Text) (how : Reading) (s : ValueSource) (values : List Text) (rows : List Row) → has_row id rows ≡ false
     → is_filled (new_row id how s values) ≡ true → all_filled rows ≡ true → all_filled (with_values id how s values (without id rows))
-        ≡ true
+    ≡ true
 set_filled id how s values rows none new filled =
     subst (λ rs. all_filled (with_values id how s values rs) ≡ true) (sym (without_none id rows none))
-        (added_filled id how s values rows none new filled)
+    (added_filled id how s values rows none new filled)
 
 some_more : (old : List Text) (v : Text) (vs : List Text) → some_text (old ++ v ∷ vs) ≡ true
 some_more [] v vs = refl
@@ -170,7 +170,7 @@ pub used_filled : (a : Rule) (vs : List Text) (rows : List Row) → fills a ≡ 
     → all_filled (used a vs rows) ≡ true
 used_filled a vs rows fit e filled =
     let parts = neither (range_kinds (least a) (most_values a) (length vs))
-        (action_fault (action_of a) false a (values_or_missing a vs) rows) e in
+    (action_fault (action_of a) false a (values_or_missing a vs) rows) e in
     go (action_of a) (names_flag a.id) refl fit parts.0 parts.1
   where
     no_range : (vs : List Text) → (least a == 0 && most_values a == 0) ≡ true → range_kinds (least a) (most_values a) (length vs) ≡ []
@@ -183,7 +183,7 @@ used_filled a vs rows fit e filled =
 
     flag : (vs : List Text) → names_flag a.id ≡ true → is_flag_rule a ≡ true → range_kinds (least a) (most_values a) (length vs) ≡ []
         → has_row a.id rows ≡ false → all_filled (with_values a.id (reading_by a) CommandLine (values_or_missing a vs) (without a.id rows))
-            ≡ true
+        ≡ true
     flag [] is fit range none = set_filled a.id (reading_by a) CommandLine a.missing rows none
         (rw is (both (least a == 0 && most_values a == 0) _ fit).1) filled
     flag (v ∷ vs) is fit range none =
@@ -197,7 +197,7 @@ used_filled a vs rows fit e filled =
 
     set : (vs : List Text) → names_flag a.id ≡ false → nat_lt 0 (least a) ≡ true → range_kinds (least a) (most_values a) (length vs) ≡ []
         → has_row a.id rows ≡ false → all_filled (with_values a.id (reading_by a) CommandLine (values_or_missing a vs) (without a.id rows))
-            ≡ true
+        ≡ true
     set [] is asks range none = absurd (no_value asks range)
     set (v ∷ vs) is asks range none = set_filled a.id (reading_by a) CommandLine (v ∷ vs) rows none (rw is refl) filled
 
@@ -270,7 +270,7 @@ given_value id other (Some r) passes given = go r.values value
         let id_is : r.id ≡ id = (bytes_eq-Decides r.id id).0 tests.0 in
         let is : names_flag r.id ≡ false = ap (λ t. names_flag t) id_is ∙ other in
         let P : Bool → Type 0 = λ b. cond b (is_as_written r.reading && is_only (bool_text (explicit_source r.source)) r.values)
-            (some_text r.values) ≡ true in
+        (some_text r.values) ≡ true in
         subst P is tests.1
 
     go : (vs : List Text) → some_text vs ≡ true → (first : Text) × (rest : List Text) × (Some vs ≡ Some (first ∷ rest))
@@ -305,7 +305,7 @@ flag_text id flag (Some r) passes = text r.reading r.values (explicit_source r.s
         let id_is : r.id ≡ id = (bytes_eq-Decides r.id id).0 tests.0 in
         let is : names_flag r.id ≡ true = ap (λ t. names_flag t) id_is ∙ flag in
         let P : Bool → Type 0 = λ b. cond b (is_as_written r.reading && is_only (bool_text (explicit_source r.source)) r.values)
-            (some_text r.values) ≡ true in
+        (some_text r.values) ≡ true in
         subst P is tests.1
 
     text : (how : Reading) (vs : List Text) (given : Bool) → (is_as_written how && is_only (bool_text given) vs) ≡ true
@@ -319,7 +319,7 @@ flag_text id flag (Some r) passes = text r.reading r.values (explicit_source r.s
 pub rows_filled : (rows : List Row) → all_filled rows ≡ true → is_given (codes "image") rows ≡ true → IsFilled rows
 rows_filled rows filled given =
     let image = given_value (codes "image") refl (find (λ r. bytes_eq r.id (codes "image")) rows) (found_filled (codes "image") rows filled)
-        given in
+    given in
     record {
       first = image.0;
       rest = image.1;

@@ -111,7 +111,7 @@ module _ (test : Row → Bool) (fits : Rule → Bool) (s : Shape)
   short_kept : (o : Option Rule) (rest : Text) (h : Held) (on : Held → Held × Outcome) (fault : Held → Kinds) → fits_if_found o ≡ true
       → ((g : Held) → fault g ≡ [] → list_all test g.rows ≡ true → list_all test (on g).0.rows ≡ true)
       → short_fault s.rules s.args_override_self o rest h fault ≡ [] → list_all test h.rows ≡ true
-          → list_all test (short_met s.rules o rest h on).0.rows ≡ true
+      → list_all test (short_met s.rules o rest h on).0.rows ≡ true
   short_kept None rest h on fault one after e before = before
   short_kept (Some a) rest h on fault one after e before = go (takes_values a) e
     where
@@ -268,7 +268,7 @@ module _ (s : Shape) (helps : s.disable_help_subcommand ≡ false) where
 
   word_no_help : (names : Names) (is_trailing : Bool) (waiting : Waiting) (position : ℕ) (word : Text) (h : Held)
       → word_fault s names is_trailing waiting word h ≡ [] → step_helps (word_met s.rules names is_trailing waiting position word h).1
-          ≡ false
+      ≡ false
   word_no_help names true waiting position word h e = refl
   word_no_help names false waiting position word h e = other_no_help (subcommand_met names waiting word) waiting position word h e
 

@@ -37,16 +37,24 @@ digits_passed (c ∷ cs) e =
 
 number_passes : (most : ℕ) (text : Text) → IsNumberTo most text → is_number most text ≡ true
 number_passes most text is =
-    rw (lt-ltb 0 (length text) is.0.0, digits_pass text is.0.1, le-leb 1 (digits_value 10 text) is.1.0,
-          le-leb (digits_value 10 text) most is.1.1) refl
+    rw (
+      lt-ltb 0 (length text) is.0.0,
+      digits_pass text is.0.1,
+      le-leb 1 (digits_value 10 text) is.1.0,
+      le-leb (digits_value 10 text) most is.1.1,
+    ) refl
 
 number_passed : (most : ℕ) (text : Text) → is_number most text ≡ true → IsNumberTo most text
 number_passed most text e =
     let some = both (nat_lt 0 (length text)) _ e in
     let digits = both (all_digits text) _ some.1 in
-    let ends = both (nat_le 1 (digits_value 10 text)) (nat_le (digits_value 10 text) most) digits.1 in
-    ((ltb-true 0 (length text) some.0, digits_passed text digits.0), (leb-true 1 (digits_value 10 text) ends.0,
-          leb-true (digits_value 10 text) most ends.1))
+    let ends = both (nat_le 1 (digits_value 10 text)) (nat_le (digits_value 10 text) most) digits.1 in (
+      (ltb-true 0 (length text) some.0, digits_passed text digits.0),
+      (
+        leb-true 1 (digits_value 10 text) ends.0,
+        leb-true (digits_value 10 text) most ends.1,
+      ),
+    )
 
 -- the same, where there is a text
 abbrev passes : ℕ → Option Text → Bool
@@ -82,21 +90,28 @@ reads text verb rows parts taken command numbers apart are = record {
       } in
       bad.wrong (subst HaveNumbersInRange (same_rows (command_in (words_of text)) _ _ rows bad.rows command bad.command) numbered);
   apart = λ bad. true≢false (sym (subst AreCrossed (same_rows (command_in (words_of text)) _ _ bad.rows rows bad.command command)
-        bad.crossed) ∙ apart);
+      bad.crossed) ∙ apart);
   says = λ line is.
       let verb_is = one_word line.verb verb (one_name (command_in (words_of text)) _ _ is.rows rows is.command command) in
       let rows_are = same_rows (command_in (words_of text)) _ _ is.rows rows is.command command in
       subst (Says line) are (subst (λ v. Says line (parts_of v rows)) verb_is (subst (λ rows. Says line (parts_of line.verb rows)) rows_are
-            is.holds.says));
+      is.holds.says));
 }
 
 crosses : (text : Text) (verb : Verb) (rows : List Row) → IsTaken (words_of text) → command_in (words_of text) ≡ Some (verb_word verb, rows)
     → names_both_of rows ≡ true → IsCrossed (words_of text)
-crosses text verb rows taken command crossed = record { taken = taken; name = verb_word verb; rows = rows; command = command; crossed =
-      crossed }
+crosses text verb rows taken command crossed = record {
+  taken = taken;
+  name = verb_word verb;
+  rows = rows;
+  command = command;
+  crossed = crossed;
+}
 
-misnumbers : (text : Text) (verb : Verb) (rows : List Row) → IsTaken (words_of text) → command_in (words_of text) ≡ Some (verb_word verb,
-      rows)
+misnumbers : (text : Text) (verb : Verb) (rows : List Row) → IsTaken (words_of text) → command_in (words_of text) ≡ Some (
+  verb_word verb,
+  rows,
+)
     → is_numbered rows ≡ false → IsMisnumbered (words_of text)
 misnumbers text verb rows taken command numbers = record {
   taken = taken;

@@ -36,7 +36,7 @@ goes_on bytes rest done old mid new n u b z a e = record {
       ∙ ap (λ l. (done ++ take n rest) ++ l) (sym (take_rest rest n));
   held = Appends-trans _ _ _ _ _ u.held a;
   late = (let l = length-append done (take n rest) in let t = length-take n rest in let k = u.late in let s =
-        ap (λ (p : Pushes). p.unflushed) e in omega arith);
+      ap (λ (p : Pushes). p.unflushed) e in omega arith);
   well = ap (λ (p : Pushes). p.failures) e ∙ taken n _ _ z ∙ u.well;
   flushes = ap (λ (p : Pushes). p.flushes) e ∙ u.flushes;
 }

@@ -80,8 +80,12 @@ rises-push a (x ∷ xs) b p r h = (r.0, rises-push (suc x) xs b p r.1 h)
 
 none_below : (a : ℕ) (l : List ℕ) (b x : ℕ) → RisesWithin a l b → x < a → times x l ≡ 0
 none_below a [] b x r h = refl
-none_below a (y ∷ ys) b x r h = let p = r.0 in omega (arith, times-cons x y ys, one-other y x (λ e. omega arith),
-      none_below (suc y) ys b x r.1 (omega arith))
+none_below a (y ∷ ys) b x r h = let p = r.0 in omega (
+  arith,
+  times-cons x y ys,
+  one-other y x (λ e. omega arith),
+  none_below (suc y) ys b x r.1 (omega arith),
+)
 
 -- no position at or above the end of its range stands in a rising list
 pub none_above : (a : ℕ) (l : List ℕ) (b x : ℕ) → RisesWithin a l b → b ≤ x → times x l ≡ 0

@@ -46,7 +46,7 @@ sound_after v p some_left s unseen = let fits = s.within_share in let miss = s.m
   rises = rises-push 0 v.positions v.seen p s.rises unseen;
   within_share = ⊎_elim (λ t. omega (arith, t.1)) (λ t. omega (arith, t.1)) (charged v p some_left);
   missed = ⊎_elim (λ (t : (p < v.total) × ((after_draw v p).left ≡ v.left)). λ h. let same = t.1 in let m = miss (omega arith) in
-        omega arith)
+      omega arith)
       (λ (t : (v.total ≤ p) × ((after_draw v p).left + 1 ≡ v.left)). λ h. let d = t.0 in omega arith) (charged v p some_left);
 }
 
@@ -108,7 +108,7 @@ draws key slots id me some_left live s r _ at small = (
     -- nobody has a position that the word has not reached
     free : (x : ℕ) → n ≤ x → sum_by (held x) s.views ≡ 0
     free x h = all_zero (held x) s.views (λ j u e. let o = r.each j u e in let p = o.passed in
-          none_above 0 u.positions u.seen x o.sound.rises (omega arith))
+        none_above 0 u.positions u.seen x o.sound.rises (omega arith))
 
     once : (x : ℕ) → sum_by (held x) (set s.views id w) ≤ 1
     once x = let sum = sum_by-set (held x) s.views id v w at in let t = times-push x n v.positions in let before = r.once x in
@@ -142,7 +142,7 @@ draws key slots id me some_left live s r _ at small = (
 unmoved : (key : Key) (s : Table) (r : IsSoundBoard key s) (id : ℕ) (me : Seated) (w : View)
     → get_elem? s.views id ≡ some me.0 → FitsBoard key (get_or s.words 0 0) w
     → w.positions ≡ me.0.positions → w.left ≡ me.0.left → w.share ≡ me.0.share
-        → IsSoundBoard key (stepped s 0 (get_or s.words 0 0) id me.1 w keeps)
+    → IsSoundBoard key (stepped s 0 (get_or s.words 0 0) id me.1 w keeps)
 unmoved key s r id me w at fits same left share = let v : View = me.0 in moved key s r (get_or s.words 0 0) id me w (omega arith) fits
     (λ x. let sum = sum_by-set (held x) s.views id v w at in let t = ap (times x) same in let before = r.once x in omega arith)
     (let sum = sum_by-set drawn s.views id v w at in let t = ap length same in let before = r.all_drawn in omega arith)

@@ -40,8 +40,8 @@ not_one More n e = absurd (let z = e in cc)
 module _ (keys : List ℕ) (slots : ℕ) (occupancy occupancy' : List Occupancy) (i : ℕ) (f : Fell keys slots occupancy i)
     (level : length occupancy' ≡ slots)
     (here : at occupancy' (slot_of (slice_index keys i) slots) ≡ and_one (at occupancy (slot_of (slice_index keys i) slots)))
-        (apart : (t : ℕ)
-      → t ≢ slot_of (slice_index keys i) slots → at occupancy' t ≡ at occupancy t) where
+    (apart : (t : ℕ)
+    → t ≢ slot_of (slice_index keys i) slots → at occupancy' t ≡ at occupancy t) where
   some : (a : ℕ) → a < i + 1 → at occupancy' (slot_of (slice_index keys a) slots) ≢ Nothing
   some a l e = by (cases_eq (slot_of (slice_index keys a) slots) (slot_of (slice_index keys i) slots)) (below_or_at a i l)
     where
@@ -77,8 +77,8 @@ fell_within keys slots occupancy occupancy' i s f e l set =
     let level = f.level in
     more keys slots occupancy occupancy' i f (ap length set ∙ simp length-set f.level)
     (subst (λ x. at occupancy' x ≡ and_one (at occupancy x)) e (ap (λ xs. at xs s) set
-          ∙ get_or-set_same occupancy s (and_one (at occupancy s)) More
-          (omega arith)))
+    ∙ get_or-set_same occupancy s (and_one (at occupancy s)) More
+    (omega arith)))
     (λ t n. ap (λ xs. at xs t) set ∙ get_or-set_other occupancy s t (and_one (at occupancy s)) More (λ q. n (q ∙ e)))
 
 -- a key whose slot is not there has fallen with no slot changed
@@ -98,8 +98,8 @@ pub all_fell : (keys : List ℕ) (slots : ℕ) (occupancy : List Occupancy) (i :
 all_fell keys slots occupancy i l few f = record {
   few = subst (λ n. n ≤ 2 ^ 32) (sym f.level) few;
   once = λ k m alone j n e. one k m (get_or_from_slice_get occupancy _ One More
-        (subst (λ n. slice_get occupancy (slot_of (slice_index keys k) n)
-        ≡ Some One) f.level alone)) j n e (cases_order j k);
+      (subst (λ n. slice_get occupancy (slot_of (slice_index keys k) n)
+      ≡ Some One) f.level alone)) j n e (cases_order j k);
 }
   where
     one : (k : ℕ) → k < length keys → at occupancy (slot_of (slice_index keys k) slots) ≡ One → (j : ℕ) → j < length keys
@@ -107,4 +107,4 @@ all_fell keys slots occupancy i l few f = record {
     one k m alone j n e (inl q) = q
     one k m alone j n e (inr (inl q)) = absurd (f.many j k q (omega arith) (ap (λ x. slot_of x slots) e) alone)
     one k m alone j n e (inr (inr q)) = absurd (f.many k j q (omega arith) (ap (λ x. slot_of x slots) (sym e))
-          (ap (λ x. at occupancy (slot_of x slots)) e ∙ alone))
+        (ap (λ x. at occupancy (slot_of x slots)) e ∙ alone))

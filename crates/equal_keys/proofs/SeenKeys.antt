@@ -25,11 +25,11 @@ told_more keys once once' i is p own t = record {
   where
     one : (k : ℕ) → get_or once' k false ≡ true → (k < i) ⊎ (k ≡ i) → IsOnce keys k
     one k e (inl m) = t.each k m (sym (get_or_append_left once (is ∷ []) false k (let n = t.level in omega arith))
-          ∙ ap (λ xs. get_or xs k false) (sym p) ∙ e)
+        ∙ ap (λ xs. get_or xs k false) (sym p) ∙ e)
     one k e (inr m) =
         let at : k ≡ length once = m ∙ sym t.level in
         subst (IsOnce keys) (sym m) (own (sym (get_or_at once is [] false (length once) refl) ∙ ap (λ n. get_or (once ++ is ∷ []) n false)
-              (sym at) ∙ ap (λ xs. get_or xs k false) (sym p) ∙ e))
+        (sym at) ∙ ap (λ xs. get_or xs k false) (sym p) ∙ e))
 
 -- after the last key it is told of each place, and only of keys that stand once
 pub all_told : (keys : List ℕ) (once : List Bool) (i : ℕ) → i ≡ length keys → Told keys once i → AreSeenOnce keys once

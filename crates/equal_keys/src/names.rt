@@ -125,7 +125,7 @@ pub fn classes<'a, A: Allocator + Copy>(
     ensures { IfOk result (λ classes. (name : ℕ → Option (List ℕ))
         → HoldTheShared name count named.entry.items
         → MatchOption classes (AreNamesApart name count)
-            (λ some. AreClasses name count some.items)) }
+        (λ some. AreClasses name count some.items)) }
 {
     let named = sorted(named);
     if !has_alike(&named) {

@@ -3,7 +3,7 @@
 ghost use Rattle.std.specs.Prelude.{IfOk};
 ghost use Rattle.equal_keys.specs.Once.{AreSeenOnce};
 
-use crate::occupancy::{occupancy_of, is_alone};
+use crate::occupancy::{is_alone, occupancy_of};
 use std::alloc::{AllocError, Allocator};
 
 /// For each of these keys whether it was seen that no other place of the list has the same key.

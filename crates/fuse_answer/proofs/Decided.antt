@@ -83,26 +83,26 @@ module _ {A : Type 0} (stack : Stacked) (agreed : Agreement) (n offset size : �
   cut_at_place false l p is directory listed short =
       let form = dirent_of stack.layers stack.entries in
       cut (is_directory_at stack.layers p) (nat_lt MAX_DATA_SIZE size) (is_too_small form size (rows_after stack.entries p offset))
-          directory
+      directory
       (sym (cut_same stack false form (plain stack) n offset size p is directory l listed) ∙ short)
   cut_at_place true l p is directory listed short =
       let form = direntplus_of stack.layers stack.entries in
       cut (is_directory_at stack.layers p) (nat_lt MAX_DATA_SIZE size) (is_too_small form size (rows_after stack.entries p offset))
-          directory
+      directory
       (sym (cut_same stack true form (with_entries stack) n offset size p is directory l listed) ∙ short)
 
   -- what is decided at a directory
   at_directory : (plus : Bool) (r : Result (Answer A) Errno) → TellsKind stack n (told_kind Directory)
       → ((p : Place) → node_of stack.entries n ≡ Some p → is_directory_at stack.layers p ≡ true
       → MatchResult r (IsAnswerAt stack agreed (listing_op plus offset size) p) (λ errno. refused_at stack.layers stack.entries agreed
-            (listing_op plus offset size) p ≡ Some errno))
+      (listing_op plus offset size) p ≡ Some errno))
       → DecidesAt stack agreed n (listing_op plus offset size) r
   at_directory plus r kind each = go (node_of stack.entries n) refl kind
     where
       go : (o : Option Place) → node_of stack.entries n ≡ o
           → MatchOption o (told_kind Directory ≡ Err ESTALE) (λ p. told_kind Directory ≡ Ok (kind_at stack.layers p))
           → MatchOption o (r ≡ Err ESTALE) (λ p. MatchResult r (IsAnswerAt stack agreed (listing_op plus offset size) p)
-                (λ errno. refused_at stack.layers stack.entries agreed (listing_op plus offset size) p ≡ Some errno))
+          (λ errno. refused_at stack.layers stack.entries agreed (listing_op plus offset size) p ≡ Some errno))
       go None is kind = absurd (cc)
       go (Some p) is kind = let kind_is : kind_at stack.layers p ≡ Directory = cc in each p is (ap is_directory kind_is)
 

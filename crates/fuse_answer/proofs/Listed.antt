@@ -74,18 +74,18 @@ numbered_rows entries n p offset is =
 -- what the rows give
 given_rows : (layers : List (List ℕ)) (entries : List Entry) (rs : List Row)
     → map (λ (r : NumberedLine). let m : Move = record { node = r.1.number; amount = pos 1 } in
-          m) (filter is_child_line (map (line_of entries) rs))
+    m) (filter is_child_line (map (line_of entries) rs))
     ≡ map (λ r. give layers entries r.1.place) (filter is_child rs)
 given_rows layers entries [] = refl
 given_rows layers entries (r ∷ rs) = go (nat_lt 2 r.0) (given_rows layers entries rs)
   where
     go : (b : Bool)
         → map (λ (r : NumberedLine). let m : Move = record { node = r.1.number; amount = pos 1 } in
-              m) (filter is_child_line (map (line_of entries) rs))
+        m) (filter is_child_line (map (line_of entries) rs))
         ≡ map (λ r. give layers entries r.1.place) (filter is_child rs)
         → map (λ (r : NumberedLine). let m : Move = record { node = r.1.number; amount = pos 1 } in
-              m) (cond b (line_of entries r ∷ filter is_child_line (map (line_of entries) rs))
-              (filter is_child_line (map (line_of entries) rs)))
+        m) (cond b (line_of entries r ∷ filter is_child_line (map (line_of entries) rs))
+        (filter is_child_line (map (line_of entries) rs)))
         ≡ map (λ r. give layers entries r.1.place) (cond b (r ∷ filter is_child rs) (filter is_child rs))
     go true e = ap (λ t. give layers entries r.1.place ∷ t) e
     go false e = e
@@ -102,7 +102,7 @@ unfolding dirent_of
 plain stack = record {
   sized = λ r. (let e = length-dirent (number stack.entries r.1.place) r.0 (mode stack.layers r.1.place / 2 ^ 12) r.1.name in omega arith);
   written = λ r numbered. ap (λ o. dirent (number stack.entries r.1.place) r.0 (option_map_or (λ (a : Held). a.mode / 2 ^ 12)
-        (option_map (attr_of stack.layers stack.entries) o) 0) r.1.name) numbered;
+      (option_map (attr_of stack.layers stack.entries) o) 0) r.1.name) numbered;
 }
 
 -- the rows of READDIRPLUS are such a form
@@ -110,10 +110,10 @@ pub with_entries : (stack : Stacked) → IsForm stack true (direntplus_of stack.
 unfolding direntplus_of
 with_entries stack = record {
   sized = λ r. (let e = length-direntplus (cond (nat_lt 2 r.0) (Some (wired (attr_of stack.layers stack.entries r.1.place))) None)
-        (number stack.entries r.1.place) r.0 (mode stack.layers r.1.place / 2 ^ 12) r.1.name in omega arith);
+      (number stack.entries r.1.place) r.0 (mode stack.layers r.1.place / 2 ^ 12) r.1.name in omega arith);
   written = λ r numbered. ap (λ o. direntplus (cond (nat_lt 2 r.0) (option_map wired (option_map (attr_of stack.layers stack.entries) o))
-        None) (number stack.entries r.1.place) r.0 (option_map_or (λ (a : Held). a.mode / 2 ^ 12)
-        (option_map (attr_of stack.layers stack.entries) o) 0) r.1.name) numbered;
+      None) (number stack.entries r.1.place) r.0 (option_map_or (λ (a : Held). a.mode / 2 ^ 12)
+      (option_map (attr_of stack.layers stack.entries) o) 0) r.1.name) numbered;
 }
 
 module _ {A : Type 0} (stack : Stacked) (plus : Bool) (form : Row → List ℕ) (good : IsForm stack plus form) (n offset size : ℕ) (p : Place)
@@ -213,11 +213,11 @@ module _ {A : Type 0} (stack : Stacked) (plus : Bool) (form : Row → List ℕ) 
 
   -- a listing's rows give what the rows that fit give
   pub moves_same : map (λ (r : NumberedLine). let m : Move = record { node = r.1.number; amount = pos 1 } in
-        m) (filter is_child_line (lines_answered l))
+      m) (filter is_child_line (lines_answered l))
       ≡ map (λ r. give stack.layers stack.entries r.1.place) (filter is_child (fitting form size rest))
   moves_same =
       ap (λ t. map (λ (r : NumberedLine). let m : Move = record { node = r.1.number; amount = pos 1 } in m) (filter is_child_line t))
-          answered_same
+      answered_same
       ∙ given_rows stack.layers stack.entries (fitting form size rest)
 
   -- a listing is cut short exactly where its first row does not fit

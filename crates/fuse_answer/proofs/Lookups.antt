@@ -41,7 +41,7 @@ told_kind k = Ok k
 
 free : (k : Kind) (itself long lasting : Bool) (o : Option Place) (c : Place) → k ≡ Directory → long ≡ false → o ≡ Some c
     → first_refusal ((if itself then None else unless_directory k) ∷ (if long then Some ENAMETOOLONG else refuse_if
-          (is_none o && not lasting) ENOENT) ∷ []) ≡ None
+    (is_none o && not lasting) ENOENT) ∷ []) ≡ None
 free k itself long lasting o c kind short found = rw (kind, short, found) (either itself)
   where
     either : (b : Bool) → first_refusal ((if b then None else None) ∷ None ∷ []) ≡ None
@@ -52,7 +52,7 @@ module _ {A : Type 0} (stack : Stacked) (agreed : Agreement) (n : ℕ) (name : L
   entry_at : (p c : Place) → kind_at stack.layers p ≡ Directory → is_itself agreed.export name ≡ false → nat_lt MAX_NAME_SIZE (length name)
       ≡ false
       → looked_up stack.entries agreed.export p name ≡ Some c → IsAnswerAt {A = A} stack agreed (lookup name) p
-          (Entry (wired (attr_of stack.layers stack.entries c)))
+      (Entry (wired (attr_of stack.layers stack.entries c)))
   entry_at p c kind other short found = record {
     taken = free (kind_at stack.layers p) (is_itself agreed.export name) (nat_lt MAX_NAME_SIZE (length name)) agreed.lasting
         (looked_up stack.entries agreed.export p name) c kind short found;
@@ -69,10 +69,10 @@ module _ {A : Type 0} (stack : Stacked) (agreed : Agreement) (n : ℕ) (name : L
       done : (p c : Place) → kind_at stack.layers p ≡ Directory → looked_up stack.entries agreed.export p name ≡ Some c
           → r ≡ Ok (Entry (wired (attr_of stack.layers stack.entries c)))
           → MatchResult r (IsAnswerAt stack agreed (lookup name) p) (λ errno. refused_at stack.layers stack.entries agreed (lookup name) p
-                ≡ Some errno)
+          ≡ Some errno)
       done p c kind found is =
           subst (λ r. MatchResult r (IsAnswerAt stack agreed (lookup name) p) (λ errno. refused_at stack.layers stack.entries agreed
-                (lookup name) p ≡ Some errno)) (sym is)
+          (lookup name) p ≡ Some errno)) (sym is)
           (entry_at p c kind other short found)
 
       told : (c : Place) → IsNumbered stack.entries c → number stack.entries c ≡ f
@@ -86,7 +86,7 @@ module _ {A : Type 0} (stack : Stacked) (agreed : Agreement) (n : ℕ) (name : L
       below : (p : Place) (o : Option Place) → node_of stack.entries n ≡ Some p → kind_at stack.layers p ≡ Directory
           → looked_up stack.entries agreed.export p name ≡ o → Some f ≡ option_map (number stack.entries) o
           → MatchResult r (IsAnswerAt stack agreed (lookup name) p) (λ errno. refused_at stack.layers stack.entries agreed (lookup name) p
-                ≡ Some errno)
+          ≡ Some errno)
       below p None is kind found same = absurd (cc)
       below p (Some c) is kind found same =
           let number_same : number stack.entries c ≡ f = cc in
@@ -97,7 +97,7 @@ module _ {A : Type 0} (stack : Stacked) (agreed : Agreement) (n : ℕ) (name : L
           → MatchOption o (Some f ≡ None) (λ p. is_directory_at stack.layers p ≡ true → is_itself agreed.export name ≡ false
           → Some f ≡ option_map (number stack.entries) (looked_up stack.entries agreed.export p name))
           → MatchOption o (r ≡ Err ESTALE) (λ p. MatchResult r (IsAnswerAt stack agreed (lookup name) p)
-                (λ errno. refused_at stack.layers stack.entries agreed (lookup name) p ≡ Some errno))
+          (λ errno. refused_at stack.layers stack.entries agreed (lookup name) p ≡ Some errno))
       go None is kind finds = absurd (cc)
       go (Some p) is kind finds =
           let kind_is : kind_at stack.layers p ≡ Directory = cc in

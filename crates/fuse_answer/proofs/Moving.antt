@@ -30,9 +30,9 @@ given_on (x ∷ xs) ys = go (nat_lt 2 x.0) (given_on xs ys)
   where
     go : (b : Bool) → lines_given (xs ++ ys) ≡ lines_given xs ++ lines_given ys
         → map (λ (r : NumberedLine). let m : Move = record { node = r.1.number; amount = pos 1 } in
-              m) (cond b (x ∷ filter is_child_line (xs ++ ys)) (filter is_child_line (xs ++ ys)))
+        m) (cond b (x ∷ filter is_child_line (xs ++ ys)) (filter is_child_line (xs ++ ys)))
         ≡ map (λ (r : NumberedLine). let m : Move = record { node = r.1.number; amount = pos 1 } in
-              m) (cond b (x ∷ filter is_child_line xs) (filter is_child_line xs)) ++ lines_given ys
+        m) (cond b (x ∷ filter is_child_line xs) (filter is_child_line xs)) ++ lines_given ys
     go true e = ap (λ t. let m : Move = record { node = x.1.number; amount = pos 1 } in m ∷ t) e
     go false e = e
 
@@ -40,7 +40,7 @@ weight_row : (r : NumberedLine) → weight (lines_given (r ∷ [])) ≤ 1
 weight_row r = go (nat_lt 2 r.0)
   where
     go : (b : Bool) → weight (map (λ (r : NumberedLine). let m : Move = record { node = r.1.number; amount = pos 1 } in
-          m) (cond b (r ∷ []) [])) ≤ 1
+        m) (cond b (r ∷ []) [])) ≤ 1
     go true = omega arith
     go false = omega arith
 
@@ -74,9 +74,9 @@ module _ {A : Type 0} (l : Listing A) where
       let same : l.from + i ≡ index = omega arith in
       let r = get_or (lines_of l) index nothing in
       let read : get_or (drop l.from (lines_of l)) i nothing ≡ r = get_or-drop l.from (lines_of l) i nothing
-          ∙ ap (λ k. get_or (lines_of l) k nothing) same in
+      ∙ ap (λ k. get_or (lines_of l) k nothing) same in
       let row : row_given l index ≡ lines_given (r ∷ []) = ap (λ o. option_map_or (λ r. lines_given (r ∷ [])) o [])
-          (slice_get-get_or (lines_of l) index nothing (omega arith)) in
+      (slice_get-get_or (lines_of l) index nothing (omega arith)) in
       ap (λ n. lines_given (take n (drop l.from (lines_of l)))) succ
       ∙ ap lines_given (take_more (drop l.from (lines_of l)) i nothing there)
       ∙ given_on (take i (drop l.from (lines_of l))) (get_or (drop l.from (lines_of l)) i nothing ∷ [])
@@ -88,7 +88,7 @@ module _ {A : Type 0} (l : Listing A) where
       let len = length-enumerate_from 3 l.children.now in
       let r = get_or (lines_of l) index nothing in
       let row : row_given l index ≡ lines_given (r ∷ []) = ap (λ o. option_map_or (λ r. lines_given (r ∷ [])) o [])
-          (slice_get-get_or (lines_of l) index nothing (omega arith)) in
+      (slice_get-get_or (lines_of l) index nothing (omega arith)) in
       let w = weight_row r in
       let e = ap weight row in
       omega arith
@@ -119,7 +119,7 @@ weight_forget : (stack : Stacked) (f : Forget) → f.nlookup < 2 ^ 64 → weight
 weight_forget stack f small = go (node_of stack.entries f.node)
   where
     go : (o : Option Place) → weight (cons_option
-          (option_map (λ p. let m : Move = record { node = f.node; amount = neg_ℤ (pos f.nlookup) } in m) o) []) ≤ 2 ^ 64
+        (option_map (λ p. let m : Move = record { node = f.node; amount = neg_ℤ (pos f.nlookup) } in m) o) []) ≤ 2 ^ 64
     go None = omega arith
     go (Some p) = omega (arith, ints)
 
@@ -220,9 +220,9 @@ given_less l index later le =
     let more : k ≤ n = omega arith in
     let rest = drop k (take n rows) in
     let parts : take k rows ++ rest ≡ take n rows = ap (λ t. t ++ rest) (sym (take-take k n rows more))
-        ∙ take-append-drop k (take n rows) in
+    ∙ take-append-drop k (take n rows) in
     let both : lines_given (take n rows) ≡ lines_given (take k rows) ++ lines_given rest = ap lines_given (sym parts)
-        ∙ given_on (take k rows) rest in
+    ∙ given_on (take k rows) rest in
     let len = ap length both in
     let sum = length-append (lines_given (take k rows)) (lines_given rest) in
     omega arith

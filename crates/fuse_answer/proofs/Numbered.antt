@@ -83,4 +83,4 @@ numbered_child entries p name c is = go (find (λ c. same_name name c.name) (chi
     go (Some d) found is =
         let same : d.place ≡ c = cc in
         subst (IsNumbered entries) same (found_with (λ c. IsNumbered entries c.place) (λ c. same_name name c.name) d (children entries p)
-              (numbered_children entries p) found)
+        (numbered_children entries p) found)

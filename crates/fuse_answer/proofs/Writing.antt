@@ -43,7 +43,7 @@ length-line_bytes : (stack : Stacked) (plus : Bool) (r : NumberedLine) → lengt
 length-line_bytes stack false r = let e = length-dirent r.1.number r.0 (type_at stack r.1.number) r.1.name in omega arith
 length-line_bytes stack true r =
     let e = length-direntplus (cond (nat_lt 2 r.0) (wired_at stack r.1.number) None) r.1.number r.0 (type_at stack r.1.number) r.1.name in
-        omega arith
+    omega arith
 
 -- the rows that were written before an index
 abbrev pub written : {A : Type 0} → Stacked → Listing A → ℕ → List ℕ
@@ -71,9 +71,9 @@ module _ {A : Type 0} (stack : Stacked) (l : Listing A) (whole : IsWhole stack l
       let same : l.from + i ≡ index = omega arith in
       let r = get_or (lines_of l) index nothing in
       let read : get_or (drop l.from (lines_of l)) i nothing ≡ r = get_or-drop l.from (lines_of l) i nothing
-          ∙ ap (λ k. get_or (lines_of l) k nothing) same in
+      ∙ ap (λ k. get_or (lines_of l) k nothing) same in
       let got : row_bytes_at stack l index ≡ bytes_of r =
-          ap (λ o. option_map_or bytes_of o []) (slice_get-get_or (lines_of l) index nothing (omega arith)) in
+      ap (λ o. option_map_or bytes_of o []) (slice_get-get_or (lines_of l) index nothing (omega arith)) in
       ap (λ n. flat_map bytes_of (take n (drop l.from (lines_of l)))) next
       ∙ ap (flat_map bytes_of) (take_more (drop l.from (lines_of l)) i nothing there)
       ∙ flat_map-append bytes_of (take i (drop l.from (lines_of l))) (get_or (drop l.from (lines_of l)) i nothing ∷ [])
@@ -111,9 +111,9 @@ module _ {A : Type 0} (stack : Stacked) (l : Listing A) (whole : IsWhole stack l
       let less : k ≤ n = omega arith in
       let rest = drop k (take n rows) in
       let parts : take k rows ++ rest ≡ take n rows = ap (λ t. t ++ rest) (sym (take-take k n rows less))
-          ∙ take-append-drop k (take n rows) in
+      ∙ take-append-drop k (take n rows) in
       let both : listed_data stack l ≡ written stack l index ++ flat_map bytes_of rest = ap (flat_map bytes_of) (sym parts)
-          ∙ flat_map-append bytes_of (take k rows) rest in
+      ∙ flat_map-append bytes_of (take k rows) rest in
       let len = ap length both in
       let sum = length-append (written stack l index) (flat_map bytes_of rest) in
       let all = whole.size_is in

@@ -6,8 +6,8 @@ ghost use Rattle.lookup_balances.specs.Balances.{AreWithin, IsMoved};
 ghost use Rattle.fuse_answer.specs.Answers.{IsSized, answer_moves, taken_back};
 ghost use Rattle.fuse_answer.specs.Listings.{lines_answered, lines_given, row_given};
 
-use crate::outcome::Answer;
 use crate::listing::Listing;
+use crate::outcome::Answer;
 use crate::rows::line_at;
 use fuse_wire::forget::{Forget, Forgets};
 use lookup_balances::add_move;

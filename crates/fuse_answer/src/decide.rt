@@ -5,10 +5,10 @@ ghost use Rattle.std.specs.Prelude.{true, false};
 ghost use Rattle.fuse_wire.specs.Reads.{asked_of};
 ghost use Rattle.fuse_answer.specs.Answers.{Decides, DecidesIn};
 
-use crate::outcome::Answer;
 use crate::listing::list;
 use crate::lookup::look_up;
 use crate::node::{get_attr, open_directory, open_file, read, read_link};
+use crate::outcome::Answer;
 use crate::sessions::{agreement_of, is_spoken};
 use fuse_wire::{Errno, InitOut, Op, Request, opcode};
 use reply_model::{Agreement, Session};

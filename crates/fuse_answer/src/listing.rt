@@ -9,8 +9,8 @@ ghost use Rattle.fuse_wire.specs.declared.limits.TheConstants.{MAX_DATA_SIZE};
 ghost use Rattle.fuse_answer.specs.Answers.{DecidesAt};
 ghost use Rattle.fuse_answer.specs.Listings.{listing_op, is_cut_short, ListsRows, Fits, RowSize, name_lengths};
 
-use crate::outcome::Answer;
 use crate::node::kind_of;
+use crate::outcome::Answer;
 use fuse_wire::limits::MAX_DATA_SIZE;
 use fuse_wire::{Errno, dirent_size};
 use reply_model::Agreement;

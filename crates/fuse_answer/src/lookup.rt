@@ -5,8 +5,8 @@ ghost use Rattle.fuse_wire.specs.Requests.{lookup};
 ghost use Rattle.reply_model.specs.Lookups.{is_itself, is_parent};
 ghost use Rattle.fuse_answer.specs.Answers.{DecidesAt, FindsBelow, TellsEntry};
 
-use crate::outcome::Answer;
 use crate::node::{kind_of, wired};
+use crate::outcome::Answer;
 use fuse_wire::Errno;
 use fuse_wire::limits::MAX_NAME_SIZE;
 use reply_model::Agreement;

@@ -6,9 +6,9 @@ ghost use Rattle.fuse_answer.specs.Answers.{IsSized, answer_moves, taken_back};
 ghost use Rattle.fuse_answer.specs.Listings.{lines_answered, lines_given, row_given};
 ghost use Rattle.fuse_answer.specs.Puts.{AreSmall, Puts, PutsMoves, Grows};
 
-use crate::outcome::Answer;
 use crate::decide::decide;
 use crate::listing::Listing;
+use crate::outcome::Answer;
 use crate::rows::line_at;
 use fuse_wire::Request;
 use fuse_wire::forget::{Forget, Forgets};

@@ -8,8 +8,8 @@ ghost use Rattle.lookup_balances.specs.Balances.{AreWithin};
 ghost use Rattle.fuse_answer.specs.Puts.{PutsReply, AddsMoves};
 
 use crate::balances::add_moves;
-use crate::outcome::Answer;
 use crate::decide::decide;
+use crate::outcome::Answer;
 use crate::write::write;
 use fuse_wire::{Errno, Op, Request, opcode, put_error};
 use reply_model::Session;

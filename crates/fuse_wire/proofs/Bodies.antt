@@ -17,7 +17,7 @@ is_malformed _ = false
 
 -- an opcode that asks one thing with a body of n bytes, and else is malformed
 needs : (opcode n : ℕ) (op : List ℕ → Op) → ((body : List ℕ) → op_of opcode body ≡ cond (nat_lt (length body) n) (malformed opcode)
-      (op body)) → ((body : List ℕ) → op body ≢ malformed opcode) → Needs opcode n
+    (op body)) → ((body : List ℕ) → op body ≢ malformed opcode) → Needs opcode n
 needs opcode n op is good = record {
   short = λ body l. is body ∙ ap (λ b. cond b (malformed opcode) (op body)) (lt-ltb (length body) n l);
   whole = λ body l e. good body (sym (is body ∙ ap (λ b. cond b (malformed opcode) (op body)) (le-ltb (length body) n l)) ∙ e);
@@ -41,8 +41,15 @@ body_sizes = record {
 
 -- each structure of a reply has the size of its declaration
 pub reply_sizes : ReplySizes
-reply_sizes = record { version = length-version; terms = length-terms; entry = length-entry_out; negative_entry = length-negative_entry_out;
-      attr = length-attr_out; open_file = length-open_out; statfs = length-statfs_out }
+reply_sizes = record {
+  version = length-version;
+  terms = length-terms;
+  entry = length-entry_out;
+  negative_entry = length-negative_entry_out;
+  attr = length-attr_out;
+  open_file = length-open_out;
+  statfs = length-statfs_out;
+}
 
 -- a row is as long as its name says: a multiple of 8 bytes, and no more than it needs
 pub row_sizes : RowSizes

@@ -21,9 +21,9 @@ front_items zero bytes = refl
 front_items (suc k) bytes =
     let more : 16 * suc k ≡ 16 + 16 * k = omega arith in
     let first : forget_one (take (16 * suc k) bytes) ≡ forget_one bytes = ap (λ (n : ℕ). forget_one (take n bytes)) more
-        ∙ one_taken (16 * k) bytes in
+    ∙ one_taken (16 * k) bytes in
     let rest : drop 16 (take (16 * suc k) bytes) ≡ take (16 * k) (drop 16 bytes) = ap (λ (n : ℕ). drop 16 (take n bytes)) more
-        ∙ drop-take 16 (16 * k) bytes in
+    ∙ drop-take 16 (16 * k) bytes in
     rw (first, rest, front_items k (drop 16 bytes)) refl
 
 -- the bytes of the first items, count of them or as many as are whole, hold these items alone

@@ -66,7 +66,7 @@ first_at body e l clear z = position_or_len_is (λ byte. byte == 0) body e 0 (om
 first_none : (body : List ℕ) → Clear body (length body) → length body ≤ before body
 first_none body clear =
     let e : before body ≡ length body = position_or_len_is (λ byte. byte == 0) body (length body) 0 (omega arith)
-        (λ k h. is_not (get_or body k 0) (clear k h)) (λ h. absurd (omega arith)) in
+    (λ k h. is_not (get_or body k 0) (clear k h)) (λ h. absurd (omega arith)) in
     omega (arith, e)
 
 first_by : (body : List ℕ) (k : ℕ) → get_or body k 0 ≡ 0 → before body ≤ k
@@ -91,7 +91,7 @@ ended : (body : List ℕ) (e : ℕ) → Clear body e → get_or body e 0 ≡ 0 �
 ended body e clear z some last =
     let at : before body ≡ e = first_at body e (omega arith) clear z in
     let cut : cut_at_zero body ≡ Some (take e body, drop (e + 1) body) =
-        subst (λ (v : ℕ). cut_at_zero body ≡ Some (take v body, drop (v + 1) body)) at (cut_at body (omega (arith, at))) in
+    subst (λ (v : ℕ). cut_at_zero body ≡ Some (take v body, drop (v + 1) body)) at (cut_at body (omega (arith, at))) in
     let t : length (take e body) ≡ e = length-take-le e body (omega arith) in
     sym (ap body_name cut ∙ name_whole (take e body) (drop (e + 1) body) (omega arith) (drop_all (e + 1) body (omega arith)))
 
@@ -110,7 +110,7 @@ broken : (body : List ℕ) (e k : ℕ) → get_or body k 0 ≡ 0 → k < e → e
 broken body e k z low last =
     let f = first_by body k z in
     sym (ap body_name (cut_at body (omega (arith, f))) ∙ unnamed (take (before body) body) (drop (before body + 1) body) (let l =
-          length-drop (before body + 1) body in omega (arith, f)))
+    length-drop (before body + 1) body in omega (arith, f)))
 
 -- the search through a message, whose body stands behind the first h bytes
 module _ (message body : List ℕ) (h e : ℕ) (rest : body ≡ drop h message) (last : e + 1 ≡ length body) where

@@ -44,7 +44,7 @@ unfolding init_out init_out_22 init_out_rest u16 u32 zeros
 length-terms lasting minor readahead flags = either (nat_lt minor 23)
   where
     either : (b : Bool) → length (cond b (init_out_22 lasting readahead flags) (init_out_22 lasting readahead flags
-          ++ init_out_rest lasting flags)) ≡ cond b 24 64
+        ++ init_out_rest lasting flags)) ≡ cond b 24 64
     either true = refl
     either false = refl
 
@@ -115,9 +115,24 @@ length-direntplus entry ino off file_type name =
     given (Some a) = length-entry_out a
 
 -- how long each structure, reply and row is
-pub ruleset sizes = (length-head, length-error_reply, length-reply_with, length-version, length-init_out_22, length-terms, length-attr,
-      length-entry_out, length-negative_entry_out, length-attr_out, length-open_out, length-statfs_out, length-zeros, length-dirent_front,
-      length-dirent, length-direntplus)
+pub ruleset sizes = (
+  length-head,
+  length-error_reply,
+  length-reply_with,
+  length-version,
+  length-init_out_22,
+  length-terms,
+  length-attr,
+  length-entry_out,
+  length-negative_entry_out,
+  length-attr_out,
+  length-open_out,
+  length-statfs_out,
+  length-zeros,
+  length-dirent_front,
+  length-dirent,
+  length-direntplus,
+)
 
 -- the parts of a row of READDIRPLUS, as they are put one after another, are its bytes
 pub plus_row_is : (entry : Option Attr) (row : Dirent) (head front : List ℕ)

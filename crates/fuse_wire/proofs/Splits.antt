@@ -32,9 +32,11 @@ no_rest m x rest g e r =
 one_first : (m n x y : List ℕ) → IsMessage m → IsMessage n → m ++ x ≡ n ++ y → (m ≡ n) × (x ≡ y)
 one_first m n x y g k e =
     let s : length m ≡ length n = sym (sym (ap said_length e ∙ said_more n y (omega (arith, k.good.0)) ∙ k.says)
-          ∙ said_more m x (omega (arith, g.good.0)) ∙ g.says) in
-    (sym (take_at m x (length m) refl) ∙ ap (take (length m)) e ∙ take_at n y (length m) (sym s), sym (drop_at m x (length m) refl)
-          ∙ ap (drop (length m)) e ∙ drop_at n y (length m) (sym s))
+    ∙ said_more m x (omega (arith, g.good.0)) ∙ g.says) in (
+      sym (take_at m x (length m) refl) ∙ ap (take (length m)) e ∙ take_at n y (length m) (sym s),
+      sym (drop_at m x (length m) refl)
+          ∙ ap (drop (length m)) e ∙ drop_at n y (length m) (sym s),
+    )
 
 -- two splits of one stream have the same messages and the same rest
 pub one_split : (stream : List ℕ) (ms ns : List (List ℕ)) (r q : List ℕ) → IsSplit stream ms r → IsSplit stream ns q → (ms ≡ ns) × (r ≡ q)
@@ -44,7 +46,7 @@ one_split stream (m ∷ ms) [] r q x y = absurd (no_rest m _ q x.each.0 (sym y.w
 one_split stream (m ∷ ms) (n ∷ ns) r q x y =
     let f = one_first m n _ _ x.each.0 y.each.0 (sym (append_assoc m _ r) ∙ sym x.whole ∙ y.whole ∙ append_assoc n _ q) in
     let t = one_split (flat_map (λ m. m) ms ++ r) ms ns r q (record { whole = refl; each = x.each.1; tail = x.tail })
-        (record { whole = f.1; each = y.each.1; tail = y.tail }) in
+    (record { whole = f.1; each = y.each.1; tail = y.tail }) in
     let f0 = f.0 in let t0 = t.0 in (cc, t.1)
 
 -- the first four bytes or more say the same length as all bytes
@@ -77,9 +79,15 @@ first_cut xs = elim (cases_lt (length xs) 4) [
         × IsMessage m
     whole low high enough =
         let n = said_length xs in
-        let t : length (take n xs) ≡ n = length-take-le n xs enough in
-        (take n xs, drop n xs, sym (take-append-drop n xs), record { good = (omega arith, omega arith); says =
-              said_front xs n (omega arith) enough ∙ sym t })
+        let t : length (take n xs) ≡ n = length-take-le n xs enough in (
+          take n xs,
+          drop n xs,
+          sym (take-append-drop n xs),
+          record {
+            good = (omega arith, omega arith);
+            says = said_front xs n (omega arith) enough ∙ sym t;
+          },
+        )
 
 put_first : (stream m y : List ℕ) → stream ≡ m ++ y → IsMessage m → ((ms : List (List ℕ)) × (rest : List ℕ) × IsSplit y ms rest)
     → (ms : List (List ℕ)) × (rest : List ℕ) × IsSplit stream ms rest
@@ -99,7 +107,7 @@ split_within zero (b ∷ bs) short = absurd (omega arith)
 split_within (suc room) stream short = elim (first_cut stream) [
   | inl r ↦ ([], stream, record { whole = refl; each = tt; tail = r })
   | inr c ↦ put_first stream c.0 c.1 c.2 c.3 (split_within room c.1 (let l = ap length c.2 ∙ length-append c.0 c.1 in let g = c.3.good.0 in
-        omega arith))
+      omega arith))
 ]
 
 -- every stream has a split
@@ -122,5 +130,8 @@ split_goes_on x y rest end ms ns s t = record {
 
 -- a bad rest stays bad, whatever comes after it
 pub bad_stays : (rest y : List ℕ) (n : ℕ) → IsBad rest n → IsBad (rest ++ y) n
-bad_stays rest y n b = record { long = (let e = length-append rest y in omega (arith, b.long)); says = said_more rest y b.long ∙ b.says;
-      bad = b.bad }
+bad_stays rest y n b = record {
+  long = (let e = length-append rest y in omega (arith, b.long));
+  says = said_more rest y b.long ∙ b.says;
+  bad = b.bad;
+}

@@ -8,10 +8,29 @@ use Rattle.fuse_wire.specs.Examples.{OpcodeExamples, MessageExamples, ForgetExam
 -- what each opcode asks with one body
 pub opcodes : OpcodeExamples
 unfolding op_of forgets_of u32 u64 zeros dirent_front dirent
-opcodes = record { lookup_1 = refl; forget_2 = refl; getattr_3 = refl; readlink_5 = refl; open_14 = refl; read_15 = refl; statfs_17 = refl;
-      release_18 = refl; fsync_20 = refl; flush_25 = refl; init_26 = refl; opendir_27 = refl; readdir_28 = refl; releasedir_29 = refl;
-      fsyncdir_30 = refl; interrupt_36 = refl; destroy_38 = refl; batch_forget_42 = refl; readdirplus_44 = refl; modifying = refl; others =
-      refl }
+opcodes = record {
+  lookup_1 = refl;
+  forget_2 = refl;
+  getattr_3 = refl;
+  readlink_5 = refl;
+  open_14 = refl;
+  read_15 = refl;
+  statfs_17 = refl;
+  release_18 = refl;
+  fsync_20 = refl;
+  flush_25 = refl;
+  init_26 = refl;
+  opendir_27 = refl;
+  readdir_28 = refl;
+  releasedir_29 = refl;
+  fsyncdir_30 = refl;
+  interrupt_36 = refl;
+  destroy_38 = refl;
+  batch_forget_42 = refl;
+  readdirplus_44 = refl;
+  modifying = refl;
+  others = refl;
+}
 
 -- where a message has its unique and its node
 pub messages : MessageExamples
@@ -30,8 +49,19 @@ dirents = record { one_byte = refl; seven_bytes = refl; eight_bytes = refl; nine
 
 -- the flags by the places of their bits
 pub flags : FlagExamples
-flags = record { async_read = refl; export_support = refl; do_readdirplus = refl; readdirplus_auto = refl; no_open_support = refl;
-      parallel_dirops = refl; max_pages = refl; cache_symlinks = refl; no_opendir_support = refl; keep_cache = refl; cache_dir = refl }
+flags = record {
+  async_read = refl;
+  export_support = refl;
+  do_readdirplus = refl;
+  readdirplus_auto = refl;
+  no_open_support = refl;
+  parallel_dirops = refl;
+  max_pages = refl;
+  cache_symlinks = refl;
+  no_opendir_support = refl;
+  keep_cache = refl;
+  cache_dir = refl;
+}
 
 -- the limits as numbers
 pub limits : LimitExamples

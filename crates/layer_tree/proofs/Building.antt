@@ -60,8 +60,10 @@ module _ (a : List ℕ) (layer : ℕ) (all : List Named) (i : ℕ) (es : List (S
     (ks : List (Subtree Mark)) (l : i < length all) (w : Building a layer all (drop i all) es ks) where
   -- a marker adds no branch
   pub build_hidden : IsMarker (at_index all i).name.now → Building a layer all (drop (i + 1) all) es ks
-  build_hidden h = record { more = λ es' ks' b.
-        w.more es' ks' (rw (next all i l) (hidden (at_index all i) (drop (i + 1) all) es' ks' h b)) }
+  build_hidden h = record {
+    more = λ es' ks' b.
+        w.more es' ks' (rw (next all i l) (hidden (at_index all i) (drop (i + 1) all) es' ks' h b));
+  }
 
   -- a member that needs no mark adds its branch of entries
   pub build_alone : (e : Subtree Entry) (es' : List (Subtree Entry)) → ¬ IsMarker (at_index all i).name.now
@@ -198,13 +200,13 @@ white_forest (white m ms k ks f c d b) r =
 -- the branches that the name n has, and its member
 pub data FoundBuilt (a : List ℕ) (layer d : ℕ) (n : List ℕ) (ms : List Named) (es : List (Subtree Entry)) (ks : List (Subtree Mark)) : Type
     0
-    where
-  nowhere : named n es ≡ None → named n ks ≡ None
-      → ((j : ℕ) (m : Named) → slice_get ms j ≡ Some m → m.name.now ≡ n → IsMarker n)
-      → FoundBuilt a layer d n ms es ks
-  somewhere : (m : Named) (e : Subtree Entry) (k : Option (Subtree Mark)) → named n es ≡ Some e → named n ks ≡ k
-      → m.name.now ≡ n → ¬ IsMarker n → IsNamedMember a d m → IsBranchOf a layer m.head.offset e
-      → RemovesFrom a m.head.offset (through k) e → FoundBuilt a layer d n ms es ks
+  where
+    nowhere : named n es ≡ None → named n ks ≡ None
+        → ((j : ℕ) (m : Named) → slice_get ms j ≡ Some m → m.name.now ≡ n → IsMarker n)
+        → FoundBuilt a layer d n ms es ks
+    somewhere : (m : Named) (e : Subtree Entry) (k : Option (Subtree Mark)) → named n es ≡ Some e → named n ks ≡ k
+        → m.name.now ≡ n → ¬ IsMarker n → IsNamedMember a d m → IsBranchOf a layer m.head.offset e
+        → RemovesFrom a m.head.offset (through k) e → FoundBuilt a layer d n ms es ks
 
 module _ (a : List ℕ) (layer d : ℕ) (n : List ℕ) where
   -- what was found among later members is found among all, if the first has another name
@@ -235,7 +237,7 @@ module _ (a : List ℕ) (layer d : ℕ) (n : List ℕ) where
     | inl x ↦ (
         let f : named n (e ∷ es) ≡ Some e = rw (w.name, x.1) refl in
         let g : named n ks ≡ None = named_below n ks (subst (λ y. AllByRecursion (λ t. name_cmp y t.name ≡ Less) ks) x.0
-              (before_built a layer b m r.0).1) in
+        (before_built a layer b m r.0).1) in
         somewhere m e None f g x.0 (subst (λ y. ¬ IsMarker y) x.0 h) p.0 w.entries w.exact)
     | inr x ↦ found_later m ms es (e ∷ es) ks ks x.0 (let f : named n (e ∷ es) ≡ named n es = rw (w.name, x.1) refl in f) refl
         (find_built b p.1 r.1)

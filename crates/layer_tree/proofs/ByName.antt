@@ -77,7 +77,7 @@ less_from Greater Greater e l n = absurd (cc)
 comes_first : (x y : List ℕ) → is_lt (name_cmp y x) ≡ false → x ≢ y → name_cmp x y ≡ Less
 comes_first x y l n =
     less_from (name_cmp x y) (name_cmp y x) (nat_list_cmp_total.antisymm x y) l
-        (λ e. n ((bytes_eq-Decides x y).0 (sym (is_eq-slice_cmp x y) ∙ e)))
+    (λ e. n ((bytes_eq-Decides x y).0 (sym (is_eq-slice_cmp x y) ∙ e)))
 
 is_name : (o : Option (List ℕ)) → IsSome o → o ≡ Some (unwrap_or o [])
 is_name None s = absurd (cc)
@@ -115,10 +115,22 @@ module _ (a : List ℕ) (i : IsImage a) (d : ℕ) (o : IsOpened a d) where
   not_root : (h : ℕ) → IsMember a d h → h ≢ root a
   not_root h m e = elim (cases_order d (root a)) [
     | inl f ↦ m.kept (inl (f, e))
-    | inr (inl l) ↦ not_twice a i h (inr (e, (d, (λ f. (let x : d ≡ root a = f in omega arith)),
-          record { opened = m.opened; in_chain = m.in_chain })))
-    | inr (inr l) ↦ not_twice a i h (inr (e, (d, (λ f. (let x : d ≡ root a = f in omega arith)),
-          record { opened = m.opened; in_chain = m.in_chain })))
+    | inr (inl l) ↦ not_twice a i h (inr (
+      e,
+      (
+        d,
+        (λ f. (let x : d ≡ root a = f in omega arith)),
+        record { opened = m.opened; in_chain = m.in_chain },
+      ),
+    ))
+    | inr (inr l) ↦ not_twice a i h (inr (
+      e,
+      (
+        d,
+        (λ f. (let x : d ≡ root a = f in omega arith)),
+        record { opened = m.opened; in_chain = m.in_chain },
+      ),
+    ))
   ]
 
   -- a member has a name, and it is the one that is read
@@ -127,8 +139,12 @@ module _ (a : List ℕ) (i : IsImage a) (d : ℕ) (o : IsOpened a d) where
 
   -- two members of one directory have different names
   pub names_differ : (g h : ℕ) → IsMember a d g → IsMember a d h → g ≢ h → name_of a g ≢ name_of a h
-  names_differ g h m n f e = f (one_header a i (name_of a g ∷ []) d g h (g, m, has_name g m, refl) (h, n, has_name h n ∙ ap Some (sym e),
-        refl))
+  names_differ g h m n f e = f (one_header a i (name_of a g ∷ []) d g h (g, m, has_name g m, refl) (
+    h,
+    n,
+    has_name h n ∙ ap Some (sym e),
+    refl,
+  ))
 
   listed_once : (hs : List ℕ) → IsListed a d hs → AllPairs (λ x y. x ≢ y) hs
   listed_once hs l j k x s m e =
@@ -178,14 +194,14 @@ module _ (a : List ℕ) (i : IsImage a) (d : ℕ) (o : IsOpened a d) where
       let differ : AllPairs (λ x y. x ≢ y) (map name_now found) = rw (same_names found n.names, n.heads)
       (to_names (λ (x : Head). name_of a x.offset) hs (members_differ hs r)) in
       let apart : AllPairs (λ x y. x ≢ y) (map name_now ms) = moved (map name_now found) (map name_now ms)
-          (IsPermutation-map name_now found ms s) differ in
+      (IsPermutation-map name_now found ms s) differ in
       record {
         rising = rising_in ms (strictly ms up (from_names name_now ms apart));
         each = all_in (IsNamedMember a d) ms (All-permutation (IsNamedMember a d) found ms s each);
         whole = λ h m. (
             let w = r.whole h m in
             let p : IsPermutation hs (map (λ (x : Named). x.head) ms) =
-                rw (← n.heads) (IsPermutation-map (λ (x : Named). x.head) found ms s) in
+            rw (← n.heads) (IsPermutation-map (λ (x : Named). x.head) found ms s) in
             let c = Contains-permutation hs (map (λ (x : Named). x.head) ms) (head_of a h) p w in
             let k = of_head ms (head_of a h) c.0 c.1 c.2 in
             (c.0, k.0, k.1, ap (λ (x : Head). x.offset) k.2));

@@ -152,7 +152,7 @@ module _ {T : Type 0} (m : T → Mark) (os : List (Subtree T)) where
   found (apart f fs ks w c) r n = elim (same_or_not f.name n) [
     | inl x ↦ (
         let none : named n ks ≡ None = named_below n ks (subst (λ i. AllByRecursion (λ t. name_cmp i t.name ≡ Less) ks) x.0
-              (above c f.name r.0)) in
+        (above c f.name r.0)) in
         rw (x.1, none) (subst (λ i. Clash (marked m (whole f)) (marked_in m (named i os)) (λ q. None)) x.0 w))
     | inr x ↦ rw x.1 (found c r.1 n)
   ]
@@ -188,7 +188,7 @@ module _ {T : Type 0} (m : T → Mark) (files later others rest rest' : List (Su
   at_other = from.same f.name (not_below_itself f.name) ∙ inv.same.0
 
   on : (marks' : List (Subtree Mark)) → ((more : List (Subtree Mark)) → Clashing m others later more
-        → Clashing m others files (marks' ++ more))
+      → Clashing m others files (marks' ++ more))
       → IsClashing m files later others rest' marks'
   on marks' c = record {
     clashing = c;
@@ -237,7 +237,7 @@ upper_wins (Some y) x = refl
 module _ (el eh one two eo : Path → Option Entry) (mh hidden : Path → Option Mark)
     (first : (q : Path) → one q ≡ unless (cut_by mh q) (el q)) (second : (q : Path) → two q ≡ unless (cut_by hidden q) (one q))
     (over : (q : Path) → eo q ≡ laid_at upper (two q) (eh q)) (c : Clash (λ q. option_map mark_of (eh q)) (λ q. option_map mark_of (el q))
-          hidden) where
+    hidden) where
   abbrev Goal : Path → Type 0
   Goal path = eo path ≡ laid_at upper (unless (removed_by mh eh path) (el path)) (eh path)
 
@@ -276,7 +276,7 @@ module _ (el eh one two eo : Path → Option Entry) (mh hidden : Path → Option
 module _ (el eh eo : Path → Option Entry) (ml mh replaced mo : Path → Option Mark)
     (over : (q : Path) → eo q ≡ laid_at upper (unless (removed_by mh eh q) (el q)) (eh q))
     (all : (q : Path) → cut_by mo q ≡ (cut_by ml q || (cut_by replaced q || cut_by mh q))) (c : Clash (λ q. option_map mark_of (el q))
-          (λ q. option_map mark_of (eh q)) replaced) where
+    (λ q. option_map mark_of (eh q)) replaced) where
   upper_stays : (q : Path) (x : Entry) → eh q ≡ Some x → eo q ≡ Some x
   upper_stays q x e = over q ∙ ap (laid_at upper (unless (removed_by mh eh q) (el q))) e
       ∙ upper_wins (unless (removed_by mh eh q) (el q)) x
@@ -312,7 +312,7 @@ module _ (el eh eo : Path → Option Entry) (ml mh replaced mo : Path → Option
       kept : (path q r : Path) (o : Option Entry) (b : Bool) → path ≡ q ++ r → eh q ≡ o → removed_by mh eh q ≡ b
           → is_uncut (option_map mark_of o) ≡ false → IsFile (el q) → removed_by mo eo path ≡ true
       kept path q r (Some y) b i e f l x = by_file path q r i (file_here q (Some y) (sym (upper_stays q y e))
-            (not-false (not (is_directory y.kind)) l))
+          (not-false (not (is_directory y.kind)) l))
       kept path q r None true i e f l x = removed_extends mo eo path q r i (of_high q f)
       kept path q r None false i e f l x = by_file path q r i (file_here q (el q) (sym (lower_stays q false e f)) x)
 

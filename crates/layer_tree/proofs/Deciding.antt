@@ -160,6 +160,8 @@ module _ (a : List ℕ) (i : IsImage a) where
   -- hard links from a path end
   pub has_end : (path : Path) (h : ℕ) → Has a path h → (e : ℕ) × IsFinal a h e
   has_end path h x =
-      let out = sets_out a i (head_of a h) (record { is = refl; from =
-            elim (leads_to a path (root a) h x) [ inl r ↦ inl (sym r) | inr m ↦ inr (inl m) ] }) in
+      let out = sets_out a i (head_of a h) (record {
+        is = refl;
+        from = elim (leads_to a path (root a) h x) [ inl r ↦ inl (sym r) | inr m ↦ inr (inl m) ];
+      }) in
       end_within (suc (count a (places a) h)) h out.leaves (omega arith)

@@ -96,7 +96,7 @@ free_decided : (layers : List (List ℕ)) → AreImages layers → (path : Path)
 free_decided [] im path = inl tt
 free_decided (a ∷ above) im path =
     both_decided (both_decided (not_decided (has_decided a im.0 path)) (not_decided (cut_decided a im.0 path)))
-        (free_decided above im.1 path)
+    (free_decided above im.1 path)
 
 no_top : (a : List ℕ) (above : List (List ℕ)) (path : Path) → ¬ (IsIn a path × IsFree above path)
     → ¬ ((i h : ℕ) × IsTop above path i h) → (i h : ℕ) → ¬ IsTop (a ∷ above) path i h
@@ -144,7 +144,7 @@ module _ (layers : List (List ℕ)) (im : AreImages layers) where
       let z : Some a ≡ Some b = sym at ∙ ap (slice_get layers) r.0 ∙ at' in
       let w : a ≡ b = cc in
       let header : e.header ≡ f.header = one_end b g e.header f.header
-          (subst (λ x. IsFinal b x e.header) r.1 (subst (λ x. IsFinal x h e.header) w end)) end' in
+      (subst (λ x. IsFinal b x e.header) r.1 (subst (λ x. IsFinal x h e.header) w end)) end' in
       ap (λ (x : Path). record { path = x; layer = e.layer; header = e.header }) same
       ∙ ap (λ (x : ℕ). record { path = f.path; layer = x; header = e.header }) r.0
       ∙ ap (λ (x : ℕ). record { path = f.path; layer = f.layer; header = x }) header
@@ -174,8 +174,10 @@ module _ (layers : List (List ℕ)) (im : AreImages layers) where
               record {
                 rising = t.1.rising;
                 shown = λ e m. elim ((t.1.among e).0 m) [ inl z ↦ subst (IsShown layers) (sym z) s | inr y ↦ r.1.shown e y ];
-                whole = λ e h c. (t.1.among e).1 (elim (first_or_later p e.path ps c) [ inl z ↦ inl (one_shown e x h s (sym z ∙ sym q)) |
-                      inr d ↦ inr (r.1.whole e h d) ]);
+                whole = λ e h c. (t.1.among e).1 (elim (first_or_later p e.path ps c) [
+                  | inl z ↦ inl (one_shown e x h s (sym z ∙ sym q))
+                  | inr d ↦ inr (r.1.whole e h d)
+                ]);
               },
             ))
       ]

@@ -55,7 +55,7 @@ single a i layer h n entry other file w = record {
     (λ t. inl other),
     (λ c. or_right (cut_by (λ q. None) path) (covered_by (at_path (whole (record { name = n; value = entry; below = [] }))) path)
         (file_covers (at_path (whole (record { name = n; value = entry; below = [] }))) path [] path refl
-              (ap not (not_folder entry.kind file)))),
+        (ap not (not_folder entry.kind file)))),
   );
 }
   where
@@ -133,10 +133,15 @@ module _ (a : List ℕ) (i : IsImage a) (layer h : ℕ) (ms : List Named) (es : 
 
   -- a marker's mark stands for a marker among the members
   white_is : (n : List ℕ) (path : Path) → FoundWhite n ms ws → (cut_through (named n ws) path ≡ true) ↔ HasNamed a h (marker ++ n)
-  white_is n path (unmarked f q) = (λ e. (let y = rw f at e in absurd (cc)), λ x. (let m = member_at (marker ++ n) x.0 x.1 x.2 in
-        absurd (q m.0 m.1 m.2 m.4)))
-  white_is n path (marked j m k f c s e) = (λ y. (let t = has_at j m s in (m.head.offset, t.member, t.name ∙ ap Some e)),
-        λ x. rw f ((all_cut k c).cut path))
+  white_is n path (unmarked f q) = (
+    λ e. (let y = rw f at e in absurd (cc)),
+    λ x. (let m = member_at (marker ++ n) x.0 x.1 x.2 in
+        absurd (q m.0 m.1 m.2 m.4)),
+  )
+  white_is n path (marked j m k f c s e) = (
+    λ y. (let t = has_at j m s in (m.head.offset, t.member, t.name ∙ ap Some e)),
+    λ x. rw f ((all_cut k c).cut path),
+  )
 
   -- what is removed below a name is what the layer cuts from the member of that name
   below_is : (n : List ℕ) (path : Path) → IsPlain (n ∷ path) → FoundBuilt a layer h n ms es mm
@@ -160,7 +165,7 @@ module _ (a : List ℕ) (i : IsImage a) (layer h : ℕ) (ms : List Named) (es : 
       let f = (forests a layer b members.rising).1 in
       let w = white_forest wh members.rising in
       cut_united (λ q. at_path (spread out) (n ∷ q)) (λ q. at_path (spread mm) (n ∷ q)) (λ q. at_path (spread ws) (n ∷ q))
-          (λ q. laid.at n q) path
+      (λ q. laid.at n q) path
       ∙ ap (λ x. x || cut_by (λ q. at_path (spread ws) (n ∷ q)) path) (by_name mm f.names n path)
       ∙ ap (λ x. cut_through (named n mm) path || x) (by_name ws w.names n path)
 
@@ -217,13 +222,13 @@ module _ (a : List ℕ) (i : IsImage a) (layer h : ℕ) (ms : List Named) (es : 
         ≡ (whole_cut || (removed_by (through (named n mm)) (through (named n es)) path || cut_through (named n ws) path))
     removed_name k n path =
         ap (λ x. (whole_cut || x) || ((not (is_directory entry.kind) || false) || covered_by (λ q. at_path (spread es) (n ∷ q)) path))
-            (cut_name n path)
+        (cut_name n path)
         ∙ ap (λ x. (whole_cut || (cut_through (named n mm) path || cut_through (named n ws) path))
-              || ((not (is_directory entry.kind) || false) || x)) (covered_name n path)
+        || ((not (is_directory entry.kind) || false) || x)) (covered_name n path)
         ∙ in_turn whole_cut (cut_through (named n mm) path) (cut_through (named n ws) path) (covered_by (through (named n es)) path)
         (not (is_directory entry.kind)) (ap not is_folder)
         ∙ ap (λ x. whole_cut || ((x || covered_by (through (named n es)) path) || cut_through (named n ws) path))
-            (sym (by_through (named n mm) path))
+        (sym (by_through (named n mm) path))
 
     -- the mark and the entry of a directory remove exactly what the layer cuts from it
     pub removes_of : (n : List ℕ) → RemovesFrom a h

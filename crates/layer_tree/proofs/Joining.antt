@@ -90,8 +90,15 @@ module _ (first : ℕ) (ls hs : List (List ℕ)) (low high out : TreeRows) (l : 
   entry_low i k e w = record { layer = w.layer; end = (w.end.0, get_low ls hs i w.end.0 w.end.1, w.end.2, w.end.3) }
 
   entry_high : (i j k : ℕ) (e : Entry) → i ≡ length ls + j → IsEntryOf (first + length ls) hs j k e → IsEntryOf first (ls ++ hs) i k e
-  entry_high i j k e d w = record { layer = omega (arith, w.layer); end = (w.end.0, get_high ls hs i j w.end.0 d w.end.1, w.end.2,
-        w.end.3) }
+  entry_high i j k e d w = record {
+    layer = omega (arith, w.layer);
+    end = (
+      w.end.0,
+      get_high ls hs i j w.end.0 d w.end.1,
+      w.end.2,
+      w.end.3,
+    );
+  }
 
   uncut : (path : Path) → IsPlain path → ¬ IsCut hs path → (b : Bool) → removes high path ≡ b → b ≡ false
   uncut path p c false e = refl
@@ -178,7 +185,7 @@ module _ (first : ℕ) (ls hs : List (List ℕ)) (low high out : TreeRows) (l : 
     rising = lays.rising;
     shown = shows;
     only = λ path e f. decided path e (entry_at high path) (entry_at low path) (removes high path) refl refl refl (sym (lays.entries path)
-          ∙ f);
+        ∙ f);
     cuts = cuts_exactly;
   }
 

@@ -132,7 +132,7 @@ module _ (a : List ℕ) (i : IsImage a) where
     is_shown path j h s =
         let t = (alone a path j h).0 s in
         weaker (at_path (whole e) path) (λ x w. subst (λ n. IsEntryOf layer (a ∷ []) n h x) (sym t.1) (in_run h x w))
-            (b.shown path h t.0 t.2)
+        (b.shown path h t.0 t.2)
       where
         weaker : {P Q : Entry → Type 0} (o : Option Entry) → ((x : Entry) → P x → Q x) → IsSomeAnd o P → IsSomeAnd o Q
         weaker None f p = p

@@ -34,9 +34,16 @@ other_cuts : (a : List ℕ) → IsImage a → (q : Path) (n : List ℕ) (g : ℕ
 other_cuts a i q n g p has other = elim (last_name q) [
   | inl e ↦ absurd (let f : root a ≡ g = subst (λ r. Has a r g) e has in other (subst (λ h. kind a h ≡ Directory) f (root_directory a i)))
   | inr (r, y, e) ↦ (
-      let in_a : Has a (r ++ y ∷ []) g = subst (λ s. Has a s g) e has in
-      (p, (r, y, n ∷ [], ap (λ s. s ++ n ∷ []) e ∙ append_assoc r (y ∷ []) (n ∷ []),
-            (above_has a i r y (g, in_a), inr (inr (g, in_a, other))))))
+      let in_a : Has a (r ++ y ∷ []) g = subst (λ s. Has a s g) e has in (
+        p,
+        (
+          r,
+          y,
+          n ∷ [],
+          ap (λ s. s ++ n ∷ []) e ∙ append_assoc r (y ∷ []) (n ∷ []),
+          (above_has a i r y (g, in_a), inr (inr (g, in_a, other))),
+        ),
+      ))
 ]
 
 -- what is cut is so with a name more
@@ -61,7 +68,7 @@ clash (b ∷ above) im q n zero h (suc j) g a p t u s k = free_clash above im.1 
     free_clash : (run : List (List ℕ)) → AreImages run → (j : ℕ) → IsFree run (q ++ n ∷ []) → IsTop run q j g → slice_get run j ≡ Some a → ⊥
     free_clash [] im j f u s = u
     free_clash (c ∷ run) im zero f u s = f.0.1 (other_cuts c im.0 q n g p u.0 (let z : c ≡ a = cc in
-          subst (λ x. kind x g ≢ Directory) (sym z) k))
+        subst (λ x. kind x g ≢ Directory) (sym z) k))
     free_clash (c ∷ run) im (suc j) f u s = free_clash run im.1 j f.1 u s
 clash (b ∷ above) im q n (suc i) h zero g a p t u s k = has_clash above im.1 i t u.1
   where

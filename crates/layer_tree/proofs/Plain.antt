@@ -9,8 +9,10 @@ use Rattle.shown_tree.specs.Marks.{is_plain}
 -- the test passes exactly the plain paths
 pub plain_is : (path : Path) → (is_plain path ≡ true) ↔ IsPlain path
 plain_is [] = (λ e. tt, λ p. refl)
-plain_is (n ∷ path) = let r = plain_is path in (λ e. to r (starts_with nat_eq n marker) refl e,
-      λ p. from r (starts_with nat_eq n marker) refl p)
+plain_is (n ∷ path) = let r = plain_is path in (
+  λ e. to r (starts_with nat_eq n marker) refl e,
+  λ p. from r (starts_with nat_eq n marker) refl p,
+)
   where
     to : ((is_plain path ≡ true) ↔ IsPlain path) → (b : Bool) → starts_with nat_eq n marker ≡ b → (not b && is_plain path) ≡ true
         → IsPlain (n ∷ path)

@@ -102,7 +102,7 @@ module _ {T : Type 0} (marks : List (Subtree Mark)) where
     | inl x ↦ (
         let f : named n marks ≡ Some m = subst (λ i. named i marks ≡ Some m) x.0 e in
         let none : named n out ≡ None = named_below n out (subst (λ i. AllByRecursion (λ t. name_cmp i t.name ≡ Less) out) x.0
-              (above k l.name r.0)) in
+        (above k l.name r.0)) in
         rw (none, x.1, f) (sym (cut_off (cut_by (at_path (whole m)) p) (at_path (whole l) p) (c.cut p))))
     | inr x ↦ rw x.1 (found k r.1 n p)
   ]
@@ -135,8 +135,10 @@ pub still_same : {T U : Type 0} (name : List ℕ) (rest rest' all : List (Subtre
     → AllByRecursion (λ k. named k.name rest ≡ named k.name all) ls
     → AllByRecursion (λ k. named k.name rest' ≡ named k.name all) ls
 still_same name rest rest' all from [] a s = tt
-still_same name rest rest' all from (k ∷ ks) a s = (from.same k.name (not_less name k.name a.0) ∙ s.0,
-      still_same name rest rest' all from ks a.1 s.1)
+still_same name rest rest' all from (k ∷ ks) a s = (
+  from.same k.name (not_less name k.name a.0) ∙ s.0,
+  still_same name rest rest' all from ks a.1 s.1,
+)
 
 -- lows are gone through up to ls, with the marks up to rest
 pub record Keeping {T : Type 0} (lows ls out : List (Subtree T)) (marks rest : List (Subtree Mark)) : Type 0 where

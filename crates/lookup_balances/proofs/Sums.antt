@@ -27,7 +27,7 @@ pub moved_on : (xs ys : List Move) (a b c : List ℤ) → IsMoved xs a b → IsM
 moved_on xs ys a b c m n = record {
   same = n.same ∙ m.same;
   each = λ i h. (let s = m.same in let e = m.each i h in let f = n.each i (omega arith) in let g = balance_append (i + 1) xs ys in
-        omega (arith, ints));
+      omega (arith, ints));
 }
 
 weighed_one : (b : Bool) (x : ℤ) → unsigned_abs (cond b x (pos 0)) ≤ unsigned_abs x
@@ -101,33 +101,33 @@ none_there b node amount o = record { same = refl; each = λ i h. elsewhere i h 
 
 -- the sum of a balance and an amount that are not far from 0, as 128 bits hold them
 module _ (b : List ℤ) (node : ℕ) (amount : ℤ) (w : AreWithin (2 ^ 125) b) (s : unsigned_abs amount ≤ 2 ^ 125) (l : node - 1 < length b)
-    where
-  abbrev held : ℤ → ℤ
-  held z = to_z w128 (of_z w128 z)
+  where
+    abbrev held : ℤ → ℤ
+    held z = to_z w128 (of_z w128 z)
 
-  abbrev old : ℤ
-  old = get_or b (node - 1) (pos 0)
+    abbrev old : ℤ
+    old = get_or b (node - 1) (pos 0)
 
-  as_held : (z : ℤ) → unsigned_abs z < 2 ^ 127 → held z ≡ z
-  as_held z h = to_z-of_z w128 z (fits_signed_from_abs w128 z h)
+    as_held : (z : ℤ) → unsigned_abs z < 2 ^ 127 → held z ≡ z
+    as_held z h = to_z-of_z w128 z (fits_signed_from_abs w128 z h)
 
-  parts : held old +ℤ held amount ≡ old +ℤ amount
-  parts =
-      let x = w.each (node - 1) l in
-      ap (λ z. z +ℤ held amount) (as_held old (omega arith)) ∙ ap (λ z. old +ℤ z) (as_held amount (omega arith))
+    parts : held old +ℤ held amount ≡ old +ℤ amount
+    parts =
+        let x = w.each (node - 1) l in
+        ap (λ z. z +ℤ held amount) (as_held old (omega arith)) ∙ ap (λ z. old +ℤ z) (as_held amount (omega arith))
 
-  small_sum : unsigned_abs (old +ℤ amount) < 2 ^ 127
-  small_sum = let x = w.each (node - 1) l in let y = abs_add old amount in omega arith
+    small_sum : unsigned_abs (old +ℤ amount) < 2 ^ 127
+    small_sum = let x = w.each (node - 1) l in let y = abs_add old amount in omega arith
 
-  -- the sum of a balance and an amount fits in 128 bits
-  pub sum_fits : FitsSigned w128 (held old +ℤ held amount)
-  sum_fits = subst (λ z. FitsSigned w128 z) (sym parts) (fits_signed_from_abs w128 (old +ℤ amount) small_sum)
+    -- the sum of a balance and an amount fits in 128 bits
+    pub sum_fits : FitsSigned w128 (held old +ℤ held amount)
+    sum_fits = subst (λ z. FitsSigned w128 z) (sym parts) (fits_signed_from_abs w128 (old +ℤ amount) small_sum)
 
-  -- the sum as 128 bits hold it, put at the node's place, is what the move does
-  pub adds : (node ≡ 0 → ⊥) → IsMoved (record { node = node; amount = amount } ∷ []) b (set b (node - 1) (held (held old +ℤ held amount)))
-  adds n =
-      let e : held (held old +ℤ held amount) ≡ old +ℤ amount = ap held parts ∙ as_held (old +ℤ amount) small_sum in
-      let k : node - 1 + 1 ≡ node = omega (arith, n) in
-      subst (λ (z : ℤ). IsMoved (record { node = node; amount = amount } ∷ []) b (set b (node - 1) z)) (sym e)
-      (subst (λ (i : ℕ). IsMoved (record { node = i; amount = amount } ∷ []) b (set b (node - 1) (old +ℤ amount))) k
-            (one_moved b (node - 1) amount l))
+    -- the sum as 128 bits hold it, put at the node's place, is what the move does
+    pub adds : (node ≡ 0 → ⊥) → IsMoved (record { node = node; amount = amount } ∷ []) b (set b (node - 1) (held (held old +ℤ held amount)))
+    adds n =
+        let e : held (held old +ℤ held amount) ≡ old +ℤ amount = ap held parts ∙ as_held (old +ℤ amount) small_sum in
+        let k : node - 1 + 1 ≡ node = omega (arith, n) in
+        subst (λ (z : ℤ). IsMoved (record { node = node; amount = amount } ∷ []) b (set b (node - 1) z)) (sym e)
+        (subst (λ (i : ℕ). IsMoved (record { node = i; amount = amount } ∷ []) b (set b (node - 1) (old +ℤ amount))) k
+        (one_moved b (node - 1) amount l))

@@ -41,7 +41,7 @@ long_here f shared rows i row l at front =
 pub goes_on : {X : Type 0} (f : X → List ℕ) (shared : ℕ) (rows : List X) (old new new' : List ℕ) (i : ℕ) (row : X) (k : ℕ)
     → i < length rows → row ≡ slice_index_or rows i row → AreBytes (f row) →
     k ≡ key 8 (drop shared (f row)) → new' ≡ new ++ k ∷ [] → Keying shared (map f rows) old new i
-        → Keying shared (map f rows) old new' (i + 1)
+    → Keying shared (map f rows) old new' (i + 1)
 goes_on f shared rows old new new' i row k l at bytes made pushed g =
     let n = length-map rows f in
     let here : slice_index_or (map f rows) i [] ≡ f row = get_or-map f rows i row [] l ∙ ap f (sym at) in

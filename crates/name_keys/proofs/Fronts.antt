@@ -57,7 +57,7 @@ share f rows n first last a b rise some is_first is_last at bt l e =
     let m = length-map rows f in
     let x : first_of (map f rows) ≡ a = get_or-map f rows 0 first [] some ∙ ap f (sym is_first) ∙ sym at in
     let y : slice_index_or (map f rows) (length rows - 1) [] ≡ b = get_or-map f rows (length rows - 1) last [] (omega arith)
-        ∙ ap f (sym is_last) ∙ sym bt in
+    ∙ ap f (sym is_last) ∙ sym bt in
     record { long = rw x l; same = all_alike n (map f rows) rise (rw (m, x, y) e) }
 
 -- any names share a front of no bytes

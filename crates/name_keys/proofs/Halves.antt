@@ -31,7 +31,7 @@ module _ (keys : List ℕ) (key : ℕ) where
   pub from_both : (low high : ℕ) → low ≤ length keys → high ≤ length keys
       → AllWithin (λ y. y < key) keys 0 low → AllWithin (λ y. key ≤ y) keys low (length keys) →
       AllWithin (λ y. leb y key ≡ true) keys 0 high → AllWithin (λ y. leb y key ≡ false) keys high (length keys)
-          → IsKeyRun keys key low high
+      → IsKeyRun keys key low high
   from_both low high l h p from to q = record {
     within_low = l;
     within_high = h;

@@ -41,9 +41,9 @@ module _ (shared : ℕ) (keys : List ℕ) (names : List (List ℕ)) (is : AreKey
         let x = slice_index_or names i [] in
         let y = slice_index_or names j [] in
         let c : slice_cmp nat_cmp (front ++ drop shared x) (front ++ drop shared y) ≡ Less =
-            rw (← split i [] (omega arith), ← split j [] (omega arith)) (is.rise i j [] q (omega arith)) in
+        rw (← split i [] (omega arith), ← split j [] (omega arith)) (is.rise i j [] q (omega arith)) in
         rw (key_at i [] e (omega arith), key_at j [] e (omega arith)) (key_order 8 (drop shared x) (drop shared y)
-              (rest_bytes i [] (omega arith)) (sym (cmp-front front (drop shared x) (drop shared y)) ∙ c))
+        (rest_bytes i [] (omega arith)) (sym (cmp-front front (drop shared x) (drop shared y)) ∙ c))
     | inr (inr q) ↦ absurd (omega arith)
   ]
 

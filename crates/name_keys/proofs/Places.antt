@@ -38,7 +38,7 @@ module _ (names : List (List ℕ)) (name : List ℕ) where
   nowhere p =
       let e : position_or_len (pointwise nat_eq name) names ≡ length names =
       position_or_len_is (pointwise nat_eq name) names (length names) [] (omega arith) (λ k l. fails _ (p k [] (omega arith)))
-          (λ l. absurd (omega arith)) in
+      (λ l. absurd (omega arith)) in
       rw (e, le-ltb (length names) (length names) (omega arith)) refl
 
   -- where a name is this one, that is its place
@@ -74,9 +74,9 @@ module _ (names : List (List ℕ)) (name : List ℕ) where
       go k d s m =
           let w = n.within in
           let g : slice_cmp nat_cmp (slice_index_or names middle d) name ≡ Greater =
-              rw (get_or_default names middle d [] (omega arith)) c in
+          rw (get_or_default names middle d [] (omega arith)) c in
           let t : slice_cmp nat_cmp name (slice_index_or names middle d) ≡ Less = nat_list_cmp_total.antisymm name _
-              ∙ ap ordering_reverse g in
+          ∙ ap ordering_reverse g in
           elim (cases_order middle k) [
             | inl q ↦ λ same. below _ _ (rw q at t) (sym same)
             | inr (inl q) ↦ λ same. below _ _ (nat_list_cmp_total.trans name _ _ t (rise middle k d q m)) (sym same)

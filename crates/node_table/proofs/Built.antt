@@ -44,30 +44,30 @@ pub record Rowing (tell : Place → ℕ) (cs : List (Subtree Entry)) (old new : 
 
 module _ (tell : Place → ℕ) (cs : List (Subtree Entry)) (old new new' : List Line) (n i : ℕ) (c : Subtree Entry) (lt : i < length cs)
     (at : c ≡ get_or cs i c) (r : Rowing tell cs old new n i) (line : Line) (is : line ≡ line_in tell c) (pushed : new' ≡ new ++ line ∷ [])
-    where
-  rows_now : new' ≡ old ++ map (line_in tell) (take (i + 1) cs)
-  rows_now =
-      pushed ∙ ap (λ x. x ++ line ∷ []) r.rows ∙ append_assoc old (map (line_in tell) (take i cs)) (line ∷ [])
-      ∙ ap (λ x. old ++ x) (ap (λ l. map (line_in tell) (take i cs) ++ l ∷ []) is
-            ∙ sym (ap (map (line_in tell)) (take_one_more cs i c lt at) ∙ map_push (line_in tell) (take i cs) c))
+  where
+    rows_now : new' ≡ old ++ map (line_in tell) (take (i + 1) cs)
+    rows_now =
+        pushed ∙ ap (λ x. x ++ line ∷ []) r.rows ∙ append_assoc old (map (line_in tell) (take i cs)) (line ∷ [])
+        ∙ ap (λ x. old ++ x) (ap (λ l. map (line_in tell) (take i cs) ++ l ∷ []) is
+        ∙ sym (ap (map (line_in tell)) (take_one_more cs i c lt at) ∙ map_push (line_in tell) (take i cs) c))
 
-  -- the row of a directory is added, and the directory counted
-  pub directory : c.value.kind ≡ Directory → Rowing tell cs old new' (n + 1) (i + 1)
-  directory k =
-      let d : is_directory (get_or cs i c).value.kind ≡ true = ap (λ (s : Subtree Entry). is_directory s.value.kind) (sym at)
-          ∙ ap is_directory k in
-      let m = count_by_more_yes (λ (s : Subtree Entry). is_directory s.value.kind) cs i c lt d in
-      let few = r.few in
-      record { rows = rows_now; count = ap (λ k. k + 1) r.count ∙ sym m; few = omega arith }
+    -- the row of a directory is added, and the directory counted
+    pub directory : c.value.kind ≡ Directory → Rowing tell cs old new' (n + 1) (i + 1)
+    directory k =
+        let d : is_directory (get_or cs i c).value.kind ≡ true = ap (λ (s : Subtree Entry). is_directory s.value.kind) (sym at)
+        ∙ ap is_directory k in
+        let m = count_by_more_yes (λ (s : Subtree Entry). is_directory s.value.kind) cs i c lt d in
+        let few = r.few in
+        record { rows = rows_now; count = ap (λ k. k + 1) r.count ∙ sym m; few = omega arith }
 
-  -- the row of any other child is added, and nothing counted
-  pub other : (c.value.kind ≡ Directory → ⊥) → Rowing tell cs old new' n (i + 1)
-  other k =
-      let d : is_directory (get_or cs i c).value.kind ≡ false = ap (λ (s : Subtree Entry). is_directory s.value.kind) (sym at)
-          ∙ not_directory c.value.kind k in
-      let m = count_by_more_no (λ (s : Subtree Entry). is_directory s.value.kind) cs i c lt d in
-      let few = r.few in
-      record { rows = rows_now; count = r.count ∙ sym m; few = omega arith }
+    -- the row of any other child is added, and nothing counted
+    pub other : (c.value.kind ≡ Directory → ⊥) → Rowing tell cs old new' n (i + 1)
+    other k =
+        let d : is_directory (get_or cs i c).value.kind ≡ false = ap (λ (s : Subtree Entry). is_directory s.value.kind) (sym at)
+        ∙ not_directory c.value.kind k in
+        let m = count_by_more_no (λ (s : Subtree Entry). is_directory s.value.kind) cs i c lt d in
+        let few = r.few in
+        record { rows = rows_now; count = r.count ∙ sym m; few = omega arith }
 
 -- of children that follow one another, the next one stands here and the rest after it
 pub follows : (tell : Place → ℕ) (numbers sizes : List ℕ) (at : ℕ) (cs : List (Subtree Entry)) (i : ℕ) (c : Subtree Entry) → i < length cs
@@ -80,8 +80,11 @@ follows tell numbers sizes at cs i c l e f = let n : suc i ≡ i + 1 = omega ari
         → IsPosted tell numbers sizes at c × AreFollowing tell numbers sizes (at + length (whole c)) (drop (suc i) cs)
     go [] i l e f = absurd (omega arith)
     go (x ∷ cs) zero l e f = subst (λ (y : Subtree Entry). IsPosted tell numbers sizes at y × AreFollowing tell numbers sizes
-          (at + length (whole y)) (drop 0 cs)) (sym e) (f.0, subst (AreFollowing tell numbers sizes (at + length (whole x)))
-          (sym (all cs)) f.1)
+        (at + length (whole y)) (drop 0 cs)) (sym e) (
+          f.0,
+          subst (AreFollowing tell numbers sizes (at + length (whole x)))
+              (sym (all cs)) f.1,
+        )
       where
         all : (cs : List (Subtree Entry)) → drop 0 cs ≡ cs
         all [] = refl

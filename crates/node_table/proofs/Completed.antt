@@ -72,7 +72,7 @@ pub sums_on : (images : List (List ℕ)) (blocks i full : ℕ) (a : List ℕ) �
 sums_on images blocks i full a s lt at f image =
     let m = sum_by_more (λ (a : List ℕ). blocks_of (length a)) images i a lt in
     let n : (full + 511) / 512 ≡ blocks_of (length (get_or images i a)) = ap (λ k. (k + 511) / 512) f
-        ∙ ap (λ (x : List ℕ). blocks_of (length x)) at in
+    ∙ ap (λ (x : List ℕ). blocks_of (length x)) at in
     record {
       value = ap (λ b. b + (full + 511) / 512) s.value ∙ ap (λ k. blocks_all (take i images) + k) n ∙ sym m;
       few = (let few = s.few in let small = image.small in omega arith);

@@ -146,7 +146,7 @@ pub not_among : (es : List Listed) (p : ModelPlace) → number_of es p ≡ None 
 not_among es p k e a = elim (same_or_other p (place e)) [
   | inr f ↦ f
   | inl x ↦ absurd (let s : IsSome (number_of es (place e)) = (entries_numbered es e e a a).0 in let t : IsSome (number_of es p) =
-        subst (λ q. IsSome (number_of es q)) (sym x.0) s in let u = rw k at t in cc)
+      subst (λ q. IsSome (number_of es q)) (sym x.0) s in let u = rw k at t in cc)
 ]
 
 none_paths : (es : List Listed) (p : ModelPlace) → ((e : Listed) → IsAmong e es → same_place p (place e) ≡ false) → paths_of es p ≡ 0
@@ -227,7 +227,7 @@ module _ (visits : List (Visit Entry)) (i : ℕ) (visit : Visit Entry) (first : 
 
   -- the numbers of the visits before this one, and its own
   knows : (n : ℕ) → ((k : ℕ) (x : Visit Entry) → k < i → slice_get visits k ≡ Some x → number_of (seen visits (i + 1)) (visit_place x)
-        ≡ Some (slice_index numbers k)) → number_of (seen visits (i + 1)) (visit_place visit) ≡ Some n → (k : ℕ) (x : Visit Entry)
+      ≡ Some (slice_index numbers k)) → number_of (seen visits (i + 1)) (visit_place visit) ≡ Some n → (k : ℕ) (x : Visit Entry)
       → slice_get visits k ≡ Some x → (k < i) ⊎ (k ≡ i) → number_of (seen visits (i + 1)) (visit_place x)
       ≡ Some (slice_index (numbers ++ n ∷ []) k)
   knows n before own k x e (inl l) = before k x l e
@@ -252,7 +252,7 @@ module _ (visits : List (Visit Entry)) (i : ℕ) (visit : Visit Entry) (first : 
     numbers_level = ap length m ∙ length_push numbers n ∙ ap (λ k. k + 1) inv.numbers_level;
     known = λ k x l e. subst (λ xs. number_of (seen visits (i + 1)) (visit_place x) ≡ Some (slice_index xs k)) (sym m)
         (knows n (λ k x l e. number_by (seen visits (i + 1)) (seen visits i) (visit_place x) same ∙ inv.known k x l e)
-              (number_by (seen visits (i + 1)) (seen visits i) (visit_place visit) same ∙ k0) k x e (below_or_at k i l));
+        (number_by (seen visits (i + 1)) (seen visits i) (visit_place visit) same ∙ k0) k x e (below_or_at k i l));
   }
     where
       same : nodes (seen visits (i + 1)) ≡ nodes (seen visits i)
@@ -269,16 +269,16 @@ module _ (visits : List (Visit Entry)) (i : ℕ) (visit : Visit Entry) (first : 
             let b1 = b.1 in
             let lt : k < length paths = omega arith in
             let set_is : paths' ≡ slice_set paths k (one_more (slice_index paths k)) =
-                subst (λ m. paths' ≡ slice_set paths m (one_more (slice_index paths m))) j s in
+            subst (λ m. paths' ≡ slice_set paths m (one_more (slice_index paths m))) j s in
             let at : slice_index paths' k ≡ one_more (slice_index paths k) = ap (λ xs. slice_index xs k) set_is ∙ rw get_or-set_same refl in
             held (paths_of (seen visits i) (visit_place x)) (paths_of (seen visits (i + 1)) (visit_place x)) (slice_index paths k)
-                (slice_index paths' k) at (inv.counted k x f) (paths_more (visit_place x)
-                  ∙ ap (λ c. paths_of (seen visits i) (visit_place x) + cond c 1 0) t)
+            (slice_index paths' k) at (inv.counted k x f) (paths_more (visit_place x)
+            ∙ ap (λ c. paths_of (seen visits i) (visit_place x) + cond c 1 0) t)
         | inr t ↦
             let ne : k ≢ n - 1 = apart k x f t in
             let at : slice_index paths' k ≡ slice_index paths k = ap (λ xs. slice_index xs k) s ∙ rw get_or-set_other refl in
             at ∙ inv.counted k x f ∙ ap (λ c. min c (2 ^ 32 - 1))
-                (sym (paths_more (visit_place x) ∙ ap (λ c. paths_of (seen visits i) (visit_place x) + cond c 1 0) t ∙ omega arith))
+            (sym (paths_more (visit_place x) ∙ ap (λ c. paths_of (seen visits i) (visit_place x) + cond c 1 0) t ∙ omega arith))
       ]
         where
           apart : (k : ℕ) (x : Visit Entry) → slice_get first k ≡ Some x → same_place (visit_place x) (visit_place visit) ≡ false
@@ -291,7 +291,7 @@ module _ (visits : List (Visit Entry)) (i : ℕ) (visit : Visit Entry) (first : 
               let w : Some (visit_place x) ≡ Some (visit_place visit) = sym v ∙ ap (node_of (seen visits i)) y ∙ u in
               let z : visit_place x ≡ visit_place visit = cc in
               let r : same_place (visit_place x) (visit_place visit) ≡ true = ap (λ q. same_place q (visit_place visit)) z
-                  ∙ same_itself (visit_place visit) in
+              ∙ same_itself (visit_place visit) in
               cc
 
   -- a visit whose place is new takes the next number, and the place has one path
@@ -328,7 +328,7 @@ module _ (visits : List (Visit Entry)) (i : ℕ) (visit : Visit Entry) (first : 
           ≡ Some (slice_index numbers k)
       before k x l e = elim (same_or_other (visit_place x) (visit_place visit)) [
         | inl q ↦ absurd (let z : Some (slice_index numbers k) ≡ None = sym (inv.known k x l e) ∙ ap (number_of (seen visits i)) q.0 ∙ k0 in
-              cc)
+            cc)
         | inr t ↦ ap (λ es. number_of es (visit_place x)) more ∙ number_other (seen visits i) (bare visit) (visit_place x) k0 t
             ∙ inv.known k x l e
       ]
@@ -340,7 +340,7 @@ module _ (visits : List (Visit Entry)) (i : ℕ) (visit : Visit Entry) (first : 
           let v = inv.starts_level in
           ap (slice_get visits) (get_or_append_left starts (i ∷ []) 0 k (omega arith)) ∙ inv.starts_are k x f
       starting k x (inr (a, b)) = ap (slice_get visits) (ap (slice_index (starts ++ i ∷ [])) (a ∙ sym inv.starts_level)
-            ∙ get_or_push starts i 0 (length starts) refl)
+          ∙ get_or_push starts i 0 (length starts) refl)
           ∙ slice_get_read visits _ i visit refl lt here ∙ ap Some b
 
       counts : (k : ℕ) (x : Visit Entry) → (slice_get first k ≡ Some x) ⊎ ((k ≡ length first) × (visit ≡ x)) → slice_index paths' k
@@ -351,8 +351,8 @@ module _ (visits : List (Visit Entry)) (i : ℕ) (visit : Visit Entry) (first : 
           let t : same_place (visit_place x) (visit_place visit) ≡ false = other k x f in
           ap (λ xs. slice_index xs k) o ∙ get_or_append_left paths (1 ∷ []) 0 k (omega arith) ∙ inv.counted k x f
           ∙ ap (λ c. min c (2 ^ 32 - 1)) (sym (paths_more (visit_place x) ∙ ap (λ c. paths_of (seen visits i) (visit_place x) + cond c 1 0)
-                t
-                ∙ omega arith))
+          t
+          ∙ omega arith))
         where
           other : (k : ℕ) (x : Visit Entry) → slice_get first k ≡ Some x → same_place (visit_place x) (visit_place visit) ≡ false
           other k x f = elim (same_or_other (visit_place x) (visit_place visit)) [
@@ -361,14 +361,14 @@ module _ (visits : List (Visit Entry)) (i : ℕ) (visit : Visit Entry) (first : 
           ]
       counts k x (inr (a, b)) =
           let zero_paths : paths_of (seen visits i) (visit_place visit) ≡ 0 = none_paths (seen visits i) (visit_place visit)
-              (not_among (seen visits i) (visit_place visit) k0) in
+          (not_among (seen visits i) (visit_place visit) k0) in
           let one : paths_of (seen visits (i + 1)) (visit_place visit) ≡ 1 = paths_more (visit_place visit)
-              ∙ ap (λ c. paths_of (seen visits i) (visit_place visit) + cond c 1 0) (same_itself (visit_place visit))
-              ∙ ap (λ c. c + 1) zero_paths in
+          ∙ ap (λ c. paths_of (seen visits i) (visit_place visit) + cond c 1 0) (same_itself (visit_place visit))
+          ∙ ap (λ c. c + 1) zero_paths in
           let j : k ≡ length paths = a ∙ sym inv.level in
           ap (λ xs. slice_index xs k) o ∙ ap (slice_index (paths ++ 1 ∷ [])) j ∙ get_or_push paths 1 0 (length paths) refl
           ∙ sym (ap (λ (y : Visit Entry). min (paths_of (seen visits (i + 1)) (visit_place y)) (2 ^ 32 - 1)) (sym b)
-                ∙ ap (λ c. min c (2 ^ 32 - 1)) one)
+          ∙ ap (λ c. min c (2 ^ 32 - 1)) one)
 
 -- what is among the first visits
 among_seen : (visits : List (Visit Entry)) (i : ℕ) (e : Listed) → IsAmong e (map bare (take i visits)) → (j : ℕ) × (s : Visit Entry)
@@ -400,7 +400,7 @@ module _ (visits : List (Visit Entry)) (keys firsts : List ℕ) (are : AreKeys v
   one_place : (j k : ℕ) (s t : Visit Entry) → slice_get visits j ≡ Some s → slice_get visits k ≡ Some t
       → slice_index keys j ≡ slice_index keys k → visit_place s ≡ visit_place t
   one_place j k s t d e q = key_tells s.0.now.value.place t.0.now.value.place (small j s d) (small k t e) (sym (key_is j s d) ∙ q
-        ∙ key_is k t e)
+      ∙ key_is k t e)
 
   module _ (i : ℕ) (visit : Visit Entry) (lt : i < length visits) (here : visit ≡ get_or visits i visit) where
     told : IsFirstOf keys (slice_index keys i) (slice_index firsts i)
@@ -443,7 +443,7 @@ module _ (visits : List (Visit Entry)) (keys firsts : List ℕ) (are : AreKeys v
             let headers = ap (λ (q : ModelPlace). q.1) p in
             let k : key_of b.1 ≡ key_of visit = omega arith in
             told.before b.0 (let l = b.2 in omega arith) (key_is b.0 b.1 b.3 ∙ k
-                  ∙ sym (key_is i visit (slice_get_read visits _ i visit refl lt here))))
+            ∙ sym (key_is i visit (slice_get_read visits _ i visit refl lt here))))
 
     -- the number that the code reads at the first place of the key is the place's
     pub known_before : (first : List (Visit Entry)) (starts paths numbers : List ℕ) → IsNumbered visits i first starts paths numbers

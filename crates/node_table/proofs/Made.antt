@@ -128,7 +128,7 @@ module _ (layers : List (List ℕ)) (entries : List Listed) (tell : Place → �
   is_made p e above below = record {
     parent_is = m.parent_is ∙ above;
     start = (let s = m.start_is in let e = m.end_is in let r = ap length m.rows_are in
-          omega (arith, length-append old (map (line_in tell) cs)));
+        omega (arith, length-append old (map (line_in tell) cs)));
     end = (let e = m.end_is in omega arith);
     rows_are = range_is ∙ below.rows_are ∙ sym (rw e refl);
     keyed = keyed_by d.shared _ _ _ _ (sym keys_range_is) (sym range_is) m.keys_are.keyed;
@@ -175,36 +175,36 @@ module _ (layers : List (List ℕ)) (entries : List Listed) (tell : Place → �
 
   -- what a directory adds
   module _ (d : is_directory_at layers (visit_place visit) ≡ true) (l : AddsLinked tell visit node.nlink folders folders' old new keys
-        keys')
-      where
-    below : AreSeedlings layers entries tell (visit_place visit) l.added.children
-    below = seed.below l.added.children l.added.below l.added.forest
+      keys')
+    where
+      below : AreSeedlings layers entries tell (visit_place visit) l.added.children
+      below = seed.below l.added.children l.added.below l.added.forest
 
-    nlink_directory : node.nlink ≡ nlink layers entries (visit_place visit)
-    nlink_directory =
-        l.nlink_is ∙ ap (λ n. min (2 + n) (2 ^ 32 - 1)) (l.added.count_is ∙ below.count_is)
-        ∙ sym (ap (λ b. min (cond b (2 + count_by (λ (c : Child). is_directory_at layers c.place) (children entries (visit_place visit)))
-              (count_by (λ (f : Listed). same_place (visit_place visit) (place f)) entries)) (2 ^ 32 - 1)) d)
+      nlink_directory : node.nlink ≡ nlink layers entries (visit_place visit)
+      nlink_directory =
+          l.nlink_is ∙ ap (λ n. min (2 + n) (2 ^ 32 - 1)) (l.added.count_is ∙ below.count_is)
+          ∙ sym (ap (λ b. min (cond b (2 + count_by (λ (c : Child). is_directory_at layers c.place) (children entries (visit_place visit)))
+          (count_by (λ (f : Listed). same_place (visit_place visit) (place f)) entries)) (2 ^ 32 - 1)) d)
 
-    has_directory : HoldsDirectory layers entries folders' new keys' (completed node) (visit_place visit)
-    has_directory = record {
-      directory = l.added.directory;
-      is = ap (λ (x : List Folder). slice_get x node.directory) l.added.is
-          ∙ ap (slice_get (folders ++ l.added.directory ∷ [])) a.directory_is ∙ get_end folders [] l.added.directory;
-      holds = is_made layers entries tell visit old new keys keys' level l.added.children l.added.directory l.added.made
-          (visit_place visit) d seed.parent_is below;
-    }
+      has_directory : HoldsDirectory layers entries folders' new keys' (completed node) (visit_place visit)
+      has_directory = record {
+        directory = l.added.directory;
+        is = ap (λ (x : List Folder). slice_get x node.directory) l.added.is
+            ∙ ap (slice_get (folders ++ l.added.directory ∷ [])) a.directory_is ∙ get_end folders [] l.added.directory;
+        holds = is_made layers entries tell visit old new keys keys' level l.added.children l.added.directory l.added.made
+            (visit_place visit) d seed.parent_is below;
+      }
 
   -- how often it is linked, and its directory
   held_by : (b : Bool) → is_directory_at layers (visit_place visit) ≡ b → AddsByKind tell visit paths b node.nlink folders folders' old new
       keys keys' →
       (node.nlink ≡ nlink layers entries (visit_place visit)) × (is_directory_at layers (visit_place visit) ≡ true
-            → HoldsDirectory layers entries folders' new keys' (completed node) (visit_place visit))
+      → HoldsDirectory layers entries folders' new keys' (completed node) (visit_place visit))
   held_by true e l = (nlink_directory e l, λ d. has_directory e l)
   held_by false e n = (n.nlink_is ∙ seed.paths_are e, λ d. absurd (let f : true ≡ false = sym d ∙ e in cc))
 
   holds_both : (node.nlink ≡ nlink layers entries (visit_place visit)) × (is_directory_at layers (visit_place visit) ≡ true
-        → HoldsDirectory layers entries folders' new keys' (completed node) (visit_place visit))
+      → HoldsDirectory layers entries folders' new keys' (completed node) (visit_place visit))
   holds_both = held_by (is_directory_at layers (visit_place visit)) refl
       (subst (λ b. AddsByKind tell visit paths b node.nlink folders folders' old new keys keys') directory_is a.adds)
 
@@ -223,7 +223,7 @@ module _ (layers : List (List ℕ)) (entries : List Listed) (tell : Place → �
       subst (λ (x : List Folder). IsNode layers entries x new keys' n q) (sym l.added.is)
       (subst (λ (x : List Line). IsNode layers entries (folders ++ l.added.directory ∷ []) x keys' n q) (sym m.rows_are)
       (subst (λ (x : List ℕ). IsNode layers entries (folders ++ l.added.directory ∷ []) (old ++ map (line_in tell) l.added.children) x n q)
-            (sym m.keys_are.is)
+      (sym m.keys_are.is)
       (grown layers entries folders l.added.directory old (map (line_in tell) l.added.children) keys m.keys_are.keys n q level i)))
   grown_by false o n q i =
       subst (λ (x : List Folder). IsNode layers entries x new keys' n q) (sym o.held_are)
@@ -255,15 +255,18 @@ module _ (layers : List (List ℕ)) (entries : List Listed) (tell : Place → �
 -- before the first branch no node is made
 pub nodes_begun : (layers : List (List ℕ)) (entries : List Listed) (held : List Node) (folders : List Folder) (rows : List Line)
     (keys : List ℕ) → held ≡ [] → rows ≡ [] → keys ≡ [] → Making layers entries held folders rows keys 0
-nodes_begun layers entries held folders rows keys e r k = record { level = ap length e; keys_level = ap length k ∙ sym (ap length r); each =
-      λ k node p f g. absurd (let h = rw e at f in cc) }
+nodes_begun layers entries held folders rows keys e r k = record {
+  level = ap length e;
+  keys_level = ap length k ∙ sym (ap length r);
+  each = λ k node p f g. absurd (let h = rw e at f in cc);
+}
 
 -- with the node of the next first branch one node more is made
 pub node_made : (layers : List (List ℕ)) (entries : List Listed) (tell : Place → ℕ) (first : List (Visit Entry)) (paths : List ℕ)
     (s : AreSeeds layers entries tell first paths) (held held' : List Node) (folders folders' : List Folder) (rows rows' : List Line)
     (keys keys' : List ℕ) (i : ℕ) (visit : Visit Entry) → i < length first → visit ≡ get_or first i visit
     → Making layers entries held folders rows keys i → (node : Node) → AddsNode layers tell visit (slice_index paths i) folders folders'
-        rows
+    rows
     rows' keys keys' node → held' ≡ held ++ node ∷ [] → Making layers entries held' folders' rows' keys' (i + 1)
 node_made layers entries tell first paths s held held' folders folders' rows rows' keys keys' i visit lt at m node a push =
     let h = slice_get_read first _ i visit refl lt at in
@@ -278,12 +281,12 @@ node_made layers entries tell first paths s held held' folders folders' rows row
         | inr (j, g) ↦
             let k_is : k ≡ i = j ∙ m.level in
             let z : Some p ≡ Some (visit_place visit) = sym f ∙ ap (slice_get (nodes entries)) k_is
-                ∙ subst (λ ps. slice_get ps i ≡ Some (visit_place visit)) s.places (get_map visit_place first i visit h) in
+            ∙ subst (λ ps. slice_get ps i ≡ Some (visit_place visit)) s.places (get_map visit_place first i visit h) in
             let p_is : visit_place visit ≡ p = cc in
             subst (λ (x : Node). IsNode layers entries folders' rows' keys' (completed x) p) g
-                (subst (IsNode layers entries folders' rows' keys' (completed node)) p_is
-                  (is_node layers entries tell (slice_index paths i) visit (s.each i visit h) folders folders' rows rows' keys keys'
-                  m.keys_level node a))
+            (subst (IsNode layers entries folders' rows' keys' (completed node)) p_is
+            (is_node layers entries tell (slice_index paths i) visit (s.each i visit h) folders folders' rows rows' keys keys'
+            m.keys_level node a))
       ];
     }
 

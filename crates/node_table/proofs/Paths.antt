@@ -103,7 +103,7 @@ module _ {T : Type 0} where
     other_name top n s.name [] a.0,
     rw (under_append top (prefixed s.name s.below) (spread ss))
         (apart_append (top ++ n ∷ []) (under top (prefixed s.name s.below)) (under top (spread ss))
-              (apart_prefixed top n s.name s.below a.0) (apart_spread top n ss a.1)),
+        (apart_prefixed top n s.name s.below a.0) (apart_spread top n ss a.1)),
   )
 
   -- the branches before one have other names
@@ -151,7 +151,7 @@ module _ {T : Type 0} where
       ap (under top) (e ∙ spread_append ls (c ∷ bs))
       ∙ under_append top (spread ls) (spread (c ∷ bs))
       ∙ ap (λ x. inner ++ x) (under_append top (prefixed c.name (whole c)) (spread bs)
-            ∙ ap (λ x. x ++ last) (under_prefixed top c.name (whole c))) in
+      ∙ ap (λ x. x ++ last) (under_prefixed top c.name (whole c))) in
       record {
         top = top ++ c.name ∷ [];
         before = l.before ++ row ∷ inner;

@@ -65,14 +65,14 @@ paths_by es fs p e =
 
 module _ (layers : List (List ℕ)) (t : TreeRows) (is : IsTreeOf 0 layers t) (sound : AllByRecursion IsImage layers) (root : Subtree Entry)
     (whole_is : t.entries ≡ whole root) (visits : List (Visit Entry)) (walked : AreWalked root root.value visits)
-        (first : List (Visit Entry))
+    (first : List (Visit Entry))
     (starts paths numbers : List ℕ) (num : IsNumbered visits (length visits) first starts paths numbers) where
   level : length visits ≡ length t.entries
   level = walked.level ∙ ap length (sym whole_is)
 
   at : (k : ℕ) (visit : Visit Entry) → slice_get visits k ≡ Some visit → IsLocated t.entries k visit.0.now visit.1
   at k visit e = subst (λ rows. IsLocated rows k visit.0.now visit.1) (sym whole_is) (let n : 0 + k ≡ k = omega arith in
-        subst (λ n. IsLocated (whole root) n visit.0.now visit.1) n (walked.each (whole root) 0 (root_located root) k visit e))
+      subst (λ n. IsLocated (whole root) n visit.0.now visit.1) n (walked.each (whole root) 0 (root_located root) k visit e))
 
   abbrev entries : List Listed
   entries = map listed t.entries
@@ -89,8 +89,10 @@ module _ (layers : List (List ℕ)) (t : TreeRows) (is : IsTreeOf 0 layers t) (s
   numbered e = ap (λ o. unwrap_or o 0) (number_of_by (seen visits (length visits)) (map listed t.entries) (placed e.place) (sym places_are))
 
   visit_placed : (k : ℕ) (visit : Visit Entry) → slice_get visits k ≡ Some visit → IsPlaced layers visit.0.now.value
-  visit_placed k visit e = let l = at k visit e in all_get (λ (r : Path × Entry). IsPlaced layers r.1) t.entries k (l.top ++ [],
-        visit.0.now.value) all_placed (row_at t.entries k visit.0.now visit.1 l)
+  visit_placed k visit e = let l = at k visit e in all_get (λ (r : Path × Entry). IsPlaced layers r.1) t.entries k (
+    l.top ++ [],
+    visit.0.now.value,
+  ) all_placed (row_at t.entries k visit.0.now visit.1 l)
 
   children_placed : (k : ℕ) (visit : Visit Entry) → slice_get visits k ≡ Some visit → (cs : List (Subtree Entry))
       → visit.0.now.below ≡ spread cs
@@ -100,16 +102,19 @@ module _ (layers : List (List ℕ)) (t : TreeRows) (is : IsTreeOf 0 layers t) (s
       let P : Path × Entry → Type 0 = λ (r : Path × Entry). IsPlaced layers r.1 in
       let row : Path × Entry = (l.top ++ [], visit.0.now.value) in
       let s = seeded.split t.entries visits level at k visit.0.now visit.1 l
-          ∙ ap (λ b. l.before ++ row ∷ (under l.top b ++ l.after)) below in
+      ∙ ap (λ b. l.before ++ row ∷ (under l.top b ++ l.after)) below in
       let tail = all_back P l.before (row ∷ (under l.top (spread cs) ++ l.after)) (subst (AllByRecursion P) s all_placed) in
       go l.top cs (all_front P (under l.top (spread cs)) l.after tail.1)
     where
       go : (top : Path) (cs : List (Subtree Entry)) → AllByRecursion (λ (r : Path × Entry). IsPlaced layers r.1) (under top (spread cs))
           → AllByRecursion (λ (c : Subtree Entry). IsPlaced layers c.value) cs
       go top [] a = tt
-      go top (c ∷ cs) a = (a.0, go top cs (all_back (λ (r : Path × Entry). IsPlaced layers r.1) (under top (prefixed c.name c.below))
+      go top (c ∷ cs) a = (
+        a.0,
+        go top cs (all_back (λ (r : Path × Entry). IsPlaced layers r.1) (under top (prefixed c.name c.below))
             (under top (spread cs)) (subst (AllByRecursion (λ (r : Path × Entry). IsPlaced layers r.1))
-            (under_append top (prefixed c.name c.below) (spread cs)) a.1)))
+            (under_append top (prefixed c.name c.below) (spread cs)) a.1)),
+      )
 
   seedlings : (k : ℕ) (visit : Visit Entry) (f : IsFirstVisit visits visit) (cs : List (Subtree Entry)) → visit.0.now.below ≡ spread cs
       → IsForest cs → AreSeedlings layers (map listed t.entries) (number_among visits) (visit_place visit) cs
@@ -134,7 +139,7 @@ module _ (layers : List (List ℕ)) (t : TreeRows) (is : IsTreeOf 0 layers t) (s
           (map child_of cs)
       kinds [] a = refl
       kinds (c ∷ cs) a = ap (λ b. cond b (1 + count (λ (c : Subtree Entry). is_directory c.value.kind) cs)
-            (count (λ (c : Subtree Entry). is_directory c.value.kind) cs)) (ap is_directory (kind_placed layers c.value a.0))
+          (count (λ (c : Subtree Entry). is_directory c.value.kind) cs)) (ap is_directory (kind_placed layers c.value a.0))
           ∙ ap (λ n. cond (is_directory_at layers (placed c.value.place)) (1 + n) n) (kinds cs a.1)
 
   seed : (k : ℕ) (visit : Visit Entry) → slice_get first k ≡ Some visit → IsSeed layers (map listed t.entries) (number_among visits)
@@ -152,9 +157,9 @@ module _ (layers : List (List ℕ)) (t : TreeRows) (is : IsTreeOf 0 layers t) (s
         below = seedlings k visit f;
         paths_are = λ other. num.counted k visit e
             ∙ ap (λ c. min c (2 ^ 32 - 1)) (paths_by (seen visits (length visits)) (map listed t.entries) (visit_place visit)
-                  (sym places_are))
+            (sym places_are))
             ∙ ap (λ b. min (cond b (2 + count_by (λ (c : Child). is_directory_at layers c.place)
-              (children (map listed t.entries) (visit_place visit))) (paths_of (map listed t.entries) (visit_place visit))) (2 ^ 32 - 1))
+            (children (map listed t.entries) (visit_place visit))) (paths_of (map listed t.entries) (visit_place visit))) (2 ^ 32 - 1))
             (sym other);
       }
 
@@ -212,9 +217,11 @@ module _ (layers : List (List ℕ)) (t : TreeRows) (is : IsTreeOf 0 layers t) (s
     following j s above l ls (c ∷ cs) below rise =
         let here = child_located t.entries j s above l ls c cs below rise in
         let again = append_assoc ls (c ∷ []) cs in
-        let rest = following j s above l (ls ++ c ∷ []) cs (below ∙ ap spread (sym again)) (subst NamesRise (sym again) rise) in
-        (posted (j + suc (length (spread ls))) c s.value here, subst (λ n. AreFollowing (number_among visits) numbers sizes n cs) longer
-              rest)
+        let rest = following j s above l (ls ++ c ∷ []) cs (below ∙ ap spread (sym again)) (subst NamesRise (sym again) rise) in (
+          posted (j + suc (length (spread ls))) c s.value here,
+          subst (λ n. AreFollowing (number_among visits) numbers sizes n cs) longer
+              rest,
+        )
       where
         longer : j + suc (length (spread (ls ++ c ∷ []))) ≡ j + suc (length (spread ls)) + length (whole c)
         longer =

@@ -46,7 +46,7 @@ pub seats_more : (keys : List ℕ) (seats seats' : List (ℕ × ℕ)) (i key : �
     → Seating keys seats i → Seating keys seats' (i + 1)
 seats_more keys seats seats' i key e p s = record {
   own = λ k d l. at k d l (below_or_at k (length seats) (let m : length seats' ≡ length seats + 1 = ap length p
-        ∙ length-append seats ((key, i) ∷ []) in omega arith));
+      ∙ length-append seats ((key, i) ∷ []) in omega arith));
   every = λ k l. one k (below_or_at k i l);
 }
   where
@@ -57,17 +57,23 @@ seats_more keys seats seats' i key e p s = record {
         subst (λ (x : ℕ × ℕ). (x.1 < i + 1) × (slice_index keys x.1 ≡ x.0)) (sym g) (further keys seats i s.own k d m)
     at k d l (inr m) =
         let g : get_or seats' k d ≡ (key, i) = ap (λ x. get_or x k d) p ∙ ap (λ n. get_or (seats ++ (key, i) ∷ []) n d) m
-            ∙ get_or_push seats (key, i) d (length seats) refl in
+        ∙ get_or_push seats (key, i) d (length seats) refl in
         subst (λ (x : ℕ × ℕ). (x.1 < i + 1) × (slice_index keys x.1 ≡ x.0)) (sym g) (omega arith, sym e)
 
     here : Contains seats' (slice_index keys i, i)
-    here = (length seats, (let m : length seats' ≡ length seats + 1 = ap length p ∙ length-append seats ((key, i) ∷ []) in omega arith),
-          ap (λ x. get_or x (length seats) (slice_index keys i, i)) p
-            ∙ get_or_push seats (key, i) (slice_index keys i, i) (length seats) refl ∙ ap (λ x. (x, i)) e)
+    here = (
+      length seats,
+      (let m : length seats' ≡ length seats + 1 = ap length p ∙ length-append seats ((key, i) ∷ []) in omega arith),
+      ap (λ x. get_or x (length seats) (slice_index keys i, i)) p
+          ∙ get_or_push seats (key, i) (slice_index keys i, i) (length seats) refl ∙ ap (λ x. (x, i)) e,
+    )
 
     there : (x : ℕ × ℕ) → Contains seats x → Contains seats' x
-    there x (j, m, q) = (j, (let n : length seats' ≡ length seats + 1 = ap length p ∙ length-append seats ((key, i) ∷ []) in omega arith),
-          ap (λ y. get_or y j x) p ∙ get_or_append_left seats ((key, i) ∷ []) x j m ∙ q)
+    there x (j, m, q) = (
+      j,
+      (let n : length seats' ≡ length seats + 1 = ap length p ∙ length-append seats ((key, i) ∷ []) in omega arith),
+      ap (λ y. get_or y j x) p ∙ get_or_append_left seats ((key, i) ∷ []) x j m ∙ q,
+    )
 
     one : (k : ℕ) → (k < i) ⊎ (k ≡ i) → Contains seats' (slice_index keys k, k) ⊎ IsOnce keys k
     one k (inl m) = elim (s.every k m) [ inl c ↦ inl (there _ c) | inr o ↦ inr o ]
@@ -182,7 +188,7 @@ module _ (keys : List ℕ) (seats : List (ℕ × ℕ)) (firsts : List ℕ) (grou
       placed k j l e m at (inr o) n =
           let a = ordered seats f.seated.rising i j (0, 0) o m in
           after (seat_at seats i) (seat_at seats j) a (ap (λ (x : ℕ × ℕ). x.0) at ∙ e) (subst (λ (x : ℕ × ℕ). x.1 < (seat_at seats i).1)
-                (sym at) l)
+          (sym at) l)
 
       earlier : (k : ℕ) → k < (seat_at seats i).1 → slice_index keys k ≡ (seat_at seats i).0 → Contains seats (slice_index keys k, k)
           ⊎ IsOnce keys k → ⊥
@@ -203,7 +209,7 @@ module _ (keys : List ℕ) (seats : List (ℕ × ℕ)) (firsts : List ℕ) (grou
       here : IsFirstOf keys (seat_at seats i).0 (slice_index firsts' (seat_at seats i).1)
       here =
           let at : slice_index firsts' (seat_at seats i).1 ≡ group'.1 = ap (λ xs. slice_index xs (seat_at seats i).1) set
-              ∙ (let w = within in rw get_or-set_same refl) in
+          ∙ (let w = within in rw get_or-set_same refl) in
           subst (IsFirstOf keys (seat_at seats i).0) (sym at) (subst (λ x. IsFirstOf keys x group'.1) k first)
 
       alike : (m : ℕ) → m ≡ (seat_at seats i).1 → IsFirstOf keys (slice_index keys m) (slice_index firsts' m)
@@ -239,7 +245,7 @@ module _ (keys : List ℕ) (seats : List (ℕ × ℕ)) (firsts : List ℕ) (grou
   pub key_begins : (group' : ℕ × ℕ) (firsts' : List ℕ) → group' ≡ seat_at seats i → firsts' ≡ slice_set firsts (seat_at seats i).1 group'.1
       → (i ≡ 0) ⊎ ((seat_at seats i).0 ≢ group.0) → Filling keys seats firsts' group' (i + 1)
   key_begins group' firsts' g set n = told group' firsts' (ap (λ (x : ℕ × ℕ). x.0) g) (subst (λ (x : ℕ × ℕ). IsFirstOf keys x.0 x.1)
-        (sym g) (is_first n)) set
+      (sym g) (is_first n)) set
 
 -- past the last seat each place has the first place with its key
 pub all_told : (keys : List ℕ) (seats : List (ℕ × ℕ)) (firsts : List ℕ) (group : ℕ × ℕ) (i : ℕ) → length seats ≤ i

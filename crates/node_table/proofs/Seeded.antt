@@ -46,22 +46,22 @@ pub row_at : (rows : Rows Entry) (j : ℕ) (s : Subtree Entry) (above : Entry) (
     → slice_get rows j ≡ Some (l.top ++ [], s.value)
 row_at rows j s above l = subst (λ n. slice_get rows n ≡ Some (l.top ++ [], s.value)) l.at
     (subst (λ x. slice_get x (length l.before) ≡ Some (l.top ++ [], s.value))
-      (sym (l.is ∙ append_assoc l.before (under l.top (whole s)) l.after))
-      (get_end l.before (under l.top s.below ++ l.after) (l.top ++ [], s.value)))
+    (sym (l.is ∙ append_assoc l.before (under l.top (whole s)) l.after))
+    (get_end l.before (under l.top s.below ++ l.after) (l.top ++ [], s.value)))
 
 -- the rows of a walk have the places of its visits
 pub places_same : (rows : Rows Entry) (visits : List (Visit Entry)) → length visits ≡ length rows
     → ((k : ℕ) (visit : Visit Entry) → slice_get visits k ≡ Some visit → IsLocated rows k visit.0.now visit.1) → map place (map listed rows)
     ≡ map visit_place visits
 places_same rows visits level at = ext (map place (map listed rows)) (map visit_place visits) (length-map (map listed rows) place
-      ∙ length-map rows listed ∙ sym level ∙ sym (length-map visits visit_place)) one
+    ∙ length-map rows listed ∙ sym level ∙ sym (length-map visits visit_place)) one
   where
     one : (k : ℕ) (y : ModelPlace) → slice_get (map visit_place visits) k ≡ Some y → slice_get (map place (map listed rows)) k ≡ Some y
     one k y e =
         let x = get_of_map visit_place visits k y e in
         let l = at k x.0 x.1 in
         get_map place (map listed rows) k (listed (l.top ++ [], x.0.0.now.value)) (get_map listed rows k (l.top ++ [], x.0.0.now.value)
-              (row_at rows k x.0.0.now x.0.1 l)) ∙ ap Some x.2
+        (row_at rows k x.0.0.now x.0.1 l)) ∙ ap Some x.2
 
 -- entries made of visits have the visits' places
 pub bare_places : (visits : List (Visit Entry)) → map place (map bare visits) ≡ map visit_place visits
@@ -123,7 +123,7 @@ child_of c = record { name = c.name; place = placed c.value.place }
 none_apart : (top : Path) (xs : Rows Entry) → IsApart top xs → filter_map (child_in top) (map listed xs) ≡ []
 none_apart top [] a = refl
 none_apart top (x ∷ xs) a = ap (λ o. cons_option (option_map (λ n. record { name = n; place = place (listed x) }) o)
-      (filter_map (child_in top) (map listed xs))) (below_none top x.0 a.0) ∙ none_apart top xs a.1
+    (filter_map (child_in top) (map listed xs))) (below_none top x.0 a.0) ∙ none_apart top xs a.1
 
 -- rows below a child
 abbrev AreLong : Rows Entry → Type 0
@@ -133,7 +133,7 @@ none_long : (top : Path) (n : List ℕ) (xs : Rows Entry) → AreLong xs → fil
     ≡ []
 none_long top n [] a = refl
 none_long top n (x ∷ xs) a = ap (λ o. cons_option (option_map (λ m. record { name = m; place = place (listed x) }) o)
-      (filter_map (child_in top) (map listed (under top (prefixed n xs))))) (one x.0 a.0) ∙ none_long top n xs a.1
+    (filter_map (child_in top) (map listed (under top (prefixed n xs))))) (one x.0 a.0) ∙ none_long top n xs a.1
   where
     one : (q : Path) → slice_cmp name_cmp [] q ≡ Less → name_below top (top ++ n ∷ q) ≡ None
     one [] e = absurd (cc)
@@ -145,7 +145,7 @@ pub children_under : (top : Path) (cs : List (Subtree Entry)) → AllByRecursion
 children_under top [] a = refl
 children_under top (c ∷ cs) a =
     ap (λ o. cons_option (option_map (λ n. record { name = n; place = placed c.value.place }) o)
-          (filter_map (child_in top) (map listed (under top (prefixed c.name c.below ++ spread cs))))) (below_one top c.name)
+    (filter_map (child_in top) (map listed (under top (prefixed c.name c.below ++ spread cs))))) (below_one top c.name)
     ∙ ap (λ r. record { name = c.name; place = placed c.value.place } ∷ r) (
     ap (λ xs. filter_map (child_in top) (map listed xs)) (under_append top (prefixed c.name c.below) (spread cs))
     ∙ ap (filter_map (child_in top)) (map-append listed (under top (prefixed c.name c.below)) (under top (spread cs)))
@@ -154,7 +154,7 @@ children_under top (c ∷ cs) a =
     ∙ children_under top cs a.1)
 
 module _ (rows : Rows Entry) (visits : List (Visit Entry)) (level : length visits ≡ length rows) (at : (k : ℕ) (visit : Visit Entry)
-      → slice_get visits k ≡ Some visit → IsLocated rows k visit.0.now visit.1) where
+    → slice_get visits k ≡ Some visit → IsLocated rows k visit.0.now visit.1) where
   -- the entries of the rows, as a listing has them
   pub entries : List Listed
   entries = map listed rows
@@ -185,21 +185,22 @@ module _ (rows : Rows Entry) (visits : List (Visit Entry)) (level : length visit
       let p = visit_place visit in
       let e : Listed = listed (l.top ++ [], s.value) in
       let none : number_of (map listed l.before) p ≡ None = number_of_by (map listed l.before) (seen visits f.at) p
-          (places_before f.at s visit.1 l) ∙ f.new in
+      (places_before f.at s visit.1 l) ∙ f.new in
       let found : find (λ (e : Listed). same_place p (place e)) (map listed rows) ≡ Some e =
       ap (λ x. find (λ (e : Listed). same_place p (place e)) x) (ap (map listed) (split f.at s visit.1 l)
-            ∙ map-append listed l.before ((l.top ++ [], s.value) ∷ (under l.top s.below ++ l.after)))
+      ∙ map-append listed l.before ((l.top ++ [], s.value) ∷ (under l.top s.below ++ l.after)))
       ∙ find_past p (map listed l.before) (map listed (under l.top s.below ++ l.after)) e
-          (λ g a. not_among (map listed l.before) p none g a) (place_itself p) in
+      (λ g a. not_among (map listed l.before) p none g a) (place_itself p) in
       ap (λ o. option_map_or (λ (e : Listed). e.path) o []) found ∙ append-nil l.top
 
   -- the parent of a place is the place of the branch above its first branch
-  pub parent_is : (visit : Visit Entry) (f : IsFirstVisit visits visit) → parent (map listed rows) (visit_place visit) ≡ placed visit.1.place
+  pub parent_is : (visit : Visit Entry) (f : IsFirstVisit visits visit)
+      → parent (map listed rows) (visit_place visit) ≡ placed visit.1.place
   unfolding parent
   parent_is visit f =
       let l = at f.at visit f.is in
       ap (λ (q : Path). option_map_or place (find (λ (e : Listed). same_path (take (length q - 1) q) e.path) (map listed rows))
-            (visit_place visit)) (path_is visit f)
+      (visit_place visit)) (path_is visit f)
       ∙ ap (λ o. option_map_or place o (visit_place visit)) (find_map (same_path (take (length l.top - 1) l.top)) rows)
       ∙ above (find (λ (r : Path × Entry). same_path (take (length l.top - 1) l.top) r.0) rows) l.above_is
     where
@@ -221,12 +222,12 @@ module _ (rows : Rows Entry) (visits : List (Visit Entry)) (level : length visit
       let mine = under l.top (spread cs) in
       ap (λ (q : Path). filter_map (child_in q) (map listed rows)) (path_is visit f)
       ∙ ap (λ x. filter_map (child_in top) (map listed x)) (split f.at s visit.1 l
-            ∙ ap (λ b. l.before ++ row ∷ (under l.top b ++ l.after)) below)
+      ∙ ap (λ b. l.before ++ row ∷ (under l.top b ++ l.after)) below)
       ∙ ap (filter_map (child_in top)) (map-append listed l.before (row ∷ (mine ++ l.after)))
       ∙ filter_map-append (child_in top) (map listed l.before) (map listed (row ∷ (mine ++ l.after)))
       ∙ ap (λ x. x ++ filter_map (child_in top) (map listed (row ∷ (mine ++ l.after)))) (none_apart top l.before l.apart_before)
       ∙ ap (λ o. cons_option (option_map (λ n. record { name = n; place = placed s.value.place }) o)
-            (filter_map (child_in top) (map listed (mine ++ l.after)))) (below_itself top)
+      (filter_map (child_in top) (map listed (mine ++ l.after)))) (below_itself top)
       ∙ ap (filter_map (child_in top)) (map-append listed mine l.after)
       ∙ filter_map-append (child_in top) (map listed mine) (map listed l.after)
       ∙ ap (λ x. filter_map (child_in top) (map listed mine) ++ x) (none_apart top l.after l.apart_after)

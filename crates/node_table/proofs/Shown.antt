@@ -44,13 +44,15 @@ pub record IsPlaced (layers : List (List ℕ)) (e : Entry) : Type 0 where
   pub kind_is : e.kind ≡ kind image e.place.header
 
 given_at : (a : List ℕ) (i : IsImage a) (path : Path) (h e : ℕ) → Has a path h → IsFinal a h e → IsGiven a (head_of a e)
-given_at a i path h e l f = record { is = refl; from =
-      elim (leads_to a path (root a) h l) [ inl r ↦ at_root h e r f | inr m ↦ inr (inr (h, m, f)) ] }
+given_at a i path h e l f = record {
+  is = refl;
+  from = elim (leads_to a path (root a) h l) [ inl r ↦ at_root h e r f | inr m ↦ inr (inr (h, m, f)) ];
+}
   where
     at_root : (h e : ℕ) → root a ≡ h → IsFinal a h e → From a e
     at_root h e r (stays n) = inl (sym r)
     at_root h e r (follows l g) = absurd (let k : kind a h ≡ Directory = subst (λ x. kind a x ≡ Directory) r (root_directory a i) in let m =
-          l.1 in cc)
+        l.1 in cc)
 
 not_before_itself : (p : Path) → slice_cmp name_cmp p p ≡ Less → ⊥
 not_before_itself p e = let s = (lists_total nat_list_cmp_total).antisymm p p in let r : Less ≡ Greater = sym e ∙ s
@@ -93,7 +95,7 @@ both P Q R f (x ∷ xs) a b = (f x a.0 b.0, both P Q R f xs a.1 b.1)
 pub rows_placed : (layers : List (List ℕ)) (t : TreeRows) → IsTreeOf 0 layers t → AllByRecursion IsImage layers
     → AllByRecursion (λ (r : Path × Entry). IsPlaced layers r.1) t.entries
 rows_placed layers t is sound = both (λ (r : Path × Entry). at_path t.entries r.0 ≡ Some r.1) (λ (r : Path × Entry).
-      IsAmong (listed r) (listing t)) (λ (r : Path × Entry). IsPlaced layers r.1) one t.entries (own_at t.entries is.rising)
+    IsAmong (listed r) (listing t)) (λ (r : Path × Entry). IsPlaced layers r.1) one t.entries (own_at t.entries is.rising)
     (among_listed t.entries (λ r. IsAmong (listed r) (listing t)) (λ r a. a) t.entries (λ r a. a))
   where
     one : (r : Path × Entry) → at_path t.entries r.0 ≡ Some r.1 → IsAmong (listed r) (listing t) → IsPlaced layers r.1

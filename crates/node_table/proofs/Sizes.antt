@@ -56,7 +56,7 @@ module _ (rows : Rows Entry) (j : ℕ) (s s' : Subtree Entry) (above above' : En
   pub same_size : length (whole s) ≡ length (whole s')
   same_size =
       let top = sym (append-nil l.top) ∙ ap (λ (r : Path × Entry). r.0) (rows_are (l.top ++ [], s.value) (l'.top ++ [], s'.value) refl refl)
-          ∙ append-nil l'.top in
+      ∙ append-nil l'.top in
       sym (rows_below rows j s above l) ∙ ap (λ t. count_below t rows) top ∙ rows_below rows j s' above' l'
 
 -- a branch ends within the rows

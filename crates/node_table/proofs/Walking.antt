@@ -39,8 +39,11 @@ module _ {T : Type 0} where
   stands_more all more place value s = record { visit = s.visit; is = get_front all more place s.visit s.is; value_is = s.value_is }
 
   above_more : (all more visits : List (Visit T)) (places : List ℕ) → AreAbove all visits places → AreAbove (all ++ more) visits places
-  above_more all more visits places a = record { level = a.level; each = λ k visit e. stands_more all more (slice_index places k) visit.1
-        (a.each k visit e) }
+  above_more all more visits places a = record {
+    level = a.level;
+    each = λ k visit e. stands_more all more (slice_index places k) visit.1
+        (a.each k visit e);
+  }
 
   above_joined : (all xs ys : List (Visit T)) (ps qs : List ℕ) → AreAbove all xs ps → AreAbove all ys qs
       → AreAbove all (xs ++ ys) (ps ++ qs)
@@ -48,9 +51,9 @@ module _ {T : Type 0} where
     level = length-append ps qs ∙ ap (λ n. n + length qs) a.level ∙ ap (λ n. length xs + n) b.level ∙ sym (length-append xs ys);
     each = λ k visit e. elim (get_append xs ys k visit e) [
       | inl f ↦ subst (λ n. StandsAt all n visit.1) (sym (get_or_append_left ps qs 0 k
-            (let l = slice_get_within xs k visit f in let level = a.level in omega arith))) (a.each k visit f)
+          (let l = slice_get_within xs k visit f in let level = a.level in omega arith))) (a.each k visit f)
       | inr (m, f, g) ↦ subst (λ n. StandsAt all n visit.1) (sym (ap (slice_index (ps ++ qs)) (f ∙ ap (λ n. n + m) (sym a.level))
-            ∙ get_or-append-add ps qs m 0)) (b.each m visit g)
+          ∙ get_or-append-add ps qs m 0)) (b.each m visit g)
     ];
   }
 
@@ -101,8 +104,12 @@ module _ {T : Type 0} where
       here : StandsAt old place above ⊎ ((place ≡ length old) × (branch.now.value ≡ above))
           → StandsAt (old ++ (branch, above) ∷ []) place above
       here (inl s) = stands_more old ((branch, above) ∷ []) place above s
-      here (inr (a, b)) = record { visit = (branch, above); is = ap (slice_get (old ++ (branch, above) ∷ [])) a
-            ∙ get_end old [] (branch, above); value_is = b }
+      here (inr (a, b)) = record {
+        visit = (branch, above);
+        is = ap (slice_get (old ++ (branch, above) ∷ [])) a
+            ∙ get_end old [] (branch, above);
+        value_is = b;
+      }
 
       one : (k : ℕ) (visit : Visit T) → slice_get ((branch, above) ∷ []) k ≡ Some visit → StandsAt out (slice_index (place ∷ []) k) visit.1
       one zero visit f =
@@ -151,7 +158,7 @@ module _ {T : Type 0} where
     places_are = a.places_are ∙ ap (λ x. x ++ a.more) w.places_are ∙ append_assoc places w.more a.more;
     stand = above_joined out' ((w.first, above) ∷ w.rest) a.visits w.more a.more
         (subst (λ (x : List (Visit T)). AreAbove x ((w.first, above) ∷ w.rest) w.more) (sym a.is)
-          (above_more out a.visits ((w.first, above) ∷ w.rest) w.more w.stand)) a.stand;
+        (above_more out a.visits ((w.first, above) ∷ w.rest) w.more w.stand)) a.stand;
     sizes_are = a.sizes_are ∙ ap (λ x. x ++ map visit_size a.visits) w.sizes_are ∙ append_assoc sizes (0 ∷ map visit_size w.rest)
         (map visit_size a.visits) ∙ ap (λ x. sizes ++ 0 ∷ x) (sym (map-append visit_size w.rest a.visits));
     sizes_level = w.sizes_level;
@@ -190,7 +197,7 @@ module _ {T : Type 0} where
     stand = w.stand;
     sizes_are =
         set ∙ ap (λ x. slice_set x at size) w.sizes_are ∙ ap (λ n. slice_set (sizes ++ 0 ∷ map visit_size w.rest) n size) (at_is
-              ∙ sym w.sizes_level)
+        ∙ sym w.sizes_level)
         ∙ set_at sizes 0 (map visit_size w.rest) size (length sizes) refl ∙ ap (λ n. sizes ++ n ∷ map visit_size w.rest) mine;
   }
     where

@@ -57,8 +57,10 @@ module _ (layers : List (List ℕ)) (entries : List Entry) (top : Path) where
   no_kid : (e : Entry) (es : List Entry) → name_below top e.path ≡ None → kids (e ∷ es) ≡ kids es
   no_kid e es f = rw f refl
 
-  one_kid : (e : Entry) (es : List Entry) (n : List ℕ) → name_below top e.path ≡ Some n → kids (e ∷ es) ≡ record { name = n; place =
-        place e } ∷ kids es
+  one_kid : (e : Entry) (es : List Entry) (n : List ℕ) → name_below top e.path ≡ Some n → kids (e ∷ es) ≡ record {
+    name = n;
+    place = place e;
+  } ∷ kids es
   one_kid e es n f = rw f refl
 
   same_current : (cur : Option (List ℕ)) (e : Entry) (es : List Entry) → ((x : List ℕ) → is_below (top ++ x ∷ []) e.path ≡ false)
@@ -102,7 +104,7 @@ module _ (layers : List (List ℕ)) (entries : List Entry) (top : Path) where
           | inl i ↦ inl i
           | inr (d, b, p) ↦ elim b [
             | inl i ↦ absurd (let h : after top e.path ≡ Some (n ∷ []) = rw (sym i, p) (is_after top (n ∷ [])) in let z = rw h at name in
-                  cc)
+                cc)
             | inr b ↦ inr (d, b, p)
           ]
         ];
@@ -117,7 +119,7 @@ module _ (layers : List (List ℕ)) (entries : List Entry) (top : Path) where
       let p : e.path ≡ top ++ n ∷ [] = after_is top e.path (n ∷ []) f in
       let at : path_cmp (top ++ n ∷ []) (top ++ n ∷ []) ≡ path_cmp (top ++ n ∷ []) (top ++ n ∷ []) = refl in
       let no : (x : List ℕ) → is_below (top ++ x ∷ []) e.path ≡ false =
-          λ x. elim (same_or_not x n) [ inl s ↦ (below_name top e.path [] x n f).0 s.0 | inr s ↦ (below_name top e.path [] x n f).1 s.0 ] in
+      λ x. elim (same_or_not x n) [ inl s ↦ (below_name top e.path [] x n f).0 s.0 | inr s ↦ (below_name top e.path [] x n f).1 s.0 ] in
       let after_e : (g : Entry) → IsAmong g es → path_cmp (top ++ n ∷ []) g.path ≡ Less = λ g a. rw (sym p) (later e es g l.rises.0 a) in
       let never : (m : List ℕ) → cur ≡ Some m → (g : Entry) → IsAmong g es → (r : Path) → g.path ≡ top ++ m ∷ r → ⊥ = λ m i g a r q.
       between m n r
@@ -130,7 +132,7 @@ module _ (layers : List (List ℕ)) (entries : List Entry) (top : Path) where
           | inl i ↦ absurd (never m i g a (k ∷ r) (after_is top g.path (m ∷ k ∷ r) h))
           | inr (d, b, q) ↦ elim b [
             | inl i ↦ inl (let j : after top e.path ≡ Some (m ∷ []) = rw (sym i, q) (is_after top (m ∷ [])) in let z : Some (n ∷ [])
-                  ≡ Some (m ∷ []) = sym f ∙ j in cc)
+                ≡ Some (m ∷ []) = sym f ∙ j in cc)
             | inr b ↦ inr (d, b, q)
           ]
         ];
@@ -138,12 +140,19 @@ module _ (layers : List (List ℕ)) (entries : List Entry) (top : Path) where
       } in
       let none : current cur es ≡ [] = empty cur never in
       let same : below entries (top ++ n ∷ []) ≡ below es (top ++ n ∷ []) = l.whole e (inl refl) n p
-          ∙ no_more (top ++ n ∷ []) e es (no n) in
+      ∙ no_more (top ++ n ∷ []) e es (no n) in
       let text : line layers entries e ≡ line_of layers entries (place e) (top ++ n ∷ []) = ap (line_of layers entries (place e)) p in
-      rw (one_more top e es (rw f refl), same_current cur e es no, none, one_kid e es n (name_is top e.path ∙ rw f refl), same, text,
-            on rest)
+      rw (
+        one_more top e es (rw f refl),
+        same_current cur e es no,
+        none,
+        one_kid e es n (name_is top e.path ∙ rw f refl),
+        same,
+        text,
+        on rest,
+      )
       (sym (append_assoc (line_of layers entries (place e) (top ++ n ∷ [])) (flat_map (line layers entries) (below es (top ++ n ∷ [])))
-            (flat_map piece (kids es))))
+      (flat_map piece (kids es))))
     where
       empty : (cur : Option (List ℕ)) → ((m : List ℕ) → cur ≡ Some m → (g : Entry) → IsAmong g es → (r : Path) → g.path ≡ top ++ m ∷ r → ⊥)
           → current cur es ≡ []
@@ -180,14 +189,18 @@ module _ (layers : List (List ℕ)) (entries : List Entry) (top : Path) where
               | inr u ↦ (below_name top e.path (k ∷ r) x n f).1 u.0
             ]);
       } in
-      rw (one_more top e es (rw f refl), one_more (top ++ m ∷ []) e es ((below_name top e.path (k ∷ r) m n f).0 s),
-            no_kid e es (name_is top e.path ∙ rw f refl), on rest)
+      rw (
+        one_more top e es (rw f refl),
+        one_more (top ++ m ∷ []) e es ((below_name top e.path (k ∷ r) m n f).0 s),
+        no_kid e es (name_is top e.path ∙ rw f refl),
+        on rest,
+      )
       (sym (append_assoc (line layers entries e) (flat_map (line layers entries) (below es (top ++ m ∷ []))) (flat_map piece (kids es))))
     where
       child_first : (es : List Entry) (e d : Entry) (n k : List ℕ) (r : Path) → e.path ≡ top ++ n ∷ k ∷ r → path_cmp e.path d.path ≡ Less
           → d.path ≡ top ++ n ∷ [] → ⊥
       child_first es e d n k r p c t = not_both (top ++ n ∷ k ∷ r) (top ++ n ∷ []) (rw (p, t) at c) (under_same top (n ∷ []) (n ∷ k ∷ r)
-            ∙ comes_later (n ∷ []) r k)
+          ∙ comes_later (n ∷ []) r k)
 
   nothing_left : flat_map (line layers entries) (below [] top) ≡ []
   unfolding below
@@ -211,7 +224,7 @@ module _ (layers : List (List ℕ)) (entries : List Entry) (top : Path) where
         | inr (d, b, p) ↦ elim b [
           | inl i ↦ absurd (not_kid e d n k n r f (sym i) p)
           | inr b ↦ absurd (not_both (top ++ n ∷ k ∷ r) (top ++ n ∷ []) (rw (after_is top e.path (n ∷ k ∷ r) f, p) at
-                (later e es d l.rises.0 b)) (under_same top (n ∷ []) (n ∷ k ∷ r) ∙ comes_later (n ∷ []) r k))
+              (later e es d l.rises.0 b)) (under_same top (n ∷ []) (n ∷ k ∷ r) ∙ comes_later (n ∷ []) r k))
         ]
       ]
 
@@ -222,6 +235,6 @@ module _ (layers : List (List ℕ)) (entries : List Entry) (top : Path) where
     rises = t.rising;
     late = λ m i e a. absurd (cc);
     closed = λ e a n k r f. let d = t.above e (top ++ n ∷ []) r k a (after_is top e.path (n ∷ k ∷ r) f
-          ∙ sym (append_assoc top (n ∷ []) (k ∷ r))) in inr (d.0, d.1, d.2);
+        ∙ sym (append_assoc top (n ∷ []) (k ∷ r))) in inr (d.0, d.1, d.2);
     whole = λ d a x p. refl;
   })

@@ -30,7 +30,7 @@ pub one_more : {X : Type 0} (f : X → List ℕ) (xs : List X) (i : ℕ) (d : X)
 one_more f [] i d l = absurd (omega arith)
 one_more f (x ∷ xs) zero d l = append-nil (f x)
 one_more f (x ∷ xs) (suc i) d l = rw add-one (ap (λ r. f x ++ r) (sym (ap (λ k. flat_map f (take k xs)) (add-one i))
-      ∙ one_more f xs i d (omega arith)) ∙ sym (append_assoc (f x) (flat_map f (take i xs)) (f (get_or xs i d))))
+    ∙ one_more f xs i d (omega arith)) ∙ sym (append_assoc (f x) (flat_map f (take i xs)) (f (get_or xs i d))))
 
 -- the text of a name with one byte more is that before it, and the byte escaped
 pub name_more : (name : List ℕ) (i : ℕ) → i < length name → name_text (take i name) ++ escaped (get_or name i 0)

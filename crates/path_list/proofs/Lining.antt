@@ -14,7 +14,7 @@ use Rattle.path_list.specs.Walks.{line_at}
 pub line_is : (stack : Stacked) (n : ℕ) (path : Path) (p : Place) (attr : NodeAttr) → node_of stack.entries n ≡ Some p
     → Some attr ≡ attr_at stack n →
     spaced (decimal attr.ino) ++ spaced (mode_text attr.mode) ++ spaced (decimal attr.nlink) ++ spaced (decimal attr.size)
-        ++ spaced (decimal p.0) ++ path_text path ++ 10 ∷ []
+    ++ spaced (decimal p.0) ++ path_text path ++ 10 ∷ []
     ≡ line_at stack n path
 unfolding line_of
 line_is stack n path p attr e f =

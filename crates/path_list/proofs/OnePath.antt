@@ -37,16 +37,24 @@ module _ (a : List ℕ) (i : IsImage a) where
 
   -- a header stands in one chain
   one_chain : (d e k l h : ℕ) → IsOpened a d → IsOpened a e → IsAt a d k h → IsAt a e l h → d ≡ e
-  one_chain d e zero zero h o p x y = elim (cases_eq d e) [ inl s ↦ s | inr n ↦ absurd
-        (not_twice a i h (inl (first_of d, first_of e, (λ s. n cc), (o, x), (p, y)))) ]
+  one_chain d e zero zero h o p x y = elim (cases_eq d e) [
+    | inl s ↦ s
+    | inr n ↦ absurd
+        (not_twice a i h (inl (first_of d, first_of e, (λ s. n cc), (o, x), (p, y))))
+  ]
   one_chain d e zero (suc l) h o p x y =
       absurd (not_twice a i h (inl (first_of d, next_of y.0, (λ s. cc), (o, x), (e, record { opened = p; in_chain = (l, y.1) }, y.2))))
   one_chain d e (suc k) zero h o p x y =
       absurd (not_twice a i h (inl (first_of e, next_of x.0, (λ s. cc), (p, y), (d, record { opened = o; in_chain = (k, x.1) }, x.2))))
   one_chain d e (suc k) (suc l) h o p x y = elim (cases_eq y.0 x.0) [
     | inl s ↦ one_chain d e k l x.0 o p x.1 (subst (λ g. IsAt a e l g) s y.1)
-    | inr n ↦ absurd (not_twice a i h (inl (next_of y.0, next_of x.0, (λ s. n cc), (e, record { opened = p; in_chain = (l, y.1) }, y.2),
-          (d, record { opened = o; in_chain = (k, x.1) }, x.2))))
+    | inr n ↦ absurd (not_twice a i h (inl (
+      next_of y.0,
+      next_of x.0,
+      (λ s. n cc),
+      (e, record { opened = p; in_chain = (l, y.1) }, y.2),
+      (d, record { opened = o; in_chain = (k, x.1) }, x.2),
+    )))
   ]
 
   not_root : (d h : ℕ) → IsMember a d h → h ≡ root a → ⊥

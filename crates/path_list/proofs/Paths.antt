@@ -64,8 +64,13 @@ below_name top path r x n e = rw (after_is top path (n ∷ r) e) (go top)
     go : (top : Path) → (x ≡ n → is_below (top ++ x ∷ []) (top ++ n ∷ r) ≡ is_some_name (Some r))
         × (x ≢ n → is_below (top ++ x ∷ []) (top ++ n ∷ r) ≡ false)
     go (m ∷ top) = rw (same_is_true m) (go top)
-    go [] = elim (same_or_not x n) [ inl s ↦ ((λ i. rw s.1 refl), (λ f. absurd (f s.0))) | inr s ↦ ((λ i. absurd (s.0 i)),
-          (λ f. rw s.1 refl)) ]
+    go [] = elim (same_or_not x n) [
+      | inl s ↦ ((λ i. rw s.1 refl), (λ f. absurd (f s.0)))
+      | inr s ↦ (
+        (λ i. absurd (s.0 i)),
+        (λ f. rw s.1 refl),
+      )
+    ]
 
 -- a path that does not begin with the names of `top` is not below any name in `top`
 pub below_none : (top path : Path) (x : List ℕ) → after top path ≡ None → is_below (top ++ x ∷ []) path ≡ false

@@ -32,7 +32,7 @@ run_more name i l e run =
 pub run_all : (name : List ℕ) (i n : ℕ) → length name ≤ i → n ≡ length name → IsRun name i → IsRun name n
 run_all name i n l e run =
     ap (λ xs. name_text xs) (all_of n (omega (arith, e))) ∙ sym (ap name_text (all_of i l)) ∙ run ∙ all_of i l
-        ∙ sym (all_of n (omega (arith, e)))
+    ∙ sym (all_of n (omega (arith, e)))
   where
     all_of : (k : ℕ) → length name ≤ k → take k name ≡ name
     all_of k l = take_all k name l

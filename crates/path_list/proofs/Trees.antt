@@ -198,7 +198,7 @@ module _ (layers : List (List ℕ)) (entries : List Entry) (s : AreImages layers
           let z : Some c.0 ≡ Some t.0 = sym c.1 ∙ t.1 in
           let same : c.0 ≡ t.0 = cc in
           let stays : d.header ≡ w.0 = directory_stays t.0 (s.each d.layer t.0 t.1) w.0 d.header t.3
-              (subst (λ x. IsFinal x w.0 d.header) same c.2) in
+          (subst (λ x. IsFinal x w.0 d.header) same c.2) in
           kind_from d t.0 t.1 ∙ ap is_directory (ap (kind t.0) stays ∙ t.3)
 
       none : ((d : Entry) → IsAmong d entries → d.path ≢ top) → ⊥

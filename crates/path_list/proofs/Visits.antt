@@ -217,7 +217,7 @@ module _ (stack : Stacked) (n : ℕ) (path : Path) (v : IsVisited stack n path) 
       let number_same : d.number ≡ m = ap (λ (x : Line). x.number) (sym s) in
       let name_same : d.name ≡ name = ap (λ (x : Line). x.name) (sym s) in (
         subst (λ x. IsVisited stack m (path ++ x ∷ [])) name_same (subst (λ x. IsVisited stack x (path ++ d.name ∷ [])) number_same
-              (visit_row d r)),
+            (visit_row d r)),
         subst (λ x. length (below entries (path ++ x ∷ [])) < length (below entries path)) name_same (fewer_below d r),
       )
 

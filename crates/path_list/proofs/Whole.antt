@@ -56,11 +56,11 @@ begins layers (e ∷ es) t l z =
     let one : number_of (e ∷ es) (place e) ≡ Some 1 = root_first layers (e ∷ es) e l (inl refl) p in
     let n : 1 ≡ number (e ∷ es) (place e) = sym (ap (λ o. unwrap_or o 0) one) in
     let at : node_of (e ∷ es) 1 ≡ Some (place e) = subst (λ k. node_of (e ∷ es) k ≡ Some (place e)) (sym n)
-        (numbered (e ∷ es) e (inl refl)) in
+    (numbered (e ∷ es) e (inl refl)) in
     let text = line layers (e ∷ es) in
     let first = ap (λ o. option_map_or (λ q. line_of layers (e ∷ es) q []) o []) at ∙ ap (line_of layers (e ∷ es) (place e)) (sym p) in
     let second : below (e ∷ es) [] ≡ es =
-        rw (root_out e.path p) (all_after es (subst (λ q. AllByRecursion (λ f. path_cmp q f.path ≡ Less) es) p l.rising.0)) in
+    rw (root_out e.path p) (all_after es (subst (λ q. AllByRecursion (λ f. path_cmp q f.path ≡ Less) es) p l.rising.0)) in
     record {
       visit = record { tree = t; entry = e; among = inl refl; path_is = p; number_is = n };
       all = ap (λ x. x ++ flat_map text (below (e ∷ es) [])) first ∙ ap (λ y. text e ++ flat_map text y) second;

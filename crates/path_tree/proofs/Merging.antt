@@ -98,8 +98,11 @@ module _ {T : Type 0} (f : T → T → T) where
   pub branch_laid : (low high : Subtree T) (ls hs out : List (Subtree T)) → low.below ≡ spread ls
       → high.below ≡ spread hs → AreLaid f ls hs out
       → IsLaid f low high (record { name = high.name; value = f low.value high.value; below = spread out })
-  branch_laid low high ls hs out e d a = record { name = refl; rising = branch_rises high.name (f low.value high.value) out a.forest; at =
-        at }
+  branch_laid low high ls hs out e d a = record {
+    name = refl;
+    rising = branch_rises high.name (f low.value high.value) out a.forest;
+    at = at;
+  }
     where
       at : (path : List (List ℕ)) → at_path (whole (record
           { name = high.name; value = f low.value high.value; below = spread out })) path ≡ laid_at f

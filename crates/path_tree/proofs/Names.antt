@@ -56,8 +56,11 @@ all_above n m (s ∷ ss) l a = (nat_list_cmp_total.trans n m s.name l a.0, all_a
 -- no branch has a name that comes before all of theirs
 pub named_below : {T : Type 0} (n : List ℕ) (ss : List (Subtree T)) → AllByRecursion (λ t. name_cmp n t.name ≡ Less) ss → named n ss ≡ None
 named_below n [] a = refl
-named_below n (s ∷ ss) a = elim (same_or_not s.name n) [ inl x ↦ absurd (below_differs n s.name a.0 (sym x.0)) | inr x ↦ rw x.1
-      (named_below n ss a.1) ]
+named_below n (s ∷ ss) a = elim (same_or_not s.name n) [
+  | inl x ↦ absurd (below_differs n s.name a.0 (sym x.0))
+  | inr x ↦ rw x.1
+      (named_below n ss a.1)
+]
 
 all_at : {T : Type 0} (n : List ℕ) (ss : List (Subtree T)) → AllByRecursion (λ t. name_cmp n t.name ≡ Less) ss
     → (i : ℕ) (d : Subtree T) → i < length ss → name_cmp n (get_or ss i d).name ≡ Less

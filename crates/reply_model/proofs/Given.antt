@@ -102,7 +102,7 @@ module _ (layers : List (List ℕ)) (entries : List Entry) where
   balances_stay s qs q node e =
       let moved_by = moves_by (moves layers entries) s qs in
       ap (balance node) (moves-append (moves layers entries) s qs (q ∷ []) ∙ rw (others_move_nothing (session_at s qs) q e)
-            (append-nil moved_by))
+      (append-nil moved_by))
 
   -- a DESTROY after other requests leaves all balances
   pub destroy_leaves : (s : Session) (qs : List Asked) (unique node n : ℕ)

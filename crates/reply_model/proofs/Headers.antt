@@ -26,7 +26,7 @@ length-header : (n e unique : ℕ) (bytes : List ℕ) → length (u32 n ++ u32 e
 length-header n e unique bytes =
     length-append (u32 n ++ u32 e ++ u64 unique) bytes
     ∙ ap (λ k. k + length bytes) (length-append (u32 n ++ u32 e) (u64 unique)
-          ∙ ap (λ k. k + length (u64 unique)) (length-append (u32 n) (u32 e)))
+    ∙ ap (λ k. k + length (u64 unique)) (length-append (u32 n) (u32 e)))
     ∙ (let a = length-u32 n in let b = length-u32 e in let c = length-u64 unique in omega arith)
 
 with_data : (unique : ℕ) (bytes : List ℕ) → IsReplyTo unique (reply_with unique bytes)
@@ -43,7 +43,7 @@ unfolding error_reply
 with_error unique errno =
     let e = 2 ^ 32 - errno_number errno in
     let l : length (u32 16 ++ u32 e ++ u64 unique) ≡ 16 = ap length (sym (append-nil (u32 16 ++ u32 e ++ u64 unique)))
-        ∙ length-header 16 e unique [] in
+    ∙ length-header 16 e unique [] in
     record { error = e; rest = []; is = ap (λ n. u32 n ++ u32 e ++ u64 unique) (sym l) ∙ sym (append-nil _) }
 
 -- a reply is empty, or begins with its own length and has its request's unique
@@ -53,7 +53,7 @@ headed layers entries s q = silent (is_silent q.op) refl
   where
     refused : (o : Option Errno)
         → IsReplyTo q.unique (option_map_or (error_reply q.unique) o
-              (reply_with q.unique (answer layers entries (agreement_of s) q.node q.op)))
+        (reply_with q.unique (answer layers entries (agreement_of s) q.node q.op)))
     refused None = with_data q.unique (answer layers entries (agreement_of s) q.node q.op)
     refused (Some errno) = with_error q.unique errno
 

@@ -184,5 +184,5 @@ module _ (bs : List (List ℕ)) (entries : List Entry) (sound : All IsSound bs) 
   said s q = elim (headed layers entries s q) [
     | inl e ↦ inl e
     | inr h ↦ inr (let x = short s q in ap said_length h.is ∙ said_header (length (reply layers entries s q)) h.error q.unique h.rest
-          (omega arith))
+        (omega arith))
   ]

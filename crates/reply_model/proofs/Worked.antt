@@ -89,8 +89,17 @@ unfolding word root image name_field ended op_of u16 u32 u64 zeros forgets_of in
     init_out_rest attr entry_out attr_out open_out statfs_out dirent_front dirent direntplus reply_head
     reply_with error_reply nodes number_of parent children data_of rows rows_after dirent_of direntplus_of
     empty_image sample_image empty_entries sample_entries
-read = record { whole = refl; rest = refl; past_end = refl; far_past_end = refl; nothing = refl; too_large = refl; directory = refl; link =
-      refl; stale = refl }
+read = record {
+  whole = refl;
+  rest = refl;
+  past_end = refl;
+  far_past_end = refl;
+  nothing = refl;
+  too_large = refl;
+  directory = refl;
+  link = refl;
+  stale = refl;
+}
 
 -- LOOKUP of names that are there, that are missing, and that are none
 pub lookup : LookupExamples
@@ -179,8 +188,14 @@ unfolding word root image name_field ended op_of u16 u32 u64 zeros forgets_of in
     init_out_rest attr entry_out attr_out open_out statfs_out dirent_front dirent direntplus reply_head
     reply_with error_reply nodes number_of parent children data_of rows rows_after dirent_of direntplus_of
     empty_image sample_image empty_entries sample_entries
-silent = record { interrupt = refl; interrupt_fresh = refl; batch_forget = refl; batch_forget_fresh = refl; short_forget = refl;
-      short_batch_forget = refl }
+silent = record {
+  interrupt = refl;
+  interrupt_fresh = refl;
+  batch_forget = refl;
+  batch_forget_fresh = refl;
+  short_forget = refl;
+  short_batch_forget = refl;
+}
 
 -- which of two refusals is answered
 pub refusals : RefusalOrder

@@ -28,7 +28,7 @@ pub one_more_move : (xs : List Move) (i : ℕ) (a b c : List ℤ) → i < length
     → IsMoved (take (i + 1) xs) a c
 one_more_move xs i a b c there m n =
     subst (λ (ms : List Move). IsMoved ms a c) (sym (take_more xs i nothing there))
-        (moved_on (take i xs) (get_or xs i nothing ∷ []) a b c m n)
+    (moved_on (take i xs) (get_or xs i nothing ∷ []) a b c m n)
 
 module _ {A : Type 0} where
   -- what pieces move, one after another
@@ -49,7 +49,7 @@ module _ {A : Type 0} where
       let e = ap weight (told_next (λ (q : Piece A). q.moves.items) ps i p there is) in
       let f = weight_append (moves_of (take i ps)) p.moves.items in
       let g = ap weight (sym (ap moves_of (take-append-drop (i + 1) ps)) ∙ flat_map-append (λ (q : Piece A). q.moves.items)
-            (take (i + 1) ps) (drop (i + 1) ps)) in
+      (take (i + 1) ps) (drop (i + 1) ps)) in
       let h = weight_append (moves_of (take (i + 1) ps)) (moves_of (drop (i + 1) ps)) in
       omega arith
 

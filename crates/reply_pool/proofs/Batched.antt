@@ -31,8 +31,8 @@ reaches_end jobs size some = let d : jobs + size - 1 < (jobs + size - 1) / size 
 -- jobs have no more batches than a round has messages, where they are no more
 pub batches_few : (jobs size : ℕ) → 1 ≤ size → jobs ≤ MAX_ROUND_MESSAGES → (jobs + size - 1) / size ≤ MAX_ROUND_MESSAGES
 batches_few jobs size some few = dite (dec_le ((jobs + size - 1) / size) MAX_ROUND_MESSAGES) (λ d. d) (λ d. let more : MAX_ROUND_MESSAGES
-      + 1 ≤ (jobs + size - 1) / size =
-      lt_of_not-le d in
+    + 1 ≤ (jobs + size - 1) / size =
+    lt_of_not-le d in
     let m = mul-le-mul_right size more in let e = div-mul-le_self (jobs + size - 1) size in absurd (omega arith))
 
 -- the jobs of the batch of a number
@@ -44,7 +44,7 @@ next_part : {X : Type 0} (size : ℕ) (jobs : List X) (k : ℕ) → drop (k * si
 next_part size jobs k =
     let e : k * size + size ≡ (k + 1) * size = omega arith in
     sym (take-append-drop size (drop (k * size) jobs)) ∙ ap (λ ys. part size jobs k ++ ys) (drop-drop size (k * size) jobs
-          ∙ ap (λ (n : ℕ). drop n jobs) e)
+    ∙ ap (λ (n : ℕ). drop n jobs) e)
 
 nothing_left : {X : Type 0} (size : ℕ) (jobs : List X) (k : ℕ) → length jobs ≤ (k + 0) * size → drop (k * size) jobs ≡ []
 nothing_left size jobs k h = let e = ap (λ (n : ℕ). n * size) (let z : k + 0 ≡ k = omega arith in z) in drop_of_length-le jobs (omega arith)
@@ -60,7 +60,7 @@ module _ {P X : Type 0} (number : P → ℕ) (size : ℕ) (jobs : List X) where
   -- what pieces in the order of their numbers say of their batches is what all jobs say
   pub all_told : {Y : Type 0} (put : P → List Y) (told : X → List Y) (l : List P) (k n : ℕ) → map number l ≡ range_with_len k n
       → All (λ p. put p ≡ flat_map told (part size jobs (number p))) l → length jobs ≤ (k + n) * size
-          → flat_map put l ≡ flat_map told (drop (k * size) jobs)
+      → flat_map put l ≡ flat_map told (drop (k * size) jobs)
   all_told put told [] k zero same each h = sym (ap (flat_map told) (nothing_left size jobs k h))
   all_told put told [] k (suc n) same each h = absurd (cc)
   all_told put told (p ∷ l) k zero same each h = absurd (cc)
@@ -69,9 +69,9 @@ module _ {P X : Type 0} (number : P → ℕ) (size : ℕ) (jobs : List X) where
       let rest = tail_is (number p) k (map number l) (range_with_len (k + 1) n) same in
       let further = ap (λ (m : ℕ). m * size) (let z : k + suc n ≡ k + 1 + n = omega arith in z) in
       let own = All-head (λ p. put p ≡ flat_map told (part size jobs (number p))) p l each
-          ∙ ap (λ (m : ℕ). flat_map told (part size jobs m)) first in
+      ∙ ap (λ (m : ℕ). flat_map told (part size jobs m)) first in
       let others = all_told put told l (k + 1) n rest (All-tail (λ p. put p ≡ flat_map told (part size jobs (number p))) p l each)
-          (omega arith) in
+      (omega arith) in
       ap (λ ys. ys ++ flat_map put l) own ∙ ap (λ ys. flat_map told (part size jobs k) ++ ys) others
       ∙ sym (ap (flat_map told) (next_part size jobs k) ∙ flat_map-append told (part size jobs k) (drop ((k + 1) * size) jobs))
 
@@ -92,7 +92,7 @@ module _ {P X : Type 0} (number : P → ℕ) (size : ℕ) (jobs : List X) where
       let here = balance_append node (put p) (flat_map put l) in
       let there = balance_append node (flat_map told (part size jobs k)) (flat_map told (drop ((k + 1) * size) jobs)) in
       let parts = ap (balance node) (ap (flat_map told) (next_part size jobs k)
-            ∙ flat_map-append told (part size jobs k) (drop ((k + 1) * size) jobs)) in
+      ∙ flat_map-append told (part size jobs k) (drop ((k + 1) * size) jobs)) in
       omega (arith, ints)
 
 -- light pieces weigh so much together

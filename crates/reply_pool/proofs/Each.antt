@@ -26,13 +26,21 @@ times-cons x y l = sum_by-cons (λ z. one z x) y l
 -- no number outside a range stands in it
 outside : (x a n : ℕ) → x < a → times x (range_with_len a n) ≡ 0
 outside x a zero h = refl
-outside x a (suc n) h = omega (arith, times-cons x a (range_with_len (a + 1) n), one-other a x (λ e. omega arith),
-      outside x (a + 1) n (omega arith))
+outside x a (suc n) h = omega (
+  arith,
+  times-cons x a (range_with_len (a + 1) n),
+  one-other a x (λ e. omega arith),
+  outside x (a + 1) n (omega arith),
+)
 
 beyond : (x a n : ℕ) → a + n ≤ x → times x (range_with_len a n) ≡ 0
 beyond x a zero h = refl
-beyond x a (suc n) h = omega (arith, times-cons x a (range_with_len (a + 1) n), one-other a x (λ e. omega arith),
-      beyond x (a + 1) n (omega arith))
+beyond x a (suc n) h = omega (
+  arith,
+  times-cons x a (range_with_len (a + 1) n),
+  one-other a x (λ e. omega arith),
+  beyond x (a + 1) n (omega arith),
+)
 
 module _ {P : Type 0} (number : P → ℕ) where
   -- a number below the first of a list that does not fall does not stand in it

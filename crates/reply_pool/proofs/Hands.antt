@@ -60,13 +60,13 @@ numbers_hit : (total number : ℕ) (added : List ℕ) → number < total → num
     ++ number ∷ []
 numbers_hit total number added is =
     filter-append (λ position. nat_lt position total) added (number ∷ []) ∙ ap (λ (xs : List ℕ). numbers total added ++ xs)
-        (ap (λ b. cond b (number ∷ []) []) (lt-ltb number total is))
+    (ap (λ b. cond b (number ∷ []) []) (lt-ltb number total is))
 
 -- a position past the numbers adds no number
 pub numbers_miss : (total position : ℕ) (added : List ℕ) → total ≤ position → numbers total (added ++ position ∷ []) ≡ numbers total added
 numbers_miss total position added is =
     filter-append (λ position. nat_lt position total) added (position ∷ []) ∙ ap (λ (xs : List ℕ). numbers total added ++ xs)
-        (ap (λ b. cond b (position ∷ []) []) (le-ltb position total is))
+    (ap (λ b. cond b (position ∷ []) []) (le-ltb position total is))
     ∙ append-nil (numbers total added)
 
 -- a draw that answers nothing was at no number
@@ -100,14 +100,14 @@ module _ {A : Type 0} where
       → numbers_of pieces ≡ numbers total added → numbers_of all ≡ numbers total (added ++ piece.number ∷ [])
   told_more total added pieces all piece is more told =
       ap numbers_of more ∙ map-append number pieces (piece ∷ []) ∙ ap (λ (xs : List ℕ). xs ++ piece.number ∷ []) told
-          ∙ sym (numbers_hit total piece.number added is)
+      ∙ sym (numbers_hit total piece.number added is)
 
   -- a few light pieces are light together
   pub light_enough : (pieces ordered : List (Piece A)) → AreOrdered pieces ordered → AreEachOnce pieces → AreLight pieces
       → weight (flat_map (λ (p : Piece A). p.moves.items) ordered) ≤ 2 ^ 112
   light_enough pieces ordered o once light =
       let w = weight_all (λ (p : Piece A). p.moves.items) (2 ^ 104) ordered
-          (All-permutation (λ (p : Piece A). weight p.moves.items ≤ 2 ^ 104) pieces ordered o.same light) in
+      (All-permutation (λ (p : Piece A). weight p.moves.items ≤ 2 ^ 104) pieces ordered o.same light) in
       let l = length-map ordered number in
       let n = ap length (ordered_numbers pieces ordered once.count once.once o) in
       let r = length-range_with_len 0 once.count in
@@ -118,7 +118,7 @@ module _ {A : Type 0} where
   pub joins : {E : Type 0} (pieces ordered : List (Piece A)) (r : Result (Rounded A) E) → AreOrdered pieces ordered
       → IfOk r (λ rounded. rounded.bytes.items ≡ flat_map (λ (p : Piece A). p.bytes.items) ordered)
       → IfOk r (λ rounded. AreSums (flat_map (λ (p : Piece A). p.moves.items) ordered) rounded.moves.items)
-          → IfOk r (λ rounded. IsJoined pieces rounded)
+      → IfOk r (λ rounded. IsJoined pieces rounded)
   joins pieces ordered (Err e) o bytes moves = tt
   joins pieces ordered (Ok rounded) o bytes moves = record { ordered = ordered; order = o; bytes = bytes; moves = moves }
 
@@ -146,14 +146,14 @@ module _ {A : Type 0} where
     -- the pieces in order reply to all jobs
     pub whole : (pieces : List (Piece A)) → 1 ≤ size → All (IsPiece stack jobs size) pieces
         → ((x : ℕ) → times x (numbers_of pieces) ≡ times x (range_with_len 0 (batches size (length jobs))))
-            → AreWhole stack jobs size pieces
+        → AreWhole stack jobs size pieces
     whole pieces some each once = record {
       once = once;
       replies = λ ordered o. (all_told number size jobs (λ (p : Piece A). p.bytes.items) (reply_to stack) ordered 0
-            (batches size (length jobs))
+          (batches size (length jobs))
           (ordered_numbers pieces ordered (batches size (length jobs)) once o)
           (All-weaker (IsPiece stack jobs size) _ (λ p is. is.replies) ordered
-                (All-permutation (IsPiece stack jobs size) pieces ordered o.same each))
+          (All-permutation (IsPiece stack jobs size) pieces ordered o.same each))
           (all_reached jobs size some) ∙ ap (flat_map (reply_to stack)) (all_jobs jobs size));
     }
 
@@ -173,7 +173,7 @@ module _ {A : Type 0} where
         all_moved number size jobs (λ (p : Piece A). p.moves.items) (moved_by stack) node ordered 0 (batches size (length jobs))
         (ordered_numbers pieces ordered (batches size (length jobs)) once o)
         (All-weaker (IsPiece stack jobs size) _ (λ p is. is.sums.each node) ordered
-              (All-permutation (IsPiece stack jobs size) pieces ordered o.same each))
+        (All-permutation (IsPiece stack jobs size) pieces ordered o.same each))
         (all_reached jobs size some) ∙ ap (λ (js : List Job). balance node (flat_map (moved_by stack) js)) (all_jobs jobs size)
 
     -- pieces that are put in order come to the round of all jobs
@@ -252,9 +252,9 @@ module _ {A : Type 0} where
       )
       alone (takes {old = old} {other = other} {new = new} {mine = mine} {others = others} {calls = calls} {more = more} v w u t) = let g =
           alone v in let h = alone w in (
-        both_of old other new mine others u g.0 h.0,
-        seen_both (seen_below old) (seen_below other) (seen_below new) calls more (total_of board) t.seen g.1 h.1,
-      )
+            both_of old other new mine others u g.0 h.0,
+            seen_both (seen_below old) (seen_below other) (seen_below new) calls more (total_of board) t.seen g.1 h.1,
+          )
 
       -- once the last hand is closed each number stands once
       pub closed : (hand : Hand) (pieces : List (Piece A)) (draws : ℕ) → AreOf stack jobs size board hand pieces

@@ -190,7 +190,7 @@ module _ (layers : List (List ℕ)) (entries : List Entry) where
     where
       go : (child : Bool) → weight (map (λ (r : Row). give layers entries r.1.place) (filter is_child rows)) ≤ length rows
           → weight (map (λ (r : Row). give layers entries r.1.place) (cond child (r ∷ filter is_child rows) (filter is_child rows)))
-              ≤ suc (length rows)
+          ≤ suc (length rows)
       go true l = omega (arith, ints)
       go false l = omega arith
 

@@ -55,7 +55,7 @@ one_list (x ∷ xs) (y ∷ ys) a b some more same =
       ]
     ] in
     let amount : x.amount ≡ y.amount = sym (first_balance x xs a.0) ∙ same x.node ∙ ap (λ n. balance n (y ∷ ys)) node
-        ∙ first_balance y ys b.0 in
+    ∙ first_balance y ys b.0 in
     let rest : (n : ℕ) → balance n xs ≡ balance n ys = λ n. (
     let e = same n in
     let f : cond (x.node == n) x.amount (pos 0) ≡ cond (y.node == n) y.amount (pos 0) =

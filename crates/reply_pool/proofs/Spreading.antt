@@ -51,7 +51,7 @@ pub one_taken : (s : Session) (stream : List ℕ) (round : Round) (js all : List
 one_taken s stream round js all rest len after job f e begins before asks next more =
     let m : List ℕ = take len rest in
     let there : AreFirst (drop round.used stream) (m ∷ []) len = subst (λ (r : List ℕ). AreFirst r (m ∷ []) len) e
-        (one_first rest len begins) in
+    (one_first rest len begins) in
     record {
       messages = f.messages ++ m ∷ [];
       first = first_on stream f.messages (m ∷ []) round.used len f.first there;
@@ -128,7 +128,7 @@ pub by_jobs : {A : Type 0} (first : Session) (stack : Stacked) (s : Session) (st
 by_jobs first stack s stream round jobs size pieces old new b some bytes f o a p = (
   replies_by (reply stack.layers stack.entries) s (map asked f.messages),
   p.bytes ∙ ap (λ (v : List ℕ). old ++ v) ((whole stack jobs size pieces some a.answered a.once).replies p.ordered p.order
-        ∙ jobs_told stack s f.messages jobs f.as_jobs),
+      ∙ jobs_told stack s f.messages jobs f.as_jobs),
   record {
     messages = f.messages;
     first = f.first;
@@ -137,12 +137,12 @@ by_jobs first stack s stream round jobs size pieces old new b some bytes f o a p
       session = f.session;
       told = refl;
       moves = moved_same (flat_map (λ piece. piece.moves.items) p.ordered) (moves_by (moves stack.layers stack.entries) s
-            (map asked f.messages)) b.old b.new
+          (map asked f.messages)) b.old b.new
           (λ node. (all_move stack jobs size pieces p.ordered node some a.answered a.once p.order
-                ∙ ap (balance node) (jobs_moved stack s f.messages jobs f.as_jobs))) p.moves;
+          ∙ ap (balance node) (jobs_moved stack s f.messages jobs f.as_jobs))) p.moves;
       light = messages_light stack s f.messages f.first.each
           (front_bytes (joined f.messages) (drop round.used stream) (subst (λ (v : List ℕ). (k : ℕ) → slice_index v k < 256) f.first.whole
-                bytes));
+          bytes));
     };
     some = elim o [ inl h ↦ inl (let k = f.count in omega arith) | inr r ↦ inr r ];
   },

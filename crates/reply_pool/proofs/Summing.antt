@@ -113,7 +113,7 @@ one_added done sums sum m next so_far same kept is = record {
       let h = balance_append node sums (next ∷ []) in
       let i = added (sum.node == node) sum.amount m.amount next.amount is in
       let j : cond (m.node == node) m.amount (pos 0) ≡ cond (sum.node == node) m.amount (pos 0) =
-          ap (λ (n : ℕ). cond (n == node) m.amount (pos 0)) same in
+      ap (λ (n : ℕ). cond (n == node) m.amount (pos 0)) same in
       let k : cond (next.node == node) next.amount (pos 0) ≡ cond (sum.node == node) next.amount (pos 0) = ap
       (λ (n : ℕ). cond (n == node) next.amount (pos 0)) kept in
       omega (arith, ints));
@@ -240,7 +240,7 @@ parts : (node : ℕ) (moves : List Move) → balance node moves ≡ pos (gains n
 parts node [] = omega (arith, ints)
 parts node (m ∷ moves) =
     let one = gain_less_loss (cond (m.node == node) m.amount (pos 0)) (balance node moves) (gains node moves) (losses node moves)
-        (parts node moves) in
+    (parts node moves) in
     let g = sum_by-cons (λ (m : Move). gain (cond (m.node == node) m.amount (pos 0))) m moves in
     let l = sum_by-cons (λ (m : Move). loss (cond (m.node == node) m.amount (pos 0))) m moves in
     one ∙ sym (ap (λ n. pos n +ℤ neg_ℤ (pos (loss (cond (m.node == node) m.amount (pos 0)) + losses node moves))) g)

@@ -58,7 +58,7 @@ module _ (b : List ℕ) (s : IsSound b) where
   led_to path h e x f n = elim (leads_member (image b) path (root (image b)) h x) [
     | inl q ↦ absurd (elim (final_target (image b) f) [
       | inl p ↦ (let k = subst (λ y. kind (image b) y ≢ Directory) p n in
-            root_directory (subst (λ y. kind (image b) y ≢ Directory) (sym q) k))
+          root_directory (subst (λ y. kind (image b) y ≢ Directory) (sym q) k))
       | inr d ↦ (let k = (subst (λ y. IsHardLink (image b) y) (sym q) (destination_link (image b) d)).1 in root_directory (λ i. cc))
     ])
     | inr m ↦ elim (final_target (image b) f) [
@@ -77,5 +77,7 @@ module _ (b : List ℕ) (s : IsSound b) where
       → kind (image b) e ≡ SymLink → size (image b) e ≤ MAX_TARGET_SIZE
   short_target path h e x f k =
       let u = led_to path h e x f (λ i. cc) in
-      elim (cases_lt MAX_TARGET_SIZE (size (image b) e)) [ inl l ↦ absurd (s.keeps TargetLong e ((used_inside e u, u), (k, l))) | inr l ↦ l
-            ]
+      elim (cases_lt MAX_TARGET_SIZE (size (image b) e)) [
+        | inl l ↦ absurd (s.keeps TargetLong e ((used_inside e u, u), (k, l)))
+        | inr l ↦ l
+      ]

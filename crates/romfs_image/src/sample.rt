@@ -166,7 +166,11 @@ fn put_item<A: Allocator>(
     let exec = if item.exec { 8 } else { 0 };
     let (kind, info) = kind_and_info(layout, placement, &item.what);
     let size = u32::try_from(data.len()).map_err(|_| BuildFault::Size)?;
-    put_head(image, [placement.next | exec | kind, info, size], &item.name)?;
+    put_head(
+        image,
+        [placement.next | exec | kind, info, size],
+        &item.name,
+    )?;
     if is_directory(item) {
         put_head(image, [placement.dot_dot, placement.at, 0], b".")?;
         put_head(image, [placement.first, placement.above, 0], b"..")?;

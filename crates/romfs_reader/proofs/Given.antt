@@ -77,8 +77,11 @@ module _ (a : List ℕ) (i : IsImage a) where
   from_opened h (inr (inl m)) k = member_opened h m k
   from_opened h (inr (inr x)) k = elim (final_target a x.2) [
     | inl e ↦ member_opened h (x.1.0, subst (λ y. IsMember a x.1.0 y) (sym e) x.1.1) k
-    | inr d ↦ absurd (not_directory a i x.0 (x.1, destination_link a d,
-          (h, x.2, (reached_inside a i h (inr (inr (x.1.0, x.0, x.1.1, d))), k))))
+    | inr d ↦ absurd (not_directory a i x.0 (
+      x.1,
+      destination_link a d,
+      (h, x.2, (reached_inside a i h (inr (inr (x.1.0, x.0, x.1.1, d))), k)),
+    ))
   ]
 
 final_soft : (a : List ℕ) {h e : ℕ} → IsFinal a h e → ¬ IsHardLink a e
@@ -101,7 +104,7 @@ module _ (a : List ℕ) (i : IsImage a) where
   -- a hard link that is given is a member
   pub hard_member : (h : ℕ) → From a h → IsHardLink a h → IsSomeMember a h
   hard_member h (inl e) l = absurd (let k : kind a h ≡ Directory = subst (λ x. kind a x ≡ Directory) (sym e) (root_directory a i) in let m =
-        l.1 in cc)
+      l.1 in cc)
   hard_member h (inr (inl m)) l = m
   hard_member h (inr (inr x)) l = absurd (final_soft a x.2 l)
 
@@ -111,8 +114,11 @@ module _ (a : List ℕ) (i : IsImage a) where
     is = g.is;
     inside = from_inside a i head.offset g.from;
     leaves = elim (is_hard a head.offset) [
-      | inl l ↦ leaves a head.offset (from_aligned a i head.offset g.from) (λ n. not_loop a i head.offset (hard_member head.offset g.from l,
-            l, n))
+      | inl l ↦ leaves a head.offset (from_aligned a i head.offset g.from) (λ n. not_loop a i head.offset (
+        hard_member head.offset g.from l,
+        l,
+        n,
+      ))
       | inr m ↦ left_already a (places a) head.offset m
     ];
     on = λ e f. f;

@@ -78,8 +78,11 @@ module _ (a : List ℕ) (i : IsImage a) where
   not_directory h x = i.sound.keeps LinkDirectory h (to_image LinkDirectory h x)
 
   no_root : ¬ ((length a < root a + 16) ⊎ (kind a (root a) ≢ Directory))
-  no_root x = i.sound.keeps NoRoot (root (image a)) (subst (λ y. (length y < root y + 16) ⊎ (kind y (root y) ≢ Directory))
-        (sym (whole a i)) x, refl)
+  no_root x = i.sound.keeps NoRoot (root (image a)) (
+    subst (λ y. (length y < root y + 16) ⊎ (kind y (root y) ≢ Directory))
+        (sym (whole a i)) x,
+    refl,
+  )
 
   -- the root's header lies in the image
   pub root_inside : IsInside a (root a)

@@ -91,7 +91,7 @@ module _ (a : List ℕ) (d : ℕ) (hs : List ℕ) (i : IsImage a) (o : IsOpened 
     listed = (hs, l, refl);
     members = kept_all a d (λ head. IsMember a d head.offset) hs member;
     whole = λ h m. (let c = m.in_chain in kept_has a d hs c.0 h ((l.each c.0 h).1 c.1)
-          (false_from_ne_true _ (λ e. m.kept (passed a d h (inside c.0 h c.1) e))));
+        (false_from_ne_true _ (λ e. m.kept (passed a d h (inside c.0 h c.1) e))));
   }
 
   -- the image gives each header that is kept

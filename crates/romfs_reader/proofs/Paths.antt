@@ -46,10 +46,26 @@ module _ (a : List ℕ) (i : IsImage a) where
   one_member : (d g h : ℕ) (n : List ℕ) → IsMember a d g → IsMember a d h → name a g ≡ Some n → name a h ≡ Some n → g ≡ h
   one_member d g h n x y e f = elim (cases_order g h) [
     | inl s ↦ s
-    | inr (inl l) ↦ absurd (keeps_names h (g, (l, (d, x, y), (member_inside d g x, some_name g n e), (member_inside d h y, some_name h n f),
-          e ∙ sym f)))
-    | inr (inr l) ↦ absurd (keeps_names g (h, (l, (d, y, x), (member_inside d h y, some_name h n f), (member_inside d g x, some_name g n e),
-          f ∙ sym e)))
+    | inr (inl l) ↦ absurd (keeps_names h (
+      g,
+      (
+        l,
+        (d, x, y),
+        (member_inside d g x, some_name g n e),
+        (member_inside d h y, some_name h n f),
+        e ∙ sym f,
+      ),
+    ))
+    | inr (inr l) ↦ absurd (keeps_names g (
+      h,
+      (
+        l,
+        (d, y, x),
+        (member_inside d h y, some_name h n f),
+        (member_inside d g x, some_name g n e),
+        f ∙ sym e,
+      ),
+    ))
   ]
 
   -- names lead from a directory to one header

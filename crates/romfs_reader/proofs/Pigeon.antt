@@ -24,16 +24,25 @@ no_room (suc m) f below apart =
     let small : (i : ℕ) → i ≤ m → swapped m v f i < m = (λ i l.
     let b : f i < suc m = below i (omega arith) in
     let q : f i ≢ f (suc m) = apart i (suc m) (omega arith) (omega arith) in
-    elim (swapped_is m v f i) [ inl s ↦ (let s0 = s.0 in let s1 = s.1 in omega arith) | inr s ↦ (let s0 = s.0 in let s1 = s.1 in
-          omega arith) ]) in
+    elim (swapped_is m v f i) [
+      | inl s ↦ (let s0 = s.0 in let s1 = s.1 in omega arith)
+      | inr s ↦ (let s0 = s.0 in let s1 = s.1 in
+          omega arith)
+    ]) in
     let diff : (i j : ℕ) → i < j → j ≤ m → swapped m v f i ≢ swapped m v f j = (λ i j l k e.
     let q : f i ≢ f j = apart i j l (omega arith) in
     let qi : f i ≢ f (suc m) = apart i (suc m) (omega arith) (omega arith) in
     let qj : f j ≢ f (suc m) = apart j (suc m) (omega arith) (omega arith) in
     elim (swapped_is m v f i) [
-      | inl s ↦ (let s0 = s.0 in let s1 = s.1 in elim (swapped_is m v f j) [ inl t ↦ (let t0 = t.0 in let t1 = t.1 in omega arith) | inr t ↦
-            (let t0 = t.0 in let t1 = t.1 in omega arith) ])
-      | inr s ↦ (let s0 = s.0 in let s1 = s.1 in elim (swapped_is m v f j) [ inl t ↦ (let t0 = t.0 in let t1 = t.1 in omega arith) | inr t ↦
-            (let t0 = t.0 in let t1 = t.1 in omega arith) ])
+      | inl s ↦ (let s0 = s.0 in let s1 = s.1 in elim (swapped_is m v f j) [
+        | inl t ↦ (let t0 = t.0 in let t1 = t.1 in omega arith)
+        | inr t ↦
+            (let t0 = t.0 in let t1 = t.1 in omega arith)
+      ])
+      | inr s ↦ (let s0 = s.0 in let s1 = s.1 in elim (swapped_is m v f j) [
+        | inl t ↦ (let t0 = t.0 in let t1 = t.1 in omega arith)
+        | inr t ↦
+            (let t0 = t.0 in let t1 = t.1 in omega arith)
+      ])
     ]) in
     no_room m (swapped m v f) small diff

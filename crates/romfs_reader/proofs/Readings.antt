@@ -77,7 +77,7 @@ given_name a head g =
 inside_data : (a : List ℕ) (i : IsImage a) (h : ℕ) → From a h → HasData a h → data_at h (name_of a h) + size a h ≤ length a
 inside_data a i h f d = elim (used a i h f) [
   | inl e ↦ absurd (let k : kind a h ≡ Directory = subst (λ x. kind a x ≡ Directory) (sym e) (root_directory a i) in
-        elim d [ inl q ↦ cc | inr q ↦ cc ])
+      elim d [ inl q ↦ cc | inr q ↦ cc ])
   | inr u ↦ elim (cases_order (length a) (data_at h (name_of a h) + size a h)) [
     | inl e ↦ omega arith
     | inr (inl l) ↦ absurd (not_data_outside a i h ((from_inside a i h f, u), d, named (name a h) refl l))
@@ -90,7 +90,7 @@ inside_data a i h f d = elim (used a i h f) [
     named (Some n) e l = l
     named None e l = absurd (
         let n : h ≢ root a = (λ q. let k : kind a h ≡ Directory = subst (λ x. kind a x ≡ Directory) (sym q) (root_directory a i) in
-              elim d [ inl r ↦ cc | inr r ↦ cc ]) in
+        elim d [ inl r ↦ cc | inr r ↦ cc ]) in
         let s : IsSome (name a h) = from_named a i h f n in
         let t = rw (← e) at s in cc)
 

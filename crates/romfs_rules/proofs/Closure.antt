@@ -42,8 +42,12 @@ module _ (a : List ℕ) where
   leads_on h g e (down z o f) = record { dir = h; other = z; opened = opened_in a h (inr e) z o; in_chain = (zero, f) }
 
   seeded : (g : ℕ) → IsStart a g → IsElsewhere a g
-  seeded g s = record { dir = s.dir; other = s.other; opened = opened_in a s.dir (inl s.in_chain) s.other s.opens; in_chain =
-        (zero, s.first) }
+  seeded g s = record {
+    dir = s.dir;
+    other = s.other;
+    opened = opened_in a s.dir (inl s.in_chain) s.other s.opens;
+    in_chain = (zero, s.first);
+  }
 
   -- where nothing is left to come, all is marked
   module _ (marks : List Bool) (w : Walked a [] marks) where
@@ -77,8 +81,12 @@ module _ (a : List ℕ) where
 
     -- where no word is left to come, the marks are those of all chains but the root's
     pub all_marked : AreMarks a (IsElsewhere a) marks
-    all_marked = record { sized = w.sized; each = w.each; all = λ h e i. along e.dir (λ g x. firsts e.dir g e.opened e.other x) e.in_chain.0
-          h e.in_chain.1 i }
+    all_marked = record {
+      sized = w.sized;
+      each = w.each;
+      all = λ h e i. along e.dir (λ g x. firsts e.dir g e.opened e.other x) e.in_chain.0
+          h e.in_chain.1 i;
+    }
 
   module _ (todo : List ℕ) (marks : List Bool) where
     -- a word that is settled is let go
@@ -227,12 +235,17 @@ module _ (a : List ℕ) (root_chain : List Bool) (r : AreMarks a (IsInRootChain 
     -- a slot of the root's chain adds the first header below it, if there is one
     pub seeds_more : get_or root_chain n false ≡ true → (w : Option ℕ) (after : List ℕ)
         → IsTheOne (λ g. (n * 16 ≢ root a) × Opens a (n * 16) × IsFirst a (n * 16) g) w → after ≡ todo ++ option_to_list w
-            → Seeded a root_chain (n + 1) after
+        → Seeded a root_chain (n + 1) after
     seeds_more m w after one is = rw is (record {
       each = λ g c. elim (Contains-append_cases todo (option_to_list w) g c) [
         | inl x ↦ s.each g x
-        | inr x ↦ (let z = (one.each g).0 (some_has w g x) in record { dir = n * 16; in_chain = (r.each n m).0; other = z.0; opens = z.1;
-              first = z.2 })
+        | inr x ↦ (let z = (one.each g).0 (some_has w g x) in record {
+          dir = n * 16;
+          in_chain = (r.each n m).0;
+          other = z.0;
+          opens = z.1;
+          first = z.2;
+        })
       ];
       all = λ k g l q z o f. elim (cases_eq k n) [
         | inl e ↦ Contains-append_right todo (option_to_list w) g

@@ -50,7 +50,7 @@ led a w next first before middle after x y m k = record {
   only = λ v c. elim (Contains-append_cases (waiting next w.names) (waiting first (w.names + 1)) v c) [
     | inl z ↦ (let r = waits_for next w.names v z in subst (λ u. LeadsDown a w u) (sym r.2) (on ((x.each r.0).0 r.1)))
     | inr z ↦ (let r = waits_for first (w.names + 1) v z in let d = (y.each r.0).0 r.1 in
-          subst (λ u. LeadsDown a w u) (sym r.2) (down d.0 d.1 d.2))
+        subst (λ u. LeadsDown a w u) (sym r.2) (down d.0 d.1 d.2))
   ];
   whole = λ v l. all w v refl l;
 }
@@ -148,7 +148,7 @@ module _ (a : List ℕ) (keeps : KeepsAllHeaderRules Usual a) where
     led_marked n h v s m l i =
         let e = slot_of n h s in
         settled v i (d.closed (h / 16) n v m (subst (λ y. StandsBelow a n y) (sym e) s) (subst (λ y. LeadsDown a (at_names y n) v)
-              (sym e) l))
+        (sym e) l))
 
     along : (n c : ℕ) → IsBelow a n c → IsOpened a c
         → ((g : ℕ) → IsFirst a c g → IsInside a g → IsMarked marks g) → (i h : ℕ) → IsAt a c i h
@@ -176,9 +176,9 @@ module _ (a : List ℕ) (keeps : KeepsAllHeaderRules Usual a) where
           let m = y.4 in
           let e = cleared_in_chain a y.2 g m.in_chain in
           let k = along y.0 y.2 b m.opened (λ h z. firsts y.0 y.2 h b m.opened z) m.in_chain.0 g m.in_chain.1
-              (inside_member a keeps y.2 g m) in
+          (inside_member a keeps y.2 g m) in
           there_is (λ h. h ≤ g) deep (subst (λ q. IsSomeAnd deep (λ h. h ≤ q)) e
-                (d.least (g / 16) k (subst (λ q. BreaksHeader a TooDeep q) (sym e) x)));
+          (d.least (g / 16) k (subst (λ q. BreaksHeader a TooDeep q) (sym e) x)));
     }
 
   -- the walk begins with the root's first header to come, no marks and nothing found
@@ -217,14 +217,20 @@ module _ (a : List ℕ) (keeps : KeepsAllHeaderRules Usual a) where
     stands = d.waits w itself
 
     waits_or_is : (v : Waiting) → Contains todo v → Contains rest v ⊎ (w ≡ v)
-    waits_or_is v c = elim (Contains-append_cases rest (w ∷ []) v (subst (λ x. Contains x v) taken c)) [ inl x ↦ inl x | inr x ↦ inr
-          (one_in w v x) ]
+    waits_or_is v c = elim (Contains-append_cases rest (w ∷ []) v (subst (λ x. Contains x v) taken c)) [
+      | inl x ↦ inl x
+      | inr x ↦ inr
+          (one_in w v x)
+    ]
 
     module _ (s : (¬ IsInside a w.header) ⊎ IsMarked marks w.header) where
       let_go : (v : Waiting) → IsSettled a todo marks v → IsSettled a rest marks v
       let_go v (inr r) = inr r
-      let_go v (inl c) = elim (waits_or_is v c) [ inl x ↦ inl x | inr e ↦ inr
-            (subst (λ u. (¬ IsInside a u.header) ⊎ IsMarked marks u.header) e s) ]
+      let_go v (inl c) = elim (waits_or_is v c) [
+        | inl x ↦ inl x
+        | inr e ↦ inr
+            (subst (λ u. (¬ IsInside a u.header) ⊎ IsMarked marks u.header) e s)
+      ]
 
       -- a header that lies outside, or has a mark, is let go
       pub step_stale : Descends a rest marks deep

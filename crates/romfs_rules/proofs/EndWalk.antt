@@ -101,8 +101,11 @@ module _ (a : List ℕ) (ends : List End) where
           rw (q, get_or_at ends r [] AtDirectory (length ends) refl)
               (g.on k r (e ∙ (let z : suc n ≡ length ends + 1 = omega arith in z)) x),
         )
-        | inr (inl l) ↦ (let s = length-append ends (r ∷ []) in omega arith, rw (get_or_append_left ends (r ∷ []) AtDirectory n l)
-              (g.past k n e l))
+        | inr (inl l) ↦ (
+          let s = length-append ends (r ∷ []) in omega arith,
+          rw (get_or_append_left ends (r ∷ []) AtDirectory n l)
+              (g.past k n e l),
+        )
         | inr (inr l) ↦ (let h = g.high k in absurd (omega arith))
       ]
 
@@ -139,13 +142,16 @@ module _ (a : List ℕ) (ends : List End) where
         → (k * 16 ≡ at → length ends + 1 ≡ v → Q) → (get_or marks k 0 ≡ v → Q) → Q
     by_mark k v e new old = elim (cases_eq k (at / 16)) [
       | inl q ↦ new (ap (λ y. y * 16) q ∙ g.aligned) (sym now_marked ∙ ap (λ y. get_or (set marks (at / 16) (length ends + 1)) y 0) (sym q)
-            ∙ e)
+          ∙ e)
       | inr q ↦ old (sym (get_or-set_other marks (at / 16) k (length ends + 1) 0 q) ∙ e)
     ]
 
     kept : (k : ℕ) → get_or marks k 0 ≡ length ends + 1 → get_or (set marks (at / 16) (length ends + 1)) k 0 ≡ length ends + 1
-    kept k e = elim (cases_eq k (at / 16)) [ inl q ↦ rw q now_marked | inr q ↦ get_or-set_other marks (at / 16) k (length ends + 1) 0 q
-          ∙ e ]
+    kept k e = elim (cases_eq k (at / 16)) [
+      | inl q ↦ rw q now_marked
+      | inr q ↦ get_or-set_other marks (at / 16) k (length ends + 1) 0 q
+          ∙ e
+    ]
 
     -- a hard link that no walk passed gets the number of this one, which goes on to its destination
     pub passes : spec a at < 2 ^ 32 → Going a ends from (cleared (spec a at)) (set marks (at / 16) (length ends + 1))

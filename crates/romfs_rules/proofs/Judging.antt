@@ -21,8 +21,11 @@ fails t e p = false≢true (sym e ∙ t.1 p)
 -- a test that reads the mark of a header says whether it is one of those that the marks are of
 pub mark_says : (a : List ℕ) (P : ℕ → Type 0) (marks : List Bool) (h : ℕ) (b : Bool) → AreMarks a P marks
     → HasSlot a h → b ≡ get_or marks (h / 16) false → IsTrue b ↔ P h
-mark_says a P marks h b m s e = (λ t. (marked a P marks h m s.aligned s.inside).0 (sym e ∙ t), λ p. e
-      ∙ (marked a P marks h m s.aligned s.inside).1 p)
+mark_says a P marks h b m s e = (
+  λ t. (marked a P marks h m s.aligned s.inside).0 (sym e ∙ t),
+  λ p. e
+      ∙ (marked a P marks h m s.aligned s.inside).1 p,
+)
 
 -- where one fact is known to hold, the test of another says whether both do
 pub and_known : {P Q : Type 0} {b c : Bool} → IsTrue b ↔ Q → b ≡ true → IsTrue c ↔ P → IsTrue c ↔ (P × Q)

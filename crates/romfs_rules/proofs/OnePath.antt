@@ -110,9 +110,12 @@ module _ (a : List ℕ) (keeps : KeepsAllHeaderRules Usual a) where
   below_has zero h e = ([], sym e, refl)
   below_has (suc n) h x =
       let r = below_has n x.0 x.1 in
-      let s = named_member x.0 h x.2 in
-      (r.0 ++ s.0 ∷ [], leads_on r.0 (root a) x.0 h s.0 r.1 x.2 s.1, (let k : length r.0 ≡ n = r.2 in let q =
-            length-append r.0 (s.0 ∷ []) in omega arith))
+      let s = named_member x.0 h x.2 in (
+        r.0 ++ s.0 ∷ [],
+        leads_on r.0 (root a) x.0 h s.0 r.1 x.2 s.1,
+        (let k : length r.0 ≡ n = r.2 in let q =
+            length-append r.0 (s.0 ∷ []) in omega arith),
+      )
 
   leads_below : (path : List (List ℕ)) (n d h : ℕ) → IsBelow a n d → Leads a d path h → IsBelow a (n + length path) h
   leads_below [] n d h b e = let q : n ≡ n + 0 = omega arith in subst (λ k. IsBelow a k h) q (subst (λ x. IsBelow a n x) e b)
@@ -136,8 +139,11 @@ module _ (a : List ℕ) (keeps : KeepsAllHeaderRules Usual a) where
   -- a header that a walk finds too deep breaks the rule on depth
   pub is_deep : (w : Waiting) → StandsBelow a w.names w.header → IsTooDeep a w → BreaksHeader a TooDeep w.header
   is_deep w s t =
-      let m : IsMember a s.dir w.header = record { opened = s.opened; in_chain = s.in_chain; kept =
-            elim [ inl x ↦ t.1 x.1 | inr x ↦ t.2 x ] } in
+      let m : IsMember a s.dir w.header = record {
+        opened = s.opened;
+        in_chain = s.in_chain;
+        kept = elim [ inl x ↦ t.1 x.1 | inr x ↦ t.2 x ];
+      } in
       let r = below_has (suc w.names) w.header (s.dir, s.below, m) in
       (r.0, r.1, (let k : length r.0 ≡ suc w.names = r.2 in let l = t.0 in omega arith))
 

@@ -86,16 +86,22 @@ module _ (Q : ℕ → Type 0) (found : Option ℕ) where
 
   -- a word that is not looked for leaves what was found
   pub unnoted : (word : ℕ) → ¬ Q word → Notes (λ h. Some word ≡ Some h) Q found found
-  unnoted word n = record { is = λ h e. inl e; old = λ h e. (h, e, omega arith); new =
-        λ h e q. absurd (n (let x : word ≡ h = cc in subst Q (sym x) q)) }
+  unnoted word n = record {
+    is = λ h e. inl e;
+    old = λ h e. (h, e, omega arith);
+    new = λ h e q. absurd (n (let x : word ≡ h = cc in subst Q (sym x) q));
+  }
 
 past : (n e : ℕ) → e < n → leb n e ≡ false
 past n e h = grind (arith, nat_tests)
 
 lesser_word : (found : Option ℕ) (word : ℕ) → lesser found word ≤ word
 lesser_word None word = omega arith
-lesser_word (Some least) word = elim (cases_lt word least) [ inl l ↦ rw (past least word l) (omega arith) | inr l ↦ rw (le-leb least word l)
-      l ]
+lesser_word (Some least) word = elim (cases_lt word least) [
+  | inl l ↦ rw (past least word l) (omega arith)
+  | inr l ↦ rw (le-leb least word l)
+      l
+]
 
 lesser_found : (found : Option ℕ) (word h : ℕ) → found ≡ Some h → lesser found word ≤ h
 lesser_found None word h e = cc
@@ -195,8 +201,11 @@ module _ (a : List ℕ) (Q : ℕ → Type 0) where
 
   -- below the root's slot nothing is found, as no header stands there
   pub nothing : (n : ℕ) → n ≡ root a / 16 → IsFoundBefore n None
-  nothing n e = record { is = λ h x. cc; whole = λ h x. absurd (let c = cleared_root a in let l = x.0.early in let i = x.0.inside in
-        omega arith) }
+  nothing n e = record {
+    is = λ h x. cc;
+    whole = λ h x. absurd (let c = cleared_root a in let l = x.0.early in let i = x.0.inside in
+        omega arith);
+  }
 
   to_next : (n : ℕ) → IsInside a (n * 16) → (g : ℕ) → (IsLedToBefore a n g ⊎ Names a (n * 16) g) × Q g → IsLedToBefore a (n + 1) g × Q g
   to_next n i g (inl x, q) = (record { slot = x.slot; early = omega arith; inside = x.inside; names = x.names }, q)
@@ -225,10 +234,20 @@ module _ (a : List ℕ) (Q : ℕ → Type 0) where
       → IsFoundBefore (n + 1) found
   scan_over n found none l = least_same _ _ found
       (λ g x. (let y = x.0 in let e = y.early in (record { slot = y.slot; early = omega arith; inside = y.inside; names = y.names }, x.1)))
-      (λ g x. (let y = x.0 in (record { slot = y.slot; early =
-            (elim (cases_eq y.slot n) [ inl q ↦ absurd (none g (subst (λ k. IsInside a (k * 16)) q y.inside)
-            (subst (λ k. Names a (k * 16) g) q y.names)) | inr q ↦ (let e = y.early in omega arith) ]); inside = y.inside; names =
-            y.names }, x.1)))
+      (λ g x. (let y = x.0 in (
+        record {
+          slot = y.slot;
+          early =
+              (elim (cases_eq y.slot n) [
+                | inl q ↦ absurd (none g (subst (λ k. IsInside a (k * 16)) q y.inside)
+                    (subst (λ k. Names a (k * 16) g) q y.names))
+                | inr q ↦ (let e = y.early in omega arith)
+              ]);
+          inside = y.inside;
+          names = y.names;
+        },
+        x.1,
+      )))
       l
 
   -- a run of slots behind the root's whose headers are not reached is scanned with nothing noted
@@ -251,9 +270,15 @@ module _ (a : List ℕ) (Q : ℕ → Type 0) where
       from : (g : ℕ) → IsReached a g × Q g → IsLedToBefore a n g × Q g
       from g (r, q) =
           let x = reached_named a v g r (u g q) in
-          let i = x.inside in
-          (record { slot = x.from / 16; early = omega arith; inside = rw (x.slot) i; names =
-                subst (λ y. Names a y g) (sym x.slot) x.names }, q)
+          let i = x.inside in (
+            record {
+              slot = x.from / 16;
+              early = omega arith;
+              inside = rw (x.slot) i;
+              names = subst (λ y. Names a y g) (sym x.slot) x.names;
+            },
+            q,
+          )
 
 -- what becomes of what was found, by a word that is there or not
 pub ruleset notes = (unnamed, noted, unnoted)

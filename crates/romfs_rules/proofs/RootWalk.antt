@@ -50,7 +50,7 @@ module _ (a : List ℕ) where
       along : (n h : ℕ) → IsAt a (root a) n h → IsInside a h → IsMarked marks h
       along zero h x i = settled h i (w.first h x)
       along (suc n) h x i = settled h i (w.closed (x.0 / 16) h (along n x.0 x.1 x.2.0)
-            (subst (λ y. IsNext a y h) (sym (cleared_at a (root a) n x.0 x.1)) x.2))
+          (subst (λ y. IsNext a y h) (sym (cleared_at a (root a) n x.0 x.1)) x.2))
 
       -- where the walk stands outside or at a mark, the marks are those of the root's chain
       pub all_marked : AreMarks a (IsInRootChain a) marks

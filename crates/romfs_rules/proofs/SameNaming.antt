@@ -158,7 +158,7 @@ names (Some n) q e d f =
     let z = same_name n q e in
     gives (is_dot_name n) (Some n) q
     (both_false (bytes_eq n (codes ".")) (bytes_eq n (codes "..")) (apart n (codes ".") (λ y. d (sym z ∙ y)))
-          (apart n (codes "..") (λ y. f (sym z ∙ y)))) e
+    (apart n (codes "..") (λ y. f (sym z ∙ y)))) e
 
 -- a header that keeps a name is not the root's, has that name, and is not . or ..
 pub kept : (a : List ℕ) (h : ℕ) (q : List ℕ) → kept_name a h ≡ Some q → (h ≢ root a) × (name a h ≡ Some q) × ¬ IsDotted a h
@@ -259,7 +259,7 @@ module _ (a heads : List ℕ) (set : List Bool) (n : AreNumbered a heads set) (o
 module _ (a heads : List ℕ) (set : List Bool) (next class : List ℕ) (noted : List Bool) (n : AreNumbered a heads set)
     (t : AreNextNumbers a heads next)
     (c : AreClasses (λ i. kept_name a (get_or heads i 0)) (length heads) class) (m : AreNoted next class noted)
-        (only : ¬ IsElsewhere a (root a)) where
+    (only : ¬ IsElsewhere a (root a)) where
   at_last : {y : ℕ} {x : ℕ} → x ≡ length heads → After next x y → y ≡ length heads
   at_last e (one f) = sym f ∙ ap (λ z. get_or next z 0) e ∙ t.last
   at_last e (more f b) = at_last (sym f ∙ ap (λ z. get_or next z 0) e ∙ t.last) b
@@ -267,7 +267,7 @@ module _ (a heads : List ℕ) (set : List Bool) (next class : List ℕ) (noted :
   -- one number comes after another
   forth : {x y : ℕ} → x < length heads → y < length heads → After next x y → Follows a (get_or heads x 0) (get_or heads y 0)
   forth {x = x} {y = y} l k (one e) = next_one (subst (λ z. IsNext a (get_or heads x 0) (get_or heads z 0)) e
-        ((t.each x l).only (let f = e in omega arith)))
+      ((t.each x l).only (let f = e in omega arith)))
   forth {x = x} {y = y} l k (more {y = w} e b) = elim (cases_order w (length heads)) [
     | inl f ↦ absurd (let g = at_last f b in omega arith)
     | inr (inl f) ↦ later (subst (λ z. IsNext a (get_or heads x 0) (get_or heads z 0)) e ((t.each x l).only (let g = e in omega arith)))
@@ -331,7 +331,7 @@ module _ (a heads : List ℕ) (set : List Bool) (next class : List ℕ) (noted :
             inl (subst (λ k. After next p.upper k) (one_number a heads set n only w.0 p.lower w.1 p.lower_within w.2) w.3))
         | inr z ↦ (let w = back z p.lower p.lower_within refl p.upper_inside in
             inr (subst (λ k. After next p.lower k) (one_number a heads set n only w.0 p.upper w.1 p.upper_within (w.2 ∙ sym p.upper_is))
-                  w.3))
+            w.3))
       ] in (
         p.upper,
         p.upper_within,

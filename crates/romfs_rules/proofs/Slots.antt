@@ -16,10 +16,10 @@ use Rattle.romfs_rules.specs.Marks.{HasSlot, IsVolumeImage, IsMarked, AreMarks}
 pub cleared_root : (a : List ℕ) → cleared (root a) ≡ root a
 unfolding root
 cleared_root a = elim (text_at a HEAD_SIZE) as (λ o. cleared (option_map_or (text_end HEAD_SIZE) o 0)
-      ≡ option_map_or (text_end HEAD_SIZE) o 0) [
-  | None ↦ refl
-  | Some text ↦ omega arith
-]
+    ≡ option_map_or (text_end HEAD_SIZE) o 0) [
+      | None ↦ refl
+      | Some text ↦ omega arith
+    ]
 
 -- a word whose low bits are cleared is not changed by clearing them
 pub twice_cleared : (n : ℕ) → cleared (cleared n) ≡ cleared n

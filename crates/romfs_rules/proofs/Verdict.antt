@@ -184,7 +184,7 @@ module _ (profile : Profile) (a : List ℕ) (v : IsVolumeImage a) where
     | inl q ↦ q
     | inr (inl m) ↦ absurd (omega arith)
     | inr (inr m) ↦ absurd ((k.keeps (root a) (root_slot a v (root a) refl) m).keeps LinkedTwice (lit≤ tt, lit< tt)
-          (inr ((root_elsewhere a (root a) refl).0 e)))
+        (inr ((root_elsewhere a (root a) refl).0 e)))
   ]
 
   -- where the headers below a slot and the one at it keep these rules, those below the next slot do
@@ -218,8 +218,10 @@ module _ (profile : Profile) (a : List ℕ) (v : IsVolumeImage a) where
       → AreMarks a (IsTarget a) targets → (slot : ℕ)
       → (get_or headers slot false ≡ true) ⊎ (get_or targets slot false ≡ true)
       → HasSlot a (slot * 16) × IsReached a (slot * 16)
-  slot_reached headers targets m t slot (inl x) = let y = m.each slot x in (record { inside = y.1; aligned = omega arith },
-        elim y.0 [ inl z ↦ (reached a (slot * 16)).1 (inr (inl z)) | inr z ↦ (reached a (slot * 16)).1 (inr (inr (inl z))) ])
+  slot_reached headers targets m t slot (inl x) = let y = m.each slot x in (
+    record { inside = y.1; aligned = omega arith },
+    elim y.0 [ inl z ↦ (reached a (slot * 16)).1 (inr (inl z)) | inr z ↦ (reached a (slot * 16)).1 (inr (inr (inl z))) ],
+  )
   slot_reached headers targets m t slot (inr x) = let y = t.each slot x in (record { inside = y.1; aligned = omega arith }, inr (inr y.0))
 
   -- the scan may ask for the root's header
@@ -290,7 +292,7 @@ module _ (profile : Profile) (a : List ℕ) (below above : Option ℕ) (lb : IsL
     broken = (r.0, λ i. let m = r.1 in let j = i.0 in omega arith);
     first = λ s q hs b x. elim (before s Outside q p hs (lit≤ tt, lit< tt) x) [
       | inl l ↦ (let m = r.1 in let o = least_is (IsReachedBelow a) below p q lb e (breach_reached a profile q s hs b, omega arith) in
-            omega arith)
+          omega arith)
       | inr y ↦ (let m = y.1 in let n = hs.0 in omega arith)
     ];
   }

@@ -192,7 +192,7 @@ impl<'h> Header<'h> {
     fn first_of_bytes(&self) -> Option<Rule>
         ensures { (profile : Profile)
             → IsFirstBelow profile self.now.image self.now.at
-                (rule_number Rule.LinkedTwice) result }
+            (rule_number Rule.LinkedTwice) result }
     {
         let _ = &self.image;
         if self.breaks_name_open() {

@@ -11,8 +11,7 @@ ghost use Rattle.equal_keys.specs.Names.{HoldTheShared};
 ghost use Rattle.romfs_rules.specs.Names.{kept_name, kept_names, AreClassesOf, AreNameHashes, HaveNamesApart, HaveTheirsAlone};
 
 use crate::volume::Volume;
-use equal_keys::seen_once;
-use equal_keys::{Named, classes, hash_of};
+use equal_keys::{Named, classes, hash_of, seen_once};
 use romfs_format::limits::HEAD_SIZE;
 use romfs_format::read::{is_dot_name, text_at};
 use std::alloc::{AllocError, Allocator};

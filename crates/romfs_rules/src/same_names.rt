@@ -17,10 +17,10 @@ use crate::chains::Chains;
 use crate::names::name_classes_of;
 use crate::slot::is_inside;
 use crate::volume::Volume;
-use successor_graph::note_repeats;
 use romfs_format::read::{cleared, word};
 use slot_sets::{SlotNumbers, places_of};
 use std::alloc::{AllocError, Allocator};
+use successor_graph::note_repeats;
 
 // The number of the header after one, or that of headers where there is none inside the image.
 fn next_number<A: Allocator>(

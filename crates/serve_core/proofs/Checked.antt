@@ -17,7 +17,7 @@ use Rattle.serve_core.specs.Checking.{AreChecked, IsBroken, Checks, IsFirstStop,
 pub one_more : {X : Type 0} (v : X → List ℕ) (profile : Profile) (all below : List (List ℕ)) (left rest : List X) (x : X)
     (layers more : List (List ℕ)) (checked : List ℕ)
     → all ≡ below ++ map v left → left ≡ x ∷ rest → AreChecked profile below layers → checked ≡ image (v x) → IsSoundAs profile (v x)
-        → more ≡ layers ++ checked ∷ []
+    → more ≡ layers ++ checked ∷ []
     → (after : List (List ℕ)) × (all ≡ after ++ map v rest) × AreChecked profile after more
 one_more v profile all below left rest x layers more checked e l s f d m = (
   below ++ v x ∷ [],
@@ -127,14 +127,19 @@ joined first next profile lows highs low high (Err stop) up a b (inr is) =
 -- a few images that are checked are layers
 pub as_layers : {X : Type 0} (v : X → List ℕ) (profile : Profile) (all : List X) (layers : List (List ℕ)) → IsFew (length all)
     → AreChecked profile (map v all) layers → AreLayers profile (map v all) layers
-as_layers v profile all layers few checked = record { few = subst IsFew (sym (length-map all v)) few; sound = checked.sound; are =
-      checked.are }
+as_layers v profile all layers few checked = record {
+  few = subst IsFew (sym (length-map all v)) few;
+  sound = checked.sound;
+  are = checked.are;
+}
 
 -- what broke off the check of a few images is why they are refused
 pub as_refused : {X : Type 0} (v : X → List ℕ) (profile : Profile) (all : List X) (stop : Stop) → IsFew (length all)
     → IsBroken 0 profile (map v all) stop → AreRefused profile (map v all) stop
-as_refused v profile all (Layer layer fault) few (n, at, broken) = (subst IsFew (sym (length-map all v)) few,
-      subst (λ m. IsLowestBroken profile (map v all) m fault) (sym (at ∙ none n)) broken)
+as_refused v profile all (Layer layer fault) few (n, at, broken) = (
+  subst IsFew (sym (length-map all v)) few,
+  subst (λ m. IsLowestBroken profile (map v all) m fault) (sym (at ∙ none n)) broken,
+)
   where
     none : (m : ℕ) → 0 + m ≡ m
     none m = omega arith
@@ -150,7 +155,7 @@ as_refused v profile all Turns few b = absurd b
 pub halved : {X : Type 0} (v : X → List ℕ) (all lows highs : List X) (half : ℕ) → lows ≡ take half all → highs ≡ drop half all
     → map v lows ++ map v highs ≡ map v all
 halved v all lows highs half l h = sym (map-append v lows highs) ∙ ap (map v) (ap (λ xs. xs ++ highs) l ∙ ap (λ xs. take half all ++ xs) h
-      ∙ take-append-drop half all)
+    ∙ take-append-drop half all)
 
 -- the numbers of the upper part begin where those of the lower end
 pub counted : {X : Type 0} (v : X → List ℕ) (all lows : List X) (half first : ℕ) → lows ≡ take half all → half ≤ length all

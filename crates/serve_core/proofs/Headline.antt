@@ -24,16 +24,21 @@ not_begun profile images t (Err told) stop e r u = record { stop = stop; result_
 module _ {A : Type 0} (profile : Profile) (first : Session) (images : List (List ℕ)) (turns : ℕ) (t : Trace) where
   -- where serving went to its end, all was served over good images
   pub served_over : (done : Done A) → Serves profile first images turns t (Ok done) → HasServedAll profile first images t done
-  served_over done (inl s) = record { stack = s.stack; stacked = s.stacked; served =
-        served (answering first s.stack) (length (nodes s.stack.entries)) turns t done s.run }
+  served_over done (inl s) = record {
+    stack = s.stack;
+    stacked = s.stacked;
+    served = served (answering first s.stack) (length (nodes s.stack.entries)) turns t done s.run;
+  }
   served_over done (inr n) = (let e = n.result_is in absurd (cc))
 
   same_stop : {a b : Stop} → (let result : Result (Done A) Stop = Err a in result ≡ Err b) → a ≡ b
   same_stop e = cc
 
   refused_for : (stop : Stop) → IsNotBegun {A = A} profile images t (Err stop) → IsRefusedFor profile images t stop
-  refused_for stop n = record { refused = subst (λ s. AreRefused profile images s) (sym (same_stop n.result_is)) n.refused; untouched =
-        n.untouched }
+  refused_for stop n = record {
+    refused = subst (λ s. AreRefused profile images s) (sym (same_stop n.result_is)) n.refused;
+    untouched = n.untouched;
+  }
 
   -- where it stopped for the number of layers, the images were refused for that
   pub many_refused : (count : ℕ) → Serves {A = A} profile first images turns t (Err (Layers count))

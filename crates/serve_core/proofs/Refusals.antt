@@ -37,9 +37,9 @@ one_broken : (profile : Profile) (images : List (List ℕ)) (m n : ℕ) (f g : I
     → IsLowestBroken profile images n g → Layer m f ≡ Layer n g
 one_broken profile images m n f g x y =
     let at = one_place profile f.rule g.rule f.place g.place x.below y.below x.above y.above x.bytes y.bytes x.sound y.sound x.broken
-        y.broken (sym x.images_are ∙ y.images_are) in
+    y.broken (sym x.images_are ∙ y.images_are) in
     let one = one_fault profile y.bytes f.rule g.rule f.place g.place (subst (λ b. IsFaultAs profile b f.rule f.place) at.1 x.broken)
-        y.broken in
+    y.broken in
     let number : m ≡ n = x.layer_is ∙ at.0 ∙ sym y.layer_is in
     let fault : f ≡ g = same_fault f g one.0 one.1 in
     cc
@@ -59,7 +59,7 @@ module _ (profile : Profile) (images : List (List ℕ)) where
   -- a reason, but for want of memory
   reason : (r : Stop) → AreRefused profile images r
       → (r ≡ Memory) ⊎ (((n : ℕ) × (r ≡ Layers n) × AreRefused profile images (Layers n)) ⊎ ((n : ℕ) × (f : ImageFault) × (r ≡ Layer n f)
-            × AreRefused profile images (Layer n f)))
+      × AreRefused profile images (Layer n f)))
   reason Memory x = inl refl
   reason (Layers n) x = inr (inl (n, refl, x))
   reason (Layer n f) x = inr (inr (n, f, refl, x))
@@ -93,5 +93,5 @@ module _ (profile : Profile) (images : List (List ℕ)) where
         | inl e ↦ e
         | inr (inl a) ↦ absurd (not_few a.0 a.2 good.few)
         | inr (inr a) ↦ let b = a.3.1 in absurd (none_broken profile b.below b.above b.bytes a.1.rule a.1.place
-              (subst (All (IsSoundAs profile)) b.images_are good.sound) b.broken)
+            (subst (All (IsSoundAs profile)) b.images_are good.sound) b.broken)
       ]

@@ -43,7 +43,7 @@ pub fn prepare_as<R: Threads + Sync, A: Allocator + Copy + Send + Sync, G: Gate 
     ensures err { IfErr result (λ stop. AreRefused profile (contents_of images) stop) }
 {
     let count = images.len() as u64;
-    if count == 0 || MAX_LAYERS < count {
+    if count == 0 || (MAX_LAYERS as u64) < count {
         return Err(Stop::Layers { count });
     }
     let images = check_all(rt, alloc, images, profile, gate)?;

@@ -8,4 +8,4 @@ use Rattle.serve_loop.specs.Serving.{AreBalances}
 -- two lists of balances that the same moves come to are the same
 pub one_balances : (moves : List Move) (nodes : ℕ) (xs ys : List ℤ) → AreBalances moves nodes xs → AreBalances moves nodes ys → xs ≡ ys
 one_balances moves nodes xs ys x y = ext_get_or (pos 0) xs ys (x.same ∙ sym y.same) (λ i l. x.each i (subst (λ n. i < n) x.same l)
-      ∙ sym (y.each i (subst (λ n. i < n) x.same l)))
+    ∙ sym (y.each i (subst (λ n. i < n) x.same l)))

@@ -28,23 +28,43 @@ module _ {A : Type 0} (by : Answering) (nodes turns : ℕ) (t : Trace) where
 
   -- a run that ends with `BadLength` has answered all messages before that place
   pub has_bad : (at len : ℕ) → IsRun {A = A} by nodes turns t (Err (BadLength at len)) → HasBadLength by t at len
-  has_bad at len r = record { messages = r.messages; rest = r.rest; answered = answered by t r.messages r.rest r.split r.end.2; place =
-        r.end.1; bad = r.end.0 }
+  has_bad at len r = record {
+    messages = r.messages;
+    rest = r.rest;
+    answered = answered by t r.messages r.rest r.split r.end.2;
+    place = r.end.1;
+    bad = r.end.0;
+  }
 
   -- a run that ends with `CutOff` has answered all messages before that place
   pub is_cut : (at : ℕ) → IsRun {A = A} by nodes turns t (Err (CutOff at)) → IsCutOff by t at
-  is_cut at r = record { ended = r.end.0; messages = r.messages; rest = r.rest; answered = answered by t r.messages r.rest r.split r.end.3;
-        place = r.end.2; cut = r.end.1 }
+  is_cut at r = record {
+    ended = r.end.0;
+    messages = r.messages;
+    rest = r.rest;
+    answered = answered by t r.messages r.rest r.split r.end.3;
+    place = r.end.2;
+    cut = r.end.1;
+  }
 
   -- a run that ends with `Read` has answered all messages that came before the failure
   pub well_at_read : IsRun {A = A} by nodes turns t (Err Read) → HasFailed by t
-  well_at_read r = record { failed = r.end.0; messages = r.messages; rest = r.rest; answered =
-        answered by t r.messages r.rest r.split r.end.1 }
+  well_at_read r = record {
+    failed = r.end.0;
+    messages = r.messages;
+    rest = r.rest;
+    answered = answered by t r.messages r.rest r.split r.end.1;
+  }
 
   -- a run that ends with `Turns` has made all its pulls, and answered all messages that came
   pub well_at_turns : IsRun {A = A} by nodes turns t (Err Turns) → HasUsedTurns by turns t
-  well_at_turns r = record { pulls = r.end.0; messages = r.messages; rest = r.rest; answered =
-        answered by t r.messages r.rest r.split r.end.2; good = r.end.1 }
+  well_at_turns r = record {
+    pulls = r.end.0;
+    messages = r.messages;
+    rest = r.rest;
+    answered = answered by t r.messages r.rest r.split r.end.2;
+    good = r.end.1;
+  }
 
   -- at every end what was put is the beginning of the replies
   pub front : (result : Result (Done A) Stop) → IsRun by nodes turns t result → IsFront by t
@@ -64,14 +84,14 @@ write_told (Err Write) old new e = (λ _. e, λ _. refl)
 write_told _ old new e = (λ q. absurd (cc), λ f. absurd (omega arith))
 
 module _ {A : Type 0} (by : Answering) (nodes turns : ℕ) (t : Trace) (result : Result (Done A) Stop) (r : IsRun by nodes turns t result)
-    where
-  -- a run ends with `Read` exactly where the source failed once in it
-  pub read_is_exact : (result ≡ Err Read) ↔ (t.source.failures ≡ t.source_before.failures + 1)
-  read_is_exact = read_told result t.source_before.failures t.source.failures r.counted.read
+  where
+    -- a run ends with `Read` exactly where the source failed once in it
+    pub read_is_exact : (result ≡ Err Read) ↔ (t.source.failures ≡ t.source_before.failures + 1)
+    read_is_exact = read_told result t.source_before.failures t.source.failures r.counted.read
 
-  -- a run ends with `Write` exactly where the sink failed once in it
-  pub write_is_exact : (result ≡ Err Write) ↔ (t.sink.failures ≡ t.sink_before.failures + 1)
-  write_is_exact = write_told result t.sink_before.failures t.sink.failures r.counted.write
+    -- a run ends with `Write` exactly where the sink failed once in it
+    pub write_is_exact : (result ≡ Err Write) ↔ (t.sink.failures ≡ t.sink_before.failures + 1)
+    write_is_exact = write_told result t.sink_before.failures t.sink.failures r.counted.write
 
 -- the ends at which all is answered
 pub ruleset ends = (served, has_bad, is_cut, well_at_read, well_at_turns)

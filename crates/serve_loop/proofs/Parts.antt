@@ -22,14 +22,14 @@ same_part : (old new : List ℕ) (s e : ℕ) → s ≤ e → take e new ≡ take
 same_part old new s e h q =
     let k : s + (e - s) ≡ e = omega arith in
     sym (drop-take s (e - s) new) ∙ ap (λ n. drop s (take n new)) k ∙ ap (drop s) q ∙ sym (ap (λ n. drop s (take n old)) k)
-        ∙ drop-take s (e - s) old
+    ∙ drop-take s (e - s) old
 
 -- bytes that come behind a part
 grown : (old new : List ℕ) (s e n : ℕ) → s ≤ e → take e new ≡ take e old → part new s (e + n) ≡ part old s e ++ take n (drop e new)
 grown old new s e n h q =
     let k : e + n - s ≡ (e - s) + n = omega arith in
     let d : drop (e - s) (drop s new) ≡ drop e new = drop-drop (e - s) s new ∙ ap (λ i. drop i new) (let z : s + (e - s) ≡ e =
-          omega arith in z) in
+    omega arith in z) in
     ap (λ i. take i (drop s new)) k
     ∙ take-add (e - s) n (drop s new)
     ∙ ap (λ v. part new s e ++ take n v) d

@@ -64,7 +64,7 @@ pub round_few : (by : Answering) (s : Session) (round : Round) (put rest : List 
     → IsRound by s rest round put (record { old = old; new = new }) → round.messages ≤ length rest
 round_few by s round put rest old new r =
     let j = joined_long r.messages r.first.each in let w = first_within rest r.messages round.used r.first in let k = r.first.size in
-        let c = r.count in omega arith
+    let c = r.count in omega arith
 
 -- a round whose count is not 0 has messages
 pub some_messages : (by : Answering) (s : Session) (round : Round) (put rest : List ℕ) (old new : List ℤ)
@@ -79,8 +79,14 @@ from_memory (Err stop) Q i q = subst Q (sym i) q
 module _ (by : Answering) where
   -- a state goes on to itself by no messages
   pub goes_nowhere : (v : ServingState) → Goes by v v [] []
-  goes_nowhere v = record { taken = refl; each = tt; answered = none_answered by v.session v.balances; place = omega arith; count =
-        omega arith; written = omega arith }
+  goes_nowhere v = record {
+    taken = refl;
+    each = tt;
+    answered = none_answered by v.session v.balances;
+    place = omega arith;
+    count = omega arith;
+    written = omega arith;
+  }
 
   -- a state that goes on to another, and that to a third, goes on to the third by the messages and
   -- replies of both
@@ -105,9 +111,9 @@ module _ (by : Answering) where
   pub goes_round : (from : ServingState) (round : Round) (put rest : List ℕ) (new : List ℤ) (at messages written : ℕ) →
       (r : IsRound by from.session from.rest round put (record { old = from.balances; new = new })) →
       rest ≡ drop round.used from.rest → at ≡ from.at + round.used → messages ≡ from.messages + round.messages → written ≡ from.written
-          + length put →
+      + length put →
       Goes by from (record { rest = rest; session = round.session; at = at; messages = messages; written = written; balances = new })
-          r.messages put
+      r.messages put
   goes_round from round put rest new at messages written r e a m w = record {
     taken = r.first.whole ∙ ap (λ v. joined r.messages ++ v) (sym e);
     each = r.first.each;
@@ -119,7 +125,7 @@ module _ (by : Answering) where
 
   -- a round in which no message was whole
   module _ (from : ServingState) (round : Round) (put : List ℕ) (new : List ℤ) (r : IsRound by from.session from.rest round put
-        (record { old = from.balances; new = new })) (z : round.messages ≡ 0) where
+      (record { old = from.balances; new = new })) (z : round.messages ≡ 0) where
     none : r.messages ≡ []
     none = no_messages r.messages (sym r.count ∙ z)
 
@@ -127,7 +133,7 @@ module _ (by : Answering) where
     pub goes_idle : Goes by from (record from { balances = new }) [] []
     goes_idle =
         let a = subst (λ (ms : List (List ℕ)). AreAnswered by from.session ms round.session put (record { old = from.balances; new = new }))
-            none r.answered in
+        none r.answered in
         record {
           taken = refl;
           each = tt;
@@ -162,7 +168,7 @@ module _ (by : Answering) where
         balanced = (
             let k = g.answered.light in
             within_less _ _ to.balances (omega arith) (within_moved (2 ^ 64 * from.at) (moves_by by.moved from.session (map asked ms))
-                  from.balances to.balances s.balanced g.answered.moves));
+            from.balances to.balances s.balanced g.answered.moves));
       }
 
   -- where a message is answered, fewer bytes are left
@@ -184,7 +190,7 @@ module _ (by : Answering) where
   -- a sink that fails in a round has taken the beginning of its replies
   pub halts_late : (from : ServingState) (round : Round) (all put rest : List ℕ) (new : List ℤ) (p q : Pushes) →
       (r : IsRound by from.session from.rest round all (record { old = from.balances; new = new })) → all ≡ put ++ rest
-          → q.failures ≡ p.failures + 1 → q.unflushed ≤ p.unflushed + length put →
+      → q.failures ≡ p.failures + 1 → q.unflushed ≤ p.unflushed + length put →
       Halts by from p q Write r.messages put (drop round.used from.rest)
   halts_late from round all put rest new p q r e f l = record {
     halt = tt;

@@ -38,8 +38,13 @@ module _ (by : Answering) (nodes : ℕ) where
   split_of t v ms g r = record { whole = g.taken; each = g.each; tail = r }
 
   prompt_first : (p : Pulls) (q : Pushes) → IsPrompt by (untouched p q)
-  prompt_first p q = record { messages = []; rest = []; split = record { whole = take_none _ [] refl; each = tt; tail = inl (inl refl) };
-        good = inl refl; told = record { more = all_but q.unflushed []; is = refl } }
+  prompt_first p q = record {
+    messages = [];
+    rest = [];
+    split = record { whole = take_none _ [] refl; each = tt; tail = inl (inl refl) };
+    good = inl refl;
+    told = record { more = all_but q.unflushed []; is = refl };
+  }
 
   -- before its first turn a run is under way with nothing done
   pub runs_first : (p : Pulls) (q : Pushes) (v : ServingState) → v ≡ start by.first nodes [] → IsRunning by nodes 0 (untouched p q) v []
@@ -127,8 +132,11 @@ module _ (by : Answering) (nodes : ℕ) where
       prompt_quiet = record {
         messages = ms;
         rest = v.rest;
-        split = record { whole = ap (λ n. all_but n (t.got ++ x)) z ∙ take_whole (t.got ++ x) ∙ got_same ∙ r.goes.taken; each = r.goes.each;
-              tail = inl r.good };
+        split = record {
+          whole = ap (λ n. all_but n (t.got ++ x)) z ∙ take_whole (t.got ++ x) ∙ got_same ∙ r.goes.taken;
+          each = r.goes.each;
+          tail = inl r.good;
+        };
         good = r.good;
         told = all_begun _ _ (sym r.goes.answered.told ∙ sym r.flushed_all);
       }
@@ -187,8 +195,12 @@ module _ (by : Answering) (nodes : ℕ) where
         rest = v.rest;
         split = split_quiet new x none quiet;
         begun = all_begun t.put (replies_to by ms) r.goes.answered.told;
-        end = (counts.3, unfinished v.rest r.good e, (let k = r.goes.place in omega arith),
-              record { put = r.goes.answered.told; flushed_all = r.flushed_all });
+        end = (
+          counts.3,
+          unfinished v.rest r.good e,
+          (let k = r.goes.place in omega arith),
+          record { put = r.goes.answered.told; flushed_all = r.flushed_all },
+        );
         prompt = prompt_quiet new x none quiet;
         counted = counted {A = A} (Err (CutOff v.at)) refl refl refl;
       }
@@ -225,7 +237,7 @@ module _ (by : Answering) (nodes : ℕ) where
         let k = some_counted t.source new (omega arith) (omega arith) (omega arith) n c z in
         let u = k.0 in let o = k.1 in let i = k.2 in
         let back : before (pulled_on t new x) ≡ t.got = ap (λ s. all_but (last_size s) (t.got ++ x)) k.3
-            ∙ ap (λ j. all_but j (t.got ++ x)) (sym l) ∙ all_but_last t.got x in
+        ∙ ap (λ j. all_but j (t.got ++ x)) (sym l) ∙ all_but_last t.got x in
         record {
           goes = record {
             taken = ap (λ g. g ++ x) r.goes.taken ∙ append_assoc (joined ms) v.rest x ∙ ap (λ g. joined ms ++ g) (sym e);
@@ -250,8 +262,13 @@ module _ (by : Answering) (nodes : ℕ) where
     prompt_late : (new : Pushes) (more : List ℕ) → new.unflushed ≤ t.sink.unflushed + length more → IsPrompt by (pushed_on t new more)
     prompt_late new more l =
         let b = flushed_late t.put more t.sink.unflushed new.unflushed f.flushed_all l in
-        record { messages = ms; rest = f.earlier; split = f.split; good = f.good; told =
-              record { more = b.more; is = b.is ∙ ap (λ x. x ++ b.more) f.goes.answered.told } }
+        record {
+          messages = ms;
+          rest = f.earlier;
+          split = f.split;
+          good = f.good;
+          told = record { more = b.more; is = b.is ∙ ap (λ x. x ++ b.more) f.goes.answered.told };
+        }
 
     -- all that is whole is answered
     module _ (w : ServingState) (ns : List (List ℕ)) (new : Pushes) (more : List ℕ) (g : Goes by v w ns more)
@@ -306,9 +323,9 @@ module _ (by : Answering) (nodes : ℕ) where
           let (ks, end, q) = some_split rest in
           let all : List (List ℕ) = ns ++ ks in
           let later : v.rest ≡ joined all ++ end = h.taken ∙ ap (λ l. joined ns ++ l) q.whole
-              ∙ sym (append_assoc (joined ns) (joined ks) end) ∙ ap (λ l. l ++ end) (sym (joined_append ns ks)) in
+          ∙ sym (append_assoc (joined ns) (joined ks) end) ∙ ap (λ l. l ++ end) (sym (joined_append ns ks)) in
           let told : replies_by by.reply v.session (map asked all) ≡ more
-              ++ (h.told.more ++ replies_by by.reply (session_at v.session (map asked ns)) (map asked ks)) = (
+          ++ (h.told.more ++ replies_by by.reply (session_at v.session (map asked ns)) (map asked ks)) = (
           ap (replies_by by.reply v.session) (map-append asked ns ks)
           ∙ replies_append by.reply v.session (map asked ns) (map asked ks)
           ∙ ap (λ l. l ++ replies_by by.reply (session_at v.session (map asked ns)) (map asked ks)) h.told.is

@@ -153,22 +153,34 @@ module _ (old new : Pulls) (low : old.pulls < 2 ^ 63 + 2 ^ 41) (few_ends : old.e
   -- a pull that gave bytes counts as a pull, and as no end and no failure
   pub some_counted : (n : ℕ) → new ≡ pulled old (Ok n) → (n ≡ 0 → ⊥) → (new.pulls ≡ old.pulls + 1) × (new.ends ≡ old.ends)
       × (new.failures ≡ old.failures) × (new.last ≡ Some (Bytes n))
-  some_counted n e z = (ap (λ p. p.pulls) e ∙ rises old.pulls low, ap (λ p. p.ends) e ∙ not_zero n _ _ z, ap (λ p. p.failures) e,
-        ap (λ p. p.last) e ∙ not_zero n _ _ z)
+  some_counted n e z = (
+    ap (λ p. p.pulls) e ∙ rises old.pulls low,
+    ap (λ p. p.ends) e ∙ not_zero n _ _ z,
+    ap (λ p. p.failures) e,
+    ap (λ p. p.last) e ∙ not_zero n _ _ z,
+  )
 
   -- a pull that met the end counts as a pull and an end
   pub end_counted : (n : ℕ) → new ≡ pulled old (Ok n) → n ≡ 0 → (new.pulls ≡ old.pulls + 1) × (new.ends ≡ old.ends + 1)
       × (new.failures ≡ old.failures) × (new.last ≡ Some End)
   end_counted n e z =
-      let f : new ≡ pulled old (Ok 0) = e ∙ ap (λ k. pulled old (Ok k)) z in
-      (ap (λ p. p.pulls) f ∙ rises old.pulls low, ap (λ p. p.ends) f ∙ rises old.ends (omega arith), ap (λ p. p.failures) f,
-            ap (λ p. p.last) f)
+      let f : new ≡ pulled old (Ok 0) = e ∙ ap (λ k. pulled old (Ok k)) z in (
+        ap (λ p. p.pulls) f ∙ rises old.pulls low,
+        ap (λ p. p.ends) f ∙ rises old.ends (omega arith),
+        ap (λ p. p.failures) f,
+        ap (λ p. p.last) f,
+      )
 
   -- a pull that failed counts as a pull and a failure
   pub failure_counted : (failed : Failed) → new ≡ pulled old (Err failed) → (new.pulls ≡ old.pulls + 1) × (new.ends ≡ old.ends)
       × (new.failures ≡ old.failures + 1) × (new.last ≡ Some Failure)
-  failure_counted failed e = (ap (λ p. p.pulls) e ∙ rises old.pulls low, ap (λ p. p.ends) e, ap (λ p. p.failures) e
-        ∙ rises old.failures (omega arith), ap (λ p. p.last) e)
+  failure_counted failed e = (
+    ap (λ p. p.pulls) e ∙ rises old.pulls low,
+    ap (λ p. p.ends) e,
+    ap (λ p. p.failures) e
+        ∙ rises old.failures (omega arith),
+    ap (λ p. p.last) e,
+  )
 
 -- the counts that serving begins with are small
 pub small_first : (first : Session) (nodes : ℕ) → IsSmall nodes (start first nodes [])

@@ -25,7 +25,7 @@ replies_append reply s [] ys = refl
 replies_append reply s (x ∷ xs) ys =
     ap (λ r. reply s x ++ r) (replies_append reply (session_after s x.op) xs ys)
     ∙ sym (append_assoc (reply s x) (replies_by reply (session_after s x.op) xs)
-          (replies_by reply (session_at (session_after s x.op) xs) ys))
+    (replies_by reply (session_at (session_after s x.op) xs) ys))
 
 -- the moves of two lists of requests are those of the first, and then those of the second in the
 -- session that the first leaves
@@ -61,7 +61,7 @@ first_on stream ms ns n k f g = record {
       ∙ ap (λ v. v ++ drop (n + k) stream) (sym (joined_append ms ns));
   each = both ms ns f.each g.each;
   size = (let x = f.size in let y = g.size in let z = ap length (joined_append ms ns) ∙ length-append (joined ms) (joined ns) in
-        omega arith);
+      omega arith);
 }
 
 -- no messages, with no bytes, are the first of any stream
@@ -104,10 +104,10 @@ module _ (by : Answering) (s : Session) where
         ∙ sym (replies_append by.reply s (map asked ms) (map asked ns))
         ∙ ap (replies_by by.reply s) (sym (map-append asked ms ns));
     moves = subst (λ v. IsMoved v a c) said (moved_on (moves_by by.moved s (map asked ms)) (moves_by by.moved t (map asked ns)) a b c
-          x.moves y.moves);
+        x.moves y.moves);
     light =
         subst (λ n. IsLight (moves_by by.moved s (map asked (ms ++ ns))) n) (sym (ap length (joined_append ms ns)
-              ∙ length-append (joined ms) (joined ns)))
+        ∙ length-append (joined ms) (joined ns)))
         (subst (λ v. IsLight v (length (joined ms) + length (joined ns))) said (light_on _ _ _ _ x.light y.light));
   }
     where
@@ -160,7 +160,7 @@ module _ (by : Answering) (s : Session) (stream : List ℕ) where
       → BeginsMessage rest len → IsAnswered by round.session (take len rest) after more
       (record { old = b; new = c }) →
       IsSoFar by s stream (record { used = round.used + len; messages = round.messages + 1; session = after }) (put ++ more)
-          (record { old = a; new = c })
+      (record { old = a; new = c })
   one_more round put more a b c rest len after f e m x =
       let there : AreFirst (drop round.used stream) (take len rest ∷ []) len = subst
       (λ (r : List ℕ). AreFirst r (take len rest ∷ []) len) e (one_first rest len m) in
@@ -176,8 +176,13 @@ module _ (by : Answering) (s : Session) (stream : List ℕ) where
   -- the messages answered so far are a round, if there is one or what is left begins with none
   pub is_round : (round : Round) (put : List ℕ) (b : Balances) → IsSoFar by s stream round put b
       → (0 < round.messages) ⊎ IsRest (drop round.used stream) → IsRound by s stream round put b
-  is_round round put b f o = record { messages = f.messages; first = f.first; count = f.count; answered = f.answered; some =
-        elim o [ inl h ↦ inl (let k = f.count in omega arith) | inr r ↦ inr r ] }
+  is_round round put b f o = record {
+    messages = f.messages;
+    first = f.first;
+    count = f.count;
+    answered = f.answered;
+    some = elim o [ inl h ↦ inl (let k = f.count in omega arith) | inr r ↦ inr r ];
+  }
 
   -- a round takes balances within 2^122 no further than 2^123, if the stream has at most 2^57 bytes
   pub so_far_within : (round : Round) (put : List ℕ) (a b : List ℤ)

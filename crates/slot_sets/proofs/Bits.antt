@@ -32,7 +32,7 @@ bits_none n m words e h = same_lists (bits n words) (replicate n false) (bits_le
     let s : k < n = subst (λ x. k < x) (bits_length n words) l in
     let z : get_or words (k / 64) 0 ≡ 0 = rw e (get_or-replicate m (k / 64) 0 0 (omega arith)) in
     get_or_default (bits n words) k d false l ∙ bits_at n words k s ∙ (rw z (rw (bit_at-zero (k % 64)) refl))
-        ∙ sym (get_or-replicate n k false d s))
+    ∙ sym (get_or-replicate n k false d s))
 
 zero_one : ¬ (◌≡◌ {A = ℕ} 0 1)
 zero_one e = omega arith
@@ -113,7 +113,7 @@ module _ (words : List ℕ) (slot word : ℕ) (e : word ≡ get_or words (slot /
       subst (λ x. x < 64) (sym f) lowest.0,
       elim (cases_lt low (slot % 64)) [
         | inl l ↦ (let z = rest_below word slot low l in let o = subst (λ x. bit_at (rest word slot) x ≡ 1) (sym f) lowest.1 in
-              absurd (zero_one (sym z ∙ o)))
+            absurd (zero_one (sym z ∙ o)))
         | inr l ↦ l
       ],
     )
@@ -126,7 +126,7 @@ module _ (words : List ℕ) (slot word : ℕ) (e : word ≡ get_or words (slot /
         let g = a.1 in
         let r : (slot / 64 * 64 + low) % 64 ≡ low = omega arith in
         in_word (slot / 64 * 64 + low) (omega arith) (omega arith) ∙ ap (λ x. bit_at (rest word slot) x == 1) (r ∙ f)
-            ∙ ap (λ x. x == 1) lowest.1
+        ∙ ap (λ x. x == 1) lowest.1
 
     -- no slot from this one up to that of the lowest bit that is left is in the set
     pub low_first : (low : ℕ) → low ≡ trailing_zeros w64 (rest word slot) → (k : ℕ) → slot ≤ k → k < slot / 64 * 64 + low

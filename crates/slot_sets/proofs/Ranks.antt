@@ -101,7 +101,7 @@ count_low (suc i) word =
     let low : word % 2 ^ suc i % 2 ≡ word % 2 = omega arith in
     let high : word % 2 ^ suc i / 2 ≡ word / 2 % 2 ^ i = omega arith in
     s ∙ ap (λ x. x + count_ones (word % 2 ^ suc i / 2)) low ∙ ap (λ x. word % 2 + count_ones x) high
-        ∙ ap (λ x. word % 2 + x) (count_low i (word / 2))
+    ∙ ap (λ x. word % 2 + x) (count_low i (word / 2))
   where
     lit_two : 0 < 2
     lit_two = omega arith
@@ -113,7 +113,7 @@ module _ (n : ℕ) (words : List ℕ) (word w : ℕ) (e : w ≡ get_or words wor
       let q : (word * 64 + i) / 64 ≡ word = omega arith in
       let r : (word * 64 + i) % 64 ≡ i = omega arith in
       ap (λ x. bit_at (get_or words x 0) ((word * 64 + i) % 64) == 1) q ∙ ap (λ x. bit_at (get_or words word 0) x == 1) r
-          ∙ ap (λ x. bit_at x i == 1) (sym e)
+      ∙ ap (λ x. bit_at x i == 1) (sym e)
 
   ranked : (i : ℕ) → i ≤ 64 → word * 64 + i ≤ n → rank (bits n words) (word * 64 + i) ≡ rank (bits n words) (word * 64) + low_ones w i
   unfolding low_ones
@@ -128,7 +128,7 @@ module _ (n : ℕ) (words : List ℕ) (word w : ℕ) (e : w ≡ get_or words wor
       elim (cases_eq (bit_at w i) 1) [
         | inl q ↦ (let s = rank_member (bits n words) (word * 64 + i) (b ∙ ap (λ x. x == 1) q) in omega arith)
         | inr q ↦ (let y : bit_at w i ≡ 0 = omega arith in let s = rank_other (bits n words) (word * 64 + i) (b ∙ ap (λ x. x == 1) y) in
-              omega arith)
+            omega arith)
       ]
 
   -- before a slot of a word stand those before the word, and as many as lower bits are set

@@ -38,7 +38,7 @@ module _ (marks : List Bool) (words : List ℕ) (k : ℕ) (m : get_or marks k fa
       ≡ set (words_by_slot marks words) k v
   put_is v f = same_lists (words_by_slot marks (set words (rank marks k) v)) (set (words_by_slot marks words) k v)
       (spread_length marks (set words (rank marks k) v) ∙ sym (length-set (words_by_slot marks words) k v ∙ spread_length marks words))
-          (λ j d l.
+      (λ j d l.
       let s : j < length marks = subst (λ x. j < x) (spread_length marks (set words (rank marks k) v)) l in
       spread_at marks (set words (rank marks k) v) j d s ∙ at j d s)
     where

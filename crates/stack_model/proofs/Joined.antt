@@ -31,8 +31,14 @@ pub top_only : (low high : List (List ℕ)) (path : Path) (i h : ℕ) → IsTop 
     → (IsTop low path i h × IsFree high path) ⊎ ((j : ℕ) × (i ≡ length low + j) × IsTop high path j h)
 top_only [] high path i h t = inr (i, omega arith, t)
 top_only (a ∷ low) high path zero h t = let f = (free_joined low high path).0 t.1 in inl ((t.0, f.0), f.1)
-top_only (a ∷ low) high path (suc i) h t = elim (top_only low high path i h t) [ inl x ↦ inl x | inr x ↦ inr (x.0, omega (arith, x.1),
-      x.2) ]
+top_only (a ∷ low) high path (suc i) h t = elim (top_only low high path i h t) [
+  | inl x ↦ inl x
+  | inr x ↦ inr (
+    x.0,
+    omega (arith, x.1),
+    x.2,
+  )
+]
 
 -- the joined run shows what the high run shows, or what the low run does where the high leaves it
 -- free
@@ -63,7 +69,7 @@ alone a path i h = (λ s. (s.0, (bottom i s.1).0, (bottom i s.1).1), λ s. (s.0,
 
 -- a run leaves a path free where no layer of it has the path, and it does not cut it
 pub free_is : (layers : List (List ℕ)) (path : Path) → IsFree layers path ↔ (AllByRecursion (λ a. ¬ IsIn a path) layers
-      × ¬ IsCut layers path)
+    × ¬ IsCut layers path)
 free_is [] path = (λ f. (tt, λ c. c), λ f. tt)
 free_is (a ∷ above) path =
     let r = free_is above path in (

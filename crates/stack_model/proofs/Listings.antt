@@ -34,8 +34,14 @@ same_entries [] [] r s f g = refl
 same_entries [] (y ∷ ys) r s f g = absurd (g y (inl refl))
 same_entries (x ∷ xs) [] r s f g = absurd (f x (inl refl))
 same_entries (x ∷ xs) (y ∷ ys) r s f g =
-    let one : x ≡ y = elim (f x (inl refl)) [ inl e ↦ e | inr m ↦ elim (g y (inl refl)) [ inl e ↦ sym e | inr n ↦ absurd
-          (not_both x.path y.path (above x xs y r.0 n) (above y ys x s.0 m)) ] ] in
+    let one : x ≡ y = elim (f x (inl refl)) [
+      | inl e ↦ e
+      | inr m ↦ elim (g y (inl refl)) [
+        | inl e ↦ sym e
+        | inr n ↦ absurd
+            (not_both x.path y.path (above x xs y r.0 n) (above y ys x s.0 m))
+      ]
+    ] in
     let rest : xs ≡ ys = same_entries xs ys r.1 s.1
     (λ e m. elim (f e (inr m)) [ inl i ↦ absurd (not_itself e.path (rw (one ∙ sym i) at (above x xs e r.0 m))) | inr n ↦ n ])
     (λ e m. elim (g e (inr m)) [ inl i ↦ absurd (not_itself e.path (rw (sym one ∙ sym i) at (above y ys e s.0 m))) | inr n ↦ n ]) in

@@ -51,7 +51,7 @@ at_found : (n k : ℕ) (p : Place) (ps : List Place) → Once ps → slice_get p
 at_found n k p [] o e = absurd (cc)
 at_found n zero p (q ∷ ps) o e = let i : q ≡ p = cc in rw (i, same_itself p) (ap Some (omega arith))
 at_found n (suc k) p (q ∷ ps) o e = rw (other_place p q ps k o.0 e (same_place p q) refl) (at_found (n + 1) k p ps o.1 e
-      ∙ ap Some (omega arith))
+    ∙ ap Some (omega arith))
 
 -- adding a place that is not there keeps each once
 once_more : (ps : List Place) (p : Place) → Once ps → list_any (same_place p) ps ≡ false → Once (ps ++ p ∷ [])

@@ -154,7 +154,7 @@ module _ (layers : List (List ℕ)) (entries : List Entry) (held : List Node) (d
   named_of p name = go (is_directory_at layers p)
     where
       go : (b : Bool) → number_named name (cond b (map (λ c. record { number = number entries c.place; name = c.name })
-            (children entries p)) []) ≡ cond b (option_map (number entries) (child entries p name)) None
+          (children entries p)) []) ≡ cond b (option_map (number entries) (child entries p name)) None
       go true = named_child (number entries) name (children entries p)
       go false = refl
 

@@ -31,7 +31,7 @@ mod row;
 mod table;
 
 pub use directory::{Directories, Directory};
-pub use node::{NodeAttr, Node};
+pub use node::{Node, NodeAttr};
 pub use romfs_reader::Kind;
 pub use row::Row;
 pub use shown_tree::Place;

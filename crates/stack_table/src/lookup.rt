@@ -7,7 +7,7 @@ ghost use Rattle.stack_table.specs.Held.{attr_held, held_at, directory_held};
 ghost use Rattle.stack_table.specs.Rows.{names, number_named};
 
 use crate::directory::{Directories, Directory};
-use crate::node::{NodeAttr, Node};
+use crate::node::{Node, NodeAttr};
 use crate::row::Row;
 use name_keys::{Guesses, find};
 use romfs_reader::Kind;

@@ -10,7 +10,7 @@ ghost use Rattle.stack_table.specs.Readers.{TellsNode, attr_at, parent_at, child
 
 use crate::directory::{Directories, Directory};
 use crate::lookup::{attr_of, directory_at, guesses_of, keys_of, node_at, number_named, rows_of};
-use crate::node::{NodeAttr, Node};
+use crate::node::{Node, NodeAttr};
 use crate::row::Row;
 use name_keys::Guesses;
 use romfs_reader::Image;

@@ -1,7 +1,7 @@
 -- How a command ends, by how its last step ended. `whole` and `begun` put what was done over the
 -- images beside the words that asked for it; `unread` is the end before that, and no fault has the
 -- status 0.
-use Rattle.std.proofs.Common.{◌≡◌, ◌≢◌, ◌<◌, ◌∙◌, sym, subst, refl, ℕ, ◌⊎◌, inl, inr, List, None, Result, Ok, Err, IfErr, IsErrAnd, arith, length, map, vec_len, Vec}
+use Rattle.std.proofs.Common.{◌≡◌, ◌≢◌, ◌<◌, ◌∙◌, sym, ap, subst, refl, ℕ, ◌⊎◌, inl, inr, List, None, Result, Ok, Err, IfErr, IsErrAnd, arith, length, map, vec_len, Vec}
 use Rattle.std.proofs.lemmas.List.{length-map}
 use Rattle.serve_loop.specs.declared.stop.Stop.{Stop}
 use Rattle.serve_loop.specs.declared.stop.Stop.TheVariants as stops
@@ -9,9 +9,11 @@ use Rattle.command_line.specs.declared.options.Line.{Line}
 use Rattle.command_line.specs.declared.options.Verb.{Verb}
 use Rattle.command_line.specs.CommandLine.{IsLineOf}
 use Rattle.devices.specs.States.{Devices}
+use Rattle.image_files.specs.declared.images.FilesFault.{FilesFault}
+use Rattle.image_files.specs.declared.images.FilesFault.TheVariants as files
 use Rattle.strata.specs.declared.faults.Fault.{Fault}
 use Rattle.strata.specs.declared.faults.Fault.TheVariants.{Usage, ImageFile, RequestsFile, RepliesFile, BalancesFile, Bind, Accept, Broken, InSession, Stopped}
-use Rattle.strata.specs.Faults.{status_of, stop_status, out_of_memory}
+use Rattle.strata.specs.Faults.{status_of, stop_status, files_told_of}
 use Rattle.strata.specs.Ending.{NamesAsMany, IsDoneOver, IsStoppedOver, IsDone, EndsInFault, IsOverWith}
 
 -- as many images as paths
@@ -55,14 +57,22 @@ module _ (A : Type 0) (words : List (List ℕ)) (line : Line) (images : List (Li
 
 -- an image that was not read, or memory that ran out before all were
 pub unread : {X : Type 0} (A : Type 0) (words : List (List ℕ)) (line : Line) (count : ℕ) (old : Devices) (r : Result X Fault)
-    → IsLineOf words line → count ≡ vec_len line.images → (fault : Fault) → (fault ≡ out_of_memory)
-    ⊎ ((image : ℕ) × (image < count) × (fault ≡ ImageFile image)) → IsErrAnd r (λ told. told ≡ fault)
+    → IsLineOf words line → count ≡ vec_len line.images → (fault : FilesFault) → (fault ≡ files.Memory)
+    ⊎ ((image : ℕ) × (image < count) × (fault ≡ files.Unread image)) → IsErrAnd r (λ told. told ≡ files_told_of fault)
     → IfErr r (λ told. EndsInFault A words told old old)
 unread A words line count old (Ok u) l n fault f e = absurd e
-unread A words line count old (Err told) l n fault (inl f) e = inl (record { kept = refl; which = inr (inr (e ∙ f)) })
+unread A words line count old (Err told) l n fault (inl f) e = inl (record { kept = refl; which = inr (inr (e ∙ ap files_told_of f)) })
 unread A words line count old (Err told) l n fault (inr f) e =
-    inl (record { kept = refl; which =
-      inr (inl (record { line = line; image = f.0; line_is = l; named = subst (λ k. f.0 < k) n f.1; told = e ∙ f.2 })) })
+    inl (record {
+      kept = refl;
+      which = inr (inl (record {
+        line = line;
+        image = f.0;
+        line_is = l;
+        named = subst (λ k. f.0 < k) n f.1;
+        told = e ∙ ap files_told_of f.2;
+      }));
+    })
 
 -- no fault has the status 0
 stop_fails : (stop : Stop) → stop_status stop ≢ 0

@@ -75,7 +75,7 @@ module _ {A : Type 0} {first : Session} {stack : Stacked} where
   one_more count status ended more so_far (s, e) m =
       let number : 1 + length so_far.served ≡ count + 1 = omega (arith, so_far.count_is) in
       let e : ended ≡ status_at (fault_of (1 + length so_far.served) s.result) = e
-          ∙ ap status_at (same_number (count + 1) (1 + length so_far.served) s (sym number)) in
+      ∙ ap status_at (same_number (count + 1) (1 + length so_far.served) s (sym number)) in
       record {
         served = so_far.served ++ s ∷ [];
         count_is = length-append so_far.served (s ∷ []) ∙ ap (λ k. k + 1) so_far.count_is;
@@ -119,7 +119,7 @@ module _ {A : Type 0} {first : Session} {stack : Stacked} where
     where
       go : (o : Option Fault) → fault_of n s.result ≡ o
           → (first_fault (n + 1) more ≡ Some fault → (number : ℕ) × (stop : Stop) × (fault ≡ InSession number stop)
-                × IsFirstStopped more stop)
+          × IsFirstStopped more stop)
           → or_later o (first_fault (n + 1) more) ≡ Some fault
           → (number : ℕ) × (stop : Stop) × (fault ≡ InSession number stop) × IsFirstStopped (s ∷ more) stop
       go None is rest e =
@@ -155,7 +155,7 @@ module _ {A : Type 0} {first : Session} {stack : Stacked} where
   -- the fault that sessions end with is that of one of them, or that no client could be accepted
   pub of_sessions : (count : ℕ) (fault : Fault) → AreServed A first stack count (Some fault)
       → (fault ≡ Accept) ⊎ ((number : ℕ) × (stop : Stop) × (fault ≡ InSession number stop) × (t : Trace) × IsSession {A = A} first stack t
-            (Err stop))
+      (Err stop))
   of_sessions count fault a =
       elim a.ends [
         | inl e ↦

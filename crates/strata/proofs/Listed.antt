@@ -20,5 +20,7 @@ pub list_stopped : (profile : Profile) (images : List (List ℕ)) (stack : Stack
     → IfErr r (λ told. IsNotListed profile images told old new)
 list_stopped profile images stack old new (Ok u) fault s b e = absurd e
 list_stopped profile images stack old new (Err told) Write s b e = inr (record { told = e; failed = b })
-list_stopped profile images stack old new (Err told) Memory s b e = inl (record { stop = stops.Memory; told = e; refused = s.layers.few },
-      b)
+list_stopped profile images stack old new (Err told) Memory s b e = inl (
+  record { stop = stops.Memory; told = e; refused = s.layers.few },
+  b,
+)

@@ -17,7 +17,7 @@ module _ (A : Type 0) (words : List (List ℕ)) (input output : Bool) (old new :
   has_done_there d = record { done = λ _. inl d; stopped = λ n. absurd (n refl); untouched = λ e. absurd (zero_is_other e) }
 
   module _ (status : ℕ) (fault : Fault) (stopped : EndsInFault A words fault old new) (status_is : status
-        ≡ status_on_device fault input output) where
+      ≡ status_on_device fault input output) where
     stops : (taken_away : Bool) → is_taken_away fault input output ≡ taken_away → StopsWhere A words input output taken_away status old new
     stops taken_away whether = record { fault = fault; whether = whether; status_is = status_is; stopped = stopped }
 
@@ -27,8 +27,11 @@ module _ (A : Type 0) (words : List (List ℕ)) (input output : Bool) (old new :
     by_whether : (taken_away : Bool) → is_taken_away fault input output ≡ taken_away → IsRunOnDevice A words input output status old new
     by_whether true whether =
         let zero : status ≡ 0 = status_by true whether in
-        record { done = λ _. inr (stops true whether); stopped = λ n. absurd (n zero); untouched =
-              λ two. absurd (zero_is_other (sym zero ∙ two)) }
+        record {
+          done = λ _. inr (stops true whether);
+          stopped = λ n. absurd (n zero);
+          untouched = λ two. absurd (zero_is_other (sym zero ∙ two));
+        }
     by_whether false whether =
         let same : status ≡ status_of fault = status_by false whether in
         let ends : EndsWith A words status old new = record { fault = fault; status_is = same; stopped = stopped } in

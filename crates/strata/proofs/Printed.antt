@@ -65,7 +65,7 @@ unfolding balance_lines
 one_more_told balances text more place b p e = record {
   whole = ap (λ t. t ++ balance_lines (place + 1 + 1) (drop (place + 1) balances)) e
       ∙ append_assoc text (balance_line (place + 1) (slice_index_or balances place (pos 0)))
-          (balance_lines (place + 1 + 1) (drop (place + 1) balances))
+      (balance_lines (place + 1 + 1) (drop (place + 1) balances))
       ∙ ap (λ left. text ++ balance_lines (place + 1) left) (sym (drop_more balances place (pos 0) b)) ∙ p.whole;
 }
 

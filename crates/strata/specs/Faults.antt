@@ -1,5 +1,5 @@
 -- What the program ends with, and for what.
-use Rattle.std.specs.Prelude.{◌≡◌, ℕ, ◌+◌, ◌<◌, ◌≤◌, ◌⊎◌, List, ◌∷◌, ◌++◌, length, map, All}
+use Rattle.std.specs.Prelude.{◌≡◌, ℕ, ◌⊎◌, List, ◌∷◌, ◌++◌, length, map, All}
 use Rattle.romfs_format.specs.declared.rule.Profile.{Profile}
 use Rattle.romfs_format.specs.declared.rule.ImageFault.{ImageFault}
 use Rattle.romfs_format.specs.Fields.{image}
@@ -8,6 +8,8 @@ use Rattle.serve_loop.specs.declared.stop.Stop.{Stop}
 use Rattle.serve_loop.specs.declared.stop.Stop.TheVariants as stops
 use Rattle.command_line.specs.declared.options.LineFault.{LineFault}
 use Rattle.command_line.specs.declared.options.LineFault.TheVariants as line
+use Rattle.image_files.specs.declared.images.FilesFault.{FilesFault}
+use Rattle.image_files.specs.declared.images.FilesFault.TheVariants as files
 use Rattle.path_list.specs.declared.walk.ListFault.{ListFault}
 use Rattle.path_list.specs.declared.walk.ListFault.TheVariants as list
 use Rattle.strata.specs.declared.faults.Fault.{Fault}
@@ -50,16 +52,15 @@ abbrev pub line_told_of : LineFault → Fault
 line_told_of (line.Usage text) = Usage text
 line_told_of line.Memory = out_of_memory
 
+-- what the program says where the files of images were not read
+abbrev pub files_told_of : FilesFault → Fault
+files_told_of (files.Unread image) = ImageFile image
+files_told_of files.Memory = out_of_memory
+
 -- what the program says where a list was not written
 abbrev pub list_told_of : ListFault → Fault
 list_told_of list.Write = write_failed
 list_told_of list.Memory = out_of_memory
-
--- one of so many images from number first on could not be read, or memory ran out
-abbrev pub IsUnread : ℕ → ℕ → Fault → Type 0
-IsUnread first count fault =
-    (fault ≡ out_of_memory)
-    ⊎ ((image : ℕ) × (first ≤ image) × (image < first + count) × (fault ≡ ImageFile image))
 
 -- the bytes of this image break a rule of the profile, or memory ran out
 abbrev pub IsImageFault : Profile → ℕ → List ℕ → Fault → Type 0

@@ -6,7 +6,7 @@ ghost use Rattle.strata.specs.Ending.{ArePut, AreNotPut};
 ghost use Rattle.strata.specs.Texts.{balance_lines};
 
 use crate::faults::Fault;
-use crate::streams::put_lines;
+use crate::lines::put_lines;
 use devices::{Sink, Spout};
 use std::alloc::{AllocError, Allocator};
 use std::io::Write;

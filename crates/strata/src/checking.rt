@@ -9,7 +9,7 @@ ghost use Rattle.strata.specs.Texts.{size_lines};
 ghost use Rattle.strata.specs.Ending.{AreGood, AreNotGood};
 
 use crate::faults::Fault;
-use crate::streams::put_lines;
+use crate::lines::put_lines;
 use devices::Sink;
 use romfs_check::{Check, CheckFault, Image, Profile};
 use serve_core::Stop;

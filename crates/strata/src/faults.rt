@@ -6,6 +6,7 @@ ghost use Rattle.strata.specs.Faults.{status_of, stop_status};
 ghost use Rattle.strata.specs.Texts.{fault_text, stop_text};
 
 use command_line::LineFault;
+use image_files::FilesFault;
 use path_list::ListFault;
 use romfs_check::ImageFault;
 use serve_core::Stop;
@@ -150,6 +151,19 @@ impl From<LineFault> for Fault {
         match fault {
             LineFault::Usage { text } => Fault::Usage { text },
             LineFault::Memory => Fault::Stopped(Stop::Memory),
+        }
+    }
+}
+
+impl From<FilesFault> for Fault {
+    ghost use Rattle.strata.specs.Faults.{files_told_of};
+
+    ghost from_gives = { λ files fault. fault ≡ files_told_of files };
+
+    fn from(fault: FilesFault) -> Fault {
+        match fault {
+            FilesFault::Unread { image } => Fault::ImageFile { image },
+            FilesFault::Memory => Fault::Stopped(Stop::Memory),
         }
     }
 }

@@ -13,7 +13,6 @@ ghost use Rattle.strata.specs.Mounts.{status_on_device, IsRunOnDevice};
 
 use crate::checking::check;
 use crate::faults::Fault;
-use crate::files::read_images;
 use crate::listening::listen;
 use crate::listing::list;
 use crate::serving::serve;
@@ -21,6 +20,7 @@ use crate::settings::profile_of;
 use command_line::{Verb, line};
 use devices::{Sink, Source};
 use fuse_device::{MessageTap, ReplySpout};
+use image_files::read_images;
 use serve_core::Stop;
 use std::alloc::{Allocator, Global};
 use std::convert::AsStr;

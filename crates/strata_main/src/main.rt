@@ -25,9 +25,9 @@ fn keep_freed_blocks<A: Allocator>(alloc: A) {
     drop(block);
 }
 
-// Opens a file that has nothing three times, to be held while the program runs. The system gives the
-// next file the lowest number that is free, so none that the words name takes that of a standard
-// stream that is closed: to read from it then gives nothing, and to write to it fails.
+// Opens a file that has nothing three times, to be held while the program runs. The system gives
+// the next file the lowest number that is free, so none that the words name takes that of a
+// standard stream that is closed: to read from it then gives nothing, and to write to it fails.
 fn stand_ins<R: Files>(rt: &R) -> [Option<R::File>; 3] {
     [stand_in(rt), stand_in(rt), stand_in(rt)]
 }

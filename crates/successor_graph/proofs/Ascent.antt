@@ -246,12 +246,12 @@ module _ (next class first sibling cycle : List ℕ) (graph : IsGraph next class
     pub leaves : (at : ℕ) (s : Step) (steps : List Step) (entered noted : List Bool) (low : List ℕ) → length next ≤ at
         → IsUnderWay next class first sibling cycle rest bottom at (s ∷ steps) entered noted low
         → IsUnderWay next class first sibling cycle rest bottom (get_or sibling s.at 0) steps entered noted
-            (set low (get_or class s.at 0) s.low)
+        (set low (get_or class s.at 0) s.low)
     leaves at s steps entered noted low past w = go w.tower
       where
         go : Tower next class cycle bottom (s ∷ steps)
             → IsUnderWay next class first sibling cycle rest bottom (get_or sibling s.at 0) steps entered noted
-                (set low (get_or class s.at 0) s.low)
+            (set low (get_or class s.at 0) s.low)
         go (over t i e l) =
             let sized = graph.classes.sized in
             let siblings = graph.lists.siblings in

@@ -43,9 +43,9 @@ graph_of g = record {
     rising = λ x i. g.rising x (let s = g.siblings in omega arith);
     same = λ t x i a. ∥∥₁_elim g.lists (hlevel props) (λ l. l.same t x i a);
     whole = λ x i. elim (ahead g.sibling.items g.rising (length g.sibling.items) (get_or g.first.items (get_or g.next.items x 0) 0) x
-          (omega arith)) [
-      | inl a ↦ a
-      | inr n ↦ absurd (∥∥₁_elim g.lists (hlevel props) (λ l. n (l.whole x i)))
-    ];
+        (omega arith)) [
+          | inl a ↦ a
+          | inr n ↦ absurd (∥∥₁_elim g.lists (hlevel props) (λ l. n (l.whole x i)))
+        ];
   };
 }

@@ -177,7 +177,7 @@ module _ (next class : List ℕ) (few : length class ≡ length next) (leads : A
   gathered first entered noted at xs low sized m w =
       let here : On (reverse xs) at = elim (w.each at m) [ inl e ↦ absurd (clash _ e w.fresh) | inr p ↦ p ] in
       let round : (x : ℕ) → On (reverse xs) x → On (reverse xs) (get_or next x 0) =
-          λ x p. elim (w.on x p) [ inl q ↦ q | inr e ↦ subst (λ z. On (reverse xs) z) (sym e) here ] in
+      λ x p. elim (w.on x p) [ inl q ↦ q | inr e ↦ subst (λ z. On (reverse xs) z) (sym e) here ] in
       record {
         start = elim w.start [ inl s ↦ on_reversed xs (subst (λ z. On (reverse xs) z) s.0 here) | inr p ↦ on_reversed xs p ];
         is = record {
@@ -190,14 +190,23 @@ module _ (next class : List ℕ) (few : length class ≡ length next) (leads : A
           spare = w.spare;
           compared = record {
             sized = sized;
-            low = λ x y n a e l. elim (w.each x n) [ inl f ↦ w.compared.low x y f a e l | inr p ↦ w.spare.each x y p (goes_round round a p)
-                  e l ];
-            high = λ x y n a e l. elim (w.each x n) [ inl f ↦ w.compared.high x y f a e l | inr p ↦ w.spare.each y x (goes_round round a p)
-                  p (sym e) l ];
+            low = λ x y n a e l. elim (w.each x n) [
+              | inl f ↦ w.compared.low x y f a e l
+              | inr p ↦ w.spare.each x y p (goes_round round a p)
+                  e l
+            ];
+            high = λ x y n a e l. elim (w.each x n) [
+              | inl f ↦ w.compared.high x y f a e l
+              | inr p ↦ w.spare.each y x (goes_round round a p)
+                  p (sym e) l
+            ];
           };
           lower = w.lower;
-          closed = λ x l n. elim (w.each (get_or next x 0) n) [ inl e ↦ inl (w.kept.each x (w.closed.each x l e)) | inr p ↦ inr
-                (on_reversed xs p) ];
+          closed = λ x l n. elim (w.each (get_or next x 0) n) [
+            | inl e ↦ inl (w.kept.each x (w.closed.each x l e))
+            | inr p ↦ inr
+                (on_reversed xs p)
+          ];
         };
         all = λ x p. w.all x (on_reverse p);
       }

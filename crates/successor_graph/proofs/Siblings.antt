@@ -43,7 +43,7 @@ module _ (next first sibling : List ℕ) (at : ℕ) (fits : at < length next) (b
       let s = sized in
       let r = w.rising from (let e = w.siblings in omega arith) in
       later (omega arith) (subst (λ y. Ahead sibling y x) (kept from (omega arith)) (back (let e = kept from (omega arith) in
-            omega arith) a))
+      omega arith) a))
 
   mine : get_or more_sibling at 0 ≡ get_or first (get_or next at 0) 0
   unfolding more_sibling
@@ -54,9 +54,9 @@ module _ (next first sibling : List ℕ) (at : ℕ) (fits : at < length next) (b
   listed_here =
       let to : get_or next at 0 < length next = b.each at fits in
       let here_first : get_or more_first (get_or next at 0) 0 ≡ at = get_or-set_same first (get_or next at 0) at 0 (let e = w.firsts in
-            omega arith) in
+      omega arith) in
       let other_first : (t : ℕ) → t ≢ get_or next at 0 → get_or more_first t 0 ≡ get_or first t 0 =
-          λ t d. get_or-set_other first (get_or next at 0) t at 0 d in
+      λ t d. get_or-set_other first (get_or next at 0) t at 0 d in
       let here_sibling : get_or more_sibling at 0 ≡ get_or first (get_or next at 0) 0 = mine in
       let past : (t : ℕ) → t < length next → at < get_or first t 0 = λ t l. (let k = w.past t l in omega arith) in
       record {

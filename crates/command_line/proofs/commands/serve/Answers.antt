@@ -21,4 +21,4 @@ returns c =
     let device = added_rule c.in_ok-arg-3.field-0 c.flag.result c.in_ok-command.command _ (flag (codes "device"))
     c.in_ok-command.ensures balances c.flag.ensures.rule c.flag.ensures.local in
     IfOk-weaker c.with_served_images.result _ _ (λ more added. added ∙ ap (λ a. with_rules a served_images) device)
-        c.with_served_images.ensures
+    c.with_served_images.ensures

@@ -15,4 +15,4 @@ returns c =
     (value_option (codes "sessions")) c.in_ok-command.ensures listen c.option.ensures.rule
     c.option.ensures.local in
     IfOk-weaker c.with_served_images.result _ _ (λ more added. added ∙ ap (λ a. with_rules a served_images) sessions)
-        c.with_served_images.ensures
+    c.with_served_images.ensures

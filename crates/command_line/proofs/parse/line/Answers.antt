@@ -31,7 +31,7 @@ line_of-requires-clause-socket g c =
     c.subcommand.ensures.name c.subcommand.ensures.rows c.unwrap.ensures
     c.in_ok-matches.ensures.command in
     command_gives words c.unwrap.result.0.now (rows_of (found_of c.unwrap.result.1.now)) c.verb_of.result c.in_ok-matches.ensures.taken met
-        c.verb_of.ensures
+    c.verb_of.ensures
 
 pub returns-clause-ok : goal.returns-clause-ok
 returns-clause-ok g c =

@@ -14,7 +14,7 @@ returns-in-None-clause-holds c =
     let found = found_of c.args.found.now in
     let are = images_are found c.get_strs.result c.unwrap.result c.get_strs.ensures c.unwrap.ensures in
     let numbers = numbers_are found c.in_ok-workers.workers c.in_ok-batch.batch c.in_ok-sessions.sessions c.in_ok-workers.ensures.ok
-        c.in_ok-batch.ensures.ok c.in_ok-sessions.ensures.ok in
+    c.in_ok-batch.ensures.ok c.in_ok-sessions.ensures.ok in
     held (rows_of found) _ numbers.0 (record {
       verb = refl;
       strict = flag_is found (codes "strict") c.get_flag.result c.requires.filled.strict c.get_flag.ensures.none c.get_flag.ensures.value
@@ -43,7 +43,7 @@ pub returns-in-None-clause-socket : goal.returns-in-None-clause-socket
 returns-in-None-clause-socket c =
     let found = found_of c.args.found.now in
     names_socket c.args.verb (rows_of found) c.get_str-4.result c.requires.socket (c.get_str-4.ensures
-          ∙ first_value-rows found (codes "listen"))
+    ∙ first_value-rows found (codes "listen"))
 
 pub returns-in_err-workers-clause-err : goal.returns-in_err-workers-clause-err
 returns-in_err-workers-clause-err c =
@@ -65,7 +65,7 @@ returns-clause-err c =
     let found = found_of c.args.found.now in
     let are = images_are found c.get_strs.result c.unwrap.result c.get_strs.ensures c.unwrap.ensures in
     let numbers = numbers_are found c.in_ok-workers.workers c.in_ok-batch.batch c.in_ok-sessions.sessions c.in_ok-workers.ensures.ok
-        c.in_ok-batch.ensures.ok c.in_ok-sessions.ensures.ok in
+    c.in_ok-batch.ensures.ok c.in_ok-sessions.ensures.ok in
     let line : Line = record {
       verb = c.args.verb;
       strict = c.get_flag.result;

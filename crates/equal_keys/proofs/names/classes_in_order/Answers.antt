@@ -12,7 +12,7 @@ index-requires-then-is_eq g c =
 pub index_mut-requires : goal.index_mut-requires
 index_mut-requires g c =
     let f = number_fits c.requires.named c.loop-i.invariant.classing c.loop-i.i c.index-in-loop-i.result.now
-        (omega arith) c.index-in-loop-i.ensures in
+    (omega arith) c.index-in-loop-i.ensures in
     omega (arith, c.loop-i.classes.ok.0)
 
 pub loop-i-preserved : goal.loop-i-preserved
@@ -41,4 +41,4 @@ loop-i-preserved g c = record {
 pub returns : goal.returns
 returns g c = λ name by.
     all_classed name c.args.count c.args.named.now.items by c.loop-i.classes.items c.loop-i.i (omega arith)
-        (c.loop-i.invariant.classing name by)
+    (c.loop-i.invariant.classing name by)

@@ -16,9 +16,9 @@ loop-key-preserved g c =
           let within : slot < length items = omega arith in
           let one = w.and_one.ensures ∙ ap and_one (w.index.ensures ∙ get_or_default items slot w.index.result.now More within) in
           rw w.occupancy-is (fell_within c.args.keys.now _ items _ c.loop-key.key-index slot c.loop-key.invariant c.slot_of-slot.ensures
-                (omega arith) (ap (slice_set items slot) one))
+          (omega arith) (ap (slice_set items slot) one))
       | else-slot-slots w ↦ rw w.occupancy-is (fell_beyond c.args.keys.now _ items c.loop-key.key-index slot c.loop-key.invariant
-            c.slot_of-slot.ensures (omega arith))
+          c.slot_of-slot.ensures (omega arith))
     ]
 
 pub returns : goal.returns

@@ -9,8 +9,8 @@ loop-key-preserved g c =
     let lt : c.loop-key.key-index < length c.args.keys.now = omega arith in
     told_more c.args.keys.now c.loop-key.once.items c.push.new.self.items c.loop-key.key-index _ c.in_ok-push.ensures.items
     (λ t. c.in_ok-occupancy.ensures.once c.loop-key.key-index lt
-          (subst (λ xs. IsAlone xs (slice_index c.args.keys.now c.loop-key.key-index))
-          c.deref.ensures.value (c.is_alone.ensures t)))
+    (subst (λ xs. IsAlone xs (slice_index c.args.keys.now c.loop-key.key-index))
+    c.deref.ensures.value (c.is_alone.ensures t)))
     c.loop-key.invariant
 
 pub returns : goal.returns

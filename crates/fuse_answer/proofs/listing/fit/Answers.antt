@@ -12,7 +12,7 @@ pub loop-until-preserved : goal.loop-until-preserved
 loop-until-preserved g c =
     let there : c.loop-until.until < 2 + length c.args.children.now = omega arith in
     one_gone c.args.with_entries c.args.children.now c.args.from c.args.size c.loop-until.until c.loop-until.room c.name_length.result
-        c.in-Some.bytes
+    c.in-Some.bytes
     there c.name_length.ensures c.in-Some.ensures.0 c.in-Some.ensures.1 c.loop-until.invariant
 
 pub loop-until-smaller : goal.loop-until-smaller
@@ -28,4 +28,4 @@ pub returns : goal.returns
 returns g c =
     let past : 2 + length c.args.children.now ≤ c.loop-until.until = omega arith in
     all_gone c.args.with_entries c.args.children.now c.args.from c.args.size c.loop-until.until c.loop-until.room past
-        c.loop-until.invariant
+    c.loop-until.invariant

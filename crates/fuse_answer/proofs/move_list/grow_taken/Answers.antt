@@ -12,8 +12,12 @@ empty (f ∷ fs) le = absurd (omega (arith, le))
 
 pub loop-taken-init : goal.loop-taken-init
 loop-taken-init g c =
-    record { count = omega arith; taken = none_appended c.args.table.now (items_of c.args.items) c.args.into.now.items; room = omega arith;
-          small = λ s. s }
+    record {
+      count = omega arith;
+      taken = none_appended c.args.table.now (items_of c.args.items) c.args.into.now.items;
+      room = omega arith;
+      small = λ s. s;
+    }
 
 pub loop-taken-preserved : goal.loop-taken-preserved
 loop-taken-preserved g c =
@@ -26,7 +30,7 @@ loop-taken-preserved g c =
       count = omega arith;
       taken = one_appended c.args.table.now (items_of c.args.items) (items_of c.loop-taken.rest) (items_of c.in-Some.later) c.in-Some.forget
           c.args.into.now.items c.loop-taken.into.items c.put_taken.new.into.items c.in-Some.ensures was.taken
-              c.in_ok-put_taken.ensures.moves.0;
+          c.in_ok-put_taken.ensures.moves.0;
       room = omega arith;
       small = λ s. c.in_ok-put_taken.ensures.small (was.small s);
     }
@@ -38,7 +42,7 @@ returns-in_err-put_taken-clause-moves g c =
     let was = c.loop-taken.invariant in
     let done = was.taken.done in
     let less = taken_less stack done c.in-Some.forget (items_of c.in-Some.later) (items_of c.args.items) (items_of c.loop-taken.rest)
-        c.in-Some.ensures was.taken.split in
+    c.in-Some.ensures was.taken.split in
     let so_far = ap length was.taken.moves in
     let all = length-append c.args.into.now.items (taken_back stack done) in
     let now = c.loop-taken.into.ok.0 in

@@ -51,7 +51,7 @@ loop-index-preserved g c =
 pub returns-in_err-put_row : goal.returns-in_err-put_row
 returns-in_err-put_row g c =
     let fits = row_has_room c.args.table.now c.args.rows.now c.requires c.args.unique c.loop-index.index c.args.out.now.items
-        c.loop-index.out.items
+    c.loop-index.out.items
     c.loop-index.auto.index c.loop-index-test.true c.loop-index.invariant.so_far in
     let room = c.loop-index.invariant.room in
     let full = c.in_err-put_row.ensures.2 in
@@ -61,6 +61,10 @@ returns-in_err-put_row g c =
 
 pub returns : goal.returns
 returns g c =
-    let last = c.loop-index.auto.index-end c.requires.in_order in
-    (all_rows c.args.table.now c.args.rows.now c.requires c.args.unique c.loop-index.index c.args.out.now.items c.loop-index.out.items
-          (omega arith) c.loop-index.invariant.so_far, tt, tt, c.loop-index.invariant.grown)
+    let last = c.loop-index.auto.index-end c.requires.in_order in (
+      all_rows c.args.table.now c.args.rows.now c.requires c.args.unique c.loop-index.index c.args.out.now.items c.loop-index.out.items
+          (omega arith) c.loop-index.invariant.so_far,
+      tt,
+      tt,
+      c.loop-index.invariant.grown,
+    )

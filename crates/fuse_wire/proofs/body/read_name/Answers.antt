@@ -6,7 +6,7 @@ use Rattle.fuse_wire.proofs.body.read_name.Goals.{in_default-via-in-Some+else-pl
 
 pub slice_bounds-memrchr-end : goal.slice_bounds-memrchr-end
 slice_bounds-memrchr-end c = sym (long c.args.message.now c.args.body.now HEADER_SIZE (length c.args.body.now - 1) c.requires
-      (omega (arith, c.if-body-lt2.false)))
+    (omega (arith, c.if-body-lt2.false)))
 
 pub returns-in-Some : goal.returns-in-Some
 returns-in-Some c = name_holds_zero c.args.message.now c.args.body.now HEADER_SIZE (length c.args.body.now - 1) c.requires

@@ -18,9 +18,11 @@ loop-head-preserved g c =
       is_finite = tt;
       given = All-tail (λ head. IsGiven a head) head c.next.new.self (rw e at c.loop-head.invariant.given);
       names = rw p (All-push (λ (m : Named). m.name.now ≡ name_of a m.head.offset) c.loop-head.named.items _ c.loop-head.invariant.names
-            c.name-name.ensures);
-      keys = rw p (All-push IsKeyed c.loop-head.named.items _ c.loop-head.invariant.keys (c.key_of-key.ensures.value,
-            c.key_of-key.ensures.bytes));
+          c.name-name.ensures);
+      keys = rw p (All-push IsKeyed c.loop-head.named.items _ c.loop-head.invariant.keys (
+        c.key_of-key.ensures.value,
+        c.key_of-key.ensures.bytes,
+      ));
       done = found_one c.loop-head.named.items c.push.new.self.items _ c.loop-head.head-iterator c.next.new.self _ e p
           c.loop-head.invariant.done;
     }

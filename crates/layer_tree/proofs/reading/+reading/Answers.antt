@@ -14,9 +14,9 @@ pub branches_below-branches_of-requires : goal.branches_below-branches_of-requir
 branches_below-branches_of-requires g t c κs within =
     let lt : c.loop-member.member-index < length c.args.members.now = omega arith in
     let here = member_here c.args.image.now c.requires.sound c.args.left c.args.members.now c.requires.members c.loop-member.member-index
-        lt in
+    lt in
     let some = some_left c.args.image.now c.requires.sound c.args.left c.args.members.now c.requires.members c.loop-member.member-index
-        lt in
+    lt in
     let less = one_less c.args.image.now c.requires.sound c.args.left c.args.members.now c.requires.members c.loop-member.member-index lt in
     let given = here.given in
     let sound = c.requires.sound in
@@ -41,7 +41,7 @@ pub branches_below-loop-member-preserved : goal.branches_below-loop-member-prese
 branches_below-loop-member-preserved g t c =
     let lt : c.loop-member.member-index < length c.args.members.now = omega arith in
     let no_marker : ¬ IsMarker (at_index c.args.members.now c.loop-member.member-index).name.now =
-        λ h. (let f = c.if-is_marker.ensures in cc) in (
+    λ h. (let f = c.if-is_marker.ensures in cc) in (
       elim c.match-mark-3.branch [
         | branches_below-in-Some+in_ok-push-2 w ↦ build_one c.args.image.now c.args.layer c.args.members.now
             c.loop-member.member-index c.loop-member.entries.items c.loop-member.marks.items lt c.loop-member.invariant.0

@@ -7,7 +7,7 @@ pub loop-member-preserved-in_default : goal.loop-member-preserved-in_default
 loop-member-preserved-in_default g c =
     let lt : c.loop-member.member-index < length c.args.members.now = omega arith in
     white_none c.args.members.now c.loop-member.member-index c.loop-member.marks.items lt c.loop-member.invariant
-        (rw c.in_default.is at c.whiteout_of.ensures)
+    (rw c.in_default.is at c.whiteout_of.ensures)
 
 pub loop-member-preserved : goal.loop-member-preserved
 loop-member-preserved g c =

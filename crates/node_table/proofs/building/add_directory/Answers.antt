@@ -16,7 +16,7 @@ add_keys-requires g c =
     let old = c.args.into.now.rows.items in
     let start : c.len-rows_start.result ≡ length old = omega (arith, c.len-rows_start.ensures, c.args.into.now.rows.ok.0) in
     let fresh = fresh_lines old c.add_rows.new.rows.items (map (line_in tell) cs) c.deref.result.now c.len-rows_start.result
-        c.in_ok-directories.ensures.rows_are start c.deref.ensures.value in
+    c.in_ok-directories.ensures.rows_are start c.deref.ensures.value in
     subst (λ (x : List Line). Rise (names x)) (sym fresh) (names_rise tell cs c.children-children.ensures.forest.names)
 
 pub returns : goal.returns
@@ -27,11 +27,11 @@ returns g c =
     let start : c.len-rows_start.result ≡ length old = omega (arith, c.len-rows_start.ensures, c.args.into.now.rows.ok.0) in
     let end : c.len.result ≡ length c.add_rows.new.rows.items = omega (arith, c.len.ensures, c.add_rows.new.rows.ok.0) in
     let fresh = fresh_lines old c.add_rows.new.rows.items (map (line_in tell) cs) c.deref.result.now c.len-rows_start.result
-        c.in_ok-directories.ensures.rows_are start c.deref.ensures.value in
+    c.in_ok-directories.ensures.rows_are start c.deref.ensures.value in
     let keyed = subst (λ (x : List Line). AddsKeys c.in_ok-shared.shared (names x) c.args.into.now.keys.items c.add_keys.new.keys.items)
-        fresh c.in_ok-shared.ensures in
+    fresh c.in_ok-shared.ensures in
     let above = c.index-above.ensures ∙ get_or_default c.args.walk.now.above.items c.args.start c.index-above.result.now 0
-        c.requires.above.placed in
+    c.requires.above.placed in
     record {
       children = cs;
       below = c.children-children.ensures.below;

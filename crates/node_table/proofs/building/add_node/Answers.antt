@@ -8,17 +8,20 @@ returns-in_ok-directories-in-Directory g c =
     let tell = number_among c.args.walk.now.visits.items in
     let n = c.in_ok-directories-in-Directory in
     made c.args.images.now tell c.args.visit.now c.args.paths c.value-kind.result c.value-kind.ensures c.index-images-place.result
-        c.index-images-place.is c.header_in-head.result c.header_in-head.ensures.value c.data_part-part.result c.data_part-part.ensures _ _
-        _ _ _ _ _ c.len-directory.result (omega (arith, c.len-directory.ensures, c.args.into.now.all.ok.0))
+    c.index-images-place.is c.header_in-head.result c.header_in-head.ensures.value c.data_part-part.result c.data_part-part.ensures _ _
+    _ _ _ _ _ c.len-directory.result (omega (arith, c.len-directory.ensures, c.args.into.now.all.ok.0))
     (added_directory tell c.args.visit.now c.args.paths c.value-kind.result.kind _ _ _ _ _ _ _ c.in-Directory.is
-    (record { count = n.directories; added = n.ensures; nlink_is = omega (arith, c.min.ensures, c.from.ensures, c.saturating_add.ensures)
-          }))
+    (record {
+      count = n.directories;
+      added = n.ensures;
+      nlink_is = omega (arith, c.min.ensures, c.from.ensures, c.saturating_add.ensures);
+    }))
 
 pub returns-in_default : goal.returns-in_default
 returns-in_default g c =
     let tell = number_among c.args.walk.now.visits.items in
     made c.args.images.now tell c.args.visit.now c.args.paths c.value-kind.result c.value-kind.ensures c.index-images-place.result
-        c.index-images-place.is c.header_in-head.result c.header_in-head.ensures.value c.data_part-part.result c.data_part-part.ensures _ _
-        _ _ _ _ _ c.len-directory.result (omega (arith, c.len-directory.ensures, c.args.into.now.all.ok.0))
+    c.index-images-place.is c.header_in-head.result c.header_in-head.ensures.value c.data_part-part.result c.data_part-part.ensures _ _
+    _ _ _ _ _ c.len-directory.result (omega (arith, c.len-directory.ensures, c.args.into.now.all.ok.0))
     (added_other tell c.args.visit.now c.args.paths c.value-kind.result.kind _ _ _ _ _ _ _ c.in_default.not-Directory
     (record { held_are = refl; rows_are = refl; keys_are = refl; nlink_is = refl }))

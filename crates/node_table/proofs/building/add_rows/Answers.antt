@@ -14,22 +14,27 @@ loop-child-preserved g c =
     let lt : c.loop-child.child-index < length c.args.children.now = omega arith in
     let nm : c.in_ok-name.name ≡ c.child-item.result.name = c.in_ok-name.ensures in
     let f = follows tell c.args.numbers.now c.args.walk.now.sizes.items c.loop-child.at c.args.children.now c.loop-child.child-index
-        c.child-item.result lt c.child-item.is c.loop-child.invariant.1 in
+    c.child-item.result lt c.child-item.is c.loop-child.invariant.1 in
     let number : ℕ = slice_index c.args.numbers.now c.loop-child.at in
     let line : Line = record { number = number; name = c.in_ok-name.name } in
     let is : line ≡ line_in tell c.child-item.result = ap (λ (n : ℕ). record { number = n; name = c.in_ok-name.name }) f.0.number_is
-        ∙ ap (λ (x : List ℕ). record { number = tell c.child-item.result.value.place; name = x }) nm in
+    ∙ ap (λ (x : List ℕ). record { number = tell c.child-item.result.value.place; name = x }) nm in
     let size = c.index-size.ensures ∙ get_or_default c.args.walk.now.sizes.items c.loop-child.at c.index-size.result.now 0 f.0.sized
-        ∙ f.0.size_is in
+    ∙ f.0.size_is in
     let rest = subst (λ n. AreFollowing tell c.args.numbers.now c.args.walk.now.sizes.items (c.loop-child.at + n)
-          (drop (c.loop-child.child-index + 1) c.args.children.now)) (sym size) f.1 in
+    (drop (c.loop-child.child-index + 1) c.args.children.now)) (sym size) f.1 in
     elim c.match-entry.branch [
-      | in-Directory w ↦ (rw w.directories-is (directory tell c.args.children.now c.args.rows.now.items c.loop-child.rows.items
+      | in-Directory w ↦ (
+        rw w.directories-is (directory tell c.args.children.now c.args.rows.now.items c.loop-child.rows.items
             c.push.new.self.items c.loop-child.directories c.loop-child.child-index c.child-item.result lt c.child-item.is
             c.loop-child.invariant.0 line is c.in_ok-push.ensures.items (ap (λ e. e.kind) (sym c.value-entry.ensures) ∙ w.in-Directory.is)),
-            rest)
-      | in_default w ↦ (rw w.directories-is (other tell c.args.children.now c.args.rows.now.items c.loop-child.rows.items
+        rest,
+      )
+      | in_default w ↦ (
+        rw w.directories-is (other tell c.args.children.now c.args.rows.now.items c.loop-child.rows.items
             c.push.new.self.items c.loop-child.directories c.loop-child.child-index c.child-item.result lt c.child-item.is
             c.loop-child.invariant.0 line is c.in_ok-push.ensures.items
-            (λ k. w.in_default.not-Directory (ap (λ e. e.kind) c.value-entry.ensures ∙ k))), rest)
+            (λ k. w.in_default.not-Directory (ap (λ e. e.kind) c.value-entry.ensures ∙ k))),
+        rest,
+      )
     ]

@@ -33,7 +33,7 @@ add_node-requires-clause-seat g c =
     let s = element_below inv.0 c.loop-at.at lt in
     let found = rw c.deref-start-items.ensures.value at c.index-visit.ensures in
     let same : c.index-visit.result.now ≡ s.0 = found
-        ∙ get_or_from_slice_get c.args.walk.now.visits.items (slice_index starts c.loop-at.at) s.0 _ (inv.3.there c.loop-at.at s.0 s.1) in
+    ∙ get_or_from_slice_get c.args.walk.now.visits.items (slice_index starts c.loop-at.at) s.0 _ (inv.3.there c.loop-at.at s.0 s.1) in
     rw same (inv.2.each c.loop-at.at s.0 s.1).seat
 
 pub add_node-requires-clause-above : goal.add_node-requires-clause-above
@@ -44,9 +44,9 @@ add_node-requires-clause-above g c =
     let s = element_below inv.0 c.loop-at.at lt in
     let found = rw c.deref-start-items.ensures.value at c.index-visit.ensures in
     let same : c.index-visit.result.now ≡ s.0 = found
-        ∙ get_or_from_slice_get c.args.walk.now.visits.items (slice_index starts c.loop-at.at) s.0 _ (inv.3.there c.loop-at.at s.0 s.1) in
+    ∙ get_or_from_slice_get c.args.walk.now.visits.items (slice_index starts c.loop-at.at) s.0 _ (inv.3.there c.loop-at.at s.0 s.1) in
     let start : slice_index c.deref-start-items.result.now c.loop-at.at ≡ slice_index starts c.loop-at.at =
-        ap (λ xs. slice_index xs c.loop-at.at) c.deref-start-items.ensures.value in
+    ap (λ xs. slice_index xs c.loop-at.at) c.deref-start-items.ensures.value in
     rw (start, c.deref-in-loop-at.ensures.value, same) (inv.3.above c.loop-at.at s.0 s.1)
 
 pub add_node-requires-clause-children : goal.add_node-requires-clause-children
@@ -57,9 +57,9 @@ add_node-requires-clause-children g c =
     let s = element_below inv.0 c.loop-at.at lt in
     let found = rw c.deref-start-items.ensures.value at c.index-visit.ensures in
     let same : c.index-visit.result.now ≡ s.0 = found
-        ∙ get_or_from_slice_get c.args.walk.now.visits.items (slice_index starts c.loop-at.at) s.0 _ (inv.3.there c.loop-at.at s.0 s.1) in
+    ∙ get_or_from_slice_get c.args.walk.now.visits.items (slice_index starts c.loop-at.at) s.0 _ (inv.3.there c.loop-at.at s.0 s.1) in
     let start : slice_index c.deref-start-items.result.now c.loop-at.at ≡ slice_index starts c.loop-at.at =
-        ap (λ xs. slice_index xs c.loop-at.at) c.deref-start-items.ensures.value in
+    ap (λ xs. slice_index xs c.loop-at.at) c.deref-start-items.ensures.value in
     rw (start, c.deref-in-loop-at.ensures.value, same) (inv.3.children c.loop-at.at s.0 s.1)
 
 pub loop-at-preserved : goal.loop-at-preserved
@@ -70,12 +70,12 @@ loop-at-preserved g c =
     let s = element_below inv.0 c.loop-at.at lt in
     let found = rw c.deref-start-items.ensures.value at c.index-visit.ensures in
     let same : c.index-visit.result.now ≡ s.0 = found
-        ∙ get_or_from_slice_get c.args.walk.now.visits.items (slice_index starts c.loop-at.at) s.0 _ (inv.3.there c.loop-at.at s.0 s.1) in
+    ∙ get_or_from_slice_get c.args.walk.now.visits.items (slice_index starts c.loop-at.at) s.0 _ (inv.3.there c.loop-at.at s.0 s.1) in
     let within : c.loop-at.at < length c.args.numbered.now.paths.items = omega (arith, inv.2.level) in
     let paths : c.index-paths.result.now ≡ slice_index c.args.numbered.now.paths.items c.loop-at.at = c.index-paths.ensures
-        ∙ get_or_default c.args.numbered.now.paths.items c.loop-at.at c.index-paths.result.now 0 within in
+    ∙ get_or_default c.args.numbered.now.paths.items c.loop-at.at c.index-paths.result.now 0 within in
     let start : slice_index c.deref-start-items.result.now c.loop-at.at ≡ slice_index starts c.loop-at.at =
-        ap (λ xs. slice_index xs c.loop-at.at) c.deref-start-items.ensures.value in
+    ap (λ xs. slice_index xs c.loop-at.at) c.deref-start-items.ensures.value in
     let adds = rw (paths, same) at c.in_ok-node.ensures in (
       inv.0,
       inv.1,

@@ -11,8 +11,8 @@ pub loop-node-preserved : goal.loop-node-preserved
 loop-node-preserved c =
     let lt : c.loop-node.node-index < length c.loop-node.nodes = omega arith in
     element_changed completed c.args.nodes.now c.loop-node.nodes _ c.loop-node.node-index
-        (get_or c.loop-node.nodes c.loop-node.node-index _) c.complete.new.node c.loop-node.invariant lt
-        (get_or_default c.loop-node.nodes c.loop-node.node-index _ _ lt) c.complete.ensures refl (simp length-set refl)
+    (get_or c.loop-node.nodes c.loop-node.node-index _) c.complete.new.node c.loop-node.invariant lt
+    (get_or_default c.loop-node.nodes c.loop-node.node-index _ _ lt) c.complete.ensures refl (simp length-set refl)
 
 pub returns : goal.returns
 returns c = change_ended completed _ _ _ (omega arith) c.loop-node.invariant

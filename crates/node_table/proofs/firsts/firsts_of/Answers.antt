@@ -16,7 +16,7 @@ loop-i-preserved g c =
             (inr v.if-seat-group.true)
       ]
       | else-i-eq0+else-seat-group w ↦ rw w.group-is (key_goes_on _ _ _ _ _ c.loop-i.invariant lt _ refl (omega (arith, w.if-i-eq0))
-            w.if-seat-group.false)
+          w.if-seat-group.false)
     ]
 
 pub returns : goal.returns

@@ -6,5 +6,5 @@ pub count_branches-requires : goal.count_branches-requires
 count_branches-requires g t c κs within =
     let l : c.loop-child.child-index < length c.children-child-items.result.now = omega arith in
     let f = falls c.children-child-items.result.now c.args.branch.now.below c.loop-child.child-index c.child-item.result
-        c.children-child-items.ensures.below l c.child-item.is in
+    c.children-child-items.ensures.below l c.child-item.is in
     search (rules, f)

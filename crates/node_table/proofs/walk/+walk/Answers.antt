@@ -11,17 +11,17 @@ pub loop-child-preserved : goal.loop-child-preserved
 loop-child-preserved g t c =
     let l : c.loop-child.child-index < length c.children-child-items.result.now = omega arith in
     child_walked c.args.branch.now c.args.above c.children-child-items.result.now c.args.out.now.visits.items c.loop-child.out.visits.items
-        c.walk.new.out.visits.items _ _ _ _ _ _ c.loop-child.child-index c.child-item.result c.children-child-items.ensures.below
-        c.children-child-items.ensures.forest l c.child-item.is c.loop-child.invariant (rw c.value-value.ensures at c.in_ok-walk.ensures)
+    c.walk.new.out.visits.items _ _ _ _ _ _ c.loop-child.child-index c.child-item.result c.children-child-items.ensures.below
+    c.children-child-items.ensures.forest l c.child-item.is c.loop-child.invariant (rw c.value-value.ensures at c.in_ok-walk.ensures)
 
 pub walk-requires : goal.walk-requires
 walk-requires g t c κs within =
     let l : c.loop-child.child-index < length c.children-child-items.result.now = omega arith in
     let f = falls c.children-child-items.result.now c.args.branch.now.below c.loop-child.child-index c.child-item.result
-        c.children-child-items.ensures.below l c.child-item.is in
+    c.children-child-items.ensures.below l c.child-item.is in
     let at : c.len-at.result ≡ length c.args.out.now.visits.items = omega (arith, c.len-at.ensures, c.args.out.now.visits.ok.0) in
     let above = subst (λ n. StandsAt c.loop-child.out.visits.items n c.value-value.result) (sym at)
-        (stands _ _ _ _ _ _ _ _ _ _ c.value-value.result c.value-value.ensures c.loop-child.invariant) in
+    (stands _ _ _ _ _ _ _ _ _ _ c.value-value.result c.value-value.ensures c.loop-child.invariant) in
     let level = levels _ _ _ _ _ _ _ _ _ _ c.loop-child.invariant in
     search (rules, f, above, level)
 
@@ -31,4 +31,4 @@ returns g t c =
     let now : c.len.result ≡ length c.loop-child.out.visits.items = omega (arith, c.len.ensures, c.loop-child.out.visits.ok.0) in
     let size = ap (λ n. n - c.len-at.result) now in
     walk_ended _ _ _ _ _ _ _ _ _ _ c.loop-child.child-index _ _ c.children-child-items.ensures.below (omega arith) at size refl
-        c.loop-child.invariant
+    c.loop-child.invariant

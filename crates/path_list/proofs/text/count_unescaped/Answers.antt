@@ -7,7 +7,7 @@ loop-at-init c = run_none c.args.name.now
 
 pub loop-at-preserved : goal.loop-at-preserved
 loop-at-preserved c = run_more c.args.name.now c.loop-at.at (omega arith) (let t = c.if-not-is_unescaped.false in
-      search rules) c.loop-at.invariant
+    search rules) c.loop-at.invariant
 
 pub returns-then-not-is_unescaped-clause-same : goal.returns-then-not-is_unescaped-clause-same
 returns-then-not-is_unescaped-clause-same c = c.loop-at.invariant

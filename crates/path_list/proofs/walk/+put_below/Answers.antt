@@ -10,9 +10,9 @@ put_below-requires g t c κs within =
     let number_is : c.row.inside.number ≡ c.row-item.result.number = ap (λ (l : Line). l.number) c.row.view_is in
     let same : record { number = c.row.inside.number; name = c.name.result.now } ≡ c.row-item.result =
     ap (λ (n : ℕ). record { number = n; name = c.name.result.now }) number_is
-        ∙ ap (λ (x : List ℕ). record { number = c.row-item.result.number; name = x }) c.name.ensures in
+    ∙ ap (λ (x : List ℕ). record { number = c.row-item.result.number; name = x }) c.name.ensures in
     let w = goes_on c.args.table.now c.args.number (way c.args.trail) c.requires.visited c.rows-row-items.result.now c.loop-row.row-index
-        c.row-item.result c.row.inside.number c.name.result.now c.rows-row-items.ensures c.loop-row-test.true c.row-item.is same in
+    c.row-item.result c.row.inside.number c.name.result.now c.rows-row-items.ensures c.loop-row-test.true c.row-item.is same in
     let visit = w.0 in
     let less = w.1 in
     let same_failures = c.in_ok-put_line.ensures.counted.0 ∙ c.loop-row.invariant.1 in
@@ -21,4 +21,4 @@ put_below-requires g t c κs within =
 
 pub returns-clause-gained : goal.returns-clause-gained
 returns-clause-gained g t c = gains_same (walked c.args.table.now c.args.number (way c.args.trail) c.requires.visited
-      c.rows-row-items.result.now c.loop-row.row-index c.rows-row-items.ensures c.loop-row-test.false) c.loop-row.invariant.0
+    c.rows-row-items.result.now c.loop-row.row-index c.rows-row-items.ensures c.loop-row-test.false) c.loop-row.invariant.0

@@ -18,5 +18,5 @@ pub returns-clause-gained : goal.returns-clause-gained
 returns-clause-gained g c =
     let i : AreImages c.args.table.now.layers = subst AreImages c.images.ensures c.are_images.ensures in
     gains_on c.put_below.result _ _ _ (lines c.args.table.now.layers c.args.table.now.entries) c.in_ok-put_line.ensures.gained
-        c.put_below.ensures.gained
+    c.put_below.ensures.gained
     (begun c.args.table.now c.len.result i c.len.ensures.listing c.len.ensures.value c.if-len-eq0.false).all

@@ -8,8 +8,8 @@ pub returns-clause-gained : goal.returns-clause-gained
 returns-clause-gained g c =
     gains_on c.put_byte.result _ _ _ (line_at c.args.table.now c.args.number (way c.args.trail))
     (gains_more (gains_more (gains_more (gains_more (gains_more c.in_ok-put_number.ensures.gained c.in_ok-put_mode.ensures.gained)
-          c.in_ok-put_number-2.ensures.gained) c.in_ok-put_number-3.ensures.gained) c.in_ok-put_number-4.ensures.gained)
-          c.in_ok-put_path.ensures.gained)
+    c.in_ok-put_number-2.ensures.gained) c.in_ok-put_number-3.ensures.gained) c.in_ok-put_number-4.ensures.gained)
+    c.in_ok-put_path.ensures.gained)
     c.put_byte.ensures.gained
     (rw (c.from.ensures, c.from-2.ensures) (line_is c.args.table.now c.args.number (way c.args.trail) (placed c.in-Some.node.now.place)
-          c.in-Some-attr.attr c.in-Some.ensures.place_is c.in-Some-attr.ensures))
+    c.in-Some-attr.attr c.in-Some.ensures.place_is c.in-Some-attr.ensures))

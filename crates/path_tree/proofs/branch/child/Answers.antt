@@ -10,7 +10,7 @@ returns-in-Ok g c =
     (answers_by _ _ (λ f. f.0.now ≡ c.args.name.now) (λ f a r h called i. search rules) _ refl) in
     let here = c.index-children-i.result in
     named_at c.args.name.now c.args.children.now c.requires c.in-Ok.i here c.in-Ok.ensures.bound (at here)
-        ∙ ap Some (sym c.index-children-i.is)
+    ∙ ap Some (sym c.index-children-i.is)
 
 pub returns-in-Err : goal.returns-in-Err
 returns-in-Err g c =

@@ -57,7 +57,7 @@ merge-cover-requires g t c κs within =
 pub merge-returns : goal.merge-returns
 merge-returns g t c =
     let out : c.append-2.new.self.items ≡ (c.loop-low.out.items ++ c.loop-low.lows.items) ++ c.loop-low.highs.items =
-        cc (c.in_ok-append.ensures.items, c.in_ok-append-2.ensures.items) in
+    cc (c.in_ok-append.ensures.items, c.in_ok-append-2.ensures.items) in
     rw out (are_laid g.T.Lay.laid (elim c.match-front.branch [
       | merge-in_default w ↦ lows_left g.T.Lay.laid _ _ _ _ _ c.loop-low.invariant (nothing_shown _ w.in_default.ensures'.item)
       | merge-in_default-2 w ↦ highs_left g.T.Lay.laid _ _ _ _ _ c.loop-low.invariant (nothing_shown _ w.in_default.ensures.item)

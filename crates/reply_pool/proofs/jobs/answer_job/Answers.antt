@@ -15,5 +15,5 @@ returns-clause-few g c =
     let job = c.args.job.now in
     let stack = c.args.table.now in
     grown c.moves.result c.args.moved.now.items c.moves.new.into.items (moves stack.layers stack.entries job.0 (asked_of job.1))
-        c.moves.ensures.moves.0
+    c.moves.ensures.moves.0
     (few_moves stack.layers stack.entries job.0 (asked_of job.1) c.count_items.ensures)

@@ -15,7 +15,7 @@ add_move-requires-clause-within c =
     let w = weight_within xs c.loop-m.m-index c.loop-m-test.true in
     let light = c.requires.light in
     still_within (2 ^ 123) (2 ^ 125) (take c.loop-m.m-index xs) c.args.balances.now c.loop-m.balances c.requires.within c.loop-m.invariant
-        (omega arith)
+    (omega arith)
 
 pub add_move-requires-clause-small : goal.add_move-requires-clause-small
 add_move-requires-clause-small c =
@@ -30,10 +30,10 @@ loop-m-preserved c =
     let light = c.requires.light in
     let m : Move = get_or c.args.moves.now c.loop-m.m-index nothing in
     one_more_move c.args.moves.now c.loop-m.m-index c.args.balances.now c.loop-m.balances c.add_move.new.balances c.loop-m-test.true
-        c.loop-m.invariant
+    c.loop-m.invariant
     (subst (λ (z : ℤ). IsMoved (record { node = m.node; amount = z } ∷ []) c.loop-m.balances c.add_move.new.balances)
-          (as_held m.amount (omega arith)) c.add_move.ensures)
+    (as_held m.amount (omega arith)) c.add_move.ensures)
 
 pub returns : goal.returns
 returns c = subst (λ (ms : List Move). IsMoved ms c.args.balances.now c.loop-m.balances) (take_all c.loop-m.m-index c.args.moves.now
-      (omega arith)) c.loop-m.invariant
+    (omega arith)) c.loop-m.invariant

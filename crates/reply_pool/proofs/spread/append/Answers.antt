@@ -11,7 +11,7 @@ use Rattle.reply_pool.proofs.spread.append.Goals as goal
 pub append_all-requires-clause-light : goal.append_all-requires-clause-light
 append_all-requires-clause-light g c =
     let up = IsNonDecreasingBy-from_sort_by_key (λ (p : Piece g.row.A.Denot). p.number) _ c.sort_unstable_by_key.ensures.sorted
-        (λ a r q k. search rules) in
+    (λ a r q k. search rules) in
     let order : AreOrdered c.args.pieces.items c.deref.result.now = record {
       same = subst (λ (ys : List (Piece g.row.A.Denot)). IsPermutation c.args.pieces.items ys) (sym c.deref.ensures.value)
           c.sort_unstable_by_key.ensures.permutation;
@@ -22,7 +22,7 @@ append_all-requires-clause-light g c =
 pub returns : goal.returns
 returns g c =
     let up = IsNonDecreasingBy-from_sort_by_key (λ (p : Piece g.row.A.Denot). p.number) _ c.sort_unstable_by_key.ensures.sorted
-        (λ a r q k. search rules) in
+    (λ a r q k. search rules) in
     let order : AreOrdered c.args.pieces.items c.deref.result.now = record {
       same = subst (λ (ys : List (Piece g.row.A.Denot)). IsPermutation c.args.pieces.items ys) (sym c.deref.ensures.value)
           c.sort_unstable_by_key.ensures.permutation;

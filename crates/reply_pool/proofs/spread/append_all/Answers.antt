@@ -27,9 +27,9 @@ loop-piece-preserved g c =
       bytes = bytes_on c.args.pieces.now c.loop-piece.piece-index p c.args.replies.now.items c.loop-piece.replies.items
           c.extend_from_slice.new.self.items there is
           c.loop-piece.invariant.bytes (c.in_ok-extend_from_slice.ensures.items
-                ∙ ap (λ (v : List ℕ). c.loop-piece.replies.items ++ v) c.deref.ensures.value);
+          ∙ ap (λ (v : List ℕ). c.loop-piece.replies.items ++ v) c.deref.ensures.value);
       moves = moves_on c.args.pieces.now c.loop-piece.piece-index p c.args.balances.now c.loop-piece.balances c.add_moves.new.balances there
           is
           c.loop-piece.invariant.moves (subst (λ (ms : List Move). IsMoved ms c.loop-piece.balances c.add_moves.new.balances)
-                c.deref-in-loop-piece.ensures.value c.add_moves.ensures);
+          c.deref-in-loop-piece.ensures.value c.add_moves.ensures);
     }

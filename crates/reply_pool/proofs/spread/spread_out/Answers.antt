@@ -27,6 +27,9 @@ returns g c =
       size = c.batch_size-size.result;
       sized = c.batch_size-size.ensures.some;
       answered = c.in_ok-pieces.ensures;
-      once = record { count = batches size (length jobs); few = batches_few (length jobs) size c.batch_size-size.ensures.some few; once =
-            c.in_ok-pieces.ensures.once };
+      once = record {
+        count = batches size (length jobs);
+        few = batches_few (length jobs) size c.batch_size-size.ensures.some few;
+        once = c.in_ok-pieces.ensures.once;
+      };
     }

@@ -35,7 +35,7 @@ loop-m-preserved g c =
           (λ (xs : List Move). PutsSum c.loop-m.sums.items xs c.loop-m.sum) (sym (ap vec_items w.sums-is))
           w.in_ok-put.ensures in
           let begun = next_begun (take i xs) c.loop-m.sums.items c.if-m-sum.sums.items c.loop-m.sum c.if-m-sum.sum was.joined put higher
-              zero in
+          zero in
           record {
             joined = move_added xs c.if-m-sum.sums.items i c.if-m-sum.sum c.plus.result there c.requires.light begun
                 (sym own) c.plus.ensures;
@@ -49,7 +49,7 @@ loop-m-preserved g c =
           was.joined) in
           record {
             joined = move_added xs c.if-m-sum.sums.items i c.if-m-sum.sum c.plus.result there c.requires.light joined (same
-                  ∙ sym own) c.plus.ensures;
+                ∙ sym own) c.plus.ensures;
             above = λ k le lt. (let s = was.above k (omega arith) lt in omega arith);
           })
     ]
@@ -60,7 +60,7 @@ returns-clause-sums g c =
     let xs = c.args.moves.now in
     let all : take n xs ≡ xs = take_all n xs (omega arith) in
     let joined : IsJoined xs c.loop-m.sums.items c.loop-m.sum =
-        subst (λ ms. IsJoined ms c.loop-m.sums.items c.loop-m.sum) all c.loop-m.invariant.joined in
+    subst (λ ms. IsJoined ms c.loop-m.sums.items c.loop-m.sum) all c.loop-m.invariant.joined in
     all_joined xs c.loop-m.sums.items c.put-2.new.sums.items c.loop-m.sum joined c.in_ok-put-2.ensures
 
 pub returns-clause-light : goal.returns-clause-light
@@ -69,5 +69,5 @@ returns-clause-light g c =
     let xs = c.args.moves.now in
     let all : take n xs ≡ xs = take_all n xs (omega arith) in
     let joined : IsJoined xs c.loop-m.sums.items c.loop-m.sum =
-        subst (λ ms. IsJoined ms c.loop-m.sums.items c.loop-m.sum) all c.loop-m.invariant.joined in
+    subst (λ ms. IsJoined ms c.loop-m.sums.items c.loop-m.sum) all c.loop-m.invariant.joined in
     sums_light xs c.loop-m.sums.items c.put-2.new.sums.items c.loop-m.sum joined c.in_ok-put-2.ensures

@@ -21,7 +21,7 @@ join-requires-clause-light g c =
 pub returns-clause-sums : goal.returns-clause-sums
 returns-clause-sums g c =
     let same = subst (λ (ys : List Move). IsPermutation c.args.moves.items ys) (sym c.deref.ensures.value)
-        c.sort_unstable_by_key.ensures.permutation in
+    c.sort_unstable_by_key.ensures.permutation in
     IfOk-weaker c.join.result _ _ (λ sums are. sums_permuted c.args.moves.items c.deref.result.now sums.items same are) c.join.ensures.sums
 
 pub returns-clause-light : goal.returns-clause-light

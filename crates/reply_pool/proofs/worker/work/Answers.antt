@@ -30,7 +30,7 @@ loop-number-preserved g c =
     let more = c.in_ok-push.ensures.items in
     let Right : Piece g.row.B.Denot → Type 0 = IsPiece c.args.table.now c.args.jobs.now c.args.size in
     let right : Right piece = piece_of c.args.table.now c.args.jobs.now c.args.size rounded piece c.batch.result.now
-        c.in_ok-bytes.ensures.rounded c.batch.ensures.jobs refl refl in
+    c.in_ok-bytes.ensures.rounded c.batch.ensures.jobs refl refl in
     let Small : Piece g.row.B.Denot → Type 0 = λ p. weight p.moves.items ≤ 2 ^ 104 in
     record {
       share = (d.hand.0, d.hand.1 ∙ inv.share.1);

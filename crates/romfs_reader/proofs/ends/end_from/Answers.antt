@@ -34,7 +34,7 @@ pub head_at-at-requires-clause-inside : goal.head_at-at-requires-clause-inside
 head_at-at-requires-clause-inside g c =
     let s : c.loop-at.at.spec ≡ spec c.args.image.now c.loop-at.at.offset = ap (λ x. x.spec) c.loop-at.invariant.is in
     rw (c.cleared.ensures, s) (next_inside c.args.image.now c.requires.image c.args.head.now c.loop-at.at c.requires.given
-          c.loop-at.invariant (search rules)).1
+    c.loop-at.invariant (search rules)).1
 
 pub loop-at-smaller : goal.loop-at-smaller
 loop-at-smaller g c =

@@ -18,7 +18,7 @@ head_at-at-requires-clause-inside g c =
     let way = c.loop-known.invariant.way in
     let s : c.loop-known.at.spec ≡ spec c.args.image.now c.loop-known.at.offset = ap (λ x. x.spec) way.is in
     rw (c.cleared.ensures, s) (next_inside c.args.image.now c.requires.image c.args.head.now c.loop-known.at c.requires.given way
-          (search rules)).1
+    (search rules)).1
 
 pub loop-known-smaller : goal.loop-known-smaller
 loop-known-smaller g c =

@@ -22,7 +22,7 @@ loop-marks-preserved g c =
     let f = c.loop-marks-test.ensures.fresh refl in
     record {
       walked = rw c.insert.ensures (steps c.args.image.now.bytes.now c.loop-marks.marks c.loop-marks.at c.loop-marks.invariant.walked
-            c.args.image.now.keeps f.0 f.1
+          c.args.image.now.keeps f.0 f.1
           c.cleared-at-in-loop-marks.result (c.cleared-at-in-loop-marks.ensures ∙ ap cleared c.word-in-loop-marks.ensures));
       narrow = omega arith;
     }

@@ -3,8 +3,10 @@ use Rattle.romfs_rules.proofs.Closure.{unseeded, passed_to, seeds_more, all_seed
 use Rattle.romfs_rules.proofs.chains.seeds.Goals as goal
 
 pub loop-slot-init : goal.loop-slot-init
-loop-slot-init g c = record { low = omega arith; seeded =
-      rw c.new-todo.ensures.items (unseeded c.args.image.now.bytes.now c.args.root_chain.now c.requires.root_chain) }
+loop-slot-init g c = record {
+  low = omega arith;
+  seeded = rw c.new-todo.ensures.items (unseeded c.args.image.now.bytes.now c.args.root_chain.now c.requires.root_chain);
+}
 
 pub loop-slot-preserved : goal.loop-slot-preserved
 loop-slot-preserved g c =
@@ -13,7 +15,7 @@ loop-slot-preserved g c =
     let n = c.in-Some.ensures.next in
     let h = n.high in
     let before = passed_to a set c.requires.root_chain c.loop-slot.from c.in-Some.slot c.loop-slot.todo.items n.low n.clear
-        c.loop-slot.invariant.seeded in
+    c.loop-slot.invariant.seeded in
     record {
       low = omega arith;
       seeded = seeds_more a set c.requires.root_chain c.in-Some.slot c.loop-slot.todo.items before n.is

@@ -76,7 +76,7 @@ at-walk-requires g c = rw c.loop-walks.invariant.same
 
 pub put-requires : goal.put-requires
 put-requires g c = rw c.loop-walks.invariant.same (c.requires.targets.all c.loop-walks.at c.loop-walks.invariant.target
-      (c.loop-walks-test.ensures.0 refl).0)
+    (c.loop-walks-test.ensures.0 refl).0)
 
 pub end_at-requires-clause-last : goal.end_at-requires-clause-last
 end_at-requires-clause-last g c = λ l. false≢true (c.loop-walks-test.ensures.1 l)

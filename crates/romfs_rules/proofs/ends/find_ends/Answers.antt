@@ -12,7 +12,7 @@ loop-slot-init g c =
       low = omega arith;
       same = e.0;
       found = rw (e.1, c.new-ends.ensures.items) (found_none c.args.image.now.bytes.now (length c.args.targets.now)
-            c.requires.targets.sized);
+          c.requires.targets.sized);
     }
 
 pub loop-slot-preserved : goal.loop-slot-preserved
@@ -24,7 +24,7 @@ loop-slot-preserved g c =
     let walks = c.loop-slot.walks in
     let ends = c.loop-slot.ends.items in
     let before = found_to a walks.by_slot ends c.args.targets.now c.requires.targets c.loop-slot.from slot n.low n.clear
-        c.loop-slot.invariant.found in
+    c.loop-slot.invariant.found in
     elim c.if-is_left.branch [
       | then-is_left+in_ok-push w ↦
           let known = rw w.deref.ensures.value at w.end_of-end.ensures.known in
@@ -50,5 +50,5 @@ returns g c =
     c.loop-slot.from (length targets) c.loop-slot.invariant.low c.in_default.ensures.next
     c.loop-slot.invariant.found in
     subst (λ slots. AreWalkedEnds a (record { slots = slots; by_slot = c.loop-slot.walks.by_slot }) c.loop-slot.ends.items)
-        (sym c.loop-slot.invariant.same)
+    (sym c.loop-slot.invariant.same)
     (found_all a c.loop-slot.walks.by_slot c.loop-slot.ends.items (length targets) all targets c.requires.targets (omega arith))

@@ -6,4 +6,4 @@ pub returns : goal.returns
 returns g c =
     let a = c.args.image.now.bytes.now in
     rw c.contains.ensures (marked a (IsInSomeChain a) c.args.chains.now.headers c.args.at c.requires.chains.headers c.requires.slot.aligned
-          c.requires.slot.inside)
+    c.requires.slot.inside)

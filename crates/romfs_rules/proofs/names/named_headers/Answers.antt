@@ -29,4 +29,4 @@ loop-number-preserved g c =
 pub returns : goal.returns
 returns g c =
     all_held (kept_names c.args.image.now.bytes.now c.args.heads.now) (length c.args.heads.now) c.loop-number.number
-        c.loop-number.named.items (omega arith) c.loop-number.invariant
+    c.loop-number.named.items (omega arith) c.loop-number.invariant

@@ -9,6 +9,7 @@ returns-then-contains g c =
 
 pub returns-else-contains : goal.returns-else-contains
 returns-else-contains g c =
-    let target = mark_says _ _ _ _ _ c.requires.targets c.requires.slot c.contains.ensures in
-    (λ t. inl (c.is_some_member.ensures.0 t),
-          elim [ inl m ↦ c.is_some_member.ensures.1 m | inr t ↦ absurd (fails target c.if-contains.false t) ])
+    let target = mark_says _ _ _ _ _ c.requires.targets c.requires.slot c.contains.ensures in (
+      λ t. inl (c.is_some_member.ensures.0 t),
+      elim [ inl m ↦ c.is_some_member.ensures.1 m | inr t ↦ absurd (fails target c.if-contains.false t) ],
+    )

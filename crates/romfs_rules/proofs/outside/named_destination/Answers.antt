@@ -5,7 +5,7 @@ use Rattle.romfs_rules.proofs.outside.named_destination.Goals as goal
 pub returns-then-is_asked : goal.returns-then-is_asked
 returns-then-is_asked g c =
     destination_named c.args.image.now.bytes.now c.args.at c.destination_of.result (c.is_asked.ensures.0 c.if-is_asked.true)
-        c.destination_of.ensures
+    c.destination_of.ensures
 
 pub returns-else-is_asked : goal.returns-else-is_asked
 returns-else-is_asked g c =

@@ -10,5 +10,5 @@ loop-number-preserved g c =
           (chooses_noted _ _ at _ c.loop-number-test.true c.requires.rising c.loop-number.invariant
           w.if-noted-number.true)
       | else-noted-number w ↦ rw w.found-is (chooses_plain _ _ at _ c.loop-number-test.true c.requires.rising c.loop-number.invariant
-            w.if-noted-number.false)
+          w.if-noted-number.false)
     ]

@@ -17,7 +17,7 @@ returns g c =
     let heads = c.args.heads.now in
     let n = numbered a _ heads c.requires.chains.headers c.requires.heads in
     IfOk-weaker c.chosen.result (λ found. AreChosen heads c.in_ok-noted.noted.items (length heads) found.items)
-        (λ found. HaveSameNames a found.items)
+    (λ found. HaveSameNames a found.items)
     (λ found w. same_names a heads c.args.chains.now.headers c.in_ok-next.next.items c.args.class.items
     c.in_ok-noted.noted.items n c.in_ok-next.ensures c.requires.class
     c.in_ok-noted.ensures c.requires.alone found.items w)

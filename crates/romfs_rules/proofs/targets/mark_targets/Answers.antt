@@ -18,7 +18,7 @@ loop-slot-preserved g c =
     let n = c.in-Some.ensures.next in
     let h = n.high in
     let before = skipped_to image c.args.chains.now.headers c.requires.chains.headers c.loop-slot.from slot marks n.low n.clear
-        c.loop-slot.invariant.reaches in
+    c.loop-slot.invariant.reaches in
     record {
       low = omega arith;
       reaches = elim c.if-is_hard_link.branch [

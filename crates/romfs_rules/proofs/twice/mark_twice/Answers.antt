@@ -19,7 +19,7 @@ loop-slot-init g c =
           c.count_links.new.twice (subst (λ h. CountsBoth a h c.in_ok-once.once c.in_ok-twice.twice
           c.count_links.new.once c.count_links.new.twice) e c.count_links.ensures)
           (none_tallied a c.args.image.now.keeps slot (omega arith) c.in_ok-once.once c.in_ok-twice.twice c.in_ok-once.ensures
-                c.in_ok-twice.ensures);
+          c.in_ok-twice.ensures);
     }
 
 pub count_links-requires-clause-slot : goal.count_links-requires-clause-slot

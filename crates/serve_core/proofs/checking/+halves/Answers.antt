@@ -13,4 +13,4 @@ returns g t c =
     let all = joined c.args.first _ c.args.profile (map (λ image. image.items) lows) (map (λ image. image.items) highs)
     _ _ c.together.result up c.join-low.ensures.first c.join-low.ensures.second c.together.ensures in
     subst (λ xs. Checks c.args.first c.args.profile xs c.together.result) (halved (λ image. image.items) c.args.images.items lows highs half
-          c.in_ok-highs.ensures.items c.in_ok-highs.ensures.tail) all
+    c.in_ok-highs.ensures.items c.in_ok-highs.ensures.tail) all

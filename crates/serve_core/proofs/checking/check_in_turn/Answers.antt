@@ -17,8 +17,11 @@ loop-bytes-preserved g c =
 pub returns : goal.returns
 returns g c =
     let done = c.loop-bytes.invariant.done in
-    let none : length (into_iter_items c.loop-bytes.bytes-iterator) ≡ 0 = omega (arith, c.in-None.ensures.steps.0,
-          c.loop-bytes.bytes-iterator.rest.ok) in (
+    let none : length (into_iter_items c.loop-bytes.bytes-iterator) ≡ 0 = omega (
+      arith,
+      c.in-None.ensures.steps.0,
+      c.loop-bytes.bytes-iterator.rest.ok,
+    ) in (
       all_checked (λ image. image.items) c.args.profile c.args.images.items done.0 (into_iter_items c.loop-bytes.bytes-iterator)
           c.loop-bytes.checked.items
           done.1 none done.2,

@@ -9,5 +9,5 @@ invariant-loop-bytes g l = record {
   can_next : (goal.iterator-loop-bytes g).can_next l.bytes-iterator;
   is_finite : (goal.iterator-loop-bytes g).is_finite l.bytes-iterator;
   done : (below : List (List ℕ)) × (map (λ image. image.items) l.fn.images.items ≡ below ++ map (λ image. image.items)
-        (into_iter_items l.bytes-iterator)) × AreChecked l.profile below l.checked.items;
+      (into_iter_items l.bytes-iterator)) × AreChecked l.profile below l.checked.items;
 }

@@ -10,7 +10,7 @@ returns-in_err-table-clause-run g c = (
   Consumes-nil _,
   Appends-nil _,
   inr (not_begun c.args.profile _ _ c.from_residual.result c.in_err-table.field-0.0 c.from_residual.ensures.1 c.in_err-table.ensures.err
-        (record { got = refl; put = refl; source = refl; sink = refl })),
+      (record { got = refl; put = refl; source = refl; sink = refl })),
 )
 
 pub returns-clause-at_once : goal.returns-clause-at_once

@@ -5,9 +5,15 @@ use Rattle.serve_loop.proofs.Rounding.{flushed_none, flushed_on, goes_further, g
 use Rattle.serve_loop.proofs.rounds_on.answer_all.Goals as goal
 
 pub loop-stop-init : goal.loop-stop-init
-loop-stop-init g c =
-    ([], [], goes_nowhere (g.T.Rounds.answering c.args.answers.now) (serving_state c.args.progress.now), Appends-nil _, flushed_none _,
-          c.requires.range, c.requires.small)
+loop-stop-init g c = (
+  [],
+  [],
+  goes_nowhere (g.T.Rounds.answering c.args.answers.now) (serving_state c.args.progress.now),
+  Appends-nil _,
+  flushed_none _,
+  c.requires.range,
+  c.requires.small,
+)
 
 pub loop-stop-preserved : goal.loop-stop-preserved
 loop-stop-preserved g c =

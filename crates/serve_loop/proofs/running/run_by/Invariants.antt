@@ -12,8 +12,14 @@ invariant-loop-turn g l =
     × Consumes (g.S.Source.state l.fn.source).left (g.S.Source.state l.source).left got
     × Appends (g.K.Sink.state l.fn.sink).held (g.K.Sink.state l.sink).held put
     × IsRunning (g.T.Rounds.answering l.answers) (g.T.Rounds.nodes l.answers) l._turn
-    (record { got = got; put = put; source_before = (g.S.Source.state l.fn.source).counts; source = (g.S.Source.state l.source).counts;
-          sink_before = (g.K.Sink.state l.fn.sink).counts; sink = (g.K.Sink.state l.sink).counts })
+    (record {
+      got = got;
+      put = put;
+      source_before = (g.S.Source.state l.fn.source).counts;
+      source = (g.S.Source.state l.source).counts;
+      sink_before = (g.K.Sink.state l.fn.sink).counts;
+      sink = (g.K.Sink.state l.sink).counts;
+    })
     (serving_state l.progress) ms
     × IsWithinBytes l.progress.buffer
     × IsSmall (g.T.Rounds.nodes l.answers) (serving_state l.progress)

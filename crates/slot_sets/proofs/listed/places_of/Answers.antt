@@ -22,4 +22,4 @@ pub returns : goal.returns
 returns g c =
     let set = c.args.set.now in
     collects_to set c.loop-slot.from (length set) c.loop-slot.places.items c.loop-slot.invariant.low c.in_default.ensures.next
-        c.loop-slot.invariant.collected
+    c.loop-slot.invariant.collected

@@ -12,4 +12,4 @@ target-end-requires g c =
 pub loop-head-preserved : goal.loop-head-preserved
 loop-head-preserved g c =
     All-rest (λ head. IsGiven c.args.image.now head) c.in-Some.head c.next.new.self c.loop-head.head-iterator c.in-Some.ensures.steps
-        c.loop-head.invariant
+    c.loop-head.invariant

@@ -1,5 +1,7 @@
 use Rattle.strata.proofs.clients.serve_session.Goals as goal
 
 pub returns : goal.returns
-returns g c = (record { trace = c.serve_client-ended.ensures.0; result = c.serve_client-ended.result; is = c.serve_client-ended.ensures.1 },
-      c.end_session.ensures)
+returns g c = (
+  record { trace = c.serve_client-ended.ensures.0; result = c.serve_client-ended.result; is = c.serve_client-ended.ensures.1 },
+  c.end_session.ensures,
+)

@@ -13,6 +13,9 @@ returns-in_default g c = none_accepted c.loop-served.served c.args.count c.loop-
 pub loop-served-preserved : goal.loop-served-preserved
 loop-served-preserved g c =
     one_more c.loop-served.served c.loop-served.status c.serve_session-ended.result c.if-status-eq0.status c.loop-served.invariant
-        c.serve_session-ended.ensures
-    (elim c.if-status-eq0.branch [ then-status-eq0 w ↦ inl (w.if-status-eq0.true, w.status-is) | else-status-eq0 w ↦ inr
-          (w.if-status-eq0.false, w.status-is) ])
+    c.serve_session-ended.ensures
+    (elim c.if-status-eq0.branch [
+      | then-status-eq0 w ↦ inl (w.if-status-eq0.true, w.status-is)
+      | else-status-eq0 w ↦ inr
+          (w.if-status-eq0.false, w.status-is)
+    ])

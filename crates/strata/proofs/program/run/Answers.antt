@@ -22,7 +22,7 @@ returns-in_err-serve-in-Serve-clause-stopped g c =
     let line = c.in_ok-line.line in
     let named = all_named line _ c.in_ok-images.images _ c.in_ok-images.ensures.ok c.as_slice.ensures.len in
     broke_off g.row.A.Denot _ line _ Serve _ _ c.in_ok-line.ensures.ok named c.in-Serve.is c.from_residual-in_err-serve-in-Serve.result
-        c.in_err-serve-in-Serve.field-0.0
+    c.in_err-serve-in-Serve.field-0.0
     c.from_residual-in_err-serve-in-Serve.ensures.1 c.in_err-serve-in-Serve.ensures.stopped
 
 pub returns-in-Socket-clause-over : goal.returns-in-Socket-clause-over
@@ -41,9 +41,11 @@ pub returns-in-Check-clause-over : goal.returns-in-Check-clause-over
 returns-in-Check-clause-over g c =
     let line = c.in_ok-line.line in
     let named = all_named line _ c.in_ok-images.images _ c.in_ok-images.ensures.ok c.as_slice.ensures.len in
-    did g.row.A.Denot _ line _ Check _ _ c.in_ok-line.ensures.ok named c.in-Check.is
-    (refl, subst (λ p. AreGood p (contents_of c.in_ok-images.images) (g.K.Sink.state c.args.output.now) (g.K.Sink.state c.check.new.output))
-          c.profile_of.ensures c.in_ok-check-in-Check.ensures.done)
+    did g.row.A.Denot _ line _ Check _ _ c.in_ok-line.ensures.ok named c.in-Check.is (
+      refl,
+      subst (λ p. AreGood p (contents_of c.in_ok-images.images) (g.K.Sink.state c.args.output.now) (g.K.Sink.state c.check.new.output))
+          c.profile_of.ensures c.in_ok-check-in-Check.ensures.done,
+    )
 
 pub returns-in_err-check-in-Check-clause-stopped : goal.returns-in_err-check-in-Check-clause-stopped
 returns-in_err-check-in-Check-clause-stopped g c =
@@ -51,18 +53,22 @@ returns-in_err-check-in-Check-clause-stopped g c =
     let named = all_named line _ c.in_ok-images.images _ c.in_ok-images.ensures.ok c.as_slice.ensures.len in
     let fault = c.in_err-check-in-Check.field-0.0 in
     broke_off g.row.A.Denot _ line _ Check _ _ c.in_ok-line.ensures.ok named c.in-Check.is c.from_residual-in_err-check-in-Check.result
-        fault
-    c.from_residual-in_err-check-in-Check.ensures.1
-    (refl, subst (λ p. AreNotGood p (contents_of c.in_ok-images.images) fault (g.K.Sink.state c.args.output.now)
-          (g.K.Sink.state c.check.new.output)) c.profile_of.ensures c.in_err-check-in-Check.ensures.stopped)
+    fault
+    c.from_residual-in_err-check-in-Check.ensures.1 (
+      refl,
+      subst (λ p. AreNotGood p (contents_of c.in_ok-images.images) fault (g.K.Sink.state c.args.output.now)
+          (g.K.Sink.state c.check.new.output)) c.profile_of.ensures c.in_err-check-in-Check.ensures.stopped,
+    )
 
 pub returns-clause-over : goal.returns-clause-over
 returns-clause-over g c =
     let line = c.in_ok-line.line in
     let named = all_named line _ c.in_ok-images.images _ c.in_ok-images.ensures.ok c.as_slice.ensures.len in
-    did g.row.A.Denot _ line _ List _ _ c.in_ok-line.ensures.ok named c.in-List.is
-    (refl, subst (λ p. IsStackListed p (contents_of c.in_ok-images.images) (g.K.Sink.state c.args.output.now)
-          (g.K.Sink.state c.list.new.output)) c.profile_of-in-List.ensures c.in_ok-list-in-List.ensures.done)
+    did g.row.A.Denot _ line _ List _ _ c.in_ok-line.ensures.ok named c.in-List.is (
+      refl,
+      subst (λ p. IsStackListed p (contents_of c.in_ok-images.images) (g.K.Sink.state c.args.output.now)
+          (g.K.Sink.state c.list.new.output)) c.profile_of-in-List.ensures c.in_ok-list-in-List.ensures.done,
+    )
 
 pub returns-in_err-list-in-List-clause-stopped : goal.returns-in_err-list-in-List-clause-stopped
 returns-in_err-list-in-List-clause-stopped g c =
@@ -70,6 +76,8 @@ returns-in_err-list-in-List-clause-stopped g c =
     let named = all_named line _ c.in_ok-images.images _ c.in_ok-images.ensures.ok c.as_slice.ensures.len in
     let fault = c.in_err-list-in-List.field-0.0 in
     broke_off g.row.A.Denot _ line _ List _ _ c.in_ok-line.ensures.ok named c.in-List.is c.from_residual-in_err-list-in-List.result fault
-    c.from_residual-in_err-list-in-List.ensures.1
-    (refl, subst (λ p. IsNotListed p (contents_of c.in_ok-images.images) fault (g.K.Sink.state c.args.output.now)
-          (g.K.Sink.state c.list.new.output)) c.profile_of-in-List.ensures c.in_err-list-in-List.ensures.stopped)
+    c.from_residual-in_err-list-in-List.ensures.1 (
+      refl,
+      subst (λ p. IsNotListed p (contents_of c.in_ok-images.images) fault (g.K.Sink.state c.args.output.now)
+          (g.K.Sink.state c.list.new.output)) c.profile_of-in-List.ensures c.in_err-list-in-List.ensures.stopped,
+    )

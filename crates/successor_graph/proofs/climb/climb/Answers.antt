@@ -56,7 +56,7 @@ loop-found-preserved-then-at-len g c =
           c.enter-low.ensures.low (rw f.classes.sized c.enter-low.ensures.noted)
           (skips _ _ _ _ _ f _ c.requires.cycle o _ _ at _ _ _ _ s l.under_way));
       kept = rw c.enter-low.ensures.entered (keeps _ _ at (let v = c.loop-found.found.entered_sized in let w = l.low in
-            omega arith) l.kept);
+          omega arith) l.kept);
       low = ap length c.enter-low.ensures.low ∙ length-set c.loop-found.found.low.items _ _ ∙ l.low;
     }
 

@@ -31,8 +31,9 @@ returns-clause-found g c =
     c.loop-turn.invariant.found) e.low)
 
 pub returns-clause-kept : goal.returns-clause-kept
-returns-clause-kept g c = record { each =
-      λ x m. rw c.clear.ensures.entered (c.loop-turn.invariant.kept.each x (c.in_ok-cycle.ensures.kept.each x m)) }
+returns-clause-kept g c = record {
+  each = λ x m. rw c.clear.ensures.entered (c.loop-turn.invariant.kept.each x (c.in_ok-cycle.ensures.kept.each x m));
+}
 
 start_entered : (g : Over) (c : goal.After-drop-cycle-2 g) → get_or c.clear.new.found.entered.items c.seek-start.result false ≡ true
 start_entered g c =

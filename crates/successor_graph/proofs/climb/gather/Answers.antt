@@ -10,7 +10,7 @@ loop-found-init g c =
     let f = c.args.graph.now in
     record {
       rounding = rw c.new-cycle.ensures.items (begins _ _ f.classes.sized f.leads f.classes _ c.requires.cycle _ _ _ c.requires.fresh
-            c.requires.found);
+          c.requires.found);
       inside = c.requires.from;
       low = c.requires.found.lowest.sized ∙ f.classes.sized;
     }
@@ -20,7 +20,7 @@ loop-found-smaller g c =
     let l = c.loop-found.invariant in
     let at = c.loop-found.at in
     let i : at < length c.loop-found.found.entered.items = (let a = l.inside in let b = c.loop-found.found.entered_sized in let w = l.low in
-          omega arith) in
+    omega arith) in
     let e = get_or_read c.loop-found.found.entered.items at _ i c.index.ensures false in
     let k = marks_fall c.loop-found.found.entered.items at i (sym e ∙ c.loop-found-test.true) in
     let u = ap unmarked c.enter.ensures.entered in
@@ -32,7 +32,7 @@ loop-found-preserved g c =
     let l = c.loop-found.invariant in
     let at = c.loop-found.at in
     let i : at < length c.loop-found.found.entered.items = (let a = l.inside in let b = c.loop-found.found.entered_sized in let w = l.low in
-          omega arith) in
+    omega arith) in
     let e = get_or_read c.args.graph.now.next.items at _ l.inside c.index-at.ensures 0 in
     record {
       rounding = rw (c.in_ok-push.ensures.items, reverse_push, c.enter.ensures.entered, e)
@@ -48,7 +48,7 @@ returns-clause-gathered g c =
     let l = c.loop-found.invariant in
     let at = c.loop-found.at in
     let i : at < length c.loop-found.found.entered.items = (let a = l.inside in let b = c.loop-found.found.entered_sized in let w = l.low in
-          omega arith) in
+    omega arith) in
     let e = get_or_read c.loop-found.found.entered.items at _ i c.index.ensures false in
     gathered _ _ f.classes.sized f.leads f.classes _ c.requires.cycle _ _ _ at _ _ (c.loop-found.found.entered_sized ∙ l.low) (sym e
-          ∙ c.loop-found-test.false) l.rounding
+    ∙ c.loop-found-test.false) l.rounding

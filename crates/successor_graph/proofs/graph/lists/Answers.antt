@@ -11,6 +11,6 @@ loop-at-preserved g c =
     let e : c.loop-at.at ≡ at + 1 = omega arith in
     let b = c.requires.next.each at i in
     let r = get_or_read c.loop-at.first.items (get_or c.args.next.now at 0) c.index.result.now (let f = w.firsts in
-          omega arith) c.index.ensures 0 in
+    omega arith) c.index.ensures 0 in
     rw r (listed_more _ _ _ at i c.requires.next (subst (λ x. AreListed c.args.next.now c.loop-at.first.items c.loop-at.sibling.items x) e
-          w))
+    w))

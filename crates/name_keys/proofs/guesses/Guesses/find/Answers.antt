@@ -10,4 +10,4 @@ returns-then-eq g c =
     let m = length-map rows g.T.Named.name in
     let same = (bytes_eq-Decides c.name.result.now c.args.name.now).0 (sym c.eq.ensures ∙ c.if-eq.true) in
     sym (here (map g.T.Named.name rows) c.args.name.now _ c.requires (omega (arith, m)) (get_or-map g.T.Named.name rows _ _ [] (omega arith)
-          ∙ ap g.T.Named.name (sym c.index-rows-at.is) ∙ sym c.name.ensures ∙ same))
+    ∙ ap g.T.Named.name (sym c.index-rows-at.is) ∙ sym c.name.ensures ∙ same))

@@ -8,6 +8,6 @@ pub returns : goal.returns
 returns g c = λ by s stream told. (
     let (first, stack, same, o) = told in
     subst (λ (a : Answering). AppendsRound a s stream c.args.self.round c.args.replies.now.items c.append.new.replies.items
-          (change c.args.balances.now c.append.new.balances)) (sym same)
+    (change c.args.balances.now c.append.new.balances)) (sym same)
     (by_spread first stack s stream c.args.self c.args.replies.now.items c.append.new.replies.items
-          (change c.args.balances.now c.append.new.balances) o c.in_ok-append.ensures))
+    (change c.args.balances.now c.append.new.balances) o c.in_ok-append.ensures))

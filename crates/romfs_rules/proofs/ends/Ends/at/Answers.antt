@@ -8,7 +8,7 @@ at-walk-requires g c = known_slot c.requires.0 c.args.self.now.walks c.args.self
 pub index-requires : goal.index-requires
 index-requires g c =
     let l = ended_in c.requires.0 c.args.self.now.walks c.args.self.now.ends.items c.args.at c.requires.1 c.at-walk.result
-        c.at-walk.ensures in
+    c.at-walk.ensures in
     omega (arith, c.args.self.now.ends.ok.0)
 
 pub returns : goal.returns

@@ -8,7 +8,7 @@ at-requires g c = (
   record {
     known = c.requires.ends;
     target = rw (c.cleared-to.ensures, c.word.ensures) (first_target c.args.image.now.bytes.now c.args.at c.requires.member
-          c.requires.hard);
+        c.requires.hard);
     hard = c.if-is_hard_link.ensures.0 refl;
   },
 )

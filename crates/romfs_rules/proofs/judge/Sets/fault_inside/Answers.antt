@@ -33,7 +33,7 @@ loop-slot-init g c =
 
 next : (g : Over) (c : In-Some-next_of_either g)
     → IsAsked c.args.self.now (c.in-Some-next_of_either.slot * 16) × KeepsBelow c.args.profile c.args.self.now
-        (c.in-Some-next_of_either.slot * 16)
+    (c.in-Some-next_of_either.slot * 16)
 next g c =
     let l = rw (← c.self.view_is) at c.loop-slot.invariant in
     rw (← c.self.view_is) (asked_next c.args.profile _ c.self.inside.image.now.keeps _ _ c.self.invariant.chains.headers

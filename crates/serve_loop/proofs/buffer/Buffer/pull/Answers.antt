@@ -19,7 +19,7 @@ returns-in-Ok-clause-pull g c =
         counts = c.in-Ok.ensures.counts;
         is = (as_many new c.in-Ok.got b.end gives.0 (subst (λ n. b.end + PULL_SIZE ≤ n) (sym l) room), gives.0);
         behind = held_grown b.bytes.items new _ b.start b.end c.in-Ok.got (with_items_is b.bytes new (c.in-Ok.ensures.same
-              ∙ c.as_mut_slice.ensures.len)) c.requires.range.ordered same;
+            ∙ c.as_mut_slice.ensures.len)) c.requires.range.ordered same;
       },
     )
 
@@ -34,6 +34,6 @@ returns-in-Err-clause-pull g c =
         counts = c.in-Err.ensures.counts;
         is = refl;
         behind = held_unchanged b.bytes.items new _ b.start b.end (with_items_is b.bytes new (c.in-Err.ensures.same
-              ∙ c.as_mut_slice.ensures.len)) c.requires.range.ordered same;
+            ∙ c.as_mut_slice.ensures.len)) c.requires.range.ordered same;
       },
     )

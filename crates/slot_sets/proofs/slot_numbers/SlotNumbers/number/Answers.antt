@@ -14,7 +14,7 @@ overflow_add-result g c =
     let s = c.self.invariant.sized in
     let fits : slot / 64 < length before = omega arith in
     let e : c.index.result.now ≡ get_or before (slot / 64) 0 = c.index.ensures
-        ∙ get_or_default_zero before (slot / 64) c.index.result.now fits in
+    ∙ get_or_default_zero before (slot / 64) c.index.result.now fits in
     let counts = c.self.invariant.each (slot / 64) fits in
     let few = rank_few set slot in
     let count = c.count_before.ensures.count in

@@ -3,8 +3,11 @@ use Rattle.slot_sets.proofs.Ranks.{rank_zero, rank_few, no_counts}
 use Rattle.slot_sets.proofs.slot_numbers.SlotNumbers.of.Goals as goal
 
 pub loop-word-init : goal.loop-word-init
-loop-word-init g c = rw c.in_ok-before.ensures.items (record { sized = omega arith; count = sym (rank_zero c.args.set.now); so_far =
-      no_counts c.args.set.now })
+loop-word-init g c = rw c.in_ok-before.ensures.items (record {
+  sized = omega arith;
+  count = sym (rank_zero c.args.set.now);
+  so_far = no_counts c.args.set.now;
+})
 
 pub overflow_add-count : goal.overflow_add-count
 overflow_add-count g c =

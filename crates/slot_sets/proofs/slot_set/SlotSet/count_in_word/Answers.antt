@@ -22,7 +22,7 @@ returns-clause-count g c =
     let i = c.self.invariant.0 in
     let fits : c.args.word < length words = omega arith in
     let w : c.index.result.now ≡ get_or words c.args.word 0 = c.index.ensures
-        ∙ get_or_default_zero words c.args.word c.index.result.now fits in
+    ∙ get_or_default_zero words c.args.word c.index.result.now fits in
     let s = c.index.type_inv in
     let m : c.index.result.now % 2 ^ 64 ≡ c.index.result.now = omega arith in
     let k = counted slots words c.args.word c.index.result.now w 64 (omega arith) (omega arith) in

@@ -21,4 +21,4 @@ returns g c =
     ∙ get_or_default_zero words (c.args.slot / 64) c.index_mut.result.now
     (is_bit_past words c.self.inside.slots c.self.invariant.0 c.args.slot l) in
     bits_set c.self.inside.slots words c.args.slot c.index_mut.result.now c.self.invariant.0 l w
-        ∙ ap (λ x. set x c.args.slot true) c.self.view_is
+    ∙ ap (λ x. set x c.args.slot true) c.self.view_is

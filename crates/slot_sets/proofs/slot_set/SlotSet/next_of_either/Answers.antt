@@ -48,7 +48,7 @@ returns-then-found-self g c =
     rw (← c.self.view_is, ← others)
     (next_in n words one two i c.args.from _ (omega arith) c.if-found-self.true (low_is (joined words one two) slot word w some _ refl)
     (clear_more (joined words one two) c.args.from slot _ c.loop-slot.invariant.clear
-          (low_first (joined words one two) slot word w some _ refl)))
+    (low_first (joined words one two) slot word w some _ refl)))
 
 pub returns-else-found-self : goal.returns-else-found-self
 returns-else-found-self g c =

@@ -10,7 +10,7 @@ index-requires g c =
     let slots = c.self.inside.numbers in
     let words = c.self.inside.words.items in
     let f = number_fits slots words c.args.slot (ap (λ (w : Words). get_or w.slots c.args.slot false) c.self.view_is
-          ∙ c.requires) c.self.invariant.0 in
+    ∙ c.requires) c.self.invariant.0 in
     let n = c.number.ensures in
     let o = c.self.inside.words.ok in
     omega arith

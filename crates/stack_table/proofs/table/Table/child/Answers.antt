@@ -5,33 +5,33 @@ use Rattle.stack_table.proofs.table.Table.child.Goals as goal
 pub rows_of-rows-requires-clause-start : goal.rows_of-rows-requires-clause-start
 rows_of-rows-requires-clause-start g c =
     (found _ _ _ _ _ _ _ c.self.invariant c.args.number _
-      (rw (c.deref.ensures.value, c.deref-2.ensures.value) at c.in_ok-directory.ensures)).holds.start
+    (rw (c.deref.ensures.value, c.deref-2.ensures.value) at c.in_ok-directory.ensures)).holds.start
 
 pub rows_of-rows-requires-clause-end : goal.rows_of-rows-requires-clause-end
 rows_of-rows-requires-clause-end g c =
     rw c.deref-3.ensures.value (found _ _ _ _ _ _ _ c.self.invariant c.args.number _
-      (rw (c.deref.ensures.value, c.deref-2.ensures.value) at c.in_ok-directory.ensures)).holds.end
+    (rw (c.deref.ensures.value, c.deref-2.ensures.value) at c.in_ok-directory.ensures)).holds.end
 
 pub keys_of-keys-requires-clause-start : goal.keys_of-keys-requires-clause-start
 keys_of-keys-requires-clause-start g c =
     (found _ _ _ _ _ _ _ c.self.invariant c.args.number _
-      (rw (c.deref.ensures.value, c.deref-2.ensures.value) at c.in_ok-directory.ensures)).holds.start
+    (rw (c.deref.ensures.value, c.deref-2.ensures.value) at c.in_ok-directory.ensures)).holds.start
 
 pub keys_of-keys-requires-clause-end : goal.keys_of-keys-requires-clause-end
 keys_of-keys-requires-clause-end g c = rw c.deref-4.ensures.value (keys_end _ _ _ _ _ _ _ c.self.invariant c.args.number _
-      (rw (c.deref.ensures.value, c.deref-2.ensures.value) at c.in_ok-directory.ensures))
+    (rw (c.deref.ensures.value, c.deref-2.ensures.value) at c.in_ok-directory.ensures))
 
 pub number_named-requires : goal.number_named-requires
 number_named-requires g c = rw (c.rows_of-rows.ensures, c.keys_of-keys.ensures, c.deref-3.ensures.value, c.deref-4.ensures.value)
     (found _ _ _ _ _ _ _ c.self.invariant c.args.number _
-      (rw (c.deref.ensures.value, c.deref-2.ensures.value) at c.in_ok-directory.ensures)).holds.keyed
+    (rw (c.deref.ensures.value, c.deref-2.ensures.value) at c.in_ok-directory.ensures)).holds.keyed
 
 pub returns-in_err-directory : goal.returns-in_err-directory
 returns-in_err-directory g c = c.from_residual.ensures
     ∙ rw (← c.self.view_is) (child_none _ _ _ _ _ _ _ c.self.invariant c.args.number c.args.name.now
-      (rw (c.deref.ensures.value, c.deref-2.ensures.value) at c.in_err-directory.ensures))
+    (rw (c.deref.ensures.value, c.deref-2.ensures.value) at c.in_err-directory.ensures))
 
 pub returns : goal.returns
 returns g c = rw (c.number_named.ensures, c.rows_of-rows.ensures, c.deref-3.ensures.value, ← c.self.view_is)
     (child_is _ _ _ _ _ _ _ c.self.invariant c.args.number _ c.args.name.now
-      (rw (c.deref.ensures.value, c.deref-2.ensures.value) at c.in_ok-directory.ensures))
+    (rw (c.deref.ensures.value, c.deref-2.ensures.value) at c.in_ok-directory.ensures))

@@ -8,11 +8,14 @@ pub invariant_of-result-2 : goal.invariant_of-result-2
 invariant_of-result-2 g c =
     let mine : Listed c.args.images.items = (c.requires.0, ∣ c.requires.1.listing ∣₁) in
     subst (λ (e : List Entry). IsTable c.args.images.items e c.args.nodes.items c.args.directories.all.items c.args.directories.rows.items
-          c.args.directories.keys.items c.args.blocks) (ap (λ x. x.0) (listed_once c.args.images.items mine c.result-1.given.0))
-        c.requires.1
+    c.args.directories.keys.items c.args.blocks) (ap (λ x. x.0) (listed_once c.args.images.items mine c.result-1.given.0))
+    c.requires.1
 
 pub returns : goal.returns
 returns g c =
     let mine : Listed c.args.images.items = (c.requires.0, ∣ c.requires.1.listing ∣₁) in
-    record { layers_are = refl; listing = subst (λ (e : List Entry). IsListing c.args.images.items e)
-          (ap (λ x. x.0) (listed_once c.args.images.items mine c.result-1.given.0)) c.requires.1.listing }
+    record {
+      layers_are = refl;
+      listing = subst (λ (e : List Entry). IsListing c.args.images.items e)
+          (ap (λ x. x.0) (listed_once c.args.images.items mine c.result-1.given.0)) c.requires.1.listing;
+    }

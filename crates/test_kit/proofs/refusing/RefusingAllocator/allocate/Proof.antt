@@ -71,7 +71,7 @@ allocate_spec 𝓤 𝓛 𝓜 𝓡 wired A L g d e met _ =
     nothing ! $ nothing ! $ fjoin ! $ nothing ! $ fjoin ! $ nothing ! $ fjoin ! $ join ! $ move ! (2 ∷ 3 ∷ []) $ join ! $ join ! $ done ! in
     let fails : Sq 𝓛 (‵ (flft κ q) ∷ (‵ (flft ρ s) ⊛ ‵ ftrue) ∷ []) (prop (Post (answer_val false 0 0))) =
     nothing ! $ use0 𝓛 (‵ (Answer.own_val (Err (record {})) (answer_val false 0 0 ∷ []))) (Answer-err 𝓛) $ ends (answer_val false 0 0)
-        (Err (record {})) in
+    (Err (record {})) in
     qed 𝓛 (((‵ (flft κ q) ⊛ ‵ (flft ρ s) ⊛ ‵ ftrue) ⊛ ‵ (owns (types_at En.signature.params κs) a vals))
     ∷ (raw (fact 𝓤 (ρ ⊑ A.lives)) ⊛ raw (fact 𝓤 ((capped (size τ) ≡ n) × (capped (align τ) ≡ m)))) ∷ []) ∵
     move ! (1 ∷ []) $ split ! $ heard ! _ (λ le. heard ! _ (λ said.
@@ -90,7 +90,7 @@ allocate_spec 𝓤 𝓛 𝓜 𝓡 wired A L g d e met _ =
     use1 𝓛 (later (some (λ (r : Bool). ((‵ (flft κ q) ⊛ ‵ ftrue) ⊛ ‵ (bool.own_val r (u ∷ []))) ⊛
     some (λ (ws : Unit {0} × Unit {0}). ‵ (lasts asked.ended x.0.0 x.0.3 ws) ⊛ raw (fact 𝓤 (t.refuse_at ≡ 0 → IsFalse r)))))) (id⊢ 𝓤 _) $
     await ! tt $ pick ! (λ refused. split ! $ move ! (1 ∷ []) $ drop ! $ split ! $ move ! (1 ∷ []) $ feq_l !
-          (λ is_refused. split ! $ move ! (1 ∷ []) $ drop ! $
+    (λ is_refused. split ! $ move ! (1 ∷ []) $ drop ! $
     lands_as ! (ap only is_refused) refl (tt, tt) $ first ! $ branches ! (get ! refl)
     (λ yes. sets ! (agg ! (no_more !)) refl (tt, tt) $ sets !
     (agg ! (and_then ! (lit ! tt) (and_then ! (get ! refl) (no_more !)))) refl (Answer-typed false 0 0) $
@@ -100,11 +100,11 @@ allocate_spec 𝓤 𝓛 𝓜 𝓡 wired A L g d e met _ =
     let z : Asked.Ghost = at_takes Z 𝓛 𝓜.mem 𝓡.returns κ q at h n m τ in
     use2 𝓛 (raw (Asked.pre z)) (Takes-goes Z 𝓛 𝓜.mem 𝓡.returns κ q at h (⊑_trans κ ρ A.lives bounds.0 le) n m τ said.0 said.1 fn64 fm64) $
     calls_at ! (framed 𝓤 𝓛.H 𝓜 𝓣) Asked (met.allocate e) z
-        (and_then ! (get ! refl) (and_then ! (get ! refl) (and_then ! (get ! refl) (no_more !)))) (λ v.
+    (and_then ! (get ! refl) (and_then ! (get ! refl) (and_then ! (get ! refl) (no_more !)))) (λ v.
     use1 𝓛 (later (raw (Answered Z 𝓛 𝓜.mem 𝓡.returns h τ v) ⊛ ‵ (flft κ q))) (Takes-gives Z 𝓛 𝓜.mem 𝓡.returns κ q at h n m τ v) $ await ! tt
-        $ split ! $
+    $ split ! $
     answers Z ! 𝓜.mem 𝓡.returns h τ v
     (λ b o is. fjoin ! $ lands_as ! is refl (Answer-typed true b o) $ returns ! (look_at ! 0 refl) $ free_all ! refl $
     use0 𝓛 (‵ (Answer.own_val (Ok (block_ptr b o)) (answer_val true b o ∷ []))) (Answer-Ok 𝓛 b o) $ ends (answer_val true b o)
-        (Ok (block_ptr b o)))
+    (Ok (block_ptr b o)))
     (λ is. lands_as ! is refl (Answer-typed false 0 0) $ returns ! (look_at ! 0 refl) $ free_all ! refl $ fails))))))))))

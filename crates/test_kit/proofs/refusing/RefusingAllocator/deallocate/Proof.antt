@@ -49,16 +49,21 @@ deallocate_spec 𝓤 𝓛 𝓜 𝓡 wired A L g d e met _ =
       (stay_dropped pointer yes, (stay_dropped number yes, (stay_dropped number yes, tt))),
     ) in
     let number_goes = Goes-dropped 𝓛 2 number yes (λ κs x w. refl) in
-    proved 𝓛 En hs c 𝓜 𝓡 (Goes-dropped 𝓛 2 (self A) yes (λ κs x w. refl), (Goes-dropped 𝓛 2 pointer yes (λ κs x w. refl),
-          (number_goes, (number_goes, tt))))
+    proved 𝓛 En hs c 𝓜 𝓡 (
+      Goes-dropped 𝓛 2 (self A) yes (λ κs x w. refl),
+      (
+        Goes-dropped 𝓛 2 pointer yes (λ κs x w. refl),
+        (number_goes, (number_goes, tt)),
+      ),
+    )
     (key.name inst) fn (code.unfolded 𝓤 𝓛.H 𝓜 𝓡 wired (A, tt) d e)
     (λ κs. (shr_vals, (rawptr_vals, (uint_vals w64, (uint_vals w64, tt)))))
-        (λ κs. ((λ r vs is. is.0), (rawptr_Tells, (uint_Tells w64, (uint_Tells w64, tt)))))
+    (λ κs. ((λ r vs is. is.0), (rawptr_Tells, (uint_Tells w64, (uint_Tells w64, tt)))))
     (λ κs qs bounds a τ are.
     let κ = κs.0 in let ρ = κs.1.0 in let q = qs.0 in let h = a.0.now.inner in let at = inner_at A a.0.ref_ptr in
     let n = a.1.1.0 in let m = a.1.1.1.0 in let fn64 = are.1.1.0.1 in let fm64 = are.1.1.1.0.1 in
     let vals : Ptr → Valss (types_at En.signature.params κs) =
-        λ p. (shr_vals a.0, (rawptr_vals p, (vint w64 n ∷ [], (vint w64 m ∷ [], tt)))) in
+    λ p. (shr_vals a.0, (rawptr_vals p, (vint w64 n ∷ [], (vint w64 m ∷ [], tt)))) in
     let y : Ptr → (walk_of 𝓛 En hs c).Ghost = λ p. ((κs, qs, bounds, (a.0, (p, a.1.1)), vals p), τ) in
     let block : Ptr → Fml = λ p. fsep (room_for τ p) (token Z h τ p) in
     qed 𝓛 (((‵ (flft κ q) ⊛ ‵ (flft ρ qs.1.0) ⊛ ‵ ftrue) ⊛ ‵ (owns (types_at En.signature.params κs) a (vals a.1.0)))
@@ -66,12 +71,14 @@ deallocate_spec 𝓤 𝓛 𝓜 𝓡 wired A L g d e met _ =
     move ! (1 ∷ []) $ split3 ! $ heard ! _ (λ le. heard ! _ (λ said.
     in_a_block ! a.1.0 block (fst∗ 𝓤 (never 𝓤) (sem 𝓛 (token Z h τ null_ptr))) (λ b o is.
     regoal ! (λ p. prop (WpFn 𝓤 𝓛.H 𝓣.C 𝓣.Λ fn (shr_vals a.0 ++ ptr_val p ∷ vint w64 n ∷ vint w64 m ∷ []) ((walk_of 𝓛 En hs c).post (y p))))
-        is refl $
+    is refl $
     move ! (1 ∷ []) $ split ! $ split ! $ move ! (2 ∷ []) $ fsplit ! $ fsplit ! $ move ! (1 ∷ []) $ unhide ! $ fsplit ! $ fsplit ! $
     use1 𝓛 (‵ (seen Z κ at h)) (id⊢ 𝓤 _) $ keep ! (0 ∷ 5 ∷ 6 ∷ 7 ∷ []) $
     -- [the inner allocator; the token of κ; the other tokens; the block]
-    enter ! _ _ _ _ _ $ alloc_all ! (λ l. pass_all ! refl ((tt, tt),
-          ((tt, tt), ((tt, record { fits = fn64 }), ((tt, record { fits = fm64 }), tt)))) $
+    enter ! _ _ _ _ _ $ alloc_all ! (λ l. pass_all ! refl (
+      (tt, tt),
+      ((tt, tt), ((tt, record { fits = fn64 }), ((tt, record { fits = fm64 }), tt))),
+    ) $
     sets ! (addr ! (through ! refl (fld ! refl (stop !)))) refl (tt, tt) $
     join ! $ move ! (2 ∷ []) $ fsplit ! $ move ! (1 ∷ 2 ∷ []) $ join ! $ move ! (1 ∷ 0 ∷ []) $ join ! $
     let z : G.Ghost = at_gives Z 𝓛 𝓜.mem 𝓡.returns κ q at h b o n m τ in
@@ -80,9 +87,9 @@ deallocate_spec 𝓤 𝓛 𝓜 𝓡 wired A L g d e met _ =
     (and_then ! (get ! refl) (and_then ! (get ! refl)
     (and_then ! (get ! refl) (and_then ! (get ! refl) (no_more !))))) (λ v.
     use1 𝓛 (later (given (v ≡ vunit) (‵ (flft κ q)))) (Gives-Gives Z 𝓛 𝓜.mem 𝓡.returns κ q at h b o n m τ v) $ await ! tt $ learn !
-        (λ is_unit.
+    (λ is_unit.
     lands_as ! is_unit refl (tt, tt) $ sets ! (of_opd ! (unit_lit !)) refl (tt, tt) $ returns ! (look_at ! 0 refl) $ free_all ! refl $
     suffices ! _ (ends_at 𝓛 En hs c (y (block_ptr b o)) vunit tt (tt, (tt, (tt, (tt, tt)))) (tt, (tt, (tt, (tt, tt))))) $
     nothing ! $ feq_i ! _ (vunit ∷ []) _ refl $ nothing ! $ nothing ! $ fjoin ! $ nothing ! $ fjoin ! $ nothing ! $ fjoin ! $ nothing ! $
-        fjoin ! $ join ! $
+    fjoin ! $ join ! $
     move ! (2 ∷ 3 ∷ []) $ join ! $ join ! $ done !)))))))

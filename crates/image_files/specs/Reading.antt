@@ -1,10 +1,10 @@
 -- What the counts of a source are, which was new before, after it was read to its end.
-use Rattle.std.specs.Prelude.{◌≡◌, ◌≤◌, ◌⊎◌, Option, Some, Result, Ok, Err}
+use Rattle.std.specs.Prelude.{◌≡◌, ◌≤◌, ◌⊎◌, Some, Result, Ok, Err}
 use Rattle.devices.specs.declared.counts.LastPull.TheVariants.{End, Failure}
 use Rattle.devices.specs.declared.counts.Pulls.{Pulls}
 use Rattle.fuse_wire.specs.declared.limits.TheConstants.{MAX_TURNS}
-use Rattle.strata.specs.declared.streams.ReadFault.{ReadFault}
-use Rattle.strata.specs.declared.streams.ReadFault.TheVariants.{Failed, Memory}
+use Rattle.image_files.specs.declared.whole.ReadFault.{ReadFault}
+use Rattle.image_files.specs.declared.whole.ReadFault.TheVariants.{Failed, Memory}
 
 -- it met its end within the most pulls; or its only failure was the last pull; or it was pulled as
 -- often as may be, and never met an end nor failed; or memory ran out

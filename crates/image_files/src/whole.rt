@@ -1,15 +1,13 @@
-//! Files that are read whole, and lines that are put whole.
+//! Files that are read whole.
 
-ghost use Rattle.std.specs.Prelude.{◌≡◌, ◌<◌, ◌^◌, IfSome, OnOk, IfOk, IfErr};
+ghost use Rattle.std.specs.Prelude.{◌≡◌, IfSome, OnOk, IfOk};
 ghost use Rattle.std.specs.Io.KnownBytes.{IsAtEnd};
 ghost use Rattle.devices.specs.Counting.{no_pulls};
-ghost use Rattle.strata.specs.declared.streams.ReadFault.TheVariants.{Memory};
-ghost use Rattle.strata.specs.Ending.{ArePut, IsLost};
-ghost use Rattle.strata.specs.Reading.{IsReadThrough};
+ghost use Rattle.image_files.specs.declared.whole.ReadFault.TheVariants.{Memory};
+ghost use Rattle.image_files.specs.Reading.{IsReadThrough};
 
-use crate::faults::Fault;
-use devices::{Sink, Source, Tap, hand_on};
-use serve_core::{MAX_TURNS, Stop};
+use devices::{Source, Tap};
+use fuse_wire::limits::MAX_TURNS;
 use std::alloc::{AllocError, Allocator};
 use std::fs::OpenFile;
 use std::io::Read;
@@ -43,15 +41,6 @@ pub fn read_file<F: Read + OpenFile + Drop, A: Allocator>(
 {
     let length = told_length(&file);
     read_all(alloc, &mut Tap::new(file), length)
-}
-
-/// Puts lines to a sink, and flushes it where there are any.
-pub fn put_lines<K: Sink>(sink: &mut K, lines: &[u8]) -> Result<(), Fault>
-    requires { (K.state sink.old).counts.failures < 2 ^ 63 }
-    ensures ok { OnOk result (ArePut lines.now (K.state sink.old) (K.state sink.new)) }
-    ensures err { IfErr result (λ fault. IsLost fault (K.state sink.old) (K.state sink.new)) }
-{
-    hand_on(sink, lines).map_err(|_| Fault::Stopped(Stop::Write))
 }
 
 // All that a new source has. `Failed` comes where the last pull failed, or where 2^40 pulls met no

@@ -1,6 +1,6 @@
-use Rattle.std.proofs.Common.{◌≡◌, ℕ, List}
+use Rattle.std.proofs.Common.{◌≡◌}
 use Rattle.std.specs.Io.KnownBytes.{Consumes}
-use Rattle.strata.proofs.streams.read_all.Given as goal
+use Rattle.image_files.proofs.whole.read_all.Given as goal
 
 -- what was appended so far is what the source has given, in one pull a turn, none of which met the
 -- end or failed

@@ -1,5 +1,5 @@
 use Rattle.std.proofs.Common.{◌*◌, ◌+◌}
-use Rattle.strata.proofs.files.+halves.Given as goal
+use Rattle.image_files.proofs.images.+halves.Given as goal
 
 -- how often its run may be cut yet, twice over: between two calls stands a thread
 abbrev pub decreases-read_from : goal.decreases-read_from

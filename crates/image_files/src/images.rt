@@ -1,0 +1,147 @@
+//! The files of images, of a long list some at the same time.
+//!
+//! A list is cut in two, and each half once more; each part is read from its lowest image up, and
+//! what two halves found is put together: memory that ran out or an image that cannot be read in
+//! the lower half is told first.
+
+ghost use Rattle.std.specs.Prelude.{◌≡◌, ◌⊎◌, ◌+◌, ◌<◌, ◌^◌, ℕ, length, vec_len, IfOk, IfErr};
+ghost use Rattle.image_files.specs.Unread.{IsUnread};
+ghost use Rattle.image_files.specs.declared.images.FilesFault.TheVariants.{Unread, Memory};
+ghost use denote.Param.Send.{IsSync, IsSend, Frees};
+
+use crate::whole::{ReadFault, read_file};
+use std::alloc::{AllocError, AllocFailed, Allocator};
+use std::fs;
+use std::fs::Files;
+use std::thread::{Threads, join};
+
+/// How many times a list is cut into halves that are read at the same time.
+const FORKS: u32 = 2;
+
+/// A list of fewer files is read by its caller alone: to start a thread takes about as long as to
+/// read a small file.
+const MANY: usize = 8;
+
+/// Why images were not read.
+#[derive(Clone, Copy, Debug, PartialEq, Eq)]
+pub enum FilesFault {
+    /// The file of this image, counted from 0, cannot be read to its end.
+    Unread { image: u64 },
+    /// Memory ran out.
+    Memory,
+}
+
+impl From<AllocError> for FilesFault {
+    ghost from_gives = { λ _ fault. fault ≡ Memory };
+
+    fn from(_error: AllocError) -> FilesFault {
+        FilesFault::Memory
+    }
+}
+
+impl<T: Drop> From<AllocFailed<T>> for FilesFault {
+    ghost from_gives = { λ _ fault. fault ≡ Memory };
+
+    fn from(_error: AllocFailed<T>) -> FilesFault {
+        FilesFault::Memory
+    }
+}
+
+/// The bytes of the images at these paths, in the order of the paths, each file as it is from its
+/// beginning to its end.
+///
+/// Of a long list at most four parts are read at the same time; of several files that cannot be
+/// read the lowest is told.
+pub fn read_images<R: Files + Threads + Sync, A: Allocator + Copy + Send + Sync>(
+    rt: &R,
+    alloc: A,
+    paths: &[&str],
+) -> Result<Vec<Vec<u8, A>, A>, FilesFault>
+where
+    R::File: Send,
+    R::Dir: Send,
+    ensures ok { IfOk result (λ images. vec_len images ≡ length paths.now) }
+    ensures err { IfErr result (λ fault. (fault ≡ Memory)
+        ⊎ ((image : ℕ) × (image < length paths.now) × (fault ≡ Unread image))) }
+{
+    read_from(rt, alloc, 0, paths, FORKS)
+}
+
+/// The bytes of a run of images, of which the lowest has the number `first`: of its halves at the
+/// same time, each of which is cut so once less, or of one after another.
+#[cycle(halves)]
+fn read_from<R: Files + Threads + Sync, A: Allocator + Copy + Send + Sync>(
+    rt: &R,
+    alloc: A,
+    first: usize,
+    paths: &[&str],
+    forks: u32,
+) -> Result<Vec<Vec<u8, A>, A>, FilesFault>
+where
+    R::File: Send,
+    R::Dir: Send,
+    requires { first + length paths.now < 2 ^ 64 }
+    ensures ok { IfOk result (λ images. vec_len images ≡ length paths.now) }
+    ensures err { IfErr result (IsUnread first (length paths.now)) }
+{
+    if forks == 0 || paths.len() < MANY {
+        return read_in_turn(rt, alloc, first, paths);
+    }
+    let less = forks - 1;
+    let half = paths.len() / 2;
+    let (lows, highs) = paths.split_at(half);
+    let next = first + half;
+    let (low, high) = join(
+        rt,
+        move || -> Result<Vec<Vec<u8, A>, A>, FilesFault>
+            requires { IsSync R.row × IsSync A.row × IsSend A.row
+                × Frees A.Allocator A.dealloc_token × (first + length lows.now < 2 ^ 64) }
+            ensures ok { IfOk result (λ images. vec_len images ≡ length lows.entry.now) }
+            ensures err { IfErr result (IsUnread first (length lows.entry.now)) }
+        { read_from(rt, alloc, first, lows, less) },
+        move || -> Result<Vec<Vec<u8, A>, A>, FilesFault>
+            requires { IsSync R.row × IsSync A.row × IsSend A.row
+                × Frees A.Allocator A.dealloc_token × (next + length highs.now < 2 ^ 64) }
+            ensures ok { IfOk result (λ images. vec_len images ≡ length highs.entry.now) }
+            ensures err { IfErr result (IsUnread next (length highs.entry.now)) }
+        { read_from(rt, alloc, next, highs, less) },
+    );
+    let mut images = low?;
+    images.append(&mut high?)?;
+    Ok(images)
+}
+
+/// The bytes of a run of images, of which the lowest has the number `first`, read from the lowest
+/// up.
+fn read_in_turn<R: Files, A: Allocator + Copy>(
+    rt: &R,
+    alloc: A,
+    first: usize,
+    paths: &[&str],
+) -> Result<Vec<Vec<u8, A>, A>, FilesFault>
+    requires { first + length paths.now < 2 ^ 64 }
+    ensures ok { IfOk result (λ images. vec_len images ≡ length paths.now) }
+    ensures err { IfErr result (IsUnread first (length paths.now)) }
+{
+    let mut images = Vec::with_capacity(alloc, paths.len())?;
+    for (at, path) in paths.iter().enumerate() {
+        images.push(read_image(rt, alloc, (first + at) as u64, path)?)?;
+    }
+    Ok(images)
+}
+
+fn read_image<R: Files, A: Allocator>(
+    rt: &R,
+    alloc: A,
+    image: u64,
+    path: &str,
+) -> Result<Vec<u8, A>, FilesFault>
+    ensures { IfErr result (λ fault. (fault ≡ Unread image) ⊎ (fault ≡ Memory)) }
+{
+    let file = fs::open(rt, path).map_err(|_| FilesFault::Unread { image })?;
+    match read_file(alloc, file) {
+        Ok(bytes) => Ok(bytes),
+        Err(ReadFault::Failed) => Err(FilesFault::Unread { image }),
+        Err(ReadFault::Memory) => Err(FilesFault::Memory),
+    }
+}
