@@ -1,5 +1,6 @@
 -- Branches and marks in step, in the order of names.
 use Rattle.std.proofs.Common.{◌≡◌, ◌≢◌, ◌∙◌, sym, ap, subst, ℕ, ◌+◌, ◌*◌, ◌<◌, ◌≤◌, inl, inr, List, [], ◌∷◌, ◌++◌, length, refl, arith, append_assoc, Option, Some, None, Bool, true, false}
+use Rattle.std.specs.Prelude.{option_to_list}
 use Rattle.std.proofs.lemmas.List.{append-nil}
 use Rattle.std.proofs.lemmas.Cmp.{nat_list_cmp_total}
 use Rattle.std.specs.declared.cmp.Ordering.TheVariants.{Less, Equal, Greater}
@@ -13,7 +14,7 @@ use Rattle.std.proofs.lemmas.Map.Lookups.{exact_bytes}
 use Rattle.stack_model.specs.Stack.{Path}
 use Rattle.shown_tree.specs.declared.place.Mark.{Mark}
 use Rattle.shown_tree.specs.Marks.{cut_by}
-use Rattle.layer_tree.specs.Laying.{unless, AreKept, IsLeftOut, IsKept, IsFrom}
+use Rattle.layer_tree.specs.Laying.{unless, AreKept, IsLeft, IsLeftOut, IsKept, IsFrom}
 use Rattle.shown_tree.proofs.Cutting.{nothing_cut, cut_same, cut_through, by_name}
 
 -- some branches were passed over, all with names before this one
@@ -179,8 +180,20 @@ module _ {T : Type 0} (lows ls out : List (Shoot T)) (marks rest rest' : List (S
         → Keeping lows ls (out ++ b ∷ []) marks rest'
     kept_one m b n c = on (out ++ b ∷ []) (λ more k. rw append_assoc (inv.kept (b ∷ more) (Kept l b ls more m (sym at_mark ∙ n) c k)))
 
-    pub below_measure : 3 * length l.below + 2 < 3 * length (spread lows)
-    below_measure = omega (arith, grown l ls, inv.smaller)
+    pub kept_or_not : (m : Shoot Mark) (o : Option (Shoot T)) → named l.name rest' ≡ Some m → IsLeft l m o
+        → Keeping lows ls (out ++ option_to_list o) marks rest'
+    kept_or_not m None n k = rw append-nil (left_out m n k)
+    kept_or_not m (Some b) n k = kept_one m b n k
+
+-- the children of the first branch are fewer than all that is left
+pub below_measure : {T : Type 0} (ls ls' : List (Shoot T)) (l : Shoot T) → ls ≡ l ∷ ls'
+    → 3 * length l.below + 3 < 3 * length (spread ls) + 1
+below_measure ls ls' l e = rw e (omega (arith, grown l ls'))
+
+-- and all that is left is no more than all
+pub left_measure : {T : Type 0} (lows ls out : List (Shoot T)) (marks rest : List (Shoot Mark))
+    → Keeping lows ls out marks rest → 3 * length (spread ls) + 1 < 3 * length (spread lows) + 2
+left_measure lows ls out marks rest inv = omega (arith, inv.smaller)
 
 pub keeping_ended : {T : Type 0} (lows ls out : List (Shoot T)) (marks rest : List (Shoot Mark))
     → Keeping lows ls out marks rest → ls ≡ [] → IsForest lows → NamesRise marks

@@ -3,14 +3,14 @@ use Rattle.path_tree.specs.Rows.{spread}
 use Rattle.layer_tree.proofs.Stepping.{Keeping}
 use Rattle.layer_tree.proofs.laying.+keeping.Given as goal
 
-abbrev pub decreases-kept_of : goal.decreases-kept_of
-decreases-kept_of g l = 3 * length l.low.below + 2
+abbrev pub decreases-keep_first : goal.decreases-keep_first
+decreases-keep_first g l = 3 * length (spread l.lows.now.items) + 1
 
-abbrev pub decreases-kept_inside : goal.decreases-kept_inside
-decreases-kept_inside g l = 3 * length l.low.below + 1
+abbrev pub decreases-children_left : goal.decreases-children_left
+decreases-children_left g l = 3 * length (spread l.children.items) + 3
 
 abbrev pub decreases-kept_below : goal.decreases-kept_below
-decreases-kept_below g l = 3 * length (spread l.lows.items)
+decreases-kept_below g l = 3 * length (spread l.lows.items) + 2
 
 abbrev pub invariant-kept_below-loop-low : goal.invariant-kept_below-loop-low
 invariant-kept_below-loop-low g l = Keeping l.fn.lows.items l.lows.items l.kept.items l.fn.marks l.rest

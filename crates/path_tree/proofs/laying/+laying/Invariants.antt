@@ -3,11 +3,11 @@ use Rattle.path_tree.specs.Rows.{spread}
 use Rattle.path_tree.proofs.Merging.{Merging}
 use Rattle.path_tree.proofs.laying.+laying.Given as goal
 
-abbrev pub decreases-cover : goal.decreases-cover
-decreases-cover g l = 2 * (length l.low.below + length l.high.below) + 1
+abbrev pub decreases-cover_first : goal.decreases-cover_first
+decreases-cover_first g l = 2 * (length (spread l.lows.now.items) + length (spread l.highs.now.items))
 
 abbrev pub decreases-merge : goal.decreases-merge
-decreases-merge g l = 2 * (length (spread l.lows.items) + length (spread l.highs.items))
+decreases-merge g l = 2 * (length (spread l.lows.items) + length (spread l.highs.items)) + 1
 
 abbrev pub invariant-merge-loop-low : goal.invariant-merge-loop-low
 invariant-merge-loop-low g l = Merging g.T.Lay.laid l.fn.lows.items l.fn.highs.items l.lows.items l.highs.items l.out.items
