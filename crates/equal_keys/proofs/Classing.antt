@@ -6,13 +6,11 @@ use Rattle.std.specs.Ordering.{is_eq}
 use Rattle.std.specs.declared.cmp.Ordering.{Ordering}
 use Rattle.std.specs.declared.cmp.Ordering.TheVariants.{Less, Equal, Greater}
 use Rattle.std.proofs.lemmas.Bool.{cases_eq, cases_order, false≢true}
+use Rattle.std.proofs.lemmas.Option.{same_Some}
 use Rattle.std.proofs.lemmas.List.{get_or_at, get_or_append_left, get_or_default}
 use Rattle.equal_keys.specs.declared.names.Named.{Named}
 use Rattle.equal_keys.specs.Names.{named_cmp, IsItsAlone, AreInNameOrder, AreNumbersBelow, AreClasses, AreNamesApart}
 use Rattle.equal_keys.proofs.Keyed.{below_or_at, between, one_name}
-
-same_some : {X : Type 0} (x y : X) → ◌≡◌ {A = Option X} (Some x) (Some y) → x ≡ y
-same_some x y e = cc
 
 -- the numbers below n, and then n, are the numbers below the one after it
 pub one_number : (n : ℕ) (xs : List ℕ) → AreNumbersBelow n xs → AreNumbersBelow (n + 1) (xs ++ n ∷ [])
@@ -97,7 +95,7 @@ module _ (name : ℕ → Option (List ℕ)) (n : ℕ) (hs : List Named) (by : Ar
   -- names of one number have one name
   named_alike : (l m : ℕ) → l < length hs → m < length hs → number_at hs l ≡ number_at hs m
       → name_at hs l ≡ name_at hs m
-  named_alike l m p q e = same_some _ _ (sym (owned l p) ∙ ap name e ∙ owned m q)
+  named_alike l m p q e = same_Some _ _ (sym (owned l p) ∙ ap name e ∙ owned m q)
 
   -- where each number is its own class, the first name has its class
   pub first_classed : (class : List ℕ) → AreNumbersBelow (n + 1) class → IsClassing name n hs class 1
@@ -270,7 +268,7 @@ module _ (name : ℕ → Option (List ℕ)) (n : ℕ) (hs : List Named) (by : Ar
         | inl y ↦
             ap (λ c. get_or class c 0) (sym x.2)
             ∙ w.alike x.0 y.0 (let b = x.1 in omega arith) (let b = y.1 in omega arith) x.1 y.1
-            (same_some _ _ (sym (named_of k x) ∙ e ∙ sym f ∙ named_of j y))
+            (same_Some _ _ (sym (named_of k x) ∙ e ∙ sym f ∙ named_of j y))
             ∙ ap (λ c. get_or class c 0) y.2
         | inr o ↦ ap (λ c. get_or class c 0) (o k l (e ∙ sym f))
       ]
@@ -307,7 +305,7 @@ module _ (name : ℕ → Option (List ℕ)) (n : ℕ) (hs : List Named) (by : Ar
     each = λ k j q l p e f. elim (found k q l e) [
       | inl x ↦ elim (found j q p f) [
         | inl y ↦ sym x.2 ∙ ap (number_at hs) (one_place x.0 y.0 x.1 y.1
-            (same_some _ _ (sym (named_of k x) ∙ e ∙ sym f ∙ named_of j y))) ∙ y.2
+            (same_Some _ _ (sym (named_of k x) ∙ e ∙ sym f ∙ named_of j y))) ∙ y.2
         | inr o ↦ o k l (e ∙ sym f)
       ]
       | inr o ↦ sym (o j p (f ∙ sym e))

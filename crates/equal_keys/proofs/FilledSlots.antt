@@ -1,9 +1,10 @@
 -- What falls into slots, key by key. Fell says it of the first keys: it holds of none (fell_none)
 -- and with one key more, whether that falls within the slots (fell_within) or beyond them
 -- (fell_beyond). After the last, a key that fell alone stands once (all_fell).
-use Rattle.std.proofs.Common.{◌≡◌, ◌≢◌, ◌∙◌, sym, ap, subst, ℕ, zero, suc, ◌+◌, ◌<◌, ◌≤◌, ◌⊎◌, inl, inr, List, [], ◌∷◌, length, get_or, refl, arith, get_or-set_other, get_or-set_same, length-set, slice_index, slice_set, slice_get, Some}
+use Rattle.std.proofs.Common.{◌≡◌, ◌≢◌, ◌∙◌, sym, ap, subst, ℕ, ◌+◌, ◌<◌, ◌≤◌, ◌⊎◌, inl, inr, List, length, get_or, refl, arith, get_or-set_other, get_or-set_same, length-set, slice_index, slice_set, slice_get, Some}
 use Rattle.std.specs.Prelude.{◌^◌}
-use Rattle.std.proofs.lemmas.Bool.{cases_order}
+use Rattle.std.proofs.lemmas.Bool.{cases_eq, cases_order}
+use Rattle.std.proofs.lemmas.List.{get_or_past}
 use Rattle.std.proofs.lemmas.Option.{get_or_from_slice_get}
 use Rattle.equal_keys.specs.declared.occupancy.Occupancy.{Occupancy}
 use Rattle.equal_keys.specs.declared.occupancy.Occupancy.TheVariants.{Nothing, One, More}
@@ -35,26 +36,14 @@ not_one Nothing n e = n refl
 not_one One n e = absurd (let z = e in cc)
 not_one More n e = absurd (let z = e in cc)
 
-past : (occupancy : List Occupancy) (s : ℕ) → length occupancy ≤ s → at occupancy s ≡ More
-past [] s l = refl
-past (x ∷ xs) zero l = absurd (omega arith)
-past (x ∷ xs) (suc s) l = past xs s (omega arith)
-
 -- with one key more
 module _ (keys : List ℕ) (slots : ℕ) (occupancy occupancy' : List Occupancy) (i : ℕ) (f : Fell keys slots occupancy i)
     (level : length occupancy' ≡ slots)
     (here : at occupancy' (slot_of (slice_index keys i) slots) ≡ and_one (at occupancy (slot_of (slice_index keys i) slots)))
     (apart : (t : ℕ)
     → t ≢ slot_of (slice_index keys i) slots → at occupancy' t ≡ at occupancy t) where
-  same_or_not : (t s : ℕ) → (t ≡ s) ⊎ (t ≢ s)
-  same_or_not t s = elim (cases_order t s) [
-    | inl q ↦ inl q
-    | inr (inl q) ↦ inr (λ e. omega arith)
-    | inr (inr q) ↦ inr (λ e. omega arith)
-  ]
-
   some : (a : ℕ) → a < i + 1 → at occupancy' (slot_of (slice_index keys a) slots) ≢ Nothing
-  some a l e = by (same_or_not (slot_of (slice_index keys a) slots) (slot_of (slice_index keys i) slots)) (below_or_at a i l)
+  some a l e = by (cases_eq (slot_of (slice_index keys a) slots) (slot_of (slice_index keys i) slots)) (below_or_at a i l)
     where
       by : (slot_of (slice_index keys a) slots ≡ slot_of (slice_index keys i) slots)
           ⊎ (slot_of (slice_index keys a) slots ≢ slot_of (slice_index keys i) slots) → (a < i) ⊎ (a ≡ i) → ⊥
@@ -64,7 +53,7 @@ module _ (keys : List ℕ) (slots : ℕ) (occupancy occupancy' : List Occupancy)
 
   many : (a b : ℕ) → a < b → b < i + 1 → slot_of (slice_index keys a) slots ≡ slot_of (slice_index keys b) slots
       → at occupancy' (slot_of (slice_index keys b) slots) ≢ One
-  many a b m l q e = by (same_or_not (slot_of (slice_index keys b) slots) (slot_of (slice_index keys i) slots)) (below_or_at b i l)
+  many a b m l q e = by (cases_eq (slot_of (slice_index keys b) slots) (slot_of (slice_index keys i) slots)) (below_or_at b i l)
     where
       held : slot_of (slice_index keys b) slots ≡ slot_of (slice_index keys i) slots
           → at occupancy (slot_of (slice_index keys i) slots) ≢ Nothing
@@ -97,7 +86,7 @@ pub fell_beyond : (keys : List ℕ) (slots : ℕ) (occupancy : List Occupancy) (
     → s ≡ slot_of (slice_index keys i) slots → slots ≤ s → Fell keys slots occupancy (i + 1)
 fell_beyond keys slots occupancy i s f e l =
     let level = f.level in
-    let m = past occupancy s (omega arith) in
+    let m = get_or_past occupancy s More (omega arith) in
     more keys slots occupancy occupancy i f f.level
     (subst (λ x. at occupancy x ≡ and_one (at occupancy x)) e (m ∙ sym (ap and_one m)))
     (λ t n. refl)

@@ -1,7 +1,7 @@
 -- What is told of each key, one after the other. Told says it of the first keys: it holds of none
 -- (told_none) and with one key more (told_more), so that after the last it is what is promised of
 -- the list (all_told).
-use Rattle.std.proofs.Common.{◌≡◌, ◌∙◌, sym, ap, subst, ℕ, zero, suc, ◌+◌, ◌<◌, ◌⊎◌, inl, inr, List, [], ◌∷◌, ◌++◌, length, get_or, Bool, true, false, refl, arith, length-append}
+use Rattle.std.proofs.Common.{◌≡◌, ◌∙◌, sym, ap, subst, ℕ, ◌+◌, ◌<◌, ◌⊎◌, inl, inr, List, [], ◌∷◌, ◌++◌, length, get_or, Bool, true, false, refl, arith, length-append}
 use Rattle.std.proofs.lemmas.List.{get_or_at, get_or_append_left}
 use Rattle.equal_keys.specs.Once.{IsOnce, AreSeenOnce}
 use Rattle.equal_keys.proofs.Keyed.{below_or_at}

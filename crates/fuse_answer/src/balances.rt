@@ -15,6 +15,7 @@ use stack_table::Table;
 use std::alloc::Allocator;
 
 /// Adds what an answer gives and takes to the balances, in which node n has the place n - 1.
+#[inline(always)]
 pub(crate) fn add_moves<A: Allocator>(
     table: &Table<A>,
     answer: &Answer<'_, A>,
@@ -40,6 +41,7 @@ pub(crate) fn add_moves<A: Allocator>(
 }
 
 // Adds what the rows of a READDIRPLUS give.
+#[inline(always)]
 fn add_rows<A: Allocator>(rows: &Listing<'_, A>, balances: &mut [i128])
     requires in_order { rows.now.from ≤ rows.now.until }
     requires there { rows.now.until ≤ 2 + length rows.now.children.now }
@@ -52,6 +54,7 @@ fn add_rows<A: Allocator>(rows: &Listing<'_, A>, balances: &mut [i128])
 }
 
 // Adds what a row gives: a lookup of its node. The first two, which are `.` and `..`, give nothing.
+#[inline(always)]
 fn add_row<A: Allocator>(rows: &Listing<'_, A>, index: usize, balances: &mut [i128])
     requires until { index < rows.now.until }
     requires there { rows.now.until ≤ 2 + length rows.now.children.now }
@@ -66,6 +69,7 @@ fn add_row<A: Allocator>(rows: &Listing<'_, A>, index: usize, balances: &mut [i1
 }
 
 // Takes back what is forgotten of a node, where the number is in use.
+#[inline(always)]
 fn take_back<A: Allocator>(table: &Table<A>, forget: Forget, balances: &mut [i128])
     requires { AreWithin (2 ^ 124) balances.old }
     ensures { IsMoved (taken_back table.now (forget ∷ [])) balances.old balances.new }
@@ -76,6 +80,7 @@ fn take_back<A: Allocator>(table: &Table<A>, forget: Forget, balances: &mut [i12
 }
 
 // Takes back all that is forgotten.
+#[inline(always)]
 fn take_all_back<A: Allocator>(table: &Table<A>, items: Forgets<'_>, balances: &mut [i128])
     requires { AreWithin (2 ^ 123) balances.old }
     ensures { IsMoved (taken_back table.now (items_of items.entry)) balances.old balances.new }

@@ -16,6 +16,7 @@ use stack_table::Table;
 use std::alloc::Allocator;
 
 /// What is decided about a request.
+#[inline(always)]
 pub(crate) fn decide<'a, A: Allocator>(
     table: &'a Table<A>,
     session: Session,
@@ -31,6 +32,7 @@ pub(crate) fn decide<'a, A: Allocator>(
 }
 
 // A fresh session answers INIT alone.
+#[inline(always)]
 fn begin<'a, A: Allocator>(
     _table: &'a Table<A>,
     agreed: Agreement,
@@ -66,6 +68,7 @@ fn begin<'a, A: Allocator>(
 }
 
 // A session that was begun answers all but INIT.
+#[inline(always)]
 fn go_on<'a, A: Allocator>(
     table: &'a Table<A>,
     agreed: Agreement,

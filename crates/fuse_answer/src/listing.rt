@@ -36,6 +36,7 @@ pub(crate) struct Listing<'a, A: Allocator> {
 
 /// What READDIR is answered, or READDIRPLUS, where rows come with entries: the rows after the first
 /// `offset` ones, as many as fit whole in the size.
+#[inline(always)]
 pub(crate) fn list<'a, A: Allocator>(
     table: &'a Table<A>,
     agreed: Agreement,
@@ -61,6 +62,7 @@ pub(crate) fn list<'a, A: Allocator>(
 
 // The rows after the first `offset` ones that fit in the size; none where the number is no
 // directory.
+#[inline(always)]
 fn listed<'a, A: Allocator>(
     table: &'a Table<A>,
     number: u64,
@@ -87,6 +89,7 @@ fn listed<'a, A: Allocator>(
 }
 
 // Whether there is a row, and not even one fits.
+#[inline(always)]
 fn is_too_small<A: Allocator>(rows: &Listing<'_, A>) -> bool
     ensures { result ≡ is_cut_short rows.now }
 {
@@ -94,6 +97,7 @@ fn is_too_small<A: Allocator>(rows: &Listing<'_, A>) -> bool
 }
 
 // How many rows a directory has.
+#[inline(always)]
 fn count<A: Allocator>(children: &[Row<A>]) -> usize
     ensures { result ≡ 2 + length children.now }
 {
@@ -101,6 +105,7 @@ fn count<A: Allocator>(children: &[Row<A>]) -> usize
 }
 
 // The index of the first row after `offset` ones, or after all.
+#[inline(always)]
 fn start<A: Allocator>(offset: u64, children: &[Row<A>]) -> usize
     ensures { result ≡ min offset (2 + length children.now) }
 {
@@ -113,6 +118,7 @@ fn start<A: Allocator>(offset: u64, children: &[Row<A>]) -> usize
 }
 
 // The length of the name of the row with this index.
+#[inline(always)]
 fn name_length<A: Allocator>(children: &[Row<A>], index: usize) -> usize
     requires { index < 2 + length children.now }
     ensures { result ≡ slice_index (name_lengths children.now) index }
@@ -128,6 +134,7 @@ fn name_length<A: Allocator>(children: &[Row<A>], index: usize) -> usize
 }
 
 // The bytes of a row whose name has so many, if there is room for them.
+#[inline(always)]
 fn row_size(with_entries: bool, name_length: usize, room: usize) -> Option<usize>
     requires { room ≤ MAX_DATA_SIZE }
     ensures { RowSize with_entries name_length room result }
@@ -141,6 +148,7 @@ fn row_size(with_entries: bool, name_length: usize, room: usize) -> Option<usize
 }
 
 // Up to which index the rows from another one on fit in a size, and how many bytes they take.
+#[inline(always)]
 fn fit<A: Allocator>(
     children: &[Row<A>],
     with_entries: bool,

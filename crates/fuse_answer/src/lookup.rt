@@ -17,6 +17,7 @@ use std::alloc::Allocator;
 /// What LOOKUP is answered. In a session with `FUSE_EXPORT_SUPPORT` the name `.` finds the node
 /// itself, of any kind, and `..` the directory above. Lastingly, that a name finds nothing is no
 /// error.
+#[inline(always)]
 pub(crate) fn look_up<'a, A: Allocator>(
     table: &'a Table<A>,
     agreed: Agreement,
@@ -43,6 +44,7 @@ pub(crate) fn look_up<'a, A: Allocator>(
 }
 
 // Whether a name finds the node itself.
+#[inline(always)]
 fn is_itself(export: bool, name: &[u8]) -> bool
     ensures { result ≡ is_itself export name.now }
 {
@@ -50,6 +52,7 @@ fn is_itself(export: bool, name: &[u8]) -> bool
 }
 
 // Whether a name finds the directory above.
+#[inline(always)]
 fn is_parent(export: bool, name: &[u8]) -> bool
     ensures { result ≡ is_parent export name.now }
 {
@@ -57,6 +60,7 @@ fn is_parent(export: bool, name: &[u8]) -> bool
 }
 
 // The number that a name finds below a directory.
+#[inline(always)]
 fn found<A: Allocator>(table: &Table<A>, export: bool, number: u64, name: &[u8]) -> Option<u64>
     ensures { FindsBelow table.now export number name.now result }
 {
@@ -68,6 +72,7 @@ fn found<A: Allocator>(table: &Table<A>, export: bool, number: u64, name: &[u8])
 }
 
 // The entry of a node.
+#[inline(always)]
 fn entry<'a, A: Allocator>(table: &'a Table<A>, number: u64) -> Result<Answer<'a, A>, Errno>
     ensures { TellsEntry table.now number result }
 {

@@ -16,6 +16,7 @@ use stack_table::Table;
 use std::alloc::Allocator;
 
 /// What GETATTR is answered.
+#[inline(always)]
 pub(crate) fn get_attr<'a, A: Allocator>(
     table: &'a Table<A>,
     agreed: Agreement,
@@ -30,6 +31,7 @@ pub(crate) fn get_attr<'a, A: Allocator>(
 }
 
 /// What READLINK is answered.
+#[inline(always)]
 pub(crate) fn read_link<'a, A: Allocator>(
     table: &'a Table<A>,
     agreed: Agreement,
@@ -45,6 +47,7 @@ pub(crate) fn read_link<'a, A: Allocator>(
 
 /// What OPEN is answered: the access mode is the lowest two bits of the flags. A client that need
 /// not ask is told so last.
+#[inline(always)]
 pub(crate) fn open_file<'a, A: Allocator>(
     table: &'a Table<A>,
     agreed: Agreement,
@@ -63,6 +66,7 @@ pub(crate) fn open_file<'a, A: Allocator>(
 }
 
 /// What OPENDIR is answered. A client that need not ask is told so last.
+#[inline(always)]
 pub(crate) fn open_directory<'a, A: Allocator>(
     table: &'a Table<A>,
     agreed: Agreement,
@@ -78,6 +82,7 @@ pub(crate) fn open_directory<'a, A: Allocator>(
 }
 
 // The flags of a directory that is opened.
+#[inline(always)]
 fn opendir_flags(lasting: bool) -> u32
     ensures { result ≡ opendir_flags lasting }
 {
@@ -90,6 +95,7 @@ fn opendir_flags(lasting: bool) -> u32
 
 /// What READ is answered: the bytes from the offset on, at most as many as the size, up to the
 /// file's end.
+#[inline(always)]
 pub(crate) fn read<'a, A: Allocator>(
     table: &'a Table<A>,
     agreed: Agreement,
@@ -109,6 +115,7 @@ pub(crate) fn read<'a, A: Allocator>(
 }
 
 // The bytes from the offset on, at most as many as the size.
+#[inline(always)]
 fn part(bytes: &[u8], offset: u64, size: u32) -> &[u8]
     ensures { result.now ≡ take size (drop offset bytes.now) }
 {
@@ -124,6 +131,7 @@ fn part(bytes: &[u8], offset: u64, size: u32) -> &[u8]
 }
 
 // A table's attributes as a reply has them.
+#[inline(always)]
 pub(crate) fn wired(attr: stack_table::NodeAttr) -> Attr
     ensures { result ≡ wired attr }
 {
@@ -138,6 +146,7 @@ pub(crate) fn wired(attr: stack_table::NodeAttr) -> Attr
 }
 
 // The kind of a node.
+#[inline(always)]
 pub(crate) fn kind_of<A: Allocator>(table: &Table<A>, number: u64) -> Result<Kind, Errno>
     ensures { TellsKind table.now number result }
 {

@@ -43,7 +43,36 @@ pub fn answer<A: Allocator, O: Allocator>(
 ///
 /// `AllocError` comes only where the vector had no room for the reply and got none; it and the
 /// balances are then as before.
+#[inline(always)]
 pub fn answer_and_move<A: Allocator, O: Allocator>(
+    table: &Table<A>,
+    session: Session,
+    request: &Request<'_>,
+    out: &mut Vec<u8, O>,
+    balances: &mut [i128],
+) -> Result<(), AllocError>
+    requires { AreWithin (2 ^ 123) balances.old }
+    ensures reply { PutsReply table.now session (asked_of request.now) result out.old out.new }
+    ensures moves { AddsMoves table.now session (asked_of request.now) result
+        balances.old balances.new }
+{
+    match request.op {
+        Op::Lookup { .. } => settle(table, session, request, out, balances),
+        Op::Getattr => settle(table, session, request, out, balances),
+        Op::Open { .. } => settle(table, session, request, out, balances),
+        Op::Read { .. } => settle(table, session, request, out, balances),
+        Op::Flush => settle(table, session, request, out, balances),
+        Op::Release => settle(table, session, request, out, balances),
+        Op::Forget { .. } => settle(table, session, request, out, balances),
+        Op::Readdirplus { .. } => settle(table, session, request, out, balances),
+        _ => settle(table, session, request, out, balances),
+    }
+}
+
+// The same. It is laid out anew at each call: for the requests that are asked most there is code of
+// their own, in which nothing is left of what other requests are answered.
+#[inline(always)]
+fn settle<A: Allocator, O: Allocator>(
     table: &Table<A>,
     session: Session,
     request: &Request<'_>,
@@ -64,6 +93,7 @@ pub fn answer_and_move<A: Allocator, O: Allocator>(
 }
 
 // Appends the reply to a request on which this was decided.
+#[inline(always)]
 fn tell<A: Allocator, O: Allocator>(
     table: &Table<A>,
     session: Session,
@@ -84,6 +114,7 @@ fn tell<A: Allocator, O: Allocator>(
 }
 
 // Whether a request has no reply, whatever is decided.
+#[inline(always)]
 fn is_silent(op: &Op<'_>) -> bool
     ensures { result ≡ is_silent (op_said op.now) }
 {

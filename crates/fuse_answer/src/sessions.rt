@@ -13,34 +13,29 @@ use reply_model::{Agreement, Session};
 pub fn after(session: Session, request: &Request<'_>) -> Session
     ensures { result ≡ session_after session (op_said request.now.op) }
 {
-    match (session, request.op) {
-        (
-            Session::Fresh,
-            Op::Init {
-                major,
-                minor,
-                flags,
-                ..
+    match request.op {
+        Op::Init {
+            major,
+            minor,
+            flags,
+            ..
+        } if is_spoken(major, minor) => match session {
+            Session::Fresh => Session::Ready {
+                export: has_export(flags),
             },
-        ) if is_spoken(major, minor) => Session::Ready {
-            export: has_export(flags),
-        },
-        (
-            Session::LastingFresh,
-            Op::Init {
-                major,
-                minor,
-                flags,
-                ..
+            Session::LastingFresh => Session::LastingReady {
+                export: has_export(flags),
+                no_open: has_no_open(flags),
+                no_opendir: has_no_opendir(flags),
             },
-        ) if is_spoken(major, minor) => Session::LastingReady {
-            export: has_export(flags),
-            no_open: has_no_open(flags),
-            no_opendir: has_no_opendir(flags),
+            session => session,
         },
-        (Session::Ready { .. }, Op::Destroy) => Session::Fresh,
-        (Session::LastingReady { .. }, Op::Destroy) => Session::LastingFresh,
-        (session, _) => session,
+        Op::Destroy => match session {
+            Session::Ready { .. } => Session::Fresh,
+            Session::LastingReady { .. } => Session::LastingFresh,
+            session => session,
+        },
+        _ => session,
     }
 }
 

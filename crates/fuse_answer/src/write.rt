@@ -13,6 +13,7 @@ use stack_table::Table;
 use std::alloc::{AllocError, Allocator};
 
 /// Appends the reply with an answer.
+#[inline(always)]
 pub(crate) fn write<A: Allocator, O: Allocator>(
     table: &Table<A>,
     unique: u64,
@@ -24,7 +25,10 @@ pub(crate) fn write<A: Allocator, O: Allocator>(
 {
     match answer {
         Answer::Done | Answer::Forgotten { .. } | Answer::AllForgotten(_) => put_head(out, unique),
-        Answer::Terms(init) => put_init(out, unique, init),
+        Answer::Terms(init) => {
+            let terms = *init;
+            put_init(out, unique, &terms)
+        }
         Answer::Entry(attr) => put_entry(out, unique, attr),
         Answer::NoEntry => put_negative_entry(out, unique),
         Answer::Attributes(attr) => put_attr(out, unique, attr),

@@ -2,7 +2,7 @@
 -- the loops that make them. What they end with is in the order of names (forests, white_forest),
 -- and what a name has there comes of the member or marker of that name (find_built, find_white).
 use Rattle.std.proofs.Common.{◌≡◌, ◌≢◌, ◌∙◌, sym, ap, subst, ℕ, zero, suc, ◌+◌, ◌-◌, ◌<◌, ◌≤◌, inl, inr, List, [], ◌∷◌, ◌++◌, append_assoc, length, length-append, get_or, drop, refl, arith, add-one, Option, Some, None, true, false}
-use Rattle.std.specs.Prelude.{slice_get}
+use Rattle.std.specs.Prelude.{slice_get, option_to_list}
 use Rattle.std.specs.List.{AllByRecursion}
 use Rattle.std.specs.declared.cmp.Ordering.TheVariants.{Less}
 use Rattle.std.proofs.Math.Seq.{drop-cons}
@@ -20,7 +20,7 @@ use Rattle.path_tree.proofs.Spread.{through}
 use Rattle.shown_tree.specs.declared.place.Entry.{Entry}
 use Rattle.shown_tree.specs.declared.place.Mark.{Mark}
 use Rattle.layer_tree.specs.declared.members.Named.{Named}
-use Rattle.layer_tree.specs.Reading.{IsBefore, NamedRise, IsNamedMember, IsAtDepth, AreMembersAt, IsBranchOf, RemovesFrom, IsBranchAlone, AreBranchesOf, AreBuilt, none_built, hidden, alone, built, AreWhiteouts, none_white, other, white}
+use Rattle.layer_tree.specs.Reading.{IsBefore, NamedRise, IsNamedMember, IsAtDepth, AreMembersAt, IsBranchOf, RemovesFrom, IsBranchAlone, AreBranchesOf, IsMadeOf, AreBuilt, none_built, hidden, alone, built, AreWhiteouts, none_white, other, white}
 use Rattle.layer_tree.proofs.Layered.{leads_on}
 use Rattle.layer_tree.proofs.Stepping.{leaf_rises}
 
@@ -85,6 +85,14 @@ module _ (a : List ℕ) (layer : ℕ) (all : List Named) (i : ℕ) (es : List (S
         (simp append_assoc (w.more (e ∷ es'') (k ∷ ks'')
         (rw (next all i l) (built (at_index all i) (drop (i + 1) all) e es'' k ks'' n b c))));
   }
+
+  -- a member and what is made of it are one more built
+  pub build_made : (e : Subtree Entry) (o : Option (Subtree Mark)) (es' : List (Subtree Entry)) (ks' : List (Subtree Mark))
+      → ¬ IsMarker (at_index all i).name.now
+      → IsMadeOf a layer (at_index all i).head.offset (at_index all i).name.now (e, o) → es' ≡ es ++ e ∷ []
+      → ks' ≡ ks ++ option_to_list o → Building a layer all (drop (i + 1) all) es' ks'
+  build_made e None es' ks' n m p q = rw (q, append-nil) (build_alone e es' n m p)
+  build_made e (Some k) es' ks' n m p q = build_one e k es' ks' n m p q
 
 -- past the last member all are built
 pub building_ended : (a : List ℕ) (layer : ℕ) (all : List Named) (i : ℕ) (es : List (Subtree Entry)) (ks : List (Subtree Mark))

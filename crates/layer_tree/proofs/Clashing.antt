@@ -227,6 +227,11 @@ not_there : (o : Option Entry) → option_map mark_of o ≡ None → o ≡ None
 not_there None e = refl
 not_there (Some x) e = absurd (cc)
 
+-- laid on anything, an entry is what is there
+pub upper_wins : (o : Option Entry) (x : Entry) → laid_at upper o (Some x) ≡ Some x
+upper_wins None x = refl
+upper_wins (Some y) x = refl
+
 -- the upper tree's marks, and then those of the paths at which it has a file over something, leave
 -- of the lower one what the upper one does not remove, as far as it does not cover it itself
 module _ (el eh one two eo : Path → Option Entry) (mh hidden : Path → Option Mark)
@@ -237,12 +242,8 @@ module _ (el eh one two eo : Path → Option Entry) (mh hidden : Path → Option
   Goal path = eo path ≡ laid_at upper (unless (removed_by mh eh path) (el path)) (eh path)
 
   high : (path : Path) (x : Entry) → eh path ≡ Some x → Goal path
-  high path x e = over path ∙ ap (laid_at upper (two path)) e ∙ top (two path)
-      ∙ sym (ap (laid_at upper (unless (removed_by mh eh path) (el path))) e ∙ top (unless (removed_by mh eh path) (el path)))
-    where
-      top : (o : Option Entry) → laid_at upper o (Some x) ≡ Some x
-      top None = refl
-      top (Some y) = refl
+  high path x e = over path ∙ ap (laid_at upper (two path)) e ∙ upper_wins (two path) x
+      ∙ sym (ap (laid_at upper (unless (removed_by mh eh path) (el path))) e ∙ upper_wins (unless (removed_by mh eh path) (el path)) x)
 
   low : (path : Path) → eh path ≡ None → (a b d : Bool) → cut_by mh path ≡ a → cut_by hidden path ≡ b → covered_by eh path ≡ d
       → two path ≡ unless (a || d) (el path)
@@ -277,11 +278,8 @@ module _ (el eh eo : Path → Option Entry) (ml mh replaced mo : Path → Option
     (all : (q : Path) → cut_by mo q ≡ (cut_by ml q || (cut_by replaced q || cut_by mh q))) (c : Clash (λ q. option_map mark_of (el q))
     (λ q. option_map mark_of (eh q)) replaced) where
   upper_stays : (q : Path) (x : Entry) → eh q ≡ Some x → eo q ≡ Some x
-  upper_stays q x e = over q ∙ ap (laid_at upper (unless (removed_by mh eh q) (el q))) e ∙ top (unless (removed_by mh eh q) (el q))
-    where
-      top : (o : Option Entry) → laid_at upper o (Some x) ≡ Some x
-      top None = refl
-      top (Some y) = refl
+  upper_stays q x e = over q ∙ ap (laid_at upper (unless (removed_by mh eh q) (el q))) e
+      ∙ upper_wins (unless (removed_by mh eh q) (el q)) x
 
   lower_stays : (q : Path) (b : Bool) → eh q ≡ None → removed_by mh eh q ≡ b → eo q ≡ unless b (el q)
   lower_stays q b e r = over q ∙ ap (laid_at upper (unless (removed_by mh eh q) (el q))) e ∙ ap (λ x. unless x (el q)) r

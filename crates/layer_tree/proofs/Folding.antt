@@ -205,11 +205,7 @@ module _ (a : List ℕ) (i : IsImage a) (layer h : ℕ) (ms : List Named) (es : 
     in_turn : (w x y z k : Bool) → k ≡ false → ((w || (x || y)) || ((k || false) || z)) ≡ (w || ((x || z) || y))
     in_turn true x y z k e = refl
     in_turn false true y z k e = refl
-    in_turn false false true z false e = or_comm_true z
-      where
-        or_comm_true : (z : Bool) → true ≡ (z || true)
-        or_comm_true true = refl
-        or_comm_true false = refl
+    in_turn false false true z false e = sym (or_right z true refl)
     in_turn false false false true false e = refl
     in_turn false false false false false e = refl
     in_turn false false y z true e = absurd (cc)

@@ -16,7 +16,7 @@ use Rattle.shown_tree.specs.Trees.{TreeRows, entry_at, removes, cuts_at, IsEntry
 use Rattle.layer_tree.specs.Laying.{unless, IsKept, AreRootClashes, Lays}
 use Rattle.shown_tree.specs.Marks.{upper, united}
 use Rattle.layer_tree.proofs.Plain.{plain_is}
-use Rattle.layer_tree.proofs.Clashing.{what_is_left, what_both_remove}
+use Rattle.layer_tree.proofs.Clashing.{upper_wins, what_is_left, what_both_remove}
 
 or_four : (a b c d : Bool) → ((a || b) || (c || d)) ≡ ((a || c) || (b || d))
 or_four true b c d = refl
@@ -118,17 +118,13 @@ module _ (first : ℕ) (ls hs : List (List ℕ)) (low high out : TreeRows) (l : 
         from_low path i k w.0 t.0.0 t.1 w.1 w.2)
   ]
     where
-      over : (o : Option Entry) (e : Entry) → laid_at upper o (Some e) ≡ Some e
-      over None e = refl
-      over (Some x) e = refl
-
       from_high : (path : Path) (i j k : ℕ) (e : Entry) → i ≡ length ls + j → entry_at high path ≡ Some e
           → IsEntryOf (first + length ls) hs j k e
           → IsSomeAnd (entry_at out path) (λ e. IsEntryOf first (ls ++ hs) i k e)
       from_high path i j k e d f w =
           let g : entry_at out path ≡ Some e = lays.entries path
           ∙ ap (laid_at upper (unless (removes high path) (entry_at low path))) f
-          ∙ over (unless (removes high path) (entry_at low path)) e in
+          ∙ upper_wins (unless (removes high path) (entry_at low path)) e in
           and_some (IsEntryOf first (ls ++ hs) i k) (entry_at out path) e g (entry_high i j k e d w)
 
       from_low : (path : Path) (i k : ℕ) (e : Entry) → IsPlain path → IsFree hs path
@@ -146,7 +142,8 @@ module _ (first : ℕ) (ls hs : List (List ℕ)) (low high out : TreeRows) (l : 
       → entry_at low path ≡ p → removes high path ≡ b → laid_at upper (unless b p) o ≡ Some e
       → (i k : ℕ) × Shows (ls ++ hs) path i k × IsEntryOf first (ls ++ hs) i k e
   decided path e (Some x) p b f g c r =
-      let same : x ≡ e = over (unless b p) r in
+      let both : Some x ≡ Some e = sym (upper_wins (unless b p) x) ∙ r in
+      let same : x ≡ e = cc in
       let w = h.only path x f in (
         length ls + w.0,
         w.1,
@@ -155,10 +152,6 @@ module _ (first : ℕ) (ls hs : List (List ℕ)) (low high out : TreeRows) (l : 
             (λ y. IsEntryOf first (ls ++ hs) (length ls + w.0) w.1 y) same
             (entry_high (length ls + w.0) w.0 w.1 x refl w.3),
       )
-    where
-      over : (q : Option Entry) → laid_at upper q (Some x) ≡ Some e → x ≡ e
-      over None r = cc
-      over (Some y) r = cc
   decided path e None p true f g c r = absurd (cc)
   decided path e None p false f g c r =
       let w = l.only path e (g ∙ r) in

@@ -2,7 +2,7 @@
 -- branch and mark are the layer's tree. cuts_is says what a layer cuts by going down from the root,
 -- name by name, as branches are made; removed_cut and cut_removed are its two ways.
 use Rattle.std.proofs.Common.{◌≡◌, ◌≢◌, ◌∙◌, sym, ap, subst, ℕ, ◌⊎◌, ◌↔◌, inl, inr, List, [], ◌∷◌, ◌++◌, refl, arith, Option, Some, None, Bool, true, false, IsTrue, IsSomeAnd, ◌&&◌}
-use Rattle.std.proofs.lemmas.Bool.{or_left}
+use Rattle.std.proofs.lemmas.Bool.{and_parts, or_left}
 use Rattle.romfs_format.specs.declared.head.Kind.TheVariants.{Directory}
 use Rattle.romfs_format.specs.Fields.{root, kind, name}
 use Rattle.romfs_format.specs.Chains.{IsOpened, at_root, below, IsMember, Leads}
@@ -150,7 +150,7 @@ module _ (a : List ℕ) (i : IsImage a) where
 
     is_cut : (path : Path) → IsTrue (is_plain path && removed_by (at_path (whole k)) (at_path (whole e)) path) ↔ IsCut (a ∷ []) path
     is_cut path = (
-      λ t. (let p = both (is_plain path) (removed_by (at_path (whole k)) (at_path (whole e)) path) t in
+      λ t. (let p = and_parts (is_plain path) (removed_by (at_path (whole k)) (at_path (whole e)) path) t in
           let plain = (plain_is path).0 p.0 in
           inl ((cuts_is path).1 (plain, root_cuts path ((m path plain).0 p.1)))),
       λ c. elim c [
@@ -158,10 +158,6 @@ module _ (a : List ℕ) (i : IsImage a) where
         | inr x ↦ absurd x
       ],
     )
-      where
-        both : (p q : Bool) → (p && q) ≡ true → (p ≡ true) × (q ≡ true)
-        both true q t = (refl, t)
-        both false q t = absurd (cc)
 
     -- the root's entry is a directory
     pub root_stays : e.value.kind ≡ Directory

@@ -2,6 +2,7 @@
 -- Keeping the loop over branches and their marks, Keeps what it makes of each, and are_kept what
 -- that is for all. all_cut, alone and inside say what a mark leaves of one branch.
 use Rattle.std.proofs.Common.{◌≡◌, ◌≢◌, ◌∙◌, sym, ap, subst, ℕ, ◌+◌, ◌*◌, ◌<◌, ◌≤◌, inl, inr, List, [], ◌∷◌, ◌++◌, length, refl, arith, append_assoc, Option, Some, None, Bool, true, false}
+use Rattle.std.specs.Prelude.{option_to_list}
 use Rattle.std.proofs.lemmas.List.{append-nil}
 use Rattle.std.proofs.lemmas.Cmp.{nat_list_cmp_total}
 use Rattle.std.specs.declared.cmp.Ordering.TheVariants.{Less, Equal, Greater}
@@ -15,7 +16,7 @@ use Rattle.std.proofs.lemmas.Map.Lookups.{exact_bytes}
 use Rattle.stack_model.specs.Stack.{Path}
 use Rattle.shown_tree.specs.declared.place.Mark.{Mark}
 use Rattle.shown_tree.specs.Marks.{cut_by}
-use Rattle.layer_tree.specs.Laying.{unless, AreKept, IsLeftOut, IsKept, IsFrom}
+use Rattle.layer_tree.specs.Laying.{unless, AreKept, IsLeft, IsLeftOut, IsKept, IsFrom}
 use Rattle.shown_tree.proofs.Cutting.{nothing_cut, cut_same, cut_through, by_name}
 
 -- some branches were passed over, all with names before this one
@@ -196,9 +197,21 @@ module _ {T : Type 0} (lows ls out : List (Subtree T)) (marks rest rest' : List 
         → Keeping lows ls (out ++ b ∷ []) marks rest'
     kept_one m b n c = on (out ++ b ∷ []) (λ more k. rw append_assoc (inv.kept (b ∷ more) (Kept l b ls more m (sym at_mark ∙ n) c k)))
 
-    -- there is less to go through below one of the branches than in all of them
-    pub below_measure : 3 * length l.below + 2 < 3 * length (spread lows)
-    below_measure = omega (arith, grown l ls, inv.smaller)
+    -- what a mark leaves of a branch, if anything, is kept
+    pub kept_or_not : (m : Subtree Mark) (o : Option (Subtree T)) → named l.name rest' ≡ Some m → IsLeft l m o
+        → Keeping lows ls (out ++ option_to_list o) marks rest'
+    kept_or_not m None n k = rw append-nil (left_out m n k)
+    kept_or_not m (Some b) n k = kept_one m b n k
+
+-- the children of the first branch are fewer than all that is left
+pub below_measure : {T : Type 0} (ls ls' : List (Subtree T)) (l : Subtree T) → ls ≡ l ∷ ls'
+    → 3 * length l.below + 3 < 3 * length (spread ls) + 1
+below_measure ls ls' l e = rw e (omega (arith, grown l ls'))
+
+-- and all that is left is no more than all
+pub left_measure : {T : Type 0} (lows ls out : List (Subtree T)) (marks rest : List (Subtree Mark))
+    → Keeping lows ls out marks rest → 3 * length (spread ls) + 1 < 3 * length (spread lows) + 2
+left_measure lows ls out marks rest inv = omega (arith, inv.smaller)
 
 -- with no branch to go, what is left is what marks leave of all
 pub keeping_ended : {T : Type 0} (lows ls out : List (Subtree T)) (marks rest : List (Subtree Mark))

@@ -1,7 +1,7 @@
 -- A tree laid on a tree: the upper one leaves out entries of the lower one, its entries cover what
 -- is left, and the marks are united, with marks for what the upper one's directories cover of the
 -- lower one's files.
-use Rattle.std.specs.Prelude.{◌≡◌, ◌≢◌, ℕ, ◌⊎◌, List, [], ◌∷◌, ◌++◌, Bool, true, false, not, ◌||◌, Option, Some, None, MatchOption, if◌then◌else◌}
+use Rattle.std.specs.Prelude.{◌≡◌, ◌≢◌, ℕ, ◌⊎◌, List, [], ◌∷◌, ◌++◌, Bool, true, false, not, ◌||◌, Option, Some, None, MatchOption, option_to_list, if◌then◌else◌}
 use Rattle.path_tree.specs.Rows.{Subtree, name_cmp, named, NamesRise, spread, whole, at_path, IsRising, IsForest, PathsRise}
 use Rattle.std.specs.declared.cmp.Ordering.TheVariants.{Less}
 use Rattle.path_tree.specs.Laying.{laid_at, IsLaid}
@@ -40,6 +40,23 @@ pub record IsKept {T : Type 0} (low : Subtree T) (mark : Subtree Mark) (out : Su
 -- what marks leave of a branch; none where they cut all of it
 abbrev pub IsLeft : {T : Type 0} → Subtree T → Subtree Mark → Option (Subtree T) → Type 0
 IsLeft low mark out = MatchOption out (IsLeftOut mark) (λ b. IsKept low mark b)
+
+-- the first branch has gone from one list, and what a mark leaves of it to the end of another one
+pub record KeepsFirst {T : Type 0} (mark : Subtree Mark) (lows lows' kept kept' : List (Subtree T))
+    : Type 0 where
+  pub low : Subtree T
+  pub left : Option (Subtree T)
+  pub first : lows ≡ low ∷ lows'
+  pub is : IsLeft low mark left
+  pub added : kept' ≡ kept ++ option_to_list left
+
+-- these branches are what a mark leaves below a branch that has the others as its children
+pub record AreChildrenLeft {T : Type 0} (mark : Subtree Mark) (lows out : List (Subtree T))
+    : Type 0 where
+  pub forest : IsForest out
+  pub kept : (n : List ℕ) (v : T)
+      → IsKept (record { name = n; value = v; below = spread lows }) mark
+      (record { name = n; value = v; below = spread out })
 
 -- the tree is high laid on low
 pub record Lays (low high out : TreeRows) : Type 0 where

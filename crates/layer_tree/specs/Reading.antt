@@ -1,5 +1,5 @@
 -- One layer read as a tree: what stands at and below a header, and what is cut there.
-use Rattle.std.specs.Prelude.{◌≡◌, ◌≢◌, ℕ, ◌+◌, ◌⊎◌, ◌↔◌, List, [], ◌∷◌, ◌++◌, length, true, false, Option, Some, None, MatchOption, IsSomeAnd, IsTrue, slice_get, codes}
+use Rattle.std.specs.Prelude.{◌≡◌, ◌≢◌, ℕ, ◌+◌, ◌⊎◌, ◌↔◌, List, [], ◌∷◌, ◌++◌, length, true, false, Option, Some, None, MatchOption, option_to_list, IsSomeAnd, IsTrue, slice_get, codes}
 use Rattle.std.specs.List.{AllByRecursion}
 use Rattle.std.specs.declared.cmp.Ordering.TheVariants.{Less}
 use Rattle.romfs_format.specs.declared.head.Kind.TheVariants.{Directory}
@@ -104,6 +104,16 @@ AreMadeOf a layer h n made = AreBranchesOf a layer h n made.0 made.1
 abbrev pub IsMadeOf : List ℕ → ℕ → ℕ → List ℕ → (Subtree Entry × Option (Subtree Mark)) → Type 0
 IsMadeOf a layer h n made =
     MatchOption made.1 (IsBranchAlone a layer h n made.0) (λ k. AreBranchesOf a layer h n made.0 k)
+
+-- what is made of the header h under the name n has come to the end of branches of entries and of
+-- marks
+pub record AddsMade (a : List ℕ) (layer h : ℕ) (n : List ℕ) (es : List (Subtree Entry))
+    (ks : List (Subtree Mark)) (es' : List (Subtree Entry)) (ks' : List (Subtree Mark))
+    : Type 0 where
+  pub made : Subtree Entry × Option (Subtree Mark)
+  pub is : IsMadeOf a layer h n made
+  pub entries : es' ≡ es ++ made.0 ∷ []
+  pub marks : ks' ≡ ks ++ option_to_list made.1
 
 -- the mark cuts nothing, and has nothing below
 pub record IsBlank (k : Subtree Mark) : Type 0 where

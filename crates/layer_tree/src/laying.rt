@@ -5,19 +5,20 @@
 //! for each file of the lower tree on which the upper one lays a directory (`clashes`), since what
 //! that file cuts is cut by the run of both.
 
-ghost use Rattle.std.specs.Prelude.{◌≡◌, ◌+◌, ◌++◌, ℕ, List, length, IfOk, false};
+ghost use Rattle.std.specs.Prelude.{◌≡◌, ◌<◌, ◌+◌, ◌++◌, ℕ, List, length, IfOk, OnOk, false};
 ghost use Rattle.path_tree.specs.Rows.{NamesRise, IsForest, IsFirstNamed};
 ghost use Rattle.shown_tree.specs.Trees.{IsTreeOf};
-ghost use Rattle.layer_tree.specs.Laying.{AreKept, AreUnited, CoverTheKept, IsKept, IsLeft, IsFrom, Lays};
+ghost use Rattle.layer_tree.specs.Laying.{AreKept, AreChildrenLeft, AreUnited, CoverTheKept, IsKept, KeepsFirst, IsFrom, Lays};
 
 use crate::clashes::clashes_both_ways;
-use path_tree::{Branch, cover};
+use path_tree::{Branch, add_last, cover, pass_first, take_first};
 use shown_tree::{Child, Mark, Tree};
 use std::alloc::{AllocError, Allocator};
 use std::cmp::Ordering;
 use std::collections::VecDeque;
 
 /// What is left of branches from a name on, and the first of it if it has the name.
+#[inline(never)]
 pub(crate) fn seek<'a, T: Copy + Drop, A: Allocator>(
     branches: &'a [Branch<T, A>],
     name: &[u8],
@@ -55,39 +56,59 @@ fn kept_below<T: Copy + Drop, A: Allocator + Copy>(
     let mut kept = Vec::with_capacity(alloc, lows.len())?;
     let mut lows = VecDeque::from(lows);
     let mut rest = marks;
-    while let Some(low) = lows.pop_front() {
+    while let Some(low) = lows.front() {
         let (ahead, found) = seek(rest, low.name());
         rest = ahead;
         match found {
-            None => kept.push(low)?,
-            Some(mark) => {
-                if let Some(low) = kept_of(alloc, low, mark)? {
-                    kept.push(low)?;
-                }
-            }
+            None => pass_first(&mut lows, &mut kept)?,
+            Some(mark) => keep_first(alloc, &mut lows, mark, &mut kept)?,
         }
     }
     Ok(kept)
 }
 
-/// What a mark and those below it leave of a branch; none where the mark cuts the branch itself.
+/// Takes the first branch from a directory; what a mark and those below it leave of it is added to
+/// `kept`, and nothing where the mark cuts the branch itself.
 #[cycle(keeping)]
-fn kept_of<T: Copy + Drop, A: Allocator + Copy>(
+fn keep_first<T: Copy + Drop, A: Allocator + Copy>(
     alloc: A,
-    low: Branch<T, A>,
+    lows: &mut VecDeque<Branch<T, A>, A>,
     mark: &Branch<Mark, A>,
-) -> Result<Option<Branch<T, A>>, AllocError>
-    ensures { IfOk result (IsLeft low mark.now) }
+    kept: &mut Vec<Branch<T, A>, A>,
+) -> Result<(), AllocError>
+    requires { 0 < length lows.old.items }
+    ensures { OnOk result (KeepsFirst mark.now
+        lows.old.items lows.new.items kept.old.items kept.new.items) }
 {
+    let (name, entry, children) = take_first(lows);
     if mark.value().cut {
-        drop(low);
-        return Ok(None);
+        return Ok(());
     }
-    Ok(Some(kept_inside(alloc, low, mark)?))
+    let left = children_left(alloc, children, mark)?;
+    add_last(kept, name, entry, left)?;
+    Ok(())
+}
+
+/// What a mark that does not cut a branch itself, and those below it, leave of the branch's
+/// children.
+#[cycle(keeping)]
+fn children_left<T: Copy + Drop, A: Allocator + Copy>(
+    alloc: A,
+    children: Vec<Branch<T, A>, A>,
+    mark: &Branch<Mark, A>,
+) -> Result<Vec<Branch<T, A>, A>, AllocError>
+    requires children { IsForest children.items }
+    requires uncut { mark.now.value.cut ≡ false }
+    ensures { IfOk result (λ left. AreChildrenLeft mark.now children.items left.items) }
+{
+    if mark.value().opaque {
+        return Ok(Vec::new(alloc));
+    }
+    let left = kept_below(alloc, children, mark.children())?;
+    Ok(left)
 }
 
 /// What a mark that does not cut a branch itself, and those below it, leave of the branch.
-#[cycle(keeping)]
 fn kept_inside<T: Copy + Drop, A: Allocator + Copy>(
     alloc: A,
     low: Branch<T, A>,
@@ -97,11 +118,8 @@ fn kept_inside<T: Copy + Drop, A: Allocator + Copy>(
     ensures { IfOk result (λ kept. IsKept low mark.now kept) }
 {
     let (name, entry, children) = low.into_parts();
-    if mark.value().opaque {
-        return Ok(Branch::new(name, entry, Vec::new(alloc)));
-    }
-    let children = kept_below(alloc, children, mark.children())?;
-    Ok(Branch::new(name, entry, children))
+    let left = children_left(alloc, children, mark)?;
+    Ok(Branch::new(name, entry, left))
 }
 
 /// What two marks leave of the lower entries, covered by the upper ones.

@@ -30,6 +30,7 @@ pub(crate) struct Named<'a> {
 }
 
 /// The members of a directory in the order of their names. It reads each header once, and sorts.
+#[inline(never)]
 pub(crate) fn sorted_members<'a, A: Allocator + Copy>(
     alloc: A,
     image: &'a Image<A>,

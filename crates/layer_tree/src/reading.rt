@@ -8,12 +8,12 @@
 //! It takes n log n steps in the members of the layer and the hard links that they lead to: ends of
 //! hard links that were found are kept while the tree is made.
 
-ghost use Rattle.std.specs.Prelude.{◌≡◌, ◌≢◌, [], ◌∷◌, ◌↔◌, IfOk, IsTrue, MatchOption, is_some};
+ghost use Rattle.std.specs.Prelude.{◌≡◌, ◌≢◌, [], ◌∷◌, ◌↔◌, IfOk, OnOk, IsTrue, MatchOption, is_some};
 ghost use Rattle.romfs_reader.specs.Images.{IsImage};
 ghost use Rattle.romfs_reader.specs.Readers.{IsGiven};
 ghost use Rattle.shown_tree.specs.Trees.{IsTreeOf};
 ghost use Rattle.path_tree.specs.Rows.{NamesRise, named};
-ghost use Rattle.layer_tree.specs.Reading.{IsAtDepth, IsBranchAlone, AreByName, AreMadeOf, IsMadeOf, IsBlank, AreBuilt, AreWhiteouts, AreMembersAt, rest_of_opaque};
+ghost use Rattle.layer_tree.specs.Reading.{IsAtDepth, IsBranchAlone, AddsMade, AreByName, AreMadeOf, IsBlank, AreBuilt, AreWhiteouts, AreMembersAt, rest_of_opaque};
 
 use crate::ahead::NamesAhead;
 use crate::members::{Named, sorted_members, whiteout_of};
@@ -84,10 +84,10 @@ impl<A: Allocator + Copy> OfLayer for Tree<A> {
     }
 }
 
-/// What stands at a header and below it, and what is cut there, under a name; no mark where none is
-/// needed. A path to the header has `left` names less than [`MAX_NAMES`].
+/// Adds what stands at a header and below it, under a name, and what is cut there, if anything is.
+/// A path to the header has `left` names less than [`MAX_NAMES`].
 #[cycle(reading)]
-fn branches_of<A: Allocator + Copy>(
+fn add_branches<A: Allocator + Copy>(
     alloc: A,
     image: &Image<A>,
     ends: &mut Ends<'_, A>,
@@ -95,25 +95,27 @@ fn branches_of<A: Allocator + Copy>(
     name: &[u8],
     head: &Head,
     left: u16,
-) -> Result<(Child<A>, Option<Branch<Mark, A>>), AllocError>
+    to: &mut Branches<A>,
+) -> Result<(), AllocError>
     requires sound { IsImage image.now }
     requires ends { ends.old ≡ image.now }
     requires given { IsGiven image.now head.now }
     requires depth { IsAtDepth image.now head.now.offset left }
-    ensures made { IfOk result (IsMadeOf image.now layer head.now.offset name.now) }
+    ensures made { OnOk result (AddsMade image.now layer head.now.offset name.now
+        to.old.entries.items to.old.marks.items to.new.entries.items to.new.marks.items) }
     ensures ends { ends.new ≡ image.now }
 {
     match head.kind {
         Kind::Directory => {
-            let (entry, mark) = directory(alloc, image, ends, layer, name, head, left)?;
-            Ok((entry, needed(mark)))
+            let members = sorted_members(alloc, image, head)?;
+            let below = branches_below(alloc, image, ends, layer, &members, left)?;
+            add_folder(alloc, image, layer, name, head, &members, below, to)
         }
-        _ => Ok((file(alloc, image, ends, layer, name, head)?, None)),
+        _ => add_file(alloc, image, ends, layer, name, head, to),
     }
 }
 
 /// A directory and its mark.
-#[cycle(reading)]
 fn directory<A: Allocator + Copy>(
     alloc: A,
     image: &Image<A>,
@@ -167,15 +169,17 @@ fn branches_below<A: Allocator + Copy>(
         (λ made. AreBuilt image.now layer members.now made.entries.items made.marks.items) }
     ensures ends { ends.new ≡ image.now }
 {
-    let mut entries = Vec::with_capacity(alloc, members.len())?;
-    let mut marks = Vec::new(alloc);
+    let mut made = Branches {
+        entries: Vec::with_capacity(alloc, members.len())?,
+        marks: Vec::new(alloc),
+    };
     let mut ahead = NamesAhead::new();
     for member in members {
         ahead.pass(members);
         if is_marker(member.name) {
             continue;
         }
-        let (entry, mark) = branches_of(
+        add_branches(
             alloc,
             image,
             ends,
@@ -183,13 +187,10 @@ fn branches_below<A: Allocator + Copy>(
             member.name,
             &member.head,
             left - 1,
+            &mut made,
         )?;
-        entries.push(entry)?;
-        if let Some(mark) = mark {
-            marks.push(mark)?;
-        }
     }
-    Ok(Branches { entries, marks })
+    Ok(made)
 }
 
 /// The entry of a header whose hard links end at `end`: the kind and the place of that.
@@ -230,6 +231,30 @@ fn file<A: Allocator + Copy>(
     Ok(leaf(alloc, own_name, entry))
 }
 
+/// The same, added to others.
+#[inline(never)]
+fn add_file<A: Allocator + Copy>(
+    alloc: A,
+    image: &Image<A>,
+    ends: &mut Ends<'_, A>,
+    layer: u16,
+    name: &[u8],
+    head: &Head,
+    to: &mut Branches<A>,
+) -> Result<(), AllocError>
+    requires sound { IsImage image.now }
+    requires ends { ends.old ≡ image.now }
+    requires given { IsGiven image.now head.now }
+    requires other { head.now.kind ≢ Kind.Directory }
+    ensures made { OnOk result (AddsMade image.now layer head.now.offset name.now
+        to.old.entries.items to.old.marks.items to.new.entries.items to.new.marks.items) }
+    ensures ends { ends.new ≡ image.now }
+{
+    let entry = file(alloc, image, ends, layer, name, head)?;
+    to.entries.push(entry)?;
+    Ok(())
+}
+
 /// A directory, and its mark, over the branches of its members.
 fn folder<A: Allocator + Copy>(
     alloc: A,
@@ -256,6 +281,34 @@ fn folder<A: Allocator + Copy>(
     let entries = Branch::new(entry_name, entry, below.entries);
     let marks = Branch::new(mark_name, Mark { cut: false, opaque }, marks);
     Ok((entries, marks))
+}
+
+/// The same, added to others.
+#[inline(never)]
+fn add_folder<A: Allocator + Copy>(
+    alloc: A,
+    image: &Image<A>,
+    layer: u16,
+    name: &[u8],
+    head: &Head,
+    members: &[Named<'_>],
+    below: Branches<A>,
+    to: &mut Branches<A>,
+) -> Result<(), AllocError>
+    requires sound { IsImage image.now }
+    requires given { IsGiven image.now head.now }
+    requires directory { head.now.kind ≡ Kind.Directory }
+    requires members { AreByName image.now head.now.offset members.now }
+    requires below { AreBuilt image.now layer members.now below.entries.items below.marks.items }
+    ensures { OnOk result (AddsMade image.now layer head.now.offset name.now
+        to.old.entries.items to.old.marks.items to.new.entries.items to.new.marks.items) }
+{
+    let (entry, mark) = folder(alloc, image, layer, name, head, members, below)?;
+    to.entries.push(entry)?;
+    if let Some(mark) = needed(mark) {
+        to.marks.push(mark)?;
+    }
+    Ok(())
 }
 
 /// Whether one of the markers is that of the whole directory.

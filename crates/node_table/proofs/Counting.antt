@@ -8,7 +8,7 @@ use Rattle.std.proofs.lemmas.Bool.{cases_order, eqb-true, eq-eqb, and_parts}
 use Rattle.std.proofs.lemmas.List.{get_or_append_left, get_or_push, length-map, length_push, map_push}
 use Rattle.std.proofs.lemmas.List.Elements.{All-push}
 use Rattle.std.proofs.lemmas.List.Recursion.{is_count_by}
-use Rattle.std.proofs.lemmas.List.Sums.{fold-append}
+use Rattle.std.proofs.lemmas.List.Sums.{fold-append, sum_by-append}
 use Rattle.std.proofs.lemmas.Option.{slice_get_within, slice_get_read, get_or_from_slice_get}
 use Rattle.equal_keys.proofs.Keyed.{below_or_at}
 use Rattle.stack_model.specs.Listing.{Entry as Listed, IsAmong}
@@ -128,25 +128,18 @@ count t (x ∷ xs) = cond (t x) (1 + count t xs) (count t xs)
 pub counted : {X : Type 0} (t : X → Bool) (xs : List X) → count t xs ≡ count_by t xs
 counted t xs = is_count_by (count t) t refl (λ x xs. refl) xs
 
-count_last : {X : Type 0} (t : X → Bool) (xs : List X) (x : X) → count t (xs ++ x ∷ []) ≡ count t xs + cond (t x) 1 0
-count_last t [] x = go (t x)
-  where
-    go : (b : Bool) → cond b (1 + 0) 0 ≡ 0 + cond b 1 0
-    go true = refl
-    go false = refl
-count_last t (y ∷ xs) x = go (t y) (count_last t xs x)
-  where
-    go : (b : Bool) → count t (xs ++ x ∷ []) ≡ count t xs + cond (t x) 1 0 → cond b (1 + count t (xs ++ x ∷ [])) (count t (xs ++ x ∷ []))
-        ≡ cond b (1 + count t xs) (count t xs) + cond (t x) 1 0
-    go true i = omega arith
-    go false i = i
+-- of two lists as many pass as of both
+pub count_append : {X : Type 0} (t : X → Bool) (xs ys : List X) → count t (xs ++ ys) ≡ count t xs + count t ys
+count_append t xs ys =
+    counted t (xs ++ ys) ∙ sum_by-append (λ x. cond (t x) 1 0) xs ys
+    ∙ sym (ap (λ n. n + count t ys) (counted t xs) ∙ ap (λ n. count_by t xs + n) (counted t ys))
 
 -- how many entries have a place
 paths_last : (es : List Listed) (e : Listed) (p : ModelPlace) → paths_of (es ++ e ∷ []) p ≡ paths_of es p
     + cond (same_place p (place e)) 1 0
 paths_last es e p =
     let t = (λ (f : Listed). same_place p (place f)) in
-    sym (counted t (es ++ e ∷ [])) ∙ count_last t es e ∙ ap (λ n. n + cond (same_place p (place e)) 1 0) (counted t es)
+    sym (counted t (es ++ e ∷ [])) ∙ count_append t es (e ∷ []) ∙ ap (λ n. n + cond (same_place p (place e)) 1 0) (counted t es)
 
 -- a place that has no number is no entry's
 pub not_among : (es : List Listed) (p : ModelPlace) → number_of es p ≡ None → (e : Listed) → IsAmong e es → same_place p (place e) ≡ false

@@ -1,31 +1,22 @@
 -- How many rows stand below a path, and so how large a branch is. A located branch has all rows
 -- that begin with its path, and no others (rows_below): so two branches at one place agree in value
 -- and in size, and a branch ends within the rows.
-use Rattle.std.proofs.Common.{◌≡◌, ◌∙◌, sym, ap, ℕ, ◌+◌, ◌≤◌, [], ◌∷◌, ◌++◌, length, refl, arith, length-append, Bool, true, false, Some, cond}
+use Rattle.std.proofs.Common.{◌≡◌, ◌∙◌, sym, ap, ℕ, ◌+◌, ◌≤◌, [], ◌∷◌, ◌++◌, length, refl, arith, length-append, true, Some}
 use Rattle.std.specs.Prelude.{slice_get}
 use Rattle.std.proofs.lemmas.List.{append-nil}
 use Rattle.stack_model.specs.Stack.{Path}
 use Rattle.path_tree.specs.Rows.{Subtree, Rows, whole}
 use Rattle.shown_tree.specs.declared.place.Entry.{Entry}
 use Rattle.node_table.specs.Walks.{under, extends, IsApart, IsLocated}
+use Rattle.node_table.proofs.Counting.{count, count_append}
 use Rattle.node_table.proofs.Paths.{same_itself, length_under}
 use Rattle.node_table.proofs.Seeded.{row_at}
 
 -- how many rows begin with a path
-abbrev count : Path → Rows Entry → ℕ
-count top [] = 0
-count top (x ∷ xs) = cond (extends top x.0) (1 + count top xs) (count top xs)
+abbrev count_below : Path → Rows Entry → ℕ
+count_below top xs = count (λ (x : Path × Entry). extends top x.0) xs
 
-count_append : (top : Path) (xs ys : Rows Entry) → count top (xs ++ ys) ≡ count top xs + count top ys
-count_append top [] ys = omega arith
-count_append top (x ∷ xs) ys = go (extends top x.0) (count_append top xs ys)
-  where
-    go : (b : Bool) → count top (xs ++ ys) ≡ count top xs + count top ys → cond b (1 + count top (xs ++ ys)) (count top (xs ++ ys))
-        ≡ cond b (1 + count top xs) (count top xs) + count top ys
-    go true e = omega arith
-    go false e = e
-
-count_apart : (top : Path) (xs : Rows Entry) → IsApart top xs → count top xs ≡ 0
+count_apart : (top : Path) (xs : Rows Entry) → IsApart top xs → count_below top xs ≡ 0
 count_apart top [] a = refl
 count_apart top (x ∷ xs) a = rw a.0 (count_apart top xs a.1)
 
@@ -33,15 +24,16 @@ extends_on : (top q : Path) → extends top (top ++ q) ≡ true
 extends_on [] q = refl
 extends_on (n ∷ top) q = rw (same_itself n) (extends_on top q)
 
-count_under : (top : Path) (xs : Rows Entry) → count top (under top xs) ≡ length xs
+count_under : (top : Path) (xs : Rows Entry) → count_below top (under top xs) ≡ length xs
 count_under top [] = refl
 count_under top (x ∷ xs) = rw (extends_on top x.0) (let e = count_under top xs in omega arith)
 
 rows_below : (rows : Rows Entry) (j : ℕ) (s : Subtree Entry) (above : Entry) (l : IsLocated rows j s above)
-    → count l.top rows ≡ length (whole s)
+    → count_below l.top rows ≡ length (whole s)
 rows_below rows j s above l =
-    ap (count l.top) l.is ∙ count_append l.top (l.before ++ under l.top (whole s)) l.after
-    ∙ ap (λ n. n + count l.top l.after) (count_append l.top l.before (under l.top (whole s)))
+    let t = (λ (x : Path × Entry). extends l.top x.0) in
+    ap (count t) l.is ∙ count_append t (l.before ++ under l.top (whole s)) l.after
+    ∙ ap (λ n. n + count t l.after) (count_append t l.before (under l.top (whole s)))
     ∙ sums _ _ _ (count_apart l.top l.before l.apart_before) (count_under l.top (whole s)) (count_apart l.top l.after l.apart_after)
   where
     sums : (a b c : ℕ) → a ≡ 0 → b ≡ length (whole s) → c ≡ 0 → a + b + c ≡ length (whole s)
@@ -65,7 +57,7 @@ module _ (rows : Rows Entry) (j : ℕ) (s s' : Subtree Entry) (above above' : En
   same_size =
       let top = sym (append-nil l.top) ∙ ap (λ (r : Path × Entry). r.0) (rows_are (l.top ++ [], s.value) (l'.top ++ [], s'.value) refl refl)
       ∙ append-nil l'.top in
-      sym (rows_below rows j s above l) ∙ ap (λ t. count t rows) top ∙ rows_below rows j s' above' l'
+      sym (rows_below rows j s above l) ∙ ap (λ t. count_below t rows) top ∙ rows_below rows j s' above' l'
 
 -- a branch ends within the rows
 pub ends_within : (rows : Rows Entry) (j : ℕ) (s : Subtree Entry) (above : Entry) → IsLocated rows j s above → j + length (whole s)

@@ -143,12 +143,16 @@ module _ {T : Type 0} (f : T → T → T) (ls0 hs0 ls hs out : List (Subtree T))
     smaller = omega (arith, grown l ls, grown h hs, inv.smaller);
   }
 
-  -- what is below two first branches measures less than both directories
-  pub below_measure : 2 * (length l.below + length h.below) + 1 < 2 * (length (spread ls0) + length (spread hs0))
-  below_measure = omega (arith, grown l ls, grown h hs, inv.smaller)
+-- the children of first branches are fewer than all that is left
+pub below_measure : {T : Type 0} (ls ls' hs hs' : List (Subtree T)) (l h : Subtree T) → ls ≡ l ∷ ls' → hs ≡ h ∷ hs'
+    → 2 * (length l.below + length h.below) + 1 < 2 * (length (spread ls) + length (spread hs))
+below_measure ls ls' hs hs' l h e d = rw (e, d) (omega (arith, grown l ls', grown h hs'))
 
--- one side alone is left
 module _ {T : Type 0} (f : T → T → T) (ls0 hs0 ls hs out : List (Subtree T)) (inv : Merging f ls0 hs0 ls hs out) where
+  -- all that is left is no more than all
+  pub left_measure : 2 * (length (spread ls) + length (spread hs)) < 2 * (length (spread ls0) + length (spread hs0)) + 1
+  left_measure = omega (arith, inv.smaller)
+
   -- where no upper branches are left, the lower ones that are left complete the result
   pub lows_left : hs ≡ [] → Merges f ls0 hs0 ((out ++ ls) ++ hs)
   lows_left e = rw (e, append-nil) (inv.merged ls (rw e (Lows_left ls)))
@@ -161,6 +165,11 @@ module _ {T : Type 0} (f : T → T → T) (ls0 hs0 ls hs out : List (Subtree T))
 pub shown : {X : Type 0} (xs : List X) (x : Bor X) → IsItemAt xs 0 (Some x) → xs ≡ x.now ∷ drop 1 xs
 shown [] x e = absurd (let n = e.0 in cc)
 shown (y ∷ ys) x e = let n : x.now ≡ y = e.1 in cc
+
+-- where one is shown, the queue is not empty
+pub some_shown : {X : Type 0} (xs : List X) (x : Bor X) → IsItemAt xs 0 (Some x) → 0 < length xs
+some_shown [] x e = absurd (let n = e.0 in cc)
+some_shown (y ∷ ys) x e = omega arith
 
 -- a queue that shows nothing at its front is empty
 pub nothing_shown : {X : Type 0} (xs : List X) → IsItemAt xs 0 None → xs ≡ []

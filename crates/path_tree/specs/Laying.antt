@@ -1,5 +1,5 @@
 -- One tree laid on another: at each path the values of both.
-use Rattle.std.specs.Prelude.{◌≡◌, ℕ, List, ◌∷◌, Option, Some, None}
+use Rattle.std.specs.Prelude.{◌≡◌, ℕ, List, [], ◌∷◌, ◌++◌, Option, Some, None}
 use Rattle.path_tree.specs.Rows.{Subtree, spread, whole, at_path, IsRising, IsForest}
 
 -- what is at a path where one tree lies on another: f of both values where both have one, else that
@@ -21,3 +21,21 @@ pub record AreLaid {T : Type 0} (f : T → T → T) (lows highs out : List (Subt
   pub forest : IsForest out
   pub at : (n : List ℕ) (path : List (List ℕ)) → at_path (spread out) (n ∷ path)
       ≡ laid_at f (at_path (spread lows) (n ∷ path)) (at_path (spread highs) (n ∷ path))
+
+-- the first branch has gone from one list to the end of another one
+pub record Passes {T : Type 0} (from from' to to' : List (Subtree T)) : Type 0 where
+  pub first : Subtree T
+  pub left : from ≡ first ∷ from'
+  pub added : to' ≡ to ++ first ∷ []
+
+-- the first branches have gone from two lists, and the high one laid on the low one to the end of
+-- a third
+pub record CoversFirst {T : Type 0} (f : T → T → T)
+    (lows lows' highs highs' out out' : List (Subtree T)) : Type 0 where
+  pub low : Subtree T
+  pub high : Subtree T
+  pub both : Subtree T
+  pub low_left : lows ≡ low ∷ lows'
+  pub high_left : highs ≡ high ∷ highs'
+  pub laid : IsLaid f low high both
+  pub added : out' ≡ out ++ both ∷ []

@@ -1,10 +1,11 @@
 //! Trees laid one on another.
 
-ghost use Rattle.std.specs.Prelude.{◌≡◌, IfOk};
-ghost use Rattle.path_tree.specs.Rows.{name_cmp, IsRising, IsForest};
-ghost use Rattle.path_tree.specs.Laying.{IsLaid, AreLaid};
+ghost use Rattle.std.specs.Prelude.{◌≡◌, ◌<◌, ◌++◌, length, IfOk, OnOk};
+ghost use Rattle.path_tree.specs.Rows.{name_cmp, IsForest};
+ghost use Rattle.path_tree.specs.Laying.{IsLaid, AreLaid, CoversFirst};
 
 use crate::branch::Branch;
+use crate::moving::{add_last, pass_first, take_first};
 use std::alloc::{AllocError, Allocator};
 use std::cmp::Ordering;
 use std::collections::VecDeque;
@@ -22,7 +23,6 @@ pub trait Lay: Copy + Drop {
 /// one alone has a value, that one. The name is that of the upper tree.
 ///
 /// Directories of both are merged child by child; what one alone has is moved and not looked into.
-#[cycle(laying)]
 pub fn cover<T: Lay, A: Allocator + Copy>(
     alloc: A,
     low: Branch<T, A>,
@@ -65,16 +65,45 @@ pub fn merge<T: Lay, A: Allocator + Copy>(
     let mut highs = VecDeque::from(highs);
     while let (Some(low), Some(high)) = (lows.front(), highs.front()) {
         match order(low, high) {
-            Ordering::Less => out.push(lows.pop_front().unwrap())?,
-            Ordering::Greater => out.push(highs.pop_front().unwrap())?,
-            Ordering::Equal => {
-                let (low, high) = (lows.pop_front().unwrap(), highs.pop_front().unwrap());
-                out.push(cover(alloc, low, high)?)?;
-            }
+            Ordering::Less => pass_first(&mut lows, &mut out)?,
+            Ordering::Greater => pass_first(&mut highs, &mut out)?,
+            Ordering::Equal => cover_first(alloc, &mut lows, &mut highs, &mut out)?,
         }
     }
-    // one of the two is empty here
-    out.append(&mut Vec::from(lows))?;
-    out.append(&mut Vec::from(highs))?;
+    // one of the two is empty now
+    append(&mut out, lows)?;
+    append(&mut out, highs)?;
     Ok(out)
+}
+
+/// The first branches of two directories, one laid on the other, are added to `out`.
+#[cycle(laying)]
+fn cover_first<T: Lay, A: Allocator + Copy>(
+    alloc: A,
+    lows: &mut VecDeque<Branch<T, A>, A>,
+    highs: &mut VecDeque<Branch<T, A>, A>,
+    out: &mut Vec<Branch<T, A>, A>,
+) -> Result<(), AllocError>
+    requires low { 0 < length lows.old.items }
+    requires high { 0 < length highs.old.items }
+    ensures { OnOk result (CoversFirst T.laid
+        lows.old.items lows.new.items highs.old.items highs.new.items out.old.items out.new.items) }
+{
+    let (_, below, low) = take_first(lows);
+    let (name, above, high) = take_first(highs);
+    let children = merge(alloc, low, high)?;
+    add_last(out, name, T::lay(below, above), children)?;
+    Ok(())
+}
+
+/// Adds all that is left of branches.
+#[inline(never)]
+fn append<T: Copy + Drop, A: Allocator>(
+    out: &mut Vec<Branch<T, A>, A>,
+    left: VecDeque<Branch<T, A>, A>,
+) -> Result<(), AllocError>
+    ensures { OnOk result (out.new.items ≡ out.old.items ++ left.items) }
+{
+    out.append(&mut Vec::from(left))?;
+    Ok(())
 }

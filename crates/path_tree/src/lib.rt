@@ -10,8 +10,10 @@
 
 mod branch;
 mod laying;
+mod moving;
 mod name;
 
 pub use branch::{Branch, child};
 pub use laying::{Lay, cover, merge};
+pub use moving::{add_last, pass_first, take_first};
 pub use name::Name;

@@ -1,11 +1,10 @@
 -- The members of a directory: what is left of its chain when some headers are passed over. The test
 -- `passes_over` says what the definition says (`passed`, `passes`), so what it keeps are the
 -- members, and all of them (`are_members`), and the image gives them (`are_given`).
-use Rattle.std.proofs.Common.{◌≡◌, sym, ap, subst, ℕ, zero, suc, ◌⊎◌, inl, inr, Bool, List, [], ◌∷◌, not, Option, Some, None, true, false, arith, refl, All, Contains, codes, ◌||◌, ◌&&◌, ◌==◌}
+use Rattle.std.proofs.Common.{◌≡◌, sym, ap, subst, ℕ, zero, suc, ◌⊎◌, inl, inr, Bool, List, [], ◌∷◌, not, Option, Some, None, true, false, arith, refl, All, Contains, codes}
 use Rattle.std.specs.Prelude.{slice_get}
 use Rattle.std.specs.Option.{option_map_or}
-use Rattle.std.proofs.lemmas.Bool.{eqb-true}
-use Rattle.std.proofs.lemmas.Bool.Decides.{nat_tests}
+use Rattle.std.proofs.lemmas.Bool.{and_from, and_parts, eq-eqb, eqb-true, false_from_ne_true, or_cases, or_left, or_right}
 use Rattle.std.proofs.lemmas.List.Elements.{All-cons}
 use Rattle.std.proofs.lemmas.Slice.Eq.{bytes_eq-Decides}
 use Rattle.romfs_format.specs.declared.head.Head.{Head}
@@ -19,19 +18,11 @@ use Rattle.romfs_reader.proofs.Keeps.{good}
 keeps : List ℕ → ℕ → ℕ → Bool
 keeps a d h = not (passes_over a d h)
 
-either : (p q : Bool) → (p || q) ≡ true → (p ≡ true) ⊎ (q ≡ true)
-either true q e = inl refl
-either false q e = inr e
-
-both : (p q : Bool) → (p && q) ≡ true → (p ≡ true) × (q ≡ true)
-both true q e = (refl, e)
-both false q e = absurd (cc)
-
 is_dot : (o : Option (List ℕ))
     → option_map_or is_dot_name o false ≡ true
     → (o ≡ Some (codes ".")) ⊎ (o ≡ Some (codes ".."))
 is_dot None e = absurd (cc)
-is_dot (Some n) e = elim (either _ _ e) [
+is_dot (Some n) e = elim (or_cases _ _ e) [
   | inl p ↦ inl (ap Some ((bytes_eq-Decides n (codes ".")).0 p))
   | inr p ↦ inr (ap Some ((bytes_eq-Decides n (codes "..")).0 p))
 ]
@@ -41,30 +32,17 @@ at_dots : (o : Option (List ℕ)) → (o ≡ Some (codes ".")) ⊎ (o ≡ Some (
 at_dots o (inl e) = rw e refl
 at_dots o (inr e) = rw e refl
 
-or_left : (p q : Bool) → p ≡ true → (p || q) ≡ true
-or_left p q e = rw e refl
-
-or_right : (p q : Bool) → q ≡ true → (p || q) ≡ true
-or_right true q e = refl
-or_right false q e = e
-
-and_both : (p q : Bool) → p ≡ true → q ≡ true → (p && q) ≡ true
-and_both p q e f = rw (e, f) refl
-
-eqb-refl : (m n : ℕ) → m ≡ n → (m == n) ≡ true
-eqb-refl m n e = grind (arith, nat_tests)
-
 module _ (a : List ℕ) (d h : ℕ) (inside : IsInside a h) where
   -- a header that the test passes over is one to be passed over
   pub passed : passes_over a d h ≡ true → IsPassedOver a d h
-  passed e = elim (either _ _ e) [
-    | inl p ↦ (let q = both _ _ p in inl (eqb-true _ _ q.0, eqb-true _ _ q.1))
+  passed e = elim (or_cases _ _ e) [
+    | inl p ↦ (let q = and_parts _ _ p in inl (eqb-true _ _ q.0, eqb-true _ _ q.1))
     | inr p ↦ inr (inside, is_dot (name a h) p)
   ]
 
   -- a header that is to be passed over is passed over by the test
   pub passes : IsPassedOver a d h → passes_over a d h ≡ true
-  passes (inl x) = or_left _ _ (and_both _ _ (eqb-refl d (root a) x.0) (eqb-refl h (root a) x.1))
+  passes (inl x) = or_left _ _ (and_from _ _ (eq-eqb d (root a) x.0) (eq-eqb h (root a) x.1))
   passes (inr x) = or_right _ _ (at_dots (name a h) x.1)
 
   -- a header that the test keeps is not to be passed over
@@ -96,11 +74,6 @@ module _ (a : List ℕ) (d : ℕ) where
       test c true q = rw q c
       test c false q = rw q (suc c.0, (let l = c.1 in omega arith), c.2)
 
--- a truth value that is not true is false
-pub not_passed : (b : Bool) → (b ≡ true → ⊥) → b ≡ false
-not_passed true n = absurd (n refl)
-not_passed false n = refl
-
 module _ (a : List ℕ) (d : ℕ) (hs : List ℕ) (i : IsImage a) (o : IsOpened a d) (l : IsListed a d hs) where
   inside : (n h : ℕ) → IsAt a d n h → IsInside a h
   inside n h x = (good a i d o).inside n h x
@@ -118,7 +91,7 @@ module _ (a : List ℕ) (d : ℕ) (hs : List ℕ) (i : IsImage a) (o : IsOpened 
     listed = (hs, l, refl);
     members = kept_all a d (λ head. IsMember a d head.offset) hs member;
     whole = λ h m. (let c = m.in_chain in kept_has a d hs c.0 h ((l.each c.0 h).1 c.1)
-        (not_passed _ (λ e. m.kept (passed a d h (inside c.0 h c.1) e))));
+        (false_from_ne_true _ (λ e. m.kept (passed a d h (inside c.0 h c.1) e))));
   }
 
   -- the image gives each header that is kept

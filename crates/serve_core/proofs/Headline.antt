@@ -10,7 +10,7 @@ use Rattle.stack_model.specs.Numbers.{nodes}
 use Rattle.reply_model.specs.declared.session.Session.{Session}
 use Rattle.reply_pool.specs.Answers.{answering}
 use Rattle.serve_loop.specs.declared.done.Done.{Done}
-use Rattle.serve_core.specs.Preparing.{AreRefused}
+use Rattle.layer_check.specs.Layers.{AreRefused}
 use Rattle.serve_loop.specs.Serving.{Trace}
 use Rattle.serve_core.specs.Headline.{IsUntouched, IsNotBegun, Serves, HasServedAll, IsRefusedFor}
 use Rattle.serve_loop.proofs.Ends.{served}

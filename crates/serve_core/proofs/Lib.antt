@@ -1,3 +1,2 @@
-pub mod Checked
 pub mod Headline
 pub mod Refusals

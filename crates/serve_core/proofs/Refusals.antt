@@ -11,7 +11,7 @@ use Rattle.romfs_format.specs.Rules.{IsFaultAs, IsSoundAs}
 use Rattle.romfs_format.proofs.Faults.{one_fault, no_fault}
 use Rattle.serve_loop.specs.declared.stop.Stop.{Stop}
 use Rattle.serve_loop.specs.declared.stop.Stop.TheVariants.{Layer, Layers, BadLength, CutOff, Read, Write, Turns, Memory}
-use Rattle.serve_core.specs.Preparing.{IsFew, AreLayers, IsLowestBroken, AreRefused}
+use Rattle.layer_check.specs.Layers.{IsFew, AreLayers, IsLowestBroken, AreRefused}
 
 -- of images that keep the rules up to one that does not, there is one number
 module _ (profile : Profile) (r s : Rule) (p q : ℕ) where

@@ -8,7 +8,8 @@ use Rattle.reply_pool.specs.Answers.{answering}
 use Rattle.serve_loop.specs.declared.stop.Stop.{Stop}
 use Rattle.serve_loop.specs.declared.stop.Stop.TheVariants.{Turns}
 use Rattle.serve_loop.specs.declared.done.Done.{Done}
-use Rattle.serve_core.specs.Preparing.{AreStacked, AreRefused}
+use Rattle.layer_check.specs.Layers.{AreRefused}
+use Rattle.serve_core.specs.Preparing.{AreStacked}
 use Rattle.serve_loop.specs.Serving.{Trace, IsRun}
 use Rattle.serve_loop.specs.Laws.{HasServed}
 

@@ -9,7 +9,7 @@ ghost use Rattle.serve_loop.specs.declared.done.Done.{Done};
 ghost use Rattle.serve_loop.specs.declared.stop.Stop.{Stop};
 ghost use Rattle.serve_loop.specs.declared.stop.Stop.TheVariants.{Layer, Layers, Memory};
 ghost use Rattle.serve_loop.specs.Serving.{Trace};
-ghost use Rattle.serve_core.specs.Preparing.{AreLayers, AreRefused};
+ghost use Rattle.layer_check.specs.Layers.{AreLayers, AreRefused};
 ghost use Rattle.serve_core.specs.Headline.{Serves, HasServedAll, IsRefusedFor};
 
 use std::alloc::Allocator;

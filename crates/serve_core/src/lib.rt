@@ -7,12 +7,12 @@
 //! begins in too, so whether it is served lastingly: whether its client is told that the tree never
 //! changes.
 //!
-//! The loop over the stream is `serve_loop`'s, and what answers its rounds `reply_pool`'s. What
-//! serving promises at each end is said by `IsRun` in `serve_loop`'s `specs/Serving`, and over
-//! images by `Serves` in `specs/Headline`; [`laws`] draw from it what each end means.
+//! The check of images is `layer_check`'s, the loop over the stream `serve_loop`'s, and what
+//! answers its rounds `reply_pool`'s. What serving promises at each end is said by `IsRun` in
+//! `serve_loop`'s `specs/Serving`, and over images by `Serves` in `specs/Headline`; [`laws`] draw
+//! from it what each end means.
 #![tactic(auto)]
 
-mod checking;
 pub mod laws;
 mod preparing;
 mod running;

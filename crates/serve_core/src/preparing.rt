@@ -1,9 +1,10 @@
 //! Images, checked and stacked.
 
 ghost use Rattle.std.specs.Prelude.{IfOk, IfErr};
-ghost use Rattle.serve_core.specs.Preparing.{contents_of, AreStacked, AreRefused};
+ghost use Rattle.layer_check.specs.Layers.{contents_of, AreRefused};
+ghost use Rattle.serve_core.specs.Preparing.{AreStacked};
 
-use crate::checking::check_all;
+use layer_check::check_all;
 use node_table::{OfTree, Table};
 use romfs_format::Profile;
 use serve_loop::Stop;

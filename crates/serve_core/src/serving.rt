@@ -3,7 +3,7 @@
 ghost use Rattle.std.specs.Prelude.{◌≡◌, OnOk};
 ghost use Rattle.std.specs.Io.KnownBytes.{IsAtEnd};
 ghost use Rattle.devices.specs.States.{devices};
-ghost use Rattle.serve_core.specs.Preparing.{contents_of};
+ghost use Rattle.layer_check.specs.Layers.{contents_of};
 ghost use Rattle.serve_loop.specs.Serving.{AreReady, Does};
 ghost use Rattle.serve_core.specs.Headline.{IsAtOnce, Serves};
 

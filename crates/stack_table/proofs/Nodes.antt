@@ -1,10 +1,11 @@
 -- What a table's parts say of the node with a number. A number is held exactly where it is in use
 -- (`here`, `nowhere`), and a directory where the place is one (`found`, `not_found`); the others
 -- say of each reader that what it reads is what the stack says.
-use Rattle.std.proofs.Common.{◌≡◌, ◌∙◌, sym, ap, subst, ℕ, zero, suc, ◌<◌, ◌≤◌, List, [], ◌∷◌, length, map, Bool, true, false, Option, Some, None, Bor, MatchOption, cond, refl, arith}
+use Rattle.std.proofs.Common.{◌≡◌, ◌∙◌, sym, ap, subst, ℕ, zero, suc, ◌<◌, ◌≤◌, inl, inr, List, [], ◌∷◌, length, map, Bool, true, false, Option, Some, None, Bor, MatchOption, cond, refl, arith}
 use Rattle.std.specs.Prelude.{slice_get, slice_range, find, unwrap_or}
 use Rattle.std.specs.List.{slice_index_or}
 use Rattle.std.specs.Option.{option_map, option_map_or, option_and_then}
+use Rattle.std.proofs.lemmas.Option.{slice_get_within, slice_get-get_or, slice_get_past, slice_get_cases, get_or_from_slice_get}
 use Rattle.romfs_reader.specs.Readers.{bytes_at, IsPart}
 use Rattle.stack_model.specs.Listing.{Entry}
 use Rattle.stack_model.specs.Numbers.{Place, Child, nodes, node_of, number_of, number, same_name, children, child}
@@ -16,24 +17,6 @@ use Rattle.stack_table.specs.Stacked.{Stacked}
 use Rattle.stack_table.specs.Rows.{Line, number_named}
 use Rattle.stack_table.specs.Readers.{TellsNode, attr_of, attr_at, parent_of, parent_at, child_of, child_at, rows_of, rows_at, data_of_number}
 use Rattle.stack_table.specs.Held.{held_at, kept_of, directory_held, attr_held, IsHeldDirectory, IsNode, IsTable}
-
--- an element that is there stands below the length
-below : {X : Type 0} (xs : List X) (k : ℕ) (x : X) → slice_get xs k ≡ Some x → k < length xs
-below [] k x e = absurd (cc)
-below (y ∷ xs) zero x e = omega arith
-below (y ∷ xs) (suc k) x e = let l = below xs k x e in omega arith
-
--- and one below the length is there
-there : {X : Type 0} (xs : List X) (k : ℕ) → k < length xs → (x : X) × (slice_get xs k ≡ Some x)
-there [] k l = absurd (omega arith)
-there (x ∷ xs) zero l = (x, refl)
-there (x ∷ xs) (suc k) l = there xs k (omega arith)
-
--- a place that is there is the one that is read
-indexed : {X : Type 0} (xs : List X) (k : ℕ) (x d : X) → slice_get xs k ≡ Some x → slice_index_or xs k d ≡ x
-indexed [] k x d e = absurd (cc)
-indexed (y ∷ xs) zero x d e = cc
-indexed (y ∷ xs) (suc k) x d e = indexed xs k x d e
 
 -- the number of a place that has one
 number_is : (entries : List Entry) (n : ℕ) (p : Place) → node_of entries n ≡ Some p → number entries p ≡ n
@@ -73,22 +56,17 @@ module _ (layers : List (List ℕ)) (entries : List Entry) (held : List Node) (d
   here zero node e = absurd (cc)
   here (suc k) node e =
       let level = t.are.level in
-      let l = below held k node e in
-      let p = there (nodes entries) k (omega arith) in
-      record { at = p.0; is = p.1; holds = t.are.each k node p.0 e p.1 }
+      let l = slice_get_within held k node e in
+      let p = slice_get-get_or (nodes entries) k (0, 0) (omega arith) in
+      record { at = _; is = p; holds = t.are.each k node _ e p }
 
   -- a number that is not held is not in use
   pub nowhere : (n : ℕ) → held_at held n ≡ None → node_of entries n ≡ None
   nowhere zero e = refl
-  nowhere (suc k) e = test (slice_get (nodes entries) k) refl
-    where
-      test : (o : Option Place) → slice_get (nodes entries) k ≡ o → o ≡ None
-      test None f = refl
-      test (Some p) f = absurd (
-          let level = t.are.level in
-          let l = below (nodes entries) k p f in
-          let x = there held k (omega arith) in
-          let z : Some x.0 ≡ None = sym x.1 ∙ e in cc)
+  nowhere (suc k) e = elim (slice_get_cases held k).1 [
+    | inl x ↦ absurd (let z : Some x.0 ≡ None = sym x.2 ∙ e in cc)
+    | inr x ↦ (let level = t.are.level in let past = x.0 in slice_get_past (nodes entries) k (omega arith))
+  ]
 
   -- what a look-up of a number gives tells the node of the stack, or that there is none
   pub node_is : (n : ℕ) (o : Option (Bor Node)) → MatchOption o (held_at held n ≡ None) (λ node. held_at held n ≡ Some node.now)
@@ -220,7 +198,7 @@ module _ (layers : List (List ℕ)) (entries : List Entry) (held : List Node) (d
   data_is n node image e i =
       let h = here n node e in
       let a = h.holds.holds in
-      let same : image ≡ a.image = i ∙ indexed layers node.place.layer a.image image a.is in
+      let same : image ≡ a.image = i ∙ get_or_from_slice_get layers node.place.layer a.image image a.is in
       rw (h.is, same) a.data_is
 
   -- what is not held has no data
@@ -229,11 +207,11 @@ module _ (layers : List (List ℕ)) (entries : List Entry) (held : List Node) (d
 
   -- the layer of a node that is held is one of the layers
   pub image_there : (n : ℕ) (node : Node) → held_at held n ≡ Some node → node.place.layer < length layers
-  image_there n node e = let a = (here n node e).holds.holds in below layers node.place.layer a.image a.is
+  image_there n node e = let a = (here n node e).holds.holds in slice_get_within layers node.place.layer a.image a.is
 
   -- the part of a node lies in its image
   pub part_lies : (n : ℕ) (node : Node) (image : List ℕ) → held_at held n ≡ Some node → image ≡ slice_index_or layers node.place.layer image
       → IsPart image node.part
   part_lies n node image e i =
       let a = (here n node e).holds.holds in
-      rw (i ∙ indexed layers node.place.layer a.image image a.is) a.lies
+      rw (i ∙ get_or_from_slice_get layers node.place.layer a.image image a.is) a.lies

@@ -106,6 +106,7 @@ impl<A: Allocator> Table<A> {
     /// Where the row is guessed it looks at one row, or at few. Else it takes as many steps over
     /// the keys of the directory's rows as their number has binary digits, and where many names
     /// have one key at most as many over these names again.
+    #[inline(always)]
     pub fn child(&self, number: u64, name: &[u8]) -> Option<u64>
         ensures { result ≡ child_at self.now number name.now }
     {
@@ -134,6 +135,7 @@ impl<A: Allocator> Table<A> {
 
     /// The children of a directory in the order of their names, without `.` and `..`; empty where
     /// the number is no directory.
+    #[inline(always)]
     pub fn rows(&self, number: u64) -> &[Row<A>]
         ensures { result.now ≡ rows_at self.now number }
     {
@@ -145,6 +147,7 @@ impl<A: Allocator> Table<A> {
 
     /// The number of the directory above a directory, that of the root being the root's; none where
     /// the number is no directory.
+    #[inline(always)]
     pub fn parent(&self, number: u64) -> Option<u64>
         ensures { result ≡ parent_at self.now number }
     {

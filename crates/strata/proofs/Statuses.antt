@@ -13,7 +13,7 @@ use Rattle.command_line.specs.declared.options.Verb.{Verb}
 use Rattle.command_line.specs.declared.options.Verb.TheVariants as verbs
 use Rattle.command_line.specs.CommandLine.{IsTaken, IsMisnumbered, IsCrossed, IsLineFault}
 use Rattle.reply_model.specs.declared.session.Session.{Session}
-use Rattle.serve_core.specs.Preparing.{AreRefused}
+use Rattle.layer_check.specs.Layers.{AreRefused}
 use Rattle.stack_table.specs.Stacked.{Stacked}
 use Rattle.devices.specs.States.{Devices}
 use Rattle.serve_loop.specs.Serving.{Trace}

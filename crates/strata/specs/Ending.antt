@@ -10,7 +10,8 @@ use Rattle.fuse_wire.specs.declared.limits.TheConstants.{MAX_TURNS}
 use Rattle.stack_table.specs.Stacked.{Stacked}
 use Rattle.serve_loop.specs.declared.stop.Stop.{Stop}
 use Rattle.serve_loop.specs.declared.done.Done.{Done}
-use Rattle.serve_core.specs.Preparing.{AreStacked, AreRefused}
+use Rattle.layer_check.specs.Layers.{AreRefused}
+use Rattle.serve_core.specs.Preparing.{AreStacked}
 use Rattle.serve_loop.specs.Serving.{Trace}
 use Rattle.reply_model.specs.declared.session.Session.{Session}
 use Rattle.reply_model.specs.declared.session.Session.TheVariants.{Fresh, LastingFresh}

@@ -9,7 +9,7 @@ use Rattle.romfs_format.specs.declared.rule.ImageFault.{ImageFault}
 use Rattle.serve_loop.specs.declared.stop.Stop.{Stop}
 use Rattle.serve_loop.specs.declared.stop.Stop.TheVariants.{Layer, Layers, BadLength, CutOff, Read, Write, Turns, Memory}
 use Rattle.serve_loop.specs.declared.done.Done.{Done}
-use Rattle.serve_core.specs.Preparing.{IsFew}
+use Rattle.layer_check.specs.Layers.{IsFew}
 use Rattle.command_line.specs.declared.options.Line.{Line}
 use Rattle.command_line.specs.CommandLine.{IsLineOf}
 use Rattle.strata.specs.declared.faults.Fault.{Fault}

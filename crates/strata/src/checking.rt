@@ -3,7 +3,7 @@
 ghost use Rattle.std.specs.Prelude.{◌≡◌, ◌<◌, ◌^◌, length, string_bytes, OnOk, IfOk, IfErr};
 ghost use Rattle.romfs_format.specs.Fields.{image};
 ghost use Rattle.romfs_format.specs.Rules.{IsSoundAs};
-ghost use Rattle.serve_core.specs.Preparing.{contents_of};
+ghost use Rattle.layer_check.specs.Layers.{contents_of};
 ghost use Rattle.strata.specs.Faults.{AreSizes, IsFirstFault, IsImageFault};
 ghost use Rattle.strata.specs.Texts.{size_lines};
 ghost use Rattle.strata.specs.Ending.{AreGood, AreNotGood};

@@ -2,9 +2,10 @@
 //!
 //! [`command`] is the whole program over its command line and its three standard streams, and
 //! [`command_on_device`] the same over an open `/dev/fuse`. They stand on `command_line`, which
-//! reads the words, on `image_files`, which reads the files of images, on `serve_core`, which checks
-//! images, stacks them and serves a stream of requests over them, on `path_list`, which writes the
-//! paths that a stack shows, and on `fuse_device`, which knows where a mount was taken away.
+//! reads the words, on `image_files`, which reads the files of images, on `serve_core`, which
+//! checks images, stacks them and serves a stream of requests over them, on `path_list`, which
+//! writes the paths that a stack shows, and on `fuse_device`, which knows where a mount was taken
+//! away.
 //!
 //! [`sessions`] serves the clients of a Unix socket that is already bound, one after another.
 //!

@@ -2,7 +2,7 @@
 
 ghost use Rattle.std.specs.Prelude.{◌≡◌, ◌⊎◌, is_some, true, IfOk, IfErr};
 ghost use Rattle.command_line.specs.CommandLine.{IsInLimits};
-ghost use Rattle.serve_core.specs.Preparing.{contents_of};
+ghost use Rattle.layer_check.specs.Layers.{contents_of};
 ghost use Rattle.strata.specs.Ending.{profile_of, AreNotStacked, EndsAtSocket, IsNotBound};
 
 use crate::clients::sessions_from;

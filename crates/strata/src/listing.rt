@@ -1,7 +1,7 @@
 //! The command `list`.
 
 ghost use Rattle.std.specs.Prelude.{◌<◌, ◌^◌, OnOk, IfErr};
-ghost use Rattle.serve_core.specs.Preparing.{contents_of};
+ghost use Rattle.layer_check.specs.Layers.{contents_of};
 ghost use Rattle.strata.specs.Ending.{IsStackListed, IsNotListed};
 
 use crate::faults::Fault;

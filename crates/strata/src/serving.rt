@@ -4,7 +4,7 @@ ghost use Rattle.std.specs.Prelude.{◌≡◌, is_some, OnOk, IfErr};
 ghost use Rattle.std.specs.Io.KnownBytes.{IsAtEnd};
 ghost use Rattle.devices.specs.States.{devices};
 ghost use Rattle.command_line.specs.CommandLine.{IsInLimits};
-ghost use Rattle.serve_core.specs.Preparing.{contents_of};
+ghost use Rattle.layer_check.specs.Layers.{contents_of};
 ghost use Rattle.serve_loop.specs.Serving.{Trace, Does};
 ghost use Rattle.strata.specs.Ending.{AreNew, Gave, GetsReplies, IsServingBy, IsServing, IsServedWhole, IsNotServed};
 

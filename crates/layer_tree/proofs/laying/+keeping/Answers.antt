@@ -1,7 +1,9 @@
-use Rattle.std.proofs.Common.{rules, ◌≡◌, arith, length, sym}
+use Rattle.std.proofs.Common.{rules, ◌≡◌, length, sym, refl, Some, None}
 use Rattle.std.proofs.lemmas.Bool.{eqb-true}
-use Rattle.std.proofs.lemmas.List.{nil_from_length}
-use Rattle.layer_tree.proofs.Stepping.{no_marks, keeping_begun, keeping_ended, untouched, left_out, kept_one, below_measure, all_cut, alone, inside}
+use Rattle.std.proofs.lemmas.List.{nil_from_length, append-nil}
+use Rattle.path_tree.specs.Rows.{spread}
+use Rattle.path_tree.proofs.Merging.{some_shown, nothing_shown}
+use Rattle.layer_tree.proofs.Stepping.{no_marks, keeping_begun, keeping_ended, untouched, kept_or_not, below_measure, left_measure, all_cut, alone, inside}
 use Rattle.layer_tree.proofs.laying.+keeping.Goals as goal
 
 pub kept_below-returns-then-is_empty : goal.kept_below-returns-then-is_empty
@@ -15,49 +17,80 @@ kept_below-loop-low-init g t c =
 
 pub kept_below-loop-low-preserved-in-Continue-branch-2 : goal.kept_below-loop-low-preserved-in-Continue-branch-2
 kept_below-loop-low-preserved-in-Continue-branch-2 g t c =
-    let so_far = rw c.in-Some.ensures.items at c.loop-low.invariant in
-    let from = rw c.name.ensures at c.seek.ensures.rest in
-    let none = rw (c.in-None.is, c.name.ensures) at c.seek.ensures.first in
-    rw c.in_ok-push-in-None.ensures.items (untouched _ _ _ _ _ _ _ so_far from none)
+    let p = c.in_ok-pass_first-in-None.ensures in
+    let so_far = rw p.left at c.loop-low.invariant in
+    let low : c.in-Some.low.now ≡ p.first = rw p.left at c.in-Some.ensures.lookup in
+    let from = rw (c.name.ensures, low) at c.seek.ensures.rest in
+    let none = rw (c.in-None.is, c.name.ensures, low) at c.seek.ensures.first in
+    rw p.added (untouched _ _ _ _ _ _ _ so_far from none)
 
-pub kept_below-kept_of-requires : goal.kept_below-kept_of-requires
-kept_below-kept_of-requires g t c κs within =
-    let so_far = rw c.in-Some.ensures.items at c.loop-low.invariant in
-    let m = below_measure _ _ _ _ _ _ _ so_far (rw c.name.ensures at c.seek.ensures.rest) in
-    search (rules, m)
-
-pub kept_below-loop-low-preserved-in-Continue-branch-5 : goal.kept_below-loop-low-preserved-in-Continue-branch-5
-kept_below-loop-low-preserved-in-Continue-branch-5 g t c =
-    let so_far = rw c.in-Some.ensures.items at c.loop-low.invariant in
-    let from = rw c.name.ensures at c.seek.ensures.rest in
-    let marked = rw (c.in-Some-found.is, c.name.ensures) at c.seek.ensures.first in
-    let kept = rw c.in-Some-2.is at c.in_ok-low-in-Some-found.ensures in
-    rw c.in_ok-push-in-Some-found.ensures.items (kept_one _ _ _ _ _ _ _ so_far from _ _ marked kept)
+pub kept_below-keep_first-requires : goal.kept_below-keep_first-requires
+kept_below-keep_first-requires g t c κs within =
+    let some = some_shown c.loop-low.lows.items c.in-Some.low c.in-Some.ensures.item in
+    let m = left_measure _ _ _ _ _ c.loop-low.invariant in
+    search (rules, some, m)
 
 pub kept_below-loop-low-preserved : goal.kept_below-loop-low-preserved
 kept_below-loop-low-preserved g t c =
-    let so_far = rw c.in-Some.ensures.items at c.loop-low.invariant in
-    let from = rw c.name.ensures at c.seek.ensures.rest in
-    let marked = rw (c.in-Some-found.is, c.name.ensures) at c.seek.ensures.first in
-    left_out _ _ _ _ _ _ _ so_far from _ marked (rw c.in_default-2.is at c.in_ok-low-in-Some-found.ensures)
+    let p = c.in_ok-keep_first-in-Some-found.ensures in
+    let so_far = rw p.first at c.loop-low.invariant in
+    let low : c.in-Some.low.now ≡ p.low = rw p.first at c.in-Some.ensures.lookup in
+    let from = rw (c.name.ensures, low) at c.seek.ensures.rest in
+    let marked = rw (c.in-Some-found.is, c.name.ensures, low) at c.seek.ensures.first in
+    rw p.added (kept_or_not _ _ _ _ _ _ _ so_far from _ p.left marked p.is)
 
 pub kept_below-returns : goal.kept_below-returns
 kept_below-returns g t c =
-    let none = rw c.in_default.is at c.pop_front.ensures.cases in
-    let ended = nil_from_length c.loop-low.lows.items (omega (arith, none.0, c.loop-low.lows.ok.0)) in
-    keeping_ended _ _ _ _ _ c.loop-low.invariant ended c.requires.lows c.requires.marks.names
+    keeping_ended _ _ _ _ _ c.loop-low.invariant (nothing_shown _ c.in_default.ensures.item)
+    c.requires.lows c.requires.marks.names
 
-pub kept_inside-returns : goal.kept_inside-returns
-kept_inside-returns g t c =
-    rw (c.new-2.ensures, c.into_parts-name.ensures.name, c.into_parts-name.ensures.value)
-    (inside c.args.low c.args.mark.now c.into_parts-name.result.2.items c.in_ok-children.children.items
-    c.children.result.now c.requires (search rules) c.into_parts-name.ensures.below
-    c.children.ensures.below c.in_ok-children.ensures)
+pub keep_first-children_left-requires : goal.keep_first-children_left-requires
+keep_first-children_left-requires g t c κs within =
+    let m = below_measure _ _ _ c.take_first-name.ensures.first in
+    search (rules, m)
 
-pub kept_inside-returns-then-value : goal.kept_inside-returns-then-value
-kept_inside-returns-then-value g t c =
-    rw (c.new-then-value.ensures, c.into_parts-name.ensures.name, c.into_parts-name.ensures.value, c.new.ensures.items)
-    (alone c.args.low c.args.mark.now c.requires (search rules))
+pub keep_first-returns-then-value : goal.keep_first-returns-then-value
+keep_first-returns-then-value g t c = record {
+  low = record {
+    name = c.take_first-name.result.0;
+    value = c.take_first-name.result.1;
+    below = spread c.take_first-name.result.2.items;
+  };
+  left = None;
+  first = c.take_first-name.ensures.first;
+  is = all_cut c.args.mark.now (search rules);
+  added = sym (append-nil c.args.kept.now.items);
+}
 
-pub kept_of-returns-then-value : goal.kept_of-returns-then-value
-kept_of-returns-then-value g t c = all_cut c.args.mark.now (search rules)
+pub keep_first-returns : goal.keep_first-returns
+keep_first-returns g t c = record {
+  low = record {
+    name = c.take_first-name.result.0;
+    value = c.take_first-name.result.1;
+    below = spread c.take_first-name.result.2.items;
+  };
+  left = Some (record {
+    name = c.take_first-name.result.0;
+    value = c.take_first-name.result.1;
+    below = spread c.in_ok-left.left.items;
+  });
+  first = c.take_first-name.ensures.first;
+  is = c.in_ok-left.ensures.kept _ _;
+  added = c.in_ok-add_last.ensures;
+}
+
+pub children_left-returns-then-value : goal.children_left-returns-then-value
+children_left-returns-then-value g t c =
+    rw c.new.ensures.items (record {
+      forest = record { names = tt; each = tt };
+      kept = λ n v. alone (record { name = n; value = v; below = spread c.args.children.items }) c.args.mark.now c.requires.uncut
+          (search rules);
+    })
+
+pub children_left-returns : goal.children_left-returns
+children_left-returns g t c = record {
+  forest = c.in_ok-left.ensures.forest;
+  kept = λ n v. inside (record { name = n; value = v; below = spread c.args.children.items }) c.args.mark.now
+      c.args.children.items c.in_ok-left.left.items c.children.result.now c.requires.uncut (search rules) refl
+      c.children.ensures.below c.in_ok-left.ensures;
+}

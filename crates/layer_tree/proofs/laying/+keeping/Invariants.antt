@@ -3,17 +3,17 @@ use Rattle.path_tree.specs.Rows.{spread}
 use Rattle.layer_tree.proofs.Stepping.{Keeping}
 use Rattle.layer_tree.proofs.laying.+keeping.Given as goal
 
--- the rows below the branch, three times, and two: fewer than those of its directory
-abbrev pub decreases-kept_of : goal.decreases-kept_of
-decreases-kept_of g l = 3 * length l.low.below + 2
+-- the rows of all branches that are left, three times, and one
+abbrev pub decreases-keep_first : goal.decreases-keep_first
+decreases-keep_first g l = 3 * length (spread l.lows.now.items) + 1
 
--- the same, and one: fewer than where the branch itself may go
-abbrev pub decreases-kept_inside : goal.decreases-kept_inside
-decreases-kept_inside g l = 3 * length l.low.below + 1
+-- the rows of the children, three times, and three: fewer than those of their branch
+abbrev pub decreases-children_left : goal.decreases-children_left
+decreases-children_left g l = 3 * length (spread l.children.items) + 3
 
--- the rows of the branches, three times
+-- the rows of the branches, three times, and two: more than where the first of them may go
 abbrev pub decreases-kept_below : goal.decreases-kept_below
-decreases-kept_below g l = 3 * length (spread l.lows.items)
+decreases-kept_below g l = 3 * length (spread l.lows.items) + 2
 
 -- of the branches so far there is what their marks leave
 abbrev pub invariant-kept_below-loop-low : goal.invariant-kept_below-loop-low

@@ -1,8 +1,6 @@
 use Rattle.std.proofs.Common.{rules, ◌<◌, ◌≤◌, length, arith, sym}
 use Rattle.stack_model.specs.Stack.{IsMarker}
-use Rattle.layer_tree.proofs.Building.{at_index, member_here, some_left, one_less, build_hidden, build_alone, build_one, building_ended}
-use Rattle.layer_tree.proofs.Folding.{made_as_needed}
-use Rattle.layer_tree.proofs.reading.+reading.Goals.{branches_below-in-Some+in_ok-push-2, branches_below-in_default}
+use Rattle.layer_tree.proofs.Building.{at_index, member_here, some_left, one_less, build_hidden, build_made, building_ended}
 use Rattle.layer_tree.proofs.reading.+reading.Goals as goal
 
 pub branches_below-overflow_sub-left : goal.branches_below-overflow_sub-left
@@ -10,8 +8,8 @@ branches_below-overflow_sub-left g t c =
     let lt : c.loop-member.member-index < length c.args.members.now = omega arith in
     some_left c.args.image.now c.requires.sound c.args.left c.args.members.now c.requires.members c.loop-member.member-index lt
 
-pub branches_below-branches_of-requires : goal.branches_below-branches_of-requires
-branches_below-branches_of-requires g t c κs within =
+pub branches_below-add_branches-requires : goal.branches_below-add_branches-requires
+branches_below-add_branches-requires g t c κs within =
     let lt : c.loop-member.member-index < length c.args.members.now = omega arith in
     let here = member_here c.args.image.now c.requires.sound c.args.left c.args.members.now c.requires.members c.loop-member.member-index
     lt in
@@ -32,7 +30,7 @@ pub branches_below-loop-member-preserved-then-is_marker : goal.branches_below-lo
 branches_below-loop-member-preserved-then-is_marker g t c =
     let lt : c.loop-member.member-index < length c.args.members.now = omega arith in (
       build_hidden c.args.image.now c.args.layer c.args.members.now c.loop-member.member-index
-          c.loop-member.entries.items c.loop-member.marks.items lt c.loop-member.invariant.0
+          c.loop-member.made.entries.items c.loop-member.made.marks.items lt c.loop-member.invariant.0
           (sym c.if-is_marker.ensures),
       c.loop-member.invariant.1,
     )
@@ -41,18 +39,12 @@ pub branches_below-loop-member-preserved : goal.branches_below-loop-member-prese
 branches_below-loop-member-preserved g t c =
     let lt : c.loop-member.member-index < length c.args.members.now = omega arith in
     let no_marker : ¬ IsMarker (at_index c.args.members.now c.loop-member.member-index).name.now =
-    λ h. (let f = c.if-is_marker.ensures in cc) in (
-      elim c.match-mark-3.branch [
-        | branches_below-in-Some+in_ok-push-2 w ↦ build_one c.args.image.now c.args.layer c.args.members.now
-            c.loop-member.member-index c.loop-member.entries.items c.loop-member.marks.items lt c.loop-member.invariant.0
-            c.in_ok-entry.entry w.in-Some.mark c.push.new.self.items c.match-mark-3.marks.items no_marker
-            (rw w.in-Some.is at c.in_ok-entry.ensures.made) c.in_ok-push.ensures.items (rw w.marks-is w.in_ok-push-2.ensures.items)
-        | branches_below-in_default w ↦ rw w.marks-is (build_alone c.args.image.now c.args.layer c.args.members.now
-            c.loop-member.member-index c.loop-member.entries.items c.loop-member.marks.items lt c.loop-member.invariant.0
-            c.in_ok-entry.entry c.push.new.self.items no_marker
-            (rw w.in_default.is at c.in_ok-entry.ensures.made) c.in_ok-push.ensures.items)
-      ],
-      c.branches_of.ensures.ends,
+    λ h. (let f = c.if-is_marker.ensures in cc) in
+    let adds = c.in_ok-add_branches.ensures.made in (
+      build_made c.args.image.now c.args.layer c.args.members.now c.loop-member.member-index
+          c.loop-member.made.entries.items c.loop-member.made.marks.items lt c.loop-member.invariant.0
+          adds.made.0 adds.made.1 _ _ no_marker adds.is adds.entries adds.marks,
+      c.add_branches.ensures.ends,
     )
 
 pub branches_below-returns : goal.branches_below-returns
@@ -60,11 +52,6 @@ branches_below-returns g t c =
     let le : length c.args.members.now ≤ c.loop-member.member-index = omega arith in
     record {
       built = building_ended c.args.image.now c.args.layer c.args.members.now c.loop-member.member-index
-          c.loop-member.entries.items c.loop-member.marks.items le c.loop-member.invariant.0;
+          c.loop-member.made.entries.items c.loop-member.made.marks.items le c.loop-member.invariant.0;
       ends = c.loop-member.invariant.1;
     }
-
-pub branches_of-returns-in_ok-entry-in-Directory-clause-made : goal.branches_of-returns-in_ok-entry-in-Directory-clause-made
-branches_of-returns-in_ok-entry-in-Directory-clause-made g t c =
-    made_as_needed c.args.image.now c.args.layer c.args.head.now.offset c.args.name.now c.in_ok-entry-in-Directory.entry
-    c.in_ok-entry-in-Directory.mark c.needed.result c.in_ok-entry-in-Directory.ensures.made c.needed.ensures

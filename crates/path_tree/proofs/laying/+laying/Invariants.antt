@@ -3,13 +3,13 @@ use Rattle.path_tree.specs.Rows.{spread}
 use Rattle.path_tree.proofs.Merging.{Merging}
 use Rattle.path_tree.proofs.laying.+laying.Given as goal
 
--- of two branches: the rows below both, counted twice, and one more
-abbrev pub decreases-cover : goal.decreases-cover
-decreases-cover g l = 2 * (length l.low.below + length l.high.below) + 1
+-- the rows of all branches that are left of both directories, counted twice
+abbrev pub decreases-cover_first : goal.decreases-cover_first
+decreases-cover_first g l = 2 * (length (spread l.lows.now.items) + length (spread l.highs.now.items))
 
 -- of two directories: the rows of both, counted twice
 abbrev pub decreases-merge : goal.decreases-merge
-decreases-merge g l = 2 * (length (spread l.lows.items) + length (spread l.highs.items))
+decreases-merge g l = 2 * (length (spread l.lows.items) + length (spread l.highs.items)) + 1
 
 -- the directories are merged up to the branches that are left
 abbrev pub invariant-merge-loop-low : goal.invariant-merge-loop-low

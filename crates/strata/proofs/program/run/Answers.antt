@@ -1,5 +1,5 @@
 use Rattle.std.proofs.Common.{refl, subst}
-use Rattle.serve_core.specs.Preparing.{contents_of}
+use Rattle.layer_check.specs.Layers.{contents_of}
 use Rattle.strata.specs.Ending.{AreGood, AreNotGood, IsStackListed, IsNotListed}
 use Rattle.strata.proofs.Ended.{all_named, did, broke_off, unread}
 use Rattle.strata.proofs.AtSocket.{over_there, stopped_there}

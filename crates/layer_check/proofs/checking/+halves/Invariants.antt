@@ -1,5 +1,5 @@
 use Rattle.std.proofs.Common.{◌*◌, ◌+◌}
-use Rattle.serve_core.proofs.checking.+halves.Given as goal
+use Rattle.layer_check.proofs.checking.+halves.Given as goal
 
 -- how often its run may be cut yet, twice over: between two calls stands a thread
 abbrev pub decreases-check_from : goal.decreases-check_from

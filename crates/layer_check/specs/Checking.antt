@@ -7,7 +7,7 @@ use Rattle.romfs_format.specs.Rules.{IsSoundAs}
 use Rattle.romfs_format.specs.declared.rule.Profile.{Profile}
 use Rattle.serve_loop.specs.declared.stop.Stop.{Stop}
 use Rattle.serve_loop.specs.declared.stop.Stop.TheVariants.{Layer, Memory}
-use Rattle.serve_core.specs.Preparing.{IsLowestBroken}
+use Rattle.layer_check.specs.Layers.{IsLowestBroken}
 
 -- all images keep the rules of the profile, and these are their accessible bytes
 pub record AreChecked (profile : Profile) (images layers : List (List ℕ)) : Type 0 where

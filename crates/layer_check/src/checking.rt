@@ -1,11 +1,11 @@
-//! Images, checked at the same time.
+//! Images, some checked at the same time.
 //!
 //! A list is cut in two, and so on; each half is checked in a call of its own, and what both find
 //! is put together: where both have a broken image the lower half's is told.
 
 ghost use Rattle.std.specs.Prelude.{◌+◌, ◌≤◌, length, IfOk, IfErr};
-ghost use Rattle.serve_core.specs.Preparing.{contents_of, AreLayers, AreRefused, IsFew};
-ghost use Rattle.serve_core.specs.Checking.{Checks, Joins};
+ghost use Rattle.layer_check.specs.Layers.{contents_of, AreLayers, AreRefused, IsFew};
+ghost use Rattle.layer_check.specs.Checking.{Checks, Joins};
 ghost use denote.Param.Send.{IsSync, IsSend, Frees};
 ghost use Rattle.stack_model.specs.declared.limits.TheConstants.{MAX_LAYERS};
 
@@ -19,9 +19,13 @@ use work_gate::{Gate, Work};
 /// How many times a list is cut into halves that are checked at the same time.
 const FORKS: u32 = 4;
 
-/// The images, checked. The gate is passed before each check. At most 16 parts of a list are
-/// checked at the same time.
-pub(crate) fn check_all<R: Threads + Sync, A: Allocator + Copy + Send + Sync, G: Gate + Sync>(
+/// The images, checked by the rules of a profile, in their order.
+///
+/// `Layer` names the lowest image that breaks a rule, counted from 0, and its fault. The gate is
+/// passed before each check. At most 16 parts of a list are checked at the same time.
+///
+/// It asks for 1 to 128 images.
+pub fn check_all<R: Threads + Sync, A: Allocator + Copy + Send + Sync, G: Gate + Sync>(
     rt: &R,
     alloc: A,
     images: Vec<Vec<u8, A>, A>,

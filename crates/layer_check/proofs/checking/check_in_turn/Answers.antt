@@ -1,7 +1,7 @@
 use Rattle.std.proofs.Common.{◌≡◌, length, arith}
 use Rattle.std.specs.Vec.Iter.{into_iter_items}
-use Rattle.serve_core.proofs.Checked.{all_checked, one_more}
-use Rattle.serve_core.proofs.checking.check_in_turn.Goals as goal
+use Rattle.layer_check.proofs.Checked.{all_checked, one_more}
+use Rattle.layer_check.proofs.checking.check_in_turn.Goals as goal
 
 pub loop-bytes-preserved : goal.loop-bytes-preserved
 loop-bytes-preserved g c =

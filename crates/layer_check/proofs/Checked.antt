@@ -1,7 +1,7 @@
 -- Images that are checked, one after another or in two halves. `one_more` and `all_checked` are the
 -- loop; `joined` is the main lemma: what two halves come to is what the run does, of which the
 -- lowest broken image is told. The last lemmas say it of all images.
-use Rattle.std.proofs.Common.{◌≡◌, ◌∙◌, sym, ap, ℕ, ◌+◌, ◌≤◌, ◌⊎◌, inl, inr, take, drop, List, [], ◌∷◌, ◌++◌, append_assoc, append-nil, subst, refl, arith, length, map, All, Result, Ok, Err}
+use Rattle.std.proofs.Common.{◌≡◌, ◌∙◌, sym, ap, ℕ, ◌+◌, ◌≤◌, inl, inr, take, drop, List, [], ◌∷◌, ◌++◌, append_assoc, append-nil, subst, refl, arith, length, map, All, Result, Ok, Err}
 use Rattle.std.specs.declared.vec.Vec.{Vec}
 use Rattle.std.proofs.lemmas.List.{length-map, length-append, map-append, take-append-drop, length-take-le}
 use Rattle.std.proofs.lemmas.List.Elements.{All-push, All-append}
@@ -10,8 +10,8 @@ use Rattle.romfs_format.specs.Rules.{IsSoundAs}
 use Rattle.romfs_format.specs.declared.rule.Profile.{Profile}
 use Rattle.serve_loop.specs.declared.stop.Stop.{Stop}
 use Rattle.serve_loop.specs.declared.stop.Stop.TheVariants.{Layer, Layers, BadLength, CutOff, Read, Write, Turns, Memory}
-use Rattle.serve_core.specs.Preparing.{AreLayers, IsFew, IsLowestBroken, AreRefused}
-use Rattle.serve_core.specs.Checking.{AreChecked, IsBroken, Checks, IsFirstStop, Joins}
+use Rattle.layer_check.specs.Layers.{AreLayers, IsFew, IsLowestBroken, AreRefused}
+use Rattle.layer_check.specs.Checking.{AreChecked, IsBroken, Checks, IsFirstStop, Joins}
 
 -- an image that keeps the rules goes from what is left to what is checked
 pub one_more : {X : Type 0} (v : X → List ℕ) (profile : Profile) (all below : List (List ℕ)) (left rest : List X) (x : X)

@@ -1,7 +1,7 @@
 use Rattle.std.proofs.Common.{◌≤◌, ◌/◌, subst, length, map, arith}
-use Rattle.serve_core.specs.Checking.{Checks}
-use Rattle.serve_core.proofs.Checked.{halved, counted, joined}
-use Rattle.serve_core.proofs.checking.+halves.Goals as goal
+use Rattle.layer_check.specs.Checking.{Checks}
+use Rattle.layer_check.proofs.Checked.{halved, counted, joined}
+use Rattle.layer_check.proofs.checking.+halves.Goals as goal
 
 pub returns : goal.returns
 returns g t c =

@@ -1,7 +1,7 @@
 use Rattle.std.proofs.Common.{◌≡◌, ◌++◌, List, ℕ, map}
 use Rattle.std.specs.Vec.Iter.{into_iter_items}
-use Rattle.serve_core.specs.Checking.{AreChecked}
-use Rattle.serve_core.proofs.checking.check_in_turn.Given as goal
+use Rattle.layer_check.specs.Checking.{AreChecked}
+use Rattle.layer_check.proofs.checking.check_in_turn.Given as goal
 
 -- the images so far keep the rules, and their accessible bytes were kept
 abbrev pub invariant-loop-bytes : goal.invariant-loop-bytes

@@ -1,0 +1,63 @@
+//! Branches that go from a list to the end of another one.
+//!
+//! The recursions over trees call these, and none of them is inlined: so what they need of the
+//! stack is not held on each level of a deep tree.
+
+ghost use Rattle.std.specs.Prelude.{◌≡◌, ◌<◌, [], ◌∷◌, ◌++◌, length, OnOk};
+ghost use Rattle.path_tree.specs.Rows.{spread, IsForest};
+ghost use Rattle.path_tree.specs.Laying.{Passes};
+
+use crate::branch::Branch;
+use crate::name::Name;
+use std::alloc::{AllocError, Allocator};
+use std::collections::VecDeque;
+
+/// Moves the first branch of a list to the end of another one.
+#[inline(never)]
+pub fn pass_first<T: Copy + Drop, A: Allocator>(
+    from: &mut VecDeque<Branch<T, A>, A>,
+    to: &mut Vec<Branch<T, A>, A>,
+) -> Result<(), AllocError>
+    requires { 0 < length from.old.items }
+    ensures { OnOk result (Passes from.old.items from.new.items to.old.items to.new.items) }
+{
+    let first = from.pop_front().unwrap();
+    to.push(first)?;
+    Ok(())
+}
+
+/// Takes the first branch from a list, as its name, value and children.
+#[inline(never)]
+pub fn take_first<T: Copy + Drop, A: Allocator>(
+    from: &mut VecDeque<Branch<T, A>, A>,
+) -> (Name<A>, T, Vec<Branch<T, A>, A>)
+    requires { 0 < length from.old.items }
+    ensures first { from.old.items ≡ record {
+      name = result.0;
+      value = result.1;
+      below = spread result.2.items;
+    } ∷ from.new.items }
+    ensures forest { IsForest result.2.items }
+{
+    let first = from.pop_front().unwrap();
+    first.into_parts()
+}
+
+/// Adds a branch of its parts to the end of a list.
+#[inline(never)]
+pub fn add_last<T: Copy + Drop, A: Allocator>(
+    to: &mut Vec<Branch<T, A>, A>,
+    name: Name<A>,
+    value: T,
+    children: Vec<Branch<T, A>, A>,
+) -> Result<(), AllocError>
+    requires { IsForest children.items }
+    ensures { OnOk result (to.new.items ≡ to.old.items ++ record {
+      name = name;
+      value = value;
+      below = spread children.items;
+    } ∷ []) }
+{
+    to.push(Branch::new(name, value, children))?;
+    Ok(())
+}
