@@ -21,6 +21,7 @@ counts M beside N.
       stack N                       so many KiB of stack
       files N                       so many files may be open
       gone > [2>]                   the output, or standard error, is a pipe that nobody reads any more
+      closed < [>] [2>]             these streams are closed before the program begins
     client [meanwhile]              who connects to the socket that the run listens at, once the client above it has ended or,
                                     meanwhile, while that one is served, and gets nothing before its end. It shuts its writing
                                     half down when all is sent, and reads to the end
@@ -85,9 +86,9 @@ class Started:
         for below in line.below:
             limit = below.words()
             name = limit.next()
-            if name not in ("fed", "waits", "room", "disk", "memory", "stack", "files", "gone") or below.below:
+            if name not in ("fed", "waits", "room", "disk", "memory", "stack", "files", "gone", "closed") or below.below:
                 raise Wrong("this line means nothing: %s" % below.text)
-            if name == "gone":
+            if name in ("gone", "closed"):
                 self.limits[name] = [limit.next() for _ in list(limit.words)]
             else:
                 self.limits[name] = limit.number() if name != "waits" else None
@@ -151,6 +152,8 @@ def limited(limits):
                                  ("stack", resource.RLIMIT_STACK, 1 << 10), ("files", resource.RLIMIT_NOFILE, 1)):
             if name in limits:
                 resource.setrlimit(what, (limits[name] * unit, limits[name] * unit))
+        for stream in limits.get("closed", ()):
+            os.close(("<", ">", "2>").index(stream))
         signal.signal(signal.SIGPIPE, signal.SIG_DFL)  # as a shell leaves it
     return set_limits
 
