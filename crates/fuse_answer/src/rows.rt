@@ -34,7 +34,6 @@ pub(crate) fn put_rows<A: Allocator, O: Allocator>(
 }
 
 // Appends the row with this index.
-#[inline(always)]
 fn put_row<A: Allocator, O: Allocator>(
     table: &Table<A>,
     rows: &Listing<'_, A>,
@@ -63,7 +62,6 @@ fn put_row<A: Allocator, O: Allocator>(
 }
 
 /// The number and the name of the row with this index.
-#[inline(always)]
 pub(crate) fn line_at<'a, A: Allocator>(rows: &Listing<'a, A>, index: usize) -> (u64, &'a [u8])
     requires { index < 2 + length rows.now.children.now }
     ensures { IsLineAt rows.now index result.0 result.1.now }
@@ -79,7 +77,6 @@ pub(crate) fn line_at<'a, A: Allocator>(rows: &Listing<'a, A>, index: usize) -> 
 }
 
 // The upper bits of a node's mode.
-#[inline(always)]
 fn file_type(attr: Option<stack_table::NodeAttr>) -> u32
     ensures { result ≡ option_map_or (λ a. a.mode / 2 ^ 12) attr 0 }
 {
@@ -90,7 +87,6 @@ fn file_type(attr: Option<stack_table::NodeAttr>) -> u32
 }
 
 // The entry of a row; the first two, which are `.` and `..`, have none.
-#[inline(always)]
 fn entry_of(off: u64, attr: Option<stack_table::NodeAttr>) -> Option<Attr>
     ensures { result ≡ (if nat_lt 2 off then option_map wired attr else None) }
 {
