@@ -31,7 +31,7 @@ pub(crate) fn decide<'a, A: Allocator>(
     }
 }
 
-// A fresh session answers INIT alone.
+// A fresh session answers INIT alone. The table is named by the clause alone.
 #[inline(always)]
 fn begin<'a, A: Allocator>(
     _table: &'a Table<A>,

@@ -13,6 +13,13 @@
 //! error a request is refused, or what it is answered, as an `Answer` that borrows from the table.
 //! Writing it out and adding up its moves come after, and decide nothing.
 //!
+//! ```text
+//! decide  -> Answer (outcome), or an error    lookup, node, listing: what one request is answered
+//! write   -> the reply                        rows: those of a directory
+//! balances, move_list                         what the answer moves: added up, or as a list
+//! replies                                     both steps for one request; sessions: what is agreed
+//! ```
+//!
 //! A reply takes as many steps as it has bytes, and a name's look-up some more by the size of its
 //! directory (its logarithm). Rows before a READDIR's offset are not looked at. A reply grows its
 //! vector at most once, by what the answer has, and never by a size that was asked for; where that

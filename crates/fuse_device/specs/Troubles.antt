@@ -3,8 +3,8 @@ use Rattle.std.specs.Prelude.{ℕ, ℤ, pos, negsuc, Bool, true, Option, Some, N
 use Rattle.fuse_device.specs.declared.trouble.Trouble.{Trouble}
 use Rattle.fuse_device.specs.declared.trouble.Trouble.TheVariants.{Again, Gone, Fault}
 
--- of a read: EINTR, EAGAIN, ENOENT and ECONNABORTED are tried again, and ENODEV comes once the
--- mount was taken away
+-- of a read: ENOENT (2), EINTR (4), EAGAIN (11) and ECONNABORTED (103) are tried again, and ENODEV
+-- (19) comes once the mount was taken away
 abbrev pub read_number : ℤ → Trouble
 read_number (pos n) =
     if n == 2 then Again else (if n == 4 then Again else
@@ -17,7 +17,8 @@ abbrev pub read_trouble : Option ℤ → Trouble
 read_trouble (Some number) = read_number number
 read_trouble None = Fault
 
--- of a write: at ENOENT nobody waits for a reply, and ENODEV comes once the mount was taken away
+-- of a write: at ENOENT (2) nobody waits for a reply, and ENODEV (19) comes once the mount was
+-- taken away
 abbrev pub write_number : ℤ → Trouble
 write_number (pos n) = if n == 2 then Gone else (if n == 19 then Gone else Fault)
 write_number (negsuc n) = Fault

@@ -17,9 +17,9 @@ pub(crate) enum Trouble {
     Fault,
 }
 
-// What an error of a read says: EINTR, EAGAIN, ENOENT, where the request was given up as it was
-// read, and ECONNABORTED, where the connection ended meanwhile, are to be tried again, and ENODEV
-// means that the mount was taken away.
+// What an error of a read says: ENOENT (2), where the request was given up as it was read, EINTR
+// (4), EAGAIN (11) and ECONNABORTED (103), where the connection ended meanwhile, are to be tried
+// again, and ENODEV (19) means that the mount was taken away.
 pub(crate) fn trouble_of_read(error: &Error) -> Trouble
     ensures { result ≡ read_trouble (raw_os_error error.now) }
 {
@@ -30,8 +30,8 @@ pub(crate) fn trouble_of_read(error: &Error) -> Trouble
     }
 }
 
-// What an error of a write says: at ENOENT nobody waits for the reply any more, and ENODEV means
-// that the mount was taken away.
+// What an error of a write says: at ENOENT (2) nobody waits for the reply any more, and ENODEV (19)
+// means that the mount was taken away.
 pub(crate) fn trouble_of_write(error: &Error) -> Trouble
     ensures { result ≡ write_trouble (raw_os_error error.now) }
 {

@@ -154,7 +154,8 @@ fn marks_laid<A: Allocator + Copy>(
     Ok(marks)
 }
 
-/// One tree laid on another.
+/// One tree laid on another. `hidden` are marks where the upper tree has a file and the lower one a
+/// directory or something below, `replaced` where the lower tree has the file.
 fn laid<A: Allocator + Copy>(alloc: A, low: Tree<A>, high: Tree<A>) -> Result<Tree<A>, AllocError>
     ensures { IfOk result (λ tree. Lays low high tree) }
 {

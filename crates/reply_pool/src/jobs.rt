@@ -61,7 +61,7 @@ fn answer_job<A: Allocator, B: Allocator>(
     moves(table, *session, request, moved)
 }
 
-// Reads how many items a request has at most, which bounds what it moves.
+// Does nothing. Its clause tells how many items a request has at most, which bounds what it moves.
 fn count_items(request: &Request<'_>)
     ensures { HasFewItems (asked_of request.now).op }
 {

@@ -21,7 +21,10 @@
 //! pieces   -> one Rounded    pieces:  sorted by number, bytes joined, moves summed (sums)
 //! ```
 //!
-//! `Pool` answers its rounds on the caller's thread, batch after batch.
+//! `Pool` (`pool`) answers a round on the caller's thread, message after message, once what its
+//! LOOKUPs will read was read ahead (`ahead`). A round of long replies (`load`) it answers by
+//! workers: `spread` reads its messages as jobs, has their batches drawn as above (`gathered` is
+//! what comes back), and appends the pieces to the loop's own buffer.
 #![tactic(auto)]
 
 mod ahead;

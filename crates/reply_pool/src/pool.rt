@@ -69,6 +69,7 @@ impl<'a, A: Allocator, G: Gate, F> Pool<'a, A, G, F> {
     }
 }
 
+// One message, as `walk` asks for it in a round on the caller's thread.
 impl<'a, A: Allocator, G: Gate, F> Answers for Pool<'a, A, G, F> {
     ghost answering = { λ pool. answering pool.first pool.table.now };
 
@@ -125,6 +126,8 @@ impl<
         self.table.len()
     }
 
+    // The closure `workers` holds the runtime and the allocator that it takes, so those of the loop
+    // are not used.
     fn answer_round<R: Threads + Sync, B: Allocator + Copy + Send + Sync>(
         &self,
         _rt: &R,

@@ -96,6 +96,7 @@ fn draw_all<R: Threads + Sync, A: Allocator + Copy + Send + Sync, G: Gate + Sync
     }
     let low = workers / 2;
     let high = workers - low;
+    // the hand has a miss for each worker, so it keeps some
     let Ok(other) = board.split(&mut hand, high) else {
         unreachable!()
     };

@@ -194,6 +194,7 @@ impl<'h> Header<'h> {
             → IsFirstBelow profile self.now.image self.now.at
             (rule_number Rule.LinkedTwice) result }
     {
+        // a look at a field, by which the proof sees what is known of a header
         let _ = &self.image;
         if self.breaks_name_open() {
             return Some(Rule::NameOpen);

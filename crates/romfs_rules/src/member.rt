@@ -22,6 +22,7 @@ fn is_dotted_by(image: &Volume, at: usize, name: Option<&[u8]>) -> bool
     requires name { option_map (λ n. n.now) name ≡ text_at image.now.bytes.now (at + HEAD_SIZE) }
     ensures { IsTrue result ↔ IsDotted image.now.bytes.now at }
 {
+    // the image is named by the clauses alone
     let _ = image;
     match name {
         None => false,

@@ -1,4 +1,5 @@
-//! Names of headers, as classes of their numbers.
+//! Names of headers, as classes of their numbers, for the rule that a directory holds a name once.
+//! Whether a name is a bad one, `header` tells.
 //!
 //! Most names stand once. So the names of all headers are mixed to numbers first, and those that
 //! were seen once among these are left out of the sort that finds equal ones.

@@ -74,6 +74,7 @@ pub(crate) fn answer_all<R: Threads + Sync, T: Rounds, K: Sink, A: Allocator + C
         (K.state sink.old) (K.state sink.new)) }
 {
     loop {
+        // each end is an arm, by whose name the proof speaks of it
         match answer_round(rt, alloc, answers, progress, sink) {
             Ok(true) => {}
             Ok(false) => return Ok(()),

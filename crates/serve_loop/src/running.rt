@@ -61,6 +61,7 @@ pub fn run_by<R: Threads + Sync, T: Rounds, S: Source, K: Sink, A: Allocator + C
             }
             return Err(Stop::CutOff { at: progress.at });
         }
+        // as `?`, but each end is an arm, by whose name the proof speaks of it
         match answer_all(rt, alloc, answers, &mut progress, sink) {
             Ok(()) => {}
             Err(stop) => return Err(stop),
