@@ -4,11 +4,12 @@
 # make mounted [STRATA=PROGRAM]: real mounts, looked at through the kernel.
 # make layers: tools/layers.py on layouts made on the spot, and, where umoci stands, on images that umoci makes.
 # make trials [CRATES=..]: tries the wrong bodies of trials/, over what make build kept; docs/trials.txt tells the last runs.
-# make bench: figures. make fuzz [FUZZ=WORDS]: random and changed inputs, against a plain reading of the formats; WORDS are
-# those of tools/fuzz.py, as `--minutes 120 --seed 1000000 long device`.
+# make bench: figures. make growth: how time and memory grow with nodes and layers, drawn in docs/growth.svg.
+# make fuzz [FUZZ=WORDS]: random and changed inputs, against a plain reading of the formats; WORDS are those of tools/fuzz.py,
+# as `--minutes 120 --seed 1000000 long device`.
 # make threads: 10,000 runs of one stream by 64 workers, each of which must give the same bytes; and valgrind over it.
 # make soak [MINUTES=20]: little memory by steps, the largest image, and random requests for so many minutes a part.
-.PHONY: test build demo cases layers mounted plant trials bench fuzz threads soak needed
+.PHONY: test build demo cases layers mounted plant trials bench growth fuzz threads soak needed
 
 PYTHON = python3 -B
 
@@ -53,6 +54,9 @@ trials: needed
 
 bench: build/strata
 	$(PYTHON) tools/bench.py build/strata
+
+growth: build/strata
+	$(PYTHON) tools/growth.py build/strata --drawn docs/growth.svg
 
 fuzz: build/strata
 	$(PYTHON) tools/fuzz.py build/strata $(FUZZ)
