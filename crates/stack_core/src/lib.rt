@@ -12,7 +12,6 @@
 //! workers.
 #![tactic(auto)]
 
-mod alone;
 mod stacking;
 
 pub use stacking::{shown, stack};

@@ -7,12 +7,11 @@ ghost use denote.Param.Send.{IsSend, Frees};
 ghost use Rattle.stack_model.specs.declared.limits.TheConstants.{MAX_LAYERS};
 ghost use Rattle.shown_tree.specs.Trees.{IsTreeOf, entry_at};
 
-use crate::alone::{stack_alone, tree_of};
 use layer_tree::{OfLayer, Place, Tree, lay};
 use romfs_reader::Image;
 use std::alloc::{AllocError, Allocator};
 use std::thread::{Threads, join};
-use work_gate::Gate;
+use work_gate::{Gate, Work};
 
 /// How many times a list is cut into halves that are stacked at the same time.
 const FORKS: u32 = 4;
@@ -36,8 +35,8 @@ pub fn stack<R: Threads + Sync, A: Allocator + Copy + Send + Sync, G: Gate + Syn
     stack_from(rt, alloc, 0, images, gate, FORKS)
 }
 
-/// The tree of a run of layers, of which the lowest has the number `first`: of its halves at the
-/// same time, each of which is cut so once less, or made by the caller alone.
+/// The tree of a run of layers, of which the lowest has the number `first`: of its halves, made at
+/// the same time as long as it may still be cut so, and then one after the other.
 #[cycle(halves)]
 fn stack_from<R: Threads + Sync, A: Allocator + Copy + Send + Sync, G: Gate + Sync>(
     rt: &R,
@@ -52,15 +51,18 @@ fn stack_from<R: Threads + Sync, A: Allocator + Copy + Send + Sync, G: Gate + Sy
     ensures { IfOk result (λ tree. IsTreeOf first images.now tree) }
 {
     if let [image] = images {
-        return tree_of(alloc, first, image, gate);
+        gate.pass(Work::Tree, u32::from(first));
+        return Tree::of(alloc, image, first);
     }
-    if forks == 0 {
-        return stack_alone(alloc, first, images, gate);
-    }
-    let less = forks - 1;
     let half = images.len() / 2;
     let (lows, highs) = images.split_at(half);
     let next = first + half as u16;
+    if forks == 0 {
+        let low = stack_from(rt, alloc, first, lows, gate, 0)?;
+        let high = stack_from(rt, alloc, next, highs, gate, 0)?;
+        return lay(alloc, low, high);
+    }
+    let less = forks - 1;
     let (low, high) = join(
         rt,
         move || -> Result<Tree<A>, AllocError>
