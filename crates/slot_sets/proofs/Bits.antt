@@ -7,6 +7,7 @@ use Rattle.std.specs.Int.RustNames.{bit_and, bit_or}
 use Rattle.std.proofs.lemmas.Nat.Bits.{bit_at-zero, bit_at-lt, bit_at_set_same, bit_at_set_other, bit_at_and, bit_at_or, ones_shl, bit_at_mask_inside, bit_at_mask_below, bit_at-trailing_zeros}
 use Rattle.std.proofs.lemmas.Nat.{and_le_r}
 use Rattle.std.proofs.lemmas.Bool.{cases_eq, cases_lt}
+use Rattle.std.proofs.lemmas.Grind.{get_or_default_zero}
 use Rattle.std.proofs.lemmas.List.{get_or_default, length-set, get_or-set_same, get_or-set_other, same_lists, get_or-replicate, length-replicate}
 use Rattle.std.proofs.lemmas.List.FromFn.{get_or-map-range_with_len, length-map-range_with_len}
 use Rattle.std.specs.List.{range_with_len}
@@ -25,6 +26,14 @@ bits_at n words k l = get_or-map-range_with_len (is_bit words) 0 n k k false l (
 -- the word of each slot is there, where the words have enough bits for all
 pub is_bit_past : (words : List ℕ) (n : ℕ) → n ≤ length words * 64 → (k : ℕ) → k < n → k / 64 < length words
 is_bit_past words n h k l = omega arith
+
+-- a set of words is as long as it has slots
+pub slots_of : (n : ℕ) (words : List ℕ) (set : List Bool) → bits n words ≡ set → length set ≡ n
+slots_of n words set e = sym (ap length e) ∙ bits_length n words
+
+-- what was read at a place where a word is, is that word
+pub word_read : (words : List ℕ) (i w : ℕ) → i < length words → w ≡ get_or words i w → w ≡ get_or words i 0
+word_read words i w l e = e ∙ get_or_default_zero words i w l
 
 -- words of zeros are the empty set
 pub bits_none : (n m : ℕ) (words : List ℕ) → words ≡ replicate m 0 → n ≤ m * 64 → bits n words ≡ replicate n false
@@ -182,6 +191,19 @@ module _ (words : ℕ) (one other : List ℕ) where
     -- a slot that is not in the union is in neither set
     pub in_neither : is_bit (joined words one other) k ≡ false → (is_bit one k ≡ false) × (is_bit other k ≡ false)
     in_neither e = cases.1 (ap (λ x. x == 1) (sym bit_is) ∙ e)
+
+-- words of two sets, read at one place, are together the word of the union
+pub joined_read : (one other : List ℕ) (i a b : ℕ) → i < length one → i < length other → a ≡ get_or one i a
+    → b ≡ get_or other i b → bit_or a b ≡ get_or (joined (length one) one other) i 0
+joined_read one other i a b l m e f = ap (λ x. bit_or x b) (word_read one i a l e) ∙ ap (λ x. bit_or (get_or one i 0) x) (word_read other i b m f)
+    ∙ sym (joined_at (length one) one other i l)
+
+-- of two sets that are as long as each other, the words of the other are over the slots of the one
+pub same_slots : (n m : ℕ) (one other : List ℕ) (set others : List Bool) → bits n one ≡ set → bits m other ≡ others
+    → length others ≡ length set → (m ≡ n) × (bits n other ≡ others)
+same_slots n m one other set others e f l =
+    let s : m ≡ n = sym (slots_of m other others f) ∙ l ∙ slots_of n one set e in
+    (s, subst (λ x. bits x other ≡ others) s f)
 
 -- two sets of n slots, and the words of both together
 module _ (n words : ℕ) (one other : List ℕ) (w : n ≤ words * 64) where

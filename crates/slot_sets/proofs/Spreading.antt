@@ -1,12 +1,12 @@
 -- Numbers for the slots of a set, by slot. They are kept by rank, which is among the numbers kept
--- (`number_fits`), so a look-up at the rank reads the slot's number (`word_is`), and a number put
+-- (`kept_at`), so a look-up at the rank reads the slot's number (`word_is`), and a number put
 -- there changes that of this slot alone (`put_is`).
 use Rattle.std.proofs.Common.{◌≡◌, ◌≢◌, ◌∙◌, sym, ap, subst, ℕ, ◌<◌, inl, inr, List, length, Bool, true, false, cond, get_or, set, replicate, refl, arith}
 use Rattle.std.proofs.lemmas.Bool.{cases_eq, cases_lt, true≢false}
 use Rattle.std.proofs.lemmas.List.{get_or_past, length-set, get_or-set_same, get_or-set_other, same_lists, get_or-replicate, length-replicate}
 use Rattle.std.proofs.lemmas.List.FromFn.{get_or-map-range_with_len, length-map-range_with_len}
 use Rattle.slot_sets.specs.Sets.{rank}
-use Rattle.slot_sets.specs.Words.{word_at, words_by_slot}
+use Rattle.slot_sets.specs.Words.{Words, word_at, words_by_slot}
 use Rattle.slot_sets.proofs.Ranks.{rank_below, rank_once}
 
 -- there is a number by slot for each slot, whether in the set or not
@@ -25,8 +25,7 @@ member_inside marks k m = elim (cases_lt k (length marks)) [ inl l ↦ l | inr l
 
 -- of a slot of the set
 module _ (marks : List Bool) (words : List ℕ) (k : ℕ) (m : get_or marks k false ≡ true) where
-  -- the rank of a slot of the set is among the numbers kept
-  pub number_fits : length words ≡ rank marks (length marks) → rank marks k < length words
+  number_fits : length words ≡ rank marks (length marks) → rank marks k < length words
   number_fits s = let r = rank_below marks k (length marks) m (member_inside marks k m) in omega arith
 
   -- the number of a slot of the set is the one kept at its rank
@@ -57,6 +56,15 @@ module _ (marks : List Bool) (words : List ℕ) (k : ℕ) (m : get_or marks k fa
         | inr n ↦ other j n (get_or marks j false) refl ∙ sym (spread_at marks words j d s)
             ∙ sym (get_or-set_other (words_by_slot marks words) k j v d n)
       ]
+
+-- of what holds a number by slot, a slot of its set is one of the set, and its rank is among the
+-- numbers kept
+pub kept_at : (marks : List Bool) (words : List ℕ) (kept : Words) (k : ℕ)
+    → record { slots = marks; by_slot = words_by_slot marks words } ≡ kept → get_or kept.slots k false ≡ true
+    → length words ≡ rank marks (length marks) → (get_or marks k false ≡ true) × (rank marks k < length words)
+kept_at marks words kept k e m s =
+    let member = ap (λ (w : Words). get_or w.slots k false) e ∙ m in
+    (member, number_fits marks words k member s)
 
 -- where only zeros are kept, each slot has the number 0
 pub spread_none : (marks : List Bool) (words : List ℕ) (n : ℕ) → words ≡ replicate n 0 → words_by_slot marks words

@@ -47,6 +47,7 @@ impl<A: Allocator> SlotSet<A> {
     }
 
     /// Whether a slot is in the set.
+    #[tactic(auto, using(crate::proofs::Bits::bits_length))]
     pub fn contains(&self, slot: usize) -> bool
         requires { slot < length self.now }
         ensures { result ≡ get_or self.now slot false }
@@ -55,6 +56,7 @@ impl<A: Allocator> SlotSet<A> {
     }
 
     /// How many of the set stand in a whole word of slots.
+    #[tactic(auto, using(crate::proofs::Bits::bits_length))]
     pub(crate) fn count_in_word(&self, word: usize) -> u32
         requires { word * 64 + 64 ≤ length self.now }
         ensures count { rank self.now (word * 64 + 64) ≡ rank self.now (word * 64) + result }
@@ -64,6 +66,7 @@ impl<A: Allocator> SlotSet<A> {
     }
 
     /// How many of the set stand before a slot in its word.
+    #[tactic(auto, using(crate::proofs::Bits::bits_length))]
     pub(crate) fn count_before(&self, slot: usize) -> u32
         requires { slot ≤ length self.now }
         ensures count { rank self.now slot ≡ rank self.now (slot / 64 * 64) + result }
@@ -73,6 +76,7 @@ impl<A: Allocator> SlotSet<A> {
     }
 
     /// Adds a slot.
+    #[tactic(auto, using(crate::proofs::Bits::bits_length))]
     pub fn insert(&mut self, slot: usize)
         requires { slot < length self.old }
         ensures { self.new ≡ set self.old slot true }

@@ -3,6 +3,8 @@ use Rattle.std.proofs.lemmas.List.{get_or_read, length-set}
 use Rattle.successor_graph.proofs.Marks.{unmarked, marks_fall}
 use Rattle.successor_graph.proofs.Ascent.{reverse_push}
 use Rattle.successor_graph.proofs.Rounds.{begins, enters, gathered}
+use Rattle.successor_graph.proofs.climb.gather.Given.{Over}
+use Rattle.successor_graph.proofs.climb.gather.Goals.{At-loop-found}
 use Rattle.successor_graph.proofs.climb.gather.Goals as goal
 
 pub loop-found-init : goal.loop-found-init
@@ -15,12 +17,19 @@ loop-found-init g c =
       low = c.requires.found.lowest.sized ∙ f.classes.sized;
     }
 
+-- the point that the entering has come to has a mark
+has_mark : (g : Over) (c : At-loop-found g) → c.loop-found.at < length c.loop-found.found.entered.items
+has_mark g c =
+    let a = c.loop-found.invariant.inside in
+    let b = c.loop-found.found.entered_sized in
+    let w = c.loop-found.invariant.low in
+    omega arith
+
 pub loop-found-smaller : goal.loop-found-smaller
 loop-found-smaller g c =
     let l = c.loop-found.invariant in
     let at = c.loop-found.at in
-    let i : at < length c.loop-found.found.entered.items = (let a = l.inside in let b = c.loop-found.found.entered_sized in let w = l.low in
-    omega arith) in
+    let i = has_mark g (goal.at.loop-found-smaller g c).At-loop-found in
     let e = get_or_read c.loop-found.found.entered.items at _ i c.index.ensures false in
     let k = marks_fall c.loop-found.found.entered.items at i (sym e ∙ c.loop-found-test.true) in
     let u = ap unmarked c.enter.ensures.entered in
@@ -31,8 +40,7 @@ loop-found-preserved g c =
     let f = c.args.graph.now in
     let l = c.loop-found.invariant in
     let at = c.loop-found.at in
-    let i : at < length c.loop-found.found.entered.items = (let a = l.inside in let b = c.loop-found.found.entered_sized in let w = l.low in
-    omega arith) in
+    let i = has_mark g (goal.at.loop-found-preserved g c).At-loop-found in
     let e = get_or_read c.args.graph.now.next.items at _ l.inside c.index-at.ensures 0 in
     record {
       rounding = rw (c.in_ok-push.ensures.items, reverse_push, c.enter.ensures.entered, e)
@@ -47,8 +55,7 @@ returns-clause-gathered g c =
     let f = c.args.graph.now in
     let l = c.loop-found.invariant in
     let at = c.loop-found.at in
-    let i : at < length c.loop-found.found.entered.items = (let a = l.inside in let b = c.loop-found.found.entered_sized in let w = l.low in
-    omega arith) in
+    let i = has_mark g (goal.at.returns-clause-gathered g c).At-loop-found in
     let e = get_or_read c.loop-found.found.entered.items at _ i c.index.ensures false in
     gathered _ _ f.classes.sized f.leads f.classes _ c.requires.cycle _ _ _ at _ _ (c.loop-found.found.entered_sized ∙ l.low) (sym e
     ∙ c.loop-found-test.false) l.rounding
