@@ -8,8 +8,8 @@ use Rattle.std.specs.declared.cmp.Ordering.TheVariants.{Less, Equal, Greater}
 use Rattle.std.proofs.lemmas.Bool.{cases_eq, cases_order, false≢true}
 use Rattle.std.proofs.lemmas.Option.{same_Some}
 use Rattle.std.proofs.lemmas.List.{get_or_at, get_or_append_left, get_or_default}
-use Rattle.equal_keys.specs.declared.names.Named.{Named}
-use Rattle.equal_keys.specs.Names.{named_cmp, IsItsAlone, AreInNameOrder, AreNumbersBelow, AreClasses, AreNamesApart}
+use Rattle.equal_keys.specs.declared.names.NumberedName.{NumberedName}
+use Rattle.equal_keys.specs.Names.{numbered_cmp, IsItsAlone, AreInNameOrder, AreNumbersBelow, AreClasses, AreNamesApart}
 use Rattle.equal_keys.proofs.Keyed.{below_or_at, between, one_name}
 
 -- the numbers below n, and then n, are the numbers below the one after it
@@ -28,19 +28,19 @@ is_tie Less e = absurd (false≢true e)
 is_tie Greater e = absurd (false≢true e)
 
 -- what stands for a name where there is none
-abbrev pub nothing : Named
+abbrev pub nothing : NumberedName
 nothing = record { hash = 0; name = record { ref_ptr = (0, 0); now = [] }; number = 0 }
 
 -- the number at a place of the list; 0 past its end
-abbrev pub number_at : List Named → ℕ → ℕ
+abbrev pub number_at : List NumberedName → ℕ → ℕ
 number_at hs m = (get_or hs m nothing).number
 
 -- the name at a place of the list; the empty one past its end
-abbrev pub name_at : List Named → ℕ → List ℕ
+abbrev pub name_at : List NumberedName → ℕ → List ℕ
 name_at hs m = (get_or hs m nothing).name.now
 
 -- the names before place i of hs have their classes, and each other number has itself
-pub record IsClassing (name : ℕ → Option (List ℕ)) (n : ℕ) (hs : List Named) (class : List ℕ) (i : ℕ) : Type 0 where
+pub record IsClassing (name : ℕ → Option (List ℕ)) (n : ℕ) (hs : List NumberedName) (class : List ℕ) (i : ℕ) : Type 0 where
   pub sized : length class ≡ n + 1
   pub rest : (k : ℕ) → k < n + 1 → ((m : ℕ) → m < i → m < length hs → number_at hs m ≢ k) → get_or class k 0 ≡ k
   pub own : (m : ℕ) → m < i → m < length hs
@@ -49,17 +49,17 @@ pub record IsClassing (name : ℕ → Option (List ℕ)) (n : ℕ) (hs : List Na
       → get_or class (number_at hs l) 0 ≡ get_or class (number_at hs m) 0
 
 -- of the names before place i of hs none is that of the one before it
-pub record AreUnlike (hs : List Named) (i : ℕ) : Type 0 where
+pub record AreUnlike (hs : List NumberedName) (i : ℕ) : Type 0 where
   pub each : (m : ℕ) → 0 < m → m < i → m < length hs
-      → named_cmp (get_or hs (m - 1) nothing) (get_or hs m nothing) ≢ Equal
+      → numbered_cmp (get_or hs (m - 1) nothing) (get_or hs m nothing) ≢ Equal
 
 -- the first name has none before it
-pub none_unlike : (hs : List Named) → AreUnlike hs 1
+pub none_unlike : (hs : List NumberedName) → AreUnlike hs 1
 none_unlike hs = record { each = λ m p l. absurd (omega arith) }
 
 -- with a further name that differs from the one before it, none is that of the one before it
-pub one_unlike : (hs : List Named) (i : ℕ) (o : Ordering)
-    → o ≡ named_cmp (get_or hs (i - 1) nothing) (get_or hs i nothing) → is_eq o ≡ false
+pub one_unlike : (hs : List NumberedName) (i : ℕ) (o : Ordering)
+    → o ≡ numbered_cmp (get_or hs (i - 1) nothing) (get_or hs i nothing) → is_eq o ≡ false
     → AreUnlike hs i → AreUnlike hs (i + 1)
 one_unlike hs i o stand differ w = record {
   each = λ m p l q. elim (below_or_at m i l) [
@@ -68,11 +68,11 @@ one_unlike hs i o stand differ w = record {
   ];
 }
   where
-    here : (m : ℕ) → m ≡ i → named_cmp (get_or hs (i - 1) nothing) (get_or hs i nothing)
-        ≡ named_cmp (get_or hs (m - 1) nothing) (get_or hs m nothing)
-    here m b = ap (λ k. named_cmp (get_or hs (k - 1) nothing) (get_or hs k nothing)) (sym b)
+    here : (m : ℕ) → m ≡ i → numbered_cmp (get_or hs (i - 1) nothing) (get_or hs i nothing)
+        ≡ numbered_cmp (get_or hs (m - 1) nothing) (get_or hs m nothing)
+    here m b = ap (λ k. numbered_cmp (get_or hs (k - 1) nothing) (get_or hs k nothing)) (sym b)
 
-seek : (hs : List Named) (k : ℕ)
+seek : (hs : List NumberedName) (k : ℕ)
     → ((m : ℕ) × (m < length hs) × (number_at hs m ≡ k)) ⊎ ((m : ℕ) → m < length hs → number_at hs m ≢ k)
 seek [] k = inr (λ m l. absurd (omega arith))
 seek (h ∷ hs) k = elim (cases_eq h.number k) [
@@ -88,7 +88,7 @@ seek (h ∷ hs) k = elim (cases_eq h.number k) [
     past zero l d free = d
     past (suc m) l d free = free m (omega arith)
 
-module _ (name : ℕ → Option (List ℕ)) (n : ℕ) (hs : List Named) (by : AreInNameOrder name n hs) where
+module _ (name : ℕ → Option (List ℕ)) (n : ℕ) (hs : List NumberedName) (by : AreInNameOrder name n hs) where
   owned : (m : ℕ) → m < length hs → name (number_at hs m) ≡ Some (name_at hs m)
   owned m l = (by.are.each m nothing l).own
 
@@ -139,7 +139,7 @@ module _ (name : ℕ → Option (List ℕ)) (n : ℕ) (hs : List Named) (by : Ar
     }
 
     -- a name whose name is that of the one before it takes its class
-    class_taken : (class' : List ℕ) → named_cmp (get_or hs (i - 1) nothing) (get_or hs i nothing) ≡ Equal
+    class_taken : (class' : List ℕ) → numbered_cmp (get_or hs (i - 1) nothing) (get_or hs i nothing) ≡ Equal
         → class' ≡ set class (number_at hs i) (get_or class (number_at hs (i - 1)) 0)
         → IsClassing name n hs class' (i + 1)
     class_taken class' e put = one_classed class' (ap length put ∙ simp length-set w.sized)
@@ -174,7 +174,7 @@ module _ (name : ℕ → Option (List ℕ)) (n : ℕ) (hs : List Named) (by : Ar
         ]
 
     -- a name of another name than the one before it is the first of its name, and keeps its number
-    class_begun : named_cmp (get_or hs (i - 1) nothing) (get_or hs i nothing) ≢ Equal
+    class_begun : numbered_cmp (get_or hs (i - 1) nothing) (get_or hs i nothing) ≢ Equal
         → IsClassing name n hs class (i + 1)
     class_begun ne = one_classed class w.sized
         (λ k l free. w.rest k l (λ m p q. free m (omega arith) q))
@@ -191,29 +191,29 @@ module _ (name : ℕ → Option (List ℕ)) (n : ℕ) (hs : List Named) (by : Ar
             w.rest (number_at hs i) (omega arith) (λ m p q f. unlike m p (named_alike m i q lt f))
 
     -- the name at i and the one before it, and how they stand
-    module _ (x y : Named) (before : x ≡ get_or hs (i - 1) x) (at : y ≡ get_or hs i y)
-        (o : Ordering) (stand : o ≡ named_cmp x y) where
+    module _ (x y : NumberedName) (before : x ≡ get_or hs (i - 1) x) (at : y ≡ get_or hs i y)
+        (o : Ordering) (stand : o ≡ numbered_cmp x y) where
       is_before : get_or hs (i - 1) nothing ≡ x
       is_before = get_or_default hs (i - 1) nothing x (omega arith) ∙ sym before
 
       is_at : get_or hs i nothing ≡ y
       is_at = get_or_default hs i nothing y lt ∙ sym at
 
-      stood : o ≡ named_cmp (get_or hs (i - 1) nothing) (get_or hs i nothing)
+      stood : o ≡ numbered_cmp (get_or hs (i - 1) nothing) (get_or hs i nothing)
       stood =
-          stand ∙ ap (λ z. named_cmp z y) (sym is_before)
-          ∙ ap (λ z. named_cmp (get_or hs (i - 1) nothing) z) (sym is_at)
+          stand ∙ ap (λ z. numbered_cmp z y) (sym is_before)
+          ∙ ap (λ z. numbered_cmp (get_or hs (i - 1) nothing) z) (sym is_at)
 
       -- a name that equals the one before it has its class once it takes that one's
       pub taken : is_eq o ≡ true → (c : ℕ) → c ≡ get_or class x.number c
           → (class' : List ℕ) → class' ≡ set class y.number c → IsClassing name n hs class' (i + 1)
       taken t c own class' put = class_taken class' (sym stood ∙ is_tie o t)
-          (put ∙ ap (λ (z : Named). set class z.number c) (sym is_at) ∙ ap (set class (number_at hs i)) its)
+          (put ∙ ap (λ (z : NumberedName). set class z.number c) (sym is_at) ∙ ap (set class (number_at hs i)) its)
         where
           its : c ≡ get_or class (number_at hs (i - 1)) 0
           its =
               let b : number_at hs (i - 1) < n = (by.are.each (i - 1) nothing (omega arith)).below in
-              let e : number_at hs (i - 1) ≡ x.number = ap (λ (z : Named). z.number) is_before in
+              let e : number_at hs (i - 1) ≡ x.number = ap (λ (z : NumberedName). z.number) is_before in
               let s = w.sized in
               own ∙ get_or_default class x.number c 0 (omega arith) ∙ ap (λ k. get_or class k 0) (sym e)
 
@@ -233,7 +233,7 @@ module _ (name : ℕ → Option (List ℕ)) (n : ℕ) (hs : List Named) (by : Ar
   found k q l e = elim (by.are.every k q l e) [
     | inl x ↦ (
         let at = x.1 in
-        inl (at.0, at.1, ap (λ (h : Named). h.number) (get_or_default hs at.0 nothing x.0 at.1 ∙ at.2) ∙ x.2))
+        inl (at.0, at.1, ap (λ (h : NumberedName). h.number) (get_or_default hs at.0 nothing x.0 at.1 ∙ at.2) ∙ x.2))
     | inr o ↦ inr o
   ]
 
@@ -327,11 +327,11 @@ module _ (name : ℕ → Option (List ℕ)) (n : ℕ) (hs : List Named) (by : Ar
       ]
 
 -- the number of a name is one that has a class
-pub number_fits : {n i : ℕ} {hs : List Named} {class : List ℕ} → (name : ℕ → Option (List ℕ)) × AreInNameOrder name n hs
+pub number_fits : {n i : ℕ} {hs : List NumberedName} {class : List ℕ} → (name : ℕ → Option (List ℕ)) × AreInNameOrder name n hs
     → ((name : ℕ → Option (List ℕ)) → AreInNameOrder name n hs → IsClassing name n hs class i)
-    → (k : ℕ) (h : Named) → k < length hs → h ≡ get_or hs k h → h.number < length class
+    → (k : ℕ) (h : NumberedName) → k < length hs → h ≡ get_or hs k h → h.number < length class
 number_fits {hs = hs} by w k h l e =
     let b = (by.1.are.each k h l).below in
     let s = (w by.0 by.1).sized in
-    let f : h.number ≡ (get_or hs k h).number = ap (λ (x : Named). x.number) e in
+    let f : h.number ≡ (get_or hs k h).number = ap (λ (x : NumberedName). x.number) e in
     omega arith

@@ -11,8 +11,8 @@ use Rattle.std.proofs.lemmas.Cmp.{nat_list_cmp_total}
 use Rattle.std.proofs.lemmas.Map.Lookups.{exact_bytes}
 use Rattle.std.proofs.lemmas.List.Elements.{All-push, Contains-push, Contains-append_left}
 use Rattle.std.proofs.lemmas.List.Sorted.{ranks_by, sorted_far, All-permutation, Contains-permutation}
-use Rattle.equal_keys.specs.declared.names.Named.{Named}
-use Rattle.equal_keys.specs.Names.{name_hash, named_cmp, HasItsName, IsItsAlone, HoldTheShared, AreInNameOrder}
+use Rattle.equal_keys.specs.declared.names.NumberedName.{NumberedName}
+use Rattle.equal_keys.specs.Names.{name_hash, numbered_cmp, HasItsName, IsItsAlone, HoldTheShared, AreInNameOrder}
 
 -- what is missing is not there
 pub none_some : {X : Type 0} (x : X) → ◌≡◌ {A = Option X} None (Some x) → ⊥
@@ -27,10 +27,10 @@ below_or_at (suc k) (suc n) l =
     elim (below_or_at k n (omega arith)) [ inl m ↦ inl (omega arith) | inr m ↦ inr (ap suc m) ]
 
 -- of the numbers below i those that have a name, but for some that have theirs alone
-pub record Holding (name : ℕ → Option (List ℕ)) (n i : ℕ) (named : List Named) : Type 0 where
+pub record Holding (name : ℕ → Option (List ℕ)) (n i : ℕ) (named : List NumberedName) : Type 0 where
   pub each : All (HasItsName name n) named
   pub every : (k : ℕ) (q : List ℕ) → k < i → name k ≡ Some q
-      → ((h : Named) × Contains named h × (h.number ≡ k)) ⊎ IsItsAlone name n k
+      → ((h : NumberedName) × Contains named h × (h.number ≡ k)) ⊎ IsItsAlone name n k
 
 module _ (name : ℕ → Option (List ℕ)) (n : ℕ) where
   -- before the first number there is none to hold
@@ -38,11 +38,11 @@ module _ (name : ℕ → Option (List ℕ)) (n : ℕ) where
   none_named = record { each = λ k d l. absurd (omega arith); every = λ k q l. absurd (omega arith) }
 
   -- once the numbers below n are gone over, all whose name several have are held
-  pub all_held : (i : ℕ) (hs : List Named) → i ≡ n → Holding name n i hs → HoldTheShared name n hs
+  pub all_held : (i : ℕ) (hs : List NumberedName) → i ≡ n → Holding name n i hs → HoldTheShared name n hs
   all_held i hs e w = record { each = w.each; every = λ k q l. w.every k q (omega arith) }
 
   -- a number that has no name, or its name alone, is passed over
-  pub one_without : (i : ℕ) (hs : List Named) → ((q : List ℕ) → name i ≡ Some q → IsItsAlone name n i)
+  pub one_without : (i : ℕ) (hs : List NumberedName) → ((q : List ℕ) → name i ≡ Some q → IsItsAlone name n i)
       → Holding name n i hs → Holding name n (i + 1) hs
   one_without i hs alone w = record {
     each = w.each;
@@ -53,7 +53,7 @@ module _ (name : ℕ → Option (List ℕ)) (n : ℕ) where
   }
 
   -- a number is held once it is added with its own name and that name's hash
-  pub one_named : (i : ℕ) (hs : List Named) (h : Named) → i < n
+  pub one_named : (i : ℕ) (hs : List NumberedName) (h : NumberedName) → i < n
       → h.number ≡ i → name i ≡ Some h.name.now → h.hash ≡ name_hash h.name.now
       → Holding name n i hs → Holding name n (i + 1) (hs ++ h ∷ [])
   one_named i hs h lt number own mixed w = record {
@@ -70,8 +70,8 @@ module _ (name : ℕ → Option (List ℕ)) (n : ℕ) where
 
 module _ (name : ℕ → Option (List ℕ)) where
   -- what holds the shared names holds them when it is sorted, and in the order of names
-  pub by_name : (n : ℕ) (hs hs' : List Named)
-      → HoldTheShared name n hs → IsPermutation hs hs' → IsSorted named_cmp hs' → AreInNameOrder name n hs'
+  pub by_name : (n : ℕ) (hs hs' : List NumberedName)
+      → HoldTheShared name n hs → IsPermutation hs hs' → IsSorted numbered_cmp hs' → AreInNameOrder name n hs'
   by_name n hs hs' w p up = record {
     are = record {
       each = All-permutation (HasItsName name n) hs hs' p w.each;
@@ -87,7 +87,7 @@ tail_same : (a b : ℕ) (xs ys : List ℕ) → a ∷ xs ≡ b ∷ ys → xs ≡ 
 tail_same a b xs ys e = cc
 
 -- two that compare as equal have one name
-pub one_name : (x y : Named) → named_cmp x y ≡ Equal → x.name.now ≡ y.name.now
+pub one_name : (x y : NumberedName) → numbered_cmp x y ≡ Equal → x.name.now ≡ y.name.now
 one_name x y e = tail_same x.hash y.hash _ _ (exact_bytes (x.hash ∷ x.name.now) (y.hash ∷ y.name.now) e)
 
 neither_less : (x y : List ℕ) → is_lt (slice_cmp nat_cmp x y) ≡ false → is_lt (slice_cmp nat_cmp y x) ≡ false
@@ -102,13 +102,13 @@ neither_less x y p q = pick (slice_cmp nat_cmp x y) refl
         absurd (let z : is_lt Less ≡ false = subst (λ o. is_lt o ≡ false) back q in cc)
 
 -- what stands between two of one name, in the order of names, compares as equal to them
-pub between : (name : ℕ → Option (List ℕ)) (n : ℕ) (hs : List Named) → AreInNameOrder name n hs
-    → (i j k : ℕ) (d : Named) → i ≤ j → j ≤ k → k < length hs → (get_or hs i d).name.now ≡ (get_or hs k d).name.now
-    → named_cmp (get_or hs j d) (get_or hs k d) ≡ Equal
+pub between : (name : ℕ → Option (List ℕ)) (n : ℕ) (hs : List NumberedName) → AreInNameOrder name n hs
+    → (i j k : ℕ) (d : NumberedName) → i ≤ j → j ≤ k → k < length hs → (get_or hs i d).name.now ≡ (get_or hs k d).name.now
+    → numbered_cmp (get_or hs j d) (get_or hs k d) ≡ Equal
 between name n hs w i j k d l m h e =
-    let o = ranks_by nat_list_cmp_total (λ (x : Named). x.hash ∷ x.name.now) in
-    let low = sorted_far (λ x y. is_lt (named_cmp x y)) o hs w.sorted i j d l (omega arith) in
-    let high = sorted_far (λ x y. is_lt (named_cmp x y)) o hs w.sorted j k d m h in
+    let o = ranks_by nat_list_cmp_total (λ (x : NumberedName). x.hash ∷ x.name.now) in
+    let low = sorted_far (λ x y. is_lt (numbered_cmp x y)) o hs w.sorted i j d l (omega arith) in
+    let high = sorted_far (λ x y. is_lt (numbered_cmp x y)) o hs w.sorted j k d m h in
     neither_less
     ((get_or hs j d).hash ∷ (get_or hs j d).name.now)
     ((get_or hs k d).hash ∷ (get_or hs k d).name.now)

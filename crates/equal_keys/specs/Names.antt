@@ -6,7 +6,7 @@ use Rattle.std.specs.List.Sorted.{IsSorted}
 use Rattle.std.specs.Ordering.{nat_cmp}
 use Rattle.std.specs.declared.cmp.Ordering.{Ordering}
 use Rattle.byteorder.specs.Endian.{big_number}
-use Rattle.equal_keys.specs.declared.names.Named.{Named}
+use Rattle.equal_keys.specs.declared.names.NumberedName.{NumberedName}
 
 -- two numbers of 64 bits, mixed to one
 abbrev pub mixed : ℕ → ℕ → ℕ
@@ -21,11 +21,11 @@ abbrev pub name_hash : List ℕ → ℕ
 name_hash name = ends_mixed (min (length name) 8) name
 
 -- how they stand by their names, each name after its hash
-abbrev pub named_cmp : Named → Named → Ordering
-named_cmp x y = slice_cmp nat_cmp (x.hash ∷ x.name.now) (y.hash ∷ y.name.now)
+abbrev pub numbered_cmp : NumberedName → NumberedName → Ordering
+numbered_cmp x y = slice_cmp nat_cmp (x.hash ∷ x.name.now) (y.hash ∷ y.name.now)
 
 -- a number below n with its own name
-pub record HasItsName (name : ℕ → Option (List ℕ)) (n : ℕ) (h : Named) : Type 0 where
+pub record HasItsName (name : ℕ → Option (List ℕ)) (n : ℕ) (h : NumberedName) : Type 0 where
   pub below : h.number < n
   pub own : name h.number ≡ Some h.name.now
   pub mixed : h.hash ≡ name_hash h.name.now
@@ -35,15 +35,15 @@ abbrev pub IsItsAlone : (ℕ → Option (List ℕ)) → ℕ → ℕ → Type 0
 IsItsAlone name n k = (j : ℕ) → j < n → name j ≡ name k → j ≡ k
 
 -- numbers below n, each with its name, and among them all whose name several have
-pub record HoldTheShared (name : ℕ → Option (List ℕ)) (n : ℕ) (named : List Named) : Type 0 where
+pub record HoldTheShared (name : ℕ → Option (List ℕ)) (n : ℕ) (named : List NumberedName) : Type 0 where
   pub each : All (HasItsName name n) named
   pub every : (k : ℕ) (q : List ℕ) → k < n → name k ≡ Some q
-      → ((h : Named) × Contains named h × (h.number ≡ k)) ⊎ IsItsAlone name n k
+      → ((h : NumberedName) × Contains named h × (h.number ≡ k)) ⊎ IsItsAlone name n k
 
 -- these in an order in which equal names stand together
-pub record AreInNameOrder (name : ℕ → Option (List ℕ)) (n : ℕ) (named : List Named) : Type 0 where
+pub record AreInNameOrder (name : ℕ → Option (List ℕ)) (n : ℕ) (named : List NumberedName) : Type 0 where
   pub are : HoldTheShared name n named
-  pub sorted : IsSorted named_cmp named
+  pub sorted : IsSorted numbered_cmp named
 
 -- the numbers below n
 pub record AreNumbersBelow (n : ℕ) (numbers : List ℕ) : Type 0 where

@@ -6,10 +6,10 @@
 //! the same slot, nothing is said.
 //!
 //! What is left is mostly short. There [`classes`] gives numbers one class exactly where they have
-//! one name: they come with their names and these names' hashes ([`Named`], [`hash_of`]), in any
-//! order, and are sorted by hash and name, so that those of one name stand side by side, and each
-//! takes the class of the one before it where their names are equal. A number that is not given has
-//! a class of its own. Where no two names are equal, there are no classes to be made.
+//! one name: they come with their names and these names' hashes ([`NumberedName`], [`hash_of`]), in
+//! any order, and are sorted by hash and name, so that those of one name stand side by side, and
+//! each takes the class of the one before it where their names are equal. A number that is not
+//! given has a class of its own. Where no two names are equal, there are no classes to be made.
 //!
 //! # What it costs
 //!
@@ -22,5 +22,5 @@ mod names;
 mod occupancy;
 mod once;
 
-pub use names::{Named, classes, hash_of};
+pub use names::{NumberedName, classes, hash_of};
 pub use once::seen_once;

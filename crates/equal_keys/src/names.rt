@@ -1,7 +1,7 @@
 //! Names in their order, and the classes of their numbers.
 
 ghost use Rattle.std.specs.Prelude.{◌≡◌, ◌+◌, ◌<◌, ◌≤◌, ◌^◌, ℕ, List, Option, IfOk, MatchOption, false, length};
-ghost use Rattle.equal_keys.specs.Names.{mixed, name_hash, named_cmp, HoldTheShared, AreInNameOrder, AreNumbersBelow, AreClasses, AreNamesApart};
+ghost use Rattle.equal_keys.specs.Names.{mixed, name_hash, numbered_cmp, HoldTheShared, AreInNameOrder, AreNumbersBelow, AreClasses, AreNamesApart};
 
 use byteorder::{BigEndian, ByteOrder};
 use std::alloc::{AllocError, Allocator};
@@ -9,7 +9,7 @@ use std::cmp::Ordering;
 
 /// A name with the number of what has it.
 #[derive(Clone, Copy)]
-pub struct Named<'a> {
+pub struct NumberedName<'a> {
     /// What the name's bytes are mixed to ([`hash_of`]).
     pub hash: u64,
     /// The name.
@@ -45,8 +45,8 @@ fn mix(first: u64, last: u64) -> u64
 }
 
 // How names stand by their hashes, and by all their bytes where these are equal.
-fn order(x: &Named<'_>, y: &Named<'_>) -> Ordering
-    ensures { result ≡ named_cmp x.now y.now }
+fn order(x: &NumberedName<'_>, y: &NumberedName<'_>) -> Ordering
+    ensures { result ≡ numbered_cmp x.now y.now }
 {
     match x.hash.cmp(&y.hash) {
         Ordering::Equal => x.name.cmp(y.name),
@@ -55,7 +55,7 @@ fn order(x: &Named<'_>, y: &Named<'_>) -> Ordering
 }
 
 // Names in their order.
-fn sorted<'a, A: Allocator>(named: Vec<Named<'a>, A>) -> Vec<Named<'a>, A>
+fn sorted<'a, A: Allocator>(named: Vec<NumberedName<'a>, A>) -> Vec<NumberedName<'a>, A>
     ensures { (name : ℕ → Option (List ℕ)) (n : ℕ) → HoldTheShared name n named.entry.items
         → AreInNameOrder name n result.items }
 {
@@ -65,7 +65,7 @@ fn sorted<'a, A: Allocator>(named: Vec<Named<'a>, A>) -> Vec<Named<'a>, A>
 }
 
 // Whether two names are the same that stand side by side.
-fn has_alike(named: &[Named<'_>]) -> bool
+fn has_alike(named: &[NumberedName<'_>]) -> bool
     ensures { result ≡ false → (name : ℕ → Option (List ℕ)) (n : ℕ)
         → AreInNameOrder name n named.now → AreNamesApart name n }
 {
@@ -92,7 +92,7 @@ fn numbers_below<A: Allocator>(alloc: A, end: usize) -> Result<Vec<u32, A>, Allo
 // The classes of the numbers below this one and of one more, from names in their order.
 fn classes_in_order<A: Allocator + Copy>(
     alloc: A,
-    named: &Vec<Named<'_>, A>,
+    named: &Vec<NumberedName<'_>, A>,
     count: usize,
 ) -> Result<Vec<u32, A>, AllocError>
     requires few { count < 2 ^ 32 }
@@ -117,7 +117,7 @@ fn classes_in_order<A: Allocator + Copy>(
 /// may be classes though all names differ. `AllocError` comes only where memory was refused.
 pub fn classes<'a, A: Allocator + Copy>(
     alloc: A,
-    named: Vec<Named<'a>, A>,
+    named: Vec<NumberedName<'a>, A>,
     count: usize,
 ) -> Result<Option<Vec<u32, A>>, AllocError>
     requires few { count < 2 ^ 32 }

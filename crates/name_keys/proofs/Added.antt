@@ -3,11 +3,12 @@
 use Rattle.std.proofs.Common.{◌≡◌, ◌∙◌, sym, ap, ℕ, ◌+◌, ◌<◌, ◌≤◌, inl, inr, List, [], ◌∷◌, ◌++◌, append_assoc, subst, length, map, take, drop, refl, arith}
 use Rattle.std.specs.List.{slice_index_or}
 use Rattle.std.proofs.lemmas.Bool.{cases_lt}
-use Rattle.std.proofs.lemmas.List.{append-nil, map-append, get_or_default, get_or-map, length-map, take_all, take_more}
+use Rattle.std.proofs.lemmas.List.{append-nil, map-append, get_or_default, length-map, take_all, take_more}
 use Rattle.name_keys.specs.Names.{Rise}
 use Rattle.name_keys.specs.Keys.{key, AreBytes}
 use Rattle.name_keys.specs.Keyed.{ShareFront, AddsKeys}
 use Rattle.name_keys.proofs.Fronts.{long_each}
+use Rattle.name_keys.proofs.Rows.{name_at}
 
 -- the key of a name
 abbrev key_after : ℕ → List ℕ → ℕ
@@ -34,7 +35,7 @@ pub long_here : {X : Type 0} (f : X → List ℕ) (shared : ℕ) (rows : List X)
     → row ≡ slice_index_or rows i row → ShareFront shared (map f rows) → shared ≤ length (f row)
 long_here f shared rows i row l at front =
     let n = length-map rows f in
-    let here : slice_index_or (map f rows) i [] ≡ f row = get_or-map f rows i row [] l ∙ ap f (sym at) in
+    let here = name_at f rows i row (f row) l at refl in
     subst (λ (x : List ℕ). shared ≤ length x) here (long_each shared (map f rows) front i [] (omega arith))
 
 -- one row more, as the code goes
@@ -44,7 +45,7 @@ pub goes_on : {X : Type 0} (f : X → List ℕ) (shared : ℕ) (rows : List X) (
     → Keying shared (map f rows) old new' (i + 1)
 goes_on f shared rows old new new' i row k l at bytes made pushed g =
     let n = length-map rows f in
-    let here : slice_index_or (map f rows) i [] ≡ f row = get_or-map f rows i row [] l ∙ ap f (sym at) in
+    let here = name_at f rows i row (f row) l at refl in
     record {
       bytes = λ j d m o. elim (cases_lt j i) [
         | inl q ↦ g.bytes j d q o

@@ -1,13 +1,13 @@
 -- Names in order share what the first and the last of them share: `share`, as a name between two
 -- others shares what these do (`alike`).
-use Rattle.std.proofs.Common.{◌≡◌, ◌∙◌, sym, ap, ℕ, zero, suc, ◌-◌, ◌<◌, ◌≤◌, inl, inr, List, [], ◌∷◌, length, map, take, refl, arith}
+use Rattle.std.proofs.Common.{◌≡◌, sym, ap, ℕ, zero, suc, ◌-◌, ◌<◌, ◌≤◌, inl, inr, List, [], ◌∷◌, length, take, refl, arith}
 use Rattle.std.specs.Cmp.Lexicographic.{slice_cmp}
 use Rattle.std.specs.List.{slice_index_or}
 use Rattle.std.specs.Ordering.{nat_cmp}
 use Rattle.std.specs.declared.cmp.Ordering.TheVariants.{Less, Greater}
 use Rattle.std.proofs.lemmas.Bool.{cases_lt}
 use Rattle.std.proofs.lemmas.Cmp.{ranked, by_ranked}
-use Rattle.std.proofs.lemmas.List.{length-map, length-take, length-take-le, get_or_default, get_or-map}
+use Rattle.std.proofs.lemmas.List.{length-take, length-take-le, get_or_default}
 use Rattle.name_keys.specs.Names.{Rise}
 use Rattle.name_keys.specs.Keyed.{ShareFront, first_of}
 
@@ -48,17 +48,10 @@ all_alike n names rise e (suc k) d l = elim (cases_lt (suc k) (length names - 1)
       rw (get_or_default names (suc k) d [] l, at) (sym e)
 ]
 
--- the same, as the code goes
-pub share : {X : Type 0} (f : X → List ℕ) (rows : List X) (n : ℕ) (first last : X) (a b : List ℕ)
-    → Rise (map f rows) → 0 < length rows → first ≡ slice_index_or rows 0 first
-    → last ≡ slice_index_or rows (length rows - 1) last →
-    a ≡ f first → b ≡ f last → n ≤ length a → take n a ≡ take n b → ShareFront n (map f rows)
-share f rows n first last a b rise some is_first is_last at bt l e =
-    let m = length-map rows f in
-    let x : first_of (map f rows) ≡ a = get_or-map f rows 0 first [] some ∙ ap f (sym is_first) ∙ sym at in
-    let y : slice_index_or (map f rows) (length rows - 1) [] ≡ b = get_or-map f rows (length rows - 1) last [] (omega arith)
-    ∙ ap f (sym is_last) ∙ sym bt in
-    record { long = rw x l; same = all_alike n (map f rows) rise (rw (m, x, y) e) }
+-- what the first and the last share is the front of all
+pub share : (n : ℕ) (names : List (List ℕ)) (first last : List ℕ) → Rise names → first_of names ≡ first
+    → slice_index_or names (length names - 1) [] ≡ last → n ≤ length first → take n first ≡ take n last → ShareFront n names
+share n names first last rise x y l e = record { long = rw x l; same = all_alike n names rise (rw (x, y) e) }
 
 -- any names share a front of no bytes
 pub share_none : (names : List (List ℕ)) → ShareFront 0 names

@@ -1,4 +1,5 @@
 pub mod Order
+pub mod Rows
 pub mod Fronts
 pub mod Added
 pub mod Halves

@@ -5,15 +5,15 @@ ghost use Rattle.name_keys.specs.Names.{Rise};
 ghost use Rattle.name_keys.specs.Keys.{key, AreBytes};
 ghost use Rattle.name_keys.specs.Keyed.{ShareFront, AddsKeys};
 
+use crate::has_name::HasName;
 use crate::key::key_of;
-use crate::named::Named;
 use std::alloc::{AllocError, Allocator};
 
 /// Adds the keys of rows that come in the order of their names, each name once, and says how many
 /// bytes at their fronts all names share. The names may be any bytes, of any number.
 ///
 /// Where memory is refused, some of the keys may stand at the end.
-pub fn add_keys<T: Named, A: Allocator>(
+pub fn add_keys<T: HasName, A: Allocator>(
     rows: &[T],
     keys: &mut Vec<u64, A>,
 ) -> Result<usize, AllocError>
@@ -39,7 +39,7 @@ fn key_past(name: &[u8], shared: usize) -> u64
 
 /// How many bytes at their fronts names in order share: those that the first and the last one
 /// share.
-fn shared_by_all<T: Named>(rows: &[T]) -> usize
+fn shared_by_all<T: HasName>(rows: &[T]) -> usize
     requires { Rise (map T.name rows.now) }
     ensures { ShareFront result (map T.name rows.now) }
 {

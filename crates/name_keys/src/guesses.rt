@@ -3,8 +3,8 @@
 ghost use Rattle.std.specs.Prelude.{◌≡◌, ◌≤◌, ◌+◌, ⊤, length, map, Some, MatchOption};
 ghost use Rattle.name_keys.specs.Names.{Rise, place_of};
 
+use crate::has_name::HasName;
 use crate::key::key_of;
-use crate::named::Named;
 use std::alloc::{AllocError, Allocator};
 
 /// How many slots are looked at for one name.
@@ -40,7 +40,7 @@ impl<A: Allocator> Guesses<A> {
     }
 
     /// Notes the rows of a directory, which stand from `start` on among all rows.
-    pub fn note_all<T: Named>(&mut self, directory: u64, start: usize, rows: &[T]) {
+    pub fn note_all<T: HasName>(&mut self, directory: u64, start: usize, rows: &[T]) {
         for (at, row) in rows.iter().enumerate() {
             self.note(directory, row.name(), start.wrapping_add(at));
         }
@@ -67,7 +67,7 @@ impl<A: Allocator> Guesses<A> {
 
     /// The place of the row with this name among the rows of a directory, which stand from `start`
     /// on among all rows, where it was noted. None says nothing.
-    pub fn find<T: Named>(
+    pub fn find<T: HasName>(
         &self,
         directory: u64,
         start: usize,

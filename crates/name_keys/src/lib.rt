@@ -2,7 +2,8 @@
 //!
 //! Whoever keeps rows in the order of their names has their keys made once, directory by directory
 //! ([`add_keys`]), keeps these beside the rows, and is then told at which place a name stands
-//! ([`find`]). A row is whatever is [`Named`]; what else it holds is its owner's affair.
+//! ([`find`]). A row is whatever has a name ([`HasName`]); what else it holds is its owner's
+//! affair.
 //!
 //! # How a name is found
 //!
@@ -41,13 +42,13 @@
 
 mod adding;
 mod guesses;
+mod has_name;
 mod key;
-mod named;
 mod run;
 mod search;
 
 pub use adding::add_keys;
 pub use guesses::Guesses;
+pub use has_name::HasName;
 pub use key::key_of;
-pub use named::Named;
 pub use search::find;

@@ -4,8 +4,8 @@ ghost use Rattle.std.specs.Prelude.{◌≡◌, map};
 ghost use Rattle.name_keys.specs.Names.{Rise, place_of};
 ghost use Rattle.name_keys.specs.Keyed.{AreKeyed, Narrows};
 
+use crate::has_name::HasName;
 use crate::key::key_of;
-use crate::named::Named;
 use crate::run::run_of;
 use std::cmp::Ordering;
 
@@ -15,7 +15,7 @@ use std::cmp::Ordering;
 /// `keys` and `shared` are what [`add_keys`] made of these rows.
 ///
 /// [`add_keys`]: crate::add_keys
-pub fn find<T: Named>(rows: &[T], keys: &[u64], shared: usize, name: &[u8]) -> Option<usize>
+pub fn find<T: HasName>(rows: &[T], keys: &[u64], shared: usize, name: &[u8]) -> Option<usize>
     requires { AreKeyed shared keys.now (map T.name rows.now) }
     ensures { result ≡ place_of name.now (map T.name rows.now) }
 {
@@ -35,7 +35,7 @@ pub fn find<T: Named>(rows: &[T], keys: &[u64], shared: usize, name: &[u8]) -> O
 }
 
 /// The place of a name, by halves of the rows from `low` to `high`.
-fn find_by_name<T: Named>(rows: &[T], name: &[u8], low: usize, high: usize) -> Option<usize>
+fn find_by_name<T: HasName>(rows: &[T], name: &[u8], low: usize, high: usize) -> Option<usize>
     requires rise { Rise (map T.name rows.now) }
     requires narrows { Narrows (map T.name rows.now) name.now low high }
     ensures { result ≡ place_of name.now (map T.name rows.now) }

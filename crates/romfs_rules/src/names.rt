@@ -12,7 +12,7 @@ ghost use Rattle.equal_keys.specs.Names.{HoldTheShared};
 ghost use Rattle.romfs_rules.specs.Names.{kept_name, kept_names, AreClassesOf, AreNameHashes, HaveNamesApart, HaveTheirsAlone};
 
 use crate::volume::Volume;
-use equal_keys::{Named, classes, hash_of, seen_once};
+use equal_keys::{NumberedName, classes, hash_of, seen_once};
 use romfs_format::limits::HEAD_SIZE;
 use romfs_format::read::{is_dot_name, text_at};
 use std::alloc::{AllocError, Allocator};
@@ -58,7 +58,7 @@ fn named_headers<'a, A: Allocator + Copy>(
     image: &Volume<'a>,
     heads: &[u32],
     once: &[bool],
-) -> Result<Vec<Named<'a>, A>, AllocError>
+) -> Result<Vec<NumberedName<'a>, A>, AllocError>
     requires few { length heads.now < 2 ^ 32 }
     requires inside { (i : ℕ) → i < length heads.now →
         get_or heads.now i 0 + HEAD_SIZE ≤ length image.now.bytes.now }
@@ -74,7 +74,7 @@ fn named_headers<'a, A: Allocator + Copy>(
             continue;
         }
         if let Some(name) = kept_name(image, *at as usize) {
-            named.push(Named {
+            named.push(NumberedName {
                 hash: hash_of(name),
                 name,
                 number: number as u32,

@@ -2,7 +2,7 @@
 
 ghost use Rattle.std.specs.Prelude.{◌≡◌};
 
-use name_keys::Named;
+use name_keys::HasName;
 use path_tree::Name;
 use std::alloc::Allocator;
 use std::marker::Model;
@@ -31,7 +31,7 @@ impl<A: Allocator> Row<A> {
     }
 }
 
-impl<A: Allocator> Named for Row<A> {
+impl<A: Allocator> HasName for Row<A> {
     ghost name = { λ row. row.name };
 
     fn name(&self) -> &[u8] {

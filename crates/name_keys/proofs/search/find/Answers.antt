@@ -1,49 +1,52 @@
-use Rattle.std.proofs.Common.{◌≡◌, ◌∙◌, [], map, sym, ap, arith}
+use Rattle.std.proofs.Common.{◌≡◌, ◌∙◌, ℕ, List, [], ◌<◌, length, map, sym, ap, arith}
 use Rattle.std.specs.List.{slice_index_or}
-use Rattle.std.proofs.lemmas.List.{get_or-map, length-map, take_rest}
+use Rattle.std.proofs.lemmas.List.{length-map, take_rest}
 use Rattle.std.proofs.lemmas.Slice.Eq.{bytes_eq-Decides}
 use Rattle.name_keys.specs.Keys.{key}
 use Rattle.name_keys.proofs.Places.{nowhere, here, not_this}
+use Rattle.name_keys.proofs.Rows.{name_at}
 use Rattle.name_keys.proofs.Narrow.{length-keys, keys_rise, narrows, too_short}
+use Rattle.name_keys.proofs.search.find.Given.{Over}
+use Rattle.name_keys.proofs.search.find.Goals.{After-index-rows-low}
 use Rattle.name_keys.proofs.search.find.Goals as goal
 
 pub returns-then-name-shared : goal.returns-then-name-shared
 returns-then-name-shared g c =
-    let names = map g.T.Named.name c.args.rows.now in
+    let names = map g.T.HasName.name c.args.rows.now in
     nowhere names c.args.name.now (too_short c.args.shared c.args.keys.now names c.requires c.args.name.now c.if-name-shared.true)
 
 pub run_of-low-requires : goal.run_of-low-requires
-run_of-low-requires g c = keys_rise c.args.shared c.args.keys.now (map g.T.Named.name c.args.rows.now) c.requires
+run_of-low-requires g c = keys_rise c.args.shared c.args.keys.now (map g.T.HasName.name c.args.rows.now) c.requires
 
 pub find_by_name-requires-clause-narrows : goal.find_by_name-requires-clause-narrows
 find_by_name-requires-clause-narrows g c =
-    narrows c.args.shared c.args.keys.now (map g.T.Named.name c.args.rows.now) c.requires c.args.name.now _ _ _ (c.key_of-key.ensures
+    narrows c.args.shared c.args.keys.now (map g.T.HasName.name c.args.rows.now) c.requires c.args.name.now _ _ _ (c.key_of-key.ensures
     ∙ ap (key 8) (take_rest c.args.name.now c.args.shared)) c.run_of-low.ensures
+
+-- a row stands at the place that is left, and what was read of it is the name at that place
+at_low : (g : Over) (c : After-index-rows-low g) (name : List ℕ) → name ≡ g.T.HasName.name c.index-rows-low.result
+    → (c.run_of-low.result.0 < length (map g.T.HasName.name c.args.rows.now))
+    × (slice_index_or (map g.T.HasName.name c.args.rows.now) c.run_of-low.result.0 [] ≡ name)
+at_low g c name is =
+    let rows = c.args.rows.now in
+    let m = length-map rows g.T.HasName.name in
+    let n = length-keys c.args.shared c.args.keys.now (map g.T.HasName.name rows) c.requires in
+    let w = c.run_of-low.ensures.within_high in (
+      omega arith,
+      name_at g.T.HasName.name rows _ _ _ (omega arith) c.index-rows-low.is is,
+    )
 
 pub returns-then-eq : goal.returns-then-eq
 returns-then-eq g c =
-    let rows = c.args.rows.now in
-    let names = map g.T.Named.name rows in
-    let low = c.run_of-low.result.0 in
-    let m = length-map rows g.T.Named.name in
-    let n = length-keys c.args.shared c.args.keys.now names c.requires in
-    let w = c.run_of-low.ensures.within_high in
-    let its : slice_index_or names low [] ≡ c.name.result.now = get_or-map g.T.Named.name rows low _ [] (omega arith)
-    ∙ ap g.T.Named.name (sym c.index-rows-low.is) ∙ sym c.name.ensures in
-    here names c.args.name.now low c.requires.rise (omega arith) (its ∙ (bytes_eq-Decides c.name.result.now c.args.name.now).0
-    (sym c.eq.ensures ∙ c.if-eq.true))
+    let its = at_low g (goal.at.returns-then-eq g c).After-index-rows-low _ c.name.ensures in
+    here (map g.T.HasName.name c.args.rows.now) c.args.name.now c.run_of-low.result.0 c.requires.rise its.0 (its.1
+    ∙ (bytes_eq-Decides c.name.result.now c.args.name.now).0 (sym c.eq.ensures ∙ c.if-eq.true))
 
 pub returns-else-eq : goal.returns-else-eq
 returns-else-eq g c =
-    let rows = c.args.rows.now in
-    let names = map g.T.Named.name rows in
-    let low = c.run_of-low.result.0 in
-    let m = length-map rows g.T.Named.name in
-    let n = length-keys c.args.shared c.args.keys.now names c.requires in
-    let w = c.run_of-low.ensures.within_high in
-    let its : slice_index_or names low [] ≡ c.name.result.now = get_or-map g.T.Named.name rows low _ [] (omega arith)
-    ∙ ap g.T.Named.name (sym c.index-rows-low.is) ∙ sym c.name.ensures in
+    let names = map g.T.HasName.name c.args.rows.now in
+    let its = at_low g (goal.at.returns-else-eq g c).After-index-rows-low _ c.name.ensures in
     let left = narrows c.args.shared c.args.keys.now names c.requires c.args.name.now _ _ _ (c.key_of-key.ensures
     ∙ ap (key 8) (take_rest c.args.name.now c.args.shared)) c.run_of-low.ensures in
-    nowhere names c.args.name.now (not_this names c.args.name.now low c.run_of-low.result.1 left c.if-low-high.false (λ e. let t =
-    c.eq.ensures ∙ (bytes_eq-Decides c.name.result.now c.args.name.now).1 (sym its ∙ e) in let f = c.if-eq.false in cc))
+    nowhere names c.args.name.now (not_this names c.args.name.now _ c.run_of-low.result.1 left c.if-low-high.false (λ e. let t =
+    c.eq.ensures ∙ (bytes_eq-Decides c.name.result.now c.args.name.now).1 (sym its.1 ∙ e) in let f = c.if-eq.false in cc))

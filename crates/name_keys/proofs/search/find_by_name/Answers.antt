@@ -1,45 +1,50 @@
-use Rattle.std.proofs.Common.{◌≡◌, ◌∙◌, [], List, ℕ, ◌+◌, ◌-◌, ◌/◌, map, sym, ap, arith}
+use Rattle.std.proofs.Common.{◌≡◌, ◌∙◌, [], List, ℕ, ◌+◌, ◌-◌, ◌/◌, ◌<◌, length, map, sym, ap, arith}
 use Rattle.std.specs.List.{slice_index_or}
 use Rattle.std.specs.Cmp.Lexicographic.{slice_cmp}
 use Rattle.std.specs.Ordering.{nat_cmp}
-use Rattle.std.proofs.lemmas.List.{get_or-map, length-map}
+use Rattle.std.proofs.lemmas.List.{length-map}
 use Rattle.name_keys.proofs.Places.{higher, lower, nowhere, all_other, here, equal}
+use Rattle.name_keys.proofs.Rows.{name_at}
+use Rattle.name_keys.proofs.search.find_by_name.Given.{Over}
+use Rattle.name_keys.proofs.search.find_by_name.Goals.{After-index-rows-middle}
 use Rattle.name_keys.proofs.search.find_by_name.Goals as goal
+
+-- the place in the middle of those that are left
+abbrev middle : ℕ → ℕ → ℕ
+middle low high = low + (high - low) / 2
+
+-- a row stands there, and what was read of it is the name at that place
+at_middle : (g : Over) (c : After-index-rows-middle g) (name : List ℕ) → name ≡ g.T.HasName.name c.index-rows-middle.result
+    → (middle c.loop-low.low c.loop-low.high < length c.args.rows.now)
+    × (slice_index_or (map g.T.HasName.name c.args.rows.now) (middle c.loop-low.low c.loop-low.high) [] ≡ name)
+at_middle g c name is =
+    let n = length-map c.args.rows.now g.T.HasName.name in
+    let w = c.loop-low.invariant.within in (
+      omega arith,
+      name_at g.T.HasName.name c.args.rows.now _ _ _ (omega arith) c.index-rows-middle.is is,
+    )
 
 pub loop-low-preserved-in-Less : goal.loop-low-preserved-in-Less
 loop-low-preserved-in-Less g c =
-    let names = map g.T.Named.name c.args.rows.now in
-    let n = length-map c.args.rows.now g.T.Named.name in
-    let w = c.loop-low.invariant.within in
-    let middle = c.loop-low.low + (c.loop-low.high - c.loop-low.low) / 2 in
-    let its : slice_index_or names middle [] ≡ c.name.result.now = get_or-map g.T.Named.name c.args.rows.now
-    middle _ [] (omega arith) ∙ ap g.T.Named.name (sym c.index-rows-middle.is) ∙ sym c.name.ensures in
-    higher names c.args.name.now c.loop-low.low c.loop-low.high middle c.requires.rise c.loop-low.invariant
-    (omega arith) (ap (λ (x : List ℕ). slice_cmp nat_cmp x c.args.name.now) its ∙ sym c.cmp.ensures
-    ∙ c.in-Less.is)
+    let its = (at_middle g (goal.at.loop-low-preserved-in-Less g c).After-index-rows-middle _ c.name.ensures).1 in
+    higher (map g.T.HasName.name c.args.rows.now) c.args.name.now c.loop-low.low c.loop-low.high
+    (middle c.loop-low.low c.loop-low.high) c.requires.rise c.loop-low.invariant (omega arith)
+    (ap (λ (x : List ℕ). slice_cmp nat_cmp x c.args.name.now) its ∙ sym c.cmp.ensures ∙ c.in-Less.is)
 
 pub returns-in-Equal : goal.returns-in-Equal
 returns-in-Equal g c =
-    let names = map g.T.Named.name c.args.rows.now in
-    let n = length-map c.args.rows.now g.T.Named.name in
-    let w = c.loop-low.invariant.within in
-    let middle = c.loop-low.low + (c.loop-low.high - c.loop-low.low) / 2 in
-    let its : slice_index_or names middle [] ≡ c.name.result.now = get_or-map g.T.Named.name c.args.rows.now
-    middle _ [] (omega arith) ∙ ap g.T.Named.name (sym c.index-rows-middle.is) ∙ sym c.name.ensures in
-    here names c.args.name.now middle c.requires.rise (omega arith) (its ∙ equal _ _ (sym c.cmp.ensures ∙ c.in-Equal.is))
+    let n = length-map c.args.rows.now g.T.HasName.name in
+    let its = at_middle g (goal.at.returns-in-Equal g c).After-index-rows-middle _ c.name.ensures in
+    here (map g.T.HasName.name c.args.rows.now) c.args.name.now (middle c.loop-low.low c.loop-low.high)
+    c.requires.rise (let l = its.0 in omega arith) (its.1 ∙ equal _ _ (sym c.cmp.ensures ∙ c.in-Equal.is))
 
 pub loop-low-preserved : goal.loop-low-preserved
 loop-low-preserved g c =
-    let names = map g.T.Named.name c.args.rows.now in
-    let n = length-map c.args.rows.now g.T.Named.name in
-    let w = c.loop-low.invariant.within in
-    let middle = c.loop-low.low + (c.loop-low.high - c.loop-low.low) / 2 in
-    let its : slice_index_or names middle [] ≡ c.name.result.now = get_or-map g.T.Named.name c.args.rows.now
-    middle _ [] (omega arith) ∙ ap g.T.Named.name (sym c.index-rows-middle.is) ∙ sym c.name.ensures in
-    lower names c.args.name.now c.loop-low.low c.loop-low.high middle c.requires.rise c.loop-low.invariant
-    (omega arith) (ap (λ (x : List ℕ). slice_cmp nat_cmp x c.args.name.now) its ∙ sym c.cmp.ensures
-    ∙ c.in-Greater.is)
+    let its = (at_middle g (goal.at.loop-low-preserved g c).After-index-rows-middle _ c.name.ensures).1 in
+    lower (map g.T.HasName.name c.args.rows.now) c.args.name.now c.loop-low.low c.loop-low.high
+    (middle c.loop-low.low c.loop-low.high) c.requires.rise c.loop-low.invariant (omega arith)
+    (ap (λ (x : List ℕ). slice_cmp nat_cmp x c.args.name.now) its ∙ sym c.cmp.ensures ∙ c.in-Greater.is)
 
 pub returns : goal.returns
-returns g c = nowhere (map g.T.Named.name c.args.rows.now) c.args.name.now
+returns g c = nowhere (map g.T.HasName.name c.args.rows.now) c.args.name.now
     (all_other _ _ c.loop-low.low c.loop-low.high c.loop-low.invariant c.loop-low-test.false)

@@ -4,7 +4,7 @@ use Rattle.name_keys.proofs.search.find_by_name.Given as goal
 
 -- the name is at none of the places that were left out
 abbrev pub invariant-loop-low : goal.invariant-loop-low
-invariant-loop-low g l = Narrows (map g.T.Named.name l.rows) l.name l.low l.high
+invariant-loop-low g l = Narrows (map g.T.HasName.name l.rows) l.name l.low l.high
 
 -- each turn leaves fewer places between low and high
 abbrev pub decreases-loop-low : goal.decreases-loop-low

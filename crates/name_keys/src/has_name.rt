@@ -3,7 +3,7 @@
 ghost use Rattle.std.specs.Prelude.{◌≡◌, ℕ, List};
 
 /// What has a name, as a row of a directory.
-pub trait Named {
+pub trait HasName {
     ghost name: { Self → List ℕ };
 
     /// The bytes of its name.
