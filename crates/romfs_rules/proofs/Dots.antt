@@ -1,7 +1,7 @@
 -- A header that is named . or .. has a dot as the first byte of its name (dot_first): a text begins
 -- as the bytes do that it stands in (first), so its first byte is where its field begins
 -- (first_byte).
-use Rattle.std.proofs.Common.{◌≡◌, ◌∙◌, sym, ap, ℕ, zero, suc, ◌+◌, ◌<◌, inl, inr, List, [], ◌∷◌, length, take, drop, get_or, Bool, true, false, Option, Some, None, refl, arith, leb, cond}
+use Rattle.std.proofs.Common.{◌≡◌, ◌∙◌, sym, ap, ℕ, zero, suc, ◌+◌, ◌<◌, inl, inr, List, [], ◌∷◌, length, take, drop, get_or, Bool, true, false, Option, Some, None, arith, leb, cond}
 use Rattle.std.specs.Option.{option_map}
 use Rattle.std.proofs.lemmas.List.{get_or-take, get_or-drop, length-take, length-drop}
 use Rattle.romfs_format.specs.declared.limits.TheConstants.{NAME_FIELD_SIZE}

@@ -8,7 +8,8 @@ use Rattle.romfs_format.specs.Chains.{IsSomeMember}
 use Rattle.romfs_format.specs.Links.{Field, first_of, next_of, IsLink, IsHardLink, destination, IsDestination, here, there, IsTarget, IsReached}
 use Rattle.romfs_rules.specs.Marks.{IsVolumeImage, AreMarks}
 use Rattle.romfs_rules.specs.Leads.{IsTheOne}
-use Rattle.romfs_rules.specs.Outside.{NamesDestination, NamesBySpec, Names, IsLeast, lesser, Notes}
+use Rattle.romfs_rules.specs.Outside.{NamesDestination, NamesBySpec, Names, IsLeast, IsBelow, IsPastEnd, lesser, Notes, NotesOnBoth}
+use Rattle.romfs_rules.specs.declared.outside.Outside.{Outside}
 use Rattle.romfs_rules.proofs.Slots.{cleared_root, cleared_in_chain, inside_opened, cleared_opened, cleared_destination, outside_set}
 use Rattle.slot_sets.specs.Sets.{IsClear}
 use Rattle.romfs_rules.specs.Leads.{IsInSomeChain}
@@ -148,29 +149,41 @@ then_of V W Q before middle after m n = record {
     onward : (h g : ℕ) → middle ≡ Some g → g ≤ h → (k : ℕ) × (after ≡ Some k) × (k ≤ h)
     onward h g e l = let x = n.old g e in (x.0, x.1, omega arith)
 
--- where spec.info names a place inside the image, nothing is noted
-pub noted_inside : (a : List ℕ) (at : ℕ) (Q : ℕ → Type 0) (found : Option ℕ) → IsInside a (cleared (word a (at + 4)))
-    → ((h : ℕ) → IsInside a h → ¬ Q h) → Notes (NamesBySpec a at) Q found found
-noted_inside a at Q found i n = record { is = λ h e. inl e; old = λ h e. (h, e, omega arith); new = λ h w q. absurd (n h (named h w) q) }
-  where
-    named : (h : ℕ) → NamesBySpec a at h → IsInside a h
-    named h (inl x) = subst (IsInside a) (sym x.1.0) i
-    named h (inr x) = subst (IsInside a) (sym x.2) i
+module _ (a : List ℕ) (at : ℕ) where
+  -- where spec.info names a place inside the image, nothing is noted
+  pub noted_inside : (found : Outside) → IsInside a (cleared (word a (at + 4))) → NotesOnBoth a (NamesBySpec a at) found found
+  noted_inside found i = (
+    stays (IsBelow a) found.below (λ h x q. let l = x.0 in omega arith),
+    stays (IsPastEnd a) found.above (λ h x q. let l = x.1 in let m = q.1 in omega arith),
+  )
+    where
+      named : (h : ℕ) → NamesBySpec a at h → IsInside a h
+      named h (inl x) = subst (IsInside a) (sym x.1.0) i
+      named h (inr x) = subst (IsInside a) (sym x.2) i
 
--- noting the first header, and then the destination, notes what spec.info names
-pub noted_spec : (a : List ℕ) (at : ℕ) (Q : ℕ → Type 0) (first hard before with_first after : Option ℕ)
-    → IsTheOne (IsLink a (first_of at)) first → IsTheOne (NamesDestination a at) hard
-    → Notes (λ h. first ≡ Some h) Q before with_first → Notes (λ h. hard ≡ Some h) Q with_first after
-    → Notes (NamesBySpec a at) Q before after
-noted_spec a at Q first hard before with_first after y z m n =
-    then_of (IsLink a (first_of at)) (NamesDestination a at) Q before with_first after (of_one _ Q _ first _ y m) (of_one _ Q _ hard _ z n)
+      stays : (Q : ℕ → Type 0) (word : Option ℕ) → ((h : ℕ) → IsInside a h → ¬ Q h) → Notes (NamesBySpec a at) Q word word
+      stays Q word n = record { is = λ h e. inl e; old = λ h e. (h, e, omega arith); new = λ h w q. absurd (n h (named h w) q) }
 
--- noting the header after one, and then what its spec.info names, notes all that it names
-pub noted_named : (a : List ℕ) (at : ℕ) (Q : ℕ → Type 0) (next before with_next after : Option ℕ)
-    → IsTheOne (IsLink a (next_of at)) next → Notes (λ h. next ≡ Some h) Q before with_next → Notes (NamesBySpec a at) Q with_next after
-    → Notes (Names a at) Q before after
-noted_named a at Q next before with_next after x l m =
-    then_of (IsLink a (next_of at)) (NamesBySpec a at) Q before with_next after (of_one _ Q _ next _ x l) m
+  -- the one header of W is noted, and then those of V
+  one_and : (W V : ℕ → Type 0) (word : Option ℕ) (before middle after : Outside) → IsTheOne W word
+      → NotesOnBoth a (λ h. word ≡ Some h) before middle → NotesOnBoth a V middle after → NotesOnBoth a (λ h. W h ⊎ V h) before after
+  one_and W V word before middle after o m n = (
+    then_of W V (IsBelow a) _ _ _ (of_one W (IsBelow a) _ word _ o m.0) n.0,
+    then_of W V (IsPastEnd a) _ _ _ (of_one W (IsPastEnd a) _ word _ o m.1) n.1,
+  )
+
+  -- noting the first header, and then the destination, notes what spec.info names
+  pub noted_spec : (first hard : Option ℕ) (before with_first after : Outside) → IsTheOne (IsLink a (first_of at)) first
+      → IsTheOne (NamesDestination a at) hard → NotesOnBoth a (λ h. first ≡ Some h) before with_first
+      → NotesOnBoth a (λ h. hard ≡ Some h) with_first after → NotesOnBoth a (NamesBySpec a at) before after
+  noted_spec first hard before with_first after y z m n = one_and (IsLink a (first_of at)) (NamesDestination a at) first _ _ _ y m
+      (of_one _ (IsBelow a) _ hard _ z n.0, of_one _ (IsPastEnd a) _ hard _ z n.1)
+
+  -- noting the header after one, and then what its spec.info names, notes all that it names
+  pub noted_named : (next : Option ℕ) (before with_next after : Outside) → IsTheOne (IsLink a (next_of at)) next
+      → NotesOnBoth a (λ h. next ≡ Some h) before with_next → NotesOnBoth a (NamesBySpec a at) with_next after
+      → NotesOnBoth a (Names a at) before after
+  noted_named next before with_next after x l m = one_and (IsLink a (next_of at)) (NamesBySpec a at) next _ _ _ x l m
 
 -- what was found is the least of P, and with the notes also of W
 least_more : (P W Q : ℕ → Type 0) (before after : Option ℕ) → IsLeast (λ g. P g × Q g) before → Notes W Q before after

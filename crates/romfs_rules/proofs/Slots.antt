@@ -58,8 +58,13 @@ pub slot_inside : (a : List ℕ) (slot : ℕ) → root a / 16 ≤ slot → slot 
 slot_inside a slot l m = let c = cleared_root a in (omega arith, omega arith)
 
 -- a header may stand at each slot from the root's on
-pub slot_at : (a : List ℕ) (slot : ℕ) → root a / 16 ≤ slot → slot < length a / 16 → HasSlot a (slot * 16)
+slot_at : (a : List ℕ) (slot : ℕ) → root a / 16 ≤ slot → slot < length a / 16 → HasSlot a (slot * 16)
 slot_at a slot l m = record { inside = slot_inside a slot l m; aligned = omega arith }
+
+-- a header may stand at each slot of a set that is behind the root's
+pub slot_behind : (a : List ℕ) (set : List Bool) (from slot : ℕ) → length set ≡ length a / 16 → root a < from * 16
+    → from ≤ slot → slot < length set → HasSlot a (slot * 16)
+slot_behind a set from slot s b l h = slot_at a slot (omega arith) (omega arith)
 
 -- a header may stand where the root's does
 pub root_slot : (a : List ℕ) → IsVolumeImage a → (h : ℕ) → h ≡ root a → HasSlot a h

@@ -46,7 +46,8 @@ by_part Q v h d MajorLarge = h MajorLarge (lit≤ tt, lit< tt)
 by_part Q v h d HeaderSum = h HeaderSum (lit≤ tt, lit< tt)
 by_part Q v h d TooDeep = d
 
--- a fact of every rule of file headers
+-- a fact of every rule of file headers, of each as an argument of its own: so a proof that leaves
+-- out a rule does not pass
 by_rule : (Q : Rule → Type 0) → Q Outside → Q NameOpen → Q NameBad → Q DataOutside → Q TargetLong → Q LinkedTwice
     → Q SameName → Q LinkLoop → Q LinkDirectory → Q MajorLarge → Q HeaderSum → (r : Rule) → IsHeaderRule r
     → Q r

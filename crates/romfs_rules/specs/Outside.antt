@@ -3,6 +3,7 @@ use Rattle.std.specs.Prelude.{◌≡◌, ℕ, ◌+◌, ◌<◌, ◌≤◌, ◌�
 use Rattle.romfs_format.specs.declared.limits.TheConstants.{HEAD_SIZE}
 use Rattle.romfs_format.specs.Fields.{root}
 use Rattle.romfs_format.specs.Chains.{IsSomeMember}
+use Rattle.romfs_rules.specs.declared.outside.Outside.{Outside}
 use Rattle.romfs_format.specs.Links.{first_of, next_of, IsLink, IsHardLink, destination, IsTarget, IsReached}
 
 -- g is the destination of h, a hard link that is a member or that a member's hard link leads over
@@ -48,3 +49,8 @@ pub record Notes (W Q : ℕ → Type 0) (before after : Option ℕ) : Type 0 whe
   pub is : (h : ℕ) → after ≡ Some h → (before ≡ Some h) ⊎ (W h × Q h)
   pub old : (h : ℕ) → before ≡ Some h → (g : ℕ) × (after ≡ Some g) × (g ≤ h)
   pub new : (h : ℕ) → W h → Q h → (g : ℕ) × (after ≡ Some g) × (g ≤ h)
+
+-- the same on both sides of the image, of what W holds of
+abbrev pub NotesOnBoth : List ℕ → (ℕ → Type 0) → Outside → Outside → Type 0
+NotesOnBoth a W before after =
+    Notes W (IsBelow a) before.below after.below × Notes W (IsPastEnd a) before.above after.above

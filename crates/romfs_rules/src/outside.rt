@@ -10,7 +10,7 @@ ghost use Rattle.romfs_rules.specs.Targets.{AreTargets};
 ghost use Rattle.romfs_rules.specs.Marks.{HasSlot};
 ghost use Rattle.romfs_rules.specs.InChains.{AreChains};
 ghost use Rattle.romfs_rules.specs.Leads.{IsTheOne};
-ghost use Rattle.romfs_rules.specs.Outside.{IsLeastBelow, IsLeastPastEnd, Names, NamesBySpec, NamesDestination, IsBelow, IsPastEnd, lesser, Notes};
+ghost use Rattle.romfs_rules.specs.Outside.{IsLeastBelow, IsLeastPastEnd, Names, NamesBySpec, NamesDestination, lesser, NotesOnBoth};
 
 use crate::chains::Chains;
 use crate::lead::destination_of;
@@ -22,6 +22,7 @@ use romfs_format::limits::HEAD_SIZE;
 use romfs_format::read::{cleared, word};
 use slot_sets::SlotSet;
 use std::alloc::Allocator;
+use std::marker::Model;
 
 /// The least places outside the image at which headers are reached.
 #[derive(Clone, Copy)]
@@ -32,43 +33,27 @@ pub(crate) struct Outside {
     pub above: Option<u32>,
 }
 
-// Whether a header is a member, or a member's hard link leads over it.
-fn is_asked<A: Allocator>(
-    image: &Volume,
-    at: usize,
-    chains: &Chains<A>,
-    targets: &SlotSet<A>,
-) -> bool
-    requires slot { HasSlot image.now.bytes.now at }
-    requires chains { AreChains image.now.bytes.now chains.now }
-    requires targets { AreTargets image.now.bytes.now targets.now }
-    ensures { IsTrue result ↔
-        (IsSomeMember image.now.bytes.now at ⊎ IsTarget image.now.bytes.now at) }
-{
-    targets.contains(at / 16) || is_some_member(image, at, chains)
+// What tells where headers lead. A clause sees the image.
+#[derive(Drop)]
+struct Known<'k, A: Allocator> {
+    image: &'k Volume<'k>,
+    /// The headers in chains.
+    chains: &'k Chains<A>,
+    /// Those that the hard links of members lead over.
+    targets: &'k SlotSet<A>,
 }
 
-// The destination of a hard link that is a member, or that a member's hard link leads over.
-#[inline(always)]
-fn named_destination<A: Allocator>(
-    image: &Volume,
-    at: usize,
-    chains: &Chains<A>,
-    targets: &SlotSet<A>,
-) -> Option<u32>
-    requires slot { HasSlot image.now.bytes.now at }
-    requires chains { AreChains image.now.bytes.now chains.now }
-    requires targets { AreTargets image.now.bytes.now targets.now }
-    ensures { IsTheOne (NamesDestination image.now.bytes.now at) result }
-{
-    if !is_hard_link(image, at) {
-        return None;
-    }
-    if is_asked(image, at, chains, targets) {
-        destination_of(image, at)
-    } else {
-        None
-    }
+impl<'k, A: Allocator> Model for Known<'k, A> {
+    ghost use Rattle.std.specs.Prelude.{ℕ, List};
+    ghost use Rattle.romfs_rules.specs.InChains.{AreChains};
+    ghost use Rattle.romfs_rules.specs.Targets.{AreTargets};
+
+    ghost Value = { List ℕ };
+
+    ghost view = { λ held. held.image.now.bytes.now };
+
+    ghost invariant = { λ held. AreChains held.image.now.bytes.now held.chains.now
+        × AreTargets held.image.now.bytes.now held.targets.now };
 }
 
 // The lesser of a word and what was found before.
@@ -85,10 +70,7 @@ fn lesser(found: Option<u32>, word: u32) -> u32
 #[tactic(auto, using(crate::proofs::Reach::notes))]
 #[inline(always)]
 fn note(found: Outside, image: &Volume, word: Option<u32>) -> Outside
-    ensures below { Notes (λ h. word ≡ Some h) (IsBelow image.now.bytes.now)
-        found.below result.below }
-    ensures above { Notes (λ h. word ≡ Some h) (IsPastEnd image.now.bytes.now)
-        found.above result.above }
+    ensures { NotesOnBoth image.now.bytes.now (λ h. word ≡ Some h) found result }
 {
     let Some(word) = word else {
         return found;
@@ -109,53 +91,58 @@ fn note(found: Outside, image: &Volume, word: Option<u32>) -> Outside
     }
 }
 
-// What is found with the headers more that a header's spec.info leads to. Most lie in the image,
-// and then it is not asked whether it leads there.
-#[inline(always)]
-fn note_spec<A: Allocator>(
-    found: Outside,
-    image: &Volume,
-    at: usize,
-    chains: &Chains<A>,
-    targets: &SlotSet<A>,
-) -> Outside
-    requires slot { HasSlot image.now.bytes.now at }
-    requires chains { AreChains image.now.bytes.now chains.now }
-    requires targets { AreTargets image.now.bytes.now targets.now }
-    ensures below { Notes (NamesBySpec image.now.bytes.now at) (IsBelow image.now.bytes.now)
-        found.below result.below }
-    ensures above { Notes (NamesBySpec image.now.bytes.now at) (IsPastEnd image.now.bytes.now)
-        found.above result.above }
-{
-    if is_inside(image, cleared(word(image.bytes, at + 4)) as usize) {
-        return found;
+impl<'k, A: Allocator> Known<'k, A> {
+    // Whether a header is a member, or a member's hard link leads over it.
+    #[inline(always)]
+    fn is_asked(&self, at: usize) -> bool
+        requires { HasSlot self.now at }
+        ensures { IsTrue result ↔ (IsSomeMember self.now at ⊎ IsTarget self.now at) }
+    {
+        self.targets.contains(at / 16) || is_some_member(self.image, at, self.chains)
     }
-    let first = first_link(image, at, chains);
-    let destination = named_destination(image, at, chains, targets);
-    let with_first = note(found, image, first);
-    note(with_first, image, destination)
-}
 
-// What is found with the headers more that a header leads to.
-#[inline(always)]
-fn note_named<A: Allocator>(
-    found: Outside,
-    image: &Volume,
-    at: usize,
-    chains: &Chains<A>,
-    targets: &SlotSet<A>,
-) -> Outside
-    requires slot { HasSlot image.now.bytes.now at }
-    requires chains { AreChains image.now.bytes.now chains.now }
-    requires targets { AreTargets image.now.bytes.now targets.now }
-    ensures below { Notes (Names image.now.bytes.now at) (IsBelow image.now.bytes.now)
-        found.below result.below }
-    ensures above { Notes (Names image.now.bytes.now at) (IsPastEnd image.now.bytes.now)
-        found.above result.above }
-{
-    let next = next_link(image, at, chains);
-    let with_next = note(found, image, next);
-    note_spec(with_next, image, at, chains, targets)
+    // The destination of a hard link that is a member, or that a member's hard link leads over.
+    #[inline(always)]
+    fn destination(&self, at: usize) -> Option<u32>
+        requires { HasSlot self.now at }
+        ensures { IsTheOne (NamesDestination self.now at) result }
+    {
+        if !is_hard_link(self.image, at) {
+            return None;
+        }
+        if self.is_asked(at) {
+            destination_of(self.image, at)
+        } else {
+            None
+        }
+    }
+
+    // What is found with the headers more that a header's spec.info leads to. Most lie in the
+    // image, and then it is not asked whether it leads there.
+    #[inline(always)]
+    fn note_spec(&self, found: Outside, at: usize) -> Outside
+        requires { HasSlot self.now at }
+        ensures { NotesOnBoth self.now (NamesBySpec self.now at) found result }
+    {
+        if is_inside(self.image, cleared(word(self.image.bytes, at + 4)) as usize) {
+            return found;
+        }
+        let first = first_link(self.image, at, self.chains);
+        let destination = self.destination(at);
+        let with_first = note(found, self.image, first);
+        note(with_first, self.image, destination)
+    }
+
+    // What is found with the headers more that a header leads to.
+    #[inline(always)]
+    fn note_named(&self, found: Outside, at: usize) -> Outside
+        requires { HasSlot self.now at }
+        ensures { NotesOnBoth self.now (Names self.now at) found result }
+    {
+        let next = next_link(self.image, at, self.chains);
+        let with_next = note(found, self.image, next);
+        self.note_spec(with_next, at)
+    }
 }
 
 /// Finds the least headers outside the image that are reached, on either side.
@@ -169,14 +156,19 @@ pub(crate) fn find_outside<A: Allocator>(
     ensures below { IsLeastBelow image.now.bytes.now result.below }
     ensures above { IsLeastPastEnd image.now.bytes.now result.above }
 {
+    let known = Known {
+        image,
+        chains,
+        targets,
+    };
     let none = Outside {
         below: None,
         above: None,
     };
-    let mut found = note_named(none, image, image.root, chains, targets);
+    let mut found = known.note_named(none, image.root);
     let mut from = image.root / 16 + 1;
     while let Some(slot) = chains.headers.next_of_either(targets, from) {
-        found = note_named(found, image, slot * 16, chains, targets);
+        found = known.note_named(found, slot * 16);
         from = slot + 1;
     }
     found

@@ -8,26 +8,20 @@ loop-word-init g c = begun c.args.image.now.bytes.now c.in_ok-todo.todo.items c.
 
 pub loop-word-preserved-then-not-is_fresh : goal.loop-word-preserved-then-not-is_fresh
 loop-word-preserved-then-not-is_fresh g c =
-    step_stale c.args.image.now.bytes.now c.loop-word.todo.items c.pop.new.self.items c.loop-word.marks c.in-Some.word
-    c.in-Some.ensures.items c.loop-word.invariant (c.if-not-is_fresh.ensures.stale refl)
+    step_stale _ _ _ _ _ c.in-Some.ensures.items c.loop-word.invariant (c.if-not-is_fresh.ensures.stale refl)
 
 pub loop-word-smaller-then-not-is_fresh : goal.loop-word-smaller-then-not-is_fresh
-loop-word-smaller-then-not-is_fresh g c = less_stale c.args.image.now.bytes.now c.loop-word.todo.items
-    c.pop.new.self.items c.loop-word.marks c.in-Some.word c.in-Some.ensures.items c.loop-word.invariant
+loop-word-smaller-then-not-is_fresh g c = less_stale _ _ _ _ _ c.in-Some.ensures.items c.loop-word.invariant
 
 pub loop-word-preserved : goal.loop-word-preserved
 loop-word-preserved g c =
     let f = c.if-not-is_fresh.ensures.fresh refl in
-    rw c.insert.ensures (step_fresh c.args.image.now.bytes.now c.loop-word.todo.items c.pop.new.self.items
-    c.loop-word.marks c.in-Some.word c.in-Some.ensures.items c.loop-word.invariant c.follow.new.todo.items
-    c.in_ok-follow.ensures f.1 f.0)
+    rw c.insert.ensures (step_fresh _ _ _ _ _ c.in-Some.ensures.items c.loop-word.invariant _ c.in_ok-follow.ensures f.1 f.0)
 
 pub loop-word-smaller : goal.loop-word-smaller
 loop-word-smaller g c =
     let f = c.if-not-is_fresh.ensures.fresh refl in
-    rw c.insert.ensures (less_fresh c.args.image.now.bytes.now c.loop-word.todo.items c.pop.new.self.items
-    c.loop-word.marks c.in-Some.word c.in-Some.ensures.items c.loop-word.invariant c.follow.new.todo.items
-    c.in_ok-follow.ensures f.1 f.2)
+    rw c.insert.ensures (less_fresh _ _ _ _ _ c.in-Some.ensures.items c.loop-word.invariant _ c.in_ok-follow.ensures f.1 f.2)
 
 pub returns : goal.returns
 returns g c =

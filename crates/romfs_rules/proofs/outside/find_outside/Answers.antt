@@ -1,20 +1,18 @@
 use Rattle.std.proofs.Common.{◌≡◌, ◌*◌, ◌/◌, ℕ, Option, None, subst, arith, length}
 use Rattle.romfs_rules.specs.Outside.{IsBelow, IsPastEnd, Names, Notes}
-use Rattle.romfs_rules.proofs.Slots.{slot_inside, slot_at, root_slot, cleared_root, inside_root}
+use Rattle.romfs_rules.proofs.Slots.{slot_inside, slot_behind, root_slot, cleared_root, inside_root}
 use Rattle.romfs_rules.proofs.Reach.{IsFoundBefore, nothing, scans, scanned_to, all_scanned}
 use Rattle.romfs_rules.proofs.outside.find_outside.Goals as goal
 
-pub note_named-found-requires-clause-slot : goal.note_named-found-requires-clause-slot
-note_named-found-requires-clause-slot g c = root_slot c.args.image.now.bytes.now c.args.image.now.keeps c.args.image.now.root
+pub note_named-found-requires : goal.note_named-found-requires
+note_named-found-requires g c = root_slot c.args.image.now.bytes.now c.args.image.now.keeps c.args.image.now.root
     c.args.image.now.rooted
 
-pub note_named-found-requires-in-Some-clause-slot : goal.note_named-found-requires-in-Some-clause-slot
-note_named-found-requires-in-Some-clause-slot g c =
-    let l = c.in-Some.ensures.low in
-    let h = c.in-Some.ensures.high in
-    let s = c.requires.chains.headers.sized in
-    let b = c.loop-slot.invariant.behind in
-    slot_at c.args.image.now.bytes.now c.in-Some.slot (omega arith) (omega arith)
+pub note_named-found-requires-in-Some : goal.note_named-found-requires-in-Some
+note_named-found-requires-in-Some g c =
+    let n = c.in-Some.ensures in
+    slot_behind c.args.image.now.bytes.now c.args.chains.now.headers c.loop-slot.from c.in-Some.slot
+    c.requires.chains.headers.sized c.loop-slot.invariant.behind n.low n.high
 
 pub loop-slot-init : goal.loop-slot-init
 loop-slot-init g c =
@@ -32,10 +30,10 @@ loop-slot-init g c =
       low = omega arith;
       below = scans a (IsBelow a) slot None after.result.below inside
           (nothing a (IsBelow a) slot (omega arith)) (subst
-          (λ h. Notes (Names a h) (IsBelow a) None after.result.below) e after.ensures.below);
+          (λ h. Notes (Names a h) (IsBelow a) None after.result.below) e after.ensures.0);
       above = scans a (IsPastEnd a) slot None after.result.above inside
           (nothing a (IsPastEnd a) slot (omega arith)) (subst
-          (λ h. Notes (Names a h) (IsPastEnd a) None after.result.above) e after.ensures.above);
+          (λ h. Notes (Names a h) (IsPastEnd a) None after.result.above) e after.ensures.1);
     }
 
 pub loop-slot-preserved : goal.loop-slot-preserved
@@ -47,7 +45,7 @@ loop-slot-preserved g c =
     let h = n.high in
     let s = c.requires.chains.headers.sized in
     let b = c.loop-slot.invariant.behind in
-    let inside = slot_inside a slot (omega arith) (omega arith) in
+    let inside = (slot_behind a c.args.chains.now.headers c.loop-slot.from slot s b l h).inside in
     let before = c.loop-slot.found in
     let after = c.note_named-found-in-Some in
     let headers = c.args.chains.now.headers in
@@ -58,11 +56,11 @@ loop-slot-preserved g c =
       below = scans a (IsBelow a) slot before.below after.result.below inside
           (scanned_to a (IsBelow a) headers targets c.requires.chains.headers c.requires.targets
           c.loop-slot.from slot before.below b l n.one_clear n.other_clear c.loop-slot.invariant.below)
-          after.ensures.below;
+          after.ensures.0;
       above = scans a (IsPastEnd a) slot before.above after.result.above inside
           (scanned_to a (IsPastEnd a) headers targets c.requires.chains.headers c.requires.targets
           c.loop-slot.from slot before.above b l n.one_clear n.other_clear c.loop-slot.invariant.above)
-          after.ensures.above;
+          after.ensures.1;
     }
 
 pub returns : goal.returns

@@ -1,6 +1,6 @@
 use Rattle.std.proofs.Common.{◌≡◌, ◌*◌, ◌/◌, subst, arith, length}
 use Rattle.romfs_rules.specs.Twice.{CountsBoth}
-use Rattle.romfs_rules.proofs.Slots.{cleared_root, slot_at, root_slot}
+use Rattle.romfs_rules.proofs.Slots.{cleared_root, slot_behind, root_slot}
 use Rattle.romfs_rules.proofs.Counted.{Tallied, Below, none_tallied, passes, skipped_to, all_twice}
 use Rattle.romfs_rules.proofs.twice.mark_twice.Goals as goal
 
@@ -28,11 +28,9 @@ count_links-requires-clause-slot g c = root_slot c.args.image.now.bytes.now c.ar
 
 pub count_links-requires-in-Some-clause-slot : goal.count_links-requires-in-Some-clause-slot
 count_links-requires-in-Some-clause-slot g c =
-    let l = c.in-Some.ensures.next.low in
-    let h = c.in-Some.ensures.next.high in
-    let s = c.requires.chains.headers.sized in
-    let b = c.loop-slot.invariant.behind in
-    slot_at c.args.image.now.bytes.now c.in-Some.slot (omega arith) (omega arith)
+    let n = c.in-Some.ensures.next in
+    slot_behind c.args.image.now.bytes.now c.args.chains.now.headers c.loop-slot.from c.in-Some.slot
+    c.requires.chains.headers.sized c.loop-slot.invariant.behind n.low n.high
 
 pub loop-slot-preserved : goal.loop-slot-preserved
 loop-slot-preserved g c =
