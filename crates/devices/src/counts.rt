@@ -1,9 +1,11 @@
 //! The counts that devices keep. A count that has come to 2^64 - 1 stays there.
 
 ghost use Rattle.std.specs.Prelude.{◌≡◌};
+ghost use Rattle.std.specs.Io.KnownBytes.{Keeps};
 ghost use Rattle.devices.specs.Counting.{no_pulls, no_pushes, pulled, pushed, flushed};
 
 use crate::failed::Failed;
+use std::io::Write;
 
 /// What a pull was.
 #[derive(Debug, Clone, Copy, PartialEq, Eq)]
@@ -99,8 +101,21 @@ impl Pushes {
         }
     }
 
-    /// Counts a flush.
-    pub fn note_flush(&mut self, done: &Result<(), Failed>)
+    /// Flushes a writer, and counts it. Any error is a failure, an interrupted one too.
+    pub fn flush<W: Write>(&mut self, writer: &mut W) -> Result<(), Failed>
+        ensures bytes { Keeps (W.contents writer.old) (W.contents writer.new) }
+        ensures counts { self.new ≡ flushed self.old result }
+    {
+        let done = match writer.flush() {
+            Ok(_) => Ok(()),
+            Err(_) => Err(Failed),
+        };
+        self.note_flush(&done);
+        done
+    }
+
+    // Counts a flush.
+    fn note_flush(&mut self, done: &Result<(), Failed>)
         ensures { self.new ≡ flushed self.old done.now }
     {
         self.flushes = self.flushes.saturating_add(1);

@@ -59,11 +59,6 @@ impl<W: Write> Sink for Spout<W> {
     }
 
     fn flush(&mut self) -> Result<(), Failed> {
-        let done = match self.writer.flush() {
-            Ok(_) => Ok(()),
-            Err(_) => Err(Failed),
-        };
-        self.counts.note_flush(&done);
-        done
+        self.counts.flush(&mut self.writer)
     }
 }

@@ -81,12 +81,7 @@ impl<W: Write> Sink for ReplySpout<W> {
     }
 
     fn flush(&mut self) -> Result<(), Failed> {
-        let done = match self.writer.flush() {
-            Ok(_) => Ok(()),
-            Err(_) => Err(Failed),
-        };
-        self.counts.note_flush(&done);
-        done
+        self.counts.flush(&mut self.writer)
     }
 }
 
