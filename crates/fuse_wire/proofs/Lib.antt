@@ -6,4 +6,4 @@ pub mod Sizes
 pub mod Padding
 pub mod Items
 pub mod Bodies
-pub mod Worked
+pub mod Computing

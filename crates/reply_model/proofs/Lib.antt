@@ -1,7 +1,7 @@
 pub mod Headers
 pub mod Fronts
 pub mod Worked
-pub mod LastingWorked
+pub mod Computing
 pub mod Lengths
 pub mod Refused
 pub mod Given

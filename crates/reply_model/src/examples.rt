@@ -1,95 +1,81 @@
 //! Worked examples: over the empty image and the sample image, what requests are answered, by
 //! computation.
+#![tactic(auto, unfolding(crate::proofs::Computing::replies_on_literals))]
 
 ghost use Rattle.reply_model.specs.Examples.{StreamExamples, FaultOrder, FaultExamples, EmptyImageFields, InitExamples, GetattrExamples, ReaddirExamples, ReaddirplusExamples, ReadExamples, LookupExamples, NodeExamples, OpenExamples, SessionExamples, ExportExamples, SilentExamples, RefusalOrder, TwelveRequests, BalanceExamples};
 ghost use Rattle.reply_model.specs.LastingExamples.{LastingInitExamples, LastingSessionExamples, LastingLookupExamples, LastingOpenExamples, LastingFlushExamples, LastingStreamExamples};
 
 /// The fields of the empty image.
-#[tactic(auto, using(crate::proofs::Worked::the_empty_image))]
 pub fn the_empty_image_example()
     ensures { EmptyImageFields }
 {}
 
 /// INIT: versions and terms.
-#[tactic(auto, using(crate::proofs::Worked::init))]
 pub fn init_example()
     ensures { InitExamples }
 {}
 
 /// GETATTR over the empty image.
-#[tactic(auto, using(crate::proofs::Worked::getattr))]
 pub fn getattr_example()
     ensures { GetattrExamples }
 {}
 
 /// READDIR over the empty image.
-#[tactic(auto, using(crate::proofs::Worked::readdir))]
 pub fn readdir_example()
     ensures { ReaddirExamples }
 {}
 
 /// READDIRPLUS over the sample image.
-#[tactic(auto, using(crate::proofs::Worked::readdirplus))]
 pub fn readdirplus_example()
     ensures { ReaddirplusExamples }
 {}
 
 /// READ over the sample image.
-#[tactic(auto, using(crate::proofs::Worked::read))]
 pub fn read_example()
     ensures { ReadExamples }
 {}
 
 /// LOOKUP over the sample image.
-#[tactic(auto, using(crate::proofs::Worked::lookup))]
 pub fn lookup_example()
     ensures { LookupExamples }
 {}
 
 /// Attributes, STATFS, OPEN and the other requests over the sample image.
-#[tactic(auto, using(crate::proofs::Worked::node_requests))]
 pub fn node_requests_example()
     ensures { NodeExamples }
 {}
 
 /// OPEN and OPENDIR over the sample image.
-#[tactic(auto, using(crate::proofs::Worked::opens))]
 pub fn open_example()
     ensures { OpenExamples }
 {}
 
 /// When sessions begin and end.
-#[tactic(auto, using(crate::proofs::Worked::sessions))]
 pub fn sessions_example()
     ensures { SessionExamples }
 {}
 
 /// LOOKUP of . and .. in a session with `FUSE_EXPORT_SUPPORT`.
-#[tactic(auto, using(crate::proofs::Worked::exported))]
 pub fn export_example()
     ensures { ExportExamples }
 {}
 
 /// Requests without a reply.
-#[tactic(auto, using(crate::proofs::Worked::silent))]
 pub fn silent_example()
     ensures { SilentExamples }
 {}
 
 /// Which of two refusals is answered.
-#[tactic(auto, using(crate::proofs::Worked::refusals))]
 pub fn order_of_refusals_example()
     ensures { RefusalOrder }
 {}
 
 /// A whole session of twelve requests over the sample image.
-#[tactic(auto, using(crate::proofs::Worked::twelve))]
 pub fn twelve_requests_example()
     ensures { TwelveRequests }
 {}
 
 /// What requests give and take, and what a client holds after them.
-#[tactic(auto, using(crate::proofs::Worked::balances))]
 pub fn balances_example()
     ensures { BalanceExamples }
 {}
@@ -113,37 +99,31 @@ pub fn faults_example()
 {}
 
 /// INIT of a stream that is served lastingly.
-#[tactic(auto, using(crate::proofs::LastingWorked::lasting_init))]
 pub fn lasting_init_example()
     ensures { LastingInitExamples }
 {}
 
 /// When lasting sessions begin and end, and what they remember.
-#[tactic(auto, using(crate::proofs::LastingWorked::lasting_sessions))]
 pub fn lasting_sessions_example()
     ensures { LastingSessionExamples }
 {}
 
 /// LOOKUP of names that are there and of names that are none, lastingly.
-#[tactic(auto, using(crate::proofs::LastingWorked::lasting_lookup))]
 pub fn lasting_lookup_example()
     ensures { LastingLookupExamples }
 {}
 
 /// OPEN and OPENDIR, lastingly.
-#[tactic(auto, using(crate::proofs::LastingWorked::lasting_opens))]
 pub fn lasting_open_example()
     ensures { LastingOpenExamples }
 {}
 
 /// FLUSH, lastingly, and what stays beside it.
-#[tactic(auto, using(crate::proofs::LastingWorked::lasting_flush))]
 pub fn lasting_flush_example()
     ensures { LastingFlushExamples }
 {}
 
 /// Whole streams that are served lastingly, and their balances.
-#[tactic(auto, using(crate::proofs::LastingWorked::lasting_streams))]
 pub fn lasting_streams_example()
     ensures { LastingStreamExamples }
 {}

@@ -1,4 +1,4 @@
 pub mod Listings
 pub mod Joined
 pub mod Numbering
-pub mod Worked
+pub mod Computing
