@@ -1,14 +1,15 @@
 -- The text of a name by runs of bytes that are printed as themselves. `run_none` to `run_all` say
 -- how a run grows; `byte_then` is the main lemma: a run, an escaped byte and the rest are the text
 -- of the name. `all_left` to `none_left` put a name run by run, until none of it is left.
-use Rattle.std.proofs.Common.{◌≡◌, ◌∙◌, sym, ap, ℕ, ◌+◌, ◌<◌, ◌≤◌, List, [], ◌∷◌, ◌++◌, length, take, drop, get_or, Option, true, arith, refl, append-nil, append_assoc, take_all, take-append-drop}
+use Rattle.std.proofs.Common.{◌≡◌, ◌∙◌, sym, ap, ℕ, ◌+◌, ◌<◌, ◌≤◌, List, [], ◌∷◌, ◌++◌, length, take, drop, get_or, Ok, true, arith, refl, append-nil, append_assoc, take_all, take-append-drop}
 use Rattle.std.proofs.lemmas.List.{take_more}
 use Rattle.std.specs.List.{IsFirstAndRest}
 use Rattle.std.proofs.lemmas.List.Concat.{flat_map-append}
 use Rattle.path_list.specs.Lines.{is_unescaped, escaped, name_text}
+use Rattle.devices.specs.declared.failed.Failed.{Failed}
 use Rattle.devices.specs.States.{SinkState}
-use Rattle.path_list.specs.Walks.{Gains, GainsAllBut}
-use Rattle.path_list.proofs.Gaining.{gains_none, gains_more, gains_same, name_more}
+use Rattle.path_list.specs.Walks.{Puts, PutsAllBut}
+use Rattle.path_list.proofs.Gaining.{puts_none, puts_more, puts_same, name_more}
 
 -- the bytes so far are printed as themselves
 abbrev pub IsRun : List ℕ → ℕ → Type 0
@@ -61,15 +62,15 @@ byte_then name run others rest byte i r p q f =
     ∙ run_then name run others i r p q
 
 -- before a step nothing is put, and the whole name is left
-pub all_left : (w : SinkState) (r name : List ℕ) → GainsAllBut w r w r name name
-all_left w r name = record { text = []; gains = gains_none w r; whole = refl }
+pub all_left : (w : SinkState) (r name : List ℕ) → PutsAllBut w r w r name name
+all_left w r name = record { text = []; puts = puts_none tt w r; whole = refl }
 
 -- where a step left some of the name and the next left less of that, both left the less of the name
 pub less_left : {u v w : SinkState} {r s t name rest others : List ℕ}
-    → GainsAllBut u r v s name rest → GainsAllBut v s w t rest others → GainsAllBut u r w t name others
+    → PutsAllBut u r v s name rest → PutsAllBut v s w t rest others → PutsAllBut u r w t name others
 less_left {others = others} g h = record {
   text = g.text ++ h.text;
-  gains = gains_more g.gains h.gains;
+  puts = puts_more g.puts h.puts;
   whole = append_assoc g.text h.text (name_text others) ∙ ap (λ t. g.text ++ t) h.whole ∙ g.whole;
 }
 
@@ -79,6 +80,6 @@ none_text [] z = refl
 none_text (byte ∷ rest) z = absurd (omega (arith, z))
 
 -- where no byte of the name is left, its text was put
-pub none_left : {u w : SinkState} {r t name rest : List ℕ} → length rest ≡ 0 → GainsAllBut u r w t name rest
-    → Gains u r w t (name_text name)
-none_left {rest = rest} z g = gains_same (sym (append-nil g.text) ∙ ap (λ t. g.text ++ t) (sym (none_text rest z)) ∙ g.whole) g.gains
+pub none_left : {u w : SinkState} {r t name rest : List ℕ} → length rest ≡ 0 → PutsAllBut u r w t name rest
+    → Puts {X = Unit {0}} {E = Failed} (Ok tt) u r w t (name_text name)
+none_left {rest = rest} z g = puts_same (sym (append-nil g.text) ∙ ap (λ t. g.text ++ t) (sym (none_text rest z)) ∙ g.whole) g.puts

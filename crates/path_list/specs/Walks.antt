@@ -1,9 +1,11 @@
 -- What a walk over a table prints, and on what it stands.
-use Rattle.std.specs.Prelude.{◌≡◌, ℕ, List, [], ◌∷◌, ◌++◌, Option, flat_map}
+use Rattle.std.specs.Prelude.{◌≡◌, ℕ, List, [], ◌∷◌, ◌++◌, Option, flat_map, Result, Ok, OnOk}
 use Rattle.std.specs.Borrow.{Bor}
 use Rattle.std.specs.Option.{option_map_or}
 use Rattle.std.specs.Io.KnownBytes.{Appends, append_known}
+use Rattle.devices.specs.declared.failed.Failed.{Failed}
 use Rattle.devices.specs.States.{SinkState}
+use Rattle.devices.specs.Pushing.{Settles}
 use Rattle.stack_model.specs.Stack.{Path}
 use Rattle.stack_model.specs.Listing.{Entry, IsAmong}
 use Rattle.stack_model.specs.Numbers.{place, number, node_of}
@@ -17,16 +19,23 @@ pub record Gains (old : SinkState) (old_room : List ℕ) (new : SinkState) (new_
     (bytes : List ℕ) : Type 0 where
   pub gained : Appends (append_known old.held old_room) (append_known new.held new_room) bytes
 
--- what they gained is the text of a name but for that of this rest of it
-pub record GainsAllBut (old : SinkState) (old_room : List ℕ) (new : SinkState)
-    (new_room : List ℕ) (name rest : List ℕ) : Type 0 where
+-- a call put these bytes behind those on their way, or the sink failed once more; where it succeeds
+-- no byte more waits for a flush
+pub record Puts {X E : Type 0} (result : Result X E) (old : SinkState) (old_room : List ℕ)
+    (new : SinkState) (new_room : List ℕ) (bytes : List ℕ) : Type 0 where
+  pub gained : OnOk result (Gains old old_room new new_room bytes)
+  pub counted : Settles result old new
+
+-- a call put the text of a name but for that of this rest of it
+pub record PutsAllBut (old : SinkState) (old_room : List ℕ) (new : SinkState) (new_room : List ℕ)
+    (name rest : List ℕ) : Type 0 where
   pub text : List ℕ
-  pub gains : Gains old old_room new new_room text
+  pub puts : Puts {X = Unit {0}} {E = Failed} (Ok tt) old old_room new new_room text
   pub whole : text ++ name_text rest ≡ name_text name
 
 -- the names from the root
-abbrev pub way : Option (Bor (List (List ℕ))) → Path
-way trail = option_map_or (λ names. names.now) trail []
+abbrev pub way : Option (Bor (Path × List ℕ)) → Path
+way trail = option_map_or (λ here. here.now.0 ++ here.now.1 ∷ []) trail []
 
 -- the line of a number at a path
 abbrev pub line_at : Stacked → ℕ → Path → List ℕ

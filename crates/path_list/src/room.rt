@@ -3,7 +3,7 @@
 ghost use Rattle.std.specs.Prelude.{◌≡◌, ◌≤◌, ◌<◌, ◌+◌, ◌^◌, [], ◌∷◌, ◌++◌, length, OnOk, vec_len, vec_capacity};
 ghost use Rattle.std.specs.Io.KnownBytes.{Appends};
 ghost use Rattle.devices.specs.Pushing.{Settles};
-ghost use Rattle.path_list.specs.Walks.{Gains};
+ghost use Rattle.path_list.specs.Walks.{Puts};
 
 use devices::{Failed, Sink, hand_on};
 use std::alloc::Allocator;
@@ -53,9 +53,8 @@ pub(crate) fn put<K: Sink, A: Allocator>(
     bytes: &[u8],
 ) -> Result<(), Failed>
     requires { (K.state sink.old).counts.failures < 2 ^ 63 }
-    ensures gained { OnOk result (Gains (K.state sink.old) room.old.items
-        (K.state sink.new) room.new.items bytes.now) }
-    ensures counted { Settles result (K.state sink.old) (K.state sink.new) }
+    ensures { Puts result (K.state sink.old) room.old.items (K.state sink.new) room.new.items
+        bytes.now }
 {
     if bytes.len() <= room.capacity() - room.len() {
         append(room, bytes);
@@ -76,9 +75,8 @@ pub(crate) fn put_byte<K: Sink, A: Allocator>(
     byte: u8,
 ) -> Result<(), Failed>
     requires { (K.state sink.old).counts.failures < 2 ^ 63 }
-    ensures gained { OnOk result (Gains (K.state sink.old) room.old.items
-        (K.state sink.new) room.new.items (byte ∷ [])) }
-    ensures counted { Settles result (K.state sink.old) (K.state sink.new) }
+    ensures { Puts result (K.state sink.old) room.old.items (K.state sink.new) room.new.items
+        (byte ∷ []) }
 {
     if room.len() < room.capacity() {
         append_byte(room, byte);

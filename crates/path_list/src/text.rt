@@ -1,10 +1,10 @@
 //! The text of a line.
 
-ghost use Rattle.std.specs.Prelude.{◌≡◌, ◌<◌, ◌≤◌, ◌^◌, ◌++◌, ◌∷◌, [], length, take, OnOk, IfOk};
+ghost use Rattle.std.specs.Prelude.{◌≡◌, ◌<◌, ◌≤◌, ◌^◌, ◌++◌, ◌∷◌, [], length, take, IfOk};
 ghost use Rattle.std.specs.Fmt.{decimal};
 ghost use Rattle.devices.specs.Pushing.{Settles};
 ghost use Rattle.path_list.specs.Lines.{hex_digit, escaped, name_text, names_text, path_text, octal_digit, mode_text, is_unescaped, spaced};
-ghost use Rattle.path_list.specs.Walks.{Gains, GainsAllBut, way};
+ghost use Rattle.path_list.specs.Walks.{Puts, PutsAllBut, way};
 
 use crate::room::{put, put_byte};
 use crate::trail::Trail;
@@ -26,7 +26,7 @@ fn octal_digit(n: u32) -> u8
 }
 
 // A mode in six octal digits, and a space.
-fn spaced_mode(mode: u32) -> [u8; 7]
+pub(crate) fn spaced_mode(mode: u32) -> [u8; 7]
     ensures { result ≡ spaced (mode_text mode) }
 {
     [
@@ -54,9 +54,8 @@ fn put_escaped<K: Sink, A: Allocator>(
     byte: u8,
 ) -> Result<(), Failed>
     requires { (K.state sink.old).counts.failures < 2 ^ 63 }
-    ensures gained { OnOk result (Gains (K.state sink.old) room.old.items
-        (K.state sink.new) room.new.items (escaped byte)) }
-    ensures counted { Settles result (K.state sink.old) (K.state sink.new) }
+    ensures { Puts result (K.state sink.old) room.old.items (K.state sink.new) room.new.items
+        (escaped byte) }
 {
     if is_unescaped(byte) {
         put_byte(sink, room, byte)
@@ -90,7 +89,7 @@ fn put_run<'a, K: Sink, A: Allocator>(
 ) -> Result<&'a [u8], Failed>
     requires some { 0 < length name.now }
     requires counts { (K.state sink.old).counts.failures < 2 ^ 63 }
-    ensures gained { IfOk result (λ rest. GainsAllBut (K.state sink.old) room.old.items
+    ensures put { IfOk result (λ rest. PutsAllBut (K.state sink.old) room.old.items
         (K.state sink.new) room.new.items name.now rest.now) }
     ensures shorter { IfOk result (λ rest. length rest.now < length name.now) }
     ensures counted { Settles result (K.state sink.old) (K.state sink.new) }
@@ -113,30 +112,14 @@ fn put_name<K: Sink, A: Allocator>(
     name: &[u8],
 ) -> Result<(), Failed>
     requires { (K.state sink.old).counts.failures < 2 ^ 63 }
-    ensures gained { OnOk result (Gains (K.state sink.old) room.old.items
-        (K.state sink.new) room.new.items (name_text name.now)) }
-    ensures counted { Settles result (K.state sink.old) (K.state sink.new) }
+    ensures { Puts result (K.state sink.old) room.old.items (K.state sink.new) room.new.items
+        (name_text name.now) }
 {
     let mut rest = name;
     while !rest.is_empty() {
         rest = put_run(sink, room, rest)?;
     }
     Ok(())
-}
-
-// Puts a name after a slash.
-fn put_step<K: Sink, A: Allocator>(
-    sink: &mut K,
-    room: &mut Vec<u8, A>,
-    name: &[u8],
-) -> Result<(), Failed>
-    requires { (K.state sink.old).counts.failures < 2 ^ 63 }
-    ensures gained { OnOk result (Gains (K.state sink.old) room.old.items
-        (K.state sink.new) room.new.items (47 ∷ name_text name.now)) }
-    ensures counted { Settles result (K.state sink.old) (K.state sink.new) }
-{
-    put_byte(sink, room, b'/')?;
-    put_name(sink, room, name)
 }
 
 // Puts the names of a way, each after a slash.
@@ -146,17 +129,15 @@ fn put_names<K: Sink, A: Allocator>(
     trail: Option<&Trail<'_>>,
 ) -> Result<(), Failed>
     requires { (K.state sink.old).counts.failures < 2 ^ 63 }
-    ensures gained { OnOk result (Gains (K.state sink.old) room.old.items
-        (K.state sink.new) room.new.items (names_text (way trail.entry))) }
-    ensures counted { Settles result (K.state sink.old) (K.state sink.new) }
+    ensures { Puts result (K.state sink.old) room.old.items (K.state sink.new) room.new.items
+        (names_text (way trail.entry)) }
 {
-    match trail {
-        None => Ok(()),
-        Some(here) => {
-            put_names(sink, room, here.above)?;
-            put_step(sink, room, here.name)
-        }
-    }
+    let Some(here) = trail else {
+        return Ok(());
+    };
+    put_names(sink, room, here.above)?;
+    put_byte(sink, room, b'/')?;
+    put_name(sink, room, here.name)
 }
 
 // Puts the path of a way.
@@ -166,16 +147,12 @@ pub(crate) fn put_path<K: Sink, A: Allocator>(
     trail: Option<&Trail<'_>>,
 ) -> Result<(), Failed>
     requires { (K.state sink.old).counts.failures < 2 ^ 63 }
-    ensures gained { OnOk result (Gains (K.state sink.old) room.old.items
-        (K.state sink.new) room.new.items (path_text (way trail.entry))) }
-    ensures counted { Settles result (K.state sink.old) (K.state sink.new) }
+    ensures { Puts result (K.state sink.old) room.old.items (K.state sink.new) room.new.items
+        (path_text (way trail.entry)) }
 {
     match trail {
         None => put_byte(sink, room, b'/'),
-        Some(here) => {
-            put_names(sink, room, here.above)?;
-            put_step(sink, room, here.name)
-        }
+        Some(_) => put_names(sink, room, trail),
     }
 }
 
@@ -186,25 +163,10 @@ pub(crate) fn put_number<K: Sink, A: Allocator>(
     number: u64,
 ) -> Result<(), Failed>
     requires { (K.state sink.old).counts.failures < 2 ^ 63 }
-    ensures gained { OnOk result (Gains (K.state sink.old) room.old.items
-        (K.state sink.new) room.new.items (spaced (decimal number))) }
-    ensures counted { Settles result (K.state sink.old) (K.state sink.new) }
+    ensures { Puts result (K.state sink.old) room.old.items (K.state sink.new) room.new.items
+        (spaced (decimal number)) }
 {
     let mut digits = Buffer::new();
     put(sink, room, digits.format(number).as_bytes())?;
     put_byte(sink, room, b' ')
-}
-
-// Puts a mode, and a space.
-pub(crate) fn put_mode<K: Sink, A: Allocator>(
-    sink: &mut K,
-    room: &mut Vec<u8, A>,
-    mode: u32,
-) -> Result<(), Failed>
-    requires { (K.state sink.old).counts.failures < 2 ^ 63 }
-    ensures gained { OnOk result (Gains (K.state sink.old) room.old.items
-        (K.state sink.new) room.new.items (spaced (mode_text mode))) }
-    ensures counted { Settles result (K.state sink.old) (K.state sink.new) }
-{
-    put(sink, room, &spaced_mode(mode))
 }

@@ -14,11 +14,11 @@ impl<'a> Model for Trail<'a> {
     ghost use Rattle.std.proofs.Common.{arith, length-append};
     ghost use Rattle.std.specs.Option.{option_map_or};
 
-    ghost Value = { List (List ℕ) };
+    ghost Value = { List (List ℕ) × List ℕ };
 
-    ghost view = { λ t. option_map_or (λ up. up.now) t.above [] ++ t.name.now ∷ [] };
+    ghost view = { λ t. (option_map_or (λ up. up.now.0 ++ up.now.1 ∷ []) t.above [], t.name.now) };
 
-    ghost size = { length };
+    ghost size = { λ t. length t.0 };
 
     ghost size_decreases = { λ t h. Prim.grind (arith, length-append) };
 }

@@ -1,14 +1,13 @@
 //! The walk over all paths of a table.
 
 ghost use Rattle.std.specs.Prelude.{◌≡◌, ◌<◌, ◌≤◌, ◌^◌, OnOk, IfErr};
-ghost use Rattle.devices.specs.Pushing.{Settles};
 ghost use Rattle.path_list.specs.Below.{AreImages};
 ghost use Rattle.path_list.specs.Lines.{lines};
 ghost use Rattle.path_list.specs.Faults.{Lists, IsBrokenOff};
-ghost use Rattle.path_list.specs.Walks.{Gains, IsVisited, way, line_at, lines_below};
+ghost use Rattle.path_list.specs.Walks.{Puts, IsVisited, way, line_at, lines_below};
 
-use crate::room::{drain, put_byte};
-use crate::text::{put_mode, put_number, put_path};
+use crate::room::{drain, put, put_byte};
+use crate::text::{put_number, put_path, spaced_mode};
 use crate::trail::Trail;
 use devices::{Failed, Sink};
 use romfs_reader::Image;
@@ -56,9 +55,8 @@ fn put_line<K: Sink, A: Allocator, B: Allocator>(
     trail: Option<&Trail<'_>>,
 ) -> Result<(), Failed>
     requires { (K.state sink.old).counts.failures < 2 ^ 63 }
-    ensures gained { OnOk result (Gains (K.state sink.old) room.old.items
-        (K.state sink.new) room.new.items (line_at table.now number (way trail.entry))) }
-    ensures counted { Settles result (K.state sink.old) (K.state sink.new) }
+    ensures { Puts result (K.state sink.old) room.old.items (K.state sink.new) room.new.items
+        (line_at table.now number (way trail.entry)) }
 {
     let Some(node) = table.node(number) else {
         return Ok(());
@@ -67,7 +65,7 @@ fn put_line<K: Sink, A: Allocator, B: Allocator>(
         return Ok(());
     };
     put_number(sink, room, attr.ino)?;
-    put_mode(sink, room, attr.mode)?;
+    put(sink, room, &spaced_mode(attr.mode))?;
     put_number(sink, room, u64::from(attr.nlink))?;
     put_number(sink, room, attr.size)?;
     put_number(sink, room, u64::from(node.place.layer))?;
@@ -86,9 +84,8 @@ fn put_below<K: Sink, A: Allocator, B: Allocator>(
 ) -> Result<(), Failed>
     requires visited { IsVisited table.now number (way trail) }
     requires counts { (K.state sink.old).counts.failures < 2 ^ 63 }
-    ensures gained { OnOk result (Gains (K.state sink.old) room.old.items
-        (K.state sink.new) room.new.items (lines_below table.now (way trail.entry))) }
-    ensures counted { Settles result (K.state sink.old) (K.state sink.new) }
+    ensures { Puts result (K.state sink.old) room.old.items (K.state sink.new) room.new.items
+        (lines_below table.now (way trail.entry)) }
 {
     for row in table.rows(number) {
         let below = Trail {
@@ -117,9 +114,8 @@ fn put_all<K: Sink, A: Allocator, B: Allocator>(
     table: &Table<B>,
 ) -> Result<(), Failed>
     requires { (K.state sink.old).counts.failures < 2 ^ 63 }
-    ensures gained { OnOk result (Gains (K.state sink.old) room.old.items
-        (K.state sink.new) room.new.items (lines table.now.layers table.now.entries)) }
-    ensures counted { Settles result (K.state sink.old) (K.state sink.new) }
+    ensures { Puts result (K.state sink.old) room.old.items (K.state sink.new) room.new.items
+        (lines table.now.layers table.now.entries) }
 {
     are_images(table.images());
     if table.len() == 0 {

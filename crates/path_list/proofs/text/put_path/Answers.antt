@@ -1,10 +1,5 @@
-use Rattle.std.proofs.Common.{◌∙◌, sym, ap}
-use Rattle.path_list.specs.Lines.{path_text}
-use Rattle.path_list.specs.Walks.{way}
-use Rattle.path_list.proofs.Gaining.{path_more, gains_on}
+use Rattle.path_list.proofs.Gaining.{path_is, puts_same}
 use Rattle.path_list.proofs.text.put_path.Goals as goal
 
-pub returns-in_ok-put_names-in-Some-clause-gained : goal.returns-in_ok-put_names-in-Some-clause-gained
-returns-in_ok-put_names-in-Some-clause-gained g c =
-    gains_on c.put_step.result _ _ _ (path_text (way c.args.trail)) c.in_ok-put_names-in-Some.ensures.gained c.put_step.ensures.gained
-    (path_more (way c.here.inside.above) c.here.inside.name.now ∙ ap path_text (c.here.view_is ∙ sym (ap way c.in-Some.is)))
+pub returns-in-Some : goal.returns-in-Some
+returns-in-Some g c = rw c.in-Some.is (puts_same (path_is c.in-Some.field-0.now.0 c.in-Some.field-0.now.1) (rw c.in-Some.is at c.put_names.ensures))

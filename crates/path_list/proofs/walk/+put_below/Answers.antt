@@ -1,7 +1,7 @@
 use Rattle.std.proofs.Common.{rules, ◌≡◌, ◌<◌, ◌^◌, ◌∙◌, ap, subst, sym, ℕ, List}
 use Rattle.stack_table.specs.Rows.{Line}
 use Rattle.path_list.specs.Walks.{way}
-use Rattle.path_list.proofs.Gaining.{gains_same}
+use Rattle.path_list.proofs.Gaining.{puts_same}
 use Rattle.path_list.proofs.Visits.{goes_on, walked}
 use Rattle.path_list.proofs.walk.+put_below.Goals as goal
 
@@ -15,10 +15,10 @@ put_below-requires g t c κs within =
     c.row-item.result c.row.inside.number c.name.result.now c.rows-row-items.ensures c.loop-row-test.true c.row-item.is same in
     let visit = w.0 in
     let less = w.1 in
-    let same_failures = c.in_ok-put_line.ensures.counted.0 ∙ c.loop-row.invariant.1 in
+    let same_failures = c.in_ok-put_line.ensures.counted.0 ∙ c.loop-row.invariant.counted.0 in
     let few = subst (λ n. n < 2 ^ 63) (sym same_failures) c.requires.counts in
     search (rules, visit, less, few)
 
-pub returns-clause-gained : goal.returns-clause-gained
-returns-clause-gained g t c = gains_same (walked c.args.table.now c.args.number (way c.args.trail) c.requires.visited
-    c.rows-row-items.result.now c.loop-row.row-index c.rows-row-items.ensures c.loop-row-test.false) c.loop-row.invariant.0
+pub returns : goal.returns
+returns g t c = puts_same (walked c.args.table.now c.args.number (way c.args.trail) c.requires.visited
+    c.rows-row-items.result.now c.loop-row.row-index c.rows-row-items.ensures c.loop-row-test.false) c.loop-row.invariant

@@ -1,6 +1,7 @@
-use Rattle.std.proofs.Common.{◌≡◌, ◌≤◌, length, take}
+use Rattle.std.proofs.Common.{length, take, Ok}
 use Rattle.std.specs.Prelude.{flat_map}
-use Rattle.path_list.specs.Walks.{Gains, way, piece_at}
+use Rattle.devices.specs.declared.failed.Failed.{Failed}
+use Rattle.path_list.specs.Walks.{Puts, way, piece_at}
 use Rattle.path_list.specs.Below.{below}
 use Rattle.path_list.proofs.walk.+put_below.Given as goal
 
@@ -8,11 +9,8 @@ use Rattle.path_list.proofs.walk.+put_below.Given as goal
 abbrev pub decreases-put_below : goal.decreases-put_below
 decreases-put_below g l = length (below l.table.now.entries (way l.trail))
 
--- the lines of the children so far, each with those below it, no failure, and no byte more that
--- waits for a flush
+-- the lines of the children so far, each with those below it
 abbrev pub invariant-loop-row : goal.invariant-loop-row
 invariant-loop-row g l =
-    Gains (g.K.Sink.state l.fn.sink) l.fn.room.items (g.K.Sink.state l.sink) l.room.items
+    Puts {X = Unit {0}} {E = Failed} (Ok tt) (g.K.Sink.state l.fn.sink) l.fn.room.items (g.K.Sink.state l.sink) l.room.items
     (flat_map (piece_at l.table (way l.trail)) (take l.row-index l.row-items))
-    × ((g.K.Sink.state l.sink).counts.failures ≡ (g.K.Sink.state l.fn.sink).counts.failures)
-    × ((g.K.Sink.state l.sink).counts.unflushed ≤ (g.K.Sink.state l.fn.sink).counts.unflushed)
