@@ -8,7 +8,7 @@ ghost use Rattle.fuse_wire.specs.Stream.{field};
 ghost use Rattle.fuse_wire.specs.Requests.{op_of, cut_at_zero, body_name, lookup_of};
 ghost use Rattle.fuse_wire.specs.Reads.{op_said};
 
-use crate::forget::Forgets;
+use crate::forget::{BATCH_FORGET_IN_SIZE, Forgets};
 use crate::limits::HEADER_SIZE;
 use crate::opcode;
 use crate::request::Op;
@@ -29,9 +29,6 @@ const OPEN_IN_SIZE: usize = 8;
 
 /// The size of a `struct fuse_read_in`.
 const READ_IN_SIZE: usize = 40;
-
-/// The size of a `struct fuse_batch_forget_in`, before its items.
-const BATCH_FORGET_IN_SIZE: usize = 8;
 
 // What an opcode asks with this body of a message.
 #[tactic(auto, unfolding(crate::specs::Requests::op_of))]

@@ -6,7 +6,7 @@ ghost use Rattle.fuse_wire.specs.declared.limits.TheConstants.{HEADER_SIZE, MAX_
 use byteorder::{ByteOrder, LittleEndian};
 
 /// The size of a `struct fuse_batch_forget_in`, before its items.
-const BATCH_FORGET_IN_SIZE: usize = 8;
+pub(crate) const BATCH_FORGET_IN_SIZE: usize = 8;
 
 /// The size of a `struct fuse_forget_one`.
 const FORGET_ONE_SIZE: usize = 16;

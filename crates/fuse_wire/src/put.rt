@@ -1,5 +1,6 @@
 //! Replies and rows as bytes. Each writer appends exactly its bytes; where the vector has no room
 //! for them and gets none, it is as before.
+#![tactic(auto, unfolding(crate::specs::Replies::reply_with), using(crate::proofs::Sizes::sizes))]
 
 ghost use Rattle.std.specs.Prelude.{◌≡◌, ◌++◌, ◌<◌, ◌≤◌, ◌+◌, ◌-◌, ◌^◌, [], None, length, vec_len, vec_capacity};
 ghost use Rattle.std.specs.Option.{option_copied};
@@ -24,7 +25,6 @@ const DIRENT_FRONT_SIZE: usize = 24;
 const PADDING: [u8; 8] = [0; 8];
 
 /// Appends a reply without data: a `struct fuse_out_header` of 16 bytes alone, with no error.
-#[tactic(auto, unfolding(crate::specs::Replies::reply_with))]
 pub fn put_head<A: Allocator>(out: &mut Vec<u8, A>, unique: u64) -> Result<(), AllocError>
     ensures { Appends result out.old out.new (reply_with unique []) }
 {
@@ -33,7 +33,6 @@ pub fn put_head<A: Allocator>(out: &mut Vec<u8, A>, unique: u64) -> Result<(), A
 
 /// Appends the header of a reply with `size` bytes of data, which are to follow: a
 /// `struct fuse_out_header` of 16 bytes, with no error.
-#[tactic(auto, using(crate::proofs::Sizes::sizes))]
 pub fn put_data_head<A: Allocator>(
     out: &mut Vec<u8, A>,
     unique: u64,
@@ -49,7 +48,6 @@ pub fn put_data_head<A: Allocator>(
 
 /// Appends the reply of an error: a `struct fuse_out_header` of 16 bytes alone, with the negated
 /// number.
-#[tactic(auto, using(crate::proofs::Sizes::sizes))]
 pub fn put_error<A: Allocator>(
     out: &mut Vec<u8, A>,
     unique: u64,
@@ -63,7 +61,6 @@ pub fn put_error<A: Allocator>(
 }
 
 /// Appends a reply with these bytes of data behind its header, in one growth.
-#[tactic(auto, unfolding(crate::specs::Replies::reply_with), using(crate::proofs::Sizes::sizes))]
 pub fn put_data<A: Allocator>(
     out: &mut Vec<u8, A>,
     unique: u64,
@@ -79,7 +76,6 @@ pub fn put_data<A: Allocator>(
 
 /// Appends the reply to an INIT that is not refused (`struct fuse_init_out`): 80 bytes, or 40 where
 /// the client speaks a minor version below 23.
-#[tactic(auto, unfolding(crate::specs::Replies::reply_with), using(crate::proofs::Sizes::sizes))]
 pub fn put_init<A: Allocator>(
     out: &mut Vec<u8, A>,
     unique: u64,
@@ -94,7 +90,6 @@ pub fn put_init<A: Allocator>(
 }
 
 // The size of the answer to an INIT.
-#[tactic(auto, using(crate::proofs::Sizes::sizes))]
 fn init_out_size(init: &InitOut) -> usize
     ensures size { result ≡ length (init_out init.now) }
     ensures most { result ≤ 64 }
@@ -106,7 +101,6 @@ fn init_out_size(init: &InitOut) -> usize
 }
 
 /// Appends the reply that names a node, of 144 bytes (`struct fuse_entry_out`).
-#[tactic(auto, unfolding(crate::specs::Replies::reply_with), using(crate::proofs::Sizes::sizes))]
 pub fn put_entry<A: Allocator>(
     out: &mut Vec<u8, A>,
     unique: u64,
@@ -122,7 +116,6 @@ pub fn put_entry<A: Allocator>(
 
 /// Appends the reply that a name is none, of 144 bytes (`struct fuse_entry_out`, with a nodeid of
 /// 0): for an hour the client need not ask for it again.
-#[tactic(auto, unfolding(crate::specs::Replies::reply_with), using(crate::proofs::Sizes::sizes))]
 pub fn put_negative_entry<A: Allocator>(out: &mut Vec<u8, A>, unique: u64) -> Result<(), AllocError>
     ensures { Appends result out.old out.new (reply_with unique negative_entry_out) }
 {
@@ -133,7 +126,6 @@ pub fn put_negative_entry<A: Allocator>(out: &mut Vec<u8, A>, unique: u64) -> Re
 }
 
 /// Appends the reply with a node's attributes, of 120 bytes (`struct fuse_attr_out`).
-#[tactic(auto, unfolding(crate::specs::Replies::reply_with), using(crate::proofs::Sizes::sizes))]
 pub fn put_attr<A: Allocator>(
     out: &mut Vec<u8, A>,
     unique: u64,
@@ -150,7 +142,6 @@ pub fn put_attr<A: Allocator>(
 /// Appends the reply to an OPEN or OPENDIR, of 32 bytes (`struct fuse_open_out`), with handle 0 and
 /// these flags ([`FOPEN_KEEP_CACHE`](crate::flags::FOPEN_KEEP_CACHE),
 /// [`FOPEN_CACHE_DIR`](crate::flags::FOPEN_CACHE_DIR), both or none).
-#[tactic(auto, unfolding(crate::specs::Replies::reply_with), using(crate::proofs::Sizes::sizes))]
 pub fn put_open<A: Allocator>(
     out: &mut Vec<u8, A>,
     unique: u64,
@@ -166,7 +157,6 @@ pub fn put_open<A: Allocator>(
 
 /// Appends the reply to a STATFS, of 96 bytes (`struct fuse_statfs_out`): all blocks of 512 bytes,
 /// none free, and the number of nodes.
-#[tactic(auto, unfolding(crate::specs::Replies::reply_with), using(crate::proofs::Sizes::sizes))]
 pub fn put_statfs<A: Allocator>(
     out: &mut Vec<u8, A>,
     unique: u64,
@@ -206,7 +196,6 @@ pub fn put_dirent<A: Allocator>(out: &mut Vec<u8, A>, row: &Dirent<'_>) -> Resul
 
 /// Appends a row of READDIRPLUS (`struct fuse_direntplus`): the node's entry, or 128 zeros for `.`
 /// and `..`, which have none, and the row of READDIR.
-#[tactic(auto, using(crate::proofs::Sizes::sizes))]
 #[inline(always)]
 pub fn put_direntplus<A: Allocator>(
     out: &mut Vec<u8, A>,
@@ -227,7 +216,6 @@ pub fn put_direntplus<A: Allocator>(
 
 // Appends a row of READDIRPLUS that has no entry. Few have none, so this stands apart from the loop
 // over rows.
-#[tactic(auto, using(crate::proofs::Sizes::sizes))]
 #[inline(never)]
 fn put_bare<A: Allocator>(out: &mut Vec<u8, A>, row: Dirent<'_>) -> Result<(), AllocError>
     requires { length row.name.now < 2 ^ 32 }

@@ -1,7 +1,7 @@
 //! What replies say.
 
-/// A node's attributes (linux/fuse.h, `struct fuse_attr`); the fields that are left out are the
-/// same in every reply.
+/// A node's attributes as a reply has them (linux/fuse.h, `struct fuse_attr`), whoever knows them;
+/// the fields that are left out are the same in every reply.
 #[derive(Clone, Copy, Debug, PartialEq, Eq)]
 pub struct Attr {
     /// The node's number.

@@ -43,7 +43,7 @@ abbrev pub rows_answered : List Entry → (Row → List ℕ) → Place → ℕ �
 rows_answered entries form p offset size = fitting form size (rows_after entries p offset)
 
 module _ (layers : List (List ℕ)) (entries : List Entry) where
-  -- the attributes of a node
+  -- the attributes of a place, as a reply has them
   abbrev pub reply_attr : Place → Attr
   reply_attr p = record {
     ino = number entries p;

@@ -1,9 +1,10 @@
--- The row with a name, by the place of the name. `named_at` and `named_nowhere` are the main
--- lemmas: the row at the first place of the name is the row with the name, and where it has none
--- there is none.
+-- The number of the row with a name, by the place of the name. `number_at` and `number_nowhere` are
+-- the main lemmas: the row at the first place of the name is the row with the name, and where it has
+-- none there is none.
 use Rattle.std.proofs.Common.{◌≡◌, ◌∙◌, sym, ap, ℕ, suc, ◌<◌, inl, inr, List, [], ◌∷◌, length, get_or, refl, arith, Bool, false, Some, None}
 use Rattle.std.specs.Prelude.{find, slice_get}
 use Rattle.std.specs.List.{position_or_len}
+use Rattle.std.specs.Option.{option_map}
 use Rattle.std.proofs.lemmas.Bool.{cases_lt, lt-ltb}
 use Rattle.std.proofs.lemmas.List.{get_or-map, length-map}
 use Rattle.std.proofs.lemmas.List.Folds.{find_at}
@@ -12,7 +13,7 @@ use Rattle.std.proofs.lemmas.List.Sums.{position_or_len_is, fails_before_first}
 use Rattle.std.proofs.lemmas.Option.{slice_get-get_or}
 use Rattle.stack_model.specs.Numbers.{same_name}
 use Rattle.name_keys.specs.Names.{place_of}
-use Rattle.stack_table.specs.Rows.{Line, names, line_named}
+use Rattle.stack_table.specs.Rows.{Line, names, line_named, number_named}
 
 module _ (n : List ℕ) (ls : List Line) where
   abbrev is : Line → Bool
@@ -28,7 +29,7 @@ module _ (n : List ℕ) (ls : List Line) where
       length-map ls (λ (line : Line). line.name) in omega arith
 
   -- the row at the name's place is the first with the name
-  pub named_at : (i : ℕ) (d : Line) → place_of n (names ls) ≡ Some i → line_named n ls ≡ Some (get_or ls i d)
+  named_at : (i : ℕ) (d : Line) → place_of n (names ls) ≡ Some i → line_named n ls ≡ Some (get_or ls i d)
   named_at i d e =
       let s = position-Some (same_name n) (names ls) i [] e in
       let l = place_within i e in
@@ -41,10 +42,19 @@ none_is p [] f = refl
 none_is p (l ∷ ls) f = rw (f 0 l (omega arith)) (none_is p ls (λ k d m. f (suc k) d (omega arith)))
 
 -- where the name has no place, no row has the name
-pub named_nowhere : (n : List ℕ) (ls : List Line) → place_of n (names ls) ≡ None → line_named n ls ≡ None
+named_nowhere : (n : List ℕ) (ls : List Line) → place_of n (names ls) ≡ None → line_named n ls ≡ None
 named_nowhere n ls e = elim (cases_lt (position_or_len (same_name n) (names ls)) (length (names ls))) [
   | inl l ↦ absurd (let f = rw (lt-ltb _ _ l) at e in cc)
   | inr l ↦
       let m = length-map ls (λ (line : Line). line.name) in
       none_is (is n ls) ls (λ k d o. sym (is_named n ls k d o) ∙ fails_before_first (same_name n) (names ls) k [] (omega arith))
 ]
+
+-- the row at the name's place has the number of the name
+pub number_at : (n : List ℕ) (ls : List Line) (i : ℕ) (d : Line) → place_of n (names ls) ≡ Some i
+    → number_named n ls ≡ Some (get_or ls i d).number
+number_at n ls i d e = ap (option_map (λ (l : Line). l.number)) (named_at n ls i d e)
+
+-- where the name has no place, it has no number
+pub number_nowhere : (n : List ℕ) (ls : List Line) → place_of n (names ls) ≡ None → number_named n ls ≡ None
+number_nowhere n ls e = ap (option_map (λ (l : Line). l.number)) (named_nowhere n ls e)

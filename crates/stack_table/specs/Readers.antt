@@ -16,7 +16,7 @@ abbrev pub placed : Place → ModelPlace
 placed place = (place.layer, place.header)
 
 module _ (layers : List (List ℕ)) (entries : List Entry) where
-  -- the attributes of a place
+  -- the attributes of a place, as a table answers them
   abbrev pub attr_of : ModelPlace → NodeAttr
   attr_of p = record {
     ino = number entries p;

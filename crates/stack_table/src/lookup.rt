@@ -4,7 +4,7 @@ ghost use Rattle.std.specs.Prelude.{◌≡◌, ◌≤◌, None, Some, MatchOptio
 ghost use Rattle.name_keys.specs.Names.{place_of};
 ghost use Rattle.name_keys.specs.Keyed.{AreKeyed};
 ghost use Rattle.stack_table.specs.Held.{attr_held, held_at, directory_held};
-ghost use Rattle.stack_table.specs.Rows.{names, number_named};
+ghost use Rattle.stack_table.specs.Rows.{names};
 
 use crate::directory::{Directories, Directory};
 use crate::node::{Node, NodeAttr};
@@ -73,25 +73,9 @@ pub(crate) fn keys_of<'a>(keys: &'a [u64], directory: &Directory) -> &'a [u64]
     &keys[directory.rows_start..directory.rows_end]
 }
 
-// The number of the row with this name, by what is guessed or by the keys of these rows.
-pub(crate) fn number_named<A: Allocator>(
-    rows: &[Row<A>],
-    keys: &[u64],
-    guesses: &Guesses<A>,
-    number: u64,
-    directory: &Directory,
-    name: &[u8],
-) -> Option<u64>
-    requires { AreKeyed directory.now.shared keys.now (names rows.now) }
-    ensures { result ≡ number_named name.now rows.now }
-{
-    let at = place_of(rows, keys, guesses, number, directory, name)?;
-    let row = &rows[at];
-    Some(row.number)
-}
-
-// The place of this name among these rows.
-fn place_of<A: Allocator>(
+// The place of this name among these rows of a directory with this number, by what is guessed or by
+// their keys.
+pub(crate) fn place_of<A: Allocator>(
     rows: &[Row<A>],
     keys: &[u64],
     guesses: &Guesses<A>,

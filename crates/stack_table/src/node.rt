@@ -3,7 +3,8 @@
 use romfs_reader::{Kind, Part};
 use shown_tree::Place;
 
-/// The attributes of a node, as stat(2) has them. Owners and times are 0 for all nodes.
+/// The attributes of a node, as stat(2) has them: the table's answer, which knows no wire format. A
+/// reply's, field for field the same, is `fuse_wire::Attr`. Owners and times are 0 for all nodes.
 #[derive(Clone, Copy, Debug, PartialEq, Eq)]
 pub struct NodeAttr {
     /// The node's number.

@@ -9,7 +9,7 @@ ghost use Rattle.stack_table.specs.Held.{IsSomeTable};
 ghost use Rattle.stack_table.specs.Readers.{TellsNode, attr_at, parent_at, child_at, rows_at, data_of_number};
 
 use crate::directory::{Directories, Directory};
-use crate::lookup::{attr_of, directory_at, guesses_of, keys_of, node_at, number_named, rows_of};
+use crate::lookup::{attr_of, directory_at, guesses_of, keys_of, node_at, place_of, rows_of};
 use crate::node::{Node, NodeAttr};
 use crate::row::Row;
 use name_keys::Guesses;
@@ -113,7 +113,9 @@ impl<A: Allocator> Table<A> {
         let directory = directory_at(&self.nodes, &self.directories.all, number)?;
         let rows = rows_of(&self.directories.rows, directory);
         let keys = keys_of(&self.directories.keys, directory);
-        number_named(rows, keys, &self.guesses, number, directory, name)
+        let at = place_of(rows, keys, &self.guesses, number, directory, name)?;
+        let row = &rows[at];
+        Some(row.number)
     }
 
     /// Where the row of a directory's child may stand among all rows. It is a guess, for whoever

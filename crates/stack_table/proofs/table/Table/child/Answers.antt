@@ -1,4 +1,6 @@
-use Rattle.std.proofs.Common.{◌∙◌}
+use Rattle.std.proofs.Common.{◌∙◌, sym, ap, Some}
+use Rattle.stack_table.specs.Rows.{Line}
+use Rattle.stack_table.proofs.Names.{number_at, number_nowhere}
 use Rattle.stack_table.proofs.Nodes.{found, keys_end, child_is, child_none}
 use Rattle.stack_table.proofs.table.Table.child.Goals as goal
 
@@ -21,8 +23,8 @@ pub keys_of-keys-requires-clause-end : goal.keys_of-keys-requires-clause-end
 keys_of-keys-requires-clause-end g c = rw c.deref-4.ensures.value (keys_end _ _ _ _ _ _ _ c.self.invariant c.args.number _
     (rw (c.deref.ensures.value, c.deref-2.ensures.value) at c.in_ok-directory.ensures))
 
-pub number_named-requires : goal.number_named-requires
-number_named-requires g c = rw (c.rows_of-rows.ensures, c.keys_of-keys.ensures, c.deref-3.ensures.value, c.deref-4.ensures.value)
+pub place_of-requires : goal.place_of-requires
+place_of-requires g c = rw (c.rows_of-rows.ensures, c.keys_of-keys.ensures, c.deref-3.ensures.value, c.deref-4.ensures.value)
     (found _ _ _ _ _ _ _ c.self.invariant c.args.number _
     (rw (c.deref.ensures.value, c.deref-2.ensures.value) at c.in_ok-directory.ensures)).holds.keyed
 
@@ -31,7 +33,17 @@ returns-in_err-directory g c = c.from_residual.ensures
     ∙ rw (← c.self.view_is) (child_none _ _ _ _ _ _ _ c.self.invariant c.args.number c.args.name.now
     (rw (c.deref.ensures.value, c.deref-2.ensures.value) at c.in_err-directory.ensures))
 
+pub returns-in_err-at : goal.returns-in_err-at
+returns-in_err-at g c = c.from_residual-in_err-at.ensures
+    ∙ sym (number_nowhere c.args.name.now c.rows_of-rows.result.now (sym c.in_err-at.ensures))
+    ∙ rw (c.rows_of-rows.ensures, c.deref-3.ensures.value, ← c.self.view_is)
+    (child_is _ _ _ _ _ _ _ c.self.invariant c.args.number _ c.args.name.now
+    (rw (c.deref.ensures.value, c.deref-2.ensures.value) at c.in_ok-directory.ensures))
+
 pub returns : goal.returns
-returns g c = rw (c.number_named.ensures, c.rows_of-rows.ensures, c.deref-3.ensures.value, ← c.self.view_is)
+returns g c =
+    let found = number_at c.args.name.now c.rows_of-rows.result.now c.in_ok-at.at c.index-rows-at.result (sym c.in_ok-at.ensures) in
+    ap (λ (l : Line). Some l.number) (c.row.view_is ∙ c.index-rows-at.is) ∙ sym found
+    ∙ rw (c.rows_of-rows.ensures, c.deref-3.ensures.value, ← c.self.view_is)
     (child_is _ _ _ _ _ _ _ c.self.invariant c.args.number _ c.args.name.now
     (rw (c.deref.ensures.value, c.deref-2.ensures.value) at c.in_ok-directory.ensures))
