@@ -15,7 +15,7 @@ use crate::plan::{Plan, pass_batch};
 use fuse_answer::{after, answer_and_move};
 use fuse_wire::Request;
 use reply_model::Session;
-use serve_loop::{Answers, Round, Rounds, walk};
+use serve_loop::{AnswersOne, Round, Rounds, walk};
 use stack_table::Table;
 use std::alloc::{AllocError, Allocator};
 use std::thread::Threads;
@@ -70,7 +70,7 @@ impl<'a, A: Allocator, G: Gate, F> Pool<'a, A, G, F> {
 }
 
 // One message, as `walk` asks for it in a round on the caller's thread.
-impl<'a, A: Allocator, G: Gate, F> Answers for Pool<'a, A, G, F> {
+impl<'a, A: Allocator, G: Gate, F> AnswersOne for Pool<'a, A, G, F> {
     ghost answering = { λ pool. answering pool.first pool.table.now };
 
     ghost nodes = { λ pool. length (nodes pool.table.now.entries) };

@@ -8,7 +8,7 @@
 //!
 //! - [`Rounds`] is what the loop asks for: whatever answers some of the first messages of its
 //!   buffer.
-//! - [`Answers`] is less: whatever answers one message. [`walk`] makes rounds of it, on one thread.
+//! - [`AnswersOne`] is less: whatever answers one message. [`walk`] makes rounds of it, on one thread.
 //!
 //! Replies are appended to a vector that is kept from round to round, and lookups that are given or
 //! taken are added to the balances of their nodes, so that a message costs no vector of its own.
@@ -22,11 +22,11 @@
 //! all.
 #![tactic(auto)]
 
-mod answers;
 mod buffer;
 pub mod done;
 pub mod examples;
 pub mod laws;
+mod one_message;
 mod one_thread;
 mod progress;
 mod round;
@@ -34,8 +34,8 @@ mod rounds_on;
 mod running;
 pub mod stop;
 
-pub use answers::Answers;
 pub use done::Done;
+pub use one_message::AnswersOne;
 pub use one_thread::walk;
 pub use round::{Round, Rounds};
 pub use running::run_by;

@@ -4,7 +4,7 @@ ghost use Rattle.std.specs.Prelude.{◌≡◌, ◌≤◌, ◌^◌, ◌++◌, ℕ
 ghost use Rattle.lookup_balances.specs.Balances.{AreWithin};
 ghost use Rattle.serve_loop.specs.Rounds.{change, AppendsRound};
 
-use crate::answers::Answers;
+use crate::one_message::AnswersOne;
 use crate::round::Round;
 use fuse_wire::limits::{ENOUGH_REPLIES, MAX_ROUND_MESSAGES};
 use fuse_wire::{Framed, frame};
@@ -16,7 +16,7 @@ use std::alloc::{AllocError, Allocator};
 ///
 /// Each message is borrowed from the stream; each is looked at once. `AllocError` comes only where
 /// memory was refused.
-pub fn walk<T: Answers, A: Allocator>(
+pub fn walk<T: AnswersOne, A: Allocator>(
     answers: &T,
     stream: &[u8],
     session: Session,

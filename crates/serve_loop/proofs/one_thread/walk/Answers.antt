@@ -7,14 +7,14 @@ pub loop-round-init : goal.loop-round-init
 loop-round-init g c = (
   [],
   sym (append-nil c.args.replies.now.items),
-  nothing_so_far (g.T.Answers.answering c.args.answers.now)
+  nothing_so_far (g.T.AnswersOne.answering c.args.answers.now)
       c.args.session c.args.stream.now c.args.balances.now,
 )
 
 pub answer-requires-clause-within : goal.answer-requires-clause-within
 answer-requires-clause-within g c =
     let (put, e, f) = c.loop-round.invariant in
-    so_far_within (g.T.Answers.answering c.args.answers.now) c.args.session c.args.stream.now
+    so_far_within (g.T.AnswersOne.answering c.args.answers.now) c.args.session c.args.stream.now
     c.loop-round.round put c.args.balances.now c.loop-round.balances f c.requires.within c.requires.short
 
 pub loop-round-preserved : goal.loop-round-preserved
@@ -24,7 +24,7 @@ loop-round-preserved g c =
     let stream = c.args.stream.now in (
       put ++ more,
       appended c.args.replies.now.items put more c.loop-round.replies.items c.answer.new.replies.items k e,
-      one_more (g.T.Answers.answering c.args.answers.now) c.args.session stream c.loop-round.round put more
+      one_more (g.T.AnswersOne.answering c.args.answers.now) c.args.session stream c.loop-round.round put more
           c.args.balances.now c.loop-round.balances c.answer.new.balances _ c.in-Whole.len
           c.in_ok-round-in-Whole.field-0 f (take_rest stream c.loop-round.round.used) c.in-Whole.ensures x,
     )

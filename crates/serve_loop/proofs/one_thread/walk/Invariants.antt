@@ -7,7 +7,7 @@ use Rattle.serve_loop.proofs.one_thread.walk.Given as goal
 abbrev pub invariant-loop-round : goal.invariant-loop-round
 invariant-loop-round g l =
     (put : List ℕ) × (l.replies.items ≡ l.fn.replies.items ++ put)
-    × IsSoFar (g.T.Answers.answering l.answers) l.fn.session l.stream l.round put (record { old = l.initial.balances; new = l.balances })
+    × IsSoFar (g.T.AnswersOne.answering l.answers) l.fn.session l.stream l.round put (record { old = l.initial.balances; new = l.balances })
 
 -- how many messages the round may have yet
 abbrev pub decreases-loop-round : goal.decreases-loop-round

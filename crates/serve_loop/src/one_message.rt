@@ -10,7 +10,7 @@ use reply_model::Session;
 use std::alloc::{AllocError, Allocator};
 
 /// What answers messages one at a time.
-pub trait Answers {
+pub trait AnswersOne {
     ghost answering: { Self → Answering };
 
     ghost nodes: { Self → ℕ };
