@@ -110,6 +110,12 @@ pub record NamesCommand (o : Option (Text × List Row)) : Type 0 where
   pub filled : IsFilled rows
   pub gives : GivesSocket verb rows
 
+-- a command with these rows after its words
+named : (verb : Verb) (s : Shape) (words : List Text) → IsFilled (rows_after s.rules [] words)
+    → GivesSocket verb (rows_after s.rules [] words)
+    → NamesCommand (Some (verb_word verb, rows_after s.rules [] words))
+named verb s words filled gives = record { verb = verb; rows = rows_after s.rules [] words; is = refl; filled = filled; gives = gives }
+
 -- the command that is met, by which name its word is
 abbrev met : Bool → Bool → Bool → Bool → Bool → Option Shape
 met a b c d f = cond a (Some served) (cond b (Some listening)
@@ -125,34 +131,10 @@ entered_names p helps e some =
   where
     go : (a b c d f : Bool) → f ≡ false → option_map_or (λ s. level_fault s [] nothing_held p.1 false []) (met a b c d f) [] ≡ []
         → is_some (option_map (λ s. rows_at s p.1) (met a b c d f)) ≡ true → NamesCommand (option_map (λ s. rows_at s p.1) (met a b c d f))
-    go true b c d f none e some = record {
-      verb = verbs.Serve;
-      rows = rows_after served.rules [] p.1;
-      is = refl;
-      filled = serve_filled p.1 e;
-      gives = λ same. absurd (cc);
-    }
-    go false true c d f none e some = record {
-      verb = verbs.Socket;
-      rows = rows_after listening.rules [] p.1;
-      is = refl;
-      filled = socket_filled p.1 e;
-      gives = λ _. socket_given p.1 e;
-    }
-    go false false true d f none e some = record {
-      verb = verbs.Check;
-      rows = rows_after checked.rules [] p.1;
-      is = refl;
-      filled = check_filled p.1 e;
-      gives = λ same. absurd (cc);
-    }
-    go false false false true f none e some = record {
-      verb = verbs.List;
-      rows = rows_after listed.rules [] p.1;
-      is = refl;
-      filled = list_filled p.1 e;
-      gives = λ same. absurd (cc);
-    }
+    go true b c d f none e some = named verbs.Serve served p.1 (serve_filled p.1 e) (λ same. absurd (cc))
+    go false true c d f none e some = named verbs.Socket listening p.1 (socket_filled p.1 e) (λ _. socket_given p.1 e)
+    go false false true d f none e some = named verbs.Check checked p.1 (check_filled p.1 e) (λ same. absurd (cc))
+    go false false false true f none e some = named verbs.List listed p.1 (list_filled p.1 e) (λ same. absurd (cc))
     go false false false false true none e some = absurd (true≢false none)
     go false false false false false none e some = absurd (true≢false (sym some))
 

@@ -257,22 +257,24 @@ found_filled id (r ∷ rest) filled = go (bytes_eq r.id id) refl (found_filled i
     go true same later = and_true _ _ same (both _ _ filled).0
     go false same later = later
 
+-- a filled row with this id holds what the id asks: the truth of a flag, or else a value
+held_by : (id : Text) (r : Row) (b : Bool) → names_flag id ≡ b → (bytes_eq r.id id && is_filled r) ≡ true
+    → cond b (is_as_written r.reading && is_only (bool_text (explicit_source r.source)) r.values) (some_text r.values) ≡ true
+held_by id r b flag passes =
+    let tests = both (bytes_eq r.id id) _ passes in
+    let id_is : r.id ≡ id = (bytes_eq-Decides r.id id).0 tests.0 in
+    let is : names_flag r.id ≡ b = ap (λ t. names_flag t) id_is ∙ flag in
+    let P : Bool → Type 0 = λ b. cond b (is_as_written r.reading && is_only (bool_text (explicit_source r.source)) r.values)
+    (some_text r.values) ≡ true in
+    subst P is tests.1
+
 -- the values of another row than that of a flag
 given_value : (id : Text) → names_flag id ≡ false → (o : Option Row) → option_map_or (λ r. bytes_eq r.id id && is_filled r) o true ≡ true
     → option_map_or (λ r. explicit_source r.source) o false ≡ true
     → (first : Text) × (rest : List Text) × (option_map (λ (r : Row). r.values) o ≡ Some (first ∷ rest))
 given_value id other None passes given = absurd (true≢false (sym given))
-given_value id other (Some r) passes given = go r.values value
+given_value id other (Some r) passes given = go r.values (held_by id r false other passes)
   where
-    value : some_text r.values ≡ true
-    value =
-        let tests = both (bytes_eq r.id id) _ passes in
-        let id_is : r.id ≡ id = (bytes_eq-Decides r.id id).0 tests.0 in
-        let is : names_flag r.id ≡ false = ap (λ t. names_flag t) id_is ∙ other in
-        let P : Bool → Type 0 = λ b. cond b (is_as_written r.reading && is_only (bool_text (explicit_source r.source)) r.values)
-        (some_text r.values) ≡ true in
-        subst P is tests.1
-
     go : (vs : List Text) → some_text vs ≡ true → (first : Text) × (rest : List Text) × (Some vs ≡ Some (first ∷ rest))
     go [] e = absurd (true≢false (sym e))
     go (v ∷ vs) e = (v, vs, refl)
@@ -297,17 +299,8 @@ ReadsFlag o = MatchOption (option_and_then row_text o) (option_map_or (λ r. exp
 flag_text : (id : Text) → names_flag id ≡ true → (o : Option Row) → option_map_or (λ r. bytes_eq r.id id && is_filled r) o true ≡ true
     → ReadsFlag o
 flag_text id flag None passes = refl
-flag_text id flag (Some r) passes = text r.reading r.values (explicit_source r.source) truth
+flag_text id flag (Some r) passes = text r.reading r.values (explicit_source r.source) (held_by id r true flag passes)
   where
-    truth : (is_as_written r.reading && is_only (bool_text (explicit_source r.source)) r.values) ≡ true
-    truth =
-        let tests = both (bytes_eq r.id id) _ passes in
-        let id_is : r.id ≡ id = (bytes_eq-Decides r.id id).0 tests.0 in
-        let is : names_flag r.id ≡ true = ap (λ t. names_flag t) id_is ∙ flag in
-        let P : Bool → Type 0 = λ b. cond b (is_as_written r.reading && is_only (bool_text (explicit_source r.source)) r.values)
-        (some_text r.values) ≡ true in
-        subst P is tests.1
-
     text : (how : Reading) (vs : List Text) (given : Bool) → (is_as_written how && is_only (bool_text given) vs) ≡ true
         → MatchOption (option_map (read_as how) (slice_get vs 0)) (given ≡ false) (λ t. t ≡ bool_text given)
     text reading.AsWritten [] given e = absurd (true≢false (sym e))

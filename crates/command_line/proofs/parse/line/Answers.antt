@@ -1,7 +1,18 @@
-use Rattle.std.proofs.Common.{◌∙◌, map}
+use Rattle.std.proofs.Common.{◌≡◌, ◌∙◌, Some, map}
 use Rattle.clap.specs.Words.{found_of, rows_of}
+use Rattle.command_line.specs.CommandLine.{command_in}
 use Rattle.command_line.proofs.Parsed.{command_filled, command_gives, command_verb, line_is, met_command, some_command}
+use Rattle.command_line.proofs.parse.line.Given.{Over}
+use Rattle.command_line.proofs.parse.line.Goals.{After-unwrap}
 use Rattle.command_line.proofs.parse.line.Goals as goal
+
+-- the command that the words name, by its name and its rows
+met : (g : Over) (c : After-unwrap g) → command_in (map g.S.AsStr.text c.args.words.now)
+    ≡ Some (c.unwrap.result.0.now, rows_of (found_of c.unwrap.result.1.now))
+met g c =
+    met_command c.in_ok-matches.matches (map g.S.AsStr.text c.args.words.now) c.subcommand.result c.unwrap.result
+    c.subcommand.ensures.name c.subcommand.ensures.rows c.unwrap.ensures
+    c.in_ok-matches.ensures.command
 
 pub unwrap-requires : goal.unwrap-requires
 unwrap-requires g c = c.subcommand.ensures.variant
@@ -9,36 +20,18 @@ unwrap-requires g c = c.subcommand.ensures.variant
     c.in_ok-matches.ensures.command
 
 pub verb_of-requires : goal.verb_of-requires
-verb_of-requires g c =
-    let words = map g.S.AsStr.text c.args.words.now in
-    let met = met_command c.in_ok-matches.matches words c.subcommand.result c.unwrap.result
-    c.subcommand.ensures.name c.subcommand.ensures.rows c.unwrap.ensures
-    c.in_ok-matches.ensures.command in
-    command_verb words c.unwrap.result.0.now (rows_of (found_of c.unwrap.result.1.now)) c.in_ok-matches.ensures.taken met
+verb_of-requires g c = command_verb _ _ _ c.in_ok-matches.ensures.taken (met g (goal.at.verb_of-requires g c).After-unwrap)
 
 pub line_of-requires-clause-filled : goal.line_of-requires-clause-filled
 line_of-requires-clause-filled g c =
-    let words = map g.S.AsStr.text c.args.words.now in
-    let met = met_command c.in_ok-matches.matches words c.subcommand.result c.unwrap.result
-    c.subcommand.ensures.name c.subcommand.ensures.rows c.unwrap.ensures
-    c.in_ok-matches.ensures.command in
-    command_filled words c.unwrap.result.0.now (rows_of (found_of c.unwrap.result.1.now)) c.in_ok-matches.ensures.taken met
+    command_filled _ _ _ c.in_ok-matches.ensures.taken (met g (goal.at.line_of-requires-clause-filled g c).After-unwrap)
 
 pub line_of-requires-clause-socket : goal.line_of-requires-clause-socket
 line_of-requires-clause-socket g c =
-    let words = map g.S.AsStr.text c.args.words.now in
-    let met = met_command c.in_ok-matches.matches words c.subcommand.result c.unwrap.result
-    c.subcommand.ensures.name c.subcommand.ensures.rows c.unwrap.ensures
-    c.in_ok-matches.ensures.command in
-    command_gives words c.unwrap.result.0.now (rows_of (found_of c.unwrap.result.1.now)) c.verb_of.result c.in_ok-matches.ensures.taken met
+    command_gives _ _ _ c.verb_of.result c.in_ok-matches.ensures.taken (met g (goal.at.line_of-requires-clause-socket g c).After-unwrap)
     c.verb_of.ensures
 
 pub returns-clause-ok : goal.returns-clause-ok
 returns-clause-ok g c =
-    let words = map g.S.AsStr.text c.args.words.now in
-    let met = met_command c.in_ok-matches.matches words c.subcommand.result c.unwrap.result
-    c.subcommand.ensures.name c.subcommand.ensures.rows c.unwrap.ensures
-    c.in_ok-matches.ensures.command in
-    line_is words c.unwrap.result.0.now (rows_of (found_of c.unwrap.result.1.now)) c.verb_of.result
-    c.line_of.result c.in_ok-matches.ensures.taken met c.verb_of.ensures
-    c.line_of.ensures.verb c.line_of.ensures.holds
+    line_is _ _ _ c.verb_of.result c.line_of.result c.in_ok-matches.ensures.taken (met g (goal.at.returns-clause-ok g c).After-unwrap)
+    c.verb_of.ensures c.line_of.ensures.verb c.line_of.ensures.holds
