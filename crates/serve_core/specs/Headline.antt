@@ -1,5 +1,7 @@
 -- What serving a stream of requests over images promises.
-use Rattle.std.specs.Prelude.{◌≡◌, ℕ, ◌⊎◌, List, [], length, Result, Err}
+use Rattle.std.specs.Prelude.{◌≡◌, ℕ, ◌⊎◌, List, [], length, Result, Err, OnOk}
+use Rattle.std.specs.Io.KnownBytes.{IsAtEnd}
+use Rattle.devices.specs.States.{Devices}
 use Rattle.romfs_format.specs.declared.rule.Profile.{Profile}
 use Rattle.stack_model.specs.Numbers.{nodes}
 use Rattle.stack_table.specs.Stacked.{Stacked}
@@ -10,7 +12,7 @@ use Rattle.serve_loop.specs.declared.stop.Stop.TheVariants.{Turns}
 use Rattle.serve_loop.specs.declared.done.Done.{Done}
 use Rattle.layer_check.specs.Layers.{AreRefused}
 use Rattle.serve_core.specs.Preparing.{AreStacked}
-use Rattle.serve_loop.specs.Serving.{Trace, IsRun}
+use Rattle.serve_loop.specs.Serving.{Trace, Does, IsRun}
 use Rattle.serve_loop.specs.Laws.{HasServed}
 
 -- a stream that begins in this session was served over a stack of layers: each message as FUSE has
@@ -18,6 +20,14 @@ use Rattle.serve_loop.specs.Laws.{HasServed}
 abbrev pub IsRunOver : {A : Type 0} → Session → Stacked → ℕ → Trace → Result (Done A) Stop → Type 0
 IsRunOver first stack turns t result =
     IsRun (answering first stack) (length (nodes stack.entries)) turns t result
+
+-- it was served so between a source and a sink; at `Ok` nothing is left of the source, and with no
+-- turns the call answers `Turns`
+pub record RunsBetween {A : Type 0} (first : Session) (stack : Stacked) (turns : ℕ)
+    (result : Result (Done A) Stop) (old new : Devices) : Type 0 where
+  pub run : Does (λ t. IsRunOver first stack turns t result) old new
+  pub end : OnOk result (IsAtEnd new.source.left)
+  pub at_once : turns ≡ 0 → result ≡ Err Turns
 
 -- nothing was got or put, and both devices are as before
 pub record IsUntouched (t : Trace) : Type 0 where
@@ -47,6 +57,20 @@ abbrev pub Serves : {A : Type 0} → Profile → Session → List (List ℕ) →
 Serves profile first images turns t result = IsServedOver profile first images turns t result
     ⊎ IsNotBegun profile images t result
 
+-- with no turns: as many as there are were used up, or why the images can't be served
+abbrev pub IsAtOnce : {A : Type 0} → Profile → List (List ℕ) → Result (Done A) Stop → Type 0
+IsAtOnce profile images result =
+    (result ≡ Err Turns) ⊎ ((stop : Stop) × (result ≡ Err stop) × AreRefused profile images stop)
+
+-- it was served or refused so between a source and a sink; at `Ok` nothing is left of the source,
+-- and with no turns the call answers so
+pub record ServesBetween {A : Type 0} (profile : Profile) (first : Session)
+    (images : List (List ℕ)) (turns : ℕ) (result : Result (Done A) Stop)
+    (old new : Devices) : Type 0 where
+  pub run : Does (λ t. Serves profile first images turns t result) old new
+  pub end : OnOk result (IsAtEnd new.source.left)
+  pub at_once : turns ≡ 0 → IsAtOnce profile images result
+
 -- the images are good, and all messages of the stream were answered over their stack, to its end
 pub record HasServedAll {A : Type 0} (profile : Profile) (first : Session)
     (images : List (List ℕ)) (t : Trace) (done : Done A) : Type 0 where
@@ -59,8 +83,3 @@ pub record IsRefusedFor (profile : Profile) (images : List (List ℕ)) (t : Trac
     (stop : Stop) : Type 0 where
   pub refused : AreRefused profile images stop
   pub untouched : IsUntouched t
-
--- with no turns: as many as there are were used up, or why the images can't be served
-abbrev pub IsAtOnce : {A : Type 0} → Profile → List (List ℕ) → Result (Done A) Stop → Type 0
-IsAtOnce profile images result =
-    (result ≡ Err Turns) ⊎ ((stop : Stop) × (result ≡ Err stop) × AreRefused profile images stop)

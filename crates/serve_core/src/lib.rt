@@ -13,11 +13,13 @@
 //! from it what each end means.
 #![tactic(auto)]
 
+mod bounds;
 pub mod laws;
 mod preparing;
 mod running;
 mod serving;
 
+pub use bounds::SharedAllocator;
 pub use devices::{Failed, Sink, Source, Spout, Tap};
 pub use fuse_wire::limits::MAX_TURNS;
 pub use preparing::{prepare, prepare_as};

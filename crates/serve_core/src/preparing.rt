@@ -4,13 +4,13 @@ ghost use Rattle.std.specs.Prelude.{IfOk, IfErr};
 ghost use Rattle.layer_check.specs.Layers.{contents_of, AreRefused};
 ghost use Rattle.serve_core.specs.Preparing.{AreStacked};
 
+use crate::bounds::SharedAllocator;
 use layer_check::check_all;
 use node_table::{OfTree, Table};
 use romfs_format::Profile;
 use serve_loop::Stop;
 use stack_core::stack;
 use stack_model::limits::MAX_LAYERS;
-use std::alloc::Allocator;
 use std::thread::Threads;
 use work_gate::Gate;
 
@@ -20,7 +20,7 @@ use work_gate::Gate;
 /// `Layers` comes exactly where there are none or more than 128, before anything else is done; else
 /// `Layer` names the lowest image that breaks a rule, and its fault. The gate is passed before each
 /// check and each tree.
-pub fn prepare<R: Threads + Sync, A: Allocator + Copy + Send + Sync, G: Gate + Sync>(
+pub fn prepare<R: Threads + Sync, A: SharedAllocator, G: Gate + Sync>(
     rt: &R,
     alloc: A,
     images: Vec<Vec<u8, A>, A>,
@@ -33,7 +33,7 @@ pub fn prepare<R: Threads + Sync, A: Allocator + Copy + Send + Sync, G: Gate + S
 }
 
 /// The same, by the rules of a profile.
-pub fn prepare_as<R: Threads + Sync, A: Allocator + Copy + Send + Sync, G: Gate + Sync>(
+pub fn prepare_as<R: Threads + Sync, A: SharedAllocator, G: Gate + Sync>(
     rt: &R,
     alloc: A,
     images: Vec<Vec<u8, A>, A>,

@@ -1,21 +1,20 @@
 //! Streams over a table.
 
-ghost use Rattle.std.specs.Prelude.{◌≡◌, Err, IfOk, OnOk};
-ghost use Rattle.std.specs.Io.KnownBytes.{IsAtEnd};
+ghost use Rattle.std.specs.Prelude.{IfOk};
 ghost use Rattle.std.specs.Thread.{IsSync};
 ghost use denote.Param.Send.{IsSend, Frees};
 ghost use Rattle.devices.specs.States.{devices};
 ghost use Rattle.reply_pool.specs.Spread.{IsSpreadable, SpreadsOut};
-ghost use Rattle.serve_loop.specs.declared.stop.Stop.TheVariants.{Turns};
-ghost use Rattle.serve_loop.specs.Serving.{AreReady, Does};
-ghost use Rattle.serve_core.specs.Headline.{IsRunOver};
+ghost use Rattle.serve_loop.specs.Serving.{AreReady};
+ghost use Rattle.serve_core.specs.Headline.{RunsBetween};
 
+use crate::bounds::SharedAllocator;
 use devices::{Sink, Source};
 use node_table::Table;
 use reply_model::Session;
 use reply_pool::{Plan, Pool, Spread, spread_out};
 use serve_loop::{Done, Stop, run_by};
-use std::alloc::{AllocError, Allocator};
+use std::alloc::AllocError;
 use std::thread::Threads;
 use work_gate::Gate;
 
@@ -32,13 +31,7 @@ use work_gate::Gate;
 /// `Read` and `Write` come exactly where the source's or the sink's count of failures rose in this
 /// call. A fault of an image is never told. No pull follows an end, a bad length or a failure, and
 /// no device is called after memory was refused. With no turns it answers `Turns` at once.
-pub fn run<
-    R: Threads + Sync,
-    A: Allocator + Copy + Send + Sync,
-    S: Source,
-    K: Sink,
-    G: Gate + Sync,
->(
+pub fn run<R: Threads + Sync, A: SharedAllocator, S: Source, K: Sink, G: Gate + Sync>(
     rt: &R,
     alloc: A,
     table: &Table<A>,
@@ -49,11 +42,9 @@ pub fn run<
     gate: &G,
 ) -> Result<Done<A>, Stop>
     requires { AreReady turns (devices (S.state source.old) (K.state sink.old)) }
-    ensures run { Does (λ t. IsRunOver Session.Fresh table.now turns t result)
+    ensures { RunsBetween Session.Fresh table.now turns result
         (devices (S.state source.old) (K.state sink.old))
         (devices (S.state source.new) (K.state sink.new)) }
-    ensures end { OnOk result (IsAtEnd (S.state source.new).left) }
-    ensures at_once { turns ≡ 0 → result ≡ Err Turns }
 {
     run_from(
         rt,
@@ -70,13 +61,7 @@ pub fn run<
 
 /// The same, of a stream that begins in the session `first`: in [`Session::LastingFresh`] one whose
 /// client is told that the tree never changes.
-pub fn run_from<
-    R: Threads + Sync,
-    A: Allocator + Copy + Send + Sync,
-    S: Source,
-    K: Sink,
-    G: Gate + Sync,
->(
+pub fn run_from<R: Threads + Sync, A: SharedAllocator, S: Source, K: Sink, G: Gate + Sync>(
     rt: &R,
     alloc: A,
     table: &Table<A>,
@@ -88,11 +73,9 @@ pub fn run_from<
     gate: &G,
 ) -> Result<Done<A>, Stop>
     requires { AreReady turns (devices (S.state source.old) (K.state sink.old)) }
-    ensures run { Does (λ t. IsRunOver first table.now turns t result)
+    ensures { RunsBetween first table.now turns result
         (devices (S.state source.old) (K.state sink.old))
         (devices (S.state source.new) (K.state sink.new)) }
-    ensures end { OnOk result (IsAtEnd (S.state source.new).left) }
-    ensures at_once { turns ≡ 0 → result ≡ Err Turns }
 {
     let workers = move |stream: &[u8], session: Session, messages: usize| -> Result<
         Spread<A>,

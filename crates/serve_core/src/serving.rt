@@ -1,12 +1,11 @@
 //! Streams over images.
 
-ghost use Rattle.std.specs.Prelude.{◌≡◌, OnOk};
-ghost use Rattle.std.specs.Io.KnownBytes.{IsAtEnd};
 ghost use Rattle.devices.specs.States.{devices};
 ghost use Rattle.layer_check.specs.Layers.{contents_of};
-ghost use Rattle.serve_loop.specs.Serving.{AreReady, Does};
-ghost use Rattle.serve_core.specs.Headline.{IsAtOnce, Serves};
+ghost use Rattle.serve_loop.specs.Serving.{AreReady};
+ghost use Rattle.serve_core.specs.Headline.{ServesBetween};
 
+use crate::bounds::SharedAllocator;
 use crate::preparing::prepare_as;
 use crate::running::run_from;
 use devices::{Sink, Source};
@@ -14,7 +13,6 @@ use reply_model::Session;
 use reply_pool::Plan;
 use romfs_format::Profile;
 use serve_loop::{Done, Stop};
-use std::alloc::Allocator;
 use std::thread::Threads;
 use work_gate::Gate;
 
@@ -24,13 +22,7 @@ use work_gate::Gate;
 /// `Layers` comes exactly where there are no images or more than 128, and `Layer` names the lowest
 /// broken image and its fault. Then, and where memory runs out before the table stands, no device
 /// is touched. With no turns good images are answered `Turns`.
-pub fn serve<
-    R: Threads + Sync,
-    A: Allocator + Copy + Send + Sync,
-    S: Source,
-    K: Sink,
-    G: Gate + Sync,
->(
+pub fn serve<R: Threads + Sync, A: SharedAllocator, S: Source, K: Sink, G: Gate + Sync>(
     rt: &R,
     alloc: A,
     images: Vec<Vec<u8, A>, A>,
@@ -41,11 +33,9 @@ pub fn serve<
     gate: &G,
 ) -> Result<Done<A>, Stop>
     requires { AreReady turns (devices (S.state source.old) (K.state sink.old)) }
-    ensures run { Does (λ t. Serves Profile.Usual Session.Fresh (contents_of images) turns t result)
+    ensures { ServesBetween Profile.Usual Session.Fresh (contents_of images) turns result
         (devices (S.state source.old) (K.state sink.old))
         (devices (S.state source.new) (K.state sink.new)) }
-    ensures end { OnOk result (IsAtEnd (S.state source.new).left) }
-    ensures at_once { turns ≡ 0 → IsAtOnce Profile.Usual (contents_of images) result }
 {
     serve_as(
         rt,
@@ -61,13 +51,7 @@ pub fn serve<
 }
 
 /// The same, by the rules of a profile.
-pub fn serve_as<
-    R: Threads + Sync,
-    A: Allocator + Copy + Send + Sync,
-    S: Source,
-    K: Sink,
-    G: Gate + Sync,
->(
+pub fn serve_as<R: Threads + Sync, A: SharedAllocator, S: Source, K: Sink, G: Gate + Sync>(
     rt: &R,
     alloc: A,
     images: Vec<Vec<u8, A>, A>,
@@ -79,11 +63,9 @@ pub fn serve_as<
     gate: &G,
 ) -> Result<Done<A>, Stop>
     requires { AreReady turns (devices (S.state source.old) (K.state sink.old)) }
-    ensures run { Does (λ t. Serves profile Session.Fresh (contents_of images) turns t result)
+    ensures { ServesBetween profile Session.Fresh (contents_of images) turns result
         (devices (S.state source.old) (K.state sink.old))
         (devices (S.state source.new) (K.state sink.new)) }
-    ensures end { OnOk result (IsAtEnd (S.state source.new).left) }
-    ensures at_once { turns ≡ 0 → IsAtOnce profile (contents_of images) result }
 {
     serve_from(
         rt,
@@ -100,13 +82,7 @@ pub fn serve_as<
 }
 
 /// The same, of a stream that begins in the session `first`, as [`run_from`] serves it.
-pub fn serve_from<
-    R: Threads + Sync,
-    A: Allocator + Copy + Send + Sync,
-    S: Source,
-    K: Sink,
-    G: Gate + Sync,
->(
+pub fn serve_from<R: Threads + Sync, A: SharedAllocator, S: Source, K: Sink, G: Gate + Sync>(
     rt: &R,
     alloc: A,
     images: Vec<Vec<u8, A>, A>,
@@ -119,11 +95,9 @@ pub fn serve_from<
     gate: &G,
 ) -> Result<Done<A>, Stop>
     requires { AreReady turns (devices (S.state source.old) (K.state sink.old)) }
-    ensures run { Does (λ t. Serves profile first (contents_of images) turns t result)
+    ensures { ServesBetween profile first (contents_of images) turns result
         (devices (S.state source.old) (K.state sink.old))
         (devices (S.state source.new) (K.state sink.new)) }
-    ensures end { OnOk result (IsAtEnd (S.state source.new).left) }
-    ensures at_once { turns ≡ 0 → IsAtOnce profile (contents_of images) result }
 {
     let table = prepare_as(rt, alloc, images, profile, gate)?;
     run_from(rt, alloc, &table, first, source, sink, plan, turns, gate)
