@@ -12,12 +12,13 @@ use Rattle.strata.specs.Laws.{IsStoppedSo, IsOfFiles, IsOfStreams, IsOfImages, I
 
 -- ---- why serving stopped
 
-record HasStopStatusOf (stop : Stop) : Type 0 where
-  streams : stop_status stop ≡ 1 → IsOfStreams stop
-  words : stop_status stop ≡ 2 → ⊥
-  images : stop_status stop ≡ 3 → IsOfImages stop
-  requests : stop_status stop ≡ 4 → IsOfRequests stop
-  memory : stop_status stop ≡ 5 → stop ≡ Memory
+-- a reason that has the status 1, 3, 4 or 5 is one of these, and none has the status 2
+pub record HasStopStatusOf (stop : Stop) : Type 0 where
+  pub streams : stop_status stop ≡ 1 → IsOfStreams stop
+  pub words : stop_status stop ≡ 2 → ⊥
+  pub images : stop_status stop ≡ 3 → IsOfImages stop
+  pub requests : stop_status stop ≡ 4 → IsOfRequests stop
+  pub memory : stop_status stop ≡ 5 → stop ≡ Memory
 
 stop_1 : (stop : Stop) → stop_status stop ≡ 1 → IsOfStreams stop → HasStopStatusOf stop
 stop_1 stop s is = record {
@@ -55,7 +56,8 @@ stop_5 stop s is = record {
   memory = λ e. is;
 }
 
-stop_of : (stop : Stop) → HasStopStatusOf stop
+-- each reason is one that its status asks for
+pub stop_of : (stop : Stop) → HasStopStatusOf stop
 stop_of Read = stop_1 Read refl (inl refl)
 stop_of Write = stop_1 Write refl (inr refl)
 stop_of (Layer layer fault) = stop_3 (Layer layer fault) refl (inl (layer, fault, refl))

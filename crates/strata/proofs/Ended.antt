@@ -1,7 +1,7 @@
 -- How a command ends, by how its last step ended. `whole` and `begun` put what was done over the
 -- images beside the words that asked for it; `unread` is the end before that, and no fault has the
 -- status 0.
-use Rattle.std.proofs.Common.{◌≡◌, ◌≢◌, ◌<◌, ◌∙◌, sym, ap, subst, refl, ℕ, ◌⊎◌, inl, inr, List, None, Result, Ok, Err, IfErr, IsErrAnd, arith, length, map, vec_len, Vec}
+use Rattle.std.proofs.Common.{◌≡◌, ◌≢◌, ◌<◌, ◌≤◌, ◌∙◌, sym, ap, subst, refl, ℕ, ◌⊎◌, inl, inr, List, None, Result, Ok, Err, IfErr, IsErrAnd, arith, length, map, vec_len, Vec}
 use Rattle.std.proofs.lemmas.List.{length-map}
 use Rattle.serve_loop.specs.declared.stop.Stop.{Stop}
 use Rattle.serve_loop.specs.declared.stop.Stop.TheVariants as stops
@@ -74,26 +74,33 @@ unread A words line count old (Err told) l n fault (inr f) e =
       }));
     })
 
--- no fault has the status 0
-stop_fails : (stop : Stop) → stop_status stop ≢ 0
-stop_fails (stops.Layer layer fault) e = absurd (omega arith)
-stop_fails (stops.Layers count) e = absurd (omega arith)
-stop_fails (stops.BadLength at len) e = absurd (omega arith)
-stop_fails (stops.CutOff at) e = absurd (omega arith)
-stop_fails stops.Read e = absurd (omega arith)
-stop_fails stops.Write e = absurd (omega arith)
-stop_fails stops.Turns e = absurd (omega arith)
-stop_fails stops.Memory e = absurd (omega arith)
+-- a status that a fault ends the program with
+abbrev pub IsStatus : ℕ → Type 0
+IsStatus n = (1 ≤ n) × (n ≤ 5)
+
+stop_range : (stop : Stop) → IsStatus (stop_status stop)
+stop_range (stops.Layer layer fault) = (omega arith, omega arith)
+stop_range (stops.Layers count) = (omega arith, omega arith)
+stop_range (stops.BadLength at len) = (omega arith, omega arith)
+stop_range (stops.CutOff at) = (omega arith, omega arith)
+stop_range stops.Read = (omega arith, omega arith)
+stop_range stops.Write = (omega arith, omega arith)
+stop_range stops.Turns = (omega arith, omega arith)
+stop_range stops.Memory = (omega arith, omega arith)
+
+-- each fault has one of them
+pub fault_range : (fault : Fault) → IsStatus (status_of fault)
+fault_range (Usage text) = (omega arith, omega arith)
+fault_range (ImageFile image) = (omega arith, omega arith)
+fault_range RequestsFile = (omega arith, omega arith)
+fault_range RepliesFile = (omega arith, omega arith)
+fault_range BalancesFile = (omega arith, omega arith)
+fault_range Bind = (omega arith, omega arith)
+fault_range Accept = (omega arith, omega arith)
+fault_range (Broken image fault) = (omega arith, omega arith)
+fault_range (InSession session stop) = stop_range stop
+fault_range (Stopped stop) = stop_range stop
 
 -- no fault has the status 0
 pub fault_status : (fault : Fault) → status_of fault ≢ 0
-fault_status (Usage text) e = absurd (omega arith)
-fault_status (ImageFile image) e = absurd (omega arith)
-fault_status RequestsFile e = absurd (omega arith)
-fault_status RepliesFile e = absurd (omega arith)
-fault_status BalancesFile e = absurd (omega arith)
-fault_status Bind e = absurd (omega arith)
-fault_status Accept e = absurd (omega arith)
-fault_status (Broken image fault) e = absurd (omega arith)
-fault_status (InSession session stop) e = stop_fails stop e
-fault_status (Stopped stop) e = stop_fails stop e
+fault_status fault e = let range = fault_range fault in omega (arith, range.0, e)

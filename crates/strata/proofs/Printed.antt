@@ -1,7 +1,6 @@
 -- What numbers and sizes look like in print. The first lemmas are of single texts; the others are
--- how a loop that prints a line each for sizes (`IsPrinted`) or balances (`IsTold`) begins, goes on
--- and ends.
-use Rattle.std.proofs.Common.{◌≡◌, ◌∙◌, sym, ap, ℕ, ℤ, pos, ◌+◌, ◌-◌, ◌^◌, ◌<◌, ◌≤◌, List, [], ◌++◌, length, drop, replicate, false, append-nil, append_assoc, slice_index_or}
+-- how a loop that prints a line for each of a list (`IsPrinted`) begins, goes on and ends.
+use Rattle.std.proofs.Common.{◌≡◌, ◌∙◌, sym, ap, ℕ, ℤ, pos, ◌+◌, ◌-◌, ◌^◌, ◌<◌, ◌≤◌, List, [], ◌++◌, length, drop, replicate, false, append-nil, append_assoc, slice_index_or, arith}
 use Rattle.std.proofs.lemmas.List.{drop_more}
 use Rattle.std.proofs.Math.ListN.{drop_of_length-le}
 use native.Mathlib.Numerals.{unary_clauses}
@@ -10,7 +9,7 @@ use Rattle.std.specs.Fmt.{decimal, digits, padded_integral, format_spec, char_co
 use Rattle.romfs_format.specs.declared.rule.ImageFault.{ImageFault}
 use Rattle.serve_loop.specs.declared.stop.Stop.{Stop}
 use Rattle.serve_loop.specs.declared.stop.Stop.TheVariants.{Layer, Layers}
-use Rattle.strata.specs.Texts.{place_text, broken_text, stop_text, size_line, size_lines, balance_line, balance_lines}
+use Rattle.strata.specs.Texts.{place_text, broken_text, stop_text, numbered_lines}
 
 -- eight digits with zeros in front, as a hole of the form {:08x} writes them
 pub as_place : (n : ℕ) → padded_integral (format_spec 32 0 4 8 (2 ^ 64 - 1)) false [] (digits 16 false n) ≡ place_text n
@@ -26,52 +25,33 @@ pub layers_said : (stop : Stop) (count : ℕ) → stop ≡ Layers count → stop
     ++ (decimal count ++ codes ", allowed 1 to 128")
 layers_said stop count e = ap stop_text e
 
--- the text so far, and the lines of the sizes that are left, make up all lines
-pub record IsPrinted (sizes : List ℕ) (layer : ℕ) (text : List ℕ) : Type 0 where
-  pub whole : text ++ size_lines layer (drop layer sizes) ≡ size_lines 0 sizes
+module _ {X : Type 0} (line : ℕ → X → List ℕ) (first : ℕ) (xs : List X) where
+  -- the text so far, and the lines of those that are left, make up all lines
+  pub record IsPrinted (place : ℕ) (text : List ℕ) : Type 0 where
+    pub whole : text ++ numbered_lines line (place + first) (drop place xs) ≡ numbered_lines line first xs
 
--- before the first size no line is printed
-pub none_printed : (sizes text : List ℕ) → text ≡ [] → IsPrinted sizes 0 text
-none_printed sizes text e = record { whole = ap (λ t. t ++ size_lines 0 sizes) e }
+  -- before the first one no line is printed
+  pub none_printed : (text : List ℕ) → text ≡ [] → IsPrinted 0 text
+  none_printed text e = record {
+    whole = ap (λ t. t ++ numbered_lines line (0 + first) xs) e ∙ ap (λ n. numbered_lines line n xs) (let z : 0 + first ≡ first = omega arith in z);
+  }
 
--- a size's line behind the text makes it that of one size more
-pub one_more_printed : (sizes text more : List ℕ) (layer : ℕ) → layer < length sizes → IsPrinted sizes layer text
-    → more ≡ text ++ size_line layer (slice_index_or sizes layer 0) → IsPrinted sizes (layer + 1) more
-unfolding size_lines
-one_more_printed sizes text more layer b p e = record {
-  whole = ap (λ t. t ++ size_lines (layer + 1) (drop (layer + 1) sizes)) e
-      ∙ append_assoc text (size_line layer (slice_index_or sizes layer 0)) (size_lines (layer + 1) (drop (layer + 1) sizes))
-      ∙ ap (λ left. text ++ size_lines layer left) (sym (drop_more sizes layer 0 b)) ∙ p.whole;
-}
+  -- the next line behind the text makes it that of one more
+  pub one_more_printed : (text more : List ℕ) (place n : ℕ) (none : X) → n ≡ place + first → place < length xs → IsPrinted place text
+      → more ≡ text ++ line n (slice_index_or xs place none) → IsPrinted (place + 1) more
+  unfolding numbered_lines
+  one_more_printed text more place n none is b p e =
+      let next : place + 1 + first ≡ place + first + 1 = omega arith in
+      let x = slice_index_or xs place none in
+      record {
+        whole = ap (λ t. t ++ numbered_lines line (place + 1 + first) (drop (place + 1) xs)) (e ∙ ap (λ k. text ++ line k x) is)
+            ∙ append_assoc text (line (place + first) x) (numbered_lines line (place + 1 + first) (drop (place + 1) xs))
+            ∙ ap (λ k. text ++ (line (place + first) x ++ numbered_lines line k (drop (place + 1) xs))) next
+            ∙ ap (λ left. text ++ numbered_lines line (place + first) left) (sym (drop_more xs place none b)) ∙ p.whole;
+      }
 
--- where no size is left, the text is the lines of all sizes
-pub all_printed : (sizes text : List ℕ) (layer : ℕ) → length sizes ≤ layer → IsPrinted sizes layer text → text ≡ size_lines 0 sizes
-unfolding size_lines
-all_printed sizes text layer b p = sym (append-nil text) ∙ ap (λ left. text ++ size_lines layer left) (sym (drop_of_length-le sizes b))
-    ∙ p.whole
-
--- the text so far, and the lines of the balances that are left, make up all lines
-pub record IsTold (balances : List ℤ) (place : ℕ) (text : List ℕ) : Type 0 where
-  pub whole : text ++ balance_lines (place + 1) (drop place balances) ≡ balance_lines 1 balances
-
--- before the first balance no line is printed
-pub none_told : (balances : List ℤ) (text : List ℕ) → text ≡ [] → IsTold balances 0 text
-none_told balances text e = record { whole = ap (λ t. t ++ balance_lines 1 balances) e }
-
--- a balance's line behind the text makes it that of one balance more
-pub one_more_told : (balances : List ℤ) (text more : List ℕ) (place : ℕ) → place < length balances → IsTold balances place text
-    → more ≡ text ++ balance_line (place + 1) (slice_index_or balances place (pos 0)) → IsTold balances (place + 1) more
-unfolding balance_lines
-one_more_told balances text more place b p e = record {
-  whole = ap (λ t. t ++ balance_lines (place + 1 + 1) (drop (place + 1) balances)) e
-      ∙ append_assoc text (balance_line (place + 1) (slice_index_or balances place (pos 0)))
-      (balance_lines (place + 1 + 1) (drop (place + 1) balances))
-      ∙ ap (λ left. text ++ balance_lines (place + 1) left) (sym (drop_more balances place (pos 0) b)) ∙ p.whole;
-}
-
--- where no balance is left, the text is the lines of all balances
-pub all_told : (balances : List ℤ) (text : List ℕ) (place : ℕ) → length balances ≤ place → IsTold balances place text
-    → text ≡ balance_lines 1 balances
-unfolding balance_lines
-all_told balances text place b p = sym (append-nil text) ∙ ap (λ left. text ++ balance_lines (place + 1) left)
-    (sym (drop_of_length-le balances b)) ∙ p.whole
+  -- where none is left, the text is all lines
+  pub all_printed : (text : List ℕ) (place : ℕ) → length xs ≤ place → IsPrinted place text → text ≡ numbered_lines line first xs
+  unfolding numbered_lines
+  all_printed text place b p = sym (append-nil text)
+      ∙ ap (λ left. text ++ numbered_lines line (place + first) left) (sym (drop_of_length-le xs b)) ∙ p.whole

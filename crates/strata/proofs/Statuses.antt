@@ -26,52 +26,15 @@ use Rattle.strata.specs.Faults.{status_of, stop_status, out_of_memory, line_told
 use Rattle.strata.specs.Ending.{profile_of, first_of, IsStoppedOver, IsDone, EndsInFault, EndsWith, IsOver, IsOverWith, IsRunOf}
 use Rattle.strata.specs.Laws.{AreBad, AreToBlame}
 use Rattle.strata.specs.Sessions.{IsSession, status_at}
-use Rattle.strata.proofs.Ended.{fault_status}
+use Rattle.strata.proofs.Blames.{stop_of}
+use Rattle.strata.proofs.Ended.{IsStatus, fault_range, fault_status}
 use Rattle.strata.proofs.InTurn.{of_sessions}
-
-IsStatus : ℕ → Type 0
-IsStatus n = (1 ≤ n) × (n ≤ 5)
-
-stop_range : (stop : Stop) → IsStatus (stop_status stop)
-unfolding IsStatus
-stop_range (stops.Layer layer fault) = (omega arith, omega arith)
-stop_range (stops.Layers count) = (omega arith, omega arith)
-stop_range (stops.BadLength at len) = (omega arith, omega arith)
-stop_range (stops.CutOff at) = (omega arith, omega arith)
-stop_range stops.Read = (omega arith, omega arith)
-stop_range stops.Write = (omega arith, omega arith)
-stop_range stops.Turns = (omega arith, omega arith)
-stop_range stops.Memory = (omega arith, omega arith)
-
-fault_range : (fault : Fault) → IsStatus (status_of fault)
-unfolding IsStatus
-fault_range (Usage text) = (omega arith, omega arith)
-fault_range (ImageFile image) = (omega arith, omega arith)
-fault_range RequestsFile = (omega arith, omega arith)
-fault_range RepliesFile = (omega arith, omega arith)
-fault_range BalancesFile = (omega arith, omega arith)
-fault_range Bind = (omega arith, omega arith)
-fault_range Accept = (omega arith, omega arith)
-fault_range (Broken image fault) = (omega arith, omega arith)
-fault_range (InSession session stop) = stop_range stop
-fault_range (Stopped stop) = stop_range stop
 
 -- a program that stopped has a status of 1 to 5
 pub ends_in_range : (A : Type 0) (words : List (List ℕ)) (n : ℕ) (old new : Devices) → EndsWith A words n old new → (1 ≤ n) × (n ≤ 5)
-unfolding IsStatus
 ends_in_range A words n old new e = subst IsStatus (sym e.status_is) (fault_range e.fault)
 
 -- a fault that is not of words has another status than 2
-stop_other : (stop : Stop) → stop_status stop ≢ 2
-stop_other (stops.Layer layer fault) e = absurd (omega arith)
-stop_other (stops.Layers count) e = absurd (omega arith)
-stop_other (stops.BadLength at len) e = absurd (omega arith)
-stop_other (stops.CutOff at) e = absurd (omega arith)
-stop_other stops.Read e = absurd (omega arith)
-stop_other stops.Write e = absurd (omega arith)
-stop_other stops.Turns e = absurd (omega arith)
-stop_other stops.Memory e = absurd (omega arith)
-
 told_as : (fault other : Fault) → fault ≡ other → status_of other ≢ 2 → status_of fault ≢ 2
 told_as fault other f n e = n (sym (ap status_of f) ∙ e)
 
@@ -98,7 +61,7 @@ work_other A verbs.Serve line images fault old new s =
         | inr (inl w) ↦ told_as fault RepliesFile w.0 one_is_other
         | inr (inr w) ↦ told_as fault BalancesFile w.0 one_is_other
       ]
-      | inr (inl p) ↦ told_as fault (Stopped p.stop) p.told (stop_other p.stop)
+      | inr (inl p) ↦ told_as fault (Stopped p.stop) p.told (stop_of p.stop).words
       | inr (inr b) ↦ elim b.told [
         | inl w ↦ told_as fault (Stopped stops.Write) w one_is_other
         | inr w ↦ told_as fault out_of_memory w five_is_other
@@ -106,11 +69,11 @@ work_other A verbs.Serve line images fault old new s =
     ]
 work_other A verbs.Socket line images fault old new s =
     elim s.1 [
-      | inl r ↦ told_as fault (Stopped r.stop) r.told (stop_other r.stop)
+      | inl r ↦ told_as fault (Stopped r.stop) r.told (stop_of r.stop).words
       | inr (inl b) ↦ told_as fault Bind b.told one_is_other
       | inr (inr served) ↦ elim (of_sessions {A = A} line.sessions fault served.served) [
         | inl accept ↦ told_as fault Accept accept one_is_other
-        | inr s ↦ told_as fault (InSession s.0 s.1) s.2 (stop_other s.1)
+        | inr s ↦ told_as fault (InSession s.0 s.1) s.2 (stop_of s.1).words
       ]
     ]
 work_other A verbs.Check line images fault old new s =
@@ -126,7 +89,7 @@ work_other A verbs.Check line images fault old new s =
     ]
 work_other A verbs.List line images fault old new s =
     elim s.1 [
-      | inl r ↦ told_as fault (Stopped r.0.stop) r.0.told (stop_other r.0.stop)
+      | inl r ↦ told_as fault (Stopped r.0.stop) r.0.told (stop_of r.0.stop).words
       | inr l ↦ told_as fault (Stopped stops.Write) l.told one_is_other
     ]
 

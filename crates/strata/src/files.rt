@@ -19,28 +19,20 @@ pub fn open_requests<R: Files>(rt: &R, path: Option<&str>) -> Result<Option<R::F
     Ok(Some(file))
 }
 
-/// The file of replies, empty, if one is named.
-pub fn create_replies<R: Files>(rt: &R, path: Option<&str>) -> Result<Option<R::File>, Fault>
+/// An empty file at the path, if one is named. Where it cannot be created, `fault` tells it.
+pub fn create_named<R: Files>(
+    rt: &R,
+    path: Option<&str>,
+    fault: Fault,
+) -> Result<Option<R::File>, Fault>
     ensures ok { IfOk result (λ file. is_some file ≡ is_some path.entry) }
-    ensures err { IfErr result (λ fault.
-        (fault ≡ Fault.RepliesFile) × (is_some path.entry ≡ true)) }
+    ensures err { IfErr result (λ told. (told ≡ fault) × (is_some path.entry ≡ true)) }
 {
     let Some(path) = path else {
         return Ok(None);
     };
-    let file = fs::create(rt, path).map_err(|_| Fault::RepliesFile)?;
-    Ok(Some(file))
-}
-
-/// The file of balances, empty, if one is named.
-pub fn create_balances<R: Files>(rt: &R, path: Option<&str>) -> Result<Option<R::File>, Fault>
-    ensures ok { IfOk result (λ file. is_some file ≡ is_some path.entry) }
-    ensures err { IfErr result (λ fault.
-        (fault ≡ Fault.BalancesFile) × (is_some path.entry ≡ true)) }
-{
-    let Some(path) = path else {
-        return Ok(None);
-    };
-    let file = fs::create(rt, path).map_err(|_| Fault::BalancesFile)?;
-    Ok(Some(file))
+    match fs::create(rt, path) {
+        Ok(file) => Ok(Some(file)),
+        Err(_) => Err(fault),
+    }
 }

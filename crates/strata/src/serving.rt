@@ -10,7 +10,7 @@ ghost use Rattle.strata.specs.Ending.{AreNew, Gave, GetsReplies, IsServingBy, Is
 
 use crate::balances::tell_balances;
 use crate::faults::Fault;
-use crate::files::{create_balances, create_replies, open_requests};
+use crate::files::{create_named, open_requests};
 use crate::settings::{first_of, plan_of, profile_of};
 use command_line::Line;
 use devices::{Sink, Source, Spout, Tap};
@@ -40,8 +40,8 @@ pub fn serve<R: Files + Threads + Sync, A: Allocator + Copy + Send + Sync, S: So
         (devices (S.state input.new) (K.state output.new))) }
 {
     let requests = open_requests(rt, line.requests)?;
-    let replies = create_replies(rt, line.replies)?;
-    let balances = create_balances(rt, line.balances)?;
+    let replies = create_named(rt, line.replies, Fault::RepliesFile)?;
+    let balances = create_named(rt, line.balances, Fault::BalancesFile)?;
     let done = serve_stream(rt, alloc, line, images, requests, replies, input, output)?;
     tell_balances(alloc, balances, done.balances.as_slice())
 }
