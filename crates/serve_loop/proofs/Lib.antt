@@ -3,6 +3,7 @@ pub mod Parts
 pub mod Rounding
 pub mod Traces
 pub mod Runs
+pub mod Turns
 pub mod Ends
 pub mod Balanced
 pub mod Worked

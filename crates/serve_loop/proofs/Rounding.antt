@@ -3,6 +3,7 @@
 -- (`small_on`). `halts_further` is the same where answering stops in the last round.
 use Rattle.std.proofs.Common.{◌≡◌, ◌∙◌, sym, ap, subst, ℕ, ◌+◌, ◌*◌, ◌<◌, ◌≤◌, ◌^◌, inl, inr, ℤ, List, [], ◌∷◌, ◌++◌, length, drop, map, refl, arith, append_assoc, length-append, Result, Ok, Err, IsErrAnd, IfErr}
 use Rattle.std.specs.List.{AllByRecursion}
+use Rattle.std.proofs.KnownBytes.{Appends-nil, Appends-trans}
 use Rattle.std.proofs.lemmas.List.{map-append}
 use Rattle.fuse_wire.specs.Stream.{IsMessage, IsRest}
 use Rattle.fuse_wire.specs.Requests.{asked}
@@ -10,6 +11,7 @@ use Rattle.reply_model.specs.declared.session.Session.{Session}
 use Rattle.reply_model.specs.Streams.{replies_by}
 use Rattle.devices.specs.declared.counts.Pushes.{Pushes}
 use Rattle.devices.specs.Pushing.{HasFlushed}
+use Rattle.devices.specs.States.{SinkState}
 use Rattle.serve_loop.specs.declared.round.Round.{Round}
 use Rattle.reply_model.specs.Streams.{moves_by}
 use Rattle.serve_loop.specs.Rounds.{Answering, joined, AreAnswered, IsRound}
@@ -17,7 +19,7 @@ use Rattle.lookup_balances.proofs.Sums.{within_moved, within_less}
 use Rattle.serve_loop.proofs.Walking.{replies_append, joined_append, both, none_answered, answered_on, first_within}
 use Rattle.serve_loop.specs.declared.stop.Stop.{Stop}
 use Rattle.serve_loop.specs.declared.stop.Stop.TheVariants.{Write, Memory}
-use Rattle.serve_loop.specs.Steps.{ServingState, IsSmall, Goes, sink_failures, Halts}
+use Rattle.serve_loop.specs.Steps.{ServingState, IsSmall, Goes, Proceeds, sink_failures, Halts}
 
 no_messages : (ms : List (List ℕ)) → length ms ≡ 0 → ms ≡ []
 no_messages [] e = refl
@@ -106,6 +108,26 @@ module _ (by : Answering) where
         count = (let x = g.count in let y = h.count in let l = length-append ms ns in omega arith);
         written = (let x = g.written in let y = h.written in let l = length-append put more in omega arith);
       }
+
+  -- where nothing is answered nothing is handed on
+  pub proceeds_nowhere : (v : ServingState) (k : SinkState) → Proceeds by v v k k
+  proceeds_nowhere v k = record {
+    messages = [];
+    put = [];
+    goes = goes_nowhere v;
+    held = Appends-nil _;
+    flushed = flushed_none _;
+  }
+
+  -- messages that are answered and then others, the replies of both handed on, are all answered
+  pub proceeds_further : (a b c : ServingState) (k l m : SinkState) → Proceeds by a b k l → Proceeds by b c l m → Proceeds by a c k m
+  proceeds_further a b c k l m p q = record {
+    messages = p.messages ++ q.messages;
+    put = p.put ++ q.put;
+    goes = goes_further a b c p.messages q.messages p.put q.put p.goes q.goes;
+    held = Appends-trans _ _ _ _ _ p.held q.held;
+    flushed = flushed_on _ _ _ p.put q.put p.flushed q.flushed;
+  }
 
   -- a state goes on by the messages of a round and the bytes that it answers
   pub goes_round : (from : ServingState) (round : Round) (put rest : List ℕ) (new : List ℤ) (at messages written : ℕ) →

@@ -14,7 +14,7 @@ use Rattle.serve_loop.specs.Rounds.{Answering, joined, AreAnswered}
 use Rattle.serve_loop.specs.declared.stop.Stop.{Stop}
 use Rattle.serve_loop.specs.declared.stop.Stop.TheVariants.{Write, Memory}
 use Rattle.serve_loop.specs.declared.progress.Progress.{Progress}
-use Rattle.serve_loop.specs.Buffers.{held_in}
+use Rattle.serve_loop.specs.Buffers.{held_in, IsWithinBytes}
 use Rattle.serve_loop.specs.Serving.{Begins}
 
 -- how far a stream is answered: the bytes not answered yet, the session, the place, the counts, the
@@ -57,6 +57,11 @@ pub record IsSmall (nodes : ℕ) (v : ServingState) : Type 0 where
   pub nodes_are : length v.balances ≡ nodes
   pub balanced : AreWithin (2 ^ 64 * v.at) v.balances
 
+-- the code's buffer lies within its bytes, and its counts are small
+pub record IsInOrder {A : Type 0} (nodes : ℕ) (p : Progress A) : Type 0 where
+  pub range : IsWithinBytes p.buffer
+  pub small : IsSmall nodes (serving_state p)
+
 -- these messages were answered with these bytes
 pub record Goes (by : Answering) (from to : ServingState) (messages : List (List ℕ))
     (put : List ℕ) : Type 0 where
@@ -94,18 +99,22 @@ pub record Halts (by : Answering) (from : ServingState) (before after : Pushes) 
   pub failures : after.failures ≡ before.failures + sink_failures stop
   pub late : after.unflushed ≤ before.unflushed + length put
 
+-- some messages were answered, and their replies handed on
+pub record Proceeds (by : Answering) (from to : ServingState) (old new : SinkState) : Type 0 where
+  pub messages : List (List ℕ)
+  pub put : List ℕ
+  pub goes : Goes by from to messages put
+  pub held : Appends old.held new.held put
+  pub flushed : HasFlushed put old.counts new.counts
+
 -- one round was answered and its replies handed on, or no message was whole
 abbrev pub Advances : Answering → ServingState → ServingState → SinkState → SinkState → Bool
     → Type 0
-Advances by from to old new on =
-    (ms : List (List ℕ)) × (put : List ℕ) × Goes by from to ms put × Appends old.held new.held put
-    × HasFlushed put old.counts new.counts × GoesOn on from to
+Advances by from to old new on = Proceeds by from to old new × GoesOn on from to
 
 -- all that is whole was answered, and the replies handed on
 abbrev pub AdvancesToRest : Answering → ServingState → ServingState → SinkState → SinkState → Type 0
-AdvancesToRest by from to old new =
-    (ms : List (List ℕ)) × (put : List ℕ) × Goes by from to ms put × Appends old.held new.held put
-    × HasFlushed put old.counts new.counts × IsRest to.rest
+AdvancesToRest by from to old new = Proceeds by from to old new × IsRest to.rest
 
 -- answering stopped, and the sink took a part of the replies
 abbrev pub StopsShort : Answering → ServingState → SinkState → SinkState → Stop → Type 0

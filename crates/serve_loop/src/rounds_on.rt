@@ -1,8 +1,7 @@
 //! Rounds of answers, handed on to the sink.
 
 ghost use Rattle.std.specs.Prelude.{◌<◌, ◌^◌, OnOk, IfOk, IfErr};
-ghost use Rattle.serve_loop.specs.Buffers.{IsWithinBytes};
-ghost use Rattle.serve_loop.specs.Steps.{serving_state, IsSmall, Advances, AdvancesToRest, StopsShort};
+ghost use Rattle.serve_loop.specs.Steps.{serving_state, IsInOrder, Advances, AdvancesToRest, StopsShort};
 
 use crate::progress::Progress;
 use crate::round::Rounds;
@@ -20,11 +19,9 @@ fn answer_round<R: Threads + Sync, T: Rounds, K: Sink, A: Allocator + Copy + Sen
     sink: &mut K,
 ) -> Result<bool, Stop>
     requires ready { T.ready answers.now }
-    requires range { IsWithinBytes progress.old.buffer }
-    requires small { IsSmall (T.nodes answers.now) (serving_state progress.old) }
+    requires in_order { IsInOrder (T.nodes answers.now) progress.old }
     requires counts { (K.state sink.old).counts.failures < 2 ^ 63 }
-    ensures range { OnOk result (IsWithinBytes progress.new.buffer) }
-    ensures small { OnOk result (IsSmall (T.nodes answers.now) (serving_state progress.new)) }
+    ensures in_order { OnOk result (IsInOrder (T.nodes answers.now) progress.new) }
     ensures ok { IfOk result (Advances (T.answering answers.now) (serving_state progress.old)
         (serving_state progress.new) (K.state sink.old) (K.state sink.new)) }
     ensures err { IfErr result (StopsShort (T.answering answers.now) (serving_state progress.old)
@@ -63,11 +60,9 @@ pub(crate) fn answer_all<R: Threads + Sync, T: Rounds, K: Sink, A: Allocator + C
     sink: &mut K,
 ) -> Result<(), Stop>
     requires ready { T.ready answers.now }
-    requires range { IsWithinBytes progress.old.buffer }
-    requires small { IsSmall (T.nodes answers.now) (serving_state progress.old) }
+    requires in_order { IsInOrder (T.nodes answers.now) progress.old }
     requires counts { (K.state sink.old).counts.failures < 2 ^ 63 }
-    ensures range { OnOk result (IsWithinBytes progress.new.buffer) }
-    ensures small { OnOk result (IsSmall (T.nodes answers.now) (serving_state progress.new)) }
+    ensures in_order { OnOk result (IsInOrder (T.nodes answers.now) progress.new) }
     ensures ok { OnOk result (AdvancesToRest (T.answering answers.now) (serving_state progress.old)
         (serving_state progress.new) (K.state sink.old) (K.state sink.new)) }
     ensures err { IfErr result (StopsShort (T.answering answers.now) (serving_state progress.old)

@@ -2,11 +2,25 @@ use Rattle.std.proofs.Common.{rules, ◌+◌, ◌∙◌, sym, ap, subst, [], ◌
 use Rattle.std.proofs.KnownBytes.{Appends-nil}
 use Rattle.std.proofs.lemmas.List.{with_items_is}
 use Rattle.std.specs.Io.KnownBytes.{Appends}
+use Rattle.std.specs.Vec.{with_items}
 use Rattle.devices.specs.Pushing.{HasFlushed}
 use Rattle.serve_loop.specs.Buffers.{held_in}
+use Rattle.serve_loop.specs.Rounds.{IsRound}
 use Rattle.serve_loop.specs.Steps.{serving_state}
 use Rattle.serve_loop.proofs.Rounding.{all_of, from_memory, round_few, flushed_none, goes_idle, goes_round, halts_now, at_rest, round_of, shorter, small_on, some_messages}
+use Rattle.serve_loop.proofs.rounds_on.answer_round.Given.{Over}
+use Rattle.serve_loop.proofs.rounds_on.answer_round.Goals.{In_ok-round}
 use Rattle.serve_loop.proofs.rounds_on.answer_round.Goals as goal
+
+-- the round that was answered, as one of the state before it
+seen : (g : Over) (c : In_ok-round g) → IsRound (g.T.Rounds.answering c.args.answers.now) (serving_state c.args.progress.now).session
+    (serving_state c.args.progress.now).rest c.in_ok-round.round c.in_ok-round.ensures.0
+    (record { old = c.args.progress.now.balances.items; new = (with_items c.args.progress.now.balances c.answer_round.new.balances).items })
+seen g c =
+    let r = c.in_ok-round.ensures.2 in
+    let kept = with_items_is c.args.progress.now.balances c.answer_round.new.balances (r.answered.moves.same
+    ∙ c.as_mut_slice.ensures.len) in
+    round_of _ _ c.in_ok-round.round _ _ _ _ _ _ _ c.rest.ensures c.as_mut_slice.ensures.value (sym kept) r
 
 pub returns-in_err-round-clause-err : goal.returns-in_err-round-clause-err
 returns-in_err-round-clause-err g c =
@@ -23,67 +37,54 @@ returns-then-round-eq0-clause-ok g c =
     let by = g.T.Rounds.answering c.args.answers.now in
     let from = serving_state c.args.progress.now in
     let round = c.in_ok-round.round in
-    let (put, told, r) = c.in_ok-round.ensures in
-    let kept = with_items_is c.args.progress.now.balances c.answer_round.new.balances (r.answered.moves.same
-    ∙ c.as_mut_slice.ensures.len) in
-    let seen = round_of by from.session round put from.rest _ from.balances _ _ _ c.rest.ensures c.as_mut_slice.ensures.value
-    (sym kept) r in (
-      [],
-      [],
-      goes_idle by from round put _ seen c.if-round-eq0.true,
-      Appends-nil _,
-      flushed_none _,
-      at_rest by from round put _ seen c.if-round-eq0.true,
+    let r = seen g (goal.at.returns-then-round-eq0-clause-ok g c).In_ok-round in (
+      record {
+        messages = [];
+        put = [];
+        goes = goes_idle by from round _ _ r c.if-round-eq0.true;
+        held = Appends-nil _;
+        flushed = flushed_none _;
+      },
+      at_rest by from round _ _ r c.if-round-eq0.true,
     )
 
 pub overflow_add-progress-2 : goal.overflow_add-progress-2
 overflow_add-progress-2 g c =
-    let (put, told, r) = c.in_ok-round.ensures in
-    let few = round_few _ _ _ _ _ _ _ r in
+    let few = round_few _ _ _ _ _ _ _ c.in_ok-round.ensures.2 in
     let rest = ap length c.rest.ensures in
-    let small = c.requires.small in
-    let count = small.count in
-    let place = small.place in
+    let count = c.requires.in_order.small.count in
+    let place = c.requires.in_order.small.place in
     search (rules, few, rest, count, place)
 
-pub returns-clause-small : goal.returns-clause-small
-returns-clause-small g c =
+pub returns : goal.returns
+returns g c =
     let by = g.T.Rounds.answering c.args.answers.now in
     let from = serving_state c.args.progress.now in
     let round = c.in_ok-round.round in
-    let (put, told, r) = c.in_ok-round.ensures in
-    let kept = with_items_is c.args.progress.now.balances c.answer_round.new.balances (r.answered.moves.same
-    ∙ c.as_mut_slice.ensures.len) in
-    let seen = round_of by from.session round put from.rest _ from.balances _ _ _ c.rest.ensures c.as_mut_slice.ensures.value
-    (sym kept) r in
-    let all = c.as_slice.ensures.value ∙ all_of _ _ put c.clear.ensures.items told in
+    let put = c.in_ok-round.ensures.0 in
+    let r = seen g (goal.at.returns g c).In_ok-round in
+    let all = c.as_slice.ensures.value ∙ all_of _ _ put c.clear.ensures.items c.in_ok-round.ensures.1 in
     let size = c.len.ensures ∙ sym c.as_slice.ensures.len ∙ ap length all in
-    let went = goes_round by from round put (held_in c.pass.new.self) _ _ _ _ seen c.pass.ensures.rest refl refl
-    (ap (λ n. from.written + n) size) in
-    small_on by _ from _ seen.messages put c.requires.small went (subst (λ n. n < 2 ^ 64) size c.len.type_inv)
-
-pub returns-clause-ok : goal.returns-clause-ok
-returns-clause-ok g c =
-    let by = g.T.Rounds.answering c.args.answers.now in
-    let from = serving_state c.args.progress.now in
-    let round = c.in_ok-round.round in
-    let (put, told, r) = c.in_ok-round.ensures in
-    let kept = with_items_is c.args.progress.now.balances c.answer_round.new.balances (r.answered.moves.same
-    ∙ c.as_mut_slice.ensures.len) in
-    let seen = round_of by from.session round put from.rest _ from.balances _ _ _ c.rest.ensures c.as_mut_slice.ensures.value
-    (sym kept) r in
-    let all = c.as_slice.ensures.value ∙ all_of _ _ put c.clear.ensures.items told in
-    let size = c.len.ensures ∙ sym c.as_slice.ensures.len ∙ ap length all in
-    let went = goes_round by from round put (held_in c.pass.new.self) _ _ _ _ seen c.pass.ensures.rest refl refl
+    let went = goes_round by from round put (held_in c.pass.new.self) _ _ _ _ r c.pass.ensures.rest refl refl
     (ap (λ n. from.written + n) size) in
     let (sent, front, on) = c.in-Ok.ensures in
     let same = on.0 ∙ all in
     let after = (g.K.Sink.state c.hand_on.new.sink).held in
-    let counts = (g.K.Sink.state c.hand_on.new.sink).counts in (
-      seen.messages,
-      put,
-      went,
-      subst (λ v. Appends (g.K.Sink.state c.args.sink.now).held after v) same front.held,
-      subst (λ v. HasFlushed v (g.K.Sink.state c.args.sink.now).counts counts) same on.1,
-      shorter by from _ seen.messages put went (some_messages by _ round _ _ _ _ seen c.if-round-eq0.false),
-    )
+    let counts = (g.K.Sink.state c.hand_on.new.sink).counts in
+    record {
+      in_order = record {
+        range = c.pass.ensures.range;
+        small = small_on by _ from _ r.messages put c.requires.in_order.small went (subst (λ n. n < 2 ^ 64) size c.len.type_inv);
+      };
+      ok = (
+        record {
+          messages = r.messages;
+          put = put;
+          goes = went;
+          held = subst (λ v. Appends (g.K.Sink.state c.args.sink.now).held after v) same front.held;
+          flushed = subst (λ v. HasFlushed v (g.K.Sink.state c.args.sink.now).counts counts) same on.1;
+        },
+        shorter by from _ r.messages put went (some_messages by _ round _ _ _ _ r c.if-round-eq0.false),
+      );
+      err = tt;
+    }
