@@ -3,5 +3,6 @@ pub mod Lookups
 pub mod Fitting
 pub mod Listed
 pub mod Decided
+pub mod Lines
 pub mod Writing
 pub mod Moving

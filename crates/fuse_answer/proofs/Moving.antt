@@ -1,14 +1,11 @@
 -- Balances, after one row and another (`IsAdded`), and after one item that is forgotten and another
 -- (`IsTaken`): each has a lemma for the start, for a step and, of items, for the end. Then the same
 -- where moves are appended to a list (`given`, `AreTaken`).
-use Rattle.std.proofs.Common.{◌≡◌, ◌∙◌, sym, ap, ℕ, ◌+◌, ◌-◌, ◌*◌, ◌^◌, ◌<◌, ◌≤◌, ℤ, pos, neg_ℤ, List, [], ◌∷◌, ◌++◌, length, drop, take, get_or, map, Bool, true, false, cond, Option, Some, None, refl, subst, arith, append-nil, append_assoc, length-append}
+use Rattle.std.proofs.Common.{◌≡◌, ◌∙◌, sym, ap, ℕ, ◌+◌, ◌-◌, ◌*◌, ◌^◌, ◌<◌, ◌≤◌, ℤ, pos, neg_ℤ, List, [], ◌∷◌, ◌++◌, length, map, Bool, true, false, cond, Option, Some, None, Err, Vec, vec_len, vec_capacity, refl, subst, arith, append-nil, append_assoc, length-append}
 use Rattle.std.specs.Prelude.{nat_lt, filter}
 use Rattle.std.specs.List.{cons_option}
 use Rattle.std.specs.Option.{option_map, option_map_or}
 use Rattle.std.proofs.lemmas.Int.{ints}
-use Rattle.std.proofs.lemmas.List.{get_or-drop, length-drop, take_more, take-append-drop, take-take}
-use Rattle.std.proofs.lemmas.List.FromFn.{length-enumerate_from}
-use Rattle.std.proofs.lemmas.Option.{slice_get-get_or}
 use Rattle.fuse_wire.specs.declared.forget.Forget.{Forget}
 use Rattle.fuse_wire.specs.declared.limits.TheConstants.{MAX_FORGETS}
 use Rattle.stack_model.specs.Numbers.{Place, node_of}
@@ -19,10 +16,9 @@ use Rattle.lookup_balances.specs.Balances.{AreWithin, IsMoved, weight}
 use Rattle.lookup_balances.proofs.Sums.{moved_on, none_moved, within_less, within_moved}
 use Rattle.fuse_answer.specs.declared.listing.Listing.{Listing}
 use Rattle.fuse_answer.specs.Answers.{taken_back}
-use Rattle.fuse_answer.specs.Listings.{NumberedLine, is_child_line, lines_given, lines_of, row_given}
-
-nothing : NumberedLine
-nothing = (0, record { number = 0; name = [] })
+use Rattle.fuse_answer.specs.Puts.{Grows}
+use Rattle.fuse_answer.specs.Listings.{NumberedLine, is_child_line, lines_given, row_given}
+use Rattle.fuse_answer.proofs.Lines.{IsNext, before_later, lines_before, next_line, none_before}
 
 given_on : (xs ys : List NumberedLine) → lines_given (xs ++ ys) ≡ lines_given xs ++ lines_given ys
 given_on [] ys = refl
@@ -47,7 +43,7 @@ weight_row r = go (nat_lt 2 r.0)
 module _ {A : Type 0} (l : Listing A) where
   -- what the rows before an index give
   abbrev pub given : ℕ → List Move
-  given index = lines_given (take (index - l.from) (drop l.from (lines_of l)))
+  given index = lines_given (lines_before l index)
 
   -- the rows before an index were added
   pub record IsAdded (index : ℕ) (old new : List ℤ) : Type 0 where
@@ -56,48 +52,44 @@ module _ {A : Type 0} (l : Listing A) where
 
   -- before the first row balances are as they were
   pub none_added : (old : List ℤ) → AreWithin (2 ^ 123) old → IsAdded l.from old old
-  none_added old within =
-      let e : l.from - l.from ≡ 0 = omega arith in
-      record {
-        moved = subst (λ n. IsMoved (lines_given (take n (drop l.from (lines_of l)))) old old) (sym e) (none_moved old);
-        within = within_less (2 ^ 123) (2 ^ 123 + (l.from - l.from)) old (omega arith) within;
-      }
+  none_added old within = record {
+    moved = subst (λ ls. IsMoved (lines_given ls) old old) (sym (none_before l)) (none_moved old);
+    within = within_less (2 ^ 123) (2 ^ 123 + (l.from - l.from)) old (omega arith) within;
+  }
+
+  row_is : (index : ℕ) (next : IsNext l index) → row_given l index ≡ lines_given (next.line ∷ [])
+  row_is index next = ap (λ o. option_map_or (λ r. lines_given (r ∷ [])) o []) next.there
 
   -- the rows before the next index give what those before this one do, and what its row does
   pub given_next : (index : ℕ) → l.from ≤ index → index < 2 + length l.children.now → given (index + 1) ≡ given index ++ row_given l index
   given_next index from until =
-      let len = length-enumerate_from 3 l.children.now in
-      let rest = length-drop l.from (lines_of l) in
-      let i = index - l.from in
-      let succ : index + 1 - l.from ≡ i + 1 = omega arith in
-      let there : i < length (drop l.from (lines_of l)) = omega arith in
-      let same : l.from + i ≡ index = omega arith in
-      let r = get_or (lines_of l) index nothing in
-      let read : get_or (drop l.from (lines_of l)) i nothing ≡ r = get_or-drop l.from (lines_of l) i nothing
-      ∙ ap (λ k. get_or (lines_of l) k nothing) same in
-      let row : row_given l index ≡ lines_given (r ∷ []) = ap (λ o. option_map_or (λ r. lines_given (r ∷ [])) o [])
-      (slice_get-get_or (lines_of l) index nothing (omega arith)) in
-      ap (λ n. lines_given (take n (drop l.from (lines_of l)))) succ
-      ∙ ap lines_given (take_more (drop l.from (lines_of l)) i nothing there)
-      ∙ given_on (take i (drop l.from (lines_of l))) (get_or (drop l.from (lines_of l)) i nothing ∷ [])
-      ∙ ap (λ r. given index ++ lines_given (r ∷ [])) read
-      ∙ ap (λ m. given index ++ m) (sym row)
+      let next = next_line l index from until in
+      ap lines_given next.before ∙ given_on (lines_before l index) (next.line ∷ [])
+      ∙ ap (λ m. given index ++ m) (sym (row_is index next))
 
-  weight_given : (index : ℕ) → index < 2 + length l.children.now → weight (row_given l index) ≤ 1
-  weight_given index there =
-      let len = length-enumerate_from 3 l.children.now in
-      let r = get_or (lines_of l) index nothing in
-      let row : row_given l index ≡ lines_given (r ∷ []) = ap (λ o. option_map_or (λ r. lines_given (r ∷ [])) o [])
-      (slice_get-get_or (lines_of l) index nothing (omega arith)) in
-      let w = weight_row r in
-      let e = ap weight row in
+  weight_given : (index : ℕ) → l.from ≤ index → index < 2 + length l.children.now → weight (row_given l index) ≤ 1
+  weight_given index from until =
+      let next = next_line l index from until in
+      let w = weight_row next.line in
+      let e = ap weight (row_is index next) in
+      omega arith
+
+  -- the rows before an index and the one there give no more than all that are answered
+  pub given_less : (index : ℕ) → l.from ≤ index → index < l.until → l.until ≤ 2 + length l.children.now
+      → length (given index) + length (row_given l index) ≤ length (given l.until)
+  given_less index from until within =
+      let next = ap length (given_next index from (omega arith)) in
+      let row = length-append (given index) (row_given l index) in
+      let (rest, is) = before_later l (index + 1) l.until (omega arith) in
+      let all = ap length (ap lines_given is ∙ given_on (lines_before l (index + 1)) rest) in
+      let sum = length-append (given (index + 1)) (lines_given rest) in
       omega arith
 
   -- where a row is added after those before it, the rows before the next one are
   pub row_added : (index : ℕ) (old now next : List ℤ) → l.from ≤ index → index < 2 + length l.children.now
       → IsAdded index old now → IsMoved (row_given l index) now next → IsAdded (index + 1) old next
   row_added index old now next from there so_far step =
-      let light = weight_given index there in
+      let light = weight_given index from there in
       record {
         moved = subst (λ m. IsMoved m old next) (sym (given_next index from there))
             (moved_on (given index) (row_given l index) old now next so_far.moved step);
@@ -122,6 +114,14 @@ weight_forget stack f small = go (node_of stack.entries f.node)
         (option_map (λ p. let m : Move = record { node = f.node; amount = neg_ℤ (pos f.nlookup) } in m) o) []) ≤ 2 ^ 64
     go None = omega arith
     go (Some p) = omega (arith, ints)
+
+-- where the first item that is left is done, the others are left
+split_next : (done rest later all : List Forget) (f : Forget) → rest ≡ f ∷ later → done ++ rest ≡ all → (done ++ f ∷ []) ++ later ≡ all
+split_next done rest later all f is split = append_assoc done (f ∷ []) later ∙ ap (λ t. done ++ t) (sym is) ∙ split
+
+-- where none is left, all are done
+all_done : (done rest all : List Forget) → rest ≡ [] → done ++ rest ≡ all → done ≡ all
+all_done done rest all none split = sym (append-nil done) ∙ ap (λ t. done ++ t) (sym none) ∙ split
 
 -- so many of all items were taken back, and these are left
 pub record IsTaken (stack : Stacked) (all rest : List Forget) (count : ℕ) (old new : List ℤ) : Type 0 where
@@ -151,7 +151,7 @@ one_taken stack all rest later f count old now next small is so_far step =
     let c = so_far.count_is in
     record {
       done = so_far.done ++ f ∷ [];
-      split = append_assoc so_far.done (f ∷ []) later ∙ ap (λ t. so_far.done ++ t) (sym is) ∙ so_far.split;
+      split = split_next so_far.done rest later all f is so_far.split;
       count_is = omega arith;
       moved = subst (λ m. IsMoved m old next) (sym (taken_on stack so_far.done (f ∷ [])))
           (moved_on (taken_back stack so_far.done) (taken_back stack (f ∷ [])) old now next so_far.moved step);
@@ -164,8 +164,7 @@ one_taken stack all rest later f count old now next small is so_far step =
 pub none_left : (stack : Stacked) (all rest : List Forget) (count : ℕ) (old new : List ℤ) → rest ≡ []
     → IsTaken stack all rest count old new → IsMoved (taken_back stack all) old new
 none_left stack all rest count old new none so_far =
-    let same : so_far.done ≡ all = sym (append-nil so_far.done) ∙ ap (λ t. so_far.done ++ t) (sym none) ∙ so_far.split in
-    subst (λ fs. IsMoved (taken_back stack fs) old new) same so_far.moved
+    subst (λ fs. IsMoved (taken_back stack fs) old new) (all_done so_far.done rest all none so_far.split) so_far.moved
 
 -- as long as items are left, balances are within 2^124
 pub room_left : (count most : ℕ) (now : List ℤ) → count < most → most ≤ MAX_FORGETS → AreWithin (2 ^ 123 + 2 ^ 64 * count) now
@@ -185,11 +184,21 @@ all_taken stack all rest count old new enough so_far =
     empty [] le = refl
     empty (f ∷ fs) le = absurd (omega (arith, le))
 
+-- where some were appended and there is no room for the next, there is none for all that begin so
+pub stopped : {A E : Type 0} (e : E) (before now after : Vec Move A) (done next all : List Move) → now.items ≡ before.items ++ done
+    → after.items ≡ now.items → vec_capacity now < vec_len now + length next → vec_capacity before ≤ vec_capacity now
+    → vec_capacity now ≤ vec_capacity after → length done + length next ≤ length all
+    → Grows {E = E} (Err e) before after all
+stopped e before now after done next all so_far same full room grown less =
+    let sum = ap length so_far in
+    let parts = length-append before.items done in
+    let len = now.ok.0 in
+    let first = before.ok.0 in
+    (tt, (done, same ∙ so_far), omega arith, omega arith)
+
 -- before the first row no move was appended
 pub none_given : {A : Type 0} (l : Listing A) (before : List Move) → before ≡ before ++ given l l.from
-none_given l before =
-    let e : l.from - l.from ≡ 0 = omega arith in
-    sym (append-nil before) ∙ ap (λ n. before ++ lines_given (take n (drop l.from (lines_of l)))) (sym e)
+none_given l before = sym (append-nil before) ∙ ap (λ ls. before ++ lines_given ls) (sym (none_before l))
 
 -- where a row's move is appended after those before it, those before the next one are
 pub row_appended : {A : Type 0} (l : Listing A) (index : ℕ) (before now next : List Move) → l.from ≤ index
@@ -211,22 +220,6 @@ taken_less stack done f later all rest is split =
     let d = length-append (taken_back stack (f ∷ [])) (taken_back stack later) in
     omega arith
 
--- the rows before an index give no more than those before a later one
-pub given_less : {A : Type 0} (l : Listing A) (index later : ℕ) → index ≤ later → length (given l index) ≤ length (given l later)
-given_less l index later le =
-    let rows = drop l.from (lines_of l) in
-    let k = index - l.from in
-    let n = later - l.from in
-    let more : k ≤ n = omega arith in
-    let rest = drop k (take n rows) in
-    let parts : take k rows ++ rest ≡ take n rows = ap (λ t. t ++ rest) (sym (take-take k n rows more))
-    ∙ take-append-drop k (take n rows) in
-    let both : lines_given (take n rows) ≡ lines_given (take k rows) ++ lines_given rest = ap lines_given (sym parts)
-    ∙ given_on (take k rows) rest in
-    let len = ap length both in
-    let sum = length-append (lines_given (take k rows)) (lines_given rest) in
-    omega arith
-
 -- what was taken back of all items was appended, and these are left
 pub record AreTaken (stack : Stacked) (all rest : List Forget) (before now : List Move) : Type 0 where
   pub done : List Forget
@@ -242,7 +235,7 @@ pub one_appended : (stack : Stacked) (all rest later : List Forget) (f : Forget)
     → AreTaken stack all rest before now → next ≡ now ++ taken_back stack (f ∷ []) → AreTaken stack all later before next
 one_appended stack all rest later f before now next is so_far step = record {
   done = so_far.done ++ f ∷ [];
-  split = append_assoc so_far.done (f ∷ []) later ∙ ap (λ t. so_far.done ++ t) (sym is) ∙ so_far.split;
+  split = split_next so_far.done rest later all f is so_far.split;
   moves = step ∙ ap (λ m. m ++ taken_back stack (f ∷ [])) so_far.moves
       ∙ append_assoc before (taken_back stack so_far.done) (taken_back stack (f ∷ []))
       ∙ ap (λ m. before ++ m) (sym (taken_on stack so_far.done (f ∷ [])));
@@ -252,5 +245,4 @@ one_appended stack all rest later f before now next is so_far step = record {
 pub all_appended : (stack : Stacked) (all rest : List Forget) (before now : List Move) → rest ≡ [] → AreTaken stack all rest before now
     → now ≡ before ++ taken_back stack all
 all_appended stack all rest before now none so_far =
-    let same : so_far.done ≡ all = sym (append-nil so_far.done) ∙ ap (λ t. so_far.done ++ t) (sym none) ∙ so_far.split in
-    so_far.moves ∙ ap (λ fs. before ++ taken_back stack fs) same
+    so_far.moves ∙ ap (λ fs. before ++ taken_back stack fs) (all_done so_far.done rest all none so_far.split)

@@ -1,24 +1,18 @@
 -- The bytes of a directory's rows, row by row: `IsSoFar` is what holds as they are appended, from
 -- the header (`head_first`) by each row (`row_next`) to the whole reply (`all_rows`). Where there
 -- is room for all, no row lacks it (`row_has_room`).
-use Rattle.std.proofs.Common.{◌≡◌, ◌∙◌, sym, ap, ℕ, zero, suc, ◌+◌, ◌-◌, ◌^◌, ◌<◌, ◌≤◌, List, [], ◌∷◌, ◌++◌, length, drop, take, get_or, Bool, true, false, cond, Some, None, subst, arith, append-nil, append_assoc, length-append}
+use Rattle.std.proofs.Common.{◌≡◌, ◌∙◌, sym, ap, ℕ, zero, suc, ◌+◌, ◌-◌, ◌^◌, ◌<◌, ◌≤◌, List, [], ◌∷◌, ◌++◌, length, get_or, Bool, true, false, cond, Some, None, subst, arith, append-nil, append_assoc, length-append}
 use Rattle.std.specs.Prelude.{nat_lt, slice_get}
 use Rattle.std.specs.List.{enumerate_from, flat_map}
 use Rattle.std.specs.Option.{option_map_or}
-use Rattle.std.proofs.lemmas.List.{get_or-take, get_or-drop, length-take, length-drop, take_more, take-append-drop, take-take}
 use Rattle.std.proofs.lemmas.List.Concat.{flat_map-append}
-use Rattle.std.proofs.lemmas.List.Folds.{length-flat_map-take}
-use Rattle.std.proofs.lemmas.List.FromFn.{length-enumerate_from}
-use Rattle.std.proofs.lemmas.Option.{get_or_from_slice_get, slice_get-get_or}
 use Rattle.fuse_wire.specs.Replies.{reply_head, reply_with}
 use Rattle.fuse_wire.proofs.Sizes.{length-dirent, length-direntplus, length-head}
 use Rattle.stack_table.specs.Rows.{Line}
 use Rattle.stack_table.specs.Stacked.{Stacked}
 use Rattle.fuse_answer.specs.declared.listing.Listing.{Listing}
 use Rattle.fuse_answer.specs.Listings.{IsWhole, NumberedLine, line_bytes, lines_of, listed_data, row_bytes_at, row_size, type_at, wired_at}
-
-nothing : NumberedLine
-nothing = (0, record { number = 0; name = [] })
+use Rattle.fuse_answer.proofs.Lines.{before_later, lines_before, next_line, none_before}
 
 -- the row with an index is that of the child two places before it, and says the place after it
 pub line_there : (own upper : Line) (children : List Line) (k : ℕ) (line : Line) → 2 ≤ k → k < 2 + length children
@@ -47,76 +41,43 @@ length-line_bytes stack true r =
 
 -- the rows that were written before an index
 abbrev pub written : {A : Type 0} → Stacked → Listing A → ℕ → List ℕ
-written stack l index = flat_map (line_bytes stack l.with_entries) (take (index - l.from) (drop l.from (lines_of l)))
+written stack l index = flat_map (line_bytes stack l.with_entries) (lines_before l index)
 
 module _ {A : Type 0} (stack : Stacked) (l : Listing A) (whole : IsWhole stack l) where
-  length-lines : length (lines_of l) ≡ 2 + length l.children.now
-  length-lines = let e = length-enumerate_from 3 l.children.now in omega arith
-
   abbrev bytes_of : NumberedLine → List ℕ
   bytes_of r = line_bytes stack l.with_entries r
 
-  none_written : written stack l l.from ≡ []
-  none_written = let e : l.from - l.from ≡ 0 = omega arith in ap (λ n. flat_map bytes_of (take n (drop l.from (lines_of l)))) e
+  row_is : (index : ℕ) (r : NumberedLine) → slice_get (lines_of l) index ≡ Some r → row_bytes_at stack l index ≡ bytes_of r
+  row_is index r is = ap (λ o. option_map_or bytes_of o []) is
 
   one_written : (index : ℕ) → l.from ≤ index → index < l.until → written stack l (index + 1) ≡ written stack l index
       ++ row_bytes_at stack l index
   one_written index from until =
       let within = whole.within in
-      let len = length-lines in
-      let rest = length-drop l.from (lines_of l) in
-      let i = index - l.from in
-      let next : index + 1 - l.from ≡ i + 1 = omega arith in
-      let there : i < length (drop l.from (lines_of l)) = omega arith in
-      let same : l.from + i ≡ index = omega arith in
-      let r = get_or (lines_of l) index nothing in
-      let read : get_or (drop l.from (lines_of l)) i nothing ≡ r = get_or-drop l.from (lines_of l) i nothing
-      ∙ ap (λ k. get_or (lines_of l) k nothing) same in
-      let got : row_bytes_at stack l index ≡ bytes_of r =
-      ap (λ o. option_map_or bytes_of o []) (slice_get-get_or (lines_of l) index nothing (omega arith)) in
-      ap (λ n. flat_map bytes_of (take n (drop l.from (lines_of l)))) next
-      ∙ ap (flat_map bytes_of) (take_more (drop l.from (lines_of l)) i nothing there)
-      ∙ flat_map-append bytes_of (take i (drop l.from (lines_of l))) (get_or (drop l.from (lines_of l)) i nothing ∷ [])
-      ∙ ap (λ r. written stack l index ++ (bytes_of r ++ [])) read
-      ∙ ap (λ b. written stack l index ++ b) (append-nil (bytes_of r) ∙ sym got)
+      let next = next_line l index from (omega arith) in
+      ap (flat_map bytes_of) next.before
+      ∙ flat_map-append bytes_of (lines_before l index) (next.line ∷ [])
+      ∙ ap (λ b. written stack l index ++ b) (append-nil (bytes_of next.line) ∙ sym (row_is index next.line next.there))
+
+  -- the bytes written before an index are no more than the listing's size
+  pub written_few : (index : ℕ) → index ≤ l.until → length (written stack l index) ≤ l.size
+  written_few index le =
+      let (rest, is) = before_later l index l.until le in
+      let len = ap length (ap (flat_map bytes_of) is ∙ flat_map-append bytes_of (lines_before l index) rest) in
+      let sum = length-append (written stack l index) (flat_map bytes_of rest) in
+      let all = whole.size_is in
+      omega arith
 
   -- a row that is written has a name of less than 2^32 bytes
   pub short_name : (index : ℕ) (r : NumberedLine) → l.from ≤ index → index < l.until → slice_get (lines_of l) index ≡ Some r
       → length r.1.name < 2 ^ 32
   short_name index r from until is =
-      let within = whole.within in
-      let len = length-lines in
-      let rest = drop l.from (lines_of l) in
-      let rest_len = length-drop l.from (lines_of l) in
-      let i = index - l.from in
-      let n = l.until - l.from in
-      let front_len = length-take n rest in
-      let same : l.from + i ≡ index = omega arith in
-      let read : get_or (take n rest) i nothing ≡ r =
-      get_or-take n rest i nothing (omega arith) ∙ get_or-drop l.from (lines_of l) i nothing
-      ∙ ap (λ k. get_or (lines_of l) k nothing) same ∙ get_or_from_slice_get (lines_of l) index r nothing is in
-      let one = length-flat_map-take bytes_of (take n rest) i nothing (omega arith) in
-      let row = ap (λ r. length (bytes_of r)) read in
+      let next = ap length (one_written index from until) in
+      let sum = length-append (written stack l index) (row_bytes_at stack l index) in
+      let few = written_few (index + 1) (omega arith) in
+      let row = ap length (row_is index r is) in
       let sized = length-line_bytes stack l.with_entries r in
-      let size_is = whole.size_is in
       let small = whole.small in
-      omega arith
-
-  -- the bytes written before an index are no more than the listing's size
-  pub written_few : (index : ℕ) → index ≤ l.until → length (written stack l index) ≤ l.size
-  written_few index le =
-      let rows = drop l.from (lines_of l) in
-      let k = index - l.from in
-      let n = l.until - l.from in
-      let less : k ≤ n = omega arith in
-      let rest = drop k (take n rows) in
-      let parts : take k rows ++ rest ≡ take n rows = ap (λ t. t ++ rest) (sym (take-take k n rows less))
-      ∙ take-append-drop k (take n rows) in
-      let both : listed_data stack l ≡ written stack l index ++ flat_map bytes_of rest = ap (flat_map bytes_of) (sym parts)
-      ∙ flat_map-append bytes_of (take k rows) rest in
-      let len = ap length both in
-      let sum = length-append (written stack l index) (flat_map bytes_of rest) in
-      let all = whole.size_is in
       omega arith
 
   -- the row with an index has room where the whole reply has
@@ -141,7 +102,8 @@ module _ {A : Type 0} (stack : Stacked) (l : Listing A) (whole : IsWhole stack l
   -- after the header no row is written
   pub head_first : (unique : ℕ) (before now : List ℕ) → now ≡ before ++ reply_head unique l.size → IsSoFar unique before l.from now
   head_first unique before now is =
-      is ∙ ap (λ b. before ++ b) (sym (append-nil (reply_head unique l.size)) ∙ ap (λ b. reply_head unique l.size ++ b) (sym none_written))
+      is ∙ ap (λ b. before ++ b) (sym (append-nil (reply_head unique l.size))
+      ∙ ap (λ ls. reply_head unique l.size ++ flat_map bytes_of ls) (sym (none_before l)))
 
   -- where a row is appended after those before it, those before the next one are written
   pub row_next : (unique index : ℕ) (before now next : List ℕ) → l.from ≤ index → index < l.until

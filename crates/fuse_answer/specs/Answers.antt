@@ -35,7 +35,7 @@ answer_data stack (Opened flags) = open_out flags
 answer_data stack (Data bytes) = bytes.now
 answer_data stack (Figures blocks nodes) = statfs_out blocks nodes
 answer_data stack (Rows listing) = listed_data stack listing
-answer_data stack (Forgotten node nlookup) = []
+answer_data stack (Forgotten forget) = []
 answer_data stack (AllForgotten items) = []
 
 -- what is taken back of the nodes that are in use
@@ -46,8 +46,7 @@ taken_back stack forgets = filter_map (take_back stack.layers stack.entries) for
 abbrev pub answer_moves : {A : Type 0} → Stacked → Answer A → List Move
 answer_moves stack (Entry attr) = record { node = attr.ino; amount = pos 1 } ∷ []
 answer_moves stack (Rows listing) = listed_moves listing
-answer_moves stack (Forgotten node nlookup) =
-    taken_back stack (record { node = node; nlookup = nlookup } ∷ [])
+answer_moves stack (Forgotten forget) = taken_back stack (forget ∷ [])
 answer_moves stack (AllForgotten items) = taken_back stack (items_of items)
 answer_moves stack _ = []
 

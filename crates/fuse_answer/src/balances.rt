@@ -16,7 +16,7 @@ use std::alloc::Allocator;
 
 /// Adds what an answer gives and takes to the balances, in which node n has the place n - 1.
 #[inline(always)]
-pub(crate) fn add_moves<A: Allocator>(
+pub(crate) fn add_answer_moves<A: Allocator>(
     table: &Table<A>,
     answer: &Answer<'_, A>,
     balances: &mut [i128],
@@ -28,13 +28,7 @@ pub(crate) fn add_moves<A: Allocator>(
     match answer {
         Answer::Entry(attr) => add_move(balances, attr.ino, 1),
         Answer::Rows(rows) if rows.with_entries => add_rows(rows, balances),
-        Answer::Forgotten { node, nlookup } => {
-            let forget = Forget {
-                node: *node,
-                nlookup: *nlookup,
-            };
-            take_back(table, forget, balances)
-        }
+        Answer::Forgotten(forget) => take_back(table, *forget, balances),
         Answer::AllForgotten(items) => take_all_back(table, *items, balances),
         _ => {}
     }

@@ -10,6 +10,7 @@ use crate::lookup::look_up;
 use crate::node::{get_attr, open_directory, open_file, read, read_link};
 use crate::outcome::Answer;
 use crate::sessions::{agreement_of, is_spoken};
+use fuse_wire::forget::Forget;
 use fuse_wire::{Errno, InitOut, Op, Request, opcode};
 use reply_model::{Agreement, Session};
 use stack_table::Table;
@@ -97,7 +98,7 @@ fn go_on<'a, A: Allocator>(
             blocks: table.blocks_all(),
             nodes: table.len(),
         }),
-        Op::Forget { nlookup } => Ok(Answer::Forgotten { node, nlookup }),
+        Op::Forget { nlookup } => Ok(Answer::Forgotten(Forget { node, nlookup })),
         Op::BatchForget { items } => Ok(Answer::AllForgotten(items)),
         Op::Flush if agreed.lasting => Err(Errno::ENOSYS),
         Op::Release

@@ -1,4 +1,8 @@
 //! The lookups that a request gives and takes, as a list.
+//!
+//! An answer is gone over as in `balances`, which adds in place and cannot fail. Here memory may be
+//! refused at each move: one traversal for both would bring that outcome, and what is promised
+//! where it comes, to the path of each reply.
 
 ghost use Rattle.std.specs.Prelude.{◌≤◌, ◌<◌, ◌+◌, ◌^◌, ◌∷◌, [], length, unsigned_abs};
 ghost use Rattle.fuse_wire.specs.Reads.{asked_of, items_of};
@@ -31,31 +35,18 @@ pub fn moves<A: Allocator, M: Allocator>(
     ensures moves { PutsMoves table.now session (asked_of request.now) result into.old into.new }
     ensures small { AreSmall into.old.items → AreSmall into.new.items }
 {
-    match decide(table, session, request) {
-        Ok(answer) => put_moves(table, &answer, into),
-        Err(_) => Ok(()),
-    }
-}
-
-// Appends what an answer gives and takes.
-fn put_moves<A: Allocator, M: Allocator>(
-    table: &Table<A>,
-    answer: &Answer<'_, A>,
-    into: &mut Vec<Move, M>,
-) -> Result<(), AllocError>
-    requires { IsSized table.now answer.now }
-    ensures moves { Puts result into.old into.new (answer_moves table.now answer.now) }
-    ensures small { AreSmall into.old.items → AreSmall into.new.items }
-{
+    let Ok(answer) = decide(table, session, request) else {
+        return Ok(());
+    };
     let len = into.len();
-    let grown = grow(table, answer, into);
+    let grown = grow(table, &answer, into);
     if grown.is_err() {
         into.truncate(len);
     }
     grown
 }
 
-// Appends the same, or some of it where memory is refused.
+// Appends what an answer gives and takes, or some of it where memory is refused.
 fn grow<A: Allocator, M: Allocator>(
     table: &Table<A>,
     answer: &Answer<'_, A>,
@@ -68,13 +59,7 @@ fn grow<A: Allocator, M: Allocator>(
     match answer {
         Answer::Entry(attr) => put(into, attr.ino, 1),
         Answer::Rows(rows) if rows.with_entries => grow_rows(rows, into),
-        Answer::Forgotten { node, nlookup } => {
-            let forget = Forget {
-                node: *node,
-                nlookup: *nlookup,
-            };
-            put_taken(table, forget, into)
-        }
+        Answer::Forgotten(forget) => put_taken(table, *forget, into),
         Answer::AllForgotten(items) => grow_taken(table, *items, into),
         _ => Ok(()),
     }

@@ -1,7 +1,7 @@
 //! What a request is answered, before it is written.
 
 use crate::listing::Listing;
-use fuse_wire::forget::Forgets;
+use fuse_wire::forget::{Forget, Forgets};
 use fuse_wire::{Attr, InitOut};
 use std::alloc::Allocator;
 
@@ -27,7 +27,7 @@ pub(crate) enum Answer<'a, A: Allocator> {
     /// Rows of a directory.
     Rows(Listing<'a, A>),
     /// Lookups of one node are forgotten, which has no reply.
-    Forgotten { node: u64, nlookup: u64 },
+    Forgotten(Forget),
     /// Lookups of several nodes are forgotten, which has no reply.
     AllForgotten(Forgets<'a>),
 }

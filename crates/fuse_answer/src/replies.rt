@@ -7,7 +7,7 @@ ghost use Rattle.std.specs.Prelude.{◌≡◌, ◌^◌};
 ghost use Rattle.lookup_balances.specs.Balances.{AreWithin};
 ghost use Rattle.fuse_answer.specs.Puts.{PutsReply, AddsMoves};
 
-use crate::balances::add_moves;
+use crate::balances::add_answer_moves;
 use crate::decide::decide;
 use crate::outcome::Answer;
 use crate::write::write;
@@ -87,7 +87,7 @@ fn settle<A: Allocator, O: Allocator>(
     let decided = decide(table, session, request);
     tell(table, session, request, &decided, out)?;
     if let Ok(answer) = decided {
-        add_moves(table, &answer, balances);
+        add_answer_moves(table, &answer, balances);
     }
     Ok(())
 }

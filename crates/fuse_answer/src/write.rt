@@ -24,7 +24,7 @@ pub(crate) fn write<A: Allocator, O: Allocator>(
     ensures { Puts result out.old out.new (reply_with unique (answer_data table.now answer.now)) }
 {
     match answer {
-        Answer::Done | Answer::Forgotten { .. } | Answer::AllForgotten(_) => put_head(out, unique),
+        Answer::Done | Answer::Forgotten(_) | Answer::AllForgotten(_) => put_head(out, unique),
         Answer::Terms(init) => {
             let terms = *init;
             put_init(out, unique, &terms)

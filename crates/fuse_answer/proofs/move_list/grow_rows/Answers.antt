@@ -1,7 +1,7 @@
-use Rattle.std.proofs.Common.{◌∙◌, ap, ◌+◌, ◌<◌, length, arith, length-append}
+use Rattle.std.proofs.Common.{◌+◌, ◌<◌, length, arith}
 use Rattle.std.proofs.lemmas.Result.{err_from_is_err_and}
 use Rattle.fuse_answer.specs.Listings.{row_given}
-use Rattle.fuse_answer.proofs.Moving.{given, given_less, given_next, none_given, row_appended}
+use Rattle.fuse_answer.proofs.Moving.{given, given_less, none_given, row_appended, stopped}
 use Rattle.fuse_answer.proofs.move_list.grow_rows.Goals as goal
 
 pub loop-index-init : goal.loop-index-init
@@ -26,15 +26,7 @@ returns-in_err-put_given-clause-moves g c =
     let l = c.args.rows.now in
     let index = c.loop-index.index in
     let was = c.loop-index.invariant in
-    let there : index < 2 + length l.children.now = omega arith in
-    let next = ap length (given_next l index c.loop-index.auto.index there) in
-    let sum = length-append (given l index) (row_given l index) in
-    let less = given_less l (index + 1) l.until (omega arith) in
-    let so_far = ap length was.so_far in
-    let all = length-append c.args.into.now.items (given l index) in
-    let now = c.loop-index.into.ok.0 in
-    let before = c.args.into.now.ok.0 in
-    let room = was.room in
-    let full = c.in_err-put_given.ensures.moves.2 in
-    let grown = c.in_err-put_given.ensures.moves.3 in
-    rw failed.1 (tt, (given l index, c.in_err-put_given.ensures.moves.1 ∙ was.so_far), omega arith, omega arith)
+    let put = c.in_err-put_given.ensures.moves in
+    rw failed.1 (stopped failed.0 c.args.into.now c.loop-index.into c.put_given.new.into (given l index) (row_given l index)
+    (given l l.until) was.so_far put.1 put.2 was.room put.3
+    (given_less l index c.loop-index.auto.index c.loop-index-test.true c.requires.there))

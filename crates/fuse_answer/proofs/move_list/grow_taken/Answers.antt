@@ -1,14 +1,9 @@
-use Rattle.std.proofs.Common.{◌≡◌, ◌∙◌, ap, length, arith, List, [], ◌∷◌, refl, ◌≤◌, length-append}
+use Rattle.std.proofs.Common.{ap, length, arith, [], ◌∷◌}
 use Rattle.std.proofs.lemmas.Result.{err_from_is_err_and}
-use Rattle.fuse_wire.specs.declared.forget.Forget.{Forget}
 use Rattle.fuse_wire.specs.Reads.{items_of}
 use Rattle.fuse_answer.specs.Answers.{taken_back}
-use Rattle.fuse_answer.proofs.Moving.{none_appended, one_appended, taken_less}
+use Rattle.fuse_answer.proofs.Moving.{none_appended, one_appended, stopped, taken_less}
 use Rattle.fuse_answer.proofs.move_list.grow_taken.Goals as goal
-
-empty : (fs : List Forget) → length fs ≤ 0 → fs ≡ []
-empty [] le = refl
-empty (f ∷ fs) le = absurd (omega (arith, le))
 
 pub loop-taken-init : goal.loop-taken-init
 loop-taken-init g c =
@@ -41,13 +36,8 @@ returns-in_err-put_taken-clause-moves g c =
     let stack = c.args.table.now in
     let was = c.loop-taken.invariant in
     let done = was.taken.done in
-    let less = taken_less stack done c.in-Some.forget (items_of c.in-Some.later) (items_of c.args.items) (items_of c.loop-taken.rest)
-    c.in-Some.ensures was.taken.split in
-    let so_far = ap length was.taken.moves in
-    let all = length-append c.args.into.now.items (taken_back stack done) in
-    let now = c.loop-taken.into.ok.0 in
-    let before = c.args.into.now.ok.0 in
-    let room = was.room in
-    let full = c.in_err-put_taken.ensures.moves.2 in
-    let grown = c.in_err-put_taken.ensures.moves.3 in
-    rw failed.1 (tt, (taken_back stack done, c.in_err-put_taken.ensures.moves.1 ∙ was.taken.moves), omega arith, omega arith)
+    let put = c.in_err-put_taken.ensures.moves in
+    rw failed.1 (stopped failed.0 c.args.into.now c.loop-taken.into c.put_taken.new.into (taken_back stack done)
+    (taken_back stack (c.in-Some.forget ∷ [])) (taken_back stack (items_of c.args.items)) was.taken.moves put.1 put.2 was.room put.3
+    (taken_less stack done c.in-Some.forget (items_of c.in-Some.later) (items_of c.args.items) (items_of c.loop-taken.rest)
+    c.in-Some.ensures was.taken.split))
