@@ -1,11 +1,11 @@
 -- Balances, after one list of moves and another. The main lemma is `adds`: what the code writes at
 -- a node's place is what one move of it does to all balances. `within_moved` says how far from 0
--- they are after.
-use Rattle.std.proofs.Common.{◌≡◌, ◌∙◌, sym, ap, subst, ℕ, ◌+◌, ◌<◌, ◌≤◌, ◌^◌, ◌==◌, ℤ, pos, ◌+ℤ◌, unsigned_abs, List, [], ◌∷◌, ◌++◌, length, ◌≢◌, ◌⊎◌, inl, inr, set, get_or, Bool, true, false, cond, refl, arith, eq-eqb, FitsSigned, to_z, of_z, ◌-◌}
+-- they are after. `weight_within` to `one_more_move` are the steps of a loop over moves.
+use Rattle.std.proofs.Common.{◌≡◌, ◌∙◌, sym, ap, subst, ℕ, ◌+◌, ◌<◌, ◌≤◌, ◌^◌, ◌==◌, ℤ, pos, ◌+ℤ◌, unsigned_abs, List, [], ◌∷◌, ◌++◌, length, take, drop, ◌≢◌, ◌⊎◌, inl, inr, set, get_or, Bool, true, false, cond, refl, arith, eq-eqb, FitsSigned, to_z, of_z, ◌-◌}
 use Rattle.std.specs.Int.{w128}
 use Rattle.std.proofs.lemmas.Int.{ints, fits_signed_from_abs, to_z-of_z}
 use Rattle.std.proofs.lemmas.Bool.{eqb-true}
-use Rattle.std.proofs.lemmas.List.{get_or-set_same, get_or-set_other, length-set}
+use Rattle.std.proofs.lemmas.List.{get_or-set_same, get_or-set_other, length-set, take_more, take-append-drop}
 use Rattle.lookup_balances.specs.Balances.{balance_at, weight, IsLight, IsMoved, AreWithin}
 use Rattle.reply_model.specs.declared.moves.Move.{Move}
 use Rattle.reply_model.specs.Moves.{balance}
@@ -14,7 +14,7 @@ abs_add : (a b : ℤ) → unsigned_abs (a +ℤ b) ≤ unsigned_abs a + unsigned_
 abs_add a b = omega (arith, ints)
 
 -- what is given by some moves and then others
-balance_append : (node : ℕ) (xs ys : List Move) → balance node (xs ++ ys) ≡ balance node xs +ℤ balance node ys
+pub balance_append : (node : ℕ) (xs ys : List Move) → balance node (xs ++ ys) ≡ balance node xs +ℤ balance node ys
 balance_append node [] ys = omega (arith, ints)
 balance_append node (x ∷ xs) ys = let e = balance_append node xs ys in omega (arith, ints)
 
@@ -60,13 +60,48 @@ within_moved limit moves a b w m = record {
 pub within_less : (limit most : ℕ) (b : List ℤ) → limit ≤ most → AreWithin limit b → AreWithin most b
 within_less limit most b l w = record { each = λ i h. (let x = w.each i h in omega arith) }
 
-weight_append : (xs ys : List Move) → weight (xs ++ ys) ≡ weight xs + weight ys
+-- what is within a limit but for some moves' weight is within the limit once they are made
+pub still_within : (limit most : ℕ) (moves : List Move) (a b : List ℤ) → AreWithin limit a → IsMoved moves a b → limit + weight moves ≤ most
+    → AreWithin most b
+still_within limit most moves a b w m h = within_less (limit + weight moves) most b h (within_moved limit moves a b w m)
+
+-- what some moves weigh and then others
+pub weight_append : (xs ys : List Move) → weight (xs ++ ys) ≡ weight xs + weight ys
 weight_append [] ys = omega arith
 weight_append (x ∷ xs) ys = let e = weight_append xs ys in omega arith
 
 -- what is light, and what is light after it
 pub light_on : (xs ys : List Move) (m n : ℕ) → IsLight xs m → IsLight ys n → IsLight (xs ++ ys) (m + n)
 light_on xs ys m n l k = let w = weight_append xs ys in omega arith
+
+-- a move that moves nothing
+abbrev pub nothing : Move
+nothing = record { node = 0; amount = pos 0 }
+
+-- the moves before an index and the one there weigh no more than all
+pub weight_within : (xs : List Move) (i : ℕ) → i < length xs → weight (take i xs) + unsigned_abs (get_or xs i nothing).amount ≤ weight xs
+weight_within xs i there =
+    let e = ap weight (take_more xs i nothing there) in
+    let f = weight_append (take i xs) (get_or xs i nothing ∷ []) in
+    let g = weight_append (take (i + 1) xs) (drop (i + 1) xs) in
+    let h = ap weight (take-append-drop (i + 1) xs) in
+    omega arith
+
+-- where the move at an index is made after those before it, those before the next one are
+pub one_more_move : (xs : List Move) (i : ℕ) (a b c : List ℤ) → i < length xs → IsMoved (take i xs) a b
+    → IsMoved (get_or xs i nothing ∷ []) b c
+    → IsMoved (take (i + 1) xs) a c
+one_more_move xs i a b c there m n =
+    subst (λ (ms : List Move). IsMoved ms a c) (sym (take_more xs i nothing there))
+    (moved_on (take i xs) (get_or xs i nothing ∷ []) a b c m n)
+
+-- an amount as 128 bits hold it
+abbrev pub held : ℤ → ℤ
+held z = to_z w128 (of_z w128 z)
+
+-- one that is not far from 0 is held as it is
+pub as_held : (z : ℤ) → unsigned_abs z < 2 ^ 127 → held z ≡ z
+as_held z h = to_z-of_z w128 z (fits_signed_from_abs w128 z h)
 
 -- a move that is added at its node's place
 module _ (b : List ℤ) (place : ℕ) (amount : ℤ) (l : place < length b) where
@@ -102,14 +137,8 @@ none_there b node amount o = record { same = refl; each = λ i h. elsewhere i h 
 -- the sum of a balance and an amount that are not far from 0, as 128 bits hold them
 module _ (b : List ℤ) (node : ℕ) (amount : ℤ) (w : AreWithin (2 ^ 125) b) (s : unsigned_abs amount ≤ 2 ^ 125) (l : node - 1 < length b)
   where
-    abbrev held : ℤ → ℤ
-    held z = to_z w128 (of_z w128 z)
-
     abbrev old : ℤ
     old = get_or b (node - 1) (pos 0)
-
-    as_held : (z : ℤ) → unsigned_abs z < 2 ^ 127 → held z ≡ z
-    as_held z h = to_z-of_z w128 z (fits_signed_from_abs w128 z h)
 
     parts : held old +ℤ held amount ≡ old +ℤ amount
     parts =

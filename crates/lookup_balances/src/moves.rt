@@ -1,7 +1,9 @@
 //! Lookups that are given and taken.
 
 ghost use Rattle.std.specs.Prelude.{◌≤◌, ◌^◌, ◌∷◌, [], unsigned_abs};
-ghost use Rattle.lookup_balances.specs.Balances.{AreWithin, IsMoved};
+ghost use Rattle.lookup_balances.specs.Balances.{AreWithin, IsMoved, weight};
+
+use reply_model::Move;
 
 /// Adds an amount to a node's balance. The number 0, and one that no balance has, changes nothing.
 ///
@@ -17,5 +19,19 @@ pub fn add_move(balances: &mut [i128], node: u64, amount: i128)
     let place = (node - 1) as usize;
     if place < balances.len() {
         balances[place] += amount;
+    }
+}
+
+/// Adds moves one after another.
+///
+/// It asks that no balance is further from 0 than 2^123, and that the moves are of no more than
+/// 2^112 lookups in all.
+pub fn add_moves(balances: &mut [i128], moves: &[Move])
+    requires within { AreWithin (2 ^ 123) balances.old }
+    requires light { weight moves.now ≤ 2 ^ 112 }
+    ensures { IsMoved moves.now balances.old balances.new }
+{
+    for m in moves {
+        add_move(balances, m.node, m.amount);
     }
 }

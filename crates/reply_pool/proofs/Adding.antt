@@ -1,34 +1,13 @@
--- Moves of pieces, added to balances one after another. What was added so far keeps the balances
--- within bounds by its weight (`still_within`, `next_light`), and the other lemmas put one move or
--- piece more behind those so far.
-use Rattle.std.proofs.Common.{◌≡◌, ◌∙◌, sym, ap, subst, ℕ, ◌+◌, ◌<◌, ◌≤◌, ◌^◌, ℤ, unsigned_abs, to_z, of_z, List, [], ◌∷◌, ◌++◌, length, take, drop, arith, append-nil, append_assoc, get_or}
-use Rattle.std.specs.Int.{w128}
+-- Pieces, appended and added to balances one after another: `bytes_on` and `moves_on` put one more
+-- behind those so far, and `next_light` says that these and the next weigh no more than all.
+use Rattle.std.proofs.Common.{◌≡◌, ◌∙◌, sym, ap, subst, ℕ, ◌+◌, ◌<◌, ◌≤◌, ℤ, List, [], ◌∷◌, ◌++◌, length, take, drop, arith, append-nil, append_assoc, get_or}
 use Rattle.std.specs.List.{flat_map}
 use Rattle.std.proofs.lemmas.Grind.{flat_map-append}
-use Rattle.std.proofs.lemmas.Int.{fits_signed_from_abs, to_z-of_z}
 use Rattle.std.proofs.lemmas.List.{take_more, take-append-drop}
 use Rattle.reply_model.specs.declared.moves.Move.{Move}
-use Rattle.lookup_balances.specs.Balances.{AreWithin, IsMoved, weight}
-use Rattle.lookup_balances.proofs.Sums.{moved_on, within_less, within_moved}
+use Rattle.lookup_balances.specs.Balances.{IsMoved, weight}
+use Rattle.lookup_balances.proofs.Sums.{moved_on, weight_append}
 use Rattle.reply_pool.specs.declared.pieces.Piece.{Piece}
-use Rattle.reply_pool.proofs.Summing.{nothing, weight_append}
-
--- balances stay within a limit and the weight of what was added
-pub still_within : (limit most : ℕ) (moves : List Move) (a b : List ℤ) → AreWithin limit a → IsMoved moves a b → limit + weight moves ≤ most
-    → AreWithin most b
-still_within limit most moves a b w m h = within_less (limit + weight moves) most b h (within_moved limit moves a b w m)
-
--- a small amount is as 128 bits hold it
-pub as_held : (z : ℤ) → unsigned_abs z ≤ 2 ^ 112 → to_z w128 (of_z w128 z) ≡ z
-as_held z h = to_z-of_z w128 z (fits_signed_from_abs w128 z (omega arith))
-
--- one move more was added
-pub one_more_move : (xs : List Move) (i : ℕ) (a b c : List ℤ) → i < length xs → IsMoved (take i xs) a b
-    → IsMoved (get_or xs i nothing ∷ []) b c
-    → IsMoved (take (i + 1) xs) a c
-one_more_move xs i a b c there m n =
-    subst (λ (ms : List Move). IsMoved ms a c) (sym (take_more xs i nothing there))
-    (moved_on (take i xs) (get_or xs i nothing ∷ []) a b c m n)
 
 module _ {A : Type 0} where
   -- what pieces move, one after another

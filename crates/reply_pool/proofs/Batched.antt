@@ -15,7 +15,7 @@ use Rattle.fuse_wire.specs.declared.limits.TheConstants.{MAX_ROUND_MESSAGES}
 use Rattle.reply_model.specs.declared.moves.Move.{Move}
 use Rattle.reply_model.specs.Moves.{balance}
 use Rattle.lookup_balances.specs.Balances.{weight}
-use Rattle.reply_pool.proofs.Summing.{balance_append, weight_append}
+use Rattle.lookup_balances.proofs.Sums.{balance_append, weight_append}
 
 -- the batch of a number below their count begins within the jobs
 pub begins_within : (jobs size number : ℕ) → 1 ≤ size → number < (jobs + size - 1) / size → number * size ≤ jobs

@@ -23,23 +23,14 @@ one-other y x n = ap (λ b. cond b 1 0) (ne_eqb y x n)
 pub times-cons : (x y : ℕ) (l : List ℕ) → times x (y ∷ l) ≡ one y x + times x l
 times-cons x y l = sum_by-cons (λ z. one z x) y l
 
--- no number outside a range stands in it
-outside : (x a n : ℕ) → x < a → times x (range_with_len a n) ≡ 0
-outside x a zero h = refl
-outside x a (suc n) h = omega (
+-- no number below a range stands in it
+below : (x a n : ℕ) → x < a → times x (range_with_len a n) ≡ 0
+below x a zero h = refl
+below x a (suc n) h = omega (
   arith,
   times-cons x a (range_with_len (a + 1) n),
   one-other a x (λ e. omega arith),
-  outside x (a + 1) n (omega arith),
-)
-
-beyond : (x a n : ℕ) → a + n ≤ x → times x (range_with_len a n) ≡ 0
-beyond x a zero h = refl
-beyond x a (suc n) h = omega (
-  arith,
-  times-cons x a (range_with_len (a + 1) n),
-  one-other a x (λ e. omega arith),
-  beyond x (a + 1) n (omega arith),
+  below x (a + 1) n (omega arith),
 )
 
 module _ {P : Type 0} (number : P → ℕ) where
@@ -68,7 +59,7 @@ module _ {P : Type 0} (number : P → ℕ) where
 
       not_below : a ≤ number p
       not_below = dite (dec_le a (number p)) (λ d. d) (λ d. let lt : number p < a = lt_of_not-le d in
-          let none = outside (number p) a (suc n) lt in let here = once (number p) in
+          let none = below (number p) a (suc n) lt in let here = once (number p) in
           absurd (omega (arith, times-cons (number p) (number p) (map number l), one-same (number p) (number p) refl)))
 
       first : number p ≡ a

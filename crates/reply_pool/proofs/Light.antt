@@ -29,7 +29,7 @@ use Rattle.reply_model.specs.Moves.{take_back, gives_at, moved, moves}
 use Rattle.lookup_balances.specs.Balances.{IsLight, weight}
 
 -- all are bytes
-abbrev AreBytes : List ℕ → Type 0
+abbrev pub AreBytes : List ℕ → Type 0
 AreBytes m = (k : ℕ) → slice_index m k < 256
 
 bytes_after : (n : ℕ) (m : List ℕ) → AreBytes m → AreBytes (drop n m)

@@ -1,7 +1,7 @@
 -- A round of a stream by workers: `by_jobs`. Messages say what their jobs say (`jobs_told`,
 -- `jobs_moved`), pieces of all batches what the jobs say (Hands), and what was appended is what the
 -- pieces say; so it is a round of the messages.
-use Rattle.std.proofs.Common.{◌≡◌, ◌∙◌, sym, ap, subst, ℕ, zero, suc, ◌+◌, ◌<◌, ◌≤◌, ◌⊎◌, inl, inr, ℤ, ◌+ℤ◌, List, [], ◌∷◌, ◌++◌, length, map, take, drop, refl, arith, length-append, OnOk, Result, Ok, Err}
+use Rattle.std.proofs.Common.{◌≡◌, ◌∙◌, sym, ap, subst, ℕ, zero, suc, ◌+◌, ◌<◌, ◌≤◌, ◌⊎◌, inl, inr, ℤ, ◌+ℤ◌, List, [], ◌∷◌, ◌++◌, length, map, take, drop, refl, arith, length-append}
 use Rattle.std.specs.Prelude.{slice_index}
 use Rattle.std.proofs.lemmas.List.{map-append}
 use Rattle.std.specs.List.{AllByRecursion, flat_map}
@@ -21,13 +21,12 @@ use Rattle.serve_loop.specs.declared.round.Round.{Round}
 use Rattle.serve_loop.specs.Rounds.{AppendsRound, AreFirst, Balances, joined}
 use Rattle.serve_loop.proofs.Walking.{first_on, none_first, one_first, session_append}
 use Rattle.reply_pool.specs.declared.pieces.Piece.{Piece}
-use Rattle.reply_pool.specs.declared.gathered.Spread.{Spread}
+use Rattle.reply_pool.specs.declared.gathered.RoundPieces.{RoundPieces}
 use Rattle.reply_pool.specs.Answers.{answering}
-use Rattle.reply_pool.specs.Batches.{AreOrdered}
 use Rattle.reply_pool.specs.Jobs.{Job, moved_by, reply_to}
 use Rattle.reply_pool.specs.Spread.{AnswerAll, AreAppended, AreFirstJobs, AreJobs, SpreadsOut}
 use Rattle.reply_pool.proofs.Hands.{all_move, whole}
-use Rattle.reply_pool.proofs.Light.{message_light}
+use Rattle.reply_pool.proofs.Light.{AreBytes, message_light}
 
 -- one message more, as a job behind the others
 pub jobs_on : (s : Session) (ms : List (List ℕ)) (js : List Job) (m : List ℕ) (j : Job) → AreJobs s ms js
@@ -87,10 +86,6 @@ module _ (stack : Stacked) where
       ap (λ xs. xs ++ flat_map (moved_by stack) js) one
       ∙ ap (λ xs. moves stack.layers stack.entries s (asked m) ++ xs) (jobs_moved (session_after s (asked m).op) ms js a.2)
 
--- all are bytes
-abbrev AreBytes : List ℕ → Type 0
-AreBytes m = (k : ℕ) → slice_index m k < 256
-
 front_bytes : (m r : List ℕ) → AreBytes (m ++ r) → AreBytes m
 front_bytes [] r b k = omega arith
 front_bytes (x ∷ m) r b zero = b 0
@@ -112,13 +107,6 @@ messages_light stack s (m ∷ ms) each b =
 -- moves with the same balances move the same
 moved_same : (xs ys : List Move) (a b : List ℤ) → ((node : ℕ) → balance node xs ≡ balance node ys) → IsMoved xs a b → IsMoved ys a b
 moved_same xs ys a b e m = record { same = m.same; each = λ i h. (m.each i h ∙ ap (λ z. balance_at a i +ℤ z) (e (i + 1))) }
-
--- pieces that are appended in order
-pub appends : {A E : Type 0} (pieces ordered : List (Piece A)) (r : Result (Unit {0}) E) (old new : List ℕ) (b : Balances)
-    → AreOrdered pieces ordered → OnOk r (new ≡ old ++ flat_map (λ (p : Piece A). p.bytes.items) ordered)
-    → OnOk r (IsMoved (flat_map (λ (p : Piece A). p.moves.items) ordered) b.old b.new) → OnOk r (AreAppended pieces old new b)
-appends pieces ordered (Ok u) old new b o bytes moved = record { ordered = ordered; order = o; bytes = bytes; moves = moved }
-appends pieces ordered (Err e) old new b o bytes moved = tt
 
 -- the pieces of all batches of the first messages' jobs, appended in order, are a round
 pub by_jobs : {A : Type 0} (first : Session) (stack : Stacked) (s : Session) (stream : List ℕ) (round : Round) (jobs : List Job) (size : ℕ)
@@ -149,7 +137,7 @@ by_jobs first stack s stream round jobs size pieces old new b some bytes f o a p
 )
 
 -- the same of what workers gave back
-pub by_spread : {A : Type 0} (first : Session) (stack : Stacked) (s : Session) (stream : List ℕ) (spread : Spread A) (old new : List ℕ)
+pub by_spread : {A : Type 0} (first : Session) (stack : Stacked) (s : Session) (stream : List ℕ) (spread : RoundPieces A) (old new : List ℕ)
     (b : Balances)
     → SpreadsOut stack s stream spread → AreAppended spread.pieces.items old new b
     → AppendsRound (answering first stack) s stream spread.round old new b

@@ -1,43 +1,20 @@
--- Moves joined from the front on, where their nodes do not fall. `none_joined` to `all_joined` are
+-- Moves summed from the front on, where their nodes do not fall. `none_summed` to `all_summed` are
 -- the loop: a move is added to its node's sum or begins a higher one. The last lemma,
 -- `sums_permuted`, lets moves be sorted before.
-use Rattle.std.proofs.Common.{◌≡◌, ◌≢◌, ◌∙◌, sym, ap, subst, ℕ, ◌+◌, ◌<◌, ◌≤◌, ◌^◌, ◌==◌, inl, inr, ℤ, pos, negsuc, neg_ℤ, ◌+ℤ◌, unsigned_abs, List, [], ◌∷◌, ◌++◌, length, get_or, take, drop, Bool, true, false, cond, refl, arith, to_z, of_z}
+use Rattle.std.proofs.Common.{◌≡◌, ◌≢◌, ◌∙◌, sym, ap, subst, ℕ, ◌+◌, ◌<◌, ◌≤◌, ◌^◌, ◌==◌, inl, inr, ℤ, pos, negsuc, neg_ℤ, ◌+ℤ◌, unsigned_abs, List, [], ◌∷◌, ◌++◌, length, get_or, take, Bool, true, false, cond, refl, arith}
 use Rattle.std.specs.List.{AllByRecursion}
 use Rattle.std.specs.List.Sorted.{IsPermutation}
 use Rattle.std.specs.Prelude.{sum_by}
-use Rattle.std.specs.Int.{w128}
-use Rattle.std.proofs.lemmas.Int.{ints, fits_signed_from_abs, to_z-of_z}
-use Rattle.std.proofs.lemmas.List.{take_more, take-append-drop}
+use Rattle.std.proofs.lemmas.Int.{ints}
+use Rattle.std.proofs.lemmas.List.{take_more}
 use Rattle.std.proofs.lemmas.List.Recursion.{is_sum_by}
 use Rattle.std.proofs.lemmas.List.Sums.{sum_by-cons}
 use Rattle.std.proofs.lemmas.List.Sorted.{sum_by-IsPermutation}
 use Rattle.reply_model.specs.declared.moves.Move.{Move}
 use Rattle.reply_model.specs.Moves.{balance}
 use Rattle.lookup_balances.specs.Balances.{weight}
+use Rattle.lookup_balances.proofs.Sums.{as_held, balance_append, held, nothing, weight_append, weight_within}
 use Rattle.reply_pool.specs.Sums.{AreAscending, AreSums, PutsSum}
-
--- two lists of moves give a node what the one gives and the other
-pub balance_append : (node : ℕ) (xs ys : List Move) → balance node (xs ++ ys) ≡ balance node xs +ℤ balance node ys
-balance_append node [] ys = omega (arith, ints)
-balance_append node (x ∷ xs) ys = let e = balance_append node xs ys in omega (arith, ints)
-
--- a sum of nothing
-abbrev pub nothing : Move
-nothing = record { node = 0; amount = pos 0 }
-
--- two lists of moves weigh what the one weighs and the other
-pub weight_append : (xs ys : List Move) → weight (xs ++ ys) ≡ weight xs + weight ys
-weight_append [] ys = omega arith
-weight_append (x ∷ xs) ys = let e = weight_append xs ys in omega arith
-
--- the weight of the moves before an index, and of the one there
-pub weight_within : (xs : List Move) (i : ℕ) → i < length xs → weight (take i xs) + unsigned_abs (get_or xs i nothing).amount ≤ weight xs
-weight_within xs i there =
-    let e = ap weight (take_more xs i nothing there) in
-    let f = weight_append (take i xs) (get_or xs i nothing ∷ []) in
-    let g = weight_append (take (i + 1) xs) (drop (i + 1) xs) in
-    let h = ap weight (take-append-drop (i + 1) xs) in
-    omega arith
 
 weight_sum : (xs : List Move) → weight xs ≡ sum_by (λ (m : Move). unsigned_abs m.amount) xs
 weight_sum xs = is_sum_by weight (λ (m : Move). unsigned_abs m.amount) refl (λ x xs. refl) xs
@@ -78,8 +55,8 @@ ascending_on (x ∷ xs) a b lt h =
     let higher : x.node < b.node = omega arith in
     (all_push (λ n. x.node < n.node) (xs ++ a ∷ []) b h.0 higher, ascending_on xs a b lt h.1)
 
--- these moves are joined, and those of the last node are not yet put
-pub record IsJoined (done sums : List Move) (sum : Move) : Type 0 where
+-- these moves are summed, and the sum of the last node is not yet put
+pub record AreSummed (done sums : List Move) (sum : Move) : Type 0 where
   pub each : (node : ℕ) → balance node (sums ++ sum ∷ []) ≡ balance node done
   pub ascending : AreAscending (sums ++ sum ∷ [])
   pub none_zero : AllByRecursion (λ m. m.amount ≢ pos 0) sums
@@ -90,8 +67,8 @@ none_of true a is = is
 none_of false a is = refl
 
 -- where no move came yet, nothing is put and the sum under way is 0
-pub none_joined : (sum : Move) → sum.amount ≡ pos 0 → IsJoined [] [] sum
-none_joined sum zero = record {
+pub none_summed : (sum : Move) → sum.amount ≡ pos 0 → AreSummed [] [] sum
+none_summed sum zero = record {
   each = λ node. (let e = none_of (sum.node == node) sum.amount zero in omega (arith, ints));
   ascending = (tt, tt);
   none_zero = tt;
@@ -103,8 +80,8 @@ added true x y z is = is
 added false x y z is = omega (arith, ints)
 
 -- a move of the last node is added to it
-pub one_added : (done sums : List Move) (sum m next : Move) → IsJoined done sums sum → m.node ≡ sum.node → next.node ≡ sum.node
-    → next.amount ≡ sum.amount +ℤ m.amount → IsJoined (done ++ m ∷ []) sums next
+pub one_added : (done sums : List Move) (sum m next : Move) → AreSummed done sums sum → m.node ≡ sum.node → next.node ≡ sum.node
+    → next.amount ≡ sum.amount +ℤ m.amount → AreSummed (done ++ m ∷ []) sums next
 one_added done sums sum m next so_far same kept is = record {
   each = λ node. (
       let e = so_far.each node in
@@ -126,21 +103,14 @@ one_added done sums sum m next so_far same kept is = record {
       omega arith);
 }
 
--- an amount as 128 bits hold it
-abbrev held : ℤ → ℤ
-held z = to_z w128 (of_z w128 z)
-
-as_held : (z : ℤ) → unsigned_abs z < 2 ^ 127 → held z ≡ z
-as_held z h = to_z-of_z w128 z (fits_signed_from_abs w128 z h)
-
 -- amounts that 128 bits hold together are held as they are
 pub fits_both : (a b : ℤ) → unsigned_abs a + unsigned_abs b < 2 ^ 127 → unsigned_abs (held a) + unsigned_abs (held b) < 2 ^ 127
 fits_both a b h = let e = ap unsigned_abs (as_held a (omega arith)) in let f = ap unsigned_abs (as_held b (omega arith)) in omega arith
 
 -- the move at an index is added
 pub move_added : (xs sums : List Move) (i : ℕ) (sum : Move) (total : ℤ) → i < length xs → weight xs < 2 ^ 127
-    → IsJoined (take i xs) sums sum → (get_or xs i nothing).node ≡ sum.node → total ≡ held sum.amount +ℤ held (get_or xs i nothing).amount
-    → IsJoined (take (i + 1) xs) sums (record { node = sum.node; amount = held total })
+    → AreSummed (take i xs) sums sum → (get_or xs i nothing).node ≡ sum.node → total ≡ held sum.amount +ℤ held (get_or xs i nothing).amount
+    → AreSummed (take (i + 1) xs) sums (record { node = sum.node; amount = held total })
 move_added xs sums i sum total there light so_far same is =
     let m = get_or xs i nothing in
     let w = weight_within xs i there in
@@ -150,19 +120,19 @@ move_added xs sums i sum total there light so_far same is =
     let a : unsigned_abs (sum.amount +ℤ m.amount) ≤ unsigned_abs sum.amount + unsigned_abs m.amount = omega (arith, ints) in
     let b = ap unsigned_abs e in
     let h : held total ≡ total = as_held total (omega arith) in
-    subst (λ ms. IsJoined ms sums (record { node = sum.node; amount = held total })) (sym (take_more xs i nothing there))
+    subst (λ ms. AreSummed ms sums (record { node = sum.node; amount = held total })) (sym (take_more xs i nothing there))
     (one_added (take i xs) sums sum m (record { node = sum.node; amount = held total }) so_far same refl (h ∙ e))
 
 -- the sum of the last node is put, and a higher node begins
-pub next_begun : (done sums put : List Move) (sum next : Move) → IsJoined done sums sum → PutsSum sums put sum → sum.node < next.node
-    → next.amount ≡ pos 0 → IsJoined done put next
+pub next_begun : (done sums put : List Move) (sum next : Move) → AreSummed done sums sum → PutsSum sums put sum → sum.node < next.node
+    → next.amount ≡ pos 0 → AreSummed done put next
 next_begun done sums put sum next so_far told higher zero = elim told [ inl t ↦ dropped t.0 t.1 | inr t ↦ kept t.0 t.1 ]
   where
     none : unsigned_abs next.amount ≡ 0
     none = let e = ap unsigned_abs zero in omega arith
 
-    dropped : sum.amount ≡ pos 0 → put ≡ sums → IsJoined done put next
-    dropped is same = subst (λ xs. IsJoined done xs next) (sym same) (record {
+    dropped : sum.amount ≡ pos 0 → put ≡ sums → AreSummed done put next
+    dropped is same = subst (λ xs. AreSummed done xs next) (sym same) (record {
       each = λ node. (
           let e = so_far.each node in
           let g = balance_append node sums (sum ∷ []) in
@@ -175,8 +145,8 @@ next_begun done sums put sum next so_far told higher zero = elim told [ inl t �
       light = (let s = so_far.light in omega (arith, none));
     })
 
-    kept : sum.amount ≢ pos 0 → put ≡ sums ++ sum ∷ [] → IsJoined done put next
-    kept some same = subst (λ xs. IsJoined done xs next) (sym same) (record {
+    kept : sum.amount ≢ pos 0 → put ≡ sums ++ sum ∷ [] → AreSummed done put next
+    kept some same = subst (λ xs. AreSummed done xs next) (sym same) (record {
       each = λ node. (
           let e = so_far.each node in
           let h = balance_append node (sums ++ sum ∷ []) (next ∷ []) in
@@ -188,8 +158,8 @@ next_begun done sums put sum next so_far told higher zero = elim told [ inl t �
     })
 
 -- the last sum is put
-pub all_joined : (done sums put : List Move) (sum : Move) → IsJoined done sums sum → PutsSum sums put sum → AreSums done put
-all_joined done sums put sum so_far told = elim told [ inl t ↦ dropped t.0 t.1 | inr t ↦ kept t.0 t.1 ]
+pub all_summed : (done sums put : List Move) (sum : Move) → AreSummed done sums sum → PutsSum sums put sum → AreSums done put
+all_summed done sums put sum so_far told = elim told [ inl t ↦ dropped t.0 t.1 | inr t ↦ kept t.0 t.1 ]
   where
     dropped : sum.amount ≡ pos 0 → put ≡ sums → AreSums done put
     dropped none same = subst (λ xs. AreSums done xs) (sym same) (record {
@@ -210,7 +180,7 @@ all_joined done sums put sum so_far told = elim told [ inl t ↦ dropped t.0 t.1
     })
 
 -- the sums weigh no more than what they are sums of
-pub sums_light : (done sums put : List Move) (sum : Move) → IsJoined done sums sum → PutsSum sums put sum → weight put ≤ weight done
+pub sums_light : (done sums put : List Move) (sum : Move) → AreSummed done sums sum → PutsSum sums put sum → weight put ≤ weight done
 sums_light done sums put sum so_far told = let s = so_far.light in elim told [
   | inl t ↦ (let e = ap weight t.1 in omega arith)
   | inr t ↦ (let e = ap weight t.1 in let f = weight_append sums (sum ∷ []) in omega arith)

@@ -14,7 +14,7 @@ use Rattle.lookup_balances.specs.Balances.{IsMoved}
 use Rattle.serve_loop.specs.declared.round.Round.{Round}
 use Rattle.serve_loop.specs.Rounds.{AreFirst, Balances}
 use Rattle.reply_pool.specs.declared.pieces.Piece.{Piece}
-use Rattle.reply_pool.specs.declared.gathered.Spread.{Spread}
+use Rattle.reply_pool.specs.declared.gathered.RoundPieces.{RoundPieces}
 use Rattle.reply_pool.specs.Batches.{AreEachOnce, AreLight, AreOrdered, IsPiece, batches, numbers_of}
 use Rattle.reply_pool.specs.Jobs.{Job}
 
@@ -51,7 +51,7 @@ pub record IsSpreadable (stream : List ℕ) (messages : ℕ) : Type 0 where
 
 -- some of the first messages of a stream, at least one if one is whole, are answered in pieces
 pub record SpreadsOut {A : Type 0} (stack : Stacked) (s : Session) (stream : List ℕ)
-    (spread : Spread A) : Type 0 where
+    (spread : RoundPieces A) : Type 0 where
   pub jobs : List Job
   pub first : AreFirstJobs s stream spread.round jobs
   pub bytes : (k : ℕ) → slice_index stream k < 256

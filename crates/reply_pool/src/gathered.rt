@@ -11,7 +11,7 @@ use std::alloc::{AllocError, Allocator};
 
 /// Some of the first messages of a stream, answered by workers.
 #[derive(Drop)]
-pub struct Spread<A: Allocator> {
+pub struct RoundPieces<A: Allocator> {
     // How far they go.
     pub(crate) round: Round,
     // What their batches are answered with, in the order in which the workers ended.

@@ -57,12 +57,12 @@ fn answer_job<A: Allocator, B: Allocator>(
 {
     let (session, request) = job;
     answer(table, *session, request, bytes)?;
-    count_items(request);
+    few_items_of(request);
     moves(table, *session, request, moved)
 }
 
-// Does nothing. Its clause tells how many items a request has at most, which bounds what it moves.
-fn count_items(request: &Request<'_>)
+// A request has few items, which bounds what it moves. This does nothing but tell so.
+fn few_items_of(request: &Request<'_>)
     ensures { HasFewItems (asked_of request.now).op }
 {
     match request.op {

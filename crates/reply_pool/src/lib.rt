@@ -41,7 +41,7 @@ mod sums;
 mod worker;
 mod workers;
 
-pub use gathered::{Gathered, Spread};
+pub use gathered::{Gathered, RoundPieces};
 pub use jobs::Rounded;
 pub use pieces::Piece;
 pub use plan::Plan;

@@ -88,10 +88,10 @@ fn expected<A: Allocator>(table: &Table<A>, request: &Request<'_>) -> Load {
             data_load(left(file_size(table, request.node), offset), size)
         }
         Op::Readdir { offset, size } if size <= MAX_DATA_SIZE => {
-            plain_load(left(rows(table, request.node), offset), size)
+            rows_load(left(rows(table, request.node), offset), size, false)
         }
         Op::Readdirplus { offset, size } if size <= MAX_DATA_SIZE => {
-            plus_load(left(rows(table, request.node), offset), size)
+            rows_load(left(rows(table, request.node), offset), size, true)
         }
         _ => Load {
             time: REPLY_TIME,
@@ -109,24 +109,20 @@ fn data_load(left: u64, size: u32) -> Load {
     }
 }
 
-// Of rows of READDIR, of which so many are left. A `struct fuse_dirent` (linux/fuse.h) has 24 bytes
-// and a name, padded to eights: 32 to 280.
-fn plain_load(left: u64, size: u32) -> Load {
+// Of rows, of which so many are left. A `struct fuse_dirent` (linux/fuse.h) has 24 bytes and a
+// name, padded to eights: 32 to 280. With its entry a row has 128 bytes more.
+#[inline(always)]
+fn rows_load(left: u64, size: u32, with_entries: bool) -> Load {
     let size = u64::from(size);
     let rows = left.min(size);
+    let (time, most) = if with_entries {
+        (rows.min(size / 160) * PLUS_ROW_TIME, rows * 408)
+    } else {
+        (rows.min(size / 32) * PLAIN_ROW_TIME, rows * 280)
+    };
     Load {
-        time: REPLY_TIME + rows.min(size / 32) * PLAIN_ROW_TIME,
-        room: OUT_HEADER_SIZE as u64 + size.min(rows * 280),
-    }
-}
-
-// Of rows of READDIRPLUS. A `struct fuse_direntplus` has 128 bytes more.
-fn plus_load(left: u64, size: u32) -> Load {
-    let size = u64::from(size);
-    let rows = left.min(size);
-    Load {
-        time: REPLY_TIME + rows.min(size / 160) * PLUS_ROW_TIME,
-        room: OUT_HEADER_SIZE as u64 + size.min(rows * 408),
+        time: REPLY_TIME + time,
+        room: OUT_HEADER_SIZE as u64 + size.min(most),
     }
 }
 

@@ -3,7 +3,7 @@
 ghost use Rattle.std.specs.Prelude.{◌≡◌, ◌<◌, ◌^◌, IfOk};
 ghost use Rattle.std.specs.List.{flat_map};
 ghost use Rattle.lookup_balances.specs.Balances.{weight};
-ghost use Rattle.reply_pool.specs.Batches.{AreEachOnce, AreLight, IsJoined};
+ghost use Rattle.reply_pool.specs.Batches.{AreEachOnce, AreLight, AreOrdered, IsJoined};
 ghost use Rattle.reply_pool.specs.Sums.{AreSums};
 
 use crate::jobs::Rounded;
@@ -23,7 +23,7 @@ pub struct Piece<A: Allocator> {
     pub moves: Vec<Move, A>,
 }
 
-/// Puts pieces in the order of their numbers: their bytes one after another, and the sums of their
+/// Joins pieces in the order of their numbers: their bytes one after another, and the sums of their
 /// moves. Each number occurs once.
 pub(crate) fn in_order<A: Allocator + Copy>(
     alloc: A,
@@ -33,12 +33,19 @@ pub(crate) fn in_order<A: Allocator + Copy>(
     requires light { AreLight pieces.items }
     ensures { IfOk result (λ rounded. IsJoined pieces.items rounded) }
 {
+    sort_by_number(&mut pieces);
+    join_pieces(alloc, &pieces)
+}
+
+/// Puts pieces in the order of their numbers.
+pub(crate) fn sort_by_number<A: Allocator>(pieces: &mut Vec<Piece<A>, A>)
+    ensures { AreOrdered pieces.old.items pieces.new.items }
+{
     pieces.sort_unstable_by_key(|piece| piece.number);
-    join(alloc, &pieces)
 }
 
 // The bytes of pieces one after another, and the sums of their moves.
-fn join<A: Allocator + Copy>(alloc: A, pieces: &[Piece<A>]) -> Result<Rounded<A>, AllocError>
+fn join_pieces<A: Allocator + Copy>(alloc: A, pieces: &[Piece<A>]) -> Result<Rounded<A>, AllocError>
     requires { weight (flat_map (λ piece. piece.moves.items) pieces.now) < 2 ^ 127 }
     ensures bytes { IfOk result (λ rounded. rounded.bytes.items
         ≡ flat_map (λ piece. piece.bytes.items) pieces.now) }

@@ -9,21 +9,20 @@ ghost use Rattle.fuse_wire.specs.declared.limits.TheConstants.{MAX_ROUND_MESSAGE
 ghost use Rattle.work_gate.specs.declared.limits.TheConstants.{MAX_BATCH};
 ghost use Rattle.fuse_wire.specs.Stream.{IsRest};
 ghost use Rattle.lookup_balances.specs.Balances.{AreWithin, IsMoved, weight};
-ghost use Rattle.serve_loop.specs.Rounds.{change};
 ghost use Rattle.stack_table.specs.Stacked.{Stacked};
 ghost use Rattle.reply_model.specs.declared.session.Session.{Session};
 ghost use Rattle.reply_pool.specs.Answers.{answering};
 ghost use Rattle.reply_pool.specs.Batches.{AreEachOnce, AreLight};
-ghost use Rattle.reply_pool.specs.Spread.{AreAppended, AreFirstJobs, SpreadsOut};
+ghost use Rattle.reply_pool.specs.Spread.{AreFirstJobs, SpreadsOut};
 
-use crate::gathered::{Gathered, Spread};
-use crate::pieces::Piece;
+use crate::gathered::{Gathered, RoundPieces};
+use crate::pieces::{Piece, sort_by_number};
 use crate::plan::Plan;
 use crate::workers::answer_batches;
 use fuse_answer::after;
 use fuse_wire::{Framed, Request, frame};
-use lookup_balances::add_move;
-use reply_model::{Move, Session};
+use lookup_balances::add_moves;
+use reply_model::Session;
 use serve_loop::Round;
 use stack_table::Table;
 use std::alloc::{AllocError, Allocator};
@@ -49,7 +48,7 @@ pub fn spread_out<R: Threads + Sync, A: Allocator + Copy + Send + Sync, G: Gate 
     messages: usize,
     plan: Plan,
     gate: &G,
-) -> Result<Spread<A>, AllocError>
+) -> Result<RoundPieces<A>, AllocError>
     requires some { 1 ≤ messages }
     requires few { messages ≤ MAX_ROUND_MESSAGES }
     requires short { length stream.now ≤ 2 ^ 57 }
@@ -58,10 +57,10 @@ pub fn spread_out<R: Threads + Sync, A: Allocator + Copy + Send + Sync, G: Gate 
     let Taken { jobs, round } = take_jobs(alloc, stream, session, messages)?;
     let size = batch_size(plan, jobs.len());
     let pieces = answer_batches(rt, alloc, table, &jobs, size, plan.workers(), gate)?;
-    Ok(Spread { round, pieces })
+    Ok(RoundPieces { round, pieces })
 }
 
-impl<A: Allocator> Gathered for Spread<A> {
+impl<A: Allocator> Gathered for RoundPieces<A> {
     ghost whole = { λ spread. AreEachOnce spread.pieces.items × AreLight spread.pieces.items };
 
     ghost answers = { λ spread by s stream.
@@ -73,8 +72,9 @@ impl<A: Allocator> Gathered for Spread<A> {
         replies: &mut Vec<u8, B>,
         balances: &mut [i128],
     ) -> Result<Round, AllocError> {
-        let Spread { round, pieces } = self;
-        append(pieces, replies, balances)?;
+        let RoundPieces { round, mut pieces } = self;
+        sort_by_number(&mut pieces);
+        append_all(&pieces, replies, balances)?;
         Ok(round)
     }
 }
@@ -128,23 +128,7 @@ fn batch_size(plan: Plan, jobs: usize) -> u32
     plan.batch().min(even.max(1))
 }
 
-// Appends the bytes of pieces in the order of their numbers, and adds what they move to balances.
-fn append<A: Allocator, B: Allocator>(
-    mut pieces: Vec<Piece<A>, A>,
-    replies: &mut Vec<u8, B>,
-    balances: &mut [i128],
-) -> Result<(), AllocError>
-    requires once { AreEachOnce pieces.items }
-    requires light { AreLight pieces.items }
-    requires within { AreWithin (2 ^ 122) balances.old }
-    ensures { OnOk result (AreAppended pieces.items replies.old.items replies.new.items
-        (change balances.old balances.new)) }
-{
-    pieces.sort_unstable_by_key(|piece| piece.number);
-    append_all(&pieces, replies, balances)
-}
-
-// The same of pieces that are in order.
+// Appends the bytes of pieces one after another, and adds what they move to balances.
 fn append_all<A: Allocator, B: Allocator>(
     pieces: &[Piece<A>],
     replies: &mut Vec<u8, B>,
@@ -159,18 +143,7 @@ fn append_all<A: Allocator, B: Allocator>(
 {
     for piece in pieces {
         replies.extend_from_slice(&piece.bytes)?;
-        add_moves(&piece.moves, balances);
+        add_moves(balances, &piece.moves);
     }
     Ok(())
-}
-
-// Adds moves to balances.
-fn add_moves(moves: &[Move], balances: &mut [i128])
-    requires light { weight moves.now ≤ 2 ^ 112 }
-    requires within { AreWithin (2 ^ 123) balances.old }
-    ensures { IsMoved moves.now balances.old balances.new }
-{
-    for m in moves {
-        add_move(balances, m.node, m.amount);
-    }
 }

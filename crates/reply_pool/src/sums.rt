@@ -1,6 +1,6 @@
 //! Moves, summed by node.
 //!
-//! The moves are sorted by their nodes, so that those of one node stand side by side, and joined
+//! The moves are sorted by their nodes, so that those of one node stand side by side, and summed
 //! from the front on. So the steps go by the number of moves (times its logarithm), and not by that
 //! of the nodes.
 
@@ -23,11 +23,11 @@ pub(crate) fn sums<A: Allocator + Copy>(
     ensures light { IfOk result (λ sums. weight sums.items ≤ weight moves.items) }
 {
     moves.sort_unstable_by_key(|m| m.node);
-    join(alloc, &moves)
+    sum_sorted(alloc, &moves)
 }
 
 // The sums of moves whose nodes do not fall.
-fn join<A: Allocator>(alloc: A, moves: &[Move]) -> Result<Vec<Move, A>, AllocError>
+fn sum_sorted<A: Allocator>(alloc: A, moves: &[Move]) -> Result<Vec<Move, A>, AllocError>
     requires sorted { IsNonDecreasingBy (λ m. m.node) moves.now }
     requires light { weight moves.now < 2 ^ 127 }
     ensures sums { IfOk result (λ sums. AreSums moves.now sums.items) }

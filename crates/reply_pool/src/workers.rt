@@ -92,7 +92,8 @@ fn draw_all<R: Threads + Sync, A: Allocator + Copy + Send + Sync, G: Gate + Sync
     ensures light { IfOk result.0 (λ pieces. AreLight pieces.items) }
 {
     if workers <= 1 {
-        return draw_alone(rt, alloc, table, jobs, size, board, hand, gate);
+        let pieces = work(rt, alloc, table, jobs, size, board, &mut hand, gate);
+        return (pieces, hand);
     }
     let low = workers / 2;
     let high = workers - low;
@@ -123,27 +124,6 @@ fn draw_all<R: Threads + Sync, A: Allocator + Copy + Send + Sync, G: Gate + Sync
     let (more, other) = others;
     board.rejoin(&mut hand, other);
     (both(pieces, more), hand)
-}
-
-// One worker, with a hand that has drawn nothing.
-fn draw_alone<R: Threads + Sync, A: Allocator + Copy + Send + Sync, G: Gate + Sync>(
-    rt: &R,
-    alloc: A,
-    table: &Table<A>,
-    jobs: &[(Session, Request<'_>)],
-    size: u32,
-    board: &Board<A>,
-    mut hand: Hand,
-    gate: &G,
-) -> (Result<Vec<Piece<A>, A>, AllocError>, Hand)
-    requires { CanDraw jobs.now size board.now hand 0 }
-    ensures hand { KeepsShare board.now hand result.1 }
-    ensures pieces { IfOk result.0
-        (λ pieces. HasAll table.now jobs.now size board.now result.1 pieces.items) }
-    ensures light { IfOk result.0 (λ pieces. AreLight pieces.items) }
-{
-    let pieces = work(rt, alloc, table, jobs, size, board, &mut hand, gate);
-    (pieces, hand)
 }
 
 // The pieces of two hands, where neither wanted memory.

@@ -12,7 +12,7 @@ use crate::bounds::SharedAllocator;
 use devices::{Sink, Source};
 use node_table::Table;
 use reply_model::Session;
-use reply_pool::{Plan, Pool, Spread, spread_out};
+use reply_pool::{Plan, Pool, RoundPieces, spread_out};
 use serve_loop::{Done, Stop, run_by};
 use std::alloc::AllocError;
 use std::thread::Threads;
@@ -78,7 +78,7 @@ pub fn run_from<R: Threads + Sync, A: SharedAllocator, S: Source, K: Sink, G: Ga
         (devices (S.state source.new) (K.state sink.new)) }
 {
     let workers = move |stream: &[u8], session: Session, messages: usize| -> Result<
-        Spread<A>,
+        RoundPieces<A>,
         AllocError,
     >
         requires { IsSpreadable stream.now messages × IsSync R.row × IsSync G.row × IsSync A.row

@@ -1,7 +1,8 @@
 use Rattle.std.proofs.Common.{◌∙◌, ◌++◌, ◌^◌, ℕ, List, ap, arith, subst, take}
 use Rattle.lookup_balances.specs.Balances.{IsMoved, weight}
 use Rattle.reply_model.specs.declared.moves.Move.{Move}
-use Rattle.reply_pool.proofs.Adding.{bytes_on, moves_of, moves_on, next_light, still_within}
+use Rattle.lookup_balances.proofs.Sums.{still_within}
+use Rattle.reply_pool.proofs.Adding.{bytes_on, moves_of, moves_on, next_light}
 use Rattle.reply_pool.proofs.spread.append_all.Goals as goal
 
 pub add_moves-requires-clause-light : goal.add_moves-requires-clause-light

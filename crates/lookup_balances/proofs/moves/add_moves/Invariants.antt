@@ -1,6 +1,6 @@
 use Rattle.std.proofs.Common.{take}
 use Rattle.lookup_balances.specs.Balances.{IsMoved}
-use Rattle.reply_pool.proofs.spread.add_moves.Given as goal
+use Rattle.lookup_balances.proofs.moves.add_moves.Given as goal
 
 -- the moves so far were added to the balances
 abbrev pub invariant-loop-m : goal.invariant-loop-m

@@ -1,6 +1,6 @@
 use Rattle.std.proofs.Common.{◌≡◌, take}
 use Rattle.std.specs.List.{flat_map}
-use Rattle.reply_pool.proofs.pieces.join.Given as goal
+use Rattle.reply_pool.proofs.pieces.join_pieces.Given as goal
 
 -- the bytes and moves of the pieces so far
 abbrev pub invariant-loop-piece : goal.invariant-loop-piece

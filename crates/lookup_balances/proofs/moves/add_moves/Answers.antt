@@ -1,10 +1,8 @@
 use Rattle.std.proofs.Common.{◌^◌, ℤ, List, [], ◌∷◌, ap, arith, get_or, subst, take, take_all, unsigned_abs}
 use Rattle.lookup_balances.specs.Balances.{IsMoved}
-use Rattle.lookup_balances.proofs.Sums.{none_moved}
+use Rattle.lookup_balances.proofs.Sums.{as_held, none_moved, nothing, one_more_move, still_within, weight_within}
 use Rattle.reply_model.specs.declared.moves.Move.{Move}
-use Rattle.reply_pool.proofs.Adding.{as_held, one_more_move, still_within}
-use Rattle.reply_pool.proofs.Summing.{nothing, weight_within}
-use Rattle.reply_pool.proofs.spread.add_moves.Goals as goal
+use Rattle.lookup_balances.proofs.moves.add_moves.Goals as goal
 
 pub loop-m-init : goal.loop-m-init
 loop-m-init c = none_moved c.args.balances.now
