@@ -1,7 +1,7 @@
 -- A run between its devices, turn by turn. `IsBefore` holds before each turn, `IsAfter` once a pull
 -- gave bytes (`feeds`), and where these are answered the next turn may begin (`goes_on`). Each other
 -- lemma is an end of the run, and what the call did by then.
-use Rattle.std.proofs.Common.{◌≡◌, ◌==◌, ◌∙◌, ap, subst, ℕ, ◌+◌, ◌^◌, ◌<◌, ◌≤◌, Bool, true, false, List, [], ◌++◌, length, Result, Ok, Err, IsErrAnd, arith}
+use Rattle.std.proofs.Common.{◌≡◌, ◌==◌, ◌∙◌, ap, subst, ℕ, ◌+◌, ◌<◌, ◌≤◌, Bool, true, false, List, [], ◌++◌, length, Result, Ok, Err, IsErrAnd, arith}
 use Rattle.std.specs.Io.KnownBytes.{Appends, Consumes}
 use Rattle.std.proofs.KnownBytes.{Appends-nil, Appends-trans, Consumes-nil, Consumes-trans}
 use Rattle.fuse_wire.specs.Stream.{IsBad, IsOpen}

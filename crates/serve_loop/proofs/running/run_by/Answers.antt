@@ -82,11 +82,12 @@ returns-in-Some-clause-run g c =
     (subst (λ l. IsBad l c.in-Some.len) c.rest-in-loop-turn.ensures c.in-Some.ensures)
 
 pub loop-turn-preserved : goal.loop-turn-preserved
-loop-turn-preserved g c = (
-  goes_on _ _ _ _ c.args.turns _ _ (fed_now g (goal.at.loop-turn-preserved g c).In-Ok c.if-got-eq0.false) _ _ c.in-Ok-answer_all.ensures.ok.0
-      (subst IsOpen c.rest-in-loop-turn.ensures c.in-None.ensures),
-  c.in-Ok-answer_all.ensures.in_order,
-)
+loop-turn-preserved g c =
+    let fed = fed_now g (goal.at.loop-turn-preserved g c).In-Ok c.if-got-eq0.false in (
+      goes_on _ _ _ _ c.args.turns _ _ fed _ _ c.in-Ok-answer_all.ensures.ok.0
+          (subst IsOpen c.rest-in-loop-turn.ensures c.in-None.ensures),
+      c.in-Ok-answer_all.ensures.in_order,
+    )
 
 pub returns-clause-run : goal.returns-clause-run
 returns-clause-run g c =
