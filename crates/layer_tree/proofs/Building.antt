@@ -7,6 +7,7 @@ use Rattle.std.specs.List.{AllByRecursion}
 use Rattle.std.specs.declared.cmp.Ordering.TheVariants.{Less}
 use Rattle.std.proofs.Math.Seq.{drop-cons}
 use Rattle.std.proofs.lemmas.List.{append-nil, drop_all}
+use Rattle.std.proofs.lemmas.List.Elements.{All-from_recursion}
 use Rattle.romfs_format.specs.declared.limits.TheConstants.{MAX_NAMES}
 use Rattle.romfs_format.specs.declared.head.Kind.TheVariants.{HardLink}
 use Rattle.romfs_format.specs.Fields.{root}
@@ -19,30 +20,31 @@ use Rattle.path_tree.proofs.Names.{same_or_not, named_below}
 use Rattle.path_tree.proofs.Spread.{through}
 use Rattle.shown_tree.specs.declared.place.Entry.{Entry}
 use Rattle.shown_tree.specs.declared.place.Mark.{Mark}
-use Rattle.layer_tree.specs.declared.members.Named.{Named}
+use Rattle.layer_tree.specs.declared.members.NamedMember.{NamedMember}
 use Rattle.layer_tree.specs.Reading.{IsBefore, NamedRise, IsNamedMember, IsAtDepth, AreMembersAt, IsBranchOf, RemovesFrom, IsBranchAlone, AreBranchesOf, IsMadeOf, AreBuilt, none_built, hidden, alone, built, AreWhiteouts, none_white, other, white}
 use Rattle.layer_tree.proofs.Layered.{leads_on}
 use Rattle.layer_tree.proofs.Stepping.{leaf_rises}
 
 -- what is built so far, with what the members that are left become, is what all become
-pub record Building (a : List ℕ) (layer : ℕ) (all left : List Named) (es : List (Subtree Entry)) (ks : List (Subtree Mark)) : Type 0 where
+pub record Building (a : List ℕ) (layer : ℕ) (all left : List NamedMember) (es : List (Subtree Entry)) (ks : List (Subtree Mark))
+    : Type 0 where
   pub more : (es' : List (Subtree Entry)) (ks' : List (Subtree Mark)) → AreBuilt a layer left es' ks'
       → AreBuilt a layer all (es ++ es') (ks ++ ks')
 
 -- the same of the marks of markers
-pub record Whitening (all left : List Named) (ks : List (Subtree Mark)) : Type 0 where
+pub record Whitening (all left : List NamedMember) (ks : List (Subtree Mark)) : Type 0 where
   pub more : (ks' : List (Subtree Mark)) → AreWhiteouts left ks' → AreWhiteouts all (ks ++ ks')
 
 -- before the first member nothing is built
-pub building_begun : (a : List ℕ) (layer : ℕ) (all : List Named) → Building a layer all all [] []
+pub building_begun : (a : List ℕ) (layer : ℕ) (all : List NamedMember) → Building a layer all all [] []
 building_begun a layer all = record { more = λ es ks b. b }
 
 -- before the first member there is no mark
-pub whitening_begun : (all : List Named) → Whitening all all []
+pub whitening_begun : (all : List NamedMember) → Whitening all all []
 whitening_begun all = record { more = λ ks b. b }
 
 -- what is past the end of members
-abbrev pub nothing : Named
+abbrev pub nothing : NamedMember
 nothing = record {
   key = 0;
   name = record { ref_ptr = (0, 0); now = [] };
@@ -50,13 +52,13 @@ nothing = record {
 }
 
 -- the member at a place of the list
-abbrev pub at_index : List Named → ℕ → Named
+abbrev pub at_index : List NamedMember → ℕ → NamedMember
 at_index all i = get_or all i nothing
 
-next : (all : List Named) (i : ℕ) → i < length all → drop i all ≡ at_index all i ∷ drop (i + 1) all
+next : (all : List NamedMember) (i : ℕ) → i < length all → drop i all ≡ at_index all i ∷ drop (i + 1) all
 next all i l = rw add-one (drop-cons all i nothing l)
 
-module _ (a : List ℕ) (layer : ℕ) (all : List Named) (i : ℕ) (es : List (Subtree Entry))
+module _ (a : List ℕ) (layer : ℕ) (all : List NamedMember) (i : ℕ) (es : List (Subtree Entry))
     (ks : List (Subtree Mark)) (l : i < length all) (w : Building a layer all (drop i all) es ks) where
   -- a marker adds no branch
   pub build_hidden : IsMarker (at_index all i).name.now → Building a layer all (drop (i + 1) all) es ks
@@ -95,13 +97,13 @@ module _ (a : List ℕ) (layer : ℕ) (all : List Named) (i : ℕ) (es : List (S
   build_made e (Some k) es' ks' n m p q = build_one e k es' ks' n m p q
 
 -- past the last member all are built
-pub building_ended : (a : List ℕ) (layer : ℕ) (all : List Named) (i : ℕ) (es : List (Subtree Entry)) (ks : List (Subtree Mark))
+pub building_ended : (a : List ℕ) (layer : ℕ) (all : List NamedMember) (i : ℕ) (es : List (Subtree Entry)) (ks : List (Subtree Mark))
     → length all ≤ i → Building a layer all (drop i all) es ks → AreBuilt a layer all es ks
 building_ended a layer all i es ks l w =
     let b : AreBuilt a layer (drop i all) [] [] = rw (drop_all i all l) none_built in
     subst (λ x. AreBuilt a layer all es x) (append-nil ks) (subst (λ x. AreBuilt a layer all x (ks ++ [])) (append-nil es) (w.more [] [] b))
 
-module _ (all : List Named) (i : ℕ) (ks : List (Subtree Mark)) (l : i < length all) (w : Whitening all (drop i all) ks) where
+module _ (all : List NamedMember) (i : ℕ) (ks : List (Subtree Mark)) (l : i < length all) (w : Whitening all (drop i all) ks) where
   -- a member that is no marker adds no mark
   pub white_none : ¬ IsMarker (at_index all i).name.now → Whitening all (drop (i + 1) all) ks
   white_none h = record { more = λ ks' b. w.more ks' (rw (next all i l) (other (at_index all i) (drop (i + 1) all) ks' h b)) }
@@ -120,20 +122,15 @@ module _ (all : List Named) (i : ℕ) (ks : List (Subtree Mark)) (l : i < length
   }
 
 -- past the last member all markers have marks
-pub whitening_ended : (all : List Named) (i : ℕ) (ks : List (Subtree Mark)) → length all ≤ i → Whitening all (drop i all) ks
+pub whitening_ended : (all : List NamedMember) (i : ℕ) (ks : List (Subtree Mark)) → length all ≤ i → Whitening all (drop i all) ks
     → AreWhiteouts all ks
 whitening_ended all i ks l w = subst (AreWhiteouts all) (append-nil ks) (w.more [] (rw (drop_all i all l) none_white))
 
-all_at : (P : Named → Type 0) (ms : List Named) (i : ℕ) (d : Named) → AllByRecursion P ms → i < length ms → P (get_or ms i d)
-all_at P [] i d p l = absurd (omega arith)
-all_at P (m ∷ ms) zero d p l = p.0
-all_at P (m ∷ ms) (suc i) d p l = all_at P ms i d p.1 (omega arith)
-
 -- a member below a path has one name less left
-module _ (a : List ℕ) (s : IsImage a) (left : ℕ) (ms : List Named) (at : AreMembersAt a left ms) (i : ℕ) (l : i < length ms) where
+module _ (a : List ℕ) (s : IsImage a) (left : ℕ) (ms : List NamedMember) (at : AreMembersAt a left ms) (i : ℕ) (l : i < length ms) where
   -- the member at a place of the list is one of the directory
   pub member_here : IsNamedMember a at.0 (at_index ms i)
-  member_here = all_at (IsNamedMember a at.0) ms i nothing at.1 l
+  member_here = All-from_recursion (IsNamedMember a at.0) ms at.1 i nothing l
 
   longer : Path
   longer = at.2.0 ++ (at_index ms i).name.now ∷ []
@@ -155,8 +152,8 @@ module _ (a : List ℕ) (s : IsImage a) (left : ℕ) (ms : List Named) (at : Are
   one_less = (longer, has_more, omega (arith, some_left, long_more))
 
 -- names of what is built rise
-before_built : (a : List ℕ) (layer : ℕ) {ms : List Named} {es : List (Subtree Entry)} {ks : List (Subtree Mark)}
-    → AreBuilt a layer ms es ks → (m : Named) → AllByRecursion (IsBefore m) ms
+before_built : (a : List ℕ) (layer : ℕ) {ms : List NamedMember} {es : List (Subtree Entry)} {ks : List (Subtree Mark)}
+    → AreBuilt a layer ms es ks → (m : NamedMember) → AllByRecursion (IsBefore m) ms
     → AllByRecursion (λ t. name_cmp m.name.now t.name ≡ Less) es
     × AllByRecursion (λ t. name_cmp m.name.now t.name ≡ Less) ks
 before_built a layer none_built m r = (tt, tt)
@@ -166,7 +163,7 @@ before_built a layer (built x ms e es k ks n w b) m r = let t = before_built a l
     ((rw w.entry_name r.0, t.0), (rw w.mark_name r.0, t.1))
 
 -- of members in the order of names, the entries and the marks are forests
-pub forests : (a : List ℕ) (layer : ℕ) {ms : List Named} {es : List (Subtree Entry)} {ks : List (Subtree Mark)}
+pub forests : (a : List ℕ) (layer : ℕ) {ms : List NamedMember} {es : List (Subtree Entry)} {ks : List (Subtree Mark)}
     → AreBuilt a layer ms es ks → NamedRise ms → IsForest es × IsForest ks
 forests a layer none_built r = (record { names = tt; each = tt }, record { names = tt; each = tt })
 forests a layer (hidden m ms es ks h b) r = forests a layer b r.1
@@ -185,7 +182,7 @@ forests a layer (built m ms e es k ks n w b) r =
 marked_before : (x y : List ℕ) → name_cmp (marker ++ x) (marker ++ y) ≡ name_cmp x y
 marked_before x y = refl
 
-before_white : {ms : List Named} {ks : List (Subtree Mark)} → AreWhiteouts ms ks → (m : Named) (n : List ℕ)
+before_white : {ms : List NamedMember} {ks : List (Subtree Mark)} → AreWhiteouts ms ks → (m : NamedMember) (n : List ℕ)
     → m.name.now ≡ marker ++ n → AllByRecursion (IsBefore m) ms
     → AllByRecursion (λ t. name_cmp n t.name ≡ Less) ks
 before_white none_white m n e r = tt
@@ -198,7 +195,7 @@ before_white (white x ms k ks f c d b) m n e r = (
 )
 
 -- of markers in the order of names, the marks are a forest
-pub white_forest : {ms : List Named} {ks : List (Subtree Mark)} → AreWhiteouts ms ks → NamedRise ms → IsForest ks
+pub white_forest : {ms : List NamedMember} {ks : List (Subtree Mark)} → AreWhiteouts ms ks → NamedRise ms → IsForest ks
 white_forest none_white r = record { names = tt; each = tt }
 white_forest (other m ms ks h b) r = white_forest b r.1
 white_forest (white m ms k ks f c d b) r =
@@ -206,30 +203,30 @@ white_forest (white m ms k ks f c d b) r =
     record { names = (before_white b m k.name f r.0, w.names); each = (leaf_rises k d, w.each) }
 
 -- the branches that the name n has, and its member
-pub data FoundBuilt (a : List ℕ) (layer d : ℕ) (n : List ℕ) (ms : List Named) (es : List (Subtree Entry)) (ks : List (Subtree Mark)) : Type
-    0
+pub data FoundBuilt (a : List ℕ) (layer d : ℕ) (n : List ℕ) (ms : List NamedMember) (es : List (Subtree Entry))
+    (ks : List (Subtree Mark)) : Type 0
   where
     nowhere : named n es ≡ None → named n ks ≡ None
-        → ((j : ℕ) (m : Named) → slice_get ms j ≡ Some m → m.name.now ≡ n → IsMarker n)
+        → ((j : ℕ) (m : NamedMember) → slice_get ms j ≡ Some m → m.name.now ≡ n → IsMarker n)
         → FoundBuilt a layer d n ms es ks
-    somewhere : (m : Named) (e : Subtree Entry) (k : Option (Subtree Mark)) → named n es ≡ Some e → named n ks ≡ k
+    somewhere : (m : NamedMember) (e : Subtree Entry) (k : Option (Subtree Mark)) → named n es ≡ Some e → named n ks ≡ k
         → m.name.now ≡ n → ¬ IsMarker n → IsNamedMember a d m → IsBranchOf a layer m.head.offset e
         → RemovesFrom a m.head.offset (through k) e → FoundBuilt a layer d n ms es ks
 
 module _ (a : List ℕ) (layer d : ℕ) (n : List ℕ) where
   -- what was found among later members is found among all, if the first has another name
-  found_later : (m : Named) (ms : List Named) (es es' : List (Subtree Entry)) (ks ks' : List (Subtree Mark)) → m.name.now ≢ n
+  found_later : (m : NamedMember) (ms : List NamedMember) (es es' : List (Subtree Entry)) (ks ks' : List (Subtree Mark)) → m.name.now ≢ n
       → named n es' ≡ named n es → named n ks' ≡ named n ks
       → FoundBuilt a layer d n ms es ks → FoundBuilt a layer d n (m ∷ ms) es' ks'
   found_later m ms es es' ks ks' o u v (nowhere f g q) = nowhere (u ∙ f) (v ∙ g) rest
     where
-      rest : (j : ℕ) (x : Named) → slice_get (m ∷ ms) j ≡ Some x → x.name.now ≡ n → IsMarker n
-      rest zero x s t = (let z : m ≡ x = cc in absurd (o (ap (λ (y : Named). y.name.now) z ∙ t)))
+      rest : (j : ℕ) (x : NamedMember) → slice_get (m ∷ ms) j ≡ Some x → x.name.now ≡ n → IsMarker n
+      rest zero x s t = (let z : m ≡ x = cc in absurd (o (ap (λ (y : NamedMember). y.name.now) z ∙ t)))
       rest (suc j) x s t = q j x s t
   found_later m ms es es' ks ks' o u v (somewhere x y z f g q r s t w) = somewhere x y z (u ∙ f) (v ∙ g) q r s t w
 
   -- each name has the branches of its member, or none
-  pub find_built : {ms : List Named} {es : List (Subtree Entry)} {ks : List (Subtree Mark)}
+  pub find_built : {ms : List NamedMember} {es : List (Subtree Entry)} {ks : List (Subtree Mark)}
       → AreBuilt a layer ms es ks → AllByRecursion (IsNamedMember a d) ms → NamedRise ms → FoundBuilt a layer d n ms es ks
   find_built none_built p r = nowhere refl refl (λ j m f g. absurd (cc))
   find_built (hidden m ms es ks h b) p r = more (find_built b p.1 r.1)
@@ -237,8 +234,8 @@ module _ (a : List ℕ) (layer d : ℕ) (n : List ℕ) where
       more : FoundBuilt a layer d n ms es ks → FoundBuilt a layer d n (m ∷ ms) es ks
       more (nowhere f g q) = nowhere f g rest
         where
-          rest : (j : ℕ) (x : Named) → slice_get (m ∷ ms) j ≡ Some x → x.name.now ≡ n → IsMarker n
-          rest zero x u v = (let z : m ≡ x = cc in subst IsMarker (ap (λ (y : Named). y.name.now) z ∙ v) h)
+          rest : (j : ℕ) (x : NamedMember) → slice_get (m ∷ ms) j ≡ Some x → x.name.now ≡ n → IsMarker n
+          rest zero x u v = (let z : m ≡ x = cc in subst IsMarker (ap (λ (y : NamedMember). y.name.now) z ∙ v) h)
           rest (suc j) x u v = q j x u v
       more (somewhere x e k f g q r s t w) = somewhere x e k f g q r s t w
   find_built (alone m ms e es ks h w b) p r = elim (same_or_not m.name.now n) [
@@ -260,9 +257,9 @@ module _ (a : List ℕ) (layer d : ℕ) (n : List ℕ) where
   ]
 
 -- a mark of the name n, and the marker that it is of
-pub data FoundWhite (n : List ℕ) (ms : List Named) (ks : List (Subtree Mark)) : Type 0 where
-  unmarked : named n ks ≡ None → ((j : ℕ) (m : Named) → slice_get ms j ≡ Some m → m.name.now ≡ marker ++ n → ⊥) → FoundWhite n ms ks
-  marked : (j : ℕ) (m : Named) (k : Subtree Mark) → named n ks ≡ Some k → k.value.cut ≡ true
+pub data FoundWhite (n : List ℕ) (ms : List NamedMember) (ks : List (Subtree Mark)) : Type 0 where
+  unmarked : named n ks ≡ None → ((j : ℕ) (m : NamedMember) → slice_get ms j ≡ Some m → m.name.now ≡ marker ++ n → ⊥) → FoundWhite n ms ks
+  marked : (j : ℕ) (m : NamedMember) (k : Subtree Mark) → named n ks ≡ Some k → k.value.cut ≡ true
       → slice_get ms j ≡ Some m → m.name.now ≡ marker ++ n → FoundWhite n ms ks
 
 marker_is : (n : List ℕ) → IsMarker (marker ++ n)
@@ -272,15 +269,15 @@ same_rest : (x y : List ℕ) → marker ++ x ≡ marker ++ y → x ≡ y
 same_rest x y e = ap (drop 4) e
 
 -- a name has a cut mark and a marker, or neither
-pub find_white : (n : List ℕ) {ms : List Named} {ks : List (Subtree Mark)} → AreWhiteouts ms ks → FoundWhite n ms ks
+pub find_white : (n : List ℕ) {ms : List NamedMember} {ks : List (Subtree Mark)} → AreWhiteouts ms ks → FoundWhite n ms ks
 find_white n none_white = unmarked refl (λ j m f g. absurd (cc))
 find_white n (other m ms ks h b) = more (find_white n b)
   where
     more : FoundWhite n ms ks → FoundWhite n (m ∷ ms) ks
     more (unmarked f q) = unmarked f rest
       where
-        rest : (j : ℕ) (x : Named) → slice_get (m ∷ ms) j ≡ Some x → x.name.now ≡ marker ++ n → ⊥
-        rest zero x u v = (let z : m ≡ x = cc in h (subst IsMarker (sym (ap (λ (y : Named). y.name.now) z ∙ v)) (marker_is n)))
+        rest : (j : ℕ) (x : NamedMember) → slice_get (m ∷ ms) j ≡ Some x → x.name.now ≡ marker ++ n → ⊥
+        rest zero x u v = (let z : m ≡ x = cc in h (subst IsMarker (sym (ap (λ (y : NamedMember). y.name.now) z ∙ v)) (marker_is n)))
         rest (suc j) x u v = q j x u v
     more (marked j x k f c u v) = marked (suc j) x k f c u v
 find_white n (white m ms k ks e c d b) = more (find_white n b)
@@ -294,7 +291,7 @@ find_white n (white m ms k ks e c d b) = more (find_white n b)
         later : k.name ≢ n → named n (k ∷ ks) ≡ named n ks → FoundWhite n ms ks → FoundWhite n (m ∷ ms) (k ∷ ks)
         later o u (unmarked f q) = unmarked (u ∙ f) rest
           where
-            rest : (j : ℕ) (x : Named) → slice_get (m ∷ ms) j ≡ Some x → x.name.now ≡ marker ++ n → ⊥
-            rest zero x s t = (let z : m ≡ x = cc in o (same_rest k.name n (sym e ∙ ap (λ (y : Named). y.name.now) z ∙ t)))
+            rest : (j : ℕ) (x : NamedMember) → slice_get (m ∷ ms) j ≡ Some x → x.name.now ≡ marker ++ n → ⊥
+            rest zero x s t = (let z : m ≡ x = cc in o (same_rest k.name n (sym e ∙ ap (λ (y : NamedMember). y.name.now) z ∙ t)))
             rest (suc j) x s t = q j x s t
         later o u (marked j x y f g s t) = marked (suc j) x y (u ∙ f) g s t

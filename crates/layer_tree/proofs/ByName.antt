@@ -4,7 +4,7 @@
 use Rattle.std.proofs.Common.{◌≡◌, ◌≢◌, ◌∙◌, sym, ap, subst, ℕ, zero, suc, ◌<◌, inl, inr, true, false, not, List, [], ◌∷◌, ◌++◌, append_assoc, length, take, drop, map, refl, arith, All, Some, None, Option, IsSome}
 use Rattle.std.specs.Prelude.{nat_eq, slice_get, unwrap_or}
 use Rattle.std.specs.Cmp.Lexicographic.{same_text}
-use Rattle.std.specs.List.{AllPairs, AllByRecursion, filter, slice_index_or, starts_with}
+use Rattle.std.specs.List.{AllPairs, filter, slice_index_or, starts_with}
 use Rattle.std.specs.List.Sorted.{IsPermutation}
 use Rattle.std.specs.Ordering.{is_lt, is_eq, ordering_reverse}
 use Rattle.std.specs.Str.{bytes_eq}
@@ -14,12 +14,13 @@ use Rattle.std.proofs.lemmas.Bool.{cases_order}
 use Rattle.std.proofs.lemmas.Bool.Decides.{same_from_decides}
 use Rattle.std.proofs.lemmas.Cmp.{nat_list_cmp_total}
 use Rattle.std.proofs.lemmas.List.{get_or-map, length-map, map-append, take-append-drop}
+use Rattle.std.proofs.lemmas.List.Elements.{recursion_from_All}
 use Rattle.std.proofs.lemmas.List.Kept.{AllPairs-filter}
 use Rattle.std.proofs.lemmas.List.Sorted.{ranks_by, sorted_far, IsPermutation-map, All-permutation, Contains-permutation}
 use Rattle.std.proofs.lemmas.Map.Keys.{IsDistinct-IsPermutation}
 use Rattle.std.proofs.lemmas.Map.Made.{AllPairs-from_IsDistinct, IsDistinct-from_AllPairs}
 use Rattle.std.proofs.lemmas.Map.Text.{is_eq-slice_cmp}
-use Rattle.std.proofs.lemmas.Option.{slice_get-get_or}
+use Rattle.std.proofs.lemmas.Option.{slice_get-get_or, slice_get_read}
 use Rattle.std.proofs.lemmas.Slice.Eq.{bytes_eq-Decides}
 use Rattle.romfs_format.specs.declared.head.Head.{Head}
 use Rattle.romfs_format.specs.Fields.{root, name}
@@ -31,12 +32,13 @@ use Rattle.romfs_reader.proofs.Keeps.{good, not_twice, member_reached, reached_n
 use Rattle.romfs_reader.proofs.Paths.{one_header}
 use Rattle.stack_model.specs.Stack.{marker}
 use Rattle.path_tree.specs.Rows.{name_cmp}
-use Rattle.layer_tree.specs.declared.members.Named.{Named}
+use Rattle.path_tree.proofs.Lists.{get_of_map}
+use Rattle.layer_tree.specs.declared.members.NamedMember.{NamedMember}
 use Rattle.layer_tree.specs.Members.{AreNamed, IsByName}
 use Rattle.layer_tree.specs.Reading.{IsBefore, NamedRise, IsNamedMember, AreByName}
 
 -- a member goes from what is left to what is named
-pub found_one : (ms after : List Named) (x : Named) (left rest all : List Head) → left ≡ x.head ∷ rest
+pub found_one : (ms after : List NamedMember) (x : NamedMember) (left rest all : List Head) → left ≡ x.head ∷ rest
     → after ≡ ms ++ x ∷ [] → map (λ m. m.head) ms ++ left ≡ all → map (λ m. m.head) after ++ rest ≡ all
 found_one ms after x left rest all l e d =
     let t : map (λ m. m.head) ms ++ (x.head ∷ rest) ≡ all = rw l at d in
@@ -83,32 +85,26 @@ is_name : (o : Option (List ℕ)) → IsSome o → o ≡ Some (unwrap_or o [])
 is_name None s = absurd (cc)
 is_name (Some n) s = refl
 
-abbrev name_now : Named → List ℕ
+abbrev name_now : NamedMember → List ℕ
 name_now m = m.name.now
 
-strictly : (ms : List Named) → IsByName ms → AllPairs (λ x y. name_now x ≢ name_now y) ms → AllPairs IsBefore ms
+strictly : (ms : List NamedMember) → IsByName ms → AllPairs (λ x y. name_now x ≢ name_now y) ms → AllPairs IsBefore ms
 strictly ms up apart j k d l m =
     comes_first _ _ (sorted_far (λ x y. is_lt (name_cmp (name_now x) (name_now y)))
     (ranks_by nat_list_cmp_total name_now) ms up j k d (omega arith) m) (apart j k d l m)
 
-all_in : {X : Type 0} (P : X → Type 0) (xs : List X) → All P xs → AllByRecursion P xs
-all_in P [] p = tt
-all_in P (x ∷ xs) p = (p zero x (omega arith), all_in P xs (λ k d l. p (suc k) d (omega arith)))
-
-rising_in : (ms : List Named) → AllPairs IsBefore ms → NamedRise ms
+rising_in : (ms : List NamedMember) → AllPairs IsBefore ms → NamedRise ms
 rising_in [] p = tt
 rising_in (m ∷ ms) p = (
-  all_in (IsBefore m) ms (λ k d l. p zero (suc k) d (omega arith) (omega arith)),
+  recursion_from_All (IsBefore m) ms (λ k d l. p zero (suc k) d (omega arith) (omega arith)),
   rising_in ms (λ i j d l n. p (suc i) (suc j) d (omega arith) (omega arith)),
 )
 
 -- a header among those of members is that of one of them
-pub of_head : (ms : List Named) (head : Head) (k : ℕ) → k < length (map (λ m. m.head) ms)
+pub of_head : (ms : List NamedMember) (head : Head) (k : ℕ) → k < length (map (λ m. m.head) ms)
     → slice_index_or (map (λ m. m.head) ms) k head ≡ head
-    → (m : Named) × (slice_get ms k ≡ Some m) × (m.head ≡ head)
-of_head [] head k l e = absurd (omega arith)
-of_head (m ∷ ms) head zero l e = (m, refl, e)
-of_head (m ∷ ms) head (suc k) l e = of_head ms head k (omega arith) e
+    → (m : NamedMember) × (slice_get ms k ≡ Some m) × (m.head ≡ head)
+of_head ms head k l e = get_of_map (λ m. m.head) ms k head (slice_get_read (map (λ m. m.head) ms) _ k head refl l (sym e))
 
 module _ (a : List ℕ) (i : IsImage a) (d : ℕ) (o : IsOpened a d) where
   -- a member is not the root
@@ -166,18 +162,18 @@ module _ (a : List ℕ) (i : IsImage a) (d : ℕ) (o : IsOpened a d) where
       names_differ _ _ (r.members j x (omega arith)) (r.members k x m) (q j k x l m)
 
   -- names of named members
-  same_names : (ms : List Named) → All (λ m. name_now m ≡ name_of a m.head.offset) ms
+  same_names : (ms : List NamedMember) → All (λ m. name_now m ≡ name_of a m.head.offset) ms
       → map name_now ms ≡ map (λ (x : Head). name_of a x.offset) (map (λ m. m.head) ms)
   same_names [] p = refl
   same_names (m ∷ ms) p = rw (p zero m (omega arith), same_names ms (λ k x l. p (suc k) x (omega arith))) refl
 
-  named_member : (hs : List Head) (ms : List Named) → All (IsGiven a) hs
+  named_member : (hs : List Head) (ms : List NamedMember) → All (IsGiven a) hs
       → All (λ (x : Head). IsMember a d x.offset) hs → map (λ m. m.head) ms ≡ hs
       → All (λ m. name_now m ≡ name_of a m.head.offset) ms → All (IsNamedMember a d) ms
   named_member hs ms given members e names k x l =
-      let n : k < length (map (λ (m : Named). m.head) ms) = rw (length-map ms (λ (m : Named). m.head)) l in
+      let n : k < length (map (λ (m : NamedMember). m.head) ms) = rw (length-map ms (λ (m : NamedMember). m.head)) l in
       let at : slice_index_or hs k x.head ≡ (slice_index_or ms k x).head = ap
-      (λ ys. slice_index_or ys k x.head) (sym e) ∙ get_or-map (λ (m : Named). m.head) ms k x x.head l in
+      (λ ys. slice_index_or ys k x.head) (sym e) ∙ get_or-map (λ (m : NamedMember). m.head) ms k x x.head l in
       let q : k < length hs = subst (λ ys. k < length ys) e n in
       let m : IsMember a d (slice_index_or ms k x).head.offset = subst (λ (y : Head). IsMember a d y.offset) at (members k x.head q) in
       record {
@@ -187,7 +183,7 @@ module _ (a : List ℕ) (i : IsImage a) (d : ℕ) (o : IsOpened a d) where
       }
 
   -- the members of a directory, named and sorted, are all members in the order of names
-  pub are_by_name : (hs : List Head) (found ms : List Named) → All (IsGiven a) hs → AreMembers a d hs
+  pub are_by_name : (hs : List Head) (found ms : List NamedMember) → All (IsGiven a) hs → AreMembers a d hs
       → AreNamed a hs found → IsPermutation found ms → IsByName ms → AreByName a d ms
   are_by_name hs found ms given r n s up =
       let each : All (IsNamedMember a d) found = named_member hs found given r.members n.heads n.names in
@@ -197,12 +193,12 @@ module _ (a : List ℕ) (i : IsImage a) (d : ℕ) (o : IsOpened a d) where
       (IsPermutation-map name_now found ms s) differ in
       record {
         rising = rising_in ms (strictly ms up (from_names name_now ms apart));
-        each = all_in (IsNamedMember a d) ms (All-permutation (IsNamedMember a d) found ms s each);
+        each = recursion_from_All (IsNamedMember a d) ms (All-permutation (IsNamedMember a d) found ms s each);
         whole = λ h m. (
             let w = r.whole h m in
-            let p : IsPermutation hs (map (λ (x : Named). x.head) ms) =
-            rw (← n.heads) (IsPermutation-map (λ (x : Named). x.head) found ms s) in
-            let c = Contains-permutation hs (map (λ (x : Named). x.head) ms) (head_of a h) p w in
+            let p : IsPermutation hs (map (λ (x : NamedMember). x.head) ms) =
+            rw (← n.heads) (IsPermutation-map (λ (x : NamedMember). x.head) found ms s) in
+            let c = Contains-permutation hs (map (λ (x : NamedMember). x.head) ms) (head_of a h) p w in
             let k = of_head ms (head_of a h) c.0 c.1 c.2 in
             (c.0, k.0, k.1, ap (λ (x : Head). x.offset) k.2));
       }

@@ -1,12 +1,10 @@
 -- A directory with the branches of its members has those of all paths from it. The main lemma is
 -- folder, of its entries (entries_of) and of what it removes (removes_of); single is the like of a
 -- file. A mark that cuts nothing is left away (made_as_needed).
-use Rattle.std.proofs.Common.{◌≡◌, ◌≢◌, ◌∙◌, sym, ap, subst, ℕ, zero, suc, ◌↔◌, inl, inr, List, [], ◌∷◌, ◌++◌, refl, Some, None, Option, Bool, true, false, ◌||◌, not, IsTrue, IsSomeAnd, length, arith}
+use Rattle.std.proofs.Common.{◌≡◌, ◌≢◌, ◌∙◌, sym, ap, subst, ℕ, ◌↔◌, inl, inr, List, [], ◌∷◌, ◌++◌, refl, Some, None, Option, Bool, true, false, ◌||◌, not, IsTrue, IsSomeAnd, length, arith}
 use Rattle.std.specs.Prelude.{◌==◌, slice_get, is_some, option_map, MatchOption}
-use Rattle.std.specs.List.{AllByRecursion}
 use Rattle.std.proofs.lemmas.Bool.{or_cases, or_left, or_right}
-use Rattle.romfs_format.specs.declared.head.Kind.{Kind}
-use Rattle.romfs_format.specs.declared.head.Kind.TheVariants.{HardLink, Directory, Regular, SymLink, Block, Character, Socket, Fifo}
+use Rattle.romfs_format.specs.declared.head.Kind.TheVariants.{Directory}
 use Rattle.romfs_format.specs.Fields.{kind, name}
 use Rattle.romfs_format.specs.Chains.{IsMember, Leads}
 use Rattle.romfs_reader.specs.Images.{IsImage}
@@ -17,12 +15,14 @@ use Rattle.path_tree.specs.Rows.{Subtree, spread, whole, named, at_path, IsFores
 use Rattle.path_tree.specs.Laying.{AreLaid}
 use Rattle.path_tree.proofs.Spread.{through, at_spread}
 use Rattle.path_tree.proofs.Rising.{branch_rises}
+use Rattle.path_tree.proofs.Lists.{all_get}
 use Rattle.shown_tree.specs.declared.place.Entry.{Entry}
 use Rattle.shown_tree.specs.declared.place.Mark.{Mark}
-use Rattle.layer_tree.specs.declared.members.Named.{Named}
+use Rattle.layer_tree.specs.declared.members.NamedMember.{NamedMember}
 use Rattle.shown_tree.specs.Marks.{cut_by, mark_of, covered_by, removed_by}
 use Rattle.shown_tree.specs.Marks.{united}
 use Rattle.layer_tree.specs.Reading.{IsNamedMember, AreByName, HasNamed, CutsFrom, CutsAt, IsEntryIn, IsBranchOf, RemovesFrom, IsBranchAlone, AreBranchesOf, IsMadeOf, IsBlank, AreBuilt, AreWhiteouts, rest_of_opaque}
+use Rattle.shown_tree.proofs.NoDirectory.{not_directory}
 use Rattle.shown_tree.proofs.Cutting.{nothing_cut, cut_same, cut_through, by_name, by_through}
 use Rattle.layer_tree.proofs.Removing.{file_covers}
 use Rattle.layer_tree.proofs.Joining.{cut_united}
@@ -33,16 +33,6 @@ use Rattle.layer_tree.proofs.Building.{forests, white_forest, FoundBuilt, nowher
 -- no member stands in what is no directory
 no_member : (a : List ℕ) (i : IsImage a) (h c : ℕ) → kind a h ≢ Directory → IsMember a h c → ⊥
 no_member a i h c n m = n (opened_directory a i m.opened)
-
-not_folder : (k : Kind) → k ≢ Directory → is_directory k ≡ false
-not_folder Directory n = absurd (n refl)
-not_folder HardLink n = refl
-not_folder Regular n = refl
-not_folder SymLink n = refl
-not_folder Block n = refl
-not_folder Character n = refl
-not_folder Socket n = refl
-not_folder Fifo n = refl
 
 -- an entry that is no directory needs no mark
 pub single : (a : List ℕ) (i : IsImage a) (layer h : ℕ) (n : List ℕ) (entry : Entry)
@@ -55,7 +45,7 @@ single a i layer h n entry other file w = record {
     (λ t. inl other),
     (λ c. or_right (cut_by (λ q. None) path) (covered_by (at_path (whole (record { name = n; value = entry; below = [] }))) path)
         (file_covers (at_path (whole (record { name = n; value = entry; below = [] }))) path [] path refl
-        (ap not (not_folder entry.kind file)))),
+        (ap not (not_directory entry.kind file)))),
   );
 }
   where
@@ -70,21 +60,15 @@ single a i layer h n entry other file w = record {
     only [] e f = (let s : entry ≡ e = cc in (tt, (h, refl, subst (IsEntryIn a layer h) s w)))
     only (m ∷ path) e f = absurd (cc)
 
-module _ (a : List ℕ) (i : IsImage a) (layer h : ℕ) (ms : List Named) (es : List (Subtree Entry))
+module _ (a : List ℕ) (i : IsImage a) (layer h : ℕ) (ms : List NamedMember) (es : List (Subtree Entry))
     (mm ws out : List (Subtree Mark)) (members : AreByName a h ms) (b : AreBuilt a layer ms es mm)
     (wh : AreWhiteouts ms ws) (laid : AreLaid united mm ws out) where
-  has_at : (j : ℕ) (m : Named) → slice_get ms j ≡ Some m → IsNamedMember a h m
-  has_at j m e = each_at ms j m members.each e
-    where
-      each_at : (xs : List Named) (j : ℕ) (m : Named) → AllByRecursion (IsNamedMember a h) xs → slice_get xs j ≡ Some m
-          → IsNamedMember a h m
-      each_at [] j m p e = absurd (cc)
-      each_at (x ∷ xs) zero m p e = (let s : x ≡ m = cc in subst (IsNamedMember a h) s p.0)
-      each_at (x ∷ xs) (suc j) m p e = each_at xs j m p.1 e
+  has_at : (j : ℕ) (m : NamedMember) → slice_get ms j ≡ Some m → IsNamedMember a h m
+  has_at j m e = all_get (IsNamedMember a h) ms j m members.each e
 
   -- the member of a name is among the sorted ones
   member_at : (n : List ℕ) (c : ℕ) → IsMember a h c → name a c ≡ Some n
-      → (j : ℕ) × (m : Named) × (slice_get ms j ≡ Some m) × (m.head.offset ≡ c) × (m.name.now ≡ n)
+      → (j : ℕ) × (m : NamedMember) × (slice_get ms j ≡ Some m) × (m.head.offset ≡ c) × (m.name.now ≡ n)
   member_at n c x f =
       let w = members.whole c x in
       let e = has_at w.0 w.1 w.2 in

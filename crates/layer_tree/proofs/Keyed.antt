@@ -10,11 +10,11 @@ use Rattle.std.proofs.lemmas.Cmp.{ranked, by_ranked}
 use Rattle.name_keys.specs.Keys.{key}
 use Rattle.name_keys.proofs.Order.{each_byte, key_order}
 use Rattle.path_tree.specs.Rows.{name_cmp}
-use Rattle.layer_tree.specs.declared.members.Named.{Named}
+use Rattle.layer_tree.specs.declared.members.NamedMember.{NamedMember}
 use Rattle.layer_tree.specs.Members.{IsKeyed, IsByName}
 
 -- where names rise keys do not fall
-less_by_both : (x y : Named) → IsKeyed x → IsKeyed y → name_cmp x.name.now y.name.now ≡ Less
+less_by_both : (x y : NamedMember) → IsKeyed x → IsKeyed y → name_cmp x.name.now y.name.now ≡ Less
     → name_cmp (x.key ∷ x.name.now) (y.key ∷ y.name.now) ≡ Less
 less_by_both x y p q c =
     let le : key 8 x.name.now ≤ key 8 y.name.now = key_order 8 x.name.now y.name.now (each_byte x.name.now p.1) c in
@@ -24,7 +24,7 @@ less_by_both x y p q c =
     (λ o e. rw o c)
     (λ o l. absurd (omega arith))
 
-not_less : (x y : Named) → IsKeyed x → IsKeyed y
+not_less : (x y : NamedMember) → IsKeyed x → IsKeyed y
     → is_lt (name_cmp (x.key ∷ x.name.now) (y.key ∷ y.name.now)) ≡ false
     → is_lt (name_cmp x.name.now y.name.now) ≡ false
 not_less x y p q f = pick (name_cmp x.name.now y.name.now) refl
@@ -36,6 +36,7 @@ not_less x y p q f = pick (name_cmp x.name.now y.name.now) refl
     pick Greater e = refl
 
 -- members that are sorted by keys, and then by names, are sorted by names
-pub by_name : (ms : List Named) → All IsKeyed ms → IsSorted (λ x y. name_cmp (x.key ∷ x.name.now) (y.key ∷ y.name.now)) ms → IsByName ms
+pub by_name : (ms : List NamedMember) → All IsKeyed ms → IsSorted (λ x y. name_cmp (x.key ∷ x.name.now) (y.key ∷ y.name.now)) ms
+    → IsByName ms
 by_name ms keyed up k d l m =
     not_less (slice_index_or ms (k + 1) d) (slice_index_or ms k d) (keyed (k + 1) d m) (keyed k d (omega arith)) (up k d l m)

@@ -70,35 +70,17 @@ module _ (a : List ℕ) where
     pub inside : (e : ℕ) × Leads a d above e × IsOpened a e
     pub removes : Removes d above first
 
+  removed_here : (d : ℕ) (n : List ℕ) (path : Path) → IsOpened a d → Removes d [] n → IsRemoved d (n ∷ path)
+  removed_here d n path o r = record { above = []; first = n; rest = path; is = refl; inside = (d, refl, o); removes = r }
+
   cut_removed : (d : ℕ) (path : Path) → CutsFrom a d path → IsRemoved d path
   cut_removed d [] c = absurd c
-  cut_removed d (n ∷ path) (inl (c, m, f)) = record {
-    above = [];
-    first = n;
-    rest = path;
-    is = refl;
-    inside = (d, refl, m.opened);
-    removes = inl
-        (c, leads_on a d [] d (marker ++ n) c refl m f);
-  }
-  cut_removed d (n ∷ path) (inr (inl (c, m, f))) = record {
-    above = [];
-    first = n;
-    rest = path;
-    is = refl;
-    inside = (d, refl, m.opened);
-    removes = inr
-        (inl (c, leads_on a d [] d opaque c refl m f));
-  }
-  cut_removed d (n ∷ path) (inr (inr (c, m, f, inl k))) = record {
-    above = [];
-    first = n;
-    rest = path;
-    is = refl;
-    inside = (d, refl, m.opened);
-    removes = inr
-        (inr (c, leads_on a d [] d n c refl m f, k));
-  }
+  cut_removed d (n ∷ path) (inl (c, m, f)) =
+      removed_here d n path m.opened (inl (c, leads_on a d [] d (marker ++ n) c refl m f))
+  cut_removed d (n ∷ path) (inr (inl (c, m, f))) =
+      removed_here d n path m.opened (inr (inl (c, leads_on a d [] d opaque c refl m f)))
+  cut_removed d (n ∷ path) (inr (inr (c, m, f, inl k))) =
+      removed_here d n path m.opened (inr (inr (c, leads_on a d [] d n c refl m f, k)))
   cut_removed d (n ∷ path) (inr (inr (c, m, f, inr x))) =
       let r = cut_removed c path x in
       record {

@@ -12,30 +12,30 @@ use Rattle.stack_model.specs.Stack.{Path, IsPlain, IsMarker, marker, opaque}
 use Rattle.path_tree.specs.Rows.{Subtree, name_cmp, whole, at_path, IsRising}
 use Rattle.shown_tree.specs.declared.place.Entry.{Entry}
 use Rattle.shown_tree.specs.declared.place.Mark.{Mark}
-use Rattle.layer_tree.specs.declared.members.Named.{Named}
+use Rattle.layer_tree.specs.declared.members.NamedMember.{NamedMember}
 use Rattle.shown_tree.specs.Marks.{removed_by}
 
 -- the member comes before the other one by its name
-abbrev pub IsBefore : Named → Named → Type 0
+abbrev pub IsBefore : NamedMember → NamedMember → Type 0
 IsBefore m n = name_cmp m.name.now n.name.now ≡ Less
 
 -- members in the order of their names, no two of one name
-abbrev pub NamedRise : List Named → Type 0
+abbrev pub NamedRise : List NamedMember → Type 0
 NamedRise [] = Unit {0}
 NamedRise (m ∷ ms) = AllByRecursion (IsBefore m) ms × NamedRise ms
 
 -- a member of the directory d with its name
-pub record IsNamedMember (a : List ℕ) (d : ℕ) (m : Named) : Type 0 where
+pub record IsNamedMember (a : List ℕ) (d : ℕ) (m : NamedMember) : Type 0 where
   pub given : IsGiven a m.head
   pub member : IsMember a d m.head.offset
   pub name : name a m.head.offset ≡ Some m.name.now
 
 -- ms are the members of the directory d, in the order of their names
-pub record AreByName (a : List ℕ) (d : ℕ) (ms : List Named) : Type 0 where
+pub record AreByName (a : List ℕ) (d : ℕ) (ms : List NamedMember) : Type 0 where
   pub rising : NamedRise ms
   pub each : AllByRecursion (IsNamedMember a d) ms
   pub whole : (h : ℕ) → IsMember a d h
-      → (k : ℕ) × (m : Named) × (slice_get ms k ≡ Some m) × (m.head.offset ≡ h)
+      → (k : ℕ) × (m : NamedMember) × (slice_get ms k ≡ Some m) × (m.head.offset ≡ h)
 
 -- a path leads to h that has as many names less than a path may have as are left
 abbrev pub IsAtDepth : List ℕ → ℕ → ℕ → Type 0
@@ -122,31 +122,32 @@ pub record IsBlank (k : Subtree Mark) : Type 0 where
   pub nothing : k.below ≡ []
 
 -- members that are no markers have become branches of entries, and of marks where they need one
-pub data AreBuilt (a : List ℕ) (layer : ℕ) : List Named → List (Subtree Entry) → List (Subtree Mark)
-    → Type 0 where
+pub data AreBuilt (a : List ℕ) (layer : ℕ) : List NamedMember → List (Subtree Entry)
+    → List (Subtree Mark) → Type 0 where
   none_built : AreBuilt a layer [] [] []
-  hidden : (m : Named) (ms : List Named) (es : List (Subtree Entry)) (ks : List (Subtree Mark))
+  hidden : (m : NamedMember) (ms : List NamedMember) (es : List (Subtree Entry))
+      (ks : List (Subtree Mark))
       → IsMarker m.name.now → AreBuilt a layer ms es ks → AreBuilt a layer (m ∷ ms) es ks
-  alone : (m : Named) (ms : List Named) (e : Subtree Entry) (es : List (Subtree Entry))
+  alone : (m : NamedMember) (ms : List NamedMember) (e : Subtree Entry) (es : List (Subtree Entry))
       (ks : List (Subtree Mark))
       → ¬ IsMarker m.name.now → IsBranchAlone a layer m.head.offset m.name.now e
       → AreBuilt a layer ms es ks
       → AreBuilt a layer (m ∷ ms) (e ∷ es) ks
-  built : (m : Named) (ms : List Named) (e : Subtree Entry) (es : List (Subtree Entry))
+  built : (m : NamedMember) (ms : List NamedMember) (e : Subtree Entry) (es : List (Subtree Entry))
       (k : Subtree Mark) (ks : List (Subtree Mark))
       → ¬ IsMarker m.name.now → AreBranchesOf a layer m.head.offset m.name.now e k
       → AreBuilt a layer ms es ks
       → AreBuilt a layer (m ∷ ms) (e ∷ es) (k ∷ ks)
 
 -- markers have become cut marks of what their names say after .wh.
-pub data AreWhiteouts : List Named → List (Subtree Mark) → Type 0 where
+pub data AreWhiteouts : List NamedMember → List (Subtree Mark) → Type 0 where
   none_white : AreWhiteouts [] []
-  other : (m : Named) (ms : List Named) (ks : List (Subtree Mark)) → ¬ IsMarker m.name.now
-      → AreWhiteouts ms ks → AreWhiteouts (m ∷ ms) ks
-  white : (m : Named) (ms : List Named) (k : Subtree Mark) (ks : List (Subtree Mark))
+  other : (m : NamedMember) (ms : List NamedMember) (ks : List (Subtree Mark))
+      → ¬ IsMarker m.name.now → AreWhiteouts ms ks → AreWhiteouts (m ∷ ms) ks
+  white : (m : NamedMember) (ms : List NamedMember) (k : Subtree Mark) (ks : List (Subtree Mark))
       → m.name.now ≡ marker ++ k.name → k.value.cut ≡ true → k.below ≡ [] → AreWhiteouts ms ks
       → AreWhiteouts (m ∷ ms) (k ∷ ks)
 
 -- members of a directory, and how many names are left below a path to it
-abbrev pub AreMembersAt : List ℕ → ℕ → List Named → Type 0
+abbrev pub AreMembersAt : List ℕ → ℕ → List NamedMember → Type 0
 AreMembersAt a left ms = (d : ℕ) × AllByRecursion (IsNamedMember a d) ms × IsAtDepth a d left

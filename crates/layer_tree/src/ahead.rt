@@ -5,7 +5,7 @@
 //! dozens are read together, before their branches are made, and none of these reads waits for
 //! another. No branch follows from what is read here.
 
-use crate::members::Named;
+use crate::members::NamedMember;
 
 /// How many names are read together.
 const TOGETHER: usize = 64;
@@ -25,7 +25,7 @@ impl NamesAhead {
     }
 
     /// Goes over one member more of these; now and then the names of the next ones are read.
-    pub(crate) fn pass(&mut self, members: &[Named<'_>]) {
+    pub(crate) fn pass(&mut self, members: &[NamedMember<'_>]) {
         if self.passed % TOGETHER == 0 {
             self.read(members);
         }
@@ -34,7 +34,7 @@ impl NamesAhead {
 
     // Reads the ends of the next names.
     #[inline(never)]
-    fn read(&mut self, members: &[Named<'_>]) {
+    fn read(&mut self, members: &[NamedMember<'_>]) {
         if let Some(next) = members.get(self.passed..) {
             for member in next.iter().take(TOGETHER) {
                 self.sum ^= ends_of(member.name).unwrap_or(0);

@@ -21,7 +21,7 @@ const FEW: usize = 16;
 
 /// A member with its name.
 #[derive(Clone, Copy)]
-pub(crate) struct Named<'a> {
+pub(crate) struct NamedMember<'a> {
     /// The name's first eight bytes as a number, so that two names are mostly told apart without a
     /// look at them.
     pub key: u64,
@@ -35,7 +35,7 @@ pub(crate) fn sorted_members<'a, A: Allocator + Copy>(
     alloc: A,
     image: &'a Image<A>,
     directory: &Head,
-) -> Result<Vec<Named<'a>, A>, AllocError>
+) -> Result<Vec<NamedMember<'a>, A>, AllocError>
     requires sound { IsImage image.now }
     requires given { IsGiven image.now directory.now }
     requires directory { directory.now.kind ≡ Kind.Directory }
@@ -51,7 +51,7 @@ fn named_members<'a, A: Allocator + Copy>(
     alloc: A,
     image: &'a Image<A>,
     members: Members<'_>,
-) -> Result<Vec<Named<'a>, A>, AllocError>
+) -> Result<Vec<NamedMember<'a>, A>, AllocError>
     requires { All (λ head. IsGiven image.now head) members }
     ensures { IfOk result (λ named. AreNamed image.now members.entry named.items) }
 {
@@ -59,13 +59,13 @@ fn named_members<'a, A: Allocator + Copy>(
     for head in members {
         let name = image.name(&head);
         let key = key_of(name);
-        named.push(Named { key, name, head })?;
+        named.push(NamedMember { key, name, head })?;
     }
     Ok(named)
 }
 
 /// Sorts members by name, byte by byte.
-fn sort_by_name<A: Allocator>(members: &mut Vec<Named<'_>, A>)
+fn sort_by_name<A: Allocator>(members: &mut Vec<NamedMember<'_>, A>)
     requires { All IsKeyed members.old.items }
     ensures same { IsPermutation members.old.items members.new.items }
     ensures sorted { IsByName members.new.items }
@@ -74,7 +74,7 @@ fn sort_by_name<A: Allocator>(members: &mut Vec<Named<'_>, A>)
 }
 
 /// How members stand by their keys, and by their names where these are equal.
-fn order(x: &Named<'_>, y: &Named<'_>) -> Ordering
+fn order(x: &NamedMember<'_>, y: &NamedMember<'_>) -> Ordering
     ensures { result ≡ name_cmp (x.now.key ∷ x.now.name.now) (y.now.key ∷ y.now.name.now) }
 {
     match x.key.cmp(&y.key) {

@@ -16,7 +16,7 @@ ghost use Rattle.path_tree.specs.Rows.{NamesRise, named};
 ghost use Rattle.layer_tree.specs.Reading.{IsAtDepth, IsBranchAlone, AddsMade, AreByName, AreMadeOf, IsBlank, AreBuilt, AreWhiteouts, AreMembersAt, rest_of_opaque};
 
 use crate::ahead::NamesAhead;
-use crate::members::{Named, sorted_members, whiteout_of};
+use crate::members::{NamedMember, sorted_members, whiteout_of};
 use path_tree::{Branch, Name, child, merge};
 use romfs_format::limits::MAX_NAMES;
 use romfs_reader::{Ends, Head, Image, Kind};
@@ -86,6 +86,8 @@ impl<A: Allocator + Copy> OfLayer for Tree<A> {
 
 /// Adds what stands at a header and below it, under a name, and what is cut there, if anything is.
 /// A path to the header has `left` names less than [`MAX_NAMES`].
+///
+/// `AllocError` comes only where memory was refused; nothing is promised of `to` then.
 #[cycle(reading)]
 fn add_branches<A: Allocator + Copy>(
     alloc: A,
@@ -159,7 +161,7 @@ fn branches_below<A: Allocator + Copy>(
     image: &Image<A>,
     ends: &mut Ends<'_, A>,
     layer: u16,
-    members: &[Named<'_>],
+    members: &[NamedMember<'_>],
     left: u16,
 ) -> Result<Branches<A>, AllocError>
     requires sound { IsImage image.now }
@@ -209,29 +211,9 @@ fn entry_at(layer: u16, end: &Head) -> Entry
     }
 }
 
-/// An entry that is no directory; it needs no mark.
-fn file<A: Allocator + Copy>(
-    alloc: A,
-    image: &Image<A>,
-    ends: &mut Ends<'_, A>,
-    layer: u16,
-    name: &[u8],
-    head: &Head,
-) -> Result<Child<A>, AllocError>
-    requires sound { IsImage image.now }
-    requires ends { ends.old ≡ image.now }
-    requires given { IsGiven image.now head.now }
-    requires other { head.now.kind ≢ Kind.Directory }
-    ensures made { IfOk result (IsBranchAlone image.now layer head.now.offset name.now) }
-    ensures ends { ends.new ≡ image.now }
-{
-    let end = ends.target(head)?;
-    let entry = entry_at(layer, &end);
-    let own_name = Name::of(alloc, name)?;
-    Ok(leaf(alloc, own_name, entry))
-}
-
-/// The same, added to others.
+/// Adds an entry that is no directory; it needs no mark.
+///
+/// `AllocError` comes only where memory was refused; nothing is promised of `to` then.
 #[inline(never)]
 fn add_file<A: Allocator + Copy>(
     alloc: A,
@@ -250,8 +232,10 @@ fn add_file<A: Allocator + Copy>(
         to.old.entries.items to.old.marks.items to.new.entries.items to.new.marks.items) }
     ensures ends { ends.new ≡ image.now }
 {
-    let entry = file(alloc, image, ends, layer, name, head)?;
-    to.entries.push(entry)?;
+    let end = ends.target(head)?;
+    let entry = entry_at(layer, &end);
+    let own_name = Name::of(alloc, name)?;
+    to.entries.push(leaf(alloc, own_name, entry))?;
     Ok(())
 }
 
@@ -262,7 +246,7 @@ fn folder<A: Allocator + Copy>(
     layer: u16,
     name: &[u8],
     head: &Head,
-    members: &[Named<'_>],
+    members: &[NamedMember<'_>],
     below: Branches<A>,
 ) -> Result<(Child<A>, Branch<Mark, A>), AllocError>
     requires sound { IsImage image.now }
@@ -284,6 +268,8 @@ fn folder<A: Allocator + Copy>(
 }
 
 /// The same, added to others.
+///
+/// `AllocError` comes only where memory was refused; nothing is promised of `to` then.
 #[inline(never)]
 fn add_folder<A: Allocator + Copy>(
     alloc: A,
@@ -291,7 +277,7 @@ fn add_folder<A: Allocator + Copy>(
     layer: u16,
     name: &[u8],
     head: &Head,
-    members: &[Named<'_>],
+    members: &[NamedMember<'_>],
     below: Branches<A>,
     to: &mut Branches<A>,
 ) -> Result<(), AllocError>
@@ -322,7 +308,7 @@ fn has_opaque<A: Allocator>(whiteouts: &[Branch<Mark, A>]) -> bool
 /// The marks of markers, in the same order.
 fn whiteouts_of<A: Allocator + Copy>(
     alloc: A,
-    members: &[Named<'_>],
+    members: &[NamedMember<'_>],
 ) -> Result<Vec<Branch<Mark, A>, A>, AllocError>
     ensures { IfOk result (λ marks. AreWhiteouts members.now marks.items) }
 {

@@ -8,7 +8,7 @@ use Rattle.std.proofs.lemmas.List.Sums.{count_by_more_yes, count_by_more_no}
 use Rattle.std.proofs.lemmas.List.{append-nil, map_push, take_all, take_rest, drop_at}
 use Rattle.std.proofs.lemmas.Option.{get_or_from_slice_get}
 use Rattle.romfs_format.specs.declared.head.Kind.{Kind}
-use Rattle.romfs_format.specs.declared.head.Kind.TheVariants.{HardLink, Directory, Regular, SymLink, Block, Character, Socket, Fifo}
+use Rattle.romfs_format.specs.declared.head.Kind.TheVariants.{Directory}
 use Rattle.stack_model.specs.Attributes.{is_directory}
 use Rattle.path_tree.specs.Rows.{Subtree, whole, NamesRise, name_cmp}
 use Rattle.romfs_format.specs.declared.head.Head.{Head}
@@ -23,18 +23,8 @@ use Rattle.name_keys.specs.Names.{Rise}
 use Rattle.stack_table.specs.Rows.{Line, names}
 use Rattle.node_table.specs.Walks.{Visit}
 use Rattle.node_table.specs.Building.{line_in, directories, IsPosted, AreFollowing, AddsRows, AddsLinked, AddsNothing, AddsByKind, IsReadFrom, AddsNode}
+use Rattle.shown_tree.proofs.NoDirectory.{not_directory}
 use Rattle.node_table.proofs.Lists.{take_one_more}
-
--- no kind but Directory passes the test for directories
-pub not_directory : (k : Kind) → (k ≡ Directory → ⊥) → is_directory k ≡ false
-not_directory Directory f = absurd (f refl)
-not_directory HardLink f = refl
-not_directory Regular f = refl
-not_directory SymLink f = refl
-not_directory Block f = refl
-not_directory Character f = refl
-not_directory Socket f = refl
-not_directory Fifo f = refl
 
 -- how far the rows of children have come
 pub record Rowing (tell : Place → ℕ) (cs : List (Subtree Entry)) (old new : List Line) (n i : ℕ) : Type 0 where

@@ -1,7 +1,6 @@
 -- Elements of lists, as slice_get finds them: where they stand when lists are joined, mapped or cut.
-use Rattle.std.proofs.Common.{◌≡◌, ◌∙◌, sym, ap, subst, ℕ, zero, suc, ◌+◌, ◌<◌, ◌⊎◌, inl, inr, List, [], ◌∷◌, ◌++◌, length, take, get_or, map, refl, arith, Some}
+use Rattle.std.proofs.Common.{◌≡◌, ◌∙◌, sym, ap, ℕ, zero, suc, ◌+◌, ◌<◌, ◌⊎◌, inl, inr, List, [], ◌∷◌, ◌++◌, length, take, get_or, map, refl, arith, Some}
 use Rattle.std.specs.Prelude.{slice_get, slice_index}
-use Rattle.std.specs.List.{AllByRecursion}
 use Rattle.std.specs.Option.{option_map}
 use Rattle.std.proofs.lemmas.List.{take_more}
 use Rattle.std.proofs.lemmas.Option.{slice_get-map, get_or_from_slice_get}
@@ -42,13 +41,6 @@ get_push (z ∷ xs) y (suc k) x e = elim (get_push xs y k x e) [ inl f ↦ inl f
 pub get_map : {X Y : Type 0} (f : X → Y) (xs : List X) (k : ℕ) (x : X) → slice_get xs k ≡ Some x → slice_get (map f xs) k ≡ Some (f x)
 get_map f xs k x e = slice_get-map f xs k ∙ ap (option_map f) e
 
--- what stands in the list of values is the value of an element at its place
-pub get_of_map : {X Y : Type 0} (f : X → Y) (xs : List X) (k : ℕ) (y : Y) → slice_get (map f xs) k ≡ Some y
-    → (x : X) × (slice_get xs k ≡ Some x) × (f x ≡ y)
-get_of_map f [] k y e = absurd (cc)
-get_of_map f (x ∷ xs) zero y e = (x, refl, (let g : f x ≡ y = cc in g))
-get_of_map f (x ∷ xs) (suc k) y e = get_of_map f xs k y e
-
 -- the same of values that are numbers, as they are read
 pub index_map : {X : Type 0} (f : X → ℕ) (xs : List X) (k : ℕ) (x : X) → slice_get xs k ≡ Some x → slice_index (map f xs) k ≡ f x
 index_map f xs k x e = get_or_from_slice_get (map f xs) k (f x) 0 (get_map f xs k x e)
@@ -56,9 +48,3 @@ index_map f xs k x e = get_or_from_slice_get (map f xs) k (f x) 0 (get_map f xs 
 -- a front one longer is the front and the element at its end
 pub take_one_more : {X : Type 0} (xs : List X) (i : ℕ) (x : X) → i < length xs → x ≡ get_or xs i x → take (i + 1) xs ≡ take i xs ++ x ∷ []
 take_one_more xs i x l e = take_more xs i x l ∙ ap (λ y. take i xs ++ y ∷ []) (sym e)
-
--- what holds of all elements holds of each
-pub all_get : {X : Type 0} (P : X → Type 0) (xs : List X) (k : ℕ) (x : X) → AllByRecursion P xs → slice_get xs k ≡ Some x → P x
-all_get P [] k x a e = absurd (cc)
-all_get P (y ∷ xs) zero x a e = let f : y ≡ x = cc in subst P f a.0
-all_get P (y ∷ xs) (suc k) x a e = all_get P xs k x a.1 e

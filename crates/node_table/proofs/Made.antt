@@ -26,7 +26,8 @@ use Rattle.node_table.specs.Walks.{Visit}
 use Rattle.node_table.specs.Numbering.{visit_place}
 use Rattle.node_table.specs.Building.{line_in, IsReadFrom, IsMade, AddsLinked, AddsByKind, AddsNode, completed}
 use Rattle.node_table.specs.Seeds.{AreSeedlings, IsSeed, AreSeeds, AreMade}
-use Rattle.node_table.proofs.Lists.{get_front, get_end, get_push, get_map, get_of_map}
+use Rattle.path_tree.proofs.Lists.{get_of_map}
+use Rattle.node_table.proofs.Lists.{get_front, get_end, get_push, get_map}
 use Rattle.stack_table.specs.Held.{IsHeldDirectory, HoldsDirectory, IsNode, AreNodes, IsSomeTable}
 
 -- how far the making of nodes has come

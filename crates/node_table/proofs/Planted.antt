@@ -21,7 +21,8 @@ use Rattle.node_table.specs.Walks.{Visit, under, IsLocated, AreWalked, visit_siz
 use Rattle.node_table.specs.Numbering.{visit_place, bare, seen, paths_of, number_among, IsFirstVisit, IsNumbered}
 use Rattle.node_table.specs.Building.{line_in, IsPosted, AreFollowing, ArePosts}
 use Rattle.node_table.specs.Seeds.{shown_line, AreSeedlings, IsSeed, AreSomeSeeds}
-use Rattle.node_table.proofs.Lists.{element_below, index_map, all_get}
+use Rattle.path_tree.proofs.Lists.{all_get}
+use Rattle.node_table.proofs.Lists.{element_below, index_map}
 use Rattle.node_table.proofs.Paths.{spread_append, under_append, child_located}
 use Rattle.node_table.proofs.Sizes.{same_value, same_size, ends_within}
 use Rattle.node_table.proofs.Counting.{count, counted}

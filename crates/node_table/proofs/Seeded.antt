@@ -19,7 +19,8 @@ use Rattle.shown_tree.specs.Trees.{listed}
 use Rattle.stack_table.specs.Readers.{placed}
 use Rattle.node_table.specs.Walks.{Visit, under, extends, IsApart, IsLocated}
 use Rattle.node_table.specs.Numbering.{visit_place, bare, seen, IsFirstVisit}
-use Rattle.node_table.proofs.Lists.{get_end, get_map, get_of_map}
+use Rattle.path_tree.proofs.Lists.{get_of_map}
+use Rattle.node_table.proofs.Lists.{get_end, get_map}
 use Rattle.node_table.proofs.Paths.{same_itself as name_itself, under_append}
 use Rattle.node_table.proofs.Counting.{not_among, same_itself as place_itself}
 

@@ -32,7 +32,7 @@ use Rattle.shown_tree.specs.Trees.{TreeRows, IsTreeOf, listed, listing}
 use Rattle.romfs_reader.proofs.Paths.{leads_to}
 use Rattle.shown_tree.proofs.Listed.{is_listing}
 use Rattle.stack_table.specs.Readers.{placed}
-use Rattle.node_table.proofs.Lists.{all_get}
+use Rattle.path_tree.proofs.Lists.{all_get}
 
 -- an entry's place is in an image of the stack, which gives its header, and the entry's kind is
 -- that header's

@@ -1,3 +1,4 @@
+pub mod Lists
 pub mod Names
 pub mod Paths
 pub mod Spread

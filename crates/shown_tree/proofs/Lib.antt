@@ -1,2 +1,3 @@
+pub mod NoDirectory
 pub mod Cutting
 pub mod Listed

@@ -2,7 +2,7 @@ use Rattle.std.proofs.Common.{◌≡◌}
 use Rattle.std.proofs.lemmas.List.Elements.{All-tail, All-push}
 use Rattle.romfs_format.specs.Heads.{name_of}
 use Rattle.romfs_reader.specs.Readers.{IsGiven}
-use Rattle.layer_tree.specs.declared.members.Named.{Named}
+use Rattle.layer_tree.specs.declared.members.NamedMember.{NamedMember}
 use Rattle.layer_tree.specs.Members.{IsKeyed}
 use Rattle.layer_tree.proofs.ByName.{found_one}
 use Rattle.layer_tree.proofs.members.named_members.Goals as goal
@@ -17,8 +17,8 @@ loop-head-preserved g c =
       can_next = tt;
       is_finite = tt;
       given = All-tail (λ head. IsGiven a head) head c.next.new.self (rw e at c.loop-head.invariant.given);
-      names = rw p (All-push (λ (m : Named). m.name.now ≡ name_of a m.head.offset) c.loop-head.named.items _ c.loop-head.invariant.names
-          c.name-name.ensures);
+      names = rw p (All-push (λ (m : NamedMember). m.name.now ≡ name_of a m.head.offset) c.loop-head.named.items _
+          c.loop-head.invariant.names c.name-name.ensures);
       keys = rw p (All-push IsKeyed c.loop-head.named.items _ c.loop-head.invariant.keys (
         c.key_of-key.ensures.value,
         c.key_of-key.ensures.bytes,

@@ -1,0 +1,22 @@
+-- Elements of lists, as slice_get and get_or find them.
+use Rattle.std.proofs.Common.{◌≡◌, sym, ap, subst, ℕ, zero, suc, ◌<◌, List, [], ◌∷◌, length, get_or, drop, map, refl, arith, Some}
+use Rattle.std.specs.Prelude.{slice_get}
+use Rattle.std.specs.List.{AllByRecursion}
+
+-- the element at the front is the first
+pub front_is : {X : Type 0} (xs : List X) (x : X) → 0 < length xs → x ≡ get_or xs 0 x → xs ≡ x ∷ drop 1 xs
+front_is [] x l e = absurd (omega arith)
+front_is (y ∷ ys) x l e = ap (λ z. z ∷ ys) (sym e)
+
+-- what holds of all elements holds of each
+pub all_get : {X : Type 0} (P : X → Type 0) (xs : List X) (k : ℕ) (x : X) → AllByRecursion P xs → slice_get xs k ≡ Some x → P x
+all_get P [] k x a e = absurd (cc)
+all_get P (y ∷ xs) zero x a e = let f : y ≡ x = cc in subst P f a.0
+all_get P (y ∷ xs) (suc k) x a e = all_get P xs k x a.1 e
+
+-- what stands in the list of values is the value of an element at its place
+pub get_of_map : {X Y : Type 0} (f : X → Y) (xs : List X) (k : ℕ) (y : Y) → slice_get (map f xs) k ≡ Some y
+    → (x : X) × (slice_get xs k ≡ Some x) × (f x ≡ y)
+get_of_map f [] k y e = absurd (cc)
+get_of_map f (x ∷ xs) zero y e = (x, refl, (let g : f x ≡ y = cc in g))
+get_of_map f (x ∷ xs) (suc k) y e = get_of_map f xs k y e
