@@ -8,6 +8,7 @@ use Rattle.std.proofs.lemmas.Cmp.{nat_list_cmp_total}
 use Rattle.std.specs.declared.cmp.Ordering.TheVariants.{Less, Equal, Greater}
 use Rattle.std.specs.List.{AllByRecursion}
 use Rattle.path_tree.specs.Rows.{Subtree, name_cmp, named, NamesRise, IsRising, IsForest, at_path, spread, whole}
+use Rattle.path_tree.specs.Laying.{PassesWith, TakesChildren}
 use Rattle.path_tree.proofs.Names.{same_or_not, not_below_itself, named_below, all_above, above_of}
 use Rattle.path_tree.proofs.Spread.{through, at_spread}
 use Rattle.path_tree.proofs.Rising.{branch_rises}
@@ -16,7 +17,7 @@ use Rattle.std.proofs.lemmas.Map.Lookups.{exact_bytes}
 use Rattle.stack_model.specs.Stack.{Path}
 use Rattle.shown_tree.specs.declared.place.Mark.{Mark}
 use Rattle.shown_tree.specs.Marks.{cut_by}
-use Rattle.layer_tree.specs.Laying.{unless, AreKept, IsLeft, IsLeftOut, IsKept, IsFrom}
+use Rattle.layer_tree.specs.Laying.{unless, AreKept, AreChildrenLeft, IsLeft, IsLeftOut, IsKept, IsFrom, KeepsFirst}
 use Rattle.shown_tree.proofs.Cutting.{nothing_cut, cut_same, cut_through, by_name}
 
 -- some branches were passed over, all with names before this one
@@ -204,9 +205,9 @@ module _ {T : Type 0} (lows ls out : List (Subtree T)) (marks rest rest' : List 
     kept_or_not m (Some b) n k = kept_one m b n k
 
 -- the children of the first branch are fewer than all that is left
-pub below_measure : {T : Type 0} (ls ls' : List (Subtree T)) (l : Subtree T) → ls ≡ l ∷ ls'
-    → 3 * length l.below + 3 < 3 * length (spread ls) + 1
-below_measure ls ls' l e = rw e (omega (arith, grown l ls'))
+pub below_measure : {T : Type 0} (ls ls' children : List (Subtree T)) (l : Subtree T) → ls ≡ l ∷ ls' → l.below ≡ spread children
+    → 3 * length (spread children) + 3 < 3 * length (spread ls) + 1
+below_measure ls ls' children l e below = rw e (omega (arith, grown l ls', ap length below))
 
 -- and all that is left is no more than all
 pub left_measure : {T : Type 0} (lows ls out : List (Subtree T)) (marks rest : List (Subtree Mark))
@@ -255,3 +256,28 @@ inside low mark lows out marks e o f g k = record { name = refl; rising = branch
     at (n ∷ path) = rw (e, o, f) (k.at n path ∙ ap (λ b. unless b (at_path (spread lows) (n ∷ path)))
         (cut_same (λ q. at_path (spread marks) (n ∷ q)) (λ q. at_path mark.below (n ∷ q))
         (λ q. ap (λ rows. at_path rows (n ∷ q)) (sym g)) path))
+
+-- a branch with what a mark leaves of its children is what the mark leaves of it
+pub with_children : {T : Type 0} (low : Subtree T) (mark : Subtree Mark) (lows out : List (Subtree T)) → low.below ≡ spread lows
+    → AreChildrenLeft mark lows out → IsKept low mark (record { name = low.name; value = low.value; below = spread out })
+with_children low mark lows out e left =
+    subst (λ below. IsKept (record { name = low.name; value = low.value; below = below }) mark
+    (record { name = low.name; value = low.value; below = spread out })) (sym e) (left.kept low.name low.value)
+
+-- where the children of the first branch were taken, and it is passed on with what a mark leaves of
+-- them, what the mark leaves of it is kept
+pub kept_first : {T : Type 0} (mark : Subtree Mark) (lows between lows' kept kept' children left : List (Subtree T))
+    → TakesChildren lows between children → AreChildrenLeft mark children left → PassesWith left between lows' kept kept'
+    → KeepsFirst mark lows lows' kept kept'
+kept_first {T} mark lows between lows' kept kept' children left t l p =
+    let same : record { name = t.first.name; value = t.first.value; below = [] } ∷ t.rest ≡ p.first ∷ lows' = sym t.left ∙ p.left in
+    let first : record { name = t.first.name; value = t.first.value; below = [] } ≡ p.first = cc in
+    let rest : t.rest ≡ lows' = cc in
+    record {
+      low = t.first;
+      left = Some (record { name = t.first.name; value = t.first.value; below = spread left });
+      first = t.was ∙ ap (λ xs. t.first ∷ xs) rest;
+      is = with_children t.first mark children left t.below l;
+      added = p.added
+          ∙ ap (λ (s : Subtree T). kept ++ record { name = s.name; value = s.value; below = spread left } ∷ []) (sym first);
+    }

@@ -11,7 +11,7 @@ ghost use Rattle.shown_tree.specs.Trees.{IsTreeOf};
 ghost use Rattle.layer_tree.specs.Laying.{AreKept, AreChildrenLeft, AreUnited, CoverTheKept, IsKept, KeepsFirst, IsFrom, Lays};
 
 use crate::clashes::clashes_both_ways;
-use path_tree::{Branch, add_last, cover, pass_first, take_first};
+use path_tree::{Branch, cover, drop_first, pass_first, pass_with, take_children};
 use shown_tree::{Child, Mark, Tree};
 use std::alloc::{AllocError, Allocator};
 use std::cmp::Ordering;
@@ -69,6 +69,8 @@ fn kept_below<T: Copy + Drop, A: Allocator + Copy>(
 
 /// Takes the first branch from a directory; what a mark and those below it leave of it is added to
 /// `kept`, and nothing where the mark cuts the branch itself.
+///
+/// `AllocError` comes only where memory was refused; nothing is promised of `lows` and `kept` then.
 #[cycle(keeping)]
 fn keep_first<T: Copy + Drop, A: Allocator + Copy>(
     alloc: A,
@@ -80,12 +82,13 @@ fn keep_first<T: Copy + Drop, A: Allocator + Copy>(
     ensures { OnOk result (KeepsFirst mark.now
         lows.old.items lows.new.items kept.old.items kept.new.items) }
 {
-    let (name, entry, children) = take_first(lows);
     if mark.value().cut {
+        drop_first(lows);
         return Ok(());
     }
+    let children = take_children(alloc, lows);
     let left = children_left(alloc, children, mark)?;
-    add_last(kept, name, entry, left)?;
+    pass_with(lows, left, kept)?;
     Ok(())
 }
 

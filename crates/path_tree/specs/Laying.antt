@@ -28,6 +28,28 @@ pub record Passes {T : Type 0} (from from' to to' : List (Subtree T)) : Type 0 w
   pub left : from ≡ first ∷ from'
   pub added : to' ≡ to ++ first ∷ []
 
+-- the same, with these children in place of the branch's own
+pub record PassesWith {T : Type 0} (children from from' to to' : List (Subtree T))
+    : Type 0 where
+  pub first : Subtree T
+  pub left : from ≡ first ∷ from'
+  pub added : to'
+      ≡ to ++ record { name = first.name; value = first.value; below = spread children } ∷ []
+
+-- the first branch has gone from a list
+pub record DropsFirst {T : Type 0} (from from' : List (Subtree T)) : Type 0 where
+  pub first : Subtree T
+  pub left : from ≡ first ∷ from'
+
+-- the children have been taken from the first branch of a list
+pub record TakesChildren {T : Type 0} (from from' children : List (Subtree T)) : Type 0 where
+  pub first : Subtree T
+  pub rest : List (Subtree T)
+  pub was : from ≡ first ∷ rest
+  pub left : from' ≡ record { name = first.name; value = first.value; below = [] } ∷ rest
+  pub below : first.below ≡ spread children
+  pub forest : IsForest children
+
 -- the first branches have gone from two lists, and the high one laid on the low one to the end of
 -- a third
 pub record CoversFirst {T : Type 0} (f : T → T → T)

@@ -7,6 +7,7 @@ use crate::name::Name;
 use std::alloc::{AllocError, Allocator};
 use std::cmp::Ordering;
 use std::marker::Model;
+use std::mem;
 
 /// A value with a name, and the branches below it in the order of their names.
 #[derive(Drop)]
@@ -95,6 +96,16 @@ impl<T: Copy + Drop, A: Allocator> Branch<T, A> {
 }
 
 impl<T: Copy + Drop, A: Allocator + Copy> Branch<T, A> {
+    /// Takes the children.
+    pub(crate) fn take_children(&mut self, alloc: A) -> Vec<Branch<T, A>, A>
+        ensures left { self.new
+            ≡ record { name = self.old.name; value = self.old.value; below = [] } }
+        ensures below { self.old.below ≡ spread result.items }
+        ensures forest { IsForest result.items }
+    {
+        mem::replace(&mut self.children, Vec::new(alloc))
+    }
+
     /// The branch's name once more. `AllocError` comes only where memory was refused for a name of
     /// more than 22 bytes.
     pub fn copy_name(&self, alloc: A) -> Result<Name<A>, AllocError>

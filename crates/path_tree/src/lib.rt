@@ -15,5 +15,5 @@ mod name;
 
 pub use branch::{Branch, child};
 pub use laying::{Lay, cover, merge};
-pub use moving::{add_last, pass_first, take_first};
+pub use moving::{add_last, drop_first, pass_first, pass_with, take_children, take_first};
 pub use name::Name;

@@ -5,7 +5,7 @@
 
 ghost use Rattle.std.specs.Prelude.{◌≡◌, ◌<◌, [], ◌∷◌, ◌++◌, length, OnOk};
 ghost use Rattle.path_tree.specs.Rows.{spread, IsForest};
-ghost use Rattle.path_tree.specs.Laying.{Passes};
+ghost use Rattle.path_tree.specs.Laying.{Passes, PassesWith, DropsFirst, TakesChildren};
 
 use crate::branch::Branch;
 use crate::name::Name;
@@ -13,6 +13,8 @@ use std::alloc::{AllocError, Allocator};
 use std::collections::VecDeque;
 
 /// Moves the first branch of a list to the end of another one.
+///
+/// `AllocError` comes only where memory was refused; nothing is promised of either list then.
 #[inline(never)]
 pub fn pass_first<T: Copy + Drop, A: Allocator>(
     from: &mut VecDeque<Branch<T, A>, A>,
@@ -24,6 +26,35 @@ pub fn pass_first<T: Copy + Drop, A: Allocator>(
     let first = from.pop_front().unwrap();
     to.push(first)?;
     Ok(())
+}
+
+/// Moves the first branch of a list to the end of another one, with these children in place of its
+/// own.
+///
+/// `AllocError` comes only where memory was refused; nothing is promised of either list then.
+#[inline(never)]
+pub fn pass_with<T: Copy + Drop, A: Allocator>(
+    from: &mut VecDeque<Branch<T, A>, A>,
+    children: Vec<Branch<T, A>, A>,
+    to: &mut Vec<Branch<T, A>, A>,
+) -> Result<(), AllocError>
+    requires some { 0 < length from.old.items }
+    requires forest { IsForest children.items }
+    ensures { OnOk result (PassesWith children.items
+        from.old.items from.new.items to.old.items to.new.items) }
+{
+    let (name, value, _) = take_first(from);
+    add_last(to, name, value, children)?;
+    Ok(())
+}
+
+/// Takes the first branch from a list, and drops it.
+#[inline(never)]
+pub fn drop_first<T: Copy + Drop, A: Allocator>(from: &mut VecDeque<Branch<T, A>, A>)
+    requires { 0 < length from.old.items }
+    ensures { DropsFirst from.old.items from.new.items }
+{
+    take_first(from);
 }
 
 /// Takes the first branch from a list, as its name, value and children.
@@ -43,7 +74,22 @@ pub fn take_first<T: Copy + Drop, A: Allocator>(
     first.into_parts()
 }
 
+/// Takes the children of the first branch of a list; the branch stays there without any.
+#[inline(never)]
+pub fn take_children<T: Copy + Drop, A: Allocator + Copy>(
+    alloc: A,
+    from: &mut VecDeque<Branch<T, A>, A>,
+) -> Vec<Branch<T, A>, A>
+    requires { 0 < length from.old.items }
+    ensures { TakesChildren from.old.items from.new.items result.items }
+{
+    let first = from.front_mut().unwrap();
+    first.take_children(alloc)
+}
+
 /// Adds a branch of its parts to the end of a list.
+///
+/// `AllocError` comes only where memory was refused; nothing is promised of the list then.
 #[inline(never)]
 pub fn add_last<T: Copy + Drop, A: Allocator>(
     to: &mut Vec<Branch<T, A>, A>,

@@ -1,9 +1,9 @@
-use Rattle.std.proofs.Common.{rules, ◌≡◌, length, sym, refl, Some, None}
+use Rattle.std.proofs.Common.{rules, ◌≡◌, length, sym, refl, None}
 use Rattle.std.proofs.lemmas.Bool.{eqb-true}
 use Rattle.std.proofs.lemmas.List.{nil_from_length, append-nil}
 use Rattle.path_tree.specs.Rows.{spread}
 use Rattle.path_tree.proofs.Merging.{some_shown, nothing_shown}
-use Rattle.layer_tree.proofs.Stepping.{no_marks, keeping_begun, keeping_ended, untouched, kept_or_not, below_measure, left_measure, all_cut, alone, inside}
+use Rattle.layer_tree.proofs.Stepping.{no_marks, keeping_begun, keeping_ended, untouched, kept_or_not, below_measure, left_measure, all_cut, alone, inside, kept_first}
 use Rattle.layer_tree.proofs.laying.+keeping.Goals as goal
 
 pub kept_below-returns-then-is_empty : goal.kept_below-returns-then-is_empty
@@ -46,38 +46,22 @@ kept_below-returns g t c =
 
 pub keep_first-children_left-requires : goal.keep_first-children_left-requires
 keep_first-children_left-requires g t c κs within =
-    let m = below_measure _ _ _ c.take_first-name.ensures.first in
+    let taken = c.take_children-children.ensures in
+    let m = below_measure _ _ _ _ taken.was taken.below in
     search (rules, m)
 
 pub keep_first-returns-then-value : goal.keep_first-returns-then-value
 keep_first-returns-then-value g t c = record {
-  low = record {
-    name = c.take_first-name.result.0;
-    value = c.take_first-name.result.1;
-    below = spread c.take_first-name.result.2.items;
-  };
+  low = c.drop_first.ensures.first;
   left = None;
-  first = c.take_first-name.ensures.first;
+  first = c.drop_first.ensures.left;
   is = all_cut c.args.mark.now (search rules);
   added = sym (append-nil c.args.kept.now.items);
 }
 
 pub keep_first-returns : goal.keep_first-returns
-keep_first-returns g t c = record {
-  low = record {
-    name = c.take_first-name.result.0;
-    value = c.take_first-name.result.1;
-    below = spread c.take_first-name.result.2.items;
-  };
-  left = Some (record {
-    name = c.take_first-name.result.0;
-    value = c.take_first-name.result.1;
-    below = spread c.in_ok-left.left.items;
-  });
-  first = c.take_first-name.ensures.first;
-  is = c.in_ok-left.ensures.kept _ _;
-  added = c.in_ok-add_last.ensures;
-}
+keep_first-returns g t c =
+    kept_first c.args.mark.now _ _ _ _ _ _ _ c.take_children-children.ensures c.in_ok-left.ensures c.in_ok-pass_with.ensures
 
 pub children_left-returns-then-value : goal.children_left-returns-then-value
 children_left-returns-then-value g t c =

@@ -1,0 +1,13 @@
+use Rattle.path_tree.specs.Rows.{spread}
+use Rattle.path_tree.proofs.moving.pass_with.Goals as goal
+
+pub returns : goal.returns
+returns g c = record {
+  first = record {
+    name = c.take_first-name.result.0;
+    value = c.take_first-name.result.1;
+    below = spread c.take_first-name.result.2.items;
+  };
+  left = c.take_first-name.ensures.first;
+  added = c.in_ok-add_last.ensures;
+}
