@@ -230,11 +230,8 @@ def ran(program, started, run, source, pair, pipe, room):
     elif pipe is not None:
         size = started.limits["fed"]
         runs.feed((data[at:at + size] for at in range(0, len(data), size)), pipe)
-    visits = Party(run.clients, room, started.listens_at() if run.clients else None, done.pid)
-    got = visits.served()
-    if visits.told:
-        os.kill(done.pid, signal.SIGKILL)
-    ended = runs.ended(done)
+    visits = Party(run.clients, room, started.listens_at() if run.clients else None, done)
+    got, ended = visits.ended()
     return ended._replace(output=came + ended.output), visits.told + told_of(run.clients, got)
 
 

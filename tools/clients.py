@@ -7,12 +7,14 @@ import fcntl
 import os
 import resource
 import select
+import signal
 import socket
 import struct
 import termios
 import threading
 import time
 
+import runs
 from plain_replies import bad_length, split
 from replies import single
 from runs import MINUTE
@@ -219,11 +221,18 @@ class Visit:
 
 
 class Party:
-    """Clients of a process's socket, one after another."""
+    """Clients of a program's socket, one after another."""
 
-    def __init__(self, clients, folder, path, process):
-        self.clients, self.place, self.process = clients, (folder, path, process), process
+    def __init__(self, clients, folder, path, child):
+        self.clients, self.place, self.child = clients, (folder, path, child.pid), child
         self.told = []
+
+    def ended(self):
+        """What each got, and how the program ended, which is killed where something went wrong."""
+        got = self.served()
+        if self.told:
+            os.kill(self.child.pid, signal.SIGKILL)
+        return got, runs.ended(self.child)
 
     def served(self):
         """What each got, as far as they were served; what went wrong is told."""
@@ -256,4 +265,4 @@ class Party:
         if client.lasts() and select.select(ends, [], [], 0)[0]:
             self.told.append("a client that waits was served before the one above it had ended")
         if client.files is not None:
-            resource.prlimit(self.process, resource.RLIMIT_NOFILE, (client.files, client.files))
+            resource.prlimit(self.child.pid, resource.RLIMIT_NOFILE, (client.files, client.files))

@@ -3,7 +3,6 @@ import collections
 import contextlib
 import os
 import re
-import signal
 import socket
 import subprocess
 import tempfile
@@ -83,11 +82,8 @@ class Running:
         for number, client in enumerate(clients, 1):
             self.write("requests-%d" % number, client.sent())
         child = self.start(words, stdin=subprocess.DEVNULL, stdout=subprocess.PIPE)
-        party = Party(clients, self.folder, "socket", child.pid)
-        got = party.served()
-        if party.told:
-            os.kill(child.pid, signal.SIGKILL)
-        done = runs.ended(child)
+        party = Party(clients, self.folder, "socket", child)
+        got, done = party.ended()
         wrong = party.told or ["client %d: other replies" % number for number, pair in enumerate(zip(clients, got), 1)
                                if pair[0].replies != pair[1]]
         wrong = wrong or faults_wrong(clients, lines, done)

@@ -14,44 +14,30 @@ NUMBERS = {number: name for name, number in plain.ERRNOS.items()}
 
 
 def attr_of(words):
-    words.expect("ino")
-    ino = words.number()
-    words.expect("size")
-    size = words.number()
-    words.expect("mode")
-    mode = words.number(8)
-    words.expect("nlink")
-    nlink = words.number()
+    ino, size, mode = words.number_of("ino"), words.number_of("size"), words.number_of("mode", 8)
+    nlink = words.number_of("nlink")
     return plain.attr(ino, size, mode, nlink, words.number() if words.take("rdev") else 0)
 
 
 def entry_of(words):
-    words.expect("node")
-    node = words.number()
-    return plain.entry_out(node, attr_of(words))
+    return plain.entry_out(words.number_of("node"), attr_of(words))
 
 
 def init_of(words):
     words.expect("7.31")
     if not words.more():
         return plain.version_out()
-    words.expect("max_readahead")
-    readahead = words.number()
-    words.expect("flags")
-    flags = words.number()
+    readahead, flags = words.number_of("max_readahead"), words.number_of("flags")
     if words.take("of"):
         words.expect("24")
         words.expect("bytes")
         return plain.init_out(readahead, flags, 0)[:24]
-    words.expect("max_pages")
-    return plain.init_out(readahead, flags, words.number())
+    return plain.init_out(readahead, flags, words.number_of("max_pages"))
 
 
 def row_of(words, plus):
     """A row of READDIR, as `3 ino 2 regular big`, or of READDIRPLUS, which has the entry behind the name."""
-    off = words.number()
-    words.expect("ino")
-    ino = words.number()
+    off, ino = words.number(), words.number_of("ino")
     kind = words.next()
     if kind not in TYPES:
         raise Wrong("no kind: %s" % kind)
@@ -79,10 +65,7 @@ def reply_of(unique, words, rows):
     if kind == "open_flags":
         return plain.with_data(unique, plain.open_out(words.number()))
     if kind == "statfs":
-        words.expect("blocks")
-        blocks = words.number()
-        words.expect("files")
-        return plain.with_data(unique, plain.statfs_out(blocks, words.number()))
+        return plain.with_data(unique, plain.statfs_out(words.number_of("blocks"), words.number_of("files")))
     if kind == "empty":
         return plain.with_data(unique, b"")
     if kind == "data":

@@ -71,6 +71,11 @@ class Words:
         except ValueError:
             raise Wrong("no number: %s" % word) from None
 
+    def number_of(self, word, base=0):
+        """The number behind this word."""
+        self.expect(word)
+        return self.number(base)
+
     def name(self):
         """Bytes as a bare word, or as quoted text that may go on: "d/" then "q" * 255."""
         return self.data() if self.begins_text() else plain_bytes(self.next())
