@@ -17,6 +17,7 @@
 //! The crate stands on `devices` and `byteorder`.
 #![tactic(auto)]
 
+pub mod laws;
 mod sink;
 mod source;
 mod trouble;
