@@ -1,8 +1,7 @@
 -- Which faults have which status: `each_status`. A fault has one status, so it is what that one
 -- asks, and the others ask nothing. `stop_of` says so of the reasons why serving stopped, and the
 -- faults follow.
-use Rattle.std.proofs.Common.{◌≡◌, ℕ, ◌⊎◌, inl, inr, List, refl, arith}
-use Rattle.romfs_format.specs.declared.rule.ImageFault.{ImageFault}
+use Rattle.std.proofs.Common.{◌≡◌, ℕ, inl, inr, refl, arith}
 use Rattle.serve_loop.specs.declared.stop.Stop.{Stop}
 use Rattle.serve_loop.specs.declared.stop.Stop.TheVariants.{Layer, Layers, BadLength, CutOff, Read, Write, Turns, Memory}
 use Rattle.strata.specs.declared.faults.Fault.{Fault}

@@ -1,6 +1,6 @@
 -- What numbers and sizes look like in print. The first lemmas are of single texts; the others are
 -- how a loop that prints a line for each of a list (`IsPrinted`) begins, goes on and ends.
-use Rattle.std.proofs.Common.{◌≡◌, ◌∙◌, sym, ap, ℕ, ℤ, pos, ◌+◌, ◌-◌, ◌^◌, ◌<◌, ◌≤◌, List, [], ◌++◌, length, drop, replicate, false, append-nil, append_assoc, slice_index_or, arith}
+use Rattle.std.proofs.Common.{◌≡◌, ◌∙◌, sym, ap, ℕ, ◌+◌, ◌-◌, ◌^◌, ◌<◌, ◌≤◌, List, [], ◌++◌, length, drop, replicate, false, append-nil, append_assoc, slice_index_or, arith}
 use Rattle.std.proofs.lemmas.List.{drop_more}
 use Rattle.std.proofs.Math.ListN.{drop_of_length-le}
 use native.Mathlib.Numerals.{unary_clauses}
@@ -32,9 +32,9 @@ module _ {X : Type 0} (line : ℕ → X → List ℕ) (first : ℕ) (xs : List X
 
   -- before the first one no line is printed
   pub none_printed : (text : List ℕ) → text ≡ [] → IsPrinted 0 text
-  none_printed text e = record {
-    whole = ap (λ t. t ++ numbered_lines line (0 + first) xs) e ∙ ap (λ n. numbered_lines line n xs) (let z : 0 + first ≡ first = omega arith in z);
-  }
+  none_printed text e =
+      let same : 0 + first ≡ first = omega arith in
+      record { whole = ap (λ t. t ++ numbered_lines line (0 + first) xs) e ∙ ap (λ n. numbered_lines line n xs) same }
 
   -- the next line behind the text makes it that of one more
   pub one_more_printed : (text more : List ℕ) (place n : ℕ) (none : X) → n ≡ place + first → place < length xs → IsPrinted place text

@@ -3,6 +3,8 @@
 //! A command does its steps in this order, and the first that fails ends it: it reads its line, the
 //! files of the images, opens the file of requests, creates the files of replies and of balances,
 //! and then does its work. `socket` makes its socket once the images are stacked.
+//!
+//! Its functions write the same bounds out: no trait can stand for those on `R::File` and `R::Dir`.
 
 ghost use Rattle.std.specs.Prelude.{◌≡◌, map, IfOk, IfErr};
 ghost use Rattle.devices.specs.States.{devices};
