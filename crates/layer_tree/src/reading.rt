@@ -13,7 +13,7 @@ ghost use Rattle.romfs_reader.specs.Images.{IsImage};
 ghost use Rattle.romfs_reader.specs.Readers.{IsGiven};
 ghost use Rattle.shown_tree.specs.Trees.{IsTreeOf};
 ghost use Rattle.path_tree.specs.Rows.{NamesRise, named};
-ghost use Rattle.layer_tree.specs.Reading.{IsAtDepth, IsBranchAlone, AddsMade, AreByName, AreMadeOf, IsBlank, AreBuilt, AreWhiteouts, AreMembersAt, rest_of_opaque};
+ghost use Rattle.layer_tree.specs.Reading.{IsAtDepth, AddsMade, AreByName, AreMadeOf, IsBlank, AreBuilt, AreWhiteouts, AreMembersAt, rest_of_opaque};
 
 use crate::ahead::NamesAhead;
 use crate::members::{NamedMember, sorted_members, whiteout_of};
