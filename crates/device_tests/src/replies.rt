@@ -60,7 +60,7 @@ fn bytes_of(alloc: Global, lengths: &[u32]) -> Result<Vec<u8>, AllocError> {
 
 #[test]
 fn a_reply_a_write(rt: HostRuntime) -> Result<(), Fail> {
-    let bytes = bytes_of(rt.alloc(), &[16, 80, 120, 70_000, 16])?;
+    let bytes = bytes_of(rt.alloc(), &[16, 80, 120, 1_048_592, 16])?;
     let mut writer = replies_of(rt.alloc(), usize::MAX, usize::MAX, 5);
     let mut spout = ReplySpout::new(&mut writer);
     let done = hand_on(&mut spout, &bytes);
@@ -68,7 +68,7 @@ fn a_reply_a_write(rt: HostRuntime) -> Result<(), Fail> {
     drop(spout);
     assert!(rt; done.is_ok() && !gone && writer.flushes == 1);
     assert!(rt; writer.taken.as_slice() == bytes.as_slice());
-    assert!(rt; writer.sizes.as_slice() == [16, 80, 120, 70_000, 16].as_slice());
+    assert!(rt; writer.sizes.as_slice() == [16, 80, 120, 1_048_592, 16].as_slice());
     Ok(())
 }
 

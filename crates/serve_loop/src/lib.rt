@@ -8,7 +8,8 @@
 //!
 //! - [`Rounds`] is what the loop asks for: whatever answers some of the first messages of its
 //!   buffer.
-//! - [`AnswersOne`] is less: whatever answers one message. [`walk`] makes rounds of it, on one thread.
+//! - [`AnswersOne`] is less: whatever answers one message. [`walk`] makes rounds of it, on one
+//!   thread.
 //!
 //! Replies are appended to a vector that is kept from round to round, and lookups that are given or
 //! taken are added to the balances of their nodes, so that a message costs no vector of its own.

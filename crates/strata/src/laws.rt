@@ -1,14 +1,19 @@
 //! What the exit statuses mean, by what [`crate::command`] and [`crate::sessions_from`] promise.
 
-ghost use Rattle.std.specs.Prelude.{◌≡◌, ◌≤◌, ◌⊎◌, ℕ, List};
+ghost use Rattle.std.specs.Prelude.{◌≡◌, ◌≤◌, ◌⊎◌, ℕ, List, Bool, true, false};
 ghost use Rattle.command_line.specs.CommandLine.{IsTaken, IsMisnumbered, IsCrossed};
+ghost use Rattle.command_line.specs.declared.options.Line.{Line};
 ghost use Rattle.devices.specs.States.{Devices};
-ghost use Rattle.strata.specs.Ending.{EndsWith};
+ghost use Rattle.serve_loop.specs.declared.stop.Stop.TheVariants.{Read, Write};
+ghost use Rattle.strata.specs.Ending.{EndsWith, first_of};
 ghost use Rattle.stack_table.specs.Stacked.{Stacked};
 ghost use Rattle.reply_model.specs.declared.session.Session.{Session};
+ghost use Rattle.reply_model.specs.declared.session.Session.TheVariants.{Fresh, LastingFresh};
 ghost use Rattle.strata.specs.Sessions.{EndWith};
 ghost use Rattle.strata.specs.declared.faults.Fault.{Fault};
+ghost use Rattle.strata.specs.declared.faults.Fault.TheVariants.{Stopped};
 ghost use Rattle.strata.specs.Laws.{AreToBlame, HasStatusOf, TellsOfSessions};
+ghost use Rattle.strata.specs.Mounts.{is_taken_away};
 
 use std::alloc::Allocator;
 
@@ -38,4 +43,22 @@ pub fn each_status_has_its_faults()
 pub fn sessions_tell<A: Allocator>()
     ensures { (first : Session) (stack : Stacked) (count status : ℕ) →
         EndWith A first stack count status → TellsOfSessions A first stack count status }
+{}
+
+/// Over a device, and where the line asks for it, the client is told that the tree lasts; else not.
+pub fn devices_are_served_lastingly()
+    ensures device { (line : Line) → line.device ≡ true → first_of line ≡ LastingFresh }
+    ensures lasting { (line : Line) → line.lasting ≡ true → first_of line ≡ LastingFresh }
+    ensures usual { (line : Line) → line.device ≡ false → line.lasting ≡ false →
+        first_of line ≡ Fresh }
+{}
+
+/// A failed write tells that the mount was taken away where either side knows, and a failed read
+/// where its own side does.
+pub fn writes_know_by_either_side()
+    ensures write { (input : Bool) → is_taken_away (Stopped Write) input true ≡ true }
+    ensures written { is_taken_away (Stopped Write) true false ≡ true }
+    ensures read { (output : Bool) → is_taken_away (Stopped Read) false output ≡ false }
+    ensures ended { (output : Bool) → is_taken_away (Stopped Read) true output ≡ true }
+    ensures there { is_taken_away (Stopped Write) false false ≡ false }
 {}
