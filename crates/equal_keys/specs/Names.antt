@@ -35,13 +35,15 @@ abbrev pub IsItsAlone : (ℕ → Option (List ℕ)) → ℕ → ℕ → Type 0
 IsItsAlone name n k = (j : ℕ) → j < n → name j ≡ name k → j ≡ k
 
 -- numbers below n, each with its name, and among them all whose name several have
-pub record HoldTheShared (name : ℕ → Option (List ℕ)) (n : ℕ) (named : List NumberedName) : Type 0 where
+pub record HoldTheShared (name : ℕ → Option (List ℕ)) (n : ℕ)
+    (named : List NumberedName) : Type 0 where
   pub each : All (HasItsName name n) named
   pub every : (k : ℕ) (q : List ℕ) → k < n → name k ≡ Some q
       → ((h : NumberedName) × Contains named h × (h.number ≡ k)) ⊎ IsItsAlone name n k
 
 -- these in an order in which equal names stand together
-pub record AreInNameOrder (name : ℕ → Option (List ℕ)) (n : ℕ) (named : List NumberedName) : Type 0 where
+pub record AreInNameOrder (name : ℕ → Option (List ℕ)) (n : ℕ)
+    (named : List NumberedName) : Type 0 where
   pub are : HoldTheShared name n named
   pub sorted : IsSorted numbered_cmp named
 

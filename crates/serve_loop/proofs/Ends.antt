@@ -3,11 +3,12 @@
 -- at every end.
 use Rattle.std.proofs.Common.{◌≡◌, ◌↔◌, subst, ℕ, ◌+◌, List, [], Result, Ok, Err, refl, arith}
 use Rattle.fuse_wire.specs.Stream.{IsSplit}
+use Rattle.fuse_wire.proofs.Splits.{one_split}
 use Rattle.serve_loop.specs.Rounds.{Answering}
 use Rattle.serve_loop.specs.declared.stop.Stop.{Stop}
 use Rattle.serve_loop.specs.declared.stop.Stop.TheVariants.{BadLength, CutOff, Read, Write, Turns}
 use Rattle.serve_loop.specs.declared.done.Done.{Done}
-use Rattle.serve_loop.specs.Serving.{Trace, IsAllTold, IsPrompt, IsRun, read_failures, write_failures}
+use Rattle.serve_loop.specs.Serving.{Trace, IsAllTold, IsPrompt, IsRun, Begins, replies_to, flushed_bytes, before, read_failures, write_failures}
 use Rattle.serve_loop.specs.Laws.{HasAnsweredAll, HasServed, HasBadLength, IsCutOff, HasFailed, HasUsedTurns, IsFront}
 
 answered : (by : Answering) (t : Trace) (messages : List (List ℕ)) (rest : List ℕ) → IsSplit t.got messages rest → IsAllTold by t messages
@@ -73,6 +74,13 @@ module _ {A : Type 0} (by : Answering) (nodes turns : ℕ) (t : Trace) where
   -- at every end all replies to what was got before the last pull are flushed
   pub prompt : (result : Result (Done A) Stop) → IsRun by nodes turns t result → IsPrompt by t
   prompt result r = r.prompt
+
+  -- and that is all replies to the messages into which it is cut, in the one way there is
+  pub all_flushed : (result : Result (Done A) Stop) (messages : List (List ℕ)) (rest : List ℕ)
+      → IsRun by nodes turns t result → IsSplit (before t) messages rest
+      → Begins (replies_to by messages) (flushed_bytes t)
+  all_flushed result messages rest r s = subst (λ m. Begins (replies_to by m) (flushed_bytes t))
+      (one_split (before t) r.prompt.messages messages r.prompt.rest rest r.prompt.split s).0 r.prompt.told
 
 -- a count rose by one where the result says so, and nowhere else
 read_told : {A : Type 0} (r : Result (Done A) Stop) (old new : ℕ) → new ≡ old + read_failures r → (r ≡ Err Read) ↔ (new ≡ old + 1)

@@ -1,12 +1,13 @@
 //! What a served stream means, end by end: each law follows from what [`crate::run_by`] promises.
 
 ghost use Rattle.std.specs.Prelude.{◌≡◌, ◌↔◌, ◌+◌, ℕ, ℤ, List, Result, Ok, Err};
+ghost use Rattle.fuse_wire.specs.Stream.{IsSplit};
 ghost use Rattle.reply_model.specs.declared.moves.Move.{Move};
 ghost use Rattle.serve_loop.specs.Rounds.{Answering};
 ghost use Rattle.serve_loop.specs.declared.done.Done.{Done};
 ghost use Rattle.serve_loop.specs.declared.stop.Stop.{Stop};
 ghost use Rattle.serve_loop.specs.declared.stop.Stop.TheVariants.{BadLength, CutOff, Read, Write, Turns};
-ghost use Rattle.serve_loop.specs.Serving.{Trace, AreBalances, IsRun, IsPrompt};
+ghost use Rattle.serve_loop.specs.Serving.{Trace, AreBalances, IsRun, IsPrompt, Begins, replies_to, flushed_bytes, before};
 ghost use Rattle.serve_loop.specs.Laws.{HasServed, HasBadLength, IsCutOff, HasFailed, HasUsedTurns, IsFront};
 
 use std::alloc::Allocator;
@@ -39,13 +40,17 @@ pub fn faults_are_the_devices<A: Allocator>()
 {}
 
 /// At every end what was written is the beginning of the replies, and all replies to what was got
-/// before the last pull were flushed, in which no bad length stood.
+/// before the last pull were flushed, in which no bad length stood: those to its messages, into
+/// which it is cut in one way.
 #[tactic(auto, using(crate::proofs::Ends::always))]
 pub fn replies_come_in_order<A: Allocator>()
     ensures front { (by : Answering) (n turns : ℕ) (t : Trace) (r : Result (Done A) Stop) →
         IsRun by n turns t r → IsFront by t }
     ensures prompt { (by : Answering) (n turns : ℕ) (t : Trace) (r : Result (Done A) Stop) →
         IsRun by n turns t r → IsPrompt by t }
+    ensures flushed { (by : Answering) (n turns : ℕ) (t : Trace) (r : Result (Done A) Stop)
+        (messages : List (List ℕ)) (rest : List ℕ) → IsRun by n turns t r →
+        IsSplit (before t) messages rest → Begins (replies_to by messages) (flushed_bytes t) }
 {}
 
 /// Moves come to one list of balances.

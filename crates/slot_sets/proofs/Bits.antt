@@ -195,7 +195,8 @@ module _ (words : ℕ) (one other : List ℕ) where
 -- words of two sets, read at one place, are together the word of the union
 pub joined_read : (one other : List ℕ) (i a b : ℕ) → i < length one → i < length other → a ≡ get_or one i a
     → b ≡ get_or other i b → bit_or a b ≡ get_or (joined (length one) one other) i 0
-joined_read one other i a b l m e f = ap (λ x. bit_or x b) (word_read one i a l e) ∙ ap (λ x. bit_or (get_or one i 0) x) (word_read other i b m f)
+joined_read one other i a b l m e f = ap (λ x. bit_or x b) (word_read one i a l e)
+    ∙ ap (λ x. bit_or (get_or one i 0) x) (word_read other i b m f)
     ∙ sym (joined_at (length one) one other i l)
 
 -- of two sets that are as long as each other, the words of the other are over the slots of the one

@@ -1,11 +1,12 @@
 //! What the exit statuses mean, by what [`crate::command`] and [`crate::sessions_from`] promise.
 
-ghost use Rattle.std.specs.Prelude.{◌≡◌, ◌≤◌, ◌⊎◌, ℕ, List, Bool, true, false};
+ghost use Rattle.std.specs.Prelude.{◌≡◌, ◌≤◌, ◌⊎◌, ℕ, List, Bool, true, false, is_some};
 ghost use Rattle.command_line.specs.CommandLine.{IsTaken, IsMisnumbered, IsCrossed};
 ghost use Rattle.command_line.specs.declared.options.Line.{Line};
+ghost use Rattle.command_line.specs.declared.options.Verb.TheVariants as verbs;
 ghost use Rattle.devices.specs.States.{Devices};
 ghost use Rattle.serve_loop.specs.declared.stop.Stop.TheVariants.{Read, Write};
-ghost use Rattle.strata.specs.Ending.{EndsWith, first_of};
+ghost use Rattle.strata.specs.Ending.{EndsWith, IsServedWhole, IsFileFault, IsDoneOver, first_of};
 ghost use Rattle.stack_table.specs.Stacked.{Stacked};
 ghost use Rattle.reply_model.specs.declared.session.Session.{Session};
 ghost use Rattle.reply_model.specs.declared.session.Session.TheVariants.{Fresh, LastingFresh};
@@ -61,4 +62,20 @@ pub fn writes_know_by_either_side()
     ensures read { (output : Bool) → is_taken_away (Stopped Read) false output ≡ false }
     ensures ended { (output : Bool) → is_taken_away (Stopped Read) true output ≡ true }
     ensures there { is_taken_away (Stopped Write) false false ≡ false }
+{}
+
+/// A file of requests or of replies takes the place of a stream, which is left alone; a file that
+/// cannot be opened leaves both alone; and `check` and `list` leave the input alone.
+pub fn named_files_leave_the_streams<A: Allocator>()
+    ensures requests { (line : Line) (images : List (List ℕ)) (old new : Devices) →
+        IsServedWhole A line images old new → is_some line.requests ≡ true →
+        new.source ≡ old.source }
+    ensures replies { (line : Line) (images : List (List ℕ)) (old new : Devices) →
+        IsServedWhole A line images old new → is_some line.replies ≡ true → new.sink ≡ old.sink }
+    ensures faults { (line : Line) (fault : Fault) (old new : Devices) →
+        IsFileFault line fault old new → new ≡ old }
+    ensures check { (line : Line) (images : List (List ℕ)) (old new : Devices) →
+        IsDoneOver A verbs.Check line images old new → new.source ≡ old.source }
+    ensures list { (line : Line) (images : List (List ℕ)) (old new : Devices) →
+        IsDoneOver A verbs.List line images old new → new.source ≡ old.source }
 {}
