@@ -5,6 +5,7 @@
 //! piece until another has begun. [`FreePass`] holds nothing.
 #![tactic(auto)]
 
+pub mod examples;
 mod gate;
 pub mod limits;
 
