@@ -1,11 +1,11 @@
 -- Places numbered one after another. IsNumbered is the loop over visits: it begins with none, and a
 -- visit has a place with a number (was_known) or a new one (is_new). The first place of its key
--- tells which of the two it is (known_before, has_none).
+-- tells which of the two it is, and the number (taken_from_first).
 use Rattle.std.proofs.Common.{◌≡◌, ◌≢◌, ◌∙◌, sym, ap, subst, ℕ, zero, suc, ◌+◌, ◌-◌, ◌^◌, ◌<◌, ◌≤◌, ◌⊎◌, inl, inr, List, [], ◌∷◌, ◌++◌, length, take, get_or, map, refl, arith, Bool, true, false, cond, Option, Some, None, IsSome, get_or-set_other, get_or-set_same, length-set}
 use Rattle.std.specs.Prelude.{slice_get, slice_index, slice_set, fold, nat_eq, min, count_by}
 use Rattle.std.specs.List.{list_any, position_from}
 use Rattle.std.proofs.lemmas.Bool.{cases_order, eqb-true, eq-eqb, and_parts}
-use Rattle.std.proofs.lemmas.List.{get_or_append_left, get_or_push, length-map, length_push, map_push}
+use Rattle.std.proofs.lemmas.List.{get_or_append_left, get_or_default, get_or_push, length-map, length_push, map_push}
 use Rattle.std.proofs.lemmas.List.Elements.{All-push}
 use Rattle.std.proofs.lemmas.List.Recursion.{is_count_by}
 use Rattle.std.proofs.lemmas.List.Sums.{fold-append, sum_by-append}
@@ -207,7 +207,7 @@ module _ (visits : List (Visit Entry)) (i : ℕ) (visit : Visit Entry) (first : 
       (subst (λ ps. slice_get ps k ≡ Some (visit_place x)) inv.places (get_map visit_place first k x e))
 
   -- a known number counts from 1, and there is a count of paths for it
-  pub number_positive : (n : ℕ) → number_of (seen visits i) (visit_place visit) ≡ Some n → (1 ≤ n) × (n - 1 < length paths)
+  number_positive : (n : ℕ) → number_of (seen visits i) (visit_place visit) ≡ Some n → (1 ≤ n) × (n - 1 < length paths)
   number_positive zero f = absurd (let z = (number_used (seen visits i) 0 (visit_place visit)).0 f in cc)
   number_positive (suc k) f =
       let z = (number_used (seen visits i) (suc k) (visit_place visit)).0 f in
@@ -380,13 +380,23 @@ among_seen (x ∷ visits) zero e a = absurd a
 among_seen (x ∷ visits) (suc i) e (inl q) = (0, x, omega arith, refl, q)
 among_seen (x ∷ visits) (suc i) e (inr a) = let m = among_seen visits i e a in (suc m.0, m.1, (let l = m.2 in omega arith), m.3, m.4)
 
--- below the length there is a visit, which the code finds
-pub visit_at : (visits : List (Visit Entry)) (i : ℕ) → i < length visits → (s : Visit Entry) × (s ≡ get_or visits i s)
-visit_at visits i l = let x = element_below visits i l in (x.0, sym (get_or_from_slice_get visits i x.0 x.0 x.1))
+-- the place of a visit has this number, which counts from 1, and there is a count of paths for it
+pub record HasNumber (visits : List (Visit Entry)) (visit : Visit Entry) (paths : List ℕ) (i n : ℕ) : Type 0 where
+  pub is : number_of (seen visits i) (visit_place visit) ≡ Some n
+  pub positive : 1 ≤ n
+  pub counted : n - 1 < length paths
+
+-- the visit at i has a new place where the first place of its key is i; where that is another one,
+-- the number that is read there is the visit's
+pub record TakesNumber (visits : List (Visit Entry)) (paths numbers : List ℕ) (i before : ℕ) : Type 0 where
+  pub visit : Visit Entry
+  pub here : visit ≡ get_or visits i visit
+  pub new : before ≡ i → number_of (seen visits i) (visit_place visit) ≡ None
+  pub within : before ≢ i → before < length numbers
+  pub known : before ≢ i → (n : ℕ) → n ≡ get_or numbers before n → HasNumber visits visit paths i n
 
 module _ (visits : List (Visit Entry)) (keys firsts : List ℕ) (are : AreKeys visits keys) (f : AreFirsts keys firsts) where
-  -- there is a key for each visit
-  pub keys_level : length keys ≡ length visits
+  keys_level : length keys ≡ length visits
   keys_level = ap length are.are ∙ length-map visits key_of
 
   key_is : (k : ℕ) (s : Visit Entry) → slice_get visits k ≡ Some s → slice_index keys k ≡ key_of s
@@ -406,15 +416,14 @@ module _ (visits : List (Visit Entry)) (keys firsts : List ℕ) (are : AreKeys v
     told : IsFirstOf keys (slice_index keys i) (slice_index firsts i)
     told = f.each i (let level = keys_level in omega arith)
 
-    -- the first place of a visit's key is among the visits
-    pub first_within : slice_index firsts i < length visits
+    first_within : slice_index firsts i < length visits
     first_within = let w = told.within in let level = keys_level in omega arith
 
     not_after : i < slice_index firsts i → ⊥
     not_after l = told.before i l refl
 
     -- a place that some visit before has, has that visit's number
-    pub has_number : (first : List (Visit Entry)) (starts paths numbers : List ℕ) → IsNumbered visits i first starts paths numbers
+    has_number : (first : List (Visit Entry)) (starts paths numbers : List ℕ) → IsNumbered visits i first starts paths numbers
         → slice_index firsts i ≢ i → (slice_index firsts i < i)
         × (number_of (seen visits i) (visit_place visit) ≡ Some (slice_index numbers (slice_index firsts i)))
     has_number first starts paths numbers inv ne =
@@ -430,7 +439,7 @@ module _ (visits : List (Visit Entry)) (keys firsts : List ℕ) (are : AreKeys v
         ]
 
     -- a place that no visit before has, has no number
-    pub has_none : slice_index firsts i ≡ i → number_of (seen visits i) (visit_place visit) ≡ None
+    has_none : slice_index firsts i ≡ i → number_of (seen visits i) (visit_place visit) ≡ None
     has_none same = test (number_of (seen visits i) (visit_place visit)) refl
       where
         test : (o : Option ℕ) → number_of (seen visits i) (visit_place visit) ≡ o → o ≡ None
@@ -445,15 +454,31 @@ module _ (visits : List (Visit Entry)) (keys firsts : List ℕ) (are : AreKeys v
             told.before b.0 (let l = b.2 in omega arith) (key_is b.0 b.1 b.3 ∙ k
             ∙ sym (key_is i visit (slice_get_read visits _ i visit refl lt here))))
 
-    -- the number that the code reads at the first place of the key is the place's
-    pub known_before : (first : List (Visit Entry)) (starts paths numbers : List ℕ) → IsNumbered visits i first starts paths numbers
-        → (before n : ℕ) → before ≡ slice_index firsts i → n ≡ slice_index numbers before → before ≢ i
-        → number_of (seen visits i) (visit_place visit) ≡ Some n
-    known_before first starts paths numbers inv before n b m ne = (has_number first starts paths numbers inv (λ e. ne (b ∙ e))).1
-        ∙ ap Some (sym (m ∙ ap (slice_index numbers) b))
+  -- a visit, as the code reads it, takes its number from the first place of its key
+  pub taken_from_first : (i before : ℕ) (first : List (Visit Entry)) (starts paths numbers : List ℕ) → i < length visits
+      → before ≡ get_or firsts i before → IsNumbered visits i first starts paths numbers → TakesNumber visits paths numbers i before
+  taken_from_first i before first starts paths numbers lt read inv = record {
+    visit = visit.0;
+    here = visit.1;
+    new = λ same. has_none i visit.0 lt visit.1 (sym before_is ∙ same);
+    within = below;
+    known = λ other n e. has n ((numbered other).1 ∙ ap Some (ap (slice_index numbers) (sym before_is)
+        ∙ sym (get_or_default numbers before n 0 (below other)) ∙ sym e));
+  }
+    where
+      visit : (s : Visit Entry) × (s ≡ get_or visits i s)
+      visit = let x = element_below visits i lt in (x.0, sym (get_or_from_slice_get visits i x.0 x.0 x.1))
 
-    -- where the first place of the key is another one, it comes before
-    pub is_before : (first : List (Visit Entry)) (starts paths numbers : List ℕ) → IsNumbered visits i first starts paths numbers
-        → (before : ℕ) → before ≡ slice_index firsts i → before ≢ i → before < i
-    is_before first starts paths numbers inv before b ne = let l = (has_number first starts paths numbers inv (λ e. ne (b ∙ e))).0 in
-        omega arith
+      before_is : before ≡ slice_index firsts i
+      before_is = read ∙ get_or_default firsts i before 0 (let level = keys_level in let same = f.level in omega arith)
+
+      numbered : before ≢ i → (slice_index firsts i < i)
+          × (number_of (seen visits i) (visit_place visit.0) ≡ Some (slice_index numbers (slice_index firsts i)))
+      numbered other = has_number i visit.0 lt visit.1 first starts paths numbers inv (λ e. other (before_is ∙ e))
+
+      below : before ≢ i → before < length numbers
+      below other = let earlier = (numbered other).0 in let level = inv.numbers_level in omega (arith, before_is)
+
+      has : (n : ℕ) → number_of (seen visits i) (visit_place visit.0) ≡ Some n → HasNumber visits visit.0 paths i n
+      has n is = let b = number_positive visits i visit.0 first starts paths numbers lt visit.1 inv n is in
+          record { is = is; positive = b.0; counted = b.1 }

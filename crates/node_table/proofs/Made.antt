@@ -1,11 +1,12 @@
--- Nodes and rows made one by one are those of a table. Making is the loop over first branches: a
--- node that is made is the listing's (is_node, is_made for its directory), and those before it stay
--- so (stays). With all made and completed, table_made has what a table holds.
+-- Nodes and rows made one by one are those of a table. Making is the loop over first branches, each
+-- of which is read at its place among the visits (next_first): a node that is made is the listing's
+-- (is_node, is_made for its directory), and those before it stay so (stays). With all made and
+-- completed, table_made has what a table holds.
 use Rattle.std.proofs.Common.{◌≡◌, ◌∙◌, sym, ap, subst, ℕ, ◌+◌, ◌-◌, ◌^◌, ◌<◌, ◌≤◌, inl, inr, List, [], ◌∷◌, ◌++◌, length, take, drop, get_or, map, refl, arith, length-append, Bool, true, false, cond, Some}
 use Rattle.std.specs.Prelude.{slice_get, slice_index, slice_range, min, count_by}
 use Rattle.std.specs.List.{slice_index_or}
 use Rattle.std.proofs.lemmas.List.{drop-append-le, drop_at, length-drop, length-map, take-append-le, take_all, take_at}
-use Rattle.std.proofs.lemmas.Option.{slice_get_read, get_or_from_slice_get}
+use Rattle.std.proofs.lemmas.Option.{slice_get_within, slice_get_read, get_or_from_slice_get}
 use Rattle.romfs_format.specs.declared.head.Kind.{Kind}
 use Rattle.romfs_format.specs.declared.head.Kind.TheVariants.{HardLink, Directory, Regular, SymLink, Block, Character, Socket, Fifo}
 use Rattle.romfs_format.specs.Fields.{kind, exec, size, spec}
@@ -24,10 +25,10 @@ use Rattle.stack_table.specs.Rows.{Line, names}
 use Rattle.stack_table.specs.Readers.{placed}
 use Rattle.node_table.specs.Walks.{Visit}
 use Rattle.node_table.specs.Numbering.{visit_place}
-use Rattle.node_table.specs.Building.{line_in, IsReadFrom, IsMade, AddsLinked, AddsByKind, AddsNode, completed}
+use Rattle.node_table.specs.Building.{line_in, AreChildPosts, IsAbove, ArePosts, IsReadFrom, IsMade, AddsLinked, AddsByKind, AddsNode, completed}
 use Rattle.node_table.specs.Seeds.{AreSeedlings, IsSeed, AreSeeds, AreMade}
 use Rattle.path_tree.proofs.Lists.{get_of_map}
-use Rattle.node_table.proofs.Lists.{get_front, get_end, get_push, get_map}
+use Rattle.node_table.proofs.Lists.{element_below, get_front, get_end, get_push, get_map}
 use Rattle.stack_table.specs.Held.{IsHeldDirectory, HoldsDirectory, IsNode, AreNodes, IsSomeTable}
 
 -- how far the making of nodes has come
@@ -261,6 +262,45 @@ nodes_begun layers entries held folders rows keys e r k = record {
   keys_level = ap length k ∙ sym (ap length r);
   each = λ k node p f g. absurd (let h = rw e at f in cc);
 }
+
+-- the next first branch as the code reads it, at the place that is held for it: what it says agrees
+-- with the listing, and the numbers of its parent and its children stand where they are looked for
+pub record IsNextFirst (layers : List (List ℕ)) (entries : List Listed) (tell : Place → ℕ) (numbers places sizes : List ℕ)
+    (first : List (Visit Entry)) (paths : List ℕ) (i start : ℕ) (visit : Visit Entry) : Type 0 where
+  pub within : i < length first
+  pub here : visit ≡ get_or first i visit
+  pub seed : IsSeed layers entries tell (slice_index paths i) visit
+  pub above : IsAbove tell numbers places start visit
+  pub children : AreChildPosts tell numbers sizes start visit
+
+module _ (layers : List (List ℕ)) (entries : List Listed) (tell : Place → ℕ) (visits : List (Visit Entry)) (numbers places sizes : List ℕ)
+    (first : List (Visit Entry)) (starts paths : List ℕ) (seeds : AreSeeds layers entries tell first paths)
+    (posts : ArePosts tell visits numbers places sizes first starts) (i start : ℕ) (more : i < length starts)
+    (held : start ≡ slice_index starts i) where
+  within : i < length first
+  within = let level = posts.level in omega arith
+
+  branch : (visit : Visit Entry) × (slice_get first i ≡ Some visit)
+  branch = element_below first i within
+
+  there : slice_get visits start ≡ Some branch.0
+  there = subst (λ n. slice_get visits n ≡ Some branch.0) (sym held) (posts.there i branch.0 branch.1)
+
+  -- the place that is held for a first branch is among the visits
+  pub start_within : start < length visits
+  start_within = slice_get_within visits start branch.0 there
+
+  -- the visit that is read at that place is the next first branch
+  pub next_first : (visit : Visit Entry) → visit ≡ get_or visits start visit
+      → IsNextFirst layers entries tell numbers places sizes first paths i start visit
+  next_first visit read = subst (IsNextFirst layers entries tell numbers places sizes first paths i start)
+      (sym (read ∙ get_or_from_slice_get visits start branch.0 visit there)) (record {
+        within = within;
+        here = sym (get_or_from_slice_get first i branch.0 branch.0 branch.1);
+        seed = seeds.each i branch.0 branch.1;
+        above = subst (λ n. IsAbove tell numbers places n branch.0) (sym held) (posts.above i branch.0 branch.1);
+        children = subst (λ n. AreChildPosts tell numbers sizes n branch.0) (sym held) (posts.children i branch.0 branch.1);
+      })
 
 -- with the node of the next first branch one node more is made
 pub node_made : (layers : List (List ℕ)) (entries : List Listed) (tell : Place → ℕ) (first : List (Visit Entry)) (paths : List ℕ)
