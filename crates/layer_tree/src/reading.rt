@@ -38,6 +38,15 @@ pub(crate) const UNCUT: Mark = Mark {
     opaque: false,
 };
 
+/// A layer that is read, and where memory for its tree comes from.
+#[derive(Drop)]
+struct Layer<'a, A: Allocator> {
+    alloc: A,
+    image: &'a Image<A>,
+    /// Its number among the layers.
+    number: u16,
+}
+
 /// The branches of a directory's members.
 #[derive(Drop)]
 struct Branches<A: Allocator> {
@@ -70,16 +79,13 @@ impl<A: Allocator + Copy> OfLayer for Tree<A> {
     fn of(alloc: A, image: &Image<A>, layer: u16) -> Result<Tree<A>, AllocError>
         ensures { IfOk result (λ tree. IsTreeOf layer (image.now ∷ []) tree) }
     {
-        let mut ends = image.ends(alloc);
-        let (entries, marks) = directory(
+        let read = Layer {
             alloc,
             image,
-            &mut ends,
-            layer,
-            &[],
-            &image.root(),
-            MAX_NAMES,
-        )?;
+            number: layer,
+        };
+        let mut ends = image.ends(alloc);
+        let (entries, marks) = directory(&read, &mut ends, &[], &image.root(), MAX_NAMES)?;
         Ok(Tree { entries, marks })
     }
 }
@@ -90,54 +96,52 @@ impl<A: Allocator + Copy> OfLayer for Tree<A> {
 /// `AllocError` comes only where memory was refused; nothing is promised of `to` then.
 #[cycle(reading)]
 fn add_branches<A: Allocator + Copy>(
-    alloc: A,
-    image: &Image<A>,
+    layer: &Layer<'_, A>,
     ends: &mut Ends<'_, A>,
-    layer: u16,
     name: &[u8],
     head: &Head,
     left: u16,
     to: &mut Branches<A>,
 ) -> Result<(), AllocError>
-    requires sound { IsImage image.now }
-    requires ends { ends.old ≡ image.now }
-    requires given { IsGiven image.now head.now }
-    requires depth { IsAtDepth image.now head.now.offset left }
-    ensures made { OnOk result (AddsMade image.now layer head.now.offset name.now
-        to.old.entries.items to.old.marks.items to.new.entries.items to.new.marks.items) }
-    ensures ends { ends.new ≡ image.now }
+    requires sound { IsImage layer.now.image.now }
+    requires ends { ends.old ≡ layer.now.image.now }
+    requires given { IsGiven layer.now.image.now head.now }
+    requires depth { IsAtDepth layer.now.image.now head.now.offset left }
+    ensures made { OnOk result (AddsMade layer.now.image.now layer.now.number
+        head.now.offset name.now to.old.entries.items to.old.marks.items
+        to.new.entries.items to.new.marks.items) }
+    ensures ends { ends.new ≡ layer.now.image.now }
 {
     match head.kind {
         Kind::Directory => {
-            let members = sorted_members(alloc, image, head)?;
-            let below = branches_below(alloc, image, ends, layer, &members, left)?;
-            add_folder(alloc, image, layer, name, head, &members, below, to)
+            let members = sorted_members(layer.alloc, layer.image, head)?;
+            let below = branches_below(layer, ends, &members, left)?;
+            add_folder(layer, name, head, &members, below, to)
         }
-        _ => add_file(alloc, image, ends, layer, name, head, to),
+        _ => add_file(layer, ends, name, head, to),
     }
 }
 
 /// A directory and its mark.
 fn directory<A: Allocator + Copy>(
-    alloc: A,
-    image: &Image<A>,
+    layer: &Layer<'_, A>,
     ends: &mut Ends<'_, A>,
-    layer: u16,
     name: &[u8],
     head: &Head,
     left: u16,
 ) -> Result<(Child<A>, Branch<Mark, A>), AllocError>
-    requires sound { IsImage image.now }
-    requires ends { ends.old ≡ image.now }
-    requires given { IsGiven image.now head.now }
+    requires sound { IsImage layer.now.image.now }
+    requires ends { ends.old ≡ layer.now.image.now }
+    requires given { IsGiven layer.now.image.now head.now }
     requires directory { head.now.kind ≡ Kind.Directory }
-    requires depth { IsAtDepth image.now head.now.offset left }
-    ensures made { IfOk result (AreMadeOf image.now layer head.now.offset name.now) }
-    ensures ends { ends.new ≡ image.now }
+    requires depth { IsAtDepth layer.now.image.now head.now.offset left }
+    ensures made { IfOk result
+        (AreMadeOf layer.now.image.now layer.now.number head.now.offset name.now) }
+    ensures ends { ends.new ≡ layer.now.image.now }
 {
-    let members = sorted_members(alloc, image, head)?;
-    let below = branches_below(alloc, image, ends, layer, &members, left)?;
-    folder(alloc, image, layer, name, head, &members, below)
+    let members = sorted_members(layer.alloc, layer.image, head)?;
+    let below = branches_below(layer, ends, &members, left)?;
+    folder(layer, name, head, &members, below)
 }
 
 /// The mark, if it or one below it cuts anything, and none else.
@@ -157,23 +161,21 @@ fn is_blank<A: Allocator>(mark: &Branch<Mark, A>) -> bool
 /// The branches of members that are no markers, in the same order.
 #[cycle(reading)]
 fn branches_below<A: Allocator + Copy>(
-    alloc: A,
-    image: &Image<A>,
+    layer: &Layer<'_, A>,
     ends: &mut Ends<'_, A>,
-    layer: u16,
     members: &[NamedMember<'_>],
     left: u16,
 ) -> Result<Branches<A>, AllocError>
-    requires sound { IsImage image.now }
-    requires ends { ends.old ≡ image.now }
-    requires members { AreMembersAt image.now left members.now }
-    ensures built { IfOk result
-        (λ made. AreBuilt image.now layer members.now made.entries.items made.marks.items) }
-    ensures ends { ends.new ≡ image.now }
+    requires sound { IsImage layer.now.image.now }
+    requires ends { ends.old ≡ layer.now.image.now }
+    requires members { AreMembersAt layer.now.image.now left members.now }
+    ensures built { IfOk result (λ made. AreBuilt layer.now.image.now layer.now.number
+        members.now made.entries.items made.marks.items) }
+    ensures ends { ends.new ≡ layer.now.image.now }
 {
     let mut made = Branches {
-        entries: Vec::with_capacity(alloc, members.len())?,
-        marks: Vec::new(alloc),
+        entries: Vec::with_capacity(layer.alloc, members.len())?,
+        marks: Vec::new(layer.alloc),
     };
     let mut ahead = NamesAhead::new();
     for member in members {
@@ -181,16 +183,7 @@ fn branches_below<A: Allocator + Copy>(
         if is_marker(member.name) {
             continue;
         }
-        add_branches(
-            alloc,
-            image,
-            ends,
-            layer,
-            member.name,
-            &member.head,
-            left - 1,
-            &mut made,
-        )?;
+        add_branches(layer, ends, member.name, &member.head, left - 1, &mut made)?;
     }
     Ok(made)
 }
@@ -216,52 +209,51 @@ fn entry_at(layer: u16, end: &Head) -> Entry
 /// `AllocError` comes only where memory was refused; nothing is promised of `to` then.
 #[inline(never)]
 fn add_file<A: Allocator + Copy>(
-    alloc: A,
-    image: &Image<A>,
+    layer: &Layer<'_, A>,
     ends: &mut Ends<'_, A>,
-    layer: u16,
     name: &[u8],
     head: &Head,
     to: &mut Branches<A>,
 ) -> Result<(), AllocError>
-    requires sound { IsImage image.now }
-    requires ends { ends.old ≡ image.now }
-    requires given { IsGiven image.now head.now }
+    requires sound { IsImage layer.now.image.now }
+    requires ends { ends.old ≡ layer.now.image.now }
+    requires given { IsGiven layer.now.image.now head.now }
     requires other { head.now.kind ≢ Kind.Directory }
-    ensures made { OnOk result (AddsMade image.now layer head.now.offset name.now
-        to.old.entries.items to.old.marks.items to.new.entries.items to.new.marks.items) }
-    ensures ends { ends.new ≡ image.now }
+    ensures made { OnOk result (AddsMade layer.now.image.now layer.now.number
+        head.now.offset name.now to.old.entries.items to.old.marks.items
+        to.new.entries.items to.new.marks.items) }
+    ensures ends { ends.new ≡ layer.now.image.now }
 {
     let end = ends.target(head)?;
-    let entry = entry_at(layer, &end);
-    let own_name = Name::of(alloc, name)?;
-    to.entries.push(leaf(alloc, own_name, entry))?;
+    let entry = entry_at(layer.number, &end);
+    let own_name = Name::of(layer.alloc, name)?;
+    to.entries.push(leaf(layer.alloc, own_name, entry))?;
     Ok(())
 }
 
 /// A directory, and its mark, over the branches of its members.
 fn folder<A: Allocator + Copy>(
-    alloc: A,
-    image: &Image<A>,
-    layer: u16,
+    layer: &Layer<'_, A>,
     name: &[u8],
     head: &Head,
     members: &[NamedMember<'_>],
     below: Branches<A>,
 ) -> Result<(Child<A>, Branch<Mark, A>), AllocError>
-    requires sound { IsImage image.now }
-    requires given { IsGiven image.now head.now }
+    requires sound { IsImage layer.now.image.now }
+    requires given { IsGiven layer.now.image.now head.now }
     requires directory { head.now.kind ≡ Kind.Directory }
-    requires members { AreByName image.now head.now.offset members.now }
-    requires below { AreBuilt image.now layer members.now below.entries.items below.marks.items }
-    ensures { IfOk result (AreMadeOf image.now layer head.now.offset name.now) }
+    requires members { AreByName layer.now.image.now head.now.offset members.now }
+    requires below { AreBuilt layer.now.image.now layer.now.number
+        members.now below.entries.items below.marks.items }
+    ensures { IfOk result
+        (AreMadeOf layer.now.image.now layer.now.number head.now.offset name.now) }
 {
-    let entry = entry_at(layer, head);
-    let entry_name = Name::of(alloc, name)?;
-    let mark_name = Name::of(alloc, name)?;
-    let whiteouts = whiteouts_of(alloc, members)?;
+    let entry = entry_at(layer.number, head);
+    let entry_name = Name::of(layer.alloc, name)?;
+    let mark_name = Name::of(layer.alloc, name)?;
+    let whiteouts = whiteouts_of(layer.alloc, members)?;
     let opaque = has_opaque(&whiteouts);
-    let marks = merge(alloc, below.marks, whiteouts)?;
+    let marks = merge(layer.alloc, below.marks, whiteouts)?;
     let entries = Branch::new(entry_name, entry, below.entries);
     let marks = Branch::new(mark_name, Mark { cut: false, opaque }, marks);
     Ok((entries, marks))
@@ -272,24 +264,24 @@ fn folder<A: Allocator + Copy>(
 /// `AllocError` comes only where memory was refused; nothing is promised of `to` then.
 #[inline(never)]
 fn add_folder<A: Allocator + Copy>(
-    alloc: A,
-    image: &Image<A>,
-    layer: u16,
+    layer: &Layer<'_, A>,
     name: &[u8],
     head: &Head,
     members: &[NamedMember<'_>],
     below: Branches<A>,
     to: &mut Branches<A>,
 ) -> Result<(), AllocError>
-    requires sound { IsImage image.now }
-    requires given { IsGiven image.now head.now }
+    requires sound { IsImage layer.now.image.now }
+    requires given { IsGiven layer.now.image.now head.now }
     requires directory { head.now.kind ≡ Kind.Directory }
-    requires members { AreByName image.now head.now.offset members.now }
-    requires below { AreBuilt image.now layer members.now below.entries.items below.marks.items }
-    ensures { OnOk result (AddsMade image.now layer head.now.offset name.now
-        to.old.entries.items to.old.marks.items to.new.entries.items to.new.marks.items) }
+    requires members { AreByName layer.now.image.now head.now.offset members.now }
+    requires below { AreBuilt layer.now.image.now layer.now.number
+        members.now below.entries.items below.marks.items }
+    ensures { OnOk result (AddsMade layer.now.image.now layer.now.number
+        head.now.offset name.now to.old.entries.items to.old.marks.items
+        to.new.entries.items to.new.marks.items) }
 {
-    let (entry, mark) = folder(alloc, image, layer, name, head, members, below)?;
+    let (entry, mark) = folder(layer, name, head, members, below)?;
     to.entries.push(entry)?;
     if let Some(mark) = needed(mark) {
         to.marks.push(mark)?;

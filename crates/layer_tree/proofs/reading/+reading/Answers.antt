@@ -6,16 +6,16 @@ use Rattle.layer_tree.proofs.reading.+reading.Goals as goal
 pub branches_below-overflow_sub-left : goal.branches_below-overflow_sub-left
 branches_below-overflow_sub-left g t c =
     let lt : c.loop-member.member-index < length c.args.members.now = omega arith in
-    some_left c.args.image.now c.requires.sound c.args.left c.args.members.now c.requires.members c.loop-member.member-index lt
+    some_left c.args.layer.now.image.now c.requires.sound c.args.left c.args.members.now c.requires.members c.loop-member.member-index lt
 
 pub branches_below-add_branches-requires : goal.branches_below-add_branches-requires
 branches_below-add_branches-requires g t c κs within =
-    let lt : c.loop-member.member-index < length c.args.members.now = omega arith in
-    let here = member_here c.args.image.now c.requires.sound c.args.left c.args.members.now c.requires.members c.loop-member.member-index
-    lt in
-    let some = some_left c.args.image.now c.requires.sound c.args.left c.args.members.now c.requires.members c.loop-member.member-index
-    lt in
-    let less = one_less c.args.image.now c.requires.sound c.args.left c.args.members.now c.requires.members c.loop-member.member-index lt in
+    let image = c.args.layer.now.image.now in
+    let at = c.loop-member.member-index in
+    let lt : at < length c.args.members.now = omega arith in
+    let here = member_here image c.requires.sound c.args.left c.args.members.now c.requires.members at lt in
+    let some = some_left image c.requires.sound c.args.left c.args.members.now c.requires.members at lt in
+    let less = one_less image c.requires.sound c.args.left c.args.members.now c.requires.members at lt in
     let given = here.given in
     let sound = c.requires.sound in
     let same = c.loop-member.invariant.1 in
@@ -29,7 +29,7 @@ branches_below-loop-member-smaller g t c =
 pub branches_below-loop-member-preserved-then-is_marker : goal.branches_below-loop-member-preserved-then-is_marker
 branches_below-loop-member-preserved-then-is_marker g t c =
     let lt : c.loop-member.member-index < length c.args.members.now = omega arith in (
-      build_hidden c.args.image.now c.args.layer c.args.members.now c.loop-member.member-index
+      build_hidden c.args.layer.now.image.now c.args.layer.now.number c.args.members.now c.loop-member.member-index
           c.loop-member.made.entries.items c.loop-member.made.marks.items lt c.loop-member.invariant.0
           (sym c.if-is_marker.ensures),
       c.loop-member.invariant.1,
@@ -41,7 +41,7 @@ branches_below-loop-member-preserved g t c =
     let no_marker : ¬ IsMarker (at_index c.args.members.now c.loop-member.member-index).name.now =
     λ h. (let f = c.if-is_marker.ensures in cc) in
     let adds = c.in_ok-add_branches.ensures.made in (
-      build_made c.args.image.now c.args.layer c.args.members.now c.loop-member.member-index
+      build_made c.args.layer.now.image.now c.args.layer.now.number c.args.members.now c.loop-member.member-index
           c.loop-member.made.entries.items c.loop-member.made.marks.items lt c.loop-member.invariant.0
           adds.made.0 adds.made.1 _ _ no_marker adds.is adds.entries adds.marks,
       c.add_branches.ensures.ends,
@@ -51,7 +51,7 @@ pub branches_below-returns : goal.branches_below-returns
 branches_below-returns g t c =
     let le : length c.args.members.now ≤ c.loop-member.member-index = omega arith in
     record {
-      built = building_ended c.args.image.now c.args.layer c.args.members.now c.loop-member.member-index
+      built = building_ended c.args.layer.now.image.now c.args.layer.now.number c.args.members.now c.loop-member.member-index
           c.loop-member.made.entries.items c.loop-member.made.marks.items le c.loop-member.invariant.0;
       ends = c.loop-member.invariant.1;
     }

@@ -12,5 +12,5 @@ decreases-branches_below g l = 2 * l.left
 
 -- the members so far have branches, and the ends are still the image's
 abbrev pub invariant-branches_below-loop-member : goal.invariant-branches_below-loop-member
-invariant-branches_below-loop-member g l = Building l.image l.layer l.members (drop l.member-index l.members) l.made.entries.items
-    l.made.marks.items × (l.ends ≡ l.image)
+invariant-branches_below-loop-member g l = Building l.layer.image.now l.layer.number l.members (drop l.member-index l.members)
+    l.made.entries.items l.made.marks.items × (l.ends ≡ l.layer.image.now)

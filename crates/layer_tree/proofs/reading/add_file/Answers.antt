@@ -9,10 +9,10 @@ use Rattle.layer_tree.proofs.reading.add_file.Goals as goal
 
 pub returns : goal.returns
 returns g c =
-    let a = c.args.image.now in
+    let a = c.args.layer.now.image.now in
     let e : c.in_ok-own_name.own_name ≡ c.args.name.now = c.in_ok-own_name.ensures in
     let other : kind a c.args.head.now.offset ≢ Directory = λ k. c.requires.other (ap (λ (x : Head). x.kind) c.requires.given.is ∙ k) in
-    let entry = entered a c.args.layer c.args.head.now.offset c.in_ok-end.end
+    let entry = entered a c.args.layer.now.number c.args.head.now.offset c.in_ok-end.end
     c.entry_at-entry.result (search rules) (search rules) c.entry_at-entry.ensures.layer
     c.entry_at-entry.ensures.header c.entry_at-entry.ensures.kind in
     let file : c.entry_at-entry.result.kind ≢ Directory = λ k. no_directory a c.requires.sound c.args.head.now.offset
@@ -21,7 +21,7 @@ returns g c =
       made = record {
         made = (c.leaf.result, None);
         is = rw (c.leaf.ensures, e)
-            (single a c.requires.sound c.args.layer c.args.head.now.offset c.args.name.now
+            (single a c.requires.sound c.args.layer.now.number c.args.head.now.offset c.args.name.now
             c.entry_at-entry.result other file entry);
         entries = c.in_ok-push.ensures.items;
         marks = sym (append-nil c.args.to.now.marks.items);

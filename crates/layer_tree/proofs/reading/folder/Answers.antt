@@ -16,32 +16,32 @@ has_opaque-opaque-requires g c = rw c.deref.ensures.value (white_forest c.in_ok-
 
 pub merge-requires : goal.merge-requires
 merge-requires g c = record {
-  low = (forests c.args.image.now c.args.layer c.requires.below c.requires.members.rising).1;
+  low = (forests c.args.layer.now.image.now c.args.layer.now.number c.requires.below c.requires.members.rising).1;
   high = white_forest c.in_ok-whiteouts.ensures c.requires.members.rising;
 }
 
 pub new-entries-requires : goal.new-entries-requires
-new-entries-requires g c = (forests c.args.image.now c.args.layer c.requires.below c.requires.members.rising).0
+new-entries-requires g c = (forests c.args.layer.now.image.now c.args.layer.now.number c.requires.below c.requires.members.rising).0
 
 pub returns : goal.returns
 returns g c =
-    let a = c.args.image.now in
+    let a = c.args.layer.now.image.now in
     let h = c.args.head.now.offset in
     let e : c.in_ok-entry_name.entry_name ≡ c.args.name.now = c.in_ok-entry_name.ensures in
     let f : c.in_ok-mark_name.mark_name ≡ c.args.name.now = c.in_ok-mark_name.ensures in
     let directory : kind a h ≡ Directory = sym (ap (λ (x : Head). x.kind) c.requires.given.is) ∙ c.requires.directory in
-    let held = opaque_is_held a c.requires.sound c.args.layer h c.args.members.now c.args.below.entries.items
+    let held = opaque_is_held a c.requires.sound c.args.layer.now.number h c.args.members.now c.args.below.entries.items
     c.args.below.marks.items c.in_ok-whiteouts.whiteouts.items c.in_ok-marks.marks.items
     c.requires.members c.requires.below c.in_ok-whiteouts.ensures c.in_ok-marks.ensures in
     let is : c.has_opaque-opaque.result ≡ is_some (named rest_of_opaque
     c.in_ok-whiteouts.whiteouts.items) = c.has_opaque-opaque.ensures
     ∙ ap (λ ks. is_some (named rest_of_opaque ks)) c.deref.ensures.value in
     let whole : (c.has_opaque-opaque.result ≡ true) ↔ HasNamed a h opaque = subst (λ b. (b ≡ true) ↔ HasNamed a h opaque) (sym is) held in
-    let entry = entered a c.args.layer h c.args.head.now c.entry_at-entry.result c.requires.given
+    let entry = entered a c.args.layer.now.number h c.args.head.now c.entry_at-entry.result c.requires.given
     (directory_stays a h directory) c.entry_at-entry.ensures.layer c.entry_at-entry.ensures.header
     c.entry_at-entry.ensures.kind in
     rw (c.new-entries.ensures, c.new-marks.ensures, e, f)
-    (folder a c.requires.sound c.args.layer h c.args.members.now c.args.below.entries.items
+    (folder a c.requires.sound c.args.layer.now.number h c.args.members.now c.args.below.entries.items
     c.args.below.marks.items c.in_ok-whiteouts.whiteouts.items c.in_ok-marks.marks.items
     c.requires.members c.requires.below c.in_ok-whiteouts.ensures c.in_ok-marks.ensures
     c.has_opaque-opaque.result whole directory c.entry_at-entry.result entry c.args.name.now)
