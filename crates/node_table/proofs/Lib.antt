@@ -9,4 +9,5 @@ pub mod Sizes
 pub mod Shown
 pub mod Planted
 pub mod Completed
+pub mod Folders
 pub mod Made

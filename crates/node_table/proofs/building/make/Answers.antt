@@ -1,7 +1,6 @@
-use Rattle.std.proofs.Common.{◌≡◌, ◌<◌, ◌∙◌, length, ap, arith}
+use Rattle.std.proofs.Common.{◌≡◌, ◌∙◌, length, ap, arith}
 use Rattle.std.specs.Prelude.{slice_index}
 use Rattle.std.proofs.lemmas.List.{get_or_default}
-use Rattle.node_table.specs.Numbering.{number_among}
 use Rattle.node_table.proofs.Made.{nodes_begun, start_within, next_first, node_made, nodes_ended}
 use Rattle.node_table.proofs.building.make.Goals as goal
 
@@ -11,7 +10,7 @@ loop-at-init g c = (
   c.requires.1.0,
   c.requires.1.1,
   c.requires.2,
-  nodes_begun _ _ _ _ _ _ c.in_ok-nodes.ensures.items c.in_ok-with_capacity.ensures.items c.in_ok-with_capacity-2.ensures.items,
+  nodes_begun _ _ _ _ c.in_ok-nodes.ensures.items c.in_ok-with_capacity.ensures.items c.in_ok-with_capacity-2.ensures.items,
 )
 
 pub index-visit-requires : goal.index-visit-requires
@@ -52,25 +51,19 @@ loop-at-preserved g c =
     let starts = c.deref-start-items.ensures.value in
     let held = ap (λ xs. slice_index xs c.loop-at.at) starts in
     let next = next_first _ _ _ _ _ _ _ _ _ _ inv.2 inv.3 c.loop-at.at _ (omega (arith, ap length starts)) held _ c.index-visit.ensures in
-    let within : c.loop-at.at < length c.args.numbered.now.paths.items = omega (arith, inv.2.level, next.within) in
     let paths : c.index-paths.result.now ≡ slice_index c.args.numbered.now.paths.items c.loop-at.at = c.index-paths.ensures
-    ∙ get_or_default c.args.numbered.now.paths.items c.loop-at.at c.index-paths.result.now 0 within in
+    ∙ get_or_default c.args.numbered.now.paths.items c.loop-at.at c.index-paths.result.now 0 next.within in
     let adds = rw paths at c.in_ok-node.ensures in (
       inv.0,
       inv.1,
       inv.2,
       inv.3,
-      node_made c.args.images.now inv.1 (number_among c.args.walk.now.visits.items) inv.0 c.args.numbered.now.paths.items
-          inv.2 c.loop-at.nodes.items c.push.new.self.items c.loop-at.directories.all.items c.add_node.new.into.all.items
-          c.loop-at.directories.rows.items c.add_node.new.into.rows.items c.loop-at.directories.keys.items
-          c.add_node.new.into.keys.items c.loop-at.at c.index-visit.result.now next.within next.here inv.4
-          c.in_ok-node.node adds c.in_ok-push.ensures.items,
+      node_made _ _ _ _ c.index-visit.result.now _ _ c.in_ok-node.node _ _ c.loop-at.at
+          (record { seed = next.seed; level = inv.4.keys_level; adds = adds }) next.placed inv.4 c.in_ok-push.ensures.items,
     )
 
 pub returns : goal.returns
 returns g c =
     let inv = c.loop-at.invariant in
     let e : c.loop-at.at ≡ length inv.0 = omega (arith, ap length c.deref-start-items.ensures.value, inv.3.level) in
-    nodes_ended c.args.images.now inv.1 (number_among c.args.walk.now.visits.items) inv.0 c.args.numbered.now.paths.items inv.2
-    c.loop-at.nodes.items c.loop-at.directories.all.items c.loop-at.directories.rows.items c.loop-at.directories.keys.items
-    c.loop-at.at e inv.4
+    nodes_ended _ _ _ _ _ inv.2 _ _ c.loop-at.at e inv.4

@@ -14,4 +14,5 @@ invariant-loop-at g l = (first : List (Visit Entry)) × (entries : List Listed)
     × AreSeeds l.images entries (number_among l.walk.visits.items) first l.numbered.paths.items
     × ArePosts (number_among l.walk.visits.items) l.walk.visits.items l.numbered.numbers.items l.walk.above.items l.walk.sizes.items first
     l.numbered.starts.items
-    × Making l.images entries l.nodes.items l.directories.all.items l.directories.rows.items l.directories.keys.items l.at
+    × Making l.images entries l.nodes.items
+    (record { all = l.directories.all.items; rows = l.directories.rows.items; keys = l.directories.keys.items }) l.at
