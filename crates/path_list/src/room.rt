@@ -8,7 +8,7 @@ ghost use Rattle.path_list.specs.Walks.{Puts};
 use devices::{Failed, Sink, hand_on};
 use std::alloc::Allocator;
 
-// Appends bytes for which there is room.
+// Appends bytes for which there is room, so that no growth can fail.
 fn append<A: Allocator>(room: &mut Vec<u8, A>, bytes: &[u8])
     requires { vec_len room.old + length bytes.now ≤ vec_capacity room.old }
     ensures { room.new.items ≡ room.old.items ++ bytes.now }
@@ -18,7 +18,7 @@ fn append<A: Allocator>(room: &mut Vec<u8, A>, bytes: &[u8])
     };
 }
 
-// Appends a byte for which there is room.
+// The same of one byte.
 fn append_byte<A: Allocator>(room: &mut Vec<u8, A>, byte: u8)
     requires { vec_len room.old < vec_capacity room.old }
     ensures { room.new.items ≡ room.old.items ++ byte ∷ [] }

@@ -98,7 +98,8 @@ fn put_below<K: Sink, A: Allocator, B: Allocator>(
     Ok(())
 }
 
-// Looks at each image, for what it says of itself.
+// Tells that each image keeps all rules, and does nothing else: what a call on an image promises
+// says so of that image.
 fn are_images<A: Allocator>(images: &[Image<A>])
     ensures { AreImages images.now }
 {
@@ -121,6 +122,7 @@ fn put_all<K: Sink, A: Allocator, B: Allocator>(
     if table.len() == 0 {
         return Ok(());
     }
+    // 1 is the root's number
     put_line(sink, room, table, 1, None)?;
     put_below(sink, room, table, 1, None)
 }
