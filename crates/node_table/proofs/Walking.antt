@@ -11,6 +11,12 @@ use Rattle.node_table.specs.Walks.{Visit, IsLocated, visit_size, StandsAt, AreAb
 use Rattle.node_table.proofs.Lists.{get_front, get_end, get_append, take_one_more}
 use Rattle.node_table.proofs.Paths.{spread_append, child_located}
 
+-- visits, where the branch above each one stands, and their sizes
+pub record Visited (T : Type 0) : Type 0 where
+  pub visits : List (Visit T)
+  pub above : List ℕ
+  pub sizes : List ℕ
+
 module _ {T : Type 0} where
   -- a list is what stands before a child, the child, and what stands after it
   pub parted : (cs : List (Subtree T)) (i : ℕ) (c : Subtree T) → i < length cs → c ≡ get_or cs i c → cs ≡ take i cs ++ c ∷ drop (suc i) cs
@@ -59,38 +65,36 @@ module _ {T : Type 0} where
 
   -- how far a walk has come: the branch, whose size is still to be written, and the children below
   -- the place i with all below them
-  pub record Walking (branch : Subtree T) (above : T) (cs : List (Subtree T)) (old out : List (Visit T))
-      (places places' sizes sizes' : List ℕ)
-      (i : ℕ) : Type 0 where
+  pub record Walking (branch : Subtree T) (above : T) (cs : List (Subtree T)) (old now : Visited T) (i : ℕ) : Type 0 where
     pub first : Bor (Subtree T)
     pub first_is : first.now ≡ branch
     pub rest : List (Visit T)
-    pub is : out ≡ old ++ (first, above) ∷ rest
+    pub is : now.visits ≡ old.visits ++ (first, above) ∷ rest
     pub level : length rest ≡ length (spread (take i cs))
     pub each : (rows : Rows T) (j : ℕ) → IsLocated rows j branch above → (k : ℕ) (visit : Visit T) → slice_get ((first, above) ∷ rest) k
         ≡ Some visit → IsLocated rows (j + k) visit.0.now visit.1
     pub more : List ℕ
-    pub places_are : places' ≡ places ++ more
-    pub stand : AreAbove out ((first, above) ∷ rest) more
-    pub sizes_are : sizes' ≡ sizes ++ 0 ∷ map visit_size rest
-    pub sizes_level : length sizes ≡ length old
+    pub places_are : now.above ≡ old.above ++ more
+    pub stand : AreAbove now.visits ((first, above) ∷ rest) more
+    pub sizes_are : now.sizes ≡ old.sizes ++ 0 ∷ map visit_size rest
+    pub sizes_level : length old.sizes ≡ length old.visits
 
   -- with the branch put down, and a size of 0 for it, no child is walked over
-  pub walk_begun : (branch : Bor (Subtree T)) (above : T) (place : ℕ) (cs : List (Subtree T)) (old out : List (Visit T))
-      (places places' sizes sizes' : List ℕ) → StandsAt old place above ⊎ ((place ≡ length old) × (branch.now.value ≡ above))
-      → length sizes ≡ length old → out ≡ old ++ (branch, above) ∷ [] → places' ≡ places ++ place ∷ [] → sizes' ≡ sizes ++ 0 ∷ []
-      → Walking branch.now above cs old out places places' sizes sizes' 0
-  walk_begun branch above place cs old out places places' sizes sizes' up level e p s = record {
+  pub walk_begun : (branch : Bor (Subtree T)) (above : T) (place : ℕ) (cs : List (Subtree T)) (old now : Visited T)
+      → StandsAt old.visits place above ⊎ ((place ≡ length old.visits) × (branch.now.value ≡ above)) → length old.sizes ≡ length old.visits
+      → now.visits ≡ old.visits ++ (branch, above) ∷ [] → now.above ≡ old.above ++ place ∷ [] → now.sizes ≡ old.sizes ++ 0 ∷ []
+      → Walking branch.now above cs old now 0
+  walk_begun branch above place cs old now up level visits_are places_are sizes_are = record {
     first = branch;
     first_is = refl;
     rest = [];
-    is = e;
+    is = visits_are;
     level = omega arith;
     each = λ rows j l k visit f. first rows j l k visit f;
     more = place ∷ [];
-    places_are = p;
+    places_are = places_are;
     stand = record { level = refl; each = λ k visit f. one k visit f };
-    sizes_are = s;
+    sizes_are = sizes_are;
     sizes_level = level;
   }
     where
@@ -101,66 +105,67 @@ module _ {T : Type 0} where
           subst (λ (x : Visit T). IsLocated rows (j + 0) x.0.now x.1) s (subst (λ n. IsLocated rows n branch.now above) (omega arith) l)
       first rows j l (suc k) visit f = absurd (cc)
 
-      here : StandsAt old place above ⊎ ((place ≡ length old) × (branch.now.value ≡ above))
-          → StandsAt (old ++ (branch, above) ∷ []) place above
-      here (inl s) = stands_more old ((branch, above) ∷ []) place above s
+      here : StandsAt old.visits place above ⊎ ((place ≡ length old.visits) × (branch.now.value ≡ above))
+          → StandsAt (old.visits ++ (branch, above) ∷ []) place above
+      here (inl s) = stands_more old.visits ((branch, above) ∷ []) place above s
       here (inr (a, b)) = record {
         visit = (branch, above);
-        is = ap (slice_get (old ++ (branch, above) ∷ [])) a
-            ∙ get_end old [] (branch, above);
+        is = ap (slice_get (old.visits ++ (branch, above) ∷ [])) a
+            ∙ get_end old.visits [] (branch, above);
         value_is = b;
       }
 
-      one : (k : ℕ) (visit : Visit T) → slice_get ((branch, above) ∷ []) k ≡ Some visit → StandsAt out (slice_index (place ∷ []) k) visit.1
+      one : (k : ℕ) (visit : Visit T) → slice_get ((branch, above) ∷ []) k ≡ Some visit
+          → StandsAt now.visits (slice_index (place ∷ []) k) visit.1
       one zero visit f =
           let s : (branch, above) ≡ visit = cc in
-          subst (λ (x : Visit T). StandsAt out place x.1) s (subst (λ (x : List (Visit T)). StandsAt x place above) (sym e) (here up))
+          subst (λ (x : Visit T). StandsAt now.visits place x.1) s
+          (subst (λ (x : List (Visit T)). StandsAt x place above) (sym visits_are) (here up))
       one (suc k) visit f = absurd (cc)
 
   -- the branch stands where it was put
-  pub stands : (branch : Subtree T) (above : T) (cs : List (Subtree T)) (old out : List (Visit T)) (places places' sizes sizes' : List ℕ)
-      (i : ℕ)
-      (value : T) → value ≡ branch.value → Walking branch above cs old out places places' sizes sizes' i → StandsAt out (length old) value
-  stands branch above cs old out places places' sizes sizes' i value e w = record {
+  pub stands : (branch : Subtree T) (above : T) (cs : List (Subtree T)) (old now : Visited T) (i : ℕ) (value : T) → value ≡ branch.value
+      → Walking branch above cs old now i → StandsAt now.visits (length old.visits) value
+  stands branch above cs old now i value same w = record {
     visit = (w.first, above);
-    is = ap (λ (x : List (Visit T)). slice_get x (length old)) w.is ∙ get_end old w.rest (w.first, above);
-    value_is = ap (λ (s : Subtree T). s.value) w.first_is ∙ sym e;
+    is = ap (λ (x : List (Visit T)). slice_get x (length old.visits)) w.is ∙ get_end old.visits w.rest (w.first, above);
+    value_is = ap (λ (s : Subtree T). s.value) w.first_is ∙ sym same;
   }
 
   -- there is a size for each visit
-  pub levels : (branch : Subtree T) (above : T) (cs : List (Subtree T)) (old out : List (Visit T)) (places places' sizes sizes' : List ℕ)
-      (i : ℕ)
-      → Walking branch above cs old out places places' sizes sizes' i → length sizes' ≡ length out
-  levels branch above cs old out places places' sizes sizes' i w =
+  pub levels : (branch : Subtree T) (above : T) (cs : List (Subtree T)) (old now : Visited T) (i : ℕ) → Walking branch above cs old now i
+      → length now.sizes ≡ length now.visits
+  levels branch above cs old now i w =
       let a = ap length w.sizes_are in
       let b = ap length w.is in
       let level = w.sizes_level in
       let n = length-map w.rest visit_size in
-      omega (arith, length-append sizes (0 ∷ map visit_size w.rest), length-append old ((w.first, above) ∷ w.rest))
+      omega (arith, length-append old.sizes (0 ∷ map visit_size w.rest), length-append old.visits ((w.first, above) ∷ w.rest))
 
   -- a walk over the next child is one child more
-  pub child_walked : (branch : Subtree T) (above : T) (cs : List (Subtree T)) (old out out' : List (Visit T))
-      (places p p' sizes s s' : List ℕ) (i : ℕ) (c : Subtree T) → branch.below ≡ spread cs → IsForest cs → i < length cs → c ≡ get_or cs i c
-      → Walking branch above cs old out places p sizes s i → AddsWalk c branch.value out out' p p' s s'
-      → Walking branch above cs old out' places p' sizes s' (i + 1)
-  child_walked branch above cs old out out' places p p' sizes s s' i c below forest lt at w a = record {
+  pub child_walked : (branch : Subtree T) (above : T) (cs : List (Subtree T)) (old now later : Visited T) (i : ℕ) (c : Subtree T)
+      → branch.below ≡ spread cs → IsForest cs → i < length cs → c ≡ get_or cs i c → Walking branch above cs old now i
+      → AddsWalk c branch.value now.visits later.visits now.above later.above now.sizes later.sizes
+      → Walking branch above cs old later (i + 1)
+  child_walked branch above cs old now later i c below forest lt at w adds = record {
     first = w.first;
     first_is = w.first_is;
-    rest = w.rest ++ a.visits;
-    is = a.is ∙ ap (λ x. x ++ a.visits) w.is ∙ append_assoc old ((w.first, above) ∷ w.rest) a.visits;
+    rest = w.rest ++ adds.visits;
+    is = adds.is ∙ ap (λ x. x ++ adds.visits) w.is ∙ append_assoc old.visits ((w.first, above) ∷ w.rest) adds.visits;
     level = longer_now;
-    each = λ rows j l k visit f. elim (get_append ((w.first, above) ∷ w.rest) a.visits k visit f) [
+    each = λ rows j l k visit f. elim (get_append ((w.first, above) ∷ w.rest) adds.visits k visit f) [
       | inl g ↦ w.each rows j l k visit g
       | inr (m, e, g) ↦ subst (λ n. IsLocated rows n visit.0.now visit.1) (omega (arith, w.level))
-          (a.walked.each rows (j + suc (length (spread (take i cs)))) (child rows j l) m visit g)
+          (adds.walked.each rows (j + suc (length (spread (take i cs)))) (child rows j l) m visit g)
     ];
-    more = w.more ++ a.more;
-    places_are = a.places_are ∙ ap (λ x. x ++ a.more) w.places_are ∙ append_assoc places w.more a.more;
-    stand = above_joined out' ((w.first, above) ∷ w.rest) a.visits w.more a.more
-        (subst (λ (x : List (Visit T)). AreAbove x ((w.first, above) ∷ w.rest) w.more) (sym a.is)
-        (above_more out a.visits ((w.first, above) ∷ w.rest) w.more w.stand)) a.stand;
-    sizes_are = a.sizes_are ∙ ap (λ x. x ++ map visit_size a.visits) w.sizes_are ∙ append_assoc sizes (0 ∷ map visit_size w.rest)
-        (map visit_size a.visits) ∙ ap (λ x. sizes ++ 0 ∷ x) (sym (map-append visit_size w.rest a.visits));
+    more = w.more ++ adds.more;
+    places_are = adds.places_are ∙ ap (λ x. x ++ adds.more) w.places_are ∙ append_assoc old.above w.more adds.more;
+    stand = above_joined later.visits ((w.first, above) ∷ w.rest) adds.visits w.more adds.more
+        (subst (λ (x : List (Visit T)). AreAbove x ((w.first, above) ∷ w.rest) w.more) (sym adds.is)
+        (above_more now.visits adds.visits ((w.first, above) ∷ w.rest) w.more w.stand)) adds.stand;
+    sizes_are = adds.sizes_are ∙ ap (λ x. x ++ map visit_size adds.visits) w.sizes_are
+        ∙ append_assoc old.sizes (0 ∷ map visit_size w.rest) (map visit_size adds.visits)
+        ∙ ap (λ x. old.sizes ++ 0 ∷ x) (sym (map-append visit_size w.rest adds.visits));
     sizes_level = w.sizes_level;
   }
     where
@@ -172,11 +177,11 @@ module _ {T : Type 0} where
       child rows j l = child_located rows j branch above l (take i cs) c (drop (suc i) cs) (below ∙ ap spread split)
           (subst NamesRise split forest.names)
 
-      longer_now : length (w.rest ++ a.visits) ≡ length (spread (take (i + 1) cs))
+      longer_now : length (w.rest ++ adds.visits) ≡ length (spread (take (i + 1) cs))
       longer_now =
           let wl = w.level in
-          let al = a.walked.level in
-          let n = length-append w.rest a.visits in
+          let al = adds.walked.level in
+          let n = length-append w.rest adds.visits in
           let t = ap (λ x. length (spread x)) (take_one_more cs i c lt at) in
           let u = ap length (spread_append (take i cs) (c ∷ [])) in
           let v = length-append (spread (take i cs)) (spread (c ∷ [])) in
@@ -185,10 +190,11 @@ module _ {T : Type 0} where
           omega arith
 
   -- past the last child, and with its size written, all of the branch is walked over
-  pub walk_ended : (branch : Subtree T) (above : T) (cs : List (Subtree T)) (old out : List (Visit T)) (places places' sizes s s' : List ℕ)
-      (i at size : ℕ) → branch.below ≡ spread cs → length cs ≤ i → at ≡ length old → size ≡ length out - at → s' ≡ slice_set s at size
-      → Walking branch above cs old out places places' sizes s i → AddsWalk branch above old out places places' sizes s'
-  walk_ended branch above cs old out places places' sizes s s' i at size below le at_is size_is set w = record {
+  pub walk_ended : (branch : Subtree T) (above : T) (cs : List (Subtree T)) (old now : Visited T) (sizes : List ℕ) (i at size : ℕ)
+      → branch.below ≡ spread cs → length cs ≤ i → at ≡ length old.visits → size ≡ length now.visits - at
+      → sizes ≡ slice_set now.sizes at size → Walking branch above cs old now i
+      → AddsWalk branch above old.visits now.visits old.above now.above old.sizes sizes
+  walk_ended branch above cs old now sizes i at size below le at_is size_is set w = record {
     visits = (w.first, above) ∷ w.rest;
     is = w.is;
     walked = record { level = level; each = w.each };
@@ -196,9 +202,10 @@ module _ {T : Type 0} where
     places_are = w.places_are;
     stand = w.stand;
     sizes_are =
-        set ∙ ap (λ x. slice_set x at size) w.sizes_are ∙ ap (λ n. slice_set (sizes ++ 0 ∷ map visit_size w.rest) n size) (at_is
-        ∙ sym w.sizes_level)
-        ∙ set_at sizes 0 (map visit_size w.rest) size (length sizes) refl ∙ ap (λ n. sizes ++ n ∷ map visit_size w.rest) mine;
+        set ∙ ap (λ x. slice_set x at size) w.sizes_are
+        ∙ ap (λ n. slice_set (old.sizes ++ 0 ∷ map visit_size w.rest) n size) (at_is ∙ sym w.sizes_level)
+        ∙ set_at old.sizes 0 (map visit_size w.rest) size (length old.sizes) refl
+        ∙ ap (λ n. old.sizes ++ n ∷ map visit_size w.rest) mine;
   }
     where
       rest_level : length w.rest ≡ length branch.below
@@ -212,4 +219,4 @@ module _ {T : Type 0} where
           let b = ap length w.is in
           let n = ap (λ (x : Subtree T). length x.below) w.first_is in
           let r = rest_level in
-          omega (arith, size_is, at_is, length-append old ((w.first, above) ∷ w.rest))
+          omega (arith, size_is, at_is, length-append old.visits ((w.first, above) ∷ w.rest))

@@ -4,15 +4,15 @@ use Rattle.node_table.proofs.Walking.{child_walked, walk_begun, stands, levels, 
 use Rattle.node_table.proofs.walk.+walk.Goals as goal
 
 pub loop-child-init : goal.loop-child-init
-loop-child-init g t c = walk_begun _ _ _ _ _ _ _ _ _ _ c.requires.above c.requires.level c.in_ok-push.ensures.items
+loop-child-init g t c = walk_begun _ _ _ _ _ _ c.requires.above c.requires.level c.in_ok-push.ensures.items
     c.in_ok-push-2.ensures.items c.in_ok-push-3.ensures.items
 
 pub loop-child-preserved : goal.loop-child-preserved
 loop-child-preserved g t c =
     let l : c.loop-child.child-index < length c.children-child-items.result.now = omega arith in
-    child_walked c.args.branch.now c.args.above c.children-child-items.result.now c.args.out.now.visits.items c.loop-child.out.visits.items
-    c.walk.new.out.visits.items _ _ _ _ _ _ c.loop-child.child-index c.child-item.result c.children-child-items.ensures.below
-    c.children-child-items.ensures.forest l c.child-item.is c.loop-child.invariant (rw c.value-value.ensures at c.in_ok-walk.ensures)
+    child_walked c.args.branch.now c.args.above c.children-child-items.result.now _ _ _ c.loop-child.child-index c.child-item.result
+    c.children-child-items.ensures.below c.children-child-items.ensures.forest l c.child-item.is c.loop-child.invariant
+    (rw c.value-value.ensures at c.in_ok-walk.ensures)
 
 pub walk-requires : goal.walk-requires
 walk-requires g t c κs within =
@@ -21,8 +21,8 @@ walk-requires g t c κs within =
     c.children-child-items.ensures.below l c.child-item.is in
     let at : c.len-at.result ≡ length c.args.out.now.visits.items = omega (arith, c.len-at.ensures, c.args.out.now.visits.ok.0) in
     let above = subst (λ n. StandsAt c.loop-child.out.visits.items n c.value-value.result) (sym at)
-    (stands _ _ _ _ _ _ _ _ _ _ c.value-value.result c.value-value.ensures c.loop-child.invariant) in
-    let level = levels _ _ _ _ _ _ _ _ _ _ c.loop-child.invariant in
+    (stands _ _ _ _ _ _ c.value-value.result c.value-value.ensures c.loop-child.invariant) in
+    let level = levels _ _ _ _ _ _ c.loop-child.invariant in
     search (rules, f, above, level)
 
 pub returns : goal.returns
@@ -30,5 +30,5 @@ returns g t c =
     let at : c.len-at.result ≡ length c.args.out.now.visits.items = omega (arith, c.len-at.ensures, c.args.out.now.visits.ok.0) in
     let now : c.len.result ≡ length c.loop-child.out.visits.items = omega (arith, c.len.ensures, c.loop-child.out.visits.ok.0) in
     let size = ap (λ n. n - c.len-at.result) now in
-    walk_ended _ _ _ _ _ _ _ _ _ _ c.loop-child.child-index _ _ c.children-child-items.ensures.below (omega arith) at size refl
+    walk_ended _ _ _ _ _ _ c.loop-child.child-index _ _ c.children-child-items.ensures.below (omega arith) at size refl
     c.loop-child.invariant

@@ -8,5 +8,6 @@ decreases-walk g l = length l.branch.now.below
 
 -- the branch and its children so far are walked over
 abbrev pub invariant-loop-child : goal.invariant-loop-child
-invariant-loop-child g l = Walking l.branch l.fn.above l.child-items l.fn.out.visits.items l.out.visits.items l.fn.out.above.items
-    l.out.above.items l.fn.out.sizes.items l.out.sizes.items l.child-index
+invariant-loop-child g l = Walking l.branch l.fn.above l.child-items
+    (record { visits = l.fn.out.visits.items; above = l.fn.out.above.items; sizes = l.fn.out.sizes.items })
+    (record { visits = l.out.visits.items; above = l.out.above.items; sizes = l.out.sizes.items }) l.child-index
