@@ -196,24 +196,31 @@ numbers_begun visits first starts paths numbers e d f n = record {
     empty : [] ≡ nodes []
     empty = refl
 
-module _ (visits : List (Visit Entry)) (i : ℕ) (visit : Visit Entry) (first : List (Visit Entry)) (starts paths numbers : List ℕ)
-    (lt : i < length visits) (here : visit ≡ get_or visits i visit) (inv : IsNumbered visits i first starts paths numbers) where
+-- the first visits of places, where they stand, how many paths they have, and the numbers of visits
+pub record Numbers : Type 0 where
+  pub first : List (Visit Entry)
+  pub starts : List ℕ
+  pub paths : List ℕ
+  pub numbers : List ℕ
+
+module _ (visits : List (Visit Entry)) (i : ℕ) (visit : Visit Entry) (held : Numbers) (lt : i < length visits)
+    (here : visit ≡ get_or visits i visit) (inv : IsNumbered visits i held.first held.starts held.paths held.numbers) where
   more : seen visits (i + 1) ≡ seen visits i ++ bare visit ∷ []
   more = seen_last visits i visit lt here
 
   -- the number of the place of a first visit
-  number_of_first : (k : ℕ) (x : Visit Entry) → slice_get first k ≡ Some x → number_of (seen visits i) (visit_place x) ≡ Some (suc k)
+  number_of_first : (k : ℕ) (x : Visit Entry) → slice_get held.first k ≡ Some x → number_of (seen visits i) (visit_place x) ≡ Some (suc k)
   number_of_first k x e = (number_used (seen visits i) (suc k) (visit_place x)).1
-      (subst (λ ps. slice_get ps k ≡ Some (visit_place x)) inv.places (get_map visit_place first k x e))
+      (subst (λ ps. slice_get ps k ≡ Some (visit_place x)) inv.places (get_map visit_place held.first k x e))
 
   -- a known number counts from 1, and there is a count of paths for it
-  number_positive : (n : ℕ) → number_of (seen visits i) (visit_place visit) ≡ Some n → (1 ≤ n) × (n - 1 < length paths)
+  number_positive : (n : ℕ) → number_of (seen visits i) (visit_place visit) ≡ Some n → (1 ≤ n) × (n - 1 < length held.paths)
   number_positive zero f = absurd (let z = (number_used (seen visits i) 0 (visit_place visit)).0 f in cc)
   number_positive (suc k) f =
       let z = (number_used (seen visits i) (suc k) (visit_place visit)).0 f in
       let l = slice_get_within (nodes (seen visits i)) k (visit_place visit) z in
       let m = ap length inv.places in
-      let n = length-map first visit_place in
+      let n = length-map held.first visit_place in
       let v = inv.level in
       (omega arith, omega arith)
 
@@ -222,71 +229,71 @@ module _ (visits : List (Visit Entry)) (i : ℕ) (visit : Visit Entry) (first : 
       0
   paths_more q = ap (λ es. paths_of es q) more ∙ paths_last (seen visits i) (bare visit) q
 
-  held : (a b c d : ℕ) → d ≡ one_more c → c ≡ min a (2 ^ 32 - 1) → b ≡ a + 1 → d ≡ min b (2 ^ 32 - 1)
-  held a b c d e f g = omega arith
+  one_more_held : (a b c d : ℕ) → d ≡ one_more c → c ≡ min a (2 ^ 32 - 1) → b ≡ a + 1 → d ≡ min b (2 ^ 32 - 1)
+  one_more_held a b c d e f g = omega arith
 
   -- the numbers of the visits before this one, and its own
   knows : (n : ℕ) → ((k : ℕ) (x : Visit Entry) → k < i → slice_get visits k ≡ Some x → number_of (seen visits (i + 1)) (visit_place x)
-      ≡ Some (slice_index numbers k)) → number_of (seen visits (i + 1)) (visit_place visit) ≡ Some n → (k : ℕ) (x : Visit Entry)
+      ≡ Some (slice_index held.numbers k)) → number_of (seen visits (i + 1)) (visit_place visit) ≡ Some n → (k : ℕ) (x : Visit Entry)
       → slice_get visits k ≡ Some x → (k < i) ⊎ (k ≡ i) → number_of (seen visits (i + 1)) (visit_place x)
-      ≡ Some (slice_index (numbers ++ n ∷ []) k)
+      ≡ Some (slice_index (held.numbers ++ n ∷ []) k)
   knows n before own k x e (inl l) = before k x l e
-      ∙ ap Some (sym (get_or_append_left numbers (n ∷ []) 0 k (let v = inv.numbers_level in omega arith)))
+      ∙ ap Some (sym (get_or_append_left held.numbers (n ∷ []) 0 k (let v = inv.numbers_level in omega arith)))
   knows n before own k x e (inr l) =
       let z : Some visit ≡ Some x = sym (slice_get_read visits _ i visit refl lt here) ∙ ap (slice_get visits) (sym l) ∙ e in
       let same : visit ≡ x = cc in
       ap (λ (y : Visit Entry). number_of (seen visits (i + 1)) (visit_place y)) (sym same) ∙ own
-      ∙ ap Some (sym (ap (slice_index (numbers ++ n ∷ [])) (l ∙ sym inv.numbers_level) ∙ get_or_push numbers n 0 (length numbers) refl))
+      ∙ ap Some (sym (ap (slice_index (held.numbers ++ n ∷ [])) (l ∙ sym inv.numbers_level) ∙ get_or_push held.numbers n 0 (length held.numbers) refl))
 
   -- a visit whose place is known takes its number, and the place has one path more
   pub was_known : (n : ℕ) (paths' numbers' : List ℕ) → number_of (seen visits i) (visit_place visit) ≡ Some n
-      → paths' ≡ slice_set paths (n - 1) (one_more (slice_index paths (n - 1))) → numbers' ≡ numbers ++ n ∷ []
-      → IsNumbered visits (i + 1) first starts paths' numbers'
-  was_known n paths' numbers' k0 s m = record {
+      → paths' ≡ slice_set held.paths (n - 1) (one_more (slice_index held.paths (n - 1))) → numbers' ≡ held.numbers ++ n ∷ []
+      → IsNumbered visits (i + 1) held.first held.starts paths' numbers'
+  was_known n paths' numbers' numbered paths_is numbers_is = record {
     places = inv.places ∙ sym same;
     each = inv.each;
     starts_level = inv.starts_level;
     starts_are = inv.starts_are;
-    level = ap length s ∙ simp length-set inv.level;
+    level = ap length paths_is ∙ simp length-set inv.level;
     counted = counts;
-    numbers_level = ap length m ∙ length_push numbers n ∙ ap (λ k. k + 1) inv.numbers_level;
-    known = λ k x l e. subst (λ xs. number_of (seen visits (i + 1)) (visit_place x) ≡ Some (slice_index xs k)) (sym m)
+    numbers_level = ap length numbers_is ∙ length_push held.numbers n ∙ ap (λ k. k + 1) inv.numbers_level;
+    known = λ k x l e. subst (λ xs. number_of (seen visits (i + 1)) (visit_place x) ≡ Some (slice_index xs k)) (sym numbers_is)
         (knows n (λ k x l e. number_by (seen visits (i + 1)) (seen visits i) (visit_place x) same ∙ inv.known k x l e)
-        (number_by (seen visits (i + 1)) (seen visits i) (visit_place visit) same ∙ k0) k x e (below_or_at k i l));
+        (number_by (seen visits (i + 1)) (seen visits i) (visit_place visit) same ∙ numbered) k x e (below_or_at k i l));
   }
     where
       same : nodes (seen visits (i + 1)) ≡ nodes (seen visits i)
-      same = ap nodes more ∙ nodes_known (seen visits i) (bare visit) n k0
+      same = ap nodes more ∙ nodes_known (seen visits i) (bare visit) n numbered
 
-      counts : (k : ℕ) (x : Visit Entry) → slice_get first k ≡ Some x → slice_index paths' k
+      counts : (k : ℕ) (x : Visit Entry) → slice_get held.first k ≡ Some x → slice_index paths' k
           ≡ min (paths_of (seen visits (i + 1)) (visit_place x)) (2 ^ 32 - 1)
       counts k x f = elim (same_or_other (visit_place x) (visit_place visit)) [
         | inl (q, t) ↦
-            let z : Some (suc k) ≡ Some n = sym (number_of_first k x f) ∙ ap (number_of (seen visits i)) q ∙ k0 in
+            let z : Some (suc k) ≡ Some n = sym (number_of_first k x f) ∙ ap (number_of (seen visits i)) q ∙ numbered in
             let y : suc k ≡ n = cc in
             let j : n - 1 ≡ k = omega arith in
-            let b = number_positive n k0 in
+            let b = number_positive n numbered in
             let b1 = b.1 in
-            let lt : k < length paths = omega arith in
-            let set_is : paths' ≡ slice_set paths k (one_more (slice_index paths k)) =
-            subst (λ m. paths' ≡ slice_set paths m (one_more (slice_index paths m))) j s in
-            let at : slice_index paths' k ≡ one_more (slice_index paths k) = ap (λ xs. slice_index xs k) set_is ∙ rw get_or-set_same refl in
-            held (paths_of (seen visits i) (visit_place x)) (paths_of (seen visits (i + 1)) (visit_place x)) (slice_index paths k)
+            let lt : k < length held.paths = omega arith in
+            let set_is : paths' ≡ slice_set held.paths k (one_more (slice_index held.paths k)) =
+            subst (λ m. paths' ≡ slice_set held.paths m (one_more (slice_index held.paths m))) j paths_is in
+            let at : slice_index paths' k ≡ one_more (slice_index held.paths k) = ap (λ xs. slice_index xs k) set_is ∙ rw get_or-set_same refl in
+            one_more_held (paths_of (seen visits i) (visit_place x)) (paths_of (seen visits (i + 1)) (visit_place x)) (slice_index held.paths k)
             (slice_index paths' k) at (inv.counted k x f) (paths_more (visit_place x)
             ∙ ap (λ c. paths_of (seen visits i) (visit_place x) + cond c 1 0) t)
         | inr t ↦
             let ne : k ≢ n - 1 = apart k x f t in
-            let at : slice_index paths' k ≡ slice_index paths k = ap (λ xs. slice_index xs k) s ∙ rw get_or-set_other refl in
+            let at : slice_index paths' k ≡ slice_index held.paths k = ap (λ xs. slice_index xs k) paths_is ∙ rw get_or-set_other refl in
             at ∙ inv.counted k x f ∙ ap (λ c. min c (2 ^ 32 - 1))
             (sym (paths_more (visit_place x) ∙ ap (λ c. paths_of (seen visits i) (visit_place x) + cond c 1 0) t ∙ omega arith))
       ]
         where
-          apart : (k : ℕ) (x : Visit Entry) → slice_get first k ≡ Some x → same_place (visit_place x) (visit_place visit) ≡ false
+          apart : (k : ℕ) (x : Visit Entry) → slice_get held.first k ≡ Some x → same_place (visit_place x) (visit_place visit) ≡ false
               → k ≢ n - 1
           apart k x f t q =
-              let b = (number_positive n k0).0 in
+              let b = (number_positive n numbered).0 in
               let y : suc k ≡ n = omega arith in
-              let u = (number_used (seen visits i) n (visit_place visit)).0 k0 in
+              let u = (number_used (seen visits i) n (visit_place visit)).0 numbered in
               let v = (number_used (seen visits i) (suc k) (visit_place x)).0 (number_of_first k x f) in
               let w : Some (visit_place x) ≡ Some (visit_place visit) = sym v ∙ ap (node_of (seen visits i)) y ∙ u in
               let z : visit_place x ≡ visit_place visit = cc in
@@ -295,78 +302,77 @@ module _ (visits : List (Visit Entry)) (i : ℕ) (visit : Visit Entry) (first : 
               cc
 
   -- a visit whose place is new takes the next number, and the place has one path
-  pub is_new : (n : ℕ) (first' : List (Visit Entry)) (starts' paths' numbers' : List ℕ) → number_of (seen visits i) (visit_place visit)
-      ≡ None
-      → n ≡ length first + 1 → first' ≡ first ++ visit ∷ [] → starts' ≡ starts ++ i ∷ [] → paths' ≡ paths ++ 1 ∷ []
-      → numbers' ≡ numbers ++ n ∷ [] → IsNumbered visits (i + 1) first' starts' paths' numbers'
-  is_new n first' starts' paths' numbers' k0 l m d o u = record {
-    places = ap (map visit_place) m ∙ map_push visit_place first visit ∙ ap (λ ps. ps ++ visit_place visit ∷ []) inv.places ∙ sym grown;
-    each = λ k x f. elim (get_push first visit k x (subst (λ xs. slice_get xs k ≡ Some x) m f)) [
+  pub is_new : (n : ℕ) (later : Numbers) → number_of (seen visits i) (visit_place visit) ≡ None
+      → n ≡ length held.first + 1 → later.first ≡ held.first ++ visit ∷ [] → later.starts ≡ held.starts ++ i ∷ []
+      → later.paths ≡ held.paths ++ 1 ∷ [] → later.numbers ≡ held.numbers ++ n ∷ [] → IsNumbered visits (i + 1) later.first later.starts later.paths later.numbers
+  is_new n later unnumbered next first_is starts_is paths_is numbers_is = record {
+    places = ap (map visit_place) first_is ∙ map_push visit_place held.first visit ∙ ap (λ ps. ps ++ visit_place visit ∷ []) inv.places ∙ sym grown;
+    each = λ k x f. elim (get_push held.first visit k x (subst (λ xs. slice_get xs k ≡ Some x) first_is f)) [
       | inl g ↦ inv.each k x g
-      | inr (a, b) ↦ subst (IsFirstVisit visits) b (record { at = i; is = slice_get_read visits _ i visit refl lt here; new = k0 })
+      | inr (a, b) ↦ subst (IsFirstVisit visits) b (record { at = i; is = slice_get_read visits _ i visit refl lt here; new = unnumbered })
     ];
-    starts_level = ap length d ∙ length_push starts i ∙ ap (λ k. k + 1) inv.starts_level ∙ sym (ap length m ∙ length_push first visit);
-    starts_are = λ k x f. subst (λ xs. slice_get visits (slice_index xs k) ≡ Some x) (sym d)
-        (starting k x (get_push first visit k x (subst (λ xs. slice_get xs k ≡ Some x) m f)));
-    level = ap length o ∙ length_push paths 1 ∙ ap (λ k. k + 1) inv.level ∙ sym (ap length m ∙ length_push first visit);
-    counted = λ k x f. counts k x (get_push first visit k x (subst (λ xs. slice_get xs k ≡ Some x) m f));
-    numbers_level = ap length u ∙ length_push numbers n ∙ ap (λ k. k + 1) inv.numbers_level;
-    known = λ k x l e. subst (λ xs. number_of (seen visits (i + 1)) (visit_place x) ≡ Some (slice_index xs k)) (sym u)
+    starts_level = ap length starts_is ∙ length_push held.starts i ∙ ap (λ k. k + 1) inv.starts_level ∙ sym (ap length first_is ∙ length_push held.first visit);
+    starts_are = λ k x f. subst (λ xs. slice_get visits (slice_index xs k) ≡ Some x) (sym starts_is)
+        (starting k x (get_push held.first visit k x (subst (λ xs. slice_get xs k ≡ Some x) first_is f)));
+    level = ap length paths_is ∙ length_push held.paths 1 ∙ ap (λ k. k + 1) inv.level ∙ sym (ap length first_is ∙ length_push held.first visit);
+    counted = λ k x f. counts k x (get_push held.first visit k x (subst (λ xs. slice_get xs k ≡ Some x) first_is f));
+    numbers_level = ap length numbers_is ∙ length_push held.numbers n ∙ ap (λ k. k + 1) inv.numbers_level;
+    known = λ k x l e. subst (λ xs. number_of (seen visits (i + 1)) (visit_place x) ≡ Some (slice_index xs k)) (sym numbers_is)
         (knows n before own k x e (below_or_at k i l));
   }
     where
       grown : nodes (seen visits (i + 1)) ≡ nodes (seen visits i) ++ visit_place visit ∷ []
-      grown = ap nodes more ∙ nodes_new (seen visits i) (bare visit) k0
+      grown = ap nodes more ∙ nodes_new (seen visits i) (bare visit) unnumbered
 
       n_is : n ≡ length (nodes (seen visits i)) + 1
-      n_is = l ∙ ap (λ k. k + 1) (sym (length-map first visit_place) ∙ ap length inv.places)
+      n_is = next ∙ ap (λ k. k + 1) (sym (length-map held.first visit_place) ∙ ap length inv.places)
 
       own : number_of (seen visits (i + 1)) (visit_place visit) ≡ Some n
-      own = ap (λ es. number_of es (visit_place visit)) more ∙ number_new (seen visits i) (bare visit) k0 ∙ ap Some (sym n_is)
+      own = ap (λ es. number_of es (visit_place visit)) more ∙ number_new (seen visits i) (bare visit) unnumbered ∙ ap Some (sym n_is)
 
       before : (k : ℕ) (x : Visit Entry) → k < i → slice_get visits k ≡ Some x → number_of (seen visits (i + 1)) (visit_place x)
-          ≡ Some (slice_index numbers k)
+          ≡ Some (slice_index held.numbers k)
       before k x l e = elim (same_or_other (visit_place x) (visit_place visit)) [
-        | inl q ↦ absurd (let z : Some (slice_index numbers k) ≡ None = sym (inv.known k x l e) ∙ ap (number_of (seen visits i)) q.0 ∙ k0 in
+        | inl q ↦ absurd (let z : Some (slice_index held.numbers k) ≡ None = sym (inv.known k x l e) ∙ ap (number_of (seen visits i)) q.0 ∙ unnumbered in
             cc)
-        | inr t ↦ ap (λ es. number_of es (visit_place x)) more ∙ number_other (seen visits i) (bare visit) (visit_place x) k0 t
+        | inr t ↦ ap (λ es. number_of es (visit_place x)) more ∙ number_other (seen visits i) (bare visit) (visit_place x) unnumbered t
             ∙ inv.known k x l e
       ]
 
-      starting : (k : ℕ) (x : Visit Entry) → (slice_get first k ≡ Some x) ⊎ ((k ≡ length first) × (visit ≡ x))
-          → slice_get visits (slice_index (starts ++ i ∷ []) k) ≡ Some x
+      starting : (k : ℕ) (x : Visit Entry) → (slice_get held.first k ≡ Some x) ⊎ ((k ≡ length held.first) × (visit ≡ x))
+          → slice_get visits (slice_index (held.starts ++ i ∷ []) k) ≡ Some x
       starting k x (inl f) =
-          let b = slice_get_within first k x f in
+          let b = slice_get_within held.first k x f in
           let v = inv.starts_level in
-          ap (slice_get visits) (get_or_append_left starts (i ∷ []) 0 k (omega arith)) ∙ inv.starts_are k x f
-      starting k x (inr (a, b)) = ap (slice_get visits) (ap (slice_index (starts ++ i ∷ [])) (a ∙ sym inv.starts_level)
-          ∙ get_or_push starts i 0 (length starts) refl)
+          ap (slice_get visits) (get_or_append_left held.starts (i ∷ []) 0 k (omega arith)) ∙ inv.starts_are k x f
+      starting k x (inr (a, b)) = ap (slice_get visits) (ap (slice_index (held.starts ++ i ∷ [])) (a ∙ sym inv.starts_level)
+          ∙ get_or_push held.starts i 0 (length held.starts) refl)
           ∙ slice_get_read visits _ i visit refl lt here ∙ ap Some b
 
-      counts : (k : ℕ) (x : Visit Entry) → (slice_get first k ≡ Some x) ⊎ ((k ≡ length first) × (visit ≡ x)) → slice_index paths' k
+      counts : (k : ℕ) (x : Visit Entry) → (slice_get held.first k ≡ Some x) ⊎ ((k ≡ length held.first) × (visit ≡ x)) → slice_index later.paths k
           ≡ min (paths_of (seen visits (i + 1)) (visit_place x)) (2 ^ 32 - 1)
       counts k x (inl f) =
-          let b = slice_get_within first k x f in
+          let b = slice_get_within held.first k x f in
           let v = inv.level in
           let t : same_place (visit_place x) (visit_place visit) ≡ false = other k x f in
-          ap (λ xs. slice_index xs k) o ∙ get_or_append_left paths (1 ∷ []) 0 k (omega arith) ∙ inv.counted k x f
+          ap (λ xs. slice_index xs k) paths_is ∙ get_or_append_left held.paths (1 ∷ []) 0 k (omega arith) ∙ inv.counted k x f
           ∙ ap (λ c. min c (2 ^ 32 - 1)) (sym (paths_more (visit_place x) ∙ ap (λ c. paths_of (seen visits i) (visit_place x) + cond c 1 0)
           t
           ∙ omega arith))
         where
-          other : (k : ℕ) (x : Visit Entry) → slice_get first k ≡ Some x → same_place (visit_place x) (visit_place visit) ≡ false
+          other : (k : ℕ) (x : Visit Entry) → slice_get held.first k ≡ Some x → same_place (visit_place x) (visit_place visit) ≡ false
           other k x f = elim (same_or_other (visit_place x) (visit_place visit)) [
             | inr t ↦ t
-            | inl q ↦ absurd (let z : Some (suc k) ≡ None = sym (number_of_first k x f) ∙ ap (number_of (seen visits i)) q.0 ∙ k0 in cc)
+            | inl q ↦ absurd (let z : Some (suc k) ≡ None = sym (number_of_first k x f) ∙ ap (number_of (seen visits i)) q.0 ∙ unnumbered in cc)
           ]
       counts k x (inr (a, b)) =
           let zero_paths : paths_of (seen visits i) (visit_place visit) ≡ 0 = none_paths (seen visits i) (visit_place visit)
-          (not_among (seen visits i) (visit_place visit) k0) in
+          (not_among (seen visits i) (visit_place visit) unnumbered) in
           let one : paths_of (seen visits (i + 1)) (visit_place visit) ≡ 1 = paths_more (visit_place visit)
           ∙ ap (λ c. paths_of (seen visits i) (visit_place visit) + cond c 1 0) (same_itself (visit_place visit))
           ∙ ap (λ c. c + 1) zero_paths in
-          let j : k ≡ length paths = a ∙ sym inv.level in
-          ap (λ xs. slice_index xs k) o ∙ ap (slice_index (paths ++ 1 ∷ [])) j ∙ get_or_push paths 1 0 (length paths) refl
+          let j : k ≡ length held.paths = a ∙ sym inv.level in
+          ap (λ xs. slice_index xs k) paths_is ∙ ap (slice_index (held.paths ++ 1 ∷ [])) j ∙ get_or_push held.paths 1 0 (length held.paths) refl
           ∙ sym (ap (λ (y : Visit Entry). min (paths_of (seen visits (i + 1)) (visit_place y)) (2 ^ 32 - 1)) (sym b)
           ∙ ap (λ c. min c (2 ^ 32 - 1)) one)
 
@@ -423,10 +429,10 @@ module _ (visits : List (Visit Entry)) (keys firsts : List ℕ) (are : AreKeys v
     not_after l = told.before i l refl
 
     -- a place that some visit before has, has that visit's number
-    has_number : (first : List (Visit Entry)) (starts paths numbers : List ℕ) → IsNumbered visits i first starts paths numbers
+    has_number : (held : Numbers) → IsNumbered visits i held.first held.starts held.paths held.numbers
         → slice_index firsts i ≢ i → (slice_index firsts i < i)
-        × (number_of (seen visits i) (visit_place visit) ≡ Some (slice_index numbers (slice_index firsts i)))
-    has_number first starts paths numbers inv ne =
+        × (number_of (seen visits i) (visit_place visit) ≡ Some (slice_index held.numbers (slice_index firsts i)))
+    has_number held inv ne =
         let x = element_below visits (slice_index firsts i) first_within in
         let same = one_place (slice_index firsts i) i x.0 visit x.1 (slice_get_read visits _ i visit refl lt here) told.at in
         (before, sym (ap (number_of (seen visits i)) same) ∙ inv.known (slice_index firsts i) x.0 before x.1)
@@ -455,15 +461,15 @@ module _ (visits : List (Visit Entry)) (keys firsts : List ℕ) (are : AreKeys v
             ∙ sym (key_is i visit (slice_get_read visits _ i visit refl lt here))))
 
   -- a visit, as the code reads it, takes its number from the first place of its key
-  pub taken_from_first : (i before : ℕ) (first : List (Visit Entry)) (starts paths numbers : List ℕ) → i < length visits
-      → before ≡ get_or firsts i before → IsNumbered visits i first starts paths numbers → TakesNumber visits paths numbers i before
-  taken_from_first i before first starts paths numbers lt read inv = record {
+  pub taken_from_first : (i before : ℕ) (held : Numbers) → i < length visits → before ≡ get_or firsts i before
+      → IsNumbered visits i held.first held.starts held.paths held.numbers → TakesNumber visits held.paths held.numbers i before
+  taken_from_first i before held lt read inv = record {
     visit = visit.0;
     here = visit.1;
     new = λ same. has_none i visit.0 lt visit.1 (sym before_is ∙ same);
     within = below;
-    known = λ other n e. has n ((numbered other).1 ∙ ap Some (ap (slice_index numbers) (sym before_is)
-        ∙ sym (get_or_default numbers before n 0 (below other)) ∙ sym e));
+    known = λ other n e. has n ((numbered other).1 ∙ ap Some (ap (slice_index held.numbers) (sym before_is)
+        ∙ sym (get_or_default held.numbers before n 0 (below other)) ∙ sym e));
   }
     where
       visit : (s : Visit Entry) × (s ≡ get_or visits i s)
@@ -473,12 +479,12 @@ module _ (visits : List (Visit Entry)) (keys firsts : List ℕ) (are : AreKeys v
       before_is = read ∙ get_or_default firsts i before 0 (let level = keys_level in let same = f.level in omega arith)
 
       numbered : before ≢ i → (slice_index firsts i < i)
-          × (number_of (seen visits i) (visit_place visit.0) ≡ Some (slice_index numbers (slice_index firsts i)))
-      numbered other = has_number i visit.0 lt visit.1 first starts paths numbers inv (λ e. other (before_is ∙ e))
+          × (number_of (seen visits i) (visit_place visit.0) ≡ Some (slice_index held.numbers (slice_index firsts i)))
+      numbered other = has_number i visit.0 lt visit.1 held inv (λ e. other (before_is ∙ e))
 
-      below : before ≢ i → before < length numbers
+      below : before ≢ i → before < length held.numbers
       below other = let earlier = (numbered other).0 in let level = inv.numbers_level in omega (arith, before_is)
 
-      has : (n : ℕ) → number_of (seen visits i) (visit_place visit.0) ≡ Some n → HasNumber visits visit.0 paths i n
-      has n is = let b = number_positive visits i visit.0 first starts paths numbers lt visit.1 inv n is in
+      has : (n : ℕ) → number_of (seen visits i) (visit_place visit.0) ≡ Some n → HasNumber visits visit.0 held.paths i n
+      has n is = let b = number_positive visits i visit.0 held lt visit.1 inv n is in
           record { is = is; positive = b.0; counted = b.1 }
