@@ -25,7 +25,7 @@ use Rattle.path_tree.proofs.Lists.{all_get}
 use Rattle.node_table.proofs.Lists.{element_below, index_map}
 use Rattle.node_table.proofs.Paths.{spread_append, under_append, child_located}
 use Rattle.node_table.proofs.Sizes.{same_value, same_size, ends_within}
-use Rattle.node_table.proofs.Counting.{count, counted}
+use Rattle.node_table.proofs.Counting.{Numbers, count, counted}
 use Rattle.node_table.proofs.Seeded as seeded
 use Rattle.node_table.proofs.Seeded.{child_of, row_at, places_same, bare_places, nodes_by, number_of_by}
 use Rattle.node_table.proofs.Shown.{IsPlaced, rows_placed, kind_placed, data_placed}
@@ -64,16 +64,23 @@ paths_by es fs p e =
     ∙ ap (count (same_place p)) e
     ∙ sym (count_places p fs) ∙ counted (λ (e : Listed). same_place p (place e)) fs
 
-module _ (layers : List (List ℕ)) (t : TreeRows) (is : IsTreeOf 0 layers t) (sound : AllByRecursion IsImage layers) (root : Subtree Entry)
-    (whole_is : t.entries ≡ whole root) (visits : List (Visit Entry)) (walked : AreWalked root root.value visits)
-    (first : List (Visit Entry))
-    (starts paths numbers : List ℕ) (num : IsNumbered visits (length visits) first starts paths numbers) where
+-- the visits are a walk over the whole tree of a stack of sound images, and their places are numbered
+pub record WalksTree (layers : List (List ℕ)) (t : TreeRows) (root : Subtree Entry) (visits : List (Visit Entry))
+    (held : Numbers) : Type 0 where
+  pub tree : IsTreeOf 0 layers t
+  pub sound : AllByRecursion IsImage layers
+  pub whole : t.entries ≡ whole root
+  pub walked : AreWalked root root.value visits
+  pub numbered : IsNumbered visits (length visits) held.first held.starts held.paths held.numbers
+
+module _ (layers : List (List ℕ)) (t : TreeRows) (root : Subtree Entry) (visits : List (Visit Entry)) (held : Numbers)
+    (walk : WalksTree layers t root visits held) where
   level : length visits ≡ length t.entries
-  level = walked.level ∙ ap length (sym whole_is)
+  level = walk.walked.level ∙ ap length (sym walk.whole)
 
   at : (k : ℕ) (visit : Visit Entry) → slice_get visits k ≡ Some visit → IsLocated t.entries k visit.0.now visit.1
-  at k visit e = subst (λ rows. IsLocated rows k visit.0.now visit.1) (sym whole_is) (let n : 0 + k ≡ k = omega arith in
-      subst (λ n. IsLocated (whole root) n visit.0.now visit.1) n (walked.each (whole root) 0 (root_located root) k visit e))
+  at k visit e = subst (λ rows. IsLocated rows k visit.0.now visit.1) (sym walk.whole) (let n : 0 + k ≡ k = omega arith in
+      subst (λ n. IsLocated (whole root) n visit.0.now visit.1) n (walk.walked.each (whole root) 0 (root_located root) k visit e))
 
   abbrev entries : List Listed
   entries = map listed t.entries
@@ -83,7 +90,7 @@ module _ (layers : List (List ℕ)) (t : TreeRows) (is : IsTreeOf 0 layers t) (s
       ∙ sym (ap (λ x. map place (map bare x)) (take_all (length visits) visits (omega arith)) ∙ bare_places visits)
 
   all_placed : AllByRecursion (λ (r : Path × Entry). IsPlaced layers r.1) t.entries
-  all_placed = rows_placed layers t is sound
+  all_placed = rows_placed layers t walk.tree walk.sound
 
   numbered : (e : Entry) → number_among visits e.place ≡ number (map listed t.entries) (placed e.place)
   unfolding number_among
@@ -143,10 +150,10 @@ module _ (layers : List (List ℕ)) (t : TreeRows) (is : IsTreeOf 0 layers t) (s
           (count (λ (c : Subtree Entry). is_directory c.value.kind) cs)) (ap is_directory (kind_placed layers c.value a.0))
           ∙ ap (λ n. cond (is_directory_at layers (placed c.value.place)) (1 + n) n) (kinds cs a.1)
 
-  seed : (k : ℕ) (visit : Visit Entry) → slice_get first k ≡ Some visit → IsSeed layers (map listed t.entries) (number_among visits)
-      (slice_index paths k) visit
+  seed : (k : ℕ) (visit : Visit Entry) → slice_get held.first k ≡ Some visit → IsSeed layers (map listed t.entries) (number_among visits)
+      (slice_index held.paths k) visit
   seed k visit e =
-      let f = num.each k visit e in
+      let f = walk.numbered.each k visit e in
       let v = visit.0.now.value in
       let p = visit_placed f.at visit f.is in
       record {
@@ -156,7 +163,7 @@ module _ (layers : List (List ℕ)) (t : TreeRows) (is : IsTreeOf 0 layers t) (s
         kind_is = kind_placed layers v p;
         parent_is = numbered visit.1 ∙ ap (number (map listed t.entries)) (sym (seeded.parent_is t.entries visits level at visit f));
         below = seedlings k visit f;
-        paths_are = λ other. num.counted k visit e
+        paths_are = λ other. walk.numbered.counted k visit e
             ∙ ap (λ c. min c (2 ^ 32 - 1)) (paths_by (seen visits (length visits)) (map listed t.entries) (visit_place visit)
             (sym places_are))
             ∙ ap (λ b. min (cond b (2 + count_by (λ (c : Child). is_directory_at layers c.place)
@@ -165,26 +172,26 @@ module _ (layers : List (List ℕ)) (t : TreeRows) (is : IsTreeOf 0 layers t) (s
       }
 
   -- the first branches of all places, by number, agree with the listing of the layers
-  pub seeds : AreSomeSeeds layers (number_among visits) first paths
+  pub seeds : AreSomeSeeds layers (number_among visits) held.first held.paths
   seeds = (
     map listed t.entries,
     record {
-      listing = is_listing layers t is;
-      level = num.level;
-      places = num.places ∙ nodes_by (seen visits (length visits)) (map listed t.entries) (sym places_are);
+      listing = is_listing layers t walk.tree;
+      level = walk.numbered.level;
+      places = walk.numbered.places ∙ nodes_by (seen visits (length visits)) (map listed t.entries) (sym places_are);
       each = seed;
     },
   )
 
   -- where the numbers and sizes of visits stand
   module _ (places sizes : List ℕ) (stand : AreAbove visits visits places) (sized : sizes ≡ map visit_size visits) where
-    numbers_level : length numbers ≡ length visits
-    numbers_level = num.numbers_level
+    numbers_level : length held.numbers ≡ length visits
+    numbers_level = walk.numbered.numbers_level
 
-    tells : (k : ℕ) (visit : Visit Entry) → slice_get visits k ≡ Some visit → slice_index numbers k
+    tells : (k : ℕ) (visit : Visit Entry) → slice_get visits k ≡ Some visit → slice_index held.numbers k
         ≡ number_among visits visit.0.now.value.place
     unfolding number_among
-    tells k visit e = ap (λ o. unwrap_or o 0) (sym (num.known k visit (slice_get_within visits k visit e) e))
+    tells k visit e = ap (λ o. unwrap_or o 0) (sym (walk.numbered.known k visit (slice_get_within visits k visit e) e))
 
     size_at : (k : ℕ) (visit : Visit Entry) → slice_get visits k ≡ Some visit → (k < length sizes)
         × (slice_index sizes k ≡ visit_size visit)
@@ -194,7 +201,7 @@ module _ (layers : List (List ℕ)) (t : TreeRows) (is : IsTreeOf 0 layers t) (s
         (rw sized (omega arith), rw sized (index_map visit_size visits k visit e))
 
     -- a branch that is located has its number and size there
-    posted : (j : ℕ) (c : Subtree Entry) (above : Entry) → IsLocated t.entries j c above → IsPosted (number_among visits) numbers sizes j c
+    posted : (j : ℕ) (c : Subtree Entry) (above : Entry) → IsLocated t.entries j c above → IsPosted (number_among visits) held.numbers sizes j c
     posted j c above l =
         let last = ends_within t.entries j c above l in
         let nl = numbers_level in
@@ -212,7 +219,7 @@ module _ (layers : List (List ℕ)) (t : TreeRows) (is : IsTreeOf 0 layers t) (s
         }
 
     following : (j : ℕ) (s : Subtree Entry) (above : Entry) → IsLocated t.entries j s above → (ls cs : List (Subtree Entry))
-        → s.below ≡ spread (ls ++ cs) → NamesRise (ls ++ cs) → AreFollowing (number_among visits) numbers sizes
+        → s.below ≡ spread (ls ++ cs) → NamesRise (ls ++ cs) → AreFollowing (number_among visits) held.numbers sizes
         (j + suc (length (spread ls))) cs
     following j s above l ls [] below rise = tt
     following j s above l ls (c ∷ cs) below rise =
@@ -220,7 +227,7 @@ module _ (layers : List (List ℕ)) (t : TreeRows) (is : IsTreeOf 0 layers t) (s
         let again = append_assoc ls (c ∷ []) cs in
         let rest = following j s above l (ls ++ c ∷ []) cs (below ∙ ap spread (sym again)) (subst NamesRise (sym again) rise) in (
           posted (j + suc (length (spread ls))) c s.value here,
-          subst (λ n. AreFollowing (number_among visits) numbers sizes n cs) longer
+          subst (λ n. AreFollowing (number_among visits) held.numbers sizes n cs) longer
               rest,
         )
       where
@@ -233,14 +240,14 @@ module _ (layers : List (List ℕ)) (t : TreeRows) (is : IsTreeOf 0 layers t) (s
             omega arith
 
     -- they stand where starts say, with the numbers of their parents and children at hand
-    pub posts : ArePosts (number_among visits) visits numbers places sizes first starts
+    pub posts : ArePosts (number_among visits) visits held.numbers places sizes held.first held.starts
     posts = record {
-      level = num.starts_level;
-      there = num.starts_are;
+      level = walk.numbered.starts_level;
+      there = walk.numbered.starts_are;
       above = λ k visit e.
-          let p = slice_index starts k in
-          let s = stand.each p visit (num.starts_are k visit e) in
-          let l = slice_get_within visits p visit (num.starts_are k visit e) in
+          let p = slice_index held.starts k in
+          let s = stand.each p visit (walk.numbered.starts_are k visit e) in
+          let l = slice_get_within visits p visit (walk.numbered.starts_are k visit e) in
           let pl = stand.level in
           let nl = numbers_level in
           let m = slice_get_within visits (slice_index places p) s.visit s.is in
@@ -250,12 +257,12 @@ module _ (layers : List (List ℕ)) (t : TreeRows) (is : IsTreeOf 0 layers t) (s
             number_is = tells (slice_index places p) s.visit s.is ∙ ap (λ (e : Entry). number_among visits e.place) s.value_is;
           };
       children = λ k visit e.
-          let p = slice_index starts k in
-          let l = slice_get_within visits p visit (num.starts_are k visit e) in
+          let p = slice_index held.starts k in
+          let l = slice_get_within visits p visit (walk.numbered.starts_are k visit e) in
           let nl = numbers_level in
           record {
             within = omega arith;
-            each = λ cs under forest. following p visit.0.now visit.1 (at p visit (num.starts_are k visit e)) [] cs under forest.names;
+            each = λ cs under forest. following p visit.0.now visit.1 (at p visit (walk.numbered.starts_are k visit e)) [] cs under forest.names;
           };
     }
 

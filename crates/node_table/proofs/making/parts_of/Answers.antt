@@ -1,14 +1,23 @@
-use Rattle.node_table.proofs.Planted.{seeds, posts, walked_all}
+use Rattle.node_table.proofs.Counting.{Numbers}
+use Rattle.node_table.proofs.Planted.{WalksTree, seeds, posts, walked_all}
 use Rattle.node_table.proofs.making.parts_of.Goals as goal
 
 pub make-requires : goal.make-requires
 make-requires g c =
-    let all = walked_all c.root-root.result.now c.value.result _ _ _ _ _ _ c.in_ok-all.ensures.0 c.in_ok-all.ensures.1 c.in_ok-all.ensures.2
+    let root = c.root-root.result.now in
+    let visits = c.walk.new.out.visits.items in
+    let all = walked_all root c.value.result _ _ _ _ _ _ c.in_ok-all.ensures.0 c.in_ok-all.ensures.1 c.in_ok-all.ensures.2
     c.value.ensures c.in_ok-walk.ensures in
-    let numbered = rw c.deref.ensures.value at c.in_ok-numbered.ensures in (
-      numbered.0,
-      seeds c.args.images.now c.args.tree.now c.requires.tree c.requires.sound c.root-root.result.now c.root-root.ensures
-          c.walk.new.out.visits.items all.0 _ _ _ _ numbered.1,
-      posts c.args.images.now c.args.tree.now c.requires.tree c.requires.sound c.root-root.result.now c.root-root.ensures
-          c.walk.new.out.visits.items all.0 _ _ _ _ numbered.1 _ _ all.1 all.2,
+    let numbered = rw c.deref.ensures.value at c.in_ok-numbered.ensures in
+    let held : Numbers = record { first = numbered.0; starts = _; paths = _; numbers = _ } in
+    let walk : WalksTree c.args.images.now c.args.tree.now root visits held = record {
+      tree = c.requires.tree;
+      sound = c.requires.sound;
+      whole = c.root-root.ensures;
+      walked = all.0;
+      numbered = numbered.1;
+    } in (
+      held.first,
+      seeds _ _ _ _ held walk,
+      posts _ _ _ _ held walk _ _ all.1 all.2,
     )
