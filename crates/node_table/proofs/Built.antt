@@ -1,7 +1,7 @@
 -- The rows of children and the node of a branch. Rowing is the loop over children: it starts with
 -- none, a child is a directory or another (follows tells where it stands), and it ends with
 -- AddsRows. made has the node of a branch, from what its kind adds.
-use Rattle.std.proofs.Common.{◌≡◌, ◌∙◌, sym, ap, subst, ℕ, zero, suc, ◌+◌, ◌-◌, ◌<◌, ◌≤◌, List, [], ◌∷◌, ◌++◌, length, map, take, drop, get_or, refl, arith, append_assoc, length-append, true, false}
+use Rattle.std.proofs.Common.{◌≡◌, ◌∙◌, sym, ap, subst, ℕ, zero, suc, ◌+◌, ◌-◌, ◌<◌, ◌≤◌, List, [], ◌∷◌, ◌++◌, length, map, take, drop, get_or, refl, arith, append_assoc, length-append, Bool, true, false}
 use Rattle.std.specs.List.{AllByRecursion}
 use Rattle.std.specs.declared.cmp.Ordering.TheVariants.{Less}
 use Rattle.std.proofs.lemmas.List.Sums.{count_by_more_yes, count_by_more_no}
@@ -16,7 +16,6 @@ use Rattle.romfs_format.specs.Heads.{head_of}
 use Rattle.romfs_reader.specs.declared.parts.Part.{Part}
 use Rattle.romfs_reader.specs.Readers.{IsDataPart}
 use Rattle.stack_table.specs.declared.node.Node.{Node}
-use Rattle.stack_table.specs.declared.directory.Directory.{Directory as Folder}
 use Rattle.shown_tree.specs.declared.place.Place.{Place}
 use Rattle.shown_tree.specs.declared.place.Entry.{Entry}
 use Rattle.name_keys.specs.Names.{Rise}
@@ -25,6 +24,7 @@ use Rattle.node_table.specs.Walks.{Visit}
 use Rattle.node_table.specs.Building.{line_in, directories, IsPosted, AreFollowing, AddsRows, AddsLinked, AddsNothing, AddsByKind, IsReadFrom, AddsNode}
 use Rattle.shown_tree.proofs.NoDirectory.{not_directory}
 use Rattle.node_table.proofs.Lists.{take_one_more}
+use Rattle.node_table.proofs.Folders.{Folders}
 
 -- how far the rows of children have come
 pub record Rowing (tell : Place → ℕ) (cs : List (Subtree Entry)) (old new : List Line) (n i : ℕ) : Type 0 where
@@ -32,32 +32,40 @@ pub record Rowing (tell : Place → ℕ) (cs : List (Subtree Entry)) (old new : 
   pub count : n ≡ directories (take i cs)
   pub few : n ≤ i
 
-module _ (tell : Place → ℕ) (cs : List (Subtree Entry)) (old new new' : List Line) (n i : ℕ) (c : Subtree Entry) (lt : i < length cs)
-    (at : c ≡ get_or cs i c) (r : Rowing tell cs old new n i) (line : Line) (is : line ≡ line_in tell c) (pushed : new' ≡ new ++ line ∷ [])
-  where
-    rows_now : new' ≡ old ++ map (line_in tell) (take (i + 1) cs)
-    rows_now =
-        pushed ∙ ap (λ x. x ++ line ∷ []) r.rows ∙ append_assoc old (map (line_in tell) (take i cs)) (line ∷ [])
-        ∙ ap (λ x. old ++ x) (ap (λ l. map (line_in tell) (take i cs) ++ l ∷ []) is
-        ∙ sym (ap (map (line_in tell)) (take_one_more cs i c lt at) ∙ map_push (line_in tell) (take i cs) c))
+-- the row of the next child is added
+pub record AddsRow (tell : Place → ℕ) (cs : List (Subtree Entry)) (i : ℕ) (c : Subtree Entry) (old new : List Line) : Type 0 where
+  pub within : i < length cs
+  pub here : c ≡ get_or cs i c
+  pub line : Line
+  pub line_is : line ≡ line_in tell c
+  pub pushed : new ≡ old ++ line ∷ []
 
-    -- the row of a directory is added, and the directory counted
-    pub directory : c.value.kind ≡ Directory → Rowing tell cs old new' (n + 1) (i + 1)
-    directory k =
-        let d : is_directory (get_or cs i c).value.kind ≡ true = ap (λ (s : Subtree Entry). is_directory s.value.kind) (sym at)
-        ∙ ap is_directory k in
-        let m = count_by_more_yes (λ (s : Subtree Entry). is_directory s.value.kind) cs i c lt d in
-        let few = r.few in
-        record { rows = rows_now; count = ap (λ k. k + 1) r.count ∙ sym m; few = omega arith }
+module _ (tell : Place → ℕ) (cs : List (Subtree Entry)) (i : ℕ) (c : Subtree Entry) (old rows rows' : List Line) (n : ℕ)
+    (so_far : Rowing tell cs old rows n i) (adds : AddsRow tell cs i c rows rows') where
+  rows_now : rows' ≡ old ++ map (line_in tell) (take (i + 1) cs)
+  rows_now =
+      adds.pushed ∙ ap (λ x. x ++ adds.line ∷ []) so_far.rows ∙ append_assoc old (map (line_in tell) (take i cs)) (adds.line ∷ [])
+      ∙ ap (λ x. old ++ x) (ap (λ l. map (line_in tell) (take i cs) ++ l ∷ []) adds.line_is
+      ∙ sym (ap (map (line_in tell)) (take_one_more cs i c adds.within adds.here) ∙ map_push (line_in tell) (take i cs) c))
 
-    -- the row of any other child is added, and nothing counted
-    pub other : (c.value.kind ≡ Directory → ⊥) → Rowing tell cs old new' n (i + 1)
-    other k =
-        let d : is_directory (get_or cs i c).value.kind ≡ false = ap (λ (s : Subtree Entry). is_directory s.value.kind) (sym at)
-        ∙ not_directory c.value.kind k in
-        let m = count_by_more_no (λ (s : Subtree Entry). is_directory s.value.kind) cs i c lt d in
-        let few = r.few in
-        record { rows = rows_now; count = r.count ∙ sym m; few = omega arith }
+  kind_here : (test : Kind → Bool) (b : Bool) → test c.value.kind ≡ b → test (get_or cs i c).value.kind ≡ b
+  kind_here test b is = ap (λ (s : Subtree Entry). test s.value.kind) (sym adds.here) ∙ is
+
+  -- the row of a directory is added, and the directory counted
+  pub directory : c.value.kind ≡ Directory → Rowing tell cs old rows' (n + 1) (i + 1)
+  directory is_one =
+      let more = count_by_more_yes (λ (s : Subtree Entry). is_directory s.value.kind) cs i c adds.within
+      (kind_here is_directory true (ap is_directory is_one)) in
+      let few = so_far.few in
+      record { rows = rows_now; count = ap (λ k. k + 1) so_far.count ∙ sym more; few = omega arith }
+
+  -- the row of any other child is added, and nothing counted
+  pub other : (c.value.kind ≡ Directory → ⊥) → Rowing tell cs old rows' n (i + 1)
+  other is_none =
+      let same = count_by_more_no (λ (s : Subtree Entry). is_directory s.value.kind) cs i c adds.within
+      (kind_here is_directory false (not_directory c.value.kind is_none)) in
+      let few = so_far.few in
+      record { rows = rows_now; count = so_far.count ∙ sym same; few = omega arith }
 
 -- of children that follow one another, the next one stands here and the rest after it
 pub follows : (tell : Place → ℕ) (numbers sizes : List ℕ) (at : ℕ) (cs : List (Subtree Entry)) (i : ℕ) (c : Subtree Entry) → i < length cs
@@ -107,44 +115,59 @@ names_rise tell (c ∷ cs) r zero (suc j) d l m = after cs r.0 j (omega arith)
 names_rise tell (c ∷ cs) r (suc i) zero d l m = absurd (omega arith)
 names_rise tell (c ∷ cs) r (suc i) (suc j) d l m = names_rise tell cs r.1 i j d (omega arith) (omega arith)
 
--- the node of a branch
-module _ (layers : List (List ℕ)) (tell : Place → ℕ) (visit : Visit Entry) (paths : ℕ) (v : Entry) (is : v ≡ visit.0.now.value)
-    (image : List ℕ) (index : image ≡ get_or layers v.place.layer image) (head : Head) (headed : head ≡ head_of image v.place.header)
-    (part : Part) (lies : IsDataPart image head.offset part) (held held' : List Folder) (old new : List Line) (keys keys' : List ℕ)
-    (nlink at : ℕ) (stands : at ≡ length held) where
-  abbrev node : Node
-  node = record { kind = v.kind; place = v.place; exec = head.exec; part = part; mode = 0; nlink = nlink; rdev = head.spec; directory = at }
+-- what the code reads of a branch: its entry, the header at its place, and where its data lie
+pub record ReadsBranch (layers : List (List ℕ)) (visit : Visit Entry) (entry : Entry) (head : Head) (part : Part) : Type 0 where
+  pub entry_is : entry ≡ visit.0.now.value
+  pub image : List ℕ
+  pub image_is : image ≡ get_or layers entry.place.layer image
+  pub head_is : head ≡ head_of image entry.place.header
+  pub data_is : IsDataPart image head.offset part
 
-  read : IsReadFrom image v.place.header node
+-- the node of a branch
+module _ (layers : List (List ℕ)) (tell : Place → ℕ) (visit : Visit Entry) (paths : ℕ) (entry : Entry) (head : Head) (part : Part)
+    (reads : ReadsBranch layers visit entry head part) (old new : Folders) (nlink at : ℕ) (stands : at ≡ length old.all) where
+  abbrev node : Node
+  node = record {
+    kind = entry.kind;
+    place = entry.place;
+    exec = head.exec;
+    part = part;
+    mode = 0;
+    nlink = nlink;
+    rdev = head.spec;
+    directory = at;
+  }
+
+  read : IsReadFrom reads.image entry.place.header node
   read = record {
-    data_is = subst (λ (x : Head). IsDataPart image x.offset part) headed lies;
-    exec_is = ap (λ (x : Head). x.exec) headed;
-    spec_is = ap (λ (x : Head). x.spec) headed;
+    data_is = subst (λ (x : Head). IsDataPart reads.image x.offset part) reads.head_is reads.data_is;
+    exec_is = ap (λ (x : Head). x.exec) reads.head_is;
+    spec_is = ap (λ (x : Head). x.spec) reads.head_is;
   }
 
   -- what a header says, with what the branch's kind adds, is the node of the branch
-  pub made : AddsByKind tell visit paths (is_directory v.kind) nlink held held' old new keys keys'
-      → AddsNode layers tell visit paths held held' old new keys keys' node
+  pub made : AddsByKind tell visit paths (is_directory entry.kind) nlink old.all new.all old.rows new.rows old.keys new.keys
+      → AddsNode layers tell visit paths old.all new.all old.rows new.rows old.keys new.keys node
   made adds = record {
-    kind_is = ap (λ (e : Entry). e.kind) is;
-    place_is = ap (λ (e : Entry). e.place) is;
-    read = λ a at. subst (λ x. IsReadFrom x v.place.header node) (index ∙ get_or_from_slice_get layers v.place.layer a image at) read;
+    kind_is = ap (λ (e : Entry). e.kind) reads.entry_is;
+    place_is = ap (λ (e : Entry). e.place) reads.entry_is;
+    read = λ image at. subst (λ x. IsReadFrom x entry.place.header node)
+        (reads.image_is ∙ get_or_from_slice_get layers entry.place.layer image reads.image at) read;
     directory_is = stands;
     adds = adds;
   }
 
 -- what a directory adds, and what any other branch does
-module _ (tell : Place → ℕ) (visit : Visit Entry) (paths : ℕ) (kind : Kind) (nlink : ℕ) (held held' : List Folder) (old new : List Line)
-    (keys keys' : List ℕ) where
+module _ (tell : Place → ℕ) (visit : Visit Entry) (paths : ℕ) (kind : Kind) (nlink : ℕ) (old new : Folders) where
   -- where the kind is a directory, a linked directory is what is to be added
-  pub added_directory : kind ≡ Directory → AddsLinked tell visit nlink held held' old new keys keys'
-      → AddsByKind tell visit paths (is_directory kind) nlink held held' old new keys keys'
-  added_directory k a = rw (ap is_directory k) a
+  pub added_directory : kind ≡ Directory → AddsLinked tell visit nlink old.all new.all old.rows new.rows old.keys new.keys
+      → AddsByKind tell visit paths (is_directory kind) nlink old.all new.all old.rows new.rows old.keys new.keys
+  added_directory is_one linked = rw (ap is_directory is_one) linked
 
   -- where it is none, nothing is to be added
-  pub added_other : (kind ≡ Directory → ⊥) → AddsNothing paths nlink held held' old new keys keys'
-      → AddsByKind tell visit paths (is_directory kind) nlink held held' old new keys keys'
-  added_other k a = rw (not_directory kind k) a
+  pub added_other : (kind ≡ Directory → ⊥) → AddsNothing paths nlink old.all new.all old.rows new.rows old.keys new.keys
+      → AddsByKind tell visit paths (is_directory kind) nlink old.all new.all old.rows new.rows old.keys new.keys
+  added_other is_none nothing = rw (not_directory kind is_none) nothing
 
 -- the rows from where the old ones end, as the code cuts them
 pub fresh_lines : (old new more seen : List Line) (start : ℕ) → new ≡ old ++ more → start ≡ length old → seen ≡ new

@@ -243,7 +243,8 @@ module _ (visits : List (Visit Entry)) (i : ℕ) (visit : Visit Entry) (held : N
       let z : Some visit ≡ Some x = sym (slice_get_read visits _ i visit refl lt here) ∙ ap (slice_get visits) (sym l) ∙ e in
       let same : visit ≡ x = cc in
       ap (λ (y : Visit Entry). number_of (seen visits (i + 1)) (visit_place y)) (sym same) ∙ own
-      ∙ ap Some (sym (ap (slice_index (held.numbers ++ n ∷ [])) (l ∙ sym inv.numbers_level) ∙ get_or_push held.numbers n 0 (length held.numbers) refl))
+      ∙ ap Some (sym (ap (slice_index (held.numbers ++ n ∷ [])) (l ∙ sym inv.numbers_level)
+      ∙ get_or_push held.numbers n 0 (length held.numbers) refl))
 
   -- a visit whose place is known takes its number, and the place has one path more
   pub was_known : (n : ℕ) (paths' numbers' : List ℕ) → number_of (seen visits i) (visit_place visit) ≡ Some n
@@ -277,9 +278,10 @@ module _ (visits : List (Visit Entry)) (i : ℕ) (visit : Visit Entry) (held : N
             let lt : k < length held.paths = omega arith in
             let set_is : paths' ≡ slice_set held.paths k (one_more (slice_index held.paths k)) =
             subst (λ m. paths' ≡ slice_set held.paths m (one_more (slice_index held.paths m))) j paths_is in
-            let at : slice_index paths' k ≡ one_more (slice_index held.paths k) = ap (λ xs. slice_index xs k) set_is ∙ rw get_or-set_same refl in
-            one_more_held (paths_of (seen visits i) (visit_place x)) (paths_of (seen visits (i + 1)) (visit_place x)) (slice_index held.paths k)
-            (slice_index paths' k) at (inv.counted k x f) (paths_more (visit_place x)
+            let at : slice_index paths' k ≡ one_more (slice_index held.paths k) = ap (λ xs. slice_index xs k) set_is
+            ∙ rw get_or-set_same refl in
+            one_more_held (paths_of (seen visits i) (visit_place x)) (paths_of (seen visits (i + 1)) (visit_place x))
+            (slice_index held.paths k) (slice_index paths' k) at (inv.counted k x f) (paths_more (visit_place x)
             ∙ ap (λ c. paths_of (seen visits i) (visit_place x) + cond c 1 0) t)
         | inr t ↦
             let ne : k ≢ n - 1 = apart k x f t in
@@ -304,17 +306,21 @@ module _ (visits : List (Visit Entry)) (i : ℕ) (visit : Visit Entry) (held : N
   -- a visit whose place is new takes the next number, and the place has one path
   pub is_new : (n : ℕ) (later : Numbers) → number_of (seen visits i) (visit_place visit) ≡ None
       → n ≡ length held.first + 1 → later.first ≡ held.first ++ visit ∷ [] → later.starts ≡ held.starts ++ i ∷ []
-      → later.paths ≡ held.paths ++ 1 ∷ [] → later.numbers ≡ held.numbers ++ n ∷ [] → IsNumbered visits (i + 1) later.first later.starts later.paths later.numbers
+      → later.paths ≡ held.paths ++ 1 ∷ [] → later.numbers ≡ held.numbers ++ n ∷ []
+      → IsNumbered visits (i + 1) later.first later.starts later.paths later.numbers
   is_new n later unnumbered next first_is starts_is paths_is numbers_is = record {
-    places = ap (map visit_place) first_is ∙ map_push visit_place held.first visit ∙ ap (λ ps. ps ++ visit_place visit ∷ []) inv.places ∙ sym grown;
+    places = ap (map visit_place) first_is ∙ map_push visit_place held.first visit
+        ∙ ap (λ ps. ps ++ visit_place visit ∷ []) inv.places ∙ sym grown;
     each = λ k x f. elim (get_push held.first visit k x (subst (λ xs. slice_get xs k ≡ Some x) first_is f)) [
       | inl g ↦ inv.each k x g
       | inr (a, b) ↦ subst (IsFirstVisit visits) b (record { at = i; is = slice_get_read visits _ i visit refl lt here; new = unnumbered })
     ];
-    starts_level = ap length starts_is ∙ length_push held.starts i ∙ ap (λ k. k + 1) inv.starts_level ∙ sym (ap length first_is ∙ length_push held.first visit);
+    starts_level = ap length starts_is ∙ length_push held.starts i ∙ ap (λ k. k + 1) inv.starts_level
+        ∙ sym (ap length first_is ∙ length_push held.first visit);
     starts_are = λ k x f. subst (λ xs. slice_get visits (slice_index xs k) ≡ Some x) (sym starts_is)
         (starting k x (get_push held.first visit k x (subst (λ xs. slice_get xs k ≡ Some x) first_is f)));
-    level = ap length paths_is ∙ length_push held.paths 1 ∙ ap (λ k. k + 1) inv.level ∙ sym (ap length first_is ∙ length_push held.first visit);
+    level = ap length paths_is ∙ length_push held.paths 1 ∙ ap (λ k. k + 1) inv.level
+        ∙ sym (ap length first_is ∙ length_push held.first visit);
     counted = λ k x f. counts k x (get_push held.first visit k x (subst (λ xs. slice_get xs k ≡ Some x) first_is f));
     numbers_level = ap length numbers_is ∙ length_push held.numbers n ∙ ap (λ k. k + 1) inv.numbers_level;
     known = λ k x l e. subst (λ xs. number_of (seen visits (i + 1)) (visit_place x) ≡ Some (slice_index xs k)) (sym numbers_is)
@@ -333,7 +339,8 @@ module _ (visits : List (Visit Entry)) (i : ℕ) (visit : Visit Entry) (held : N
       before : (k : ℕ) (x : Visit Entry) → k < i → slice_get visits k ≡ Some x → number_of (seen visits (i + 1)) (visit_place x)
           ≡ Some (slice_index held.numbers k)
       before k x l e = elim (same_or_other (visit_place x) (visit_place visit)) [
-        | inl q ↦ absurd (let z : Some (slice_index held.numbers k) ≡ None = sym (inv.known k x l e) ∙ ap (number_of (seen visits i)) q.0 ∙ unnumbered in
+        | inl q ↦ absurd (let z : Some (slice_index held.numbers k) ≡ None = sym (inv.known k x l e)
+            ∙ ap (number_of (seen visits i)) q.0 ∙ unnumbered in
             cc)
         | inr t ↦ ap (λ es. number_of es (visit_place x)) more ∙ number_other (seen visits i) (bare visit) (visit_place x) unnumbered t
             ∙ inv.known k x l e
@@ -349,8 +356,8 @@ module _ (visits : List (Visit Entry)) (i : ℕ) (visit : Visit Entry) (held : N
           ∙ get_or_push held.starts i 0 (length held.starts) refl)
           ∙ slice_get_read visits _ i visit refl lt here ∙ ap Some b
 
-      counts : (k : ℕ) (x : Visit Entry) → (slice_get held.first k ≡ Some x) ⊎ ((k ≡ length held.first) × (visit ≡ x)) → slice_index later.paths k
-          ≡ min (paths_of (seen visits (i + 1)) (visit_place x)) (2 ^ 32 - 1)
+      counts : (k : ℕ) (x : Visit Entry) → (slice_get held.first k ≡ Some x) ⊎ ((k ≡ length held.first) × (visit ≡ x))
+          → slice_index later.paths k ≡ min (paths_of (seen visits (i + 1)) (visit_place x)) (2 ^ 32 - 1)
       counts k x (inl f) =
           let b = slice_get_within held.first k x f in
           let v = inv.level in
@@ -363,7 +370,8 @@ module _ (visits : List (Visit Entry)) (i : ℕ) (visit : Visit Entry) (held : N
           other : (k : ℕ) (x : Visit Entry) → slice_get held.first k ≡ Some x → same_place (visit_place x) (visit_place visit) ≡ false
           other k x f = elim (same_or_other (visit_place x) (visit_place visit)) [
             | inr t ↦ t
-            | inl q ↦ absurd (let z : Some (suc k) ≡ None = sym (number_of_first k x f) ∙ ap (number_of (seen visits i)) q.0 ∙ unnumbered in cc)
+            | inl q ↦ absurd (let z : Some (suc k) ≡ None = sym (number_of_first k x f)
+                ∙ ap (number_of (seen visits i)) q.0 ∙ unnumbered in cc)
           ]
       counts k x (inr (a, b)) =
           let zero_paths : paths_of (seen visits i) (visit_place visit) ≡ 0 = none_paths (seen visits i) (visit_place visit)
@@ -372,7 +380,8 @@ module _ (visits : List (Visit Entry)) (i : ℕ) (visit : Visit Entry) (held : N
           ∙ ap (λ c. paths_of (seen visits i) (visit_place visit) + cond c 1 0) (same_itself (visit_place visit))
           ∙ ap (λ c. c + 1) zero_paths in
           let j : k ≡ length held.paths = a ∙ sym inv.level in
-          ap (λ xs. slice_index xs k) paths_is ∙ ap (slice_index (held.paths ++ 1 ∷ [])) j ∙ get_or_push held.paths 1 0 (length held.paths) refl
+          ap (λ xs. slice_index xs k) paths_is ∙ ap (slice_index (held.paths ++ 1 ∷ [])) j
+          ∙ get_or_push held.paths 1 0 (length held.paths) refl
           ∙ sym (ap (λ (y : Visit Entry). min (paths_of (seen visits (i + 1)) (visit_place y)) (2 ^ 32 - 1)) (sym b)
           ∙ ap (λ c. min c (2 ^ 32 - 1)) one)
 

@@ -3,11 +3,11 @@ pub mod Paths
 pub mod Walking
 pub mod Seating
 pub mod Counting
+pub mod Folders
 pub mod Built
 pub mod Seeded
 pub mod Sizes
 pub mod Shown
 pub mod Planted
 pub mod Completed
-pub mod Folders
 pub mod Made

@@ -201,7 +201,8 @@ module _ (layers : List (List ℕ)) (t : TreeRows) (root : Subtree Entry) (visit
         (rw sized (omega arith), rw sized (index_map visit_size visits k visit e))
 
     -- a branch that is located has its number and size there
-    posted : (j : ℕ) (c : Subtree Entry) (above : Entry) → IsLocated t.entries j c above → IsPosted (number_among visits) held.numbers sizes j c
+    posted : (j : ℕ) (c : Subtree Entry) (above : Entry) → IsLocated t.entries j c above
+        → IsPosted (number_among visits) held.numbers sizes j c
     posted j c above l =
         let last = ends_within t.entries j c above l in
         let nl = numbers_level in
@@ -262,7 +263,8 @@ module _ (layers : List (List ℕ)) (t : TreeRows) (root : Subtree Entry) (visit
           let nl = numbers_level in
           record {
             within = omega arith;
-            each = λ cs under forest. following p visit.0.now visit.1 (at p visit (walk.numbered.starts_are k visit e)) [] cs under forest.names;
+            each = λ cs under forest. following p visit.0.now visit.1 (at p visit (walk.numbered.starts_are k visit e)) [] cs under
+                forest.names;
           };
     }
 

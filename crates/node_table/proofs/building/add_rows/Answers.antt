@@ -4,7 +4,7 @@ use Rattle.std.proofs.lemmas.List.{get_or_default}
 use Rattle.node_table.specs.Numbering.{number_among}
 use Rattle.stack_table.specs.Rows.{Line}
 use Rattle.node_table.specs.Building.{line_in, AreFollowing}
-use Rattle.node_table.proofs.Built.{directory, other, follows}
+use Rattle.node_table.proofs.Built.{AddsRow, directory, other, follows}
 use Rattle.node_table.proofs.building.add_rows.Goals as goal
 use Rattle.node_table.proofs.building.add_rows.Goals.{in-Directory, in_default}
 
@@ -19,21 +19,20 @@ loop-child-preserved g c =
     let line : Line = record { number = number; name = c.in_ok-name.name } in
     let is : line ≡ line_in tell c.child-item.result = ap (λ (n : ℕ). record { number = n; name = c.in_ok-name.name }) f.0.number_is
     ∙ ap (λ (x : List ℕ). record { number = tell c.child-item.result.value.place; name = x }) nm in
+    let adds : AddsRow tell c.args.children.now c.loop-child.child-index c.child-item.result c.loop-child.rows.items c.push.new.self.items =
+    record { within = lt; here = c.child-item.is; line = line; line_is = is; pushed = c.in_ok-push.ensures.items } in
     let size = c.index-size.ensures ∙ get_or_default c.args.walk.now.sizes.items c.loop-child.at c.index-size.result.now 0 f.0.sized
     ∙ f.0.size_is in
     let rest = subst (λ n. AreFollowing tell c.args.numbers.now c.args.walk.now.sizes.items (c.loop-child.at + n)
     (drop (c.loop-child.child-index + 1) c.args.children.now)) (sym size) f.1 in
     elim c.match-entry.branch [
       | in-Directory w ↦ (
-        rw w.directories-is (directory tell c.args.children.now c.args.rows.now.items c.loop-child.rows.items
-            c.push.new.self.items c.loop-child.directories c.loop-child.child-index c.child-item.result lt c.child-item.is
-            c.loop-child.invariant.0 line is c.in_ok-push.ensures.items (ap (λ e. e.kind) (sym c.value-entry.ensures) ∙ w.in-Directory.is)),
+        rw w.directories-is (directory _ _ _ _ _ _ _ _ c.loop-child.invariant.0 adds
+            (ap (λ e. e.kind) (sym c.value-entry.ensures) ∙ w.in-Directory.is)),
         rest,
       )
       | in_default w ↦ (
-        rw w.directories-is (other tell c.args.children.now c.args.rows.now.items c.loop-child.rows.items
-            c.push.new.self.items c.loop-child.directories c.loop-child.child-index c.child-item.result lt c.child-item.is
-            c.loop-child.invariant.0 line is c.in_ok-push.ensures.items
+        rw w.directories-is (other _ _ _ _ _ _ _ _ c.loop-child.invariant.0 adds
             (λ k. w.in_default.not-Directory (ap (λ e. e.kind) c.value-entry.ensures ∙ k))),
         rest,
       )
