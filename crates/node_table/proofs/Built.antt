@@ -21,7 +21,7 @@ use Rattle.shown_tree.specs.declared.place.Entry.{Entry}
 use Rattle.name_keys.specs.Names.{Rise}
 use Rattle.stack_table.specs.Rows.{Line, names}
 use Rattle.node_table.specs.Walks.{Visit}
-use Rattle.node_table.specs.Building.{line_in, directories, IsPosted, AreFollowing, AddsRows, AddsLinked, AddsNothing, AddsByKind, IsReadFrom, AddsNode}
+use Rattle.node_table.specs.Building.{line_in, directories, HasNumberAndSize, AreFollowing, AddsRows, AddsLinked, AddsNothing, AddsByKind, IsReadFrom, AddsNode}
 use Rattle.shown_tree.proofs.NoDirectory.{not_directory}
 use Rattle.node_table.proofs.Lists.{take_one_more}
 use Rattle.node_table.proofs.Folders.{Folders}
@@ -69,15 +69,15 @@ module _ (tell : Place → ℕ) (cs : List (Subtree Entry)) (i : ℕ) (c : Subtr
 
 -- of children that follow one another, the next one stands here and the rest after it
 pub follows : (tell : Place → ℕ) (numbers sizes : List ℕ) (at : ℕ) (cs : List (Subtree Entry)) (i : ℕ) (c : Subtree Entry) → i < length cs
-    → c ≡ get_or cs i c → AreFollowing tell numbers sizes at (drop i cs) → IsPosted tell numbers sizes at c
+    → c ≡ get_or cs i c → AreFollowing tell numbers sizes at (drop i cs) → HasNumberAndSize tell numbers sizes at c
     × AreFollowing tell numbers sizes (at + length (whole c)) (drop (i + 1) cs)
 follows tell numbers sizes at cs i c l e f = let n : suc i ≡ i + 1 = omega arith in let r = go cs i l e f in
     (r.0, subst (λ n. AreFollowing tell numbers sizes (at + length (whole c)) (drop n cs)) n r.1)
   where
     go : (cs : List (Subtree Entry)) (i : ℕ) → i < length cs → c ≡ get_or cs i c → AreFollowing tell numbers sizes at (drop i cs)
-        → IsPosted tell numbers sizes at c × AreFollowing tell numbers sizes (at + length (whole c)) (drop (suc i) cs)
+        → HasNumberAndSize tell numbers sizes at c × AreFollowing tell numbers sizes (at + length (whole c)) (drop (suc i) cs)
     go [] i l e f = absurd (omega arith)
-    go (x ∷ cs) zero l e f = subst (λ (y : Subtree Entry). IsPosted tell numbers sizes at y × AreFollowing tell numbers sizes
+    go (x ∷ cs) zero l e f = subst (λ (y : Subtree Entry). HasNumberAndSize tell numbers sizes at y × AreFollowing tell numbers sizes
         (at + length (whole y)) (drop 0 cs)) (sym e) (
           f.0,
           subst (AreFollowing tell numbers sizes (at + length (whole x)))

@@ -18,7 +18,7 @@ use Rattle.stack_table.specs.Rows.{Line, names}
 use Rattle.stack_table.specs.Held.{IsHeldDirectory, IsNode}
 use Rattle.node_table.specs.Walks.{Visit}
 use Rattle.node_table.specs.Building.{line_in, IsMade}
-use Rattle.node_table.specs.Seeds.{AreSeedlings}
+use Rattle.node_table.specs.Agreement.{AgreeBelow}
 use Rattle.node_table.proofs.Lists.{get_front}
 
 -- directories, the rows of all of them, and a key beside each row
@@ -109,7 +109,7 @@ module _ (layers : List (List ℕ)) (entries : List Listed) (tell : Place → �
 
   -- a directory that was made of a place's branch holds the rows and the parent of the place
   pub is_made : (p : ModelPlace) → is_directory_at layers p ≡ true → tell visit.1.place ≡ number entries (parent entries p)
-      → AreSeedlings layers entries tell p cs → IsHeldDirectory layers entries new.rows new.keys d p
+      → AgreeBelow layers entries tell p cs → IsHeldDirectory layers entries new.rows new.keys d p
   is_made p is_one above below = record {
     parent_is = made.parent_is ∙ above;
     start = (let start = made.start_is in let end = made.end_is in let rows = ap length made.rows_are in

@@ -1,13 +1,13 @@
 pub mod Lists
 pub mod Paths
 pub mod Walking
-pub mod Seating
+pub mod PlacesByKey
 pub mod Counting
 pub mod Folders
 pub mod Built
-pub mod Seeded
+pub mod ListedPlaces
 pub mod Sizes
 pub mod Shown
-pub mod Planted
+pub mod FirstBranches
 pub mod Completed
 pub mod Made

@@ -23,8 +23,8 @@ use Rattle.stack_table.specs.Readers.{placed}
 use Rattle.stack_table.specs.Held.{HoldsDirectory, IsNode, AreNodes, IsSomeTable}
 use Rattle.node_table.specs.Walks.{Visit}
 use Rattle.node_table.specs.Numbering.{visit_place}
-use Rattle.node_table.specs.Building.{line_in, AreChildPosts, IsAbove, ArePosts, IsReadFrom, AddsLinked, AddsByKind, AddsNode, completed}
-use Rattle.node_table.specs.Seeds.{AreSeedlings, IsSeed, AreSeeds, AreMade}
+use Rattle.node_table.specs.Building.{line_in, HasChildrenAfter, IsAbove, StandAtStarts, IsReadFrom, AddsLinked, AddsByKind, AddsNode, completed}
+use Rattle.node_table.specs.Agreement.{AgreeBelow, AgreesAtPlace, AgreeWithListing, AreMade}
 use Rattle.path_tree.proofs.Lists.{get_of_map}
 use Rattle.node_table.proofs.Lists.{element_below, get_end, get_push, get_map}
 use Rattle.node_table.proofs.Folders.{Folders, still_node, level_made, is_made}
@@ -39,9 +39,9 @@ pub record Making (layers : List (List ℕ)) (entries : List Listed) (made : Lis
 
 -- a node was made of a visit that agrees with the listing, and its directory was added to what was
 -- kept before
-pub record IsMadeOfSeed (layers : List (List ℕ)) (entries : List Listed) (tell : Place → ℕ) (paths : ℕ) (visit : Visit Entry)
+pub record IsMadeOfVisit (layers : List (List ℕ)) (entries : List Listed) (tell : Place → ℕ) (paths : ℕ) (visit : Visit Entry)
     (old new : Folders) (node : Node) : Type 0 where
-  pub seed : IsSeed layers entries tell paths visit
+  pub agrees : AgreesAtPlace layers entries tell paths visit
   pub level : length old.keys ≡ length old.rows
   pub adds : AddsNode layers tell visit paths old.all new.all old.rows new.rows old.keys new.keys node
 
@@ -56,30 +56,30 @@ sizes_agree Socket n = refl
 sizes_agree Fifo n = refl
 
 module _ (layers : List (List ℕ)) (entries : List Listed) (tell : Place → ℕ) (paths : ℕ) (visit : Visit Entry) (old new : Folders)
-    (node : Node) (made : IsMadeOfSeed layers entries tell paths visit old new node) where
-  seed : IsSeed layers entries tell paths visit
-  seed = made.seed
+    (node : Node) (made : IsMadeOfVisit layers entries tell paths visit old new node) where
+  agrees : AgreesAtPlace layers entries tell paths visit
+  agrees = made.agrees
 
   adds : AddsNode layers tell visit paths old.all new.all old.rows new.rows old.keys new.keys node
   adds = made.adds
 
-  here : slice_get layers node.place.layer ≡ Some seed.seat.image
-  here = ap (λ (x : Place). slice_get layers x.layer) adds.place_is ∙ seed.seat.is
+  here : slice_get layers node.place.layer ≡ Some agrees.header.image
+  here = ap (λ (x : Place). slice_get layers x.layer) adds.place_is ∙ agrees.header.is
 
-  read : IsReadFrom seed.seat.image visit.0.now.value.place.header node
-  read = subst (λ (x : Place). IsReadFrom seed.seat.image x.header node) adds.place_is (adds.read seed.seat.image here)
+  read : IsReadFrom agrees.header.image visit.0.now.value.place.header node
+  read = subst (λ (x : Place). IsReadFrom agrees.header.image x.header node) adds.place_is (adds.read agrees.header.image here)
 
-  layer : slice_index_or layers visit.0.now.value.place.layer [] ≡ seed.seat.image
-  layer = get_or_from_slice_get layers visit.0.now.value.place.layer seed.seat.image [] seed.seat.is
+  layer : slice_index_or layers visit.0.now.value.place.layer [] ≡ agrees.header.image
+  layer = get_or_from_slice_get layers visit.0.now.value.place.layer agrees.header.image [] agrees.header.is
 
   kind_is : node.kind ≡ kind_at layers (visit_place visit)
-  kind_is = adds.kind_is ∙ seed.kind_is
+  kind_is = adds.kind_is ∙ agrees.kind_is
 
   directory_is : is_directory node.kind ≡ is_directory_at layers (visit_place visit)
   directory_is = ap is_directory kind_is
 
   size_is : node.part.len ≡ size_at layers (visit_place visit)
-  size_is = read.data_is.size_is ∙ sizes_agree (kind seed.seat.image visit.0.now.value.place.header) _
+  size_is = read.data_is.size_is ∙ sizes_agree (kind agrees.header.image visit.0.now.value.place.header) _
       ∙ ap (λ x. size_of (kind x visit.0.now.value.place.header) (size x visit.0.now.value.place.header)) (sym layer)
 
   mode_is : mode_of node.kind node.exec ≡ mode layers (visit_place visit)
@@ -93,8 +93,8 @@ module _ (layers : List (List ℕ)) (entries : List Listed) (tell : Place → �
   -- what a directory adds
   module _ (is_one : is_directory_at layers (visit_place visit) ≡ true)
       (linked : AddsLinked tell visit node.nlink old.all new.all old.rows new.rows old.keys new.keys) where
-    below : AreSeedlings layers entries tell (visit_place visit) linked.added.children
-    below = seed.below linked.added.children linked.added.below linked.added.forest
+    below : AgreeBelow layers entries tell (visit_place visit) linked.added.children
+    below = agrees.below linked.added.children linked.added.below linked.added.forest
 
     nlink_directory : node.nlink ≡ nlink layers entries (visit_place visit)
     nlink_directory =
@@ -108,7 +108,7 @@ module _ (layers : List (List ℕ)) (entries : List Listed) (tell : Place → �
       is = ap (λ (x : List Folder). slice_get x node.directory) linked.added.is
           ∙ ap (slice_get (old.all ++ linked.added.directory ∷ [])) adds.directory_is ∙ get_end old.all [] linked.added.directory;
       holds = is_made layers entries tell visit old new made.level linked.added.children linked.added.directory linked.added.made
-          (visit_place visit) is_one seed.parent_is below;
+          (visit_place visit) is_one agrees.parent_is below;
     }
 
   -- how often it is linked, and its directory
@@ -118,7 +118,7 @@ module _ (layers : List (List ℕ)) (entries : List Listed) (tell : Place → �
       → HoldsDirectory layers entries new.all new.rows new.keys (completed node) (visit_place visit))
   held_by true is_one linked = (nlink_directory is_one linked, λ again. has_directory is_one linked)
   held_by false is_none nothing = (
-    nothing.nlink_is ∙ seed.paths_are is_none,
+    nothing.nlink_is ∙ agrees.paths_are is_none,
     λ is_one. absurd (let f : true ≡ false = sym is_one ∙ is_none in
         cc),
   )
@@ -164,10 +164,10 @@ module _ (layers : List (List ℕ)) (entries : List Listed) (tell : Place → �
   is_node = record {
     place = ap placed adds.place_is;
     holds = record {
-      image = seed.seat.image;
+      image = agrees.header.image;
       is = here;
       lies = read.data_is.lies;
-      data_is = read.data_is.bytes ∙ seed.data_is seed.seat.image seed.seat.is;
+      data_is = read.data_is.bytes ∙ agrees.data_is agrees.header.image agrees.header.is;
     };
     kind = kind_is;
     size = size_is;
@@ -183,19 +183,19 @@ pub record IsNextFirst (layers : List (List ℕ)) (entries : List Listed) (tell 
     (i start : ℕ) (visit : Visit Entry) : Type 0 where
   pub within : i < length paths
   pub placed : slice_get (nodes entries) i ≡ Some (visit_place visit)
-  pub seed : IsSeed layers entries tell (slice_index paths i) visit
+  pub agrees : AgreesAtPlace layers entries tell (slice_index paths i) visit
   pub above : IsAbove tell numbers places start visit
-  pub children : AreChildPosts tell numbers sizes start visit
+  pub children : HasChildrenAfter tell numbers sizes start visit
 
 module _ (layers : List (List ℕ)) (entries : List Listed) (tell : Place → ℕ) (visits : List (Visit Entry)) (numbers places sizes : List ℕ)
-    (first : List (Visit Entry)) (starts paths : List ℕ) (seeds : AreSeeds layers entries tell first paths)
-    (posts : ArePosts tell visits numbers places sizes first starts) (i start : ℕ) (more : i < length starts)
+    (first : List (Visit Entry)) (starts paths : List ℕ) (agree : AgreeWithListing layers entries tell first paths)
+    (stand : StandAtStarts tell visits numbers places sizes first starts) (i start : ℕ) (more : i < length starts)
     (held : start ≡ slice_index starts i) where
   branch : (visit : Visit Entry) × (slice_get first i ≡ Some visit)
-  branch = element_below first i (let level = posts.level in omega arith)
+  branch = element_below first i (let level = stand.level in omega arith)
 
   there : slice_get visits start ≡ Some branch.0
-  there = subst (λ n. slice_get visits n ≡ Some branch.0) (sym held) (posts.there i branch.0 branch.1)
+  there = subst (λ n. slice_get visits n ≡ Some branch.0) (sym held) (stand.there i branch.0 branch.1)
 
   -- the place that is held for a first branch is among the visits
   pub start_within : start < length visits
@@ -206,11 +206,11 @@ module _ (layers : List (List ℕ)) (entries : List Listed) (tell : Place → �
       → IsNextFirst layers entries tell numbers places sizes paths i start visit
   next_first visit read = subst (IsNextFirst layers entries tell numbers places sizes paths i start)
       (sym (read ∙ get_or_from_slice_get visits start branch.0 visit there)) (record {
-        within = (let level = posts.level in let counts = seeds.level in omega arith);
-        placed = subst (λ ps. slice_get ps i ≡ Some (visit_place branch.0)) seeds.places (get_map visit_place first i branch.0 branch.1);
-        seed = seeds.each i branch.0 branch.1;
-        above = subst (λ n. IsAbove tell numbers places n branch.0) (sym held) (posts.above i branch.0 branch.1);
-        children = subst (λ n. AreChildPosts tell numbers sizes n branch.0) (sym held) (posts.children i branch.0 branch.1);
+        within = (let level = stand.level in let counts = agree.level in omega arith);
+        placed = subst (λ ps. slice_get ps i ≡ Some (visit_place branch.0)) agree.places (get_map visit_place first i branch.0 branch.1);
+        agrees = agree.each i branch.0 branch.1;
+        above = subst (λ n. IsAbove tell numbers places n branch.0) (sym held) (stand.above i branch.0 branch.1);
+        children = subst (λ n. HasChildrenAfter tell numbers sizes n branch.0) (sym held) (stand.children i branch.0 branch.1);
       })
 
 -- before the first branch no node is made
@@ -224,7 +224,7 @@ nodes_begun layers entries made kept none no_rows no_keys = record {
 
 -- with the node of the next first branch one node more is made
 pub node_made : (layers : List (List ℕ)) (entries : List Listed) (tell : Place → ℕ) (paths : ℕ) (visit : Visit Entry) (old new : Folders)
-    (node : Node) (before after : List Node) (i : ℕ) → IsMadeOfSeed layers entries tell paths visit old new node
+    (node : Node) (before after : List Node) (i : ℕ) → IsMadeOfVisit layers entries tell paths visit old new node
     → slice_get (nodes entries) i ≡ Some (visit_place visit) → Making layers entries before old i → after ≡ before ++ node ∷ []
     → Making layers entries after new (i + 1)
 node_made layers entries tell paths visit old new node before after i made place_is making pushed = record {
@@ -243,13 +243,13 @@ node_made layers entries tell paths visit old new node before after i made place
 
 -- past the last first branch all nodes are made
 pub nodes_ended : (layers : List (List ℕ)) (entries : List Listed) (tell : Place → ℕ) (first : List (Visit Entry)) (paths : List ℕ)
-    (seeds : AreSeeds layers entries tell first paths) (made : List Node) (kept : Folders) (i : ℕ) → i ≡ length first
+    (agree : AgreeWithListing layers entries tell first paths) (made : List Node) (kept : Folders) (i : ℕ) → i ≡ length first
     → Making layers entries made kept i → AreMade layers made kept.all kept.rows kept.keys
-nodes_ended layers entries tell first paths seeds made kept i all making = (
+nodes_ended layers entries tell first paths agree made kept i all making = (
   entries,
-  seeds.listing,
+  agree.listing,
   record {
-    level = length-map made completed ∙ making.level ∙ all ∙ sym (length-map first visit_place) ∙ ap length seeds.places;
+    level = length-map made completed ∙ making.level ∙ all ∙ sym (length-map first visit_place) ∙ ap length agree.places;
     keys_level = making.keys_level;
     each = λ k node p at there. let x = get_of_map completed made k node at in
         subst (λ (n : Node). IsNode layers entries kept.all kept.rows kept.keys n p) x.2 (making.each k x.0 p x.1 there);

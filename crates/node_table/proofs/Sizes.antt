@@ -10,7 +10,7 @@ use Rattle.shown_tree.specs.declared.place.Entry.{Entry}
 use Rattle.node_table.specs.Walks.{under, extends, IsApart, IsLocated}
 use Rattle.node_table.proofs.Counting.{count, count_append}
 use Rattle.node_table.proofs.Paths.{same_itself, length_under}
-use Rattle.node_table.proofs.Seeded.{row_at}
+use Rattle.node_table.proofs.ListedPlaces.{row_at}
 
 -- how many rows begin with a path
 abbrev count_below : Path → Rows Entry → ℕ

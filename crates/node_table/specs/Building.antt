@@ -28,7 +28,7 @@ pub record AddsRows (tell : Place → ℕ) (cs : List (Subtree Entry)) (old new 
   pub count_is : n ≡ directories cs
 
 -- a branch's number and size stand at this place
-pub record IsPosted (tell : Place → ℕ) (numbers sizes : List ℕ) (at : ℕ)
+pub record HasNumberAndSize (tell : Place → ℕ) (numbers sizes : List ℕ) (at : ℕ)
     (c : Subtree Entry) : Type 0 where
   pub within : at < length numbers
   pub sized : at < length sizes
@@ -40,10 +40,11 @@ pub record IsPosted (tell : Place → ℕ) (numbers sizes : List ℕ) (at : ℕ)
 abbrev pub AreFollowing : (Place → ℕ) → List ℕ → List ℕ → ℕ → List (Subtree Entry) → Type 0
 AreFollowing tell numbers sizes at [] = ⊤
 AreFollowing tell numbers sizes at (c ∷ cs) =
-    IsPosted tell numbers sizes at c × AreFollowing tell numbers sizes (at + length (whole c)) cs
+    HasNumberAndSize tell numbers sizes at c
+    × AreFollowing tell numbers sizes (at + length (whole c)) cs
 
 -- the children of a visit stand after it
-pub record AreChildPosts (tell : Place → ℕ) (numbers sizes : List ℕ) (at : ℕ)
+pub record HasChildrenAfter (tell : Place → ℕ) (numbers sizes : List ℕ) (at : ℕ)
     (visit : Visit Entry) : Type 0 where
   pub within : at < length numbers
   pub each : (cs : List (Subtree Entry)) → visit.0.now.below ≡ spread cs → IsForest cs
@@ -56,19 +57,20 @@ pub record IsAbove (tell : Place → ℕ) (numbers places : List ℕ) (at : ℕ)
   pub within : slice_index places at < length numbers
   pub number_is : slice_index numbers (slice_index places at) ≡ tell visit.1.place
 
--- these visits stand at these places
-pub record ArePosts (tell : Place → ℕ) (visits : List (Visit Entry)) (numbers places sizes : List ℕ)
-    (first : List (Visit Entry)) (starts : List ℕ) : Type 0 where
+-- the first branches stand where starts say, with the numbers of their parents and children at
+-- hand
+pub record StandAtStarts (tell : Place → ℕ) (visits : List (Visit Entry))
+    (numbers places sizes : List ℕ) (first : List (Visit Entry)) (starts : List ℕ) : Type 0 where
   pub level : length starts ≡ length first
   pub there : (k : ℕ) (visit : Visit Entry) → slice_get first k ≡ Some visit
       → slice_get visits (slice_index starts k) ≡ Some visit
   pub above : (k : ℕ) (visit : Visit Entry) → slice_get first k ≡ Some visit
       → IsAbove tell numbers places (slice_index starts k) visit
   pub children : (k : ℕ) (visit : Visit Entry) → slice_get first k ≡ Some visit
-      → AreChildPosts tell numbers sizes (slice_index starts k) visit
+      → HasChildrenAfter tell numbers sizes (slice_index starts k) visit
 
 -- the header at a branch's place is one that the place's image gives
-pub record IsSeat (layers : List (List ℕ)) (branch : Subtree Entry) : Type 0 where
+pub record HasGivenHeader (layers : List (List ℕ)) (branch : Subtree Entry) : Type 0 where
   pub image : List ℕ
   pub is : slice_get layers branch.value.place.layer ≡ Some image
   pub given : IsGiven image (head_of image branch.value.place.header)

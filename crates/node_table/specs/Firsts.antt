@@ -7,10 +7,10 @@ use Rattle.equal_keys.specs.Once.{IsOnce}
 
 -- keys with their places, all but some that stand at one place alone, in the order of keys, and of
 -- places where keys are equal
-pub record AreSeats (keys : List ℕ) (seats : List (ℕ × ℕ)) : Type 0 where
-  pub own : All (λ seat. (seat.1 < length keys) × (slice_index keys seat.1 ≡ seat.0)) seats
-  pub every : (k : ℕ) → k < length keys → Contains seats (slice_index keys k, k) ⊎ IsOnce keys k
-  pub rising : IsSorted (λ x y. ordering_then (nat_cmp x.0 y.0) (nat_cmp x.1 y.1)) seats
+pub record ArePlacesByKey (keys : List ℕ) (by_key : List (ℕ × ℕ)) : Type 0 where
+  pub own : All (λ keyed. (keyed.1 < length keys) × (slice_index keys keyed.1 ≡ keyed.0)) by_key
+  pub every : (k : ℕ) → k < length keys → Contains by_key (slice_index keys k, k) ⊎ IsOnce keys k
+  pub rising : IsSorted (λ x y. ordering_then (nat_cmp x.0 y.0) (nat_cmp x.1 y.1)) by_key
 
 -- the numbers from 0 on, as many as this
 pub record AreThemselves (len : ℕ) (places : List ℕ) : Type 0 where

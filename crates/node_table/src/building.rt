@@ -4,9 +4,9 @@ ghost use Rattle.std.specs.Prelude.{◌≡◌, ◌+◌, ◌<◌, length, slice_i
 ghost use Rattle.romfs_format.specs.Heads.{head_of};
 ghost use Rattle.romfs_reader.specs.Readers.{IsGiven};
 ghost use Rattle.node_table.specs.Numbering.{number_among};
-ghost use Rattle.node_table.specs.Building.{IsAbove, AreFollowing, AreChildPosts};
-ghost use Rattle.node_table.specs.Building.{AddsRows, AddsDirectory, AddsNode, IsSeat};
-ghost use Rattle.node_table.specs.Seeds.{AreSeated, AreMade};
+ghost use Rattle.node_table.specs.Building.{IsAbove, AreFollowing, HasChildrenAfter};
+ghost use Rattle.node_table.specs.Building.{AddsRows, AddsDirectory, AddsNode, HasGivenHeader};
+ghost use Rattle.node_table.specs.Agreement.{StandAndAgree, AreMade};
 
 use crate::ahead::HeadersAhead;
 use crate::numbering::Numbered;
@@ -80,7 +80,7 @@ fn add_directory<A: Allocator + Copy>(
 ) -> Result<u64, AllocError>
     requires above { IsAbove (number_among walk.now.visits.items)
         numbers.now walk.now.above.items start visit.now }
-    requires children { AreChildPosts (number_among walk.now.visits.items)
+    requires children { HasChildrenAfter (number_among walk.now.visits.items)
         numbers.now walk.now.sizes.items start visit.now }
     ensures { IfOk result (λ n. AddsDirectory (number_among walk.now.visits.items) visit.now
         into.old.all.items into.new.all.items into.old.rows.items into.new.rows.items
@@ -113,10 +113,10 @@ pub(crate) fn add_node<A: Allocator + Copy>(
     paths: u32,
     into: &mut Directories<A>,
 ) -> Result<Node, AllocError>
-    requires seat { IsSeat images.now visit.now.0.now }
+    requires header { HasGivenHeader images.now visit.now.0.now }
     requires above { IsAbove (number_among walk.now.visits.items)
         numbers.now walk.now.above.items start visit.now }
-    requires children { AreChildPosts (number_among walk.now.visits.items)
+    requires children { HasChildrenAfter (number_among walk.now.visits.items)
         numbers.now walk.now.sizes.items start visit.now }
     ensures { IfOk result (λ node. AddsNode images.now (number_among walk.now.visits.items)
         visit.now paths into.old.all.items into.new.all.items
@@ -153,7 +153,7 @@ pub(crate) fn make<A: Allocator + Copy>(
     walk: &Walked<'_, Entry, A>,
     numbered: &Numbered<A>,
 ) -> Result<TableParts<A>, AllocError>
-    requires { AreSeated images.now walk.now.visits.items walk.now.above.items
+    requires { StandAndAgree images.now walk.now.visits.items walk.now.above.items
         walk.now.sizes.items numbered.now.starts.items numbered.now.paths.items
         numbered.now.numbers.items }
     ensures { IfOk result (λ made. AreMade images.now made.nodes.items

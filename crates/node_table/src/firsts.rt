@@ -3,26 +3,29 @@
 //! Most keys stand once: these are passed over, and the others are sorted with their places.
 
 ghost use Rattle.std.specs.Prelude.{IfOk};
-ghost use Rattle.node_table.specs.Firsts.{AreSeats, AreFirsts, AreThemselves};
+ghost use Rattle.node_table.specs.Firsts.{ArePlacesByKey, AreFirsts, AreThemselves};
 
 use equal_keys::seen_once;
 use std::alloc::{AllocError, Allocator};
 
-// Keys with their places, all but some that stand once, in the order of keys, and of places where
-// keys are equal.
-fn seats_of<A: Allocator + Copy>(alloc: A, keys: &[u64]) -> Result<Vec<(u64, usize), A>, AllocError>
-    ensures { IfOk result (λ seats. AreSeats keys.now seats.items) }
+// Keys with their places, in the order of keys, and of places where keys are equal. Some keys that
+// stand once are left out.
+fn places_by_key<A: Allocator + Copy>(
+    alloc: A,
+    keys: &[u64],
+) -> Result<Vec<(u64, usize), A>, AllocError>
+    ensures { IfOk result (λ by_key. ArePlacesByKey keys.now by_key.items) }
 {
     let once = seen_once(alloc, keys)?;
-    let mut seats = Vec::new(alloc);
+    let mut by_key = Vec::new(alloc);
     for (at, key) in keys.iter().enumerate() {
         if once[at] {
             continue;
         }
-        seats.push((*key, at))?;
+        by_key.push((*key, at))?;
     }
-    seats.sort_unstable();
-    Ok(seats)
+    by_key.sort_unstable();
+    Ok(by_key)
 }
 
 // The places of a list of this length, each for itself.
@@ -43,14 +46,15 @@ pub(crate) fn firsts_of<A: Allocator + Copy>(
 ) -> Result<Vec<usize, A>, AllocError>
     ensures { IfOk result (λ firsts. AreFirsts keys.now firsts.items) }
 {
-    let seats = seats_of(alloc, keys)?;
+    let by_key = places_by_key(alloc, keys)?;
     let mut firsts = themselves(alloc, keys.len())?;
+    // the key that was met last, with its first place
     let mut group = (0, 0);
-    for (i, seat) in seats.iter().enumerate() {
-        if i == 0 || seat.0 != group.0 {
-            group = *seat;
+    for (i, keyed) in by_key.iter().enumerate() {
+        if i == 0 || keyed.0 != group.0 {
+            group = *keyed;
         }
-        firsts[seat.1] = group.1;
+        firsts[keyed.1] = group.1;
     }
     Ok(firsts)
 }

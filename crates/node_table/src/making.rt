@@ -6,7 +6,7 @@ ghost use Rattle.stack_model.specs.declared.limits.TheConstants.{MAX_LAYERS};
 ghost use Rattle.romfs_reader.specs.Images.{IsImage};
 ghost use Rattle.shown_tree.specs.Trees.{IsTreeOf};
 ghost use Rattle.stack_table.specs.Stacked.{IsTableOf};
-ghost use Rattle.node_table.specs.Seeds.{AreMade};
+ghost use Rattle.node_table.specs.Agreement.{AreMade};
 
 use crate::building::{TableParts, make};
 use crate::completing::{blocks_of, complete_all};

@@ -21,13 +21,13 @@ index-visit-requires g c =
     let within = start_within _ _ _ _ _ _ _ _ _ _ inv.2 inv.3 c.loop-at.at _ (omega (arith, ap length starts)) held in
     omega (arith, within, c.args.walk.now.visits.ok.0)
 
-pub add_node-requires-clause-seat : goal.add_node-requires-clause-seat
-add_node-requires-clause-seat g c =
+pub add_node-requires-clause-header : goal.add_node-requires-clause-header
+add_node-requires-clause-header g c =
     let inv = c.loop-at.invariant in
     let starts = c.deref-start-items.ensures.value in
     let held = ap (λ xs. slice_index xs c.loop-at.at) starts in
     let next = next_first _ _ _ _ _ _ _ _ _ _ inv.2 inv.3 c.loop-at.at _ (omega (arith, ap length starts)) held _ c.index-visit.ensures in
-    next.seed.seat
+    next.agrees.header
 
 pub add_node-requires-clause-above : goal.add_node-requires-clause-above
 add_node-requires-clause-above g c =
@@ -59,7 +59,7 @@ loop-at-preserved g c =
       inv.2,
       inv.3,
       node_made _ _ _ _ c.index-visit.result.now _ _ c.in_ok-node.node _ _ c.loop-at.at
-          (record { seed = next.seed; level = inv.4.keys_level; adds = adds }) next.placed inv.4 c.in_ok-push.ensures.items,
+          (record { agrees = next.agrees; level = inv.4.keys_level; adds = adds }) next.placed inv.4 c.in_ok-push.ensures.items,
     )
 
 pub returns : goal.returns

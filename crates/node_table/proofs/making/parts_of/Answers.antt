@@ -1,5 +1,5 @@
 use Rattle.node_table.proofs.Counting.{Numbers}
-use Rattle.node_table.proofs.Planted.{WalksTree, seeds, posts, walked_all}
+use Rattle.node_table.proofs.FirstBranches.{WalksTree, firsts_agree, firsts_stand, walked_all}
 use Rattle.node_table.proofs.making.parts_of.Goals as goal
 
 pub make-requires : goal.make-requires
@@ -18,6 +18,6 @@ make-requires g c =
       numbered = numbered.1;
     } in (
       held.first,
-      seeds _ _ _ _ held walk,
-      posts _ _ _ _ held walk _ _ all.1 all.2,
+      firsts_agree _ _ _ _ held walk,
+      firsts_stand _ _ _ _ held walk _ _ all.1 all.2,
     )

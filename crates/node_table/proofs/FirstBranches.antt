@@ -1,6 +1,6 @@
--- The first branches of a stack's tree, by number, agree with the listing of its layers: seeds says
--- so of what the tree shows, by Shown and Seeded; posts says where they and their children stand,
--- and where their parents' numbers do. Both are of a walk over the whole tree (walked_all).
+-- The first branches of a stack's tree, by number. That they agree with the listing of its layers
+-- says firsts_agree, by Shown and ListedPlaces; where they and their children stand, and where their
+-- parents' numbers do, says firsts_stand. Both are of a walk over the whole tree (walked_all).
 use Rattle.std.proofs.Common.{◌≡◌, ◌∙◌, sym, ap, subst, ℕ, suc, ◌+◌, ◌-◌, ◌^◌, ◌<◌, List, [], ◌∷◌, ◌++◌, length, map, refl, arith, append_assoc, length-append, cond, Some}
 use Rattle.std.specs.Prelude.{slice_get, slice_index, min, count_by, unwrap_or}
 use Rattle.std.specs.List.{AllByRecursion}
@@ -19,15 +19,15 @@ use Rattle.shown_tree.proofs.Listed.{is_listing}
 use Rattle.stack_table.specs.Readers.{placed}
 use Rattle.node_table.specs.Walks.{Visit, under, IsLocated, AreWalked, visit_size, AreAbove, AddsWalk}
 use Rattle.node_table.specs.Numbering.{visit_place, bare, seen, paths_of, number_among, IsFirstVisit, IsNumbered}
-use Rattle.node_table.specs.Building.{line_in, IsPosted, AreFollowing, ArePosts}
-use Rattle.node_table.specs.Seeds.{shown_line, AreSeedlings, IsSeed, AreSomeSeeds}
+use Rattle.node_table.specs.Building.{line_in, HasNumberAndSize, AreFollowing, StandAtStarts}
+use Rattle.node_table.specs.Agreement.{shown_line, AgreeBelow, AgreesAtPlace, AgreeWithSomeListing}
 use Rattle.path_tree.proofs.Lists.{all_get}
 use Rattle.node_table.proofs.Lists.{element_below, index_map}
 use Rattle.node_table.proofs.Paths.{spread_append, under_append, child_located}
 use Rattle.node_table.proofs.Sizes.{same_value, same_size, ends_within}
 use Rattle.node_table.proofs.Counting.{Numbers, count, counted}
-use Rattle.node_table.proofs.Seeded as seeded
-use Rattle.node_table.proofs.Seeded.{child_of, row_at, places_same, bare_places, nodes_by, number_of_by}
+use Rattle.node_table.proofs.ListedPlaces as by_listing
+use Rattle.node_table.proofs.ListedPlaces.{child_of, row_at, places_same, bare_places, nodes_by, number_of_by}
 use Rattle.node_table.proofs.Shown.{IsPlaced, rows_placed, kind_placed, data_placed}
 
 all_back : {X : Type 0} (P : X → Type 0) (xs ys : List X) → AllByRecursion P (xs ++ ys) → AllByRecursion P ys
@@ -109,7 +109,7 @@ module _ (layers : List (List ℕ)) (t : TreeRows) (root : Subtree Entry) (visit
       let l = at k visit e in
       let P : Path × Entry → Type 0 = λ (r : Path × Entry). IsPlaced layers r.1 in
       let row : Path × Entry = (l.top ++ [], visit.0.now.value) in
-      let s = seeded.split t.entries visits level at k visit.0.now visit.1 l
+      let s = by_listing.split t.entries visits level at k visit.0.now visit.1 l
       ∙ ap (λ b. l.before ++ row ∷ (under l.top b ++ l.after)) below in
       let tail = all_back P l.before (row ∷ (under l.top (spread cs) ++ l.after)) (subst (AllByRecursion P) s all_placed) in
       go l.top cs (all_front P (under l.top (spread cs)) l.after tail.1)
@@ -124,10 +124,10 @@ module _ (layers : List (List ℕ)) (t : TreeRows) (root : Subtree Entry) (visit
             (under_append top (prefixed c.name c.below) (spread cs)) a.1)),
       )
 
-  seedlings : (k : ℕ) (visit : Visit Entry) (f : IsFirstVisit visits visit) (cs : List (Subtree Entry)) → visit.0.now.below ≡ spread cs
-      → IsForest cs → AreSeedlings layers (map listed t.entries) (number_among visits) (visit_place visit) cs
-  seedlings k visit f cs below forest =
-      let c = seeded.children_are t.entries visits level at visit f cs below forest in
+  children_agree : (k : ℕ) (visit : Visit Entry) (f : IsFirstVisit visits visit) (cs : List (Subtree Entry)) → visit.0.now.below ≡ spread cs
+      → IsForest cs → AgreeBelow layers (map listed t.entries) (number_among visits) (visit_place visit) cs
+  children_agree k visit f cs below forest =
+      let c = by_listing.children_are t.entries visits level at visit f cs below forest in
       let p = children_placed f.at visit f.is cs below in
       record {
         rows_are = lines cs p ∙ ap (map (shown_line (map listed t.entries))) (sym c);
@@ -150,19 +150,20 @@ module _ (layers : List (List ℕ)) (t : TreeRows) (root : Subtree Entry) (visit
           (count (λ (c : Subtree Entry). is_directory c.value.kind) cs)) (ap is_directory (kind_placed layers c.value a.0))
           ∙ ap (λ n. cond (is_directory_at layers (placed c.value.place)) (1 + n) n) (kinds cs a.1)
 
-  seed : (k : ℕ) (visit : Visit Entry) → slice_get held.first k ≡ Some visit → IsSeed layers (map listed t.entries) (number_among visits)
+  agrees : (k : ℕ) (visit : Visit Entry) → slice_get held.first k ≡ Some visit
+      → AgreesAtPlace layers (map listed t.entries) (number_among visits)
       (slice_index held.paths k) visit
-  seed k visit e =
+  agrees k visit e =
       let f = walk.numbered.each k visit e in
       let v = visit.0.now.value in
       let p = visit_placed f.at visit f.is in
       record {
-        seat = record { image = p.image; is = p.is; given = p.given };
+        header = record { image = p.image; is = p.is; given = p.given };
         data_is = λ image s. let z : Some p.image ≡ Some image = sym p.is ∙ s in let q : p.image ≡ image = cc in
             subst (λ x. data_in x v.place.header ≡ data_of layers (visit_place visit)) q (data_placed layers v p);
         kind_is = kind_placed layers v p;
-        parent_is = numbered visit.1 ∙ ap (number (map listed t.entries)) (sym (seeded.parent_is t.entries visits level at visit f));
-        below = seedlings k visit f;
+        parent_is = numbered visit.1 ∙ ap (number (map listed t.entries)) (sym (by_listing.parent_is t.entries visits level at visit f));
+        below = children_agree k visit f;
         paths_are = λ other. walk.numbered.counted k visit e
             ∙ ap (λ c. min c (2 ^ 32 - 1)) (paths_by (seen visits (length visits)) (map listed t.entries) (visit_place visit)
             (sym places_are))
@@ -172,14 +173,14 @@ module _ (layers : List (List ℕ)) (t : TreeRows) (root : Subtree Entry) (visit
       }
 
   -- the first branches of all places, by number, agree with the listing of the layers
-  pub seeds : AreSomeSeeds layers (number_among visits) held.first held.paths
-  seeds = (
+  pub firsts_agree : AgreeWithSomeListing layers (number_among visits) held.first held.paths
+  firsts_agree = (
     map listed t.entries,
     record {
       listing = is_listing layers t walk.tree;
       level = walk.numbered.level;
       places = walk.numbered.places ∙ nodes_by (seen visits (length visits)) (map listed t.entries) (sym places_are);
-      each = seed;
+      each = agrees;
     },
   )
 
@@ -201,9 +202,9 @@ module _ (layers : List (List ℕ)) (t : TreeRows) (root : Subtree Entry) (visit
         (rw sized (omega arith), rw sized (index_map visit_size visits k visit e))
 
     -- a branch that is located has its number and size there
-    posted : (j : ℕ) (c : Subtree Entry) (above : Entry) → IsLocated t.entries j c above
-        → IsPosted (number_among visits) held.numbers sizes j c
-    posted j c above l =
+    number_and_size : (j : ℕ) (c : Subtree Entry) (above : Entry) → IsLocated t.entries j c above
+        → HasNumberAndSize (number_among visits) held.numbers sizes j c
+    number_and_size j c above l =
         let last = ends_within t.entries j c above l in
         let nl = numbers_level in
         let sl = level in
@@ -227,7 +228,7 @@ module _ (layers : List (List ℕ)) (t : TreeRows) (root : Subtree Entry) (visit
         let here = child_located t.entries j s above l ls c cs below rise in
         let again = append_assoc ls (c ∷ []) cs in
         let rest = following j s above l (ls ++ c ∷ []) cs (below ∙ ap spread (sym again)) (subst NamesRise (sym again) rise) in (
-          posted (j + suc (length (spread ls))) c s.value here,
+          number_and_size (j + suc (length (spread ls))) c s.value here,
           subst (λ n. AreFollowing (number_among visits) held.numbers sizes n cs) longer
               rest,
         )
@@ -241,8 +242,8 @@ module _ (layers : List (List ℕ)) (t : TreeRows) (root : Subtree Entry) (visit
             omega arith
 
     -- they stand where starts say, with the numbers of their parents and children at hand
-    pub posts : ArePosts (number_among visits) visits held.numbers places sizes held.first held.starts
-    posts = record {
+    pub firsts_stand : StandAtStarts (number_among visits) visits held.numbers places sizes held.first held.starts
+    firsts_stand = record {
       level = walk.numbered.starts_level;
       there = walk.numbered.starts_are;
       above = λ k visit e.

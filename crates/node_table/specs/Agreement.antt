@@ -1,64 +1,65 @@
--- What the first branches of places have to say, so that a table can be made of them.
+-- Where the first branches of places agree with the listing, so that a table can be made of them.
 use Rattle.std.specs.Prelude.{◌≡◌, ℕ, List, length, map, slice_get, slice_index, count_by, Some, false}
 use Rattle.romfs_reader.specs.Readers.{data_of_header as data_in}
 use Rattle.stack_model.specs.Listing.{Entry as Listed, IsListing}
 use Rattle.stack_model.specs.Numbers.{Place, Child, nodes, number, parent, children}
 use Rattle.stack_model.specs.Attributes.{kind_at, is_directory_at, nlink, data_of}
 use Rattle.path_tree.specs.Rows.{Subtree, spread, IsForest}
-use Rattle.shown_tree.specs.declared.place.Place.{Place as Seat}
+use Rattle.shown_tree.specs.declared.place.Place.{Place as TreePlace}
 use Rattle.shown_tree.specs.declared.place.Entry.{Entry}
 use Rattle.stack_table.specs.declared.node.Node.{Node}
 use Rattle.stack_table.specs.declared.directory.Directory.{Directory}
 use Rattle.stack_table.specs.Rows.{Line}
 use Rattle.node_table.specs.Walks.{Visit}
 use Rattle.node_table.specs.Numbering.{visit_place, number_among}
-use Rattle.node_table.specs.Building.{line_in, directories, IsSeat, ArePosts, completed}
+use Rattle.node_table.specs.Building.{line_in, directories, HasGivenHeader, StandAtStarts, completed}
 use Rattle.stack_table.specs.Held.{AreNodes}
 
 -- the row of a shown child
 abbrev pub shown_line : List Listed → Child → Line
 shown_line entries c = record { number = number entries c.place; name = c.name }
 
--- a branch of these children agrees with the listing at its place
-pub record AreSeedlings (layers : List (List ℕ)) (entries : List Listed) (tell : Seat
+-- the children of a branch agree with the listing at its place
+pub record AgreeBelow (layers : List (List ℕ)) (entries : List Listed) (tell : TreePlace
     → ℕ) (p : Place) (cs : List (Subtree Entry)) : Type 0 where
   pub rows_are : map (line_in tell) cs ≡ map (shown_line entries) (children entries p)
   pub count_is : directories cs ≡ count_by (λ c. is_directory_at layers c.place)
       (children entries p)
 
 -- the branch agrees with the listing at its place
-pub record IsSeed (layers : List (List ℕ)) (entries : List Listed) (tell : Seat → ℕ) (paths : ℕ)
-    (visit : Visit Entry) : Type 0 where
-  pub seat : IsSeat layers visit.0.now
+pub record AgreesAtPlace (layers : List (List ℕ)) (entries : List Listed) (tell : TreePlace → ℕ)
+    (paths : ℕ) (visit : Visit Entry) : Type 0 where
+  pub header : HasGivenHeader layers visit.0.now
   pub data_is : (image : List ℕ) → slice_get layers visit.0.now.value.place.layer ≡ Some image
       → data_in image visit.0.now.value.place.header ≡ data_of layers (visit_place visit)
   pub kind_is : visit.0.now.value.kind ≡ kind_at layers (visit_place visit)
   pub parent_is : tell visit.1.place ≡ number entries (parent entries (visit_place visit))
   pub below : (cs : List (Subtree Entry)) → visit.0.now.below ≡ spread cs → IsForest cs
-      → AreSeedlings layers entries tell (visit_place visit) cs
+      → AgreeBelow layers entries tell (visit_place visit) cs
   pub paths_are : is_directory_at layers (visit_place visit) ≡ false
       → paths ≡ nlink layers entries (visit_place visit)
 
--- the first branches of all places, in the order of numbers
-pub record AreSeeds (layers : List (List ℕ)) (entries : List Listed) (tell : Seat
+-- the first branches of all places, in the order of numbers, agree with the listing
+pub record AgreeWithListing (layers : List (List ℕ)) (entries : List Listed) (tell : TreePlace
     → ℕ) (first : List (Visit Entry)) (paths : List ℕ) : Type 0 where
   pub listing : IsListing layers entries
   pub level : length paths ≡ length first
   pub places : map visit_place first ≡ nodes entries
   pub each : (k : ℕ) (visit : Visit Entry) → slice_get first k ≡ Some visit
-      → IsSeed layers entries tell (slice_index paths k) visit
+      → AgreesAtPlace layers entries tell (slice_index paths k) visit
 
--- by some listing of the layers
-abbrev pub AreSomeSeeds : List (List ℕ) → (Seat → ℕ) → List (Visit Entry) → List ℕ → Type 0
-AreSomeSeeds layers tell first paths =
-    (entries : List Listed) × AreSeeds layers entries tell first paths
+-- they do so with some listing of the layers
+abbrev pub AgreeWithSomeListing : List (List ℕ) → (TreePlace → ℕ) → List (Visit Entry) → List ℕ
+    → Type 0
+AgreeWithSomeListing layers tell first paths =
+    (entries : List Listed) × AgreeWithListing layers entries tell first paths
 
--- the first branches of all places are seeds, and stand where starts say
-abbrev pub AreSeated : List (List ℕ) → List (Visit Entry) → List ℕ → List ℕ → List ℕ → List ℕ
+-- the first branches of all places agree with a listing, and stand where starts say
+abbrev pub StandAndAgree : List (List ℕ) → List (Visit Entry) → List ℕ → List ℕ → List ℕ → List ℕ
     → List ℕ → Type 0
-AreSeated layers visits places sizes starts paths numbers =
-    (first : List (Visit Entry)) × AreSomeSeeds layers (number_among visits) first paths
-    × ArePosts (number_among visits) visits numbers places sizes first starts
+StandAndAgree layers visits places sizes starts paths numbers =
+    (first : List (Visit Entry)) × AgreeWithSomeListing layers (number_among visits) first paths
+    × StandAtStarts (number_among visits) visits numbers places sizes first starts
 
 -- nodes, rows and keys make a table of the layers, once the nodes are completed
 abbrev pub AreMade : List (List ℕ) → List Node → List Directory → List Line → List ℕ → Type 0
