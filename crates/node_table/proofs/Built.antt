@@ -123,6 +123,13 @@ pub record ReadsBranch (layers : List (List ℕ)) (visit : Visit Entry) (entry :
   pub head_is : head ≡ head_of image entry.place.header
   pub data_is : IsDataPart image head.offset part
 
+-- it is known of what the calls give that read it
+pub reads_branch : (layers : List (List ℕ)) (visit : Visit Entry) (entry : Entry) (head : Head) (part : Part) (image : List ℕ)
+    → entry ≡ visit.0.now.value → image ≡ get_or layers entry.place.layer image → head ≡ head_of image entry.place.header
+    → IsDataPart image head.offset part → ReadsBranch layers visit entry head part
+reads_branch layers visit entry head part image entry_is image_is head_is data_is =
+    record { entry_is = entry_is; image = image; image_is = image_is; head_is = head_is; data_is = data_is }
+
 -- the node of a branch
 module _ (layers : List (List ℕ)) (tell : Place → ℕ) (visit : Visit Entry) (paths : ℕ) (entry : Entry) (head : Head) (part : Part)
     (reads : ReadsBranch layers visit entry head part) (old new : Folders) (nlink at : ℕ) (stands : at ≡ length old.all) where

@@ -1,20 +1,14 @@
 use Rattle.std.proofs.Common.{refl, arith}
 use Rattle.node_table.specs.Numbering.{number_among}
 use Rattle.node_table.proofs.Folders.{Folders}
-use Rattle.node_table.proofs.Built.{ReadsBranch, added_directory, added_other, made}
+use Rattle.node_table.proofs.Built.{reads_branch, added_directory, added_other, made}
 use Rattle.node_table.proofs.building.add_node.Goals as goal
 
 pub returns-in_ok-directories-in-Directory : goal.returns-in_ok-directories-in-Directory
 returns-in_ok-directories-in-Directory g c =
     let tell = number_among c.args.walk.now.visits.items in
-    let reads : ReadsBranch c.args.images.now c.args.visit.now c.value-kind.result c.header_in-head.result c.data_part-part.result =
-    record {
-      entry_is = c.value-kind.ensures;
-      image = c.index-images-place.result;
-      image_is = c.index-images-place.is;
-      head_is = c.header_in-head.ensures.value;
-      data_is = c.data_part-part.ensures;
-    } in
+    let reads = reads_branch _ _ _ _ _ _ c.value-kind.ensures c.index-images-place.is c.header_in-head.ensures.value
+    c.data_part-part.ensures in
     let old : Folders = record { all = c.args.into.now.all.items; rows = _; keys = _ } in
     let new : Folders = record { all = _; rows = _; keys = _ } in
     let n = c.in_ok-directories-in-Directory in
@@ -30,14 +24,8 @@ returns-in_ok-directories-in-Directory g c =
 pub returns-in_default : goal.returns-in_default
 returns-in_default g c =
     let tell = number_among c.args.walk.now.visits.items in
-    let reads : ReadsBranch c.args.images.now c.args.visit.now c.value-kind.result c.header_in-head.result c.data_part-part.result =
-    record {
-      entry_is = c.value-kind.ensures;
-      image = c.index-images-place.result;
-      image_is = c.index-images-place.is;
-      head_is = c.header_in-head.ensures.value;
-      data_is = c.data_part-part.ensures;
-    } in
+    let reads = reads_branch _ _ _ _ _ _ c.value-kind.ensures c.index-images-place.is c.header_in-head.ensures.value
+    c.data_part-part.ensures in
     let kept : Folders = record {
       all = c.args.into.now.all.items;
       rows = c.args.into.now.rows.items;
