@@ -60,36 +60,45 @@ single a i layer h n entry other file w = record {
     only [] e f = (let s : entry ≡ e = cc in (tt, (h, refl, subst (IsEntryIn a layer h) s w)))
     only (m ∷ path) e f = absurd (cc)
 
-module _ (a : List ℕ) (i : IsImage a) (layer h : ℕ) (ms : List NamedMember) (es : List (Subtree Entry))
-    (mm ws out : List (Subtree Mark)) (members : AreByName a h ms) (b : AreBuilt a layer ms es mm)
-    (wh : AreWhiteouts ms ws) (laid : AreLaid united mm ws out) where
+-- what is made of the members of the directory h: branches of those that are no markers, with the
+-- marks below these, marks of the markers, and both kinds of marks as one
+pub record IsMadeOfMembers (a : List ℕ) (layer h : ℕ) (ms : List NamedMember) (es : List (Subtree Entry))
+    (below whites marks : List (Subtree Mark)) : Type 0 where
+  pub sound : IsImage a
+  pub members : AreByName a h ms
+  pub built : AreBuilt a layer ms es below
+  pub whited : AreWhiteouts ms whites
+  pub laid : AreLaid united below whites marks
+
+module _ (a : List ℕ) (layer h : ℕ) (ms : List NamedMember) (es : List (Subtree Entry)) (below whites marks : List (Subtree Mark))
+    (found : IsMadeOfMembers a layer h ms es below whites marks) where
   has_at : (j : ℕ) (m : NamedMember) → slice_get ms j ≡ Some m → IsNamedMember a h m
-  has_at j m e = all_get (IsNamedMember a h) ms j m members.each e
+  has_at j m e = all_get (IsNamedMember a h) ms j m found.members.each e
 
   -- the member of a name is among the sorted ones
   member_at : (n : List ℕ) (c : ℕ) → IsMember a h c → name a c ≡ Some n
       → (j : ℕ) × (m : NamedMember) × (slice_get ms j ≡ Some m) × (m.head.offset ≡ c) × (m.name.now ≡ n)
   member_at n c x f =
-      let w = members.whole c x in
+      let w = found.members.whole c x in
       let e = has_at w.0 w.1 w.2 in
       let g : Some w.1.name.now ≡ Some n = sym e.name ∙ ap (name a) w.3 ∙ f in
       (w.0, w.1, w.2, w.3, (let q : w.1.name.now ≡ n = cc in q))
 
   entries_forest : IsForest es
-  entries_forest = (forests a layer b members.rising).0
+  entries_forest = (forests a layer found.built found.members.rising).0
 
   one_member : (n : List ℕ) (c d : ℕ) → IsMember a h c → name a c ≡ Some n → IsMember a h d → name a d ≡ Some n → c ≡ d
-  one_member n c d x f y g = one_header a i (n ∷ []) h c d (c, x, f, refl) (d, y, g, refl)
+  one_member n c d x f y g = one_header a found.sound (n ∷ []) h c d (c, x, f, refl) (d, y, g, refl)
 
   shown_below : (n : List ℕ) (path : Path) (g : ℕ) → IsPlain (n ∷ path) → Leads a h (n ∷ path) g
-      → FoundBuilt a layer h n ms es mm → IsSomeAnd (through (named n es) path) (λ e. IsEntryIn a layer g e)
+      → FoundBuilt a layer h n ms es below → IsSomeAnd (through (named n es) path) (λ e. IsEntryIn a layer g e)
   shown_below n path g p l (nowhere f k q) = (let m = member_at n l.0 l.1 l.2 in absurd (p.0 (q m.0 m.1 m.2 m.4)))
   shown_below n path g p l (somewhere m e k f u r s t v x) =
       let here : m.head.offset ≡ l.0 = one_member n m.head.offset l.0 t.member (t.name ∙ ap Some r) l.1 l.2 in
       rw f (v.shown path g p.1 (subst (λ x. Leads a x path g) (sym here) l.3))
 
   only_below : (n : List ℕ) (path : Path) (e : Entry) → through (named n es) path ≡ Some e
-      → FoundBuilt a layer h n ms es mm
+      → FoundBuilt a layer h n ms es below
       → IsPlain (n ∷ path) × ((g : ℕ) × Leads a h (n ∷ path) g × IsEntryIn a layer g e)
   only_below n path e x (nowhere f k q) = (let y = rw f at x in absurd (cc))
   only_below n path e x (somewhere m b k f u r s t v y) =
@@ -106,17 +115,17 @@ module _ (a : List ℕ) (i : IsImage a) (layer h : ℕ) (ms : List NamedMember) 
           (λ e. IsEntryIn a layer g e)
       shown [] g p l = subst (λ x. IsEntryIn a layer x entry) l w
       shown (m ∷ path) g p l = rw (at_spread es entries_forest.names m path)
-          (shown_below m path g p l (find_built a layer h m b members.each members.rising))
+          (shown_below m path g p l (find_built a layer h m found.built found.members.each found.members.rising))
 
       only : (path : Path) (e : Entry) → at_path (whole
           (record { name = n; value = entry; below = spread es })) path ≡ Some e
           → IsPlain path × ((g : ℕ) × Leads a h path g × IsEntryIn a layer g e)
       only [] e f = (let s : entry ≡ e = cc in (tt, (h, refl, subst (IsEntryIn a layer h) s w)))
       only (m ∷ path) e f = only_below m path e (sym (at_spread es entries_forest.names m path) ∙ f)
-          (find_built a layer h m b members.each members.rising)
+          (find_built a layer h m found.built found.members.each found.members.rising)
 
   -- a marker's mark stands for a marker among the members
-  white_is : (n : List ℕ) (path : Path) → FoundWhite n ms ws → (cut_through (named n ws) path ≡ true) ↔ HasNamed a h (marker ++ n)
+  white_is : (n : List ℕ) (path : Path) → FoundWhite n ms whites → (cut_through (named n whites) path ≡ true) ↔ HasNamed a h (marker ++ n)
   white_is n path (unmarked f q) = (
     λ e. (let y = rw f at e in absurd (cc)),
     λ x. (let m = member_at (marker ++ n) x.0 x.1 x.2 in
@@ -128,8 +137,8 @@ module _ (a : List ℕ) (i : IsImage a) (layer h : ℕ) (ms : List NamedMember) 
   )
 
   -- what is removed below a name is what the layer cuts from the member of that name
-  below_is : (n : List ℕ) (path : Path) → IsPlain (n ∷ path) → FoundBuilt a layer h n ms es mm
-      → (removed_by (through (named n mm)) (through (named n es)) path ≡ true)
+  below_is : (n : List ℕ) (path : Path) → IsPlain (n ∷ path) → FoundBuilt a layer h n ms es below
+      → (removed_by (through (named n below)) (through (named n es)) path ≡ true)
       ↔ ((c : ℕ) × IsMember a h c × (name a c ≡ Some n) × CutsAt a c path)
   below_is n path p (nowhere f k q) = (
     λ e. absurd (let y : (cut_by (λ q. None) path || cut_by (λ q. None) path) ≡ true = rw (f, k) at e in let z = nothing_cut path in cc),
@@ -143,15 +152,15 @@ module _ (a : List ℕ) (i : IsImage a) (layer h : ℕ) (ms : List NamedMember) 
   )
 
   -- what the marks of the whole directory say: it is opaque, or a name in it is cut
-  cut_name : (n : List ℕ) (path : Path) → cut_by (λ q. at_path (spread out) (n ∷ q)) path
-      ≡ (cut_through (named n mm) path || cut_through (named n ws) path)
+  cut_name : (n : List ℕ) (path : Path) → cut_by (λ q. at_path (spread marks) (n ∷ q)) path
+      ≡ (cut_through (named n below) path || cut_through (named n whites) path)
   cut_name n path =
-      let f = (forests a layer b members.rising).1 in
-      let w = white_forest wh members.rising in
-      cut_united (λ q. at_path (spread out) (n ∷ q)) (λ q. at_path (spread mm) (n ∷ q)) (λ q. at_path (spread ws) (n ∷ q))
-      (λ q. laid.at n q) path
-      ∙ ap (λ x. x || cut_by (λ q. at_path (spread ws) (n ∷ q)) path) (by_name mm f.names n path)
-      ∙ ap (λ x. cut_through (named n mm) path || x) (by_name ws w.names n path)
+      let f = (forests a layer found.built found.members.rising).1 in
+      let w = white_forest found.whited found.members.rising in
+      cut_united (λ q. at_path (spread marks) (n ∷ q)) (λ q. at_path (spread below) (n ∷ q)) (λ q. at_path (spread whites) (n ∷ q))
+      (λ q. found.laid.at n q) path
+      ∙ ap (λ x. x || cut_by (λ q. at_path (spread whites) (n ∷ q)) path) (by_name below f.names n path)
+      ∙ ap (λ x. cut_through (named n below) path || x) (by_name whites w.names n path)
 
   module _ (whole_cut : Bool) (is_whole : (whole_cut ≡ true) ↔ HasNamed a h opaque) (directory : kind a h ≡ Directory)
       (entry : Entry) (in_layer : IsEntryIn a layer h entry) where
@@ -160,22 +169,22 @@ module _ (a : List ℕ) (i : IsImage a) (layer h : ℕ) (ms : List NamedMember) 
 
     -- the names below the directory's own that the markers cut, or what the members leave
     from_cuts : (n : List ℕ) (path : Path) → IsPlain (n ∷ path) → CutsFrom a h (n ∷ path)
-        → (whole_cut || (removed_by (through (named n mm)) (through (named n es)) path || cut_through (named n ws) path)) ≡ true
+        → (whole_cut || (removed_by (through (named n below)) (through (named n es)) path || cut_through (named n whites) path)) ≡ true
     from_cuts n path p (inl x) = or_right whole_cut _
-        (or_right (removed_by (through (named n mm)) (through (named n es)) path) _ ((white_is n path (find_white n wh)).1 x))
+        (or_right (removed_by (through (named n below)) (through (named n es)) path) _ ((white_is n path (find_white n found.whited)).1 x))
     from_cuts n path p (inr (inl x)) = or_left whole_cut _ (is_whole.1 x)
     from_cuts n path p (inr (inr x)) = or_right whole_cut _
-        (or_left (removed_by (through (named n mm)) (through (named n es)) path) _ ((below_is n path p
-        (find_built a layer h n b members.each members.rising)).1 x))
+        (or_left (removed_by (through (named n below)) (through (named n es)) path) _ ((below_is n path p
+        (find_built a layer h n found.built found.members.each found.members.rising)).1 x))
 
     to_cuts : (n : List ℕ) (path : Path) → IsPlain (n ∷ path)
-        → (whole_cut || (removed_by (through (named n mm)) (through (named n es)) path || cut_through (named n ws) path)) ≡ true
+        → (whole_cut || (removed_by (through (named n below)) (through (named n es)) path || cut_through (named n whites) path)) ≡ true
         → CutsFrom a h (n ∷ path)
     to_cuts n path p e = elim (or_cases whole_cut _ e) [
       | inl x ↦ inr (inl (is_whole.0 x))
-      | inr y ↦ elim (or_cases (removed_by (through (named n mm)) (through (named n es)) path) _ y) [
-        | inl x ↦ inr (inr ((below_is n path p (find_built a layer h n b members.each members.rising)).0 x))
-        | inr x ↦ inl ((white_is n path (find_white n wh)).0 x)
+      | inr y ↦ elim (or_cases (removed_by (through (named n below)) (through (named n es)) path) _ y) [
+        | inl x ↦ inr (inr ((below_is n path p (find_built a layer h n found.built found.members.each found.members.rising)).0 x))
+        | inr x ↦ inl ((white_is n path (find_white n found.whited)).0 x)
       ]
     ]
 
@@ -201,22 +210,22 @@ module _ (a : List ℕ) (i : IsImage a) (layer h : ℕ) (ms : List NamedMember) 
 
     -- what the branch and the mark of the directory remove
     removed_name : (k : List ℕ) (n : List ℕ) (path : Path)
-        → removed_by (at_path (whole (record { name = k; value = record { cut = false; opaque = whole_cut }; below = spread out })))
+        → removed_by (at_path (whole (record { name = k; value = record { cut = false; opaque = whole_cut }; below = spread marks })))
         (at_path (whole (record { name = k; value = entry; below = spread es }))) (n ∷ path)
-        ≡ (whole_cut || (removed_by (through (named n mm)) (through (named n es)) path || cut_through (named n ws) path))
+        ≡ (whole_cut || (removed_by (through (named n below)) (through (named n es)) path || cut_through (named n whites) path))
     removed_name k n path =
         ap (λ x. (whole_cut || x) || ((not (is_directory entry.kind) || false) || covered_by (λ q. at_path (spread es) (n ∷ q)) path))
         (cut_name n path)
-        ∙ ap (λ x. (whole_cut || (cut_through (named n mm) path || cut_through (named n ws) path))
+        ∙ ap (λ x. (whole_cut || (cut_through (named n below) path || cut_through (named n whites) path))
         || ((not (is_directory entry.kind) || false) || x)) (covered_name n path)
-        ∙ in_turn whole_cut (cut_through (named n mm) path) (cut_through (named n ws) path) (covered_by (through (named n es)) path)
+        ∙ in_turn whole_cut (cut_through (named n below) path) (cut_through (named n whites) path) (covered_by (through (named n es)) path)
         (not (is_directory entry.kind)) (ap not is_folder)
-        ∙ ap (λ x. whole_cut || ((x || covered_by (through (named n es)) path) || cut_through (named n ws) path))
-        (sym (by_through (named n mm) path))
+        ∙ ap (λ x. whole_cut || ((x || covered_by (through (named n es)) path) || cut_through (named n whites) path))
+        (sym (by_through (named n below) path))
 
     -- the mark and the entry of a directory remove exactly what the layer cuts from it
     pub removes_of : (n : List ℕ) → RemovesFrom a h
-        (at_path (whole (record { name = n; value = record { cut = false; opaque = whole_cut }; below = spread out })))
+        (at_path (whole (record { name = n; value = record { cut = false; opaque = whole_cut }; below = spread marks })))
         (record { name = n; value = entry; below = spread es })
     removes_of n [] p = (λ t. absurd (let x = ap not is_folder in cc), λ c. absurd (down [] c))
     removes_of n (m ∷ path) p = (
@@ -227,20 +236,20 @@ module _ (a : List ℕ) (i : IsImage a) (layer h : ℕ) (ms : List NamedMember) 
     -- the directory's own branches
     pub folder : (n : List ℕ)
         → AreBranchesOf a layer h n (record { name = n; value = entry; below = spread es })
-        (record { name = n; value = record { cut = false; opaque = whole_cut }; below = spread out })
+        (record { name = n; value = record { cut = false; opaque = whole_cut }; below = spread marks })
     folder n = record {
       entry_name = refl;
       mark_name = refl;
       entries = entries_of n entry in_layer;
-      rising = branch_rises n (record { cut = false; opaque = whole_cut }) out laid.forest;
+      rising = branch_rises n (record { cut = false; opaque = whole_cut }) marks found.laid.forest;
       exact = removes_of n;
     }
 
   -- a mark is named as the opaque marker goes on exactly where the directory has that
-  pub opaque_is_held : (is_some (named rest_of_opaque ws) ≡ true) ↔ HasNamed a h opaque
-  opaque_is_held = go (find_white rest_of_opaque wh)
+  pub opaque_is_held : (is_some (named rest_of_opaque whites) ≡ true) ↔ HasNamed a h opaque
+  opaque_is_held = go (find_white rest_of_opaque found.whited)
     where
-      go : FoundWhite rest_of_opaque ms ws → (is_some (named rest_of_opaque ws) ≡ true) ↔ HasNamed a h opaque
+      go : FoundWhite rest_of_opaque ms whites → (is_some (named rest_of_opaque whites) ≡ true) ↔ HasNamed a h opaque
       go (unmarked f q) = (λ e. absurd (let y = rw f at e in cc), λ x. absurd (let m = member_at opaque x.0 x.1 x.2 in q m.0 m.1 m.2 m.4))
       go (marked j m k f c s e) = (λ y. (let t = has_at j m s in (m.head.offset, t.member, t.name ∙ ap Some e)), λ x. rw f refl)
 

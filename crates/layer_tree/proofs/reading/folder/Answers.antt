@@ -8,7 +8,7 @@ use Rattle.path_tree.specs.Rows.{named}
 use Rattle.layer_tree.specs.Reading.{HasNamed, rest_of_opaque}
 use Rattle.layer_tree.proofs.Building.{forests, white_forest}
 use Rattle.layer_tree.proofs.Entering.{directory_stays, entered}
-use Rattle.layer_tree.proofs.Folding.{opaque_is_held, folder}
+use Rattle.layer_tree.proofs.Folding.{IsMadeOfMembers, opaque_is_held, folder}
 use Rattle.layer_tree.proofs.reading.folder.Goals as goal
 
 pub has_opaque-opaque-requires : goal.has_opaque-opaque-requires
@@ -30,9 +30,15 @@ returns g c =
     let e : c.in_ok-entry_name.entry_name ≡ c.args.name.now = c.in_ok-entry_name.ensures in
     let f : c.in_ok-mark_name.mark_name ≡ c.args.name.now = c.in_ok-mark_name.ensures in
     let directory : kind a h ≡ Directory = sym (ap (λ (x : Head). x.kind) c.requires.given.is) ∙ c.requires.directory in
-    let held = opaque_is_held a c.requires.sound c.args.layer.now.number h c.args.members.now c.args.below.entries.items
-    c.args.below.marks.items c.in_ok-whiteouts.whiteouts.items c.in_ok-marks.marks.items
-    c.requires.members c.requires.below c.in_ok-whiteouts.ensures c.in_ok-marks.ensures in
+    let found : IsMadeOfMembers a c.args.layer.now.number h c.args.members.now c.args.below.entries.items
+    c.args.below.marks.items c.in_ok-whiteouts.whiteouts.items c.in_ok-marks.marks.items = record {
+      sound = c.requires.sound;
+      members = c.requires.members;
+      built = c.requires.below;
+      whited = c.in_ok-whiteouts.ensures;
+      laid = c.in_ok-marks.ensures;
+    } in
+    let held = opaque_is_held _ _ _ _ _ _ _ _ found in
     let is : c.has_opaque-opaque.result ≡ is_some (named rest_of_opaque
     c.in_ok-whiteouts.whiteouts.items) = c.has_opaque-opaque.ensures
     ∙ ap (λ ks. is_some (named rest_of_opaque ks)) c.deref.ensures.value in
@@ -41,7 +47,4 @@ returns g c =
     (directory_stays a h directory) c.entry_at-entry.ensures.layer c.entry_at-entry.ensures.header
     c.entry_at-entry.ensures.kind in
     rw (c.new-entries.ensures, c.new-marks.ensures, e, f)
-    (folder a c.requires.sound c.args.layer.now.number h c.args.members.now c.args.below.entries.items
-    c.args.below.marks.items c.in_ok-whiteouts.whiteouts.items c.in_ok-marks.marks.items
-    c.requires.members c.requires.below c.in_ok-whiteouts.ensures c.in_ok-marks.ensures
-    c.has_opaque-opaque.result whole directory c.entry_at-entry.result entry c.args.name.now)
+    (folder _ _ _ _ _ _ _ _ found c.has_opaque-opaque.result whole directory c.entry_at-entry.result entry c.args.name.now)
