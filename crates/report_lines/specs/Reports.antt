@@ -1,4 +1,4 @@
--- What lines leave in an output: of checked images, of the paths that a stack shows, or of any kind.
+-- What a call leaves in an output: lines of checked images, of shown paths, or of any kind.
 use Rattle.std.specs.Prelude.{◌≡◌, ◌+◌, ◌⊎◌, ℕ, List}
 use Rattle.std.specs.Io.KnownBytes.{Appends}
 use Rattle.romfs_format.specs.declared.rule.Profile.{Profile}

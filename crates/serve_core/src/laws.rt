@@ -1,5 +1,6 @@
 //! What serving over images means: each law follows from what [`crate::serve_as`] promises. What
-//! each end of a stream means say `serve_loop::laws`, and why images are refused `image_stack::laws`.
+//! each end of a stream means say `serve_loop::laws`, and why images are refused, those of
+//! `image_stack`.
 
 ghost use Rattle.std.specs.Prelude.{ℕ, List, Ok, Err};
 ghost use Rattle.romfs_format.specs.declared.rule.Profile.{Profile};
