@@ -18,6 +18,7 @@ import signal
 import subprocess
 import sys
 import tempfile
+import threading
 import time
 
 from trials import ROOT, copied, crates_below
@@ -72,7 +73,7 @@ class Proving:
         return self.process.poll() is not None
 
     def close(self):
-        """Ends it, and keeps what it has done; whether all was."""
+        """Ends it, and keeps what it has done; whether all was. Its copy is removed while the next begins."""
         if not self.is_ended():
             os.killpg(self.process.pid, signal.SIGTERM)
         well = self.process.wait() == 0
@@ -80,7 +81,7 @@ class Proving:
             kept = "%s/crates/%s/out" % (ROOT, self.crate)
             shutil.rmtree(kept, ignore_errors=True)
             shutil.move(self.folder + "/out", kept)
-        self.room.cleanup()
+        threading.Thread(target=self.room.cleanup).start()
         self.seconds = time.monotonic() - self.begun
         return well
 

@@ -1,6 +1,7 @@
 //! The commands of the program, their options and words, as `clap` takes them.
 
-ghost use Rattle.std.specs.Prelude.{◌≡◌, codes, false, IfOk};
+ghost use Rattle.std.specs.Prelude.{◌≡◌, codes, false, IfOk, IsOkAnd};
+ghost use Rattle.clap.specs.Built.{AddsSubcommand};
 ghost use Rattle.clap.specs.Words.{app_of, rule_of};
 ghost use Rattle.command_line.specs.CommandLine.{images_command, program, serve_command};
 ghost use Rattle.command_line.specs.CommandLine.{socket_command, plan_options, served_images};
@@ -14,19 +15,36 @@ use std::alloc::{AllocError, Global};
 pub(crate) fn program<'a>(alloc: Global) -> Result<Command<'a>, AllocError>
     ensures { IfOk result (λ command. app_of command ≡ program) }
 {
-    Command::new(alloc, "strata")
+    let program = Command::new(alloc, "strata")
         .no_binary_name(true)
         .bin_name("strata")?
         .about("Serves stacked romfs images by the FUSE protocol")
-        .subcommand_required(true)
-        .subcommand(serve(alloc)?)?
-        .subcommand(socket(alloc)?)?
-        .subcommand(over_images(alloc, "check", "Checks images, and prints their sizes")?)?
-        .subcommand(over_images(
+        .subcommand_required(true);
+    let program = with_command(program, serve(alloc))?;
+    let program = with_command(program, socket(alloc))?;
+    let program = with_command(
+        program,
+        over_images(alloc, "check", "Checks images, and prints their sizes"),
+    )?;
+    with_command(
+        program,
+        over_images(
             alloc,
             "list",
             "Prints the paths that the stacked images show",
-        )?)
+        ),
+    )
+}
+
+// The program with one more command, where there was memory for that.
+fn with_command<'a>(
+    program: Command<'a>,
+    command: Result<Command<'a>, AllocError>,
+) -> Result<Command<'a>, AllocError>
+    ensures { IfOk result (λ more. IsOkAnd command.entry (λ added.
+        AddsSubcommand program.entry added more)) }
+{
+    program.subcommand(command?)
 }
 
 fn serve<'a>(alloc: Global) -> Result<Command<'a>, AllocError>

@@ -1,2 +1,1 @@
 pub mod Headline
-pub mod Refusals

@@ -1,0 +1,2 @@
+pub mod Preparing
+pub use Rattle.layer_check.specs.Layers
