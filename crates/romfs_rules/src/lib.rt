@@ -22,6 +22,8 @@ mod link;
 mod member;
 mod names;
 mod outside;
+mod plain;
+mod plain_header;
 mod same_names;
 mod slot;
 mod targets;

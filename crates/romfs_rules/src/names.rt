@@ -4,7 +4,7 @@
 //! Most names stand once. So the names of all headers are mixed to numbers first, and those that
 //! were seen once among these are left out of the sort that finds equal ones.
 
-ghost use Rattle.std.specs.Prelude.{◌≡◌, ◌+◌, ◌<◌, ◌≤◌, ◌^◌, ℕ, IfOk, MatchOption, length, get_or};
+ghost use Rattle.std.specs.Prelude.{◌≡◌, ◌+◌, ◌<◌, ◌≤◌, ◌^◌, ℕ, IfOk, IsTrue, MatchOption, length, get_or, slice_index};
 ghost use Rattle.std.specs.Option.{option_map};
 ghost use Rattle.romfs_format.specs.declared.limits.TheConstants.{HEAD_SIZE};
 ghost use Rattle.equal_keys.specs.Once.{AreSeenOnce};
@@ -29,8 +29,8 @@ fn kept_name<'a>(image: &Volume<'a>, at: usize) -> Option<&'a [u8]>
     if is_dot_name(name) { None } else { Some(name) }
 }
 
-// What the name of each header is mixed to, and 0 where it has none.
-fn name_hashes<A: Allocator + Copy>(
+/// What the name of each header is mixed to, and 0 where it has none.
+pub(crate) fn name_hashes<A: Allocator + Copy>(
     alloc: A,
     image: &Volume,
     heads: &[u32],
@@ -49,6 +49,19 @@ fn name_hashes<A: Allocator + Copy>(
         hashes.push(hash)?;
     }
     Ok(hashes)
+}
+
+/// Whether no two names were mixed to the same, each compared with each.
+pub(crate) fn have_hashes_apart(hashes: &[u64]) -> bool
+    ensures { IsTrue result → (i j : ℕ) → i < length hashes.now → j < length hashes.now
+        → slice_index hashes.now i ≡ slice_index hashes.now j → i ≡ j }
+{
+    for high in 0..hashes.len() {
+        if hashes[..high].contains(&hashes[high]) {
+            return false;
+        }
+    }
+    true
 }
 
 // The headers that have a name, each with it, but those of which it is told that theirs stands
