@@ -1,15 +1,21 @@
 -- The walk along one chain, as lists. Chained says what was passed before the next header (begun),
--- also once that is passed (steps); where there is no next one, the whole chain was (ended).
-use Rattle.std.proofs.Common.{◌≡◌, ◌∙◌, sym, subst, ℕ, zero, suc, ◌+◌, ◌-◌, ◌/◌, ◌<◌, inl, inr, List, [], ◌∷◌, ◌++◌, length, get_or, set, not, Bool, true, false, Option, Some, None, refl, arith, length-append}
+-- also once that is passed (steps), with what its name is mixed to (hashed_more); where there is no
+-- next one, the whole chain was (ended).
+use Rattle.std.proofs.Common.{◌≡◌, ◌∙◌, sym, ap, subst, ℕ, zero, suc, ◌+◌, ◌-◌, ◌/◌, ◌<◌, inl, inr, List, [], ◌∷◌, ◌++◌, length, get_or, set, not, Bool, true, false, Option, Some, None, refl, arith, length-append}
 use Rattle.std.specs.List.{count_by}
 use Rattle.std.proofs.lemmas.List.{length-set, get_or_at, get_or_append_left}
 use Rattle.std.proofs.lemmas.Bool.{true≢false, cases_lt}
 use Rattle.equal_keys.proofs.Keyed.{below_or_at}
+use Rattle.equal_keys.specs.Names.{name_hash}
+use Rattle.romfs_format.specs.Fields.{name}
 use Rattle.romfs_format.specs.Chains.{IsFirst, IsNext, IsAt}
 use Rattle.romfs_rules.specs.declared.plain.Folder.{Folder}
 use Rattle.romfs_rules.specs.Leads.{IsTheOne}
 use Rattle.romfs_rules.specs.Marks.{IsMarked}
+use Rattle.romfs_rules.specs.Names.{kept_name, kept_names, AreNameHashes}
 use Rattle.romfs_rules.specs.Plain.{IsPlain, IsPassed, PassesFront, PassesChain, AddsFolder}
+use Rattle.romfs_rules.proofs.NameHashes.{one_hash}
+use Rattle.romfs_rules.proofs.SameNaming.{kept}
 use Rattle.successor_graph.proofs.Marks.{unmarked, marks_fall, newly_set, still_set}
 
 -- those without a mark are counted
@@ -151,9 +157,9 @@ module _ (a : List ℕ) (w : Folder) (old : List Bool) (before : List Folder) wh
       }
 
   -- where no header is next, the whole chain was passed
-  pub ended : (marks : List Bool) (todo : List Folder) (heads : List ℕ) → Chained a w old marks before todo heads None
-      → PassesChain a w old marks before todo heads
-  ended marks todo heads c = record { front = c.front; whole = short }
+  pub ended : (marks : List Bool) (todo : List Folder) (heads hashes : List ℕ) → Chained a w old marks before todo heads None
+      → AreNameHashes (kept_names a heads) (length heads) hashes → PassesChain a w old marks before todo heads hashes
+  ended marks todo heads hashes c m = record { front = c.front; hashed = m; whole = short }
     where
       none : (h : ℕ) → ¬ IsAt a w.header (length heads) h
       none h x = let e = (c.here.each h).1 x in cc
@@ -165,3 +171,23 @@ module _ (a : List ℕ) (w : Folder) (old : List Bool) (before : List Folder) wh
 
       short : (i h : ℕ) → IsAt a w.header i h → i < length heads
       short i h x = elim (cases_lt i (length heads)) [ inl l ↦ l | inr l ↦ absurd (under (i - length heads) i h (omega arith) x) ]
+
+-- before the first header there is no name
+pub none_hashed : (a heads hashes : List ℕ) → heads ≡ [] → hashes ≡ [] → AreNameHashes (kept_names a heads) (length heads) hashes
+none_hashed a heads hashes e f = rw (e, f) (record { level = refl; each = λ k q l. absurd (omega arith) })
+
+-- one header more has what its name is mixed to
+pub hashed_more : (a : List ℕ) (at hash : ℕ) (heads hashes : List ℕ) → ((q : List ℕ) → name a at ≡ Some q → hash ≡ name_hash q)
+    → AreNameHashes (kept_names a heads) (length heads) hashes
+    → AreNameHashes (kept_names a (heads ++ at ∷ [])) (length (heads ++ at ∷ [])) (hashes ++ hash ∷ [])
+hashed_more a at hash heads hashes own w =
+    let more : List ℕ = heads ++ at ∷ [] in
+    let names : ℕ → Option (List ℕ) = kept_names a more in
+    let old : AreNameHashes names (length heads) hashes = record {
+      level = w.level;
+      each = λ k q l e. w.each k q l (ap (λ h. kept_name a h) (sym (get_or_append_left heads (at ∷ []) 0 k l)) ∙ e);
+    } in
+    let its : (q : List ℕ) → names (length heads) ≡ Some q → hash ≡ name_hash q = λ q e.
+    own q (kept a at q (ap (λ h. kept_name a h) (sym (get_or_at heads at [] 0 (length heads) refl)) ∙ e)).1 in
+    subst (λ n. AreNameHashes names n (hashes ++ hash ∷ [])) (sym (length-append heads (at ∷ [])))
+    (one_hash names (length heads) hash hashes (hashes ++ hash ∷ []) its refl old)

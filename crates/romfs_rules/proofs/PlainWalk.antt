@@ -54,18 +54,18 @@ pub seen_at : (a : List ℕ) (marks : List Bool) (todo done : List Folder) (w : 
 seen_at a marks todo done w h g c = let x = g.at c.0 h c.1 in subst (λ y. IsSeen a marks todo done w y) x.1 (g.each c.0 x.0)
 
 -- a chain that was gone along has no more headers than there are slots
-pub few_heads : (a : List ℕ) (w : Folder) (old new : List Bool) (before after : List Folder) (heads : List ℕ)
-    → PassesChain a w old new before after heads → length heads ≤ length old
-few_heads a w old new before after heads p =
+pub few_heads : (a : List ℕ) (w : Folder) (old new : List Bool) (before after : List Folder) (heads hashes : List ℕ)
+    → PassesChain a w old new before after heads hashes → length heads ≤ length old
+few_heads a w old new before after heads hashes p =
     let c = p.front.count in
     let e = counted old in
     let f = few_marks old in
     omega arith
 
 -- each header of such a chain lies in the image
-pub heads_inside : (a : List ℕ) (w : Folder) (old new : List Bool) (before after : List Folder) (heads : List ℕ)
-    → PassesChain a w old new before after heads → (i : ℕ) → i < length heads → get_or heads i 0 + HEAD_SIZE ≤ length a
-heads_inside a w old new before after heads p i l = (p.front.each i l).plain.inside.1
+pub heads_inside : (a : List ℕ) (w : Folder) (old new : List Bool) (before after : List Folder) (heads hashes : List ℕ)
+    → PassesChain a w old new before after heads hashes → (i : ℕ) → i < length heads → get_or heads i 0 + HEAD_SIZE ≤ length a
+heads_inside a w old new before after heads hashes p i l = (p.front.each i l).plain.inside.1
 
 module _ (a : List ℕ) where
   -- the walk begins with the root to come, and no marks

@@ -1,5 +1,6 @@
 -- What a walk down from the root sees of an image that plainly keeps every rule.
 use Rattle.std.specs.Prelude.{◌≡◌, ◌≢◌, ℕ, ◌+◌, ◌/◌, ◌<◌, ◌≤◌, ◌⊎◌, List, length, get_or, Bool, true, false, not, count_by, Some, Contains}
+use Rattle.equal_keys.specs.Names.{name_hash}
 use Rattle.romfs_format.specs.declared.head.Kind.TheVariants.{HardLink, Directory}
 use Rattle.romfs_format.specs.declared.limits.TheConstants.{MAX_NAMES}
 use Rattle.romfs_format.specs.declared.rule.Profile.TheVariants.{Usual}
@@ -10,7 +11,7 @@ use Rattle.romfs_format.specs.Links.{destination}
 use Rattle.romfs_format.specs.Rules.{HasData, IsBadName, EndsOutside, HasLongTarget, HasLargeMajor, BreaksHeader}
 use Rattle.romfs_rules.specs.Judge.{KeepsAllHeaderRules}
 use Rattle.romfs_rules.specs.Marks.{IsMarked, Opens}
-use Rattle.romfs_rules.specs.Names.{HaveNamesApart}
+use Rattle.romfs_rules.specs.Names.{kept_names, AreNameHashes, HaveNamesApart}
 use Rattle.romfs_rules.specs.declared.plain.Folder.{Folder}
 
 -- the data, the target and the major number of the header with this name break no rule
@@ -44,6 +45,11 @@ pub record IsPlain (a : List ℕ) (d n h : ℕ) : Type 0 where
   pub own : h ≡ root a → d ≡ root a
   pub member : h ≢ root a → ¬ IsDotted a h → IsPlainMember a h text
 
+-- and its name is mixed to this
+pub record IsHashed (a : List ℕ) (d n h hash : ℕ) : Type 0 where
+  pub plain : IsPlain a d n h
+  pub mixed : (q : List ℕ) → name a h ≡ Some q → hash ≡ name_hash q
+
 -- the directory h, to which n names lead
 abbrev pub folder : ℕ → ℕ → Folder
 folder h n = record { header = h; names = n }
@@ -71,17 +77,19 @@ pub record PassesFront (a : List ℕ) (w : Folder) (old new : List Bool) (before
   pub inside : (v : Folder) → Contains after v → Contains before v ⊎ IsInside a v.header
   pub few : length after ≤ length before + length heads
 
--- the whole chain was
+-- the whole chain was, and this is what names are mixed to
 pub record PassesChain (a : List ℕ) (w : Folder) (old new : List Bool) (before after : List Folder)
-    (heads : List ℕ) : Type 0 where
+    (heads hashes : List ℕ) : Type 0 where
   pub front : PassesFront a w old new before after heads
+  pub hashed : AreNameHashes (kept_names a heads) (length heads) hashes
   pub whole : (i h : ℕ) → IsAt a w.header i h → i < length heads
 
 -- and no two of its members have one name
 pub record PassesFolder (a : List ℕ) (w : Folder) (old new : List Bool)
     (before after : List Folder) : Type 0 where
   pub heads : List ℕ
-  pub chain : PassesChain a w old new before after heads
+  pub hashes : List ℕ
+  pub chain : PassesChain a w old new before after heads hashes
   pub apart : HaveNamesApart a heads
 
 -- a header of the chain of w, which comes to the directories after, if it is one

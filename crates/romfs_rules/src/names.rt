@@ -29,8 +29,8 @@ fn kept_name<'a>(image: &Volume<'a>, at: usize) -> Option<&'a [u8]>
     if is_dot_name(name) { None } else { Some(name) }
 }
 
-/// What the name of each header is mixed to, and 0 where it has none.
-pub(crate) fn name_hashes<A: Allocator + Copy>(
+// What the name of each header is mixed to, and 0 where it has none.
+fn name_hashes<A: Allocator + Copy>(
     alloc: A,
     image: &Volume,
     heads: &[u32],
@@ -97,8 +97,29 @@ fn named_headers<'a, A: Allocator + Copy>(
     Ok(named)
 }
 
-/// The classes of headers by their names, each a number of a header, with one more for none; None
-/// only where no two headers have one name.
+/// The classes of headers by their names and what these are mixed to, each a number of a header,
+/// with one more for none; None only where no two headers have one name.
+pub(crate) fn name_classes_by<A: Allocator + Copy>(
+    alloc: A,
+    image: &Volume,
+    heads: &[u32],
+    hashes: &[u64],
+) -> Result<Option<Vec<u32, A>>, AllocError>
+    requires few { length heads.now < 2 ^ 32 }
+    requires inside { (i : ℕ) → i < length heads.now →
+        get_or heads.now i 0 + HEAD_SIZE ≤ length image.now.bytes.now }
+    requires hashes { AreNameHashes
+        (kept_names image.now.bytes.now heads.now) (length heads.now) hashes.now }
+    ensures { IfOk result (λ classes. MatchOption classes
+        (HaveNamesApart image.now.bytes.now heads.now)
+        (λ some. AreClassesOf image.now.bytes.now heads.now some.items)) }
+{
+    let once = seen_once(alloc, hashes)?;
+    let named = named_headers(alloc, image, heads, &once)?;
+    classes(alloc, named, heads.len())
+}
+
+/// The same by their names alone.
 pub(crate) fn name_classes_of<A: Allocator + Copy>(
     alloc: A,
     image: &Volume,
@@ -112,7 +133,5 @@ pub(crate) fn name_classes_of<A: Allocator + Copy>(
         (λ some. AreClassesOf image.now.bytes.now heads.now some.items)) }
 {
     let hashes = name_hashes(alloc, image, heads)?;
-    let once = seen_once(alloc, &hashes)?;
-    let named = named_headers(alloc, image, heads, &once)?;
-    classes(alloc, named, heads.len())
+    name_classes_by(alloc, image, heads, &hashes)
 }

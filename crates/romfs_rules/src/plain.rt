@@ -8,13 +8,13 @@
 ghost use Rattle.std.specs.Prelude.{◌≡◌, ℕ, [], ◌+◌, ◌/◌, ◌<◌, ◌≤◌, ◌^◌, IfOk, IsTrue, length, get_or};
 ghost use Rattle.romfs_format.specs.declared.limits.TheConstants.{HEAD_SIZE};
 ghost use Rattle.romfs_format.specs.Fields.{IsInside};
-ghost use Rattle.romfs_rules.specs.Names.{HaveNamesApart};
+ghost use Rattle.romfs_rules.specs.Names.{kept_names, AreNameHashes, HaveNamesApart};
 ghost use Rattle.romfs_rules.specs.Plain.{AddsFolder, PassesChain, PassesFolder, KeepsPlainly};
 
 use crate::lead::{first_of, next_of};
 use crate::member::opens;
-use crate::names::{have_hashes_apart, name_classes_of, name_hashes};
-use crate::plain_header::is_plain;
+use crate::names::{have_hashes_apart, name_classes_by};
+use crate::plain_header::plain_hash;
 use crate::slot::is_fresh;
 use crate::volume::Volume;
 use slot_sets::SlotSet;
@@ -51,28 +51,35 @@ fn push_below<A: Allocator>(
     Ok(())
 }
 
-// Goes along the chain of a directory, and tells whether each header there is new and plain.
+// Goes along the chain of a directory, and tells whether each header there is new and plain. Both
+// lists get them all, where they stand and what their names are mixed to.
 fn is_plain_chain<A: Allocator>(
     image: &Volume,
     folder: Folder,
     marks: &mut SlotSet<A>,
     todo: &mut Vec<Folder, A>,
     heads: &mut Vec<u32, A>,
+    hashes: &mut Vec<u64, A>,
 ) -> Result<bool, AllocError>
     requires inside { IsInside image.now.bytes.now folder.header }
     requires sized { length marks.old ≡ length image.now.bytes.now / 16 }
-    requires empty { heads.old.items ≡ [] }
+    requires no_heads { heads.old.items ≡ [] }
+    requires no_hashes { hashes.old.items ≡ [] }
     ensures { IfOk result (λ plain. IsTrue plain → PassesChain image.now.bytes.now folder
-        marks.old marks.new todo.old.items todo.new.items heads.new.items) }
+        marks.old marks.new todo.old.items todo.new.items heads.new.items hashes.new.items) }
 {
     let mut next = first_of(image, folder.header as usize);
     while let Some(head) = next {
         let at = head as usize;
-        if !is_fresh(image, at, marks) || !is_plain(image, folder, at) {
+        if !is_fresh(image, at, marks) {
             return Ok(false);
         }
+        let Some(hash) = plain_hash(image, folder, at) else {
+            return Ok(false);
+        };
         marks.insert(at / 16);
         heads.push(head)?;
+        hashes.push(hash)?;
         push_below(image, folder, at, todo)?;
         next = next_of(image, at);
     }
@@ -84,19 +91,19 @@ fn have_names_apart<A: Allocator + Copy>(
     alloc: A,
     image: &Volume,
     heads: &[u32],
+    hashes: &[u64],
 ) -> Result<bool, AllocError>
     requires few { length heads.now < 2 ^ 32 }
     requires inside { (i : ℕ) → i < length heads.now →
         get_or heads.now i 0 + HEAD_SIZE ≤ length image.now.bytes.now }
+    requires hashes { AreNameHashes
+        (kept_names image.now.bytes.now heads.now) (length heads.now) hashes.now }
     ensures { IfOk result (λ apart. IsTrue apart → HaveNamesApart image.now.bytes.now heads.now) }
 {
-    if heads.len() <= FEW {
-        let hashes = name_hashes(alloc, image, heads)?;
-        if have_hashes_apart(&hashes) {
-            return Ok(true);
-        }
+    if hashes.len() <= FEW && have_hashes_apart(hashes) {
+        return Ok(true);
     }
-    match name_classes_of(alloc, image, heads)? {
+    match name_classes_by(alloc, image, heads, hashes)? {
         None => Ok(true),
         Some(_) => Ok(false),
     }
@@ -111,6 +118,7 @@ fn is_plain_folder<A: Allocator + Copy>(
     marks: &mut SlotSet<A>,
     todo: &mut Vec<Folder, A>,
     heads: &mut Vec<u32, A>,
+    hashes: &mut Vec<u64, A>,
 ) -> Result<bool, AllocError>
     requires inside { IsInside image.now.bytes.now folder.header }
     requires sized { length marks.old ≡ length image.now.bytes.now / 16 }
@@ -118,10 +126,11 @@ fn is_plain_folder<A: Allocator + Copy>(
         marks.old marks.new todo.old.items todo.new.items) }
 {
     heads.clear();
-    if !is_plain_chain(image, folder, marks, todo, heads)? {
+    hashes.clear();
+    if !is_plain_chain(image, folder, marks, todo, heads, hashes)? {
         return Ok(false);
     }
-    have_names_apart(alloc, image, heads)
+    have_names_apart(alloc, image, heads, hashes)
 }
 
 /// Whether an image keeps all rules behind the volume header, as far as one walk tells.
@@ -134,12 +143,21 @@ pub(crate) fn is_plain_image<A: Allocator + Copy>(
     let mut marks = SlotSet::new(alloc, image.bytes.len() / 16)?;
     let mut todo = Vec::new(alloc);
     let mut heads = Vec::new(alloc);
+    let mut hashes = Vec::new(alloc);
     todo.push(Folder {
         header: image.root as u32,
         names: 0,
     })?;
     while let Some(folder) = todo.pop() {
-        if !is_plain_folder(alloc, image, folder, &mut marks, &mut todo, &mut heads)? {
+        if !is_plain_folder(
+            alloc,
+            image,
+            folder,
+            &mut marks,
+            &mut todo,
+            &mut heads,
+            &mut hashes,
+        )? {
             return Ok(false);
         }
     }

@@ -4,16 +4,16 @@
 //! it leads, and each name is ended, also the root's. A header of which it is not told may be sound
 //! all the same.
 
-ghost use Rattle.std.specs.Prelude.{◌≡◌, ◌+◌, ◌<◌, ◌≤◌, ◌^◌, length, IsTrue};
+ghost use Rattle.std.specs.Prelude.{◌≡◌, ◌+◌, ◌<◌, ◌≤◌, ◌^◌, length, IsTrue, IfSome, Some};
 ghost use Rattle.romfs_format.specs.declared.limits.TheConstants.{HEAD_SIZE};
-ghost use Rattle.romfs_format.specs.Fields.{IsInside, name, data_at};
-ghost use Rattle.romfs_rules.specs.Plain.{HasPlainBody, IsPlainEnd, IsPlainMember, IsPlain};
-ghost use Rattle.std.specs.Prelude.{Some};
+ghost use Rattle.romfs_format.specs.Fields.{IsInside, text_at, data_at};
+ghost use Rattle.romfs_rules.specs.Plain.{HasPlainBody, IsPlainEnd, IsPlainMember, IsPlain, IsHashed};
 
 use crate::header::{has_data, is_bad_name, is_data_outside, is_major_large, is_target_long};
 use crate::plain::Folder;
 use crate::slot::is_inside;
 use crate::volume::Volume;
+use equal_keys::hash_of;
 use romfs_format::head::Kind;
 use romfs_format::limits::{HEAD_SIZE, MAX_NAMES};
 use romfs_format::read::{cleared, is_dot_name, kind_of, text_at, word};
@@ -66,21 +66,36 @@ fn is_plain_member(image: &Volume, at: usize, name: &[u8]) -> bool
     }
 }
 
-/// Whether a header in the chain of a directory breaks no rule by its own bytes.
+// Whether a header with this name, in the chain of a directory, breaks no rule by its own bytes.
 #[inline(always)]
-pub(crate) fn is_plain(image: &Volume, folder: Folder, at: usize) -> bool
-    requires { IsInside image.now.bytes.now at }
+fn is_plain(image: &Volume, folder: Folder, at: usize, name: &[u8]) -> bool
+    requires inside { IsInside image.now.bytes.now at }
+    requires text { text_at image.now.bytes.now (at + HEAD_SIZE) ≡ Some name.now }
+    requires within { data_at at name.now ≤ length image.now.bytes.now }
     ensures { IsTrue result → IsPlain image.now.bytes.now folder.header folder.names at }
 {
     if folder.names >= u32::from(MAX_NAMES) {
         return false;
     }
-    let Some(name) = text_at(image.bytes, at + HEAD_SIZE) else {
-        return false;
-    };
     if at == image.root {
         folder.header as usize == image.root
     } else {
         is_dot_name(name) || is_plain_member(image, at, name)
+    }
+}
+
+/// What the name is mixed to of a header in the chain of a directory, if the header breaks no rule
+/// by its own bytes; none where it may break some.
+#[inline(always)]
+pub(crate) fn plain_hash(image: &Volume, folder: Folder, at: usize) -> Option<u64>
+    requires { IsInside image.now.bytes.now at }
+    ensures { IfSome result
+        (λ hash. IsHashed image.now.bytes.now folder.header folder.names at hash) }
+{
+    let name = text_at(image.bytes, at + HEAD_SIZE)?;
+    if is_plain(image, folder, at, name) {
+        Some(hash_of(name))
+    } else {
+        None
     }
 }

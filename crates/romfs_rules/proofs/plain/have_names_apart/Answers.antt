@@ -1,4 +1,4 @@
-use Rattle.std.proofs.Common.{ℕ, ◌≡◌, ◌<◌, length, slice_index, refl, subst}
+use Rattle.std.proofs.Common.{length, refl}
 use Rattle.romfs_rules.specs.Names.{kept_names}
 use Rattle.romfs_rules.proofs.NameHashes.{hashes_apart}
 use Rattle.romfs_rules.proofs.plain.have_names_apart.Goals as goal
@@ -6,6 +6,5 @@ use Rattle.romfs_rules.proofs.plain.have_names_apart.Goals as goal
 pub returns-then-have_hashes_apart : goal.returns-then-have_hashes_apart
 returns-then-have_hashes_apart g c = λ _.
     let heads = c.args.heads.now in
-    hashes_apart (kept_names c.args.image.now.bytes.now heads) (length heads) c.in_ok-hashes.hashes.items c.in_ok-hashes.ensures
-    (subst (λ xs. (i j : ℕ) → i < length xs → j < length xs → slice_index xs i ≡ slice_index xs j → i ≡ j)
-    c.deref.ensures.value (c.if-have_hashes_apart.ensures refl))
+    hashes_apart (kept_names c.args.image.now.bytes.now heads) (length heads) c.args.hashes.now c.requires.hashes
+    (c.if-have_hashes_apart.ensures refl)
