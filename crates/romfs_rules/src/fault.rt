@@ -140,7 +140,7 @@ fn fault_in<A: Allocator + Copy>(
 /// such header. The error comes only where memory was refused.
 ///
 /// It takes n log n steps in headers and one pass over the bytes of the image, whatever they are.
-/// Beside them it takes at most a byte for each 40 of the image and 64 for each header that is
+/// Beside them it takes at most a byte for each 40 of the image and 96 for each header that is
 /// reached, and keeps nothing.
 pub fn first_fault<A: Allocator + Copy>(
     alloc: A,
