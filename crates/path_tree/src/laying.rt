@@ -60,7 +60,7 @@ pub fn merge<T: Lay, A: Allocator + Copy>(
     if highs.is_empty() {
         return Ok(lows);
     }
-    let mut out = Vec::with_capacity(alloc, lows.len().max(highs.len()))?;
+    let mut out = Vec::with_capacity(alloc, lows.len().saturating_add(highs.len()))?;
     let mut lows = VecDeque::from(lows);
     let mut highs = VecDeque::from(highs);
     while let (Some(low), Some(high)) = (lows.front(), highs.front()) {
@@ -104,6 +104,9 @@ fn append<T: Copy + Drop, A: Allocator>(
 ) -> Result<(), AllocError>
     ensures { OnOk result (out.new.items ≡ out.old.items ++ left.items) }
 {
+    if left.is_empty() {
+        return Ok(());
+    }
     out.append(&mut Vec::from(left))?;
     Ok(())
 }

@@ -42,7 +42,7 @@ impl<A: Allocator + Copy> Check for Image<A> {
     /// is too deep. `Memory` comes only where memory was refused.
     ///
     /// It takes n log n steps in headers, whatever the image: chains may merge, loop and lead
-    /// anywhere. Beside the image it takes at most a byte for each 40 of its bytes and 64 for each
+    /// anywhere. Beside the image it takes at most a byte for each 40 of its bytes and 96 for each
     /// header that is reached, and keeps none of it.
     fn check(alloc: A, bytes: Vec<u8, A>) -> Result<Image<A>, CheckFault>
         ensures ok { IfOk result (IsChecked bytes.items) }

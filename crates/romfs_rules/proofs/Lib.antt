@@ -17,3 +17,6 @@ pub mod Verdict
 pub mod SameNaming
 pub mod HeadNumbers
 pub mod NameHashes
+pub mod PlainChain
+pub mod PlainWalk
+pub mod PlainRules

@@ -38,7 +38,8 @@ module _ (a : List ℕ) where
   in_chain_too d {h = h} c (next_one n) = (suc c.0, (h, c.1, n))
   in_chain_too d {h = h} c (later n x) = in_chain_too d (suc c.0, (h, c.1, n)) x
 
-  one_at : (d n h g : ℕ) → IsAt a d n h → IsAt a d n g → h ≡ g
+  -- one header stands at each position of a chain
+  pub one_at : (d n h g : ℕ) → IsAt a d n h → IsAt a d n g → h ≡ g
   one_at d zero h g x y = x.0 ∙ sym y.0
   one_at d (suc n) h g x y = x.2.1 ∙ ap (next a) (one_at d n x.0 y.0 x.1 y.1) ∙ sym y.2.1
 

@@ -48,7 +48,7 @@ by_part Q v h d TooDeep = d
 
 -- a fact of every rule of file headers, of each as an argument of its own: so a proof that leaves
 -- out a rule does not pass
-by_rule : (Q : Rule → Type 0) → Q Outside → Q NameOpen → Q NameBad → Q DataOutside → Q TargetLong → Q LinkedTwice
+pub by_rule : (Q : Rule → Type 0) → Q Outside → Q NameOpen → Q NameBad → Q DataOutside → Q TargetLong → Q LinkedTwice
     → Q SameName → Q LinkLoop → Q LinkDirectory → Q MajorLarge → Q HeaderSum → (r : Rule) → IsHeaderRule r
     → Q r
 by_rule Q a b c d e f g h i j k Short x = absurd (omega arith)

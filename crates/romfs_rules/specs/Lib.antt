@@ -12,3 +12,4 @@ pub mod Sets
 pub mod Names
 pub mod SameNames
 pub mod Volumes
+pub mod Plain

@@ -1,12 +1,13 @@
 //! The first rule that an image breaks behind its volume header.
 
-ghost use Rattle.std.specs.Prelude.{◌≡◌, ℕ, List, IfOk};
+ghost use Rattle.std.specs.Prelude.{◌≡◌, ℕ, List, IfOk, IsTrue};
 ghost use Rattle.romfs_format.specs.Fields.{root as root_of, image};
 ghost use Rattle.romfs_format.specs.Rules.{IsVolume};
 ghost use Rattle.romfs_rules.specs.InChains.{AreChains};
 ghost use Rattle.romfs_rules.specs.SameNames.{HaveSameNamesIfAlone};
 ghost use Rattle.romfs_rules.specs.Twice.{AreTwice};
 ghost use Rattle.romfs_rules.specs.Judge.{IsHeaderFault};
+ghost use Rattle.romfs_rules.specs.Plain.{KeepsPlainly};
 ghost use Rattle.romfs_format.specs.Rules.{IsFaultOfAs};
 
 use crate::chains::{Chains, find_chains};
@@ -14,6 +15,7 @@ use crate::depth::find_deep;
 use crate::ends::find_ends;
 use crate::judge::{Sets, fault_of};
 use crate::outside::find_outside;
+use crate::plain::is_plain_image;
 use crate::same_names::find_same_names;
 use crate::targets::mark_targets;
 use crate::twice::find_twice;
@@ -81,9 +83,25 @@ fn header_fault_in<A: Allocator + Copy>(
     header_fault_by(alloc, image, profile, &chains, &same_names, &twice)
 }
 
-// The fault of an image that keeps the rules of the volume header, by its accessible bytes; none
-// where it is sound.
-fn fault_in<A: Allocator + Copy>(
+// Whether an image keeps all rules behind the volume header, as far as one walk tells. The sums of
+// headers are not looked at there, so under the strict profile it is not told.
+fn is_plain_by<A: Allocator + Copy>(
+    alloc: A,
+    image: &Volume,
+    profile: Profile,
+) -> Result<bool, AllocError>
+    ensures { IfOk result (λ plain. IsTrue plain →
+        (profile ≡ Profile.Usual) × KeepsPlainly image.now.bytes.now) }
+{
+    match profile {
+        Profile::Usual => is_plain_image(alloc, image),
+        Profile::Strict => Ok(false),
+    }
+}
+
+// The fault of an image that keeps the rules of the volume header, by its accessible bytes and by
+// sets of its headers; none where it is sound.
+fn fault_by_sets<A: Allocator + Copy>(
     alloc: A,
     volume: &Volume,
     profile: Profile,
@@ -99,6 +117,22 @@ fn fault_in<A: Allocator + Copy>(
     Ok(fault_of(header, deep))
 }
 
+// The same. Most images are plainly sound, and then no set is made.
+fn fault_in<A: Allocator + Copy>(
+    alloc: A,
+    volume: &Volume,
+    profile: Profile,
+) -> Result<Option<ImageFault>, AllocError>
+    ensures { IfOk result (λ fault. (b : List ℕ) → image b ≡ volume.now.bytes.now
+        → IsVolume b → IsFaultOfAs profile b fault) }
+{
+    if is_plain_by(alloc, volume, profile)? {
+        Ok(fault_of(None, None))
+    } else {
+        fault_by_sets(alloc, volume, profile)
+    }
+}
+
 /// The fault of some bytes as an image, under a profile; none where they break no rule of it.
 ///
 /// That is the first broken rule of the volume header; else, of all broken rules of file headers,
@@ -106,7 +140,7 @@ fn fault_in<A: Allocator + Copy>(
 /// such header. The error comes only where memory was refused.
 ///
 /// It takes n log n steps in headers and one pass over the bytes of the image, whatever they are.
-/// Beside them it takes at most a byte for each 40 of the image and 64 for each header that is
+/// Beside them it takes at most a byte for each 40 of the image and 96 for each header that is
 /// reached, and keeps nothing.
 pub fn first_fault<A: Allocator + Copy>(
     alloc: A,

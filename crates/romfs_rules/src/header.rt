@@ -52,14 +52,14 @@ impl<'h> Model for Header<'h> {
 }
 
 // Whether a name is empty or holds `/`.
-fn is_bad_name(name: &[u8]) -> bool
+pub(crate) fn is_bad_name(name: &[u8]) -> bool
     ensures { IsTrue result ↔ IsBadName name.now }
 {
     name.is_empty() || name.contains(&b'/')
 }
 
 // Whether a header is that of a regular file or a symbolic link.
-fn has_data(image: &Volume, at: usize) -> bool
+pub(crate) fn has_data(image: &Volume, at: usize) -> bool
     requires { at + HEAD_SIZE ≤ length image.now.bytes.now }
     ensures { IsTrue result ↔ HasData image.now.bytes.now at }
 {
@@ -70,7 +70,7 @@ fn has_data(image: &Volume, at: usize) -> bool
 }
 
 // Whether the data of a header with this name ends beyond the image.
-fn is_data_outside(image: &Volume, at: usize, name: &[u8]) -> bool
+pub(crate) fn is_data_outside(image: &Volume, at: usize, name: &[u8]) -> bool
     requires at { at + HEAD_SIZE ≤ length image.now.bytes.now }
     requires name { data_at at name.now ≤ length image.now.bytes.now }
     ensures { IsTrue result ↔ EndsOutside image.now.bytes.now at name.now }
@@ -80,7 +80,7 @@ fn is_data_outside(image: &Volume, at: usize, name: &[u8]) -> bool
 }
 
 // Whether a header is that of a symbolic link with a target that is too long.
-fn is_target_long(image: &Volume, at: usize) -> bool
+pub(crate) fn is_target_long(image: &Volume, at: usize) -> bool
     requires { at + HEAD_SIZE ≤ length image.now.bytes.now }
     ensures { IsTrue result ↔ HasLongTarget image.now.bytes.now at }
 {
@@ -99,7 +99,7 @@ fn is_device(image: &Volume, at: usize) -> bool
 }
 
 // Whether a header is that of a device with a major number that is too large.
-fn is_major_large(image: &Volume, at: usize) -> bool
+pub(crate) fn is_major_large(image: &Volume, at: usize) -> bool
     requires { at + HEAD_SIZE ≤ length image.now.bytes.now }
     ensures { IsTrue result ↔ HasLargeMajor image.now.bytes.now at }
 {

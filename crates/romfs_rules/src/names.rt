@@ -4,7 +4,7 @@
 //! Most names stand once. So the names of all headers are mixed to numbers first, and those that
 //! were seen once among these are left out of the sort that finds equal ones.
 
-ghost use Rattle.std.specs.Prelude.{◌≡◌, ◌+◌, ◌<◌, ◌≤◌, ◌^◌, ℕ, IfOk, MatchOption, length, get_or};
+ghost use Rattle.std.specs.Prelude.{◌≡◌, ◌+◌, ◌<◌, ◌≤◌, ◌^◌, ℕ, IfOk, IsTrue, MatchOption, length, get_or, slice_index};
 ghost use Rattle.std.specs.Option.{option_map};
 ghost use Rattle.romfs_format.specs.declared.limits.TheConstants.{HEAD_SIZE};
 ghost use Rattle.equal_keys.specs.Once.{AreSeenOnce};
@@ -51,6 +51,19 @@ fn name_hashes<A: Allocator + Copy>(
     Ok(hashes)
 }
 
+/// Whether no two names were mixed to the same, each compared with each.
+pub(crate) fn have_hashes_apart(hashes: &[u64]) -> bool
+    ensures { IsTrue result → (i j : ℕ) → i < length hashes.now → j < length hashes.now
+        → slice_index hashes.now i ≡ slice_index hashes.now j → i ≡ j }
+{
+    for high in 0..hashes.len() {
+        if hashes[..high].contains(&hashes[high]) {
+            return false;
+        }
+    }
+    true
+}
+
 // The headers that have a name, each with it, but those of which it is told that theirs stands
 // once.
 fn named_headers<'a, A: Allocator + Copy>(
@@ -84,8 +97,29 @@ fn named_headers<'a, A: Allocator + Copy>(
     Ok(named)
 }
 
-/// The classes of headers by their names, each a number of a header, with one more for none; None
-/// only where no two headers have one name.
+/// The classes of headers by their names and what these are mixed to, each a number of a header,
+/// with one more for none; None only where no two headers have one name.
+pub(crate) fn name_classes_by<A: Allocator + Copy>(
+    alloc: A,
+    image: &Volume,
+    heads: &[u32],
+    hashes: &[u64],
+) -> Result<Option<Vec<u32, A>>, AllocError>
+    requires few { length heads.now < 2 ^ 32 }
+    requires inside { (i : ℕ) → i < length heads.now →
+        get_or heads.now i 0 + HEAD_SIZE ≤ length image.now.bytes.now }
+    requires hashes { AreNameHashes
+        (kept_names image.now.bytes.now heads.now) (length heads.now) hashes.now }
+    ensures { IfOk result (λ classes. MatchOption classes
+        (HaveNamesApart image.now.bytes.now heads.now)
+        (λ some. AreClassesOf image.now.bytes.now heads.now some.items)) }
+{
+    let once = seen_once(alloc, hashes)?;
+    let named = named_headers(alloc, image, heads, &once)?;
+    classes(alloc, named, heads.len())
+}
+
+/// The same by their names alone.
 pub(crate) fn name_classes_of<A: Allocator + Copy>(
     alloc: A,
     image: &Volume,
@@ -99,7 +133,5 @@ pub(crate) fn name_classes_of<A: Allocator + Copy>(
         (λ some. AreClassesOf image.now.bytes.now heads.now some.items)) }
 {
     let hashes = name_hashes(alloc, image, heads)?;
-    let once = seen_once(alloc, &hashes)?;
-    let named = named_headers(alloc, image, heads, &once)?;
-    classes(alloc, named, heads.len())
+    name_classes_by(alloc, image, heads, &hashes)
 }

@@ -1,18 +1,13 @@
 use Rattle.std.proofs.Common.{sym, subst}
-use Rattle.std.proofs.lemmas.Bool.{true≢false}
-use Rattle.romfs_format.specs.declared.rule.Rule.TheVariants.{TooDeep}
-use Rattle.romfs_format.specs.Rules.{BreaksHeader}
-use Rattle.romfs_rules.specs.Outside.{IsLeast}
-use Rattle.romfs_rules.specs.Judge.{IsHeaderFault}
-use Rattle.romfs_rules.proofs.fault.fault_in.Goals.{in-Some, in-None+in_ok-deep-in-None}
+use Rattle.romfs_format.specs.Fields.{image}
+use Rattle.romfs_rules.specs.Judge.{KeepsAllHeaderRules}
+use Rattle.romfs_rules.specs.Plain.{KeepsPlainly}
 use Rattle.romfs_rules.proofs.fault.fault_in.Goals as goal
 
-pub returns : goal.returns
-returns g c = λ b e v.
+pub returns-then-branch : goal.returns-then-branch
+returns-then-branch g c = λ b e v.
+    let plain = c.in_ok-is_plain_by.ensures c.if-branch.true in
+    let keeps = subst (λ a. KeepsPlainly a) (sym e) plain.1 in
     c.fault_of.ensures c.args.profile b v
-    (subst (λ a. IsHeaderFault c.args.profile a c.in_ok-header.header) (sym e) c.in_ok-header.ensures)
-    (λ n. subst (λ a. IsLeast (BreaksHeader a TooDeep) c.match-header.deep) (sym e)
-    (elim c.match-header.branch [
-      | in-Some w ↦ absurd (true≢false (rw w.in-Some.is at n))
-      | in-None+in_ok-deep-in-None w ↦ rw w.deep-is w.in_ok-deep-in-None.ensures
-    ]))
+    (subst (λ p. KeepsAllHeaderRules p (image b)) (sym plain.0) keeps.headers)
+    (λ _. record { is = λ h x. cc; whole = λ h x. absurd (keeps.depth h x) })

@@ -1,17 +1,16 @@
 use Rattle.std.proofs.Common.{ℕ, List, Option, MatchOption, length, subst, sym}
 use Rattle.std.proofs.lemmas.Result.{IfOk-weaker}
-use Rattle.equal_keys.specs.Once.{AreSeenOnce}
 use Rattle.equal_keys.specs.Names.{HoldTheShared, AreClasses, AreNamesApart}
 use Rattle.romfs_rules.specs.Names.{kept_names, HaveTheirsAlone, AreClassesOf, HaveNamesApart}
 use Rattle.romfs_rules.proofs.NameHashes.{told_alone}
-use Rattle.romfs_rules.proofs.names.name_classes_of.Goals as goal
+use Rattle.romfs_rules.proofs.names.name_classes_by.Goals as goal
 
 pub named_headers-requires-clause-once : goal.named_headers-requires-clause-once
 named_headers-requires-clause-once g c =
     let heads = c.args.heads.now in
-    subst (HaveTheirsAlone (kept_names c.args.image.now.bytes.now heads) (length heads)) (sym c.deref-2.ensures.value)
-    (told_alone (kept_names c.args.image.now.bytes.now heads) (length heads) c.in_ok-hashes.hashes.items c.in_ok-once.once.items
-    c.in_ok-hashes.ensures (subst (λ xs. AreSeenOnce xs c.in_ok-once.once.items) c.deref.ensures.value c.in_ok-once.ensures))
+    subst (HaveTheirsAlone (kept_names c.args.image.now.bytes.now heads) (length heads)) (sym c.deref.ensures.value)
+    (told_alone (kept_names c.args.image.now.bytes.now heads) (length heads) c.args.hashes.now c.in_ok-once.once.items
+    c.requires.hashes c.in_ok-once.ensures)
 
 pub classes-requires-clause-named : goal.classes-requires-clause-named
 classes-requires-clause-named g c = (kept_names c.args.image.now.bytes.now c.args.heads.now, c.in_ok-named.ensures)

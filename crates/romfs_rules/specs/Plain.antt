@@ -1,0 +1,105 @@
+-- What a walk down from the root sees of an image that plainly keeps every rule.
+use Rattle.std.specs.Prelude.{◌≡◌, ◌≢◌, ℕ, ◌+◌, ◌/◌, ◌<◌, ◌≤◌, ◌⊎◌, List, length, get_or, Bool, true, false, not, count_by, Some, Contains}
+use Rattle.equal_keys.specs.Names.{name_hash}
+use Rattle.romfs_format.specs.declared.head.Kind.TheVariants.{HardLink, Directory}
+use Rattle.romfs_format.specs.declared.limits.TheConstants.{MAX_NAMES}
+use Rattle.romfs_format.specs.declared.rule.Profile.TheVariants.{Usual}
+use Rattle.romfs_format.specs.declared.rule.Rule.TheVariants.{TooDeep}
+use Rattle.romfs_format.specs.Fields.{root, IsInside, kind, name}
+use Rattle.romfs_format.specs.Chains.{IsAt, IsDotted}
+use Rattle.romfs_format.specs.Links.{destination}
+use Rattle.romfs_format.specs.Rules.{HasData, IsBadName, EndsOutside, HasLongTarget, HasLargeMajor, BreaksHeader}
+use Rattle.romfs_rules.specs.Judge.{KeepsAllHeaderRules}
+use Rattle.romfs_rules.specs.Marks.{IsMarked, Opens}
+use Rattle.romfs_rules.specs.Names.{kept_names, AreNameHashes, HaveNamesApart}
+use Rattle.romfs_rules.specs.declared.plain.Folder.{Folder}
+
+-- the data, the target and the major number of the header with this name break no rule
+pub record HasPlainBody (a : List ℕ) (h : ℕ) (text : List ℕ) : Type 0 where
+  pub within : ¬ (HasData a h × EndsOutside a h text)
+  pub target : ¬ HasLongTarget a h
+  pub major : ¬ HasLargeMajor a h
+
+-- hard links end at g, which breaks no rule
+pub record IsPlainEnd (a : List ℕ) (g : ℕ) : Type 0 where
+  pub inside : IsInside a g
+  pub text : List ℕ
+  pub is_name : name a g ≡ Some text
+  pub no_link : kind a g ≢ HardLink
+  pub no_directory : kind a g ≢ Directory
+  pub body : HasPlainBody a g text
+
+-- the member h with this name breaks no rule by its own bytes, and ends right where it leads as a
+-- hard link
+pub record IsPlainMember (a : List ℕ) (h : ℕ) (text : List ℕ) : Type 0 where
+  pub good : ¬ IsBadName text
+  pub body : HasPlainBody a h text
+  pub ends : kind a h ≡ HardLink → IsPlainEnd a (destination a h)
+
+-- h breaks no such rule in the chain of d, to which n names lead
+pub record IsPlain (a : List ℕ) (d n h : ℕ) : Type 0 where
+  pub inside : IsInside a h
+  pub text : List ℕ
+  pub is_name : name a h ≡ Some text
+  pub depth : n < MAX_NAMES
+  pub own : h ≡ root a → d ≡ root a
+  pub member : h ≢ root a → ¬ IsDotted a h → IsPlainMember a h text
+
+-- and its name is mixed to this
+pub record IsHashed (a : List ℕ) (d n h hash : ℕ) : Type 0 where
+  pub plain : IsPlain a d n h
+  pub mixed : (q : List ℕ) → name a h ≡ Some q → hash ≡ name_hash q
+
+-- the directory h, to which n names lead
+abbrev pub folder : ℕ → ℕ → Folder
+folder h n = record { header = h; names = n }
+
+-- h stands at position i of the chain of d, as a walk along it found it: it had no mark before, and
+-- is still to come as a directory, if it is one
+pub record IsPassed (a : List ℕ) (d n : ℕ) (old marks : List Bool) (todo : List Folder) (i h : ℕ) : Type 0 where
+  pub at : IsAt a d i h
+  pub plain : IsPlain a d n h
+  pub unmarked : get_or old (h / 16) false ≡ false
+  pub marked : IsMarked marks h
+  pub comes : h ≢ root a → Opens a h → Contains todo (folder h (n + 1))
+
+-- the front of the chain of w was passed: these headers of it, from its first on
+pub record PassesFront (a : List ℕ) (w : Folder) (old new : List Bool) (before after : List Folder)
+    (heads : List ℕ) : Type 0 where
+  pub sized : length new ≡ length old
+  pub count : length heads + count_by not new ≡ count_by not old
+  pub each : (i : ℕ) → i < length heads
+      → IsPassed a w.header w.names old new after i (get_or heads i 0)
+  pub apart : (i j : ℕ) → i < length heads → j < length heads
+      → get_or heads i 0 ≡ get_or heads j 0 → i ≡ j
+  pub kept : (k : ℕ) → get_or old k false ≡ true → get_or new k false ≡ true
+  pub waits : (v : Folder) → Contains before v → Contains after v
+  pub inside : (v : Folder) → Contains after v → Contains before v ⊎ IsInside a v.header
+  pub few : length after ≤ length before + length heads
+
+-- the whole chain was, and this is what names are mixed to
+pub record PassesChain (a : List ℕ) (w : Folder) (old new : List Bool) (before after : List Folder)
+    (heads hashes : List ℕ) : Type 0 where
+  pub front : PassesFront a w old new before after heads
+  pub hashed : AreNameHashes (kept_names a heads) (length heads) hashes
+  pub whole : (i h : ℕ) → IsAt a w.header i h → i < length heads
+
+-- and no two of its members have one name
+pub record PassesFolder (a : List ℕ) (w : Folder) (old new : List Bool)
+    (before after : List Folder) : Type 0 where
+  pub heads : List ℕ
+  pub hashes : List ℕ
+  pub chain : PassesChain a w old new before after heads hashes
+  pub apart : HaveNamesApart a heads
+
+-- a header of the chain of w, which comes to the directories after, if it is one
+pub record AddsFolder (a : List ℕ) (w : Folder) (at : ℕ) (before after : List Folder) : Type 0 where
+  pub comes : at ≢ root a → Opens a at → Contains after (folder at (w.names + 1))
+  pub waits : (v : Folder) → Contains before v → Contains after v
+  pub inside : (v : Folder) → Contains after v → Contains before v ⊎ IsInside a v.header
+  pub few : length after ≤ length before + 1
+
+-- no rule behind the volume header is broken
+pub record KeepsPlainly (a : List ℕ) : Type 0 where
+  pub headers : KeepsAllHeaderRules Usual a
+  pub depth : (h : ℕ) → ¬ BreaksHeader a TooDeep h
