@@ -6,8 +6,9 @@
 //! are read first, and then what they point to. None of these reads waits for that of another
 //! request, so they overlap.
 //!
-//! No answer follows from what is read here. It takes a few steps for each message of the round, as
-//! long as every fourth is a LOOKUP, and no memory.
+//! No answer follows from what is read here: the answer to a LOOKUP is given the place that was
+//! guessed for it, and looks whether the row there has the name. It takes a few steps for each
+//! message of the round, as long as every fourth is a LOOKUP, and no memory.
 
 use fuse_wire::limits::MAX_ROUND_MESSAGES;
 use fuse_wire::{Framed, frame, glance};
@@ -17,9 +18,8 @@ use std::alloc::Allocator;
 /// What was read ahead.
 #[derive(Drop)]
 pub(crate) struct LookupsAhead {
-    // Where the rows of LOOKUPs may stand, and how many these are.
-    places: [usize; MAX_ROUND_MESSAGES],
-    len: usize,
+    // One more than the place where the row of each message may stand, if it is a LOOKUP, else 0.
+    places: [u32; MAX_ROUND_MESSAGES],
     // A sum of all that was read, so that no compiler leaves the reading out.
     sum: u64,
 }
@@ -29,8 +29,17 @@ impl LookupsAhead {
     pub(crate) fn new() -> Self {
         LookupsAhead {
             places: [0; MAX_ROUND_MESSAGES],
-            len: 0,
             sum: 0,
+        }
+    }
+
+    // Where the row may stand that the answer to the message with this number reads, if it is a
+    // LOOKUP. It is a guess, and none says nothing.
+    #[inline(always)]
+    pub(crate) fn place(&self, number: u32) -> Option<usize> {
+        match self.places.get(number as usize) {
+            Some(noted) => place_noted(*noted),
+            None => None,
         }
     }
 
@@ -42,32 +51,43 @@ impl LookupsAhead {
         stream: &[u8],
         balances: &[i128],
     ) {
-        self.guess_all(table, stream);
-        for place in self.places.iter().take(self.len) {
-            let read = table
-                .guessed(*place)
+        let seen = self.guess_all(table, stream);
+        for noted in self.places.iter().take(seen) {
+            let read = place_noted(*noted)
+                .and_then(|place| table.guessed(place))
                 .and_then(|row| read_row(table, row, balances));
             self.sum ^= read.unwrap_or(0);
         }
     }
 
-    // Guesses where the rows of these LOOKUPs stand.
-    fn guess_all<A: Allocator>(&mut self, table: &Table<A>, stream: &[u8]) {
+    // Guesses where the rows of these LOOKUPs stand, and says how many messages it looked at.
+    fn guess_all<A: Allocator>(&mut self, table: &Table<A>, stream: &[u8]) -> usize {
         let mut rest = stream;
+        let mut guessed = 0usize;
         for message in 0..MAX_ROUND_MESSAGES {
             let Framed::Whole(len) = frame(rest) else {
-                return;
+                return message;
             };
             match guess(table, &rest[..len]) {
-                Some(place) if self.len < MAX_ROUND_MESSAGES => {
-                    self.places[self.len] = place;
-                    self.len += 1;
+                Some(place) if place < u32::MAX as usize => {
+                    self.places[message] = place as u32 + 1;
+                    guessed = guessed.wrapping_add(1);
                 }
-                _ if self.len < message / 4 => return,
+                _ if guessed < message / 4 => return message,
                 _ => {}
             }
             rest = &rest[len..];
         }
+        MAX_ROUND_MESSAGES
+    }
+}
+
+// The place that a number tells, which is one more; 0 tells none.
+fn place_noted(noted: u32) -> Option<usize> {
+    if noted == 0 {
+        None
+    } else {
+        Some((noted - 1) as usize)
     }
 }
 
