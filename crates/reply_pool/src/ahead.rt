@@ -3,8 +3,8 @@
 //! A LOOKUP follows numbers through a table that is larger than the processor's caches: from the
 //! directory to a guess, to the row, to the node and to its balance. One after another each of
 //! these reads would be waited for, request by request. Here the guesses of all LOOKUPs of a round
-//! are read first, and then what they point to. None of these reads waits for that of another
-//! request, so they overlap.
+//! are read first, then the rows that these point to, and then the nodes and balances of these
+//! rows. None of these reads waits for that of another request, so they overlap.
 //!
 //! No answer follows from what is read here: the answer to a LOOKUP is given the place that was
 //! guessed for it, and looks whether the row there has the name. It takes a few steps for each
@@ -12,7 +12,7 @@
 
 use fuse_wire::limits::MAX_ROUND_MESSAGES;
 use fuse_wire::{Framed, frame, glance};
-use stack_table::{Row, Table};
+use stack_table::Table;
 use std::alloc::Allocator;
 
 /// What was read ahead.
@@ -52,12 +52,33 @@ impl LookupsAhead {
         balances: &[i128],
     ) {
         let seen = self.guess_all(table, stream);
-        for noted in self.places.iter().take(seen) {
-            let read = place_noted(*noted)
-                .and_then(|place| table.guessed(place))
-                .and_then(|row| read_row(table, row, balances));
-            self.sum ^= read.unwrap_or(0);
+        let mut numbers = [0; MAX_ROUND_MESSAGES];
+        let rows = self.read_rows(table, seen, &mut numbers);
+        for number in numbers.iter().take(rows) {
+            self.sum ^= read_node(table, *number, balances).unwrap_or(0);
         }
+    }
+
+    // Reads the rows that were guessed for so many messages, and says how many rows these are. The
+    // numbers that they have go to `numbers`.
+    fn read_rows<A: Allocator>(
+        &mut self,
+        table: &Table<A>,
+        seen: usize,
+        numbers: &mut [u64],
+    ) -> usize {
+        let mut rows = 0usize;
+        for noted in self.places.iter().take(seen) {
+            match place_noted(*noted).and_then(|place| table.guessed(place)) {
+                Some(row) if rows < numbers.len() => {
+                    numbers[rows] = row.number;
+                    rows += 1;
+                    self.sum ^= u64::from(*row.name().last().unwrap_or(&0));
+                }
+                _ => {}
+            }
+        }
+        rows
     }
 
     // Guesses where the rows of these LOOKUPs stand, and says how many messages it looked at.
@@ -97,10 +118,9 @@ fn guess<A: Allocator>(table: &Table<A>, message: &[u8]) -> Option<usize> {
     table.guess(node, name)
 }
 
-// Reads a row, its node and the node's balance.
-fn read_row<A: Allocator>(table: &Table<A>, row: &Row<A>, balances: &[i128]) -> Option<u64> {
-    let end = row.name().last()?;
-    let attr = table.attr(row.number)?;
-    let balance = balances.get(row.number.wrapping_sub(1) as usize)?;
-    Some(attr.size ^ u64::from(attr.mode ^ attr.nlink) ^ u64::from(*end) ^ u64::from(*balance == 0))
+// Reads a node and its balance.
+fn read_node<A: Allocator>(table: &Table<A>, number: u64, balances: &[i128]) -> Option<u64> {
+    let attr = table.attr(number)?;
+    let balance = balances.get(number.wrapping_sub(1) as usize)?;
+    Some(attr.size ^ u64::from(attr.mode ^ attr.nlink) ^ u64::from(*balance == 0))
 }
