@@ -22,13 +22,16 @@ pub(crate) fn decide<'a, A: Allocator>(
     table: &'a Table<A>,
     session: Session,
     request: &Request<'a>,
+    guess: Option<usize>,
 ) -> Result<Answer<'a, A>, Errno>
     ensures { Decides table.now session (asked_of request.now) result }
 {
     let agreed = agreement_of(session);
     match session {
         Session::Fresh | Session::LastingFresh => begin(table, agreed, request),
-        Session::Ready { .. } | Session::LastingReady { .. } => go_on(table, agreed, request),
+        Session::Ready { .. } | Session::LastingReady { .. } => go_on(
+            table, agreed, request, guess,
+        ),
     }
 }
 
@@ -74,6 +77,7 @@ fn go_on<'a, A: Allocator>(
     table: &'a Table<A>,
     agreed: Agreement,
     request: &Request<'a>,
+    guess: Option<usize>,
 ) -> Result<Answer<'a, A>, Errno>
     ensures { DecidesIn table.now false agreed (asked_of request.now) result }
 {
@@ -86,7 +90,7 @@ fn go_on<'a, A: Allocator>(
         Op::Modify => Err(Errno::EROFS),
         Op::Other => Err(Errno::ENOSYS),
         Op::Malformed { .. } => Err(Errno::EINVAL),
-        Op::Lookup { name } => look_up(table, agreed, node, name),
+        Op::Lookup { name } => look_up(table, agreed, node, name, guess),
         Op::Getattr => get_attr(table, agreed, node),
         Op::Readlink => read_link(table, agreed, node),
         Op::Open { flags } => open_file(table, agreed, node, flags),

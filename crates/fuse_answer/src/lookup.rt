@@ -23,6 +23,7 @@ pub(crate) fn look_up<'a, A: Allocator>(
     agreed: Agreement,
     number: u64,
     name: &[u8],
+    guess: Option<usize>,
 ) -> Result<Answer<'a, A>, Errno>
     ensures { DecidesAt table.now agreed number (lookup name.now) result }
 {
@@ -36,7 +37,7 @@ pub(crate) fn look_up<'a, A: Allocator>(
     if name.len() > MAX_NAME_SIZE as usize {
         return Err(Errno::ENAMETOOLONG);
     }
-    match found(table, agreed.export, number, name) {
+    match found(table, agreed.export, number, name, guess) {
         Some(found) => entry(table, found),
         None if agreed.lasting => Ok(Answer::NoEntry),
         None => Err(Errno::ENOENT),
@@ -61,13 +62,19 @@ fn is_parent(export: bool, name: &[u8]) -> bool
 
 // The number that a name finds below a directory.
 #[inline(always)]
-fn found<A: Allocator>(table: &Table<A>, export: bool, number: u64, name: &[u8]) -> Option<u64>
+fn found<A: Allocator>(
+    table: &Table<A>,
+    export: bool,
+    number: u64,
+    name: &[u8],
+    guess: Option<usize>,
+) -> Option<u64>
     ensures { FindsBelow table.now export number name.now result }
 {
     if is_parent(export, name) {
         table.parent(number)
     } else {
-        table.child(number, name)
+        table.child_guessed(number, name, guess)
     }
 }
 

@@ -35,7 +35,7 @@ pub fn moves<A: Allocator, M: Allocator>(
     ensures moves { PutsMoves table.now session (asked_of request.now) result into.old into.new }
     ensures small { AreSmall into.old.items → AreSmall into.new.items }
 {
-    let Ok(answer) = decide(table, session, request) else {
+    let Ok(answer) = decide(table, session, request, None) else {
         return Ok(());
     };
     let len = into.len();

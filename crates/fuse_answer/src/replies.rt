@@ -33,13 +33,16 @@ pub fn answer<A: Allocator, O: Allocator>(
         table,
         session,
         request,
-        &decide(table, session, request),
+        &decide(table, session, request, None),
         out,
     )
 }
 
 /// Appends the reply to a request, as [`answer`] does, and adds what the request gives and takes to
 /// the balances of the nodes, in which node n has the place n - 1. It looks the request up once.
+///
+/// A guess of the row that a LOOKUP finds ([`Table::guess`]) makes it faster where it is right, and
+/// changes nothing else.
 ///
 /// `AllocError` comes only where the vector had no room for the reply and got none; it and the
 /// balances are then as before.
@@ -48,6 +51,7 @@ pub fn answer_and_move<A: Allocator, O: Allocator>(
     table: &Table<A>,
     session: Session,
     request: &Request<'_>,
+    guess: Option<usize>,
     out: &mut Vec<u8, O>,
     balances: &mut [i128],
 ) -> Result<(), AllocError>
@@ -57,15 +61,15 @@ pub fn answer_and_move<A: Allocator, O: Allocator>(
         balances.old balances.new }
 {
     match request.op {
-        Op::Lookup { .. } => settle(table, session, request, out, balances),
-        Op::Getattr => settle(table, session, request, out, balances),
-        Op::Open { .. } => settle(table, session, request, out, balances),
-        Op::Read { .. } => settle(table, session, request, out, balances),
-        Op::Flush => settle(table, session, request, out, balances),
-        Op::Release => settle(table, session, request, out, balances),
-        Op::Forget { .. } => settle(table, session, request, out, balances),
-        Op::Readdirplus { .. } => settle(table, session, request, out, balances),
-        _ => settle(table, session, request, out, balances),
+        Op::Lookup { .. } => settle(table, session, request, guess, out, balances),
+        Op::Getattr => settle(table, session, request, guess, out, balances),
+        Op::Open { .. } => settle(table, session, request, guess, out, balances),
+        Op::Read { .. } => settle(table, session, request, guess, out, balances),
+        Op::Flush => settle(table, session, request, guess, out, balances),
+        Op::Release => settle(table, session, request, guess, out, balances),
+        Op::Forget { .. } => settle(table, session, request, guess, out, balances),
+        Op::Readdirplus { .. } => settle(table, session, request, guess, out, balances),
+        _ => settle(table, session, request, guess, out, balances),
     }
 }
 
@@ -76,6 +80,7 @@ fn settle<A: Allocator, O: Allocator>(
     table: &Table<A>,
     session: Session,
     request: &Request<'_>,
+    guess: Option<usize>,
     out: &mut Vec<u8, O>,
     balances: &mut [i128],
 ) -> Result<(), AllocError>
@@ -84,7 +89,7 @@ fn settle<A: Allocator, O: Allocator>(
     ensures moves { AddsMoves table.now session (asked_of request.now) result
         balances.old balances.new }
 {
-    let decided = decide(table, session, request);
+    let decided = decide(table, session, request, guess);
     tell(table, session, request, &decided, out)?;
     if let Ok(answer) = decided {
         add_answer_moves(table, &answer, balances);

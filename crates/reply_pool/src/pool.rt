@@ -69,11 +69,21 @@ impl<'a, A: Allocator, G: Gate, F> Pool<'a, A, G, F> {
     }
 }
 
-// One message, as `walk` asks for it in a round on the caller's thread.
-impl<'a, A: Allocator, G: Gate, F> AnswersOne for Pool<'a, A, G, F> {
-    ghost answering = { λ pool. answering pool.first pool.table.now };
+// What answers the messages of one round on the caller's thread, with what was read ahead of them.
+#[derive(Drop)]
+struct OneRound<'r, A: Allocator, G: Gate> {
+    table: &'r Table<A>,
+    first: Session,
+    plan: Plan,
+    gate: &'r G,
+    ahead: LookupsAhead,
+}
 
-    ghost nodes = { λ pool. length (nodes pool.table.now.entries) };
+// One message, as `walk` asks for it.
+impl<'r, A: Allocator, G: Gate> AnswersOne for OneRound<'r, A, G> {
+    ghost answering = { λ round. answering round.first round.table.now };
+
+    ghost nodes = { λ round. length (nodes round.table.now.entries) };
 
     fn first(&self) -> Session {
         self.first
@@ -93,7 +103,8 @@ impl<'a, A: Allocator, G: Gate, F> AnswersOne for Pool<'a, A, G, F> {
     ) -> Result<Session, AllocError> {
         pass_batch(self.gate, self.plan, number);
         let request = Request::read(message);
-        answer_and_move(self.table, session, &request, replies, balances)?;
+        let guess = self.ahead.place(number);
+        answer_and_move(self.table, session, &request, guess, replies, balances)?;
         Ok(after(session, &request))
     }
 }
@@ -143,6 +154,13 @@ impl<
         }
         let mut ahead = LookupsAhead::new();
         ahead.read(self.table, stream, balances);
-        walk(self, stream, session, replies, balances)
+        let answers = OneRound {
+            table: self.table,
+            first: self.first,
+            plan: self.plan,
+            gate: self.gate,
+            ahead,
+        };
+        walk(&answers, stream, session, replies, balances)
     }
 }

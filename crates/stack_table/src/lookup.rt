@@ -1,7 +1,7 @@
 //! Look-ups in the parts of a table.
 
-ghost use Rattle.std.specs.Prelude.{◌≡◌, ◌≤◌, None, Some, MatchOption, length, slice_range};
-ghost use Rattle.name_keys.specs.Names.{place_of};
+ghost use Rattle.std.specs.Prelude.{◌≡◌, ◌≤◌, ⊤, None, Some, MatchOption, length, slice_range};
+ghost use Rattle.name_keys.specs.Names.{Rise, place_of};
 ghost use Rattle.name_keys.specs.Keyed.{AreKeyed};
 ghost use Rattle.stack_table.specs.Held.{attr_held, held_at, directory_held};
 ghost use Rattle.stack_table.specs.Rows.{names};
@@ -73,9 +73,48 @@ pub(crate) fn keys_of<'a>(keys: &'a [u64], directory: &Directory) -> &'a [u64]
     &keys[directory.rows_start..directory.rows_end]
 }
 
-// The place of this name among these rows of a directory with this number, by what is guessed or by
-// their keys.
+// The place of this name among these rows of a directory with this number: by a guess that was made
+// before, where it is right, else by what is guessed, or by their keys.
+#[inline(always)]
 pub(crate) fn place_of<A: Allocator>(
+    rows: &[Row<A>],
+    keys: &[u64],
+    guesses: &Guesses<A>,
+    number: u64,
+    directory: &Directory,
+    name: &[u8],
+    guess: Option<usize>,
+) -> Option<usize>
+    requires { AreKeyed directory.now.shared keys.now (names rows.now) }
+    ensures { result ≡ place_of name.now (names rows.now) }
+{
+    match confirmed(rows, directory, name, guess) {
+        Some(at) => Some(at),
+        None => sought(rows, keys, guesses, number, directory, name),
+    }
+}
+
+// The place of this name, where it is the one that was guessed among all rows. None says nothing.
+#[inline(always)]
+fn confirmed<A: Allocator>(
+    rows: &[Row<A>],
+    directory: &Directory,
+    name: &[u8],
+    guess: Option<usize>,
+) -> Option<usize>
+    requires { Rise (names rows.now) }
+    ensures { MatchOption result ⊤ (λ at. place_of name.now (names rows.now) ≡ Some at) }
+{
+    let at = guess?.wrapping_sub(directory.rows_start);
+    if at < rows.len() && rows[at].name() == name {
+        Some(at)
+    } else {
+        None
+    }
+}
+
+// The place of this name, by what is guessed or by the keys of the rows.
+fn sought<A: Allocator>(
     rows: &[Row<A>],
     keys: &[u64],
     guesses: &Guesses<A>,

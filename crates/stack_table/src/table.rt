@@ -110,10 +110,19 @@ impl<A: Allocator> Table<A> {
     pub fn child(&self, number: u64, name: &[u8]) -> Option<u64>
         ensures { result ≡ child_at self.now number name.now }
     {
+        self.child_guessed(number, name, None)
+    }
+
+    /// The same, where a [`guess`](Table::guess) was made before. Any guess gives the same child,
+    /// and of one that is right no other row is looked at.
+    #[inline(always)]
+    pub fn child_guessed(&self, number: u64, name: &[u8], guess: Option<usize>) -> Option<u64>
+        ensures { result ≡ child_at self.now number name.now }
+    {
         let directory = directory_at(&self.nodes, &self.directories.all, number)?;
         let rows = rows_of(&self.directories.rows, directory);
         let keys = keys_of(&self.directories.keys, directory);
-        let at = place_of(rows, keys, &self.guesses, number, directory, name)?;
+        let at = place_of(rows, keys, &self.guesses, number, directory, name, guess)?;
         let row = &rows[at];
         Some(row.number)
     }

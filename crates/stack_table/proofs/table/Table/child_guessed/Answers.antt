@@ -2,7 +2,7 @@ use Rattle.std.proofs.Common.{◌∙◌, sym, ap, Some}
 use Rattle.stack_table.specs.Rows.{Line}
 use Rattle.stack_table.proofs.Names.{number_at, number_nowhere}
 use Rattle.stack_table.proofs.Nodes.{found, keys_end, child_is, child_none}
-use Rattle.stack_table.proofs.table.Table.child.Goals as goal
+use Rattle.stack_table.proofs.table.Table.child_guessed.Goals as goal
 
 pub rows_of-rows-requires-clause-start : goal.rows_of-rows-requires-clause-start
 rows_of-rows-requires-clause-start g c =
