@@ -67,7 +67,7 @@ class Run:
 
     def __init__(self, line):
         self.line = line
-        self.output, self.faults, self.replies, self.left, self.clients = [], "", {}, {}, []
+        self.output, self.faults, self.replies, self.left, self.clients, self.opened = [], "", {}, {}, [], []
         self.more_faults = self.unread = False
         self.status = self.writes = None
 
@@ -163,6 +163,8 @@ class Case:
         elif kind == "unread":
             run.unread = True
             words.end()
+        elif kind == "opened":
+            run.opened.append(list(words.words))
         elif kind == "writes":
             first = words.number()
             words.expect("to")

@@ -20,6 +20,7 @@ counts M beside N.
       memory N                      so many MiB of address space
       stack N                       so many KiB of stack
       files N                       so many files may be open
+      pipes                         the images are named pipes, which give their bytes once they are opened
       gone > [2>]                   the output, or standard error, is a pipe that nobody reads any more
       closed < [>] [2>]             these streams are closed before the program begins
     client [meanwhile]              who connects to the socket that the run listens at, once the client above it has ended or,
@@ -41,6 +42,8 @@ counts M beside N.
     left NAME DATA                  what a file holds after the run; `left NAME empty`, `left NAME absent`, or lines
                                     `| TEXT` below
     unread                          nothing was read of the input
+    opened NAME ..                  which of the pipes are open at one moment, before any of them gives a byte; a line for
+                                    each such moment, in turn
     writes N to M                   how many writes the program made
     status N                        how the process ended
 
@@ -63,8 +66,12 @@ from case_files import SOCKET, Case, Sparse
 from clients import Party, converse, leave_socket
 from mount import called, libc
 from mounting import enter
+from pipes import told_of_opened
 from plain_replies import split
 from text import Words, Wrong, plain_bytes, words_of
+
+
+LIMITS = ("fed", "waits", "room", "disk", "memory", "stack", "files", "pipes", "gone", "closed")
 
 
 class Started:
@@ -86,12 +93,12 @@ class Started:
         for below in line.below:
             limit = below.words()
             name = limit.next()
-            if name not in ("fed", "waits", "room", "disk", "memory", "stack", "files", "gone", "closed") or below.below:
+            if name not in LIMITS or below.below:
                 raise Wrong("this line means nothing: %s" % below.text)
             if name in ("gone", "closed"):
                 self.limits[name] = [limit.next() for _ in list(limit.words)]
             else:
-                self.limits[name] = limit.number() if name != "waits" else None
+                self.limits[name] = limit.number() if name not in ("waits", "pipes") else None
             limit.end()
         self.names = {part for word in self.words for part in (word, word.partition("=")[2])}
         self.names |= set(self.streams.values())
@@ -103,6 +110,8 @@ class Started:
             path = os.path.join(room, name)
             if is_there and value is None:
                 os.mkdir(path)
+            elif "pipes" in self.limits and name in self.case.images:
+                os.mkfifo(path)
             elif value is SOCKET:
                 leave_socket(room, name)
             elif is_there:
@@ -110,6 +119,11 @@ class Started:
                     out.write(value.front if isinstance(value, Sparse) else value)
                     if isinstance(value, Sparse):
                         out.truncate(value.size)
+
+    def pipes(self):
+        """What each image gives, where these are pipes."""
+        names = self.names & {*self.case.images} if "pipes" in self.limits else ()
+        return {name: self.case.data_of(name)[1] for name in names}
 
     def listens_at(self):
         """The path of the socket that the words name."""
@@ -230,9 +244,10 @@ def ran(program, started, run, source, pair, pipe, room):
     elif pipe is not None:
         size = started.limits["fed"]
         runs.feed((data[at:at + size] for at in range(0, len(data), size)), pipe)
+    told = told_of_opened(run.opened, started.pipes(), room)
     visits = Party(run.clients, room, started.listens_at() if run.clients else None, done)
     got, ended = visits.ended()
-    return ended._replace(output=came + ended.output), visits.told + told_of(run.clients, got)
+    return ended._replace(output=came + ended.output), told + visits.told + told_of(run.clients, got)
 
 
 def told_of(clients, got):

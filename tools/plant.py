@@ -14,10 +14,10 @@ import tempfile
 import cases
 from plain_replies import ERRNOS
 
-WANTED = {"|", "|=", "!", "status", "left", "entry", "negative", "attributes", "data", "rows", "rows_plus", "ino", "open_flags",
+WANTED = {"|", "|=", "!", "status", "left", "opened", "entry", "negative", "attributes", "data", "rows", "rows_plus", "ino", "open_flags",
           "statfs", *ERRNOS}
 # what only says how a run is made
-QUIET = {"fed", "waits", "memory", "stack", "files", "gone", "closed", "writes", "folder", "for", "$", "# "}
+QUIET = {"fed", "waits", "memory", "stack", "files", "pipes", "gone", "closed", "writes", "folder", "for", "$", "# "}
 VALUE = re.compile(r"(?<![A-Za-z0-9_.-])(?:0x)?[0-9a-f_]*[0-9][0-9a-f_]*(?![A-Za-z_-])")
 
 

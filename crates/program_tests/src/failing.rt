@@ -11,21 +11,26 @@ use std::thread::Threads;
 use strata::command;
 use test_kit::messages::{REPLIES, REQUESTS};
 
-/// A reader that gives its bytes, and then fails.
+/// A reader that gives its bytes, then fails once, and is then at its end.
 #[derive(Drop)]
-struct Broken<'a>(&'a [u8]);
+struct Broken<'a> {
+    bytes: &'a [u8],
+    has_failed: bool,
+}
 
 impl Read for Broken<'_> {
     fn read(&mut self, buf: &mut [u8]) -> io::Result<usize> {
-        let count = self.0.read(buf)?;
-        if count == 0 {
-            return Err(Error::from(ErrorKind::Other));
+        let count = self.bytes.read(buf)?;
+        if count == 0 && !self.has_failed {
+            self.has_failed = true;
+            return Err(Error::from(ErrorKind::Interrupted));
         }
         Ok(count)
     }
 }
 
-/// A writer that has room for so many bytes, and may fail to flush them.
+/// A writer that has room for so many bytes, and may fail to flush them. It fails once, and then
+/// takes all.
 #[derive(Drop)]
 struct Full {
     room: usize,
@@ -35,6 +40,7 @@ struct Full {
 impl Write for Full {
     fn write(&mut self, buf: &[u8]) -> io::Result<usize> {
         if self.room == 0 {
+            self.room = usize::MAX;
             return Err(Error::from(ErrorKind::StorageFull));
         }
         let count = buf.len().min(self.room);
@@ -44,10 +50,10 @@ impl Write for Full {
 
     fn flush(&mut self) -> io::Result<()> {
         if self.flushes {
-            Ok(())
-        } else {
-            Err(Error::from(ErrorKind::Other))
+            return Ok(());
         }
+        self.flushes = true;
+        Err(Error::from(ErrorKind::Other))
     }
 }
 
@@ -102,7 +108,10 @@ fn a_reader_that_fails_is_told(rt: HostRuntime) -> Result<(), Fail> {
         &rt,
         rt.alloc(),
         &words,
-        Broken(&REQUESTS),
+        Broken {
+            bytes: &REQUESTS,
+            has_failed: false,
+        },
         &mut output,
         b"read fault\n",
     );

@@ -4,46 +4,15 @@ use serve_core::prepare;
 use serve_kit::long::{Long, stream};
 use serve_kit::outcomes::{long_table, ran};
 use serve_kit::runs::sample_table;
-use stack_core::{Gate, Work};
-use std::sync::atomic::{AtomicU64, Ordering};
+use stack_core::Work;
 use std::test::Fail;
+use test_kit::gates::{Crowd, Holding, MANY, Recording};
 use test_kit::sample_images::{alone, empty, sample};
 use test_kit::script::script;
 
-/// Holds the lowest image's check until the next one has come, for 2^30 turns at most.
-#[derive(Drop)]
-struct Holding {
-    came: AtomicU64,
-    given_up: AtomicU64,
-}
-
-impl Gate for Holding {
-    fn pass(&self, work: Work, number: u32) {
-        if work == Work::Check && number == 1 {
-            self.came.store(1, Ordering::SeqCst);
-        } else if work == Work::Check {
-            self.hold();
-        }
-    }
-}
-
-impl Holding {
-    fn hold(&self) {
-        for _ in 0..1u32 << 30 {
-            if self.came.load(Ordering::SeqCst) == 1 {
-                return;
-            }
-        }
-        self.given_up.store(1, Ordering::SeqCst);
-    }
-}
-
 #[test]
 fn the_lowest_check_waits_for_the_next(rt: HostRuntime) -> Result<(), Fail> {
-    let gate = Holding {
-        came: AtomicU64::new(0),
-        given_up: AtomicU64::new(0),
-    };
+    let gate = Holding::new(Work::Check, 0b1, 0b10, MANY);
     let Ok(above) = sample(rt.alloc()) else {
         return Err(Fail::new("the sample image"));
     };
@@ -51,47 +20,22 @@ fn the_lowest_check_waits_for_the_next(rt: HostRuntime) -> Result<(), Fail> {
     images.push(above)?;
     let table = prepare(&rt, rt.alloc(), images, &gate);
     assert!(rt; table.is_ok_and(|table| table.len() == 6));
-    assert_eq!(rt; gate.came.load(Ordering::SeqCst), 1);
-    assert_eq!(rt; gate.given_up.load(Ordering::SeqCst), 0);
+    assert!(rt; !gate.is_given_up());
     Ok(())
 }
 
-/// Counts how often each piece of work is begun: the piece of number k in the digit k of a
-/// hexadecimal number, those of 15 and more in the last one.
-#[derive(Drop)]
-struct Recording {
-    checks: AtomicU64,
-    trees: AtomicU64,
-    batches: AtomicU64,
-}
-
-impl Gate for Recording {
-    fn pass(&self, work: Work, number: u32) {
-        let counter = match work {
-            Work::Check => &self.checks,
-            Work::Tree => &self.trees,
-            Work::Batch => &self.batches,
-        };
-        counter.fetch_add(1 << (4 * number.min(15)), Ordering::SeqCst);
+/// Checks of 128 images: of no more than 16 parts at a time.
+#[test]
+fn sixteen_parts_are_checked_at_a_time(rt: HostRuntime) -> Result<(), Fail> {
+    let gate = Crowd::new(Work::Check);
+    let mut images = alone(rt.alloc(), empty(rt.alloc())?)?;
+    for _ in 1..128 {
+        images.push(empty(rt.alloc())?)?;
     }
-}
-
-impl Recording {
-    fn new() -> Self {
-        Self {
-            checks: AtomicU64::new(0),
-            trees: AtomicU64::new(0),
-            batches: AtomicU64::new(0),
-        }
-    }
-
-    fn seen(&self) -> (u64, u64, u64) {
-        (
-            self.checks.load(Ordering::SeqCst),
-            self.trees.load(Ordering::SeqCst),
-            self.batches.load(Ordering::SeqCst),
-        )
-    }
+    let table = prepare(&rt, rt.alloc(), images, &gate);
+    assert!(rt; table.is_ok_and(|table| table.len() == 1));
+    assert_eq!(rt; gate.seen(), (128, 16));
+    Ok(())
 }
 
 #[test]
@@ -107,7 +51,7 @@ fn each_layer_is_checked_and_read_once(rt: HostRuntime) -> Result<(), Fail> {
 }
 
 /// Twelve messages in batches of three and of one; and a round of 17 messages by one thread and two
-/// of 127 by workers, in batches of 16.
+/// of 127 by workers: in batches of 16, or of 256, which two workers share evenly as batches of 64.
 #[test]
 fn each_batch_is_begun_once(rt: HostRuntime) -> Result<(), Fail> {
     let global = rt.alloc();
@@ -123,8 +67,13 @@ fn each_batch_is_begun_once(rt: HostRuntime) -> Result<(), Fail> {
     }
     let table = long_table(&rt, global).ok_or("a table")?;
     let lists = stream(global, Long::Readdir, 270)?;
-    let gate = Recording::new();
-    let done = ran(&rt, global, global, &table, &lists, (4, 16), &gate).ok_or("a run")?;
-    assert!(rt; done.end.is_ok() && gate.seen() == (0, 0, 0x2222_2233));
+    for (plan, batches) in [((4, 16), 0x2222_2233), ((2, 256), 0x23)] {
+        let gate = Recording::new();
+        let done = ran(&rt, global, global, &table, &lists, plan, &gate).ok_or("a run")?;
+        assert!(rt;
+            done.end.is_ok() && gate.seen() == (0, 0, batches),
+            "{plan:?}"
+        );
+    }
     Ok(())
 }

@@ -1,6 +1,6 @@
 -- Worked examples: modes of each kind, the numbers of devices, sizes, the paths of two layers, and
 -- nested directories.
-use Rattle.std.specs.Prelude.{◌≡◌, ℕ, false, true, List, [], ◌∷◌, map, Some, None, codes}
+use Rattle.std.specs.Prelude.{◌≡◌, ℕ, false, true, List, [], ◌∷◌, ◌++◌, map, Some, None, codes}
 use Rattle.std.specs.declared.cmp.Ordering.TheVariants.{Less}
 use Rattle.stack_model.specs.Listing.{Entry, path_cmp}
 use Rattle.stack_model.specs.Numbers.{place, path_of, number, parent, children, child}
@@ -76,17 +76,25 @@ pub record LayerExamples : Type 0 where
   pub names_of_a_file : links [] two_layers (0, 0x60) ≡ 2
   pub order : path_cmp (codes "a" ∷ codes "b" ∷ []) (codes "a!" ∷ []) ≡ Less
 
--- a layer of five first words of headers: of four directories with the executable bit, and of a
--- file
-abbrev pub five_headers : List ℕ
-five_headers = 0 ∷ 0 ∷ 0 ∷ 9 ∷ 0 ∷ 0 ∷ 0 ∷ 9 ∷ 0 ∷ 0 ∷ 0 ∷ 9 ∷ 0 ∷ 0 ∷ 0 ∷ 9 ∷ 0 ∷ 0 ∷ 0 ∷ 2 ∷ []
+-- the first word of a header: of a directory with the executable bit, and of a file
+abbrev pub directory_word : List ℕ
+directory_word = 0 ∷ 0 ∷ 0 ∷ 9 ∷ []
 
--- a and a/b are directories, and so is c, which holds the file f
+abbrev pub file_word : List ℕ
+file_word = 0 ∷ 0 ∷ 0 ∷ 2 ∷ []
+
+-- a layer of six first words of headers: of four directories, and of two files
+abbrev pub six_headers : List ℕ
+six_headers =
+    directory_word ++ directory_word ++ directory_word ++ directory_word ++ file_word ++ file_word
+
+-- a and a/b are directories, which hold b and the file g; c is a directory that holds the file f
 abbrev pub nested : List Entry
 nested =
     record { path = []; layer = 0; header = 0 }
     ∷ record { path = codes "a" ∷ []; layer = 0; header = 4 }
     ∷ record { path = codes "a" ∷ codes "b" ∷ []; layer = 0; header = 8 }
+    ∷ record { path = codes "a" ∷ codes "b" ∷ codes "g" ∷ []; layer = 0; header = 20 }
     ∷ record { path = codes "c" ∷ []; layer = 0; header = 12 }
     ∷ record { path = codes "c" ∷ codes "f" ∷ []; layer = 0; header = 16 }
     ∷ []
@@ -96,12 +104,18 @@ nested =
 pub record NestedExamples : Type 0 where
   pub of_root : map (λ c. c.place) (children nested (0, 0)) ≡ (0, 4) ∷ (0, 12) ∷ []
   pub of_c : map (λ c. c.place) (children nested (0, 12)) ≡ (0, 16) ∷ []
-  pub above : parent nested (0, 16) ≡ (0, 12)
-  pub names_of_root : links (five_headers ∷ []) nested (0, 0) ≡ 4
-  pub names_of_a : links (five_headers ∷ []) nested (0, 4) ≡ 3
-  pub names_of_c : links (five_headers ∷ []) nested (0, 12) ≡ 2
-  pub names_of_f : links (five_headers ∷ []) nested (0, 16) ≡ 1
-  pub no_data : data_of (five_headers ∷ []) (0, 0) ≡ []
+  pub of_b : map (λ c. c.place) (children nested (0, 8)) ≡ (0, 20) ∷ []
+  pub above_the_root : parent nested (0, 0) ≡ (0, 0)
+  pub above_a : parent nested (0, 4) ≡ (0, 0)
+  pub above_b : parent nested (0, 8) ≡ (0, 4)
+  pub above_f : parent nested (0, 16) ≡ (0, 12)
+  pub above_g : parent nested (0, 20) ≡ (0, 8)
+  pub names_of_root : links (six_headers ∷ []) nested (0, 0) ≡ 4
+  pub names_of_a : links (six_headers ∷ []) nested (0, 4) ≡ 3
+  pub names_of_b : links (six_headers ∷ []) nested (0, 8) ≡ 2
+  pub names_of_c : links (six_headers ∷ []) nested (0, 12) ≡ 2
+  pub names_of_f : links (six_headers ∷ []) nested (0, 16) ≡ 1
+  pub no_data : data_of (six_headers ∷ []) (0, 0) ≡ []
 
 -- the limit of a stack
 pub record LimitExamples : Type 0 where

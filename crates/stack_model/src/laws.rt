@@ -1,7 +1,9 @@
 //! Laws of stacking and numbering.
 
-ghost use Rattle.std.specs.Prelude.{◌≡◌, ◌↔◌, ◌⊎◌, ◌+◌, ◌<◌, ◌≤◌, ◌++◌, [], ◌∷◌, ℕ, List, Some, IsSome, length, codes};
+ghost use Rattle.std.specs.Prelude.{◌≡◌, ◌≢◌, ◌↔◌, ◌⊎◌, ◌+◌, ◌<◌, ◌≤◌, ◌++◌, [], ◌∷◌, ℕ, List, Some, IsSome, length, codes};
 ghost use Rattle.std.specs.List.{AllByRecursion};
+ghost use Rattle.romfs_format.specs.declared.head.Kind.TheVariants.{Directory};
+ghost use Rattle.romfs_format.specs.Fields.{kind};
 ghost use Rattle.romfs_format.specs.Chains.{Has};
 ghost use Rattle.stack_model.specs.Stack.{Path, IsPlain, IsIn, HasDirectory, HasOther, Cuts, Shows, IsFree, IsCut};
 ghost use Rattle.stack_model.specs.Listing.{Entry, IsAmong, IsListing};
@@ -51,6 +53,14 @@ pub fn whiteouts_cut()
         IsPlain (q ++ y ∷ rest) → HasDirectory a q →
         HasOther a (q ++ y ∷ []) → Cuts a (q ++ y ∷ rest) }
     ensures root { (a : List ℕ) → ¬ Cuts a [] }
+{}
+
+/// An entry of any kind but a directory's cuts what lower layers have at its place and below: a
+/// file, a device, and a link over a directory too, wherever it leads.
+pub fn all_but_directories_cut()
+    ensures { (a : List ℕ) (q rest : Path) (y : List ℕ) (h : ℕ) →
+        IsPlain (q ++ y ∷ rest) → HasDirectory a q →
+        Has a (q ++ y ∷ []) h → kind a h ≢ Directory → Cuts a (q ++ y ∷ rest) }
 {}
 
 /// Numbers: the root has 1 where it is listed; each number from 1 to the number of nodes is that of

@@ -2,6 +2,7 @@
 //!
 //! - `refusing`: an allocator that refuses one request for memory, and the refusing of each request
 //!   of a call in turn.
+//! - `gates`: gates that hold pieces of work, or count them.
 //! - `bytes`: bytes as a dump prints them.
 //! - `messages`: requests, and the replies to some of them, as bytes.
 //! - `sample_images`: small images.
@@ -9,6 +10,7 @@
 #![tactic(auto)]
 
 pub mod bytes;
+pub mod gates;
 pub mod messages;
 pub mod refusing;
 pub mod sample_images;

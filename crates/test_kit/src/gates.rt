@@ -1,0 +1,156 @@
+//! Gates that tests hold work at, or count it by.
+//!
+//! A gate is shared by the threads that pass it, so no contract can say what its counts hold. The
+//! tests look at them when all threads have ended.
+
+use std::sync::atomic::{AtomicU64, Ordering};
+use work_gate::{Gate, Work};
+
+/// Turns of a gate: more than any schedule takes, where another worker is there.
+pub const MANY: u32 = 1 << 30;
+
+/// Turns of a gate that is to be given up.
+pub const FEW: u32 = 1 << 20;
+
+/// Counts how often each piece of work is begun: the piece of number k in the digit k of a
+/// hexadecimal number, those of 15 and more in the last one.
+#[derive(Drop)]
+pub struct Recording {
+    checks: AtomicU64,
+    trees: AtomicU64,
+    batches: AtomicU64,
+}
+
+impl Gate for Recording {
+    fn pass(&self, work: Work, number: u32) {
+        let counter = match work {
+            Work::Check => &self.checks,
+            Work::Tree => &self.trees,
+            Work::Batch => &self.batches,
+        };
+        counter.fetch_add(1 << (4 * number.min(15)), Ordering::SeqCst);
+    }
+}
+
+impl Recording {
+    /// Nothing was begun yet.
+    pub fn new() -> Self {
+        Self {
+            checks: AtomicU64::new(0),
+            trees: AtomicU64::new(0),
+            batches: AtomicU64::new(0),
+        }
+    }
+
+    /// The checks, the trees and the batches that were begun.
+    pub fn seen(&self) -> (u64, u64, u64) {
+        (
+            self.checks.load(Ordering::SeqCst),
+            self.trees.load(Ordering::SeqCst),
+            self.batches.load(Ordering::SeqCst),
+        )
+    }
+}
+
+/// Holds some pieces of one kind of work until others have come, for so many turns at most. Piece k
+/// has the bit k; those from 64 on pass.
+#[derive(Drop)]
+pub struct Holding {
+    work: Work,
+    held: u64,
+    awaited: u64,
+    turns: u32,
+    came: AtomicU64,
+    given_up: AtomicU64,
+}
+
+impl Gate for Holding {
+    fn pass(&self, work: Work, number: u32) {
+        if work == self.work && number < 64 {
+            let own = 1 << number;
+            self.came.fetch_or(own, Ordering::SeqCst);
+            if self.held & own != 0 {
+                self.hold();
+            }
+        }
+    }
+}
+
+impl Holding {
+    /// Holds the pieces `held` of this work until all of `awaited` have come.
+    pub fn new(work: Work, held: u64, awaited: u64, turns: u32) -> Self {
+        Self {
+            work,
+            held,
+            awaited,
+            turns,
+            came: AtomicU64::new(0),
+            given_up: AtomicU64::new(0),
+        }
+    }
+
+    /// Whether a piece was let go before all that it awaited had come.
+    pub fn is_given_up(&self) -> bool {
+        self.given_up.load(Ordering::SeqCst) == 1
+    }
+
+    fn hold(&self) {
+        for _ in 0..self.turns {
+            if self.came.load(Ordering::SeqCst) & self.awaited == self.awaited {
+                return;
+            }
+        }
+        self.given_up.store(1, Ordering::SeqCst);
+    }
+}
+
+/// Counts the pieces of one kind of work that are under way: each is held until 16 are, for 2^30
+/// turns at most, and then until 17 are, for 2^18.
+#[derive(Drop)]
+pub struct Crowd {
+    work: Work,
+    inside: AtomicU64,
+    most: AtomicU64,
+    begun: AtomicU64,
+}
+
+impl Gate for Crowd {
+    fn pass(&self, work: Work, _number: u32) {
+        if work == self.work {
+            self.begun.fetch_add(1, Ordering::SeqCst);
+            let inside = self.inside.fetch_add(1, Ordering::SeqCst).saturating_add(1);
+            self.most.fetch_max(inside, Ordering::SeqCst);
+            self.hold(16, MANY);
+            self.hold(17, 1 << 18);
+            self.inside.fetch_sub(1, Ordering::SeqCst);
+        }
+    }
+}
+
+impl Crowd {
+    /// Nothing of this work is under way yet.
+    pub fn new(work: Work) -> Self {
+        Self {
+            work,
+            inside: AtomicU64::new(0),
+            most: AtomicU64::new(0),
+            begun: AtomicU64::new(0),
+        }
+    }
+
+    /// How many pieces were begun, and how many were under way at one time at the most.
+    pub fn seen(&self) -> (u64, u64) {
+        (
+            self.begun.load(Ordering::SeqCst),
+            self.most.load(Ordering::SeqCst),
+        )
+    }
+
+    fn hold(&self, parts: u64, turns: u32) {
+        for _ in 0..turns {
+            if parts <= self.most.load(Ordering::SeqCst) {
+                return;
+            }
+        }
+    }
+}
