@@ -35,8 +35,8 @@ pub fn stack<R: Threads + Sync, A: Allocator + Copy + Send + Sync, G: Gate + Syn
     stack_from(rt, alloc, 0, images, gate, FORKS)
 }
 
-/// The tree of a run of layers, of which the lowest has the number `first`: of its halves, made at
-/// the same time as long as it may still be cut so, and then one after the other.
+// The tree of a run of layers, of which the lowest has the number `first`: of its halves, made at
+// the same time as long as it may still be cut so.
 #[cycle(halves)]
 fn stack_from<R: Threads + Sync, A: Allocator + Copy + Send + Sync, G: Gate + Sync>(
     rt: &R,
@@ -50,18 +50,12 @@ fn stack_from<R: Threads + Sync, A: Allocator + Copy + Send + Sync, G: Gate + Sy
     requires few { first + length images.now ≤ MAX_LAYERS }
     ensures { IfOk result (λ tree. IsTreeOf first images.now tree) }
 {
-    if let [image] = images {
-        gate.pass(Work::Tree, u32::from(first));
-        return Tree::of(alloc, image, first);
+    if forks == 0 || images.len() == 1 {
+        return stack_in_turn(alloc, first, images, gate);
     }
     let half = images.len() / 2;
     let (lows, highs) = images.split_at(half);
     let next = first + half as u16;
-    if forks == 0 {
-        let low = stack_from(rt, alloc, first, lows, gate, 0)?;
-        let high = stack_from(rt, alloc, next, highs, gate, 0)?;
-        return lay(alloc, low, high);
-    }
     let less = forks - 1;
     let (low, high) = join(
         rt,
@@ -79,6 +73,28 @@ fn stack_from<R: Threads + Sync, A: Allocator + Copy + Send + Sync, G: Gate + Sy
         { stack_from(rt, alloc, next, highs, gate, less) },
     );
     lay(alloc, low?, high?)
+}
+
+// The same, of its halves one after the other.
+fn stack_in_turn<A: Allocator + Copy, G: Gate>(
+    alloc: A,
+    first: u16,
+    images: &[Image<A>],
+    gate: &G,
+) -> Result<Tree<A>, AllocError>
+    requires some { 1 ≤ length images.now }
+    requires few { first + length images.now ≤ MAX_LAYERS }
+    ensures { IfOk result (λ tree. IsTreeOf first images.now tree) }
+{
+    if let [image] = images {
+        gate.pass(Work::Tree, u32::from(first));
+        return Tree::of(alloc, image, first);
+    }
+    let (lows, highs) = images.split_at(images.len() / 2);
+    let after = first + lows.len() as u16;
+    let low = stack_in_turn(alloc, first, lows, gate)?;
+    let high = stack_in_turn(alloc, after, highs, gate)?;
+    lay(alloc, low, high)
 }
 
 /// Where the entry stands that a path shows; none where the path is not shown.
