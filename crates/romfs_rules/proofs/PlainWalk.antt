@@ -1,21 +1,21 @@
 -- The walk over all directories, as lists. Descends says which of them were gone along (begun), also
--- once one more is (steps), which leaves less to do (less); how many headers a chain has (few_heads).
-use Rattle.std.proofs.Common.{◌≡◌, ◌≢◌, ◌∙◌, sym, ap, subst, ℕ, ◌+◌, ◌/◌, ◌<◌, ◌≤◌, ◌⊎◌, inl, inr, List, [], ◌∷◌, ◌++◌, length, get_or, replicate, Bool, false, arith, length-append}
+-- once one more is (steps), which leaves less to do (less); what a chain that was gone along holds
+-- was seen (seen_at).
+use Rattle.std.proofs.Common.{◌≡◌, ◌≢◌, ◌∙◌, sym, ap, subst, ℕ, ◌+◌, ◌/◌, ◌<◌, ◌⊎◌, inl, inr, List, [], ◌∷◌, ◌++◌, length, get_or, replicate, Bool, false, arith, length-append}
 use Rattle.std.specs.List.{Contains}
 use Rattle.std.proofs.lemmas.List.Elements.{Contains-append_left, Contains-append_right, Contains-append_cases}
 use Rattle.std.proofs.lemmas.List.{length-replicate}
 use Rattle.std.proofs.lemmas.Bool.{true≢false}
-use Rattle.romfs_format.specs.declared.limits.TheConstants.{HEAD_SIZE}
 use Rattle.romfs_format.specs.Fields.{root, IsInside}
 use Rattle.romfs_format.specs.Chains.{IsAt, IsInChain}
 use Rattle.romfs_rules.specs.declared.plain.Folder.{Folder}
 use Rattle.romfs_rules.specs.Marks.{IsMarked, Opens}
 use Rattle.romfs_rules.specs.Names.{HaveNamesApart}
-use Rattle.romfs_rules.specs.Plain.{IsPlain, folder, PassesChain, PassesFolder}
+use Rattle.romfs_rules.specs.Plain.{IsPlain, folder, PassesFolder}
 use Rattle.romfs_rules.proofs.Lists.{none_in, one_in, has_one}
 use Rattle.romfs_rules.proofs.SameNaming.{one_at}
 use Rattle.romfs_rules.proofs.PlainChain.{counted}
-use Rattle.successor_graph.proofs.Marks.{unmarked, few_marks}
+use Rattle.successor_graph.proofs.Marks.{unmarked}
 
 -- a directory is still to come, or was gone along
 abbrev pub IsKnown : List Folder → List Folder → Folder → Type 0
@@ -52,20 +52,6 @@ left todo marks = length todo + unmarked marks
 pub seen_at : (a : List ℕ) (marks : List Bool) (todo done : List Folder) (w : Folder) (h : ℕ) → IsGone a marks todo done w
     → IsInChain a w.header h → IsSeen a marks todo done w h
 seen_at a marks todo done w h g c = let x = g.at c.0 h c.1 in subst (λ y. IsSeen a marks todo done w y) x.1 (g.each c.0 x.0)
-
--- a chain that was gone along has no more headers than there are slots
-pub few_heads : (a : List ℕ) (w : Folder) (old new : List Bool) (before after : List Folder) (heads hashes : List ℕ)
-    → PassesChain a w old new before after heads hashes → length heads ≤ length old
-few_heads a w old new before after heads hashes p =
-    let c = p.front.count in
-    let e = counted old in
-    let f = few_marks old in
-    omega arith
-
--- each header of such a chain lies in the image
-pub heads_inside : (a : List ℕ) (w : Folder) (old new : List Bool) (before after : List Folder) (heads hashes : List ℕ)
-    → PassesChain a w old new before after heads hashes → (i : ℕ) → i < length heads → get_or heads i 0 + HEAD_SIZE ≤ length a
-heads_inside a w old new before after heads hashes p i l = (p.front.each i l).plain.inside.1
 
 module _ (a : List ℕ) where
   -- the walk begins with the root to come, and no marks
