@@ -5,108 +5,50 @@ use stack_core::{Gate, Work, stack};
 use std::alloc::Global;
 use std::sync::atomic::{AtomicU64, Ordering};
 use std::test::Fail;
+use test_kit::gates::{Crowd, Holding, MANY, Recording};
 use test_kit::refusing::Refusing;
 use test_kit::sample_images::layers;
 
-/// Holds the lowest layer until the next one has come, for 2^30 turns at most.
+/// A gate at which the lowest tree waits for the next one, and that counts both.
 #[derive(Drop)]
-struct Holding {
-    came: AtomicU64,
-    given_up: AtomicU64,
-    /// In the byte of each number, how often its tree was begun.
-    begun: AtomicU64,
+struct Both {
+    holding: Holding,
+    recording: Recording,
 }
 
-impl Gate for Holding {
+impl Gate for Both {
     fn pass(&self, work: Work, number: u32) {
-        if work == Work::Tree && number < 8 {
-            self.begun.fetch_add(1 << (8 * number), Ordering::SeqCst);
-        }
-        if number == 1 {
-            self.came.store(1, Ordering::SeqCst);
-        } else {
-            self.hold();
-        }
-    }
-}
-
-impl Holding {
-    fn new() -> Self {
-        Self {
-            came: AtomicU64::new(0),
-            given_up: AtomicU64::new(0),
-            begun: AtomicU64::new(0),
-        }
-    }
-
-    fn hold(&self) {
-        for _ in 0..1u32 << 30 {
-            if self.came.load(Ordering::SeqCst) == 1 {
-                return;
-            }
-        }
-        self.given_up.store(1, Ordering::SeqCst);
+        self.recording.pass(work, number);
+        self.holding.pass(work, number);
     }
 }
 
 #[test]
 fn the_lowest_tree_waits_for_the_next(rt: HostRuntime) -> Result<(), Fail> {
-    let gate = Holding::new();
+    let gate = Both {
+        holding: Holding::new(Work::Tree, 0b1, 0b10, MANY),
+        recording: Recording::new(),
+    };
     // The sample image on the empty one.
     let stack = (" + 1#big 1*d 2-x 1@l 1$null", "", "1f!/big 1f!/d/x");
     let wrong = wrong_of(&rt, rt.alloc(), stack, &gate)?;
     assert_eq!(rt; wrong, None);
-    assert_eq!(rt; gate.given_up.load(Ordering::SeqCst), 0);
-    assert_eq!(rt; gate.begun.load(Ordering::SeqCst), 0x0101);
+    assert!(rt; !gate.holding.is_given_up());
+    assert_eq!(rt; gate.recording.seen(), (0, 0x11, 0));
     Ok(())
 }
 
-/// Counts the parts that are under way: each is held until 16 are, for 2^30 turns at most, and then
-/// until 17 are, for 2^18.
-#[derive(Drop)]
-struct Crowd {
-    inside: AtomicU64,
-    most: AtomicU64,
-    begun: AtomicU64,
-}
-
-impl Gate for Crowd {
-    fn pass(&self, _work: Work, _number: u32) {
-        self.begun.fetch_add(1, Ordering::SeqCst);
-        let inside = self.inside.fetch_add(1, Ordering::SeqCst).saturating_add(1);
-        self.most.fetch_max(inside, Ordering::SeqCst);
-        self.hold(16, 1 << 30);
-        self.hold(17, 1 << 18);
-        self.inside.fetch_sub(1, Ordering::SeqCst);
-    }
-}
-
-impl Crowd {
-    fn hold(&self, parts: u64, turns: u32) {
-        for _ in 0..turns {
-            if parts <= self.most.load(Ordering::SeqCst) {
-                return;
-            }
-        }
-    }
-}
-
 /// 128 layers of nothing.
-const MANY: &str = "\
+const LAYERS: &str = "\
 ++++++++++++++++++++++++++++++++++++++++++++++++++++++++++++++++\
 +++++++++++++++++++++++++++++++++++++++++++++++++++++++++++++++";
 
 #[test]
 fn sixteen_parts_are_stacked_at_a_time(rt: HostRuntime) -> Result<(), Fail> {
-    let gate = Crowd {
-        inside: AtomicU64::new(0),
-        most: AtomicU64::new(0),
-        begun: AtomicU64::new(0),
-    };
-    let wrong = wrong_of(&rt, rt.alloc(), (MANY, "", "7d."), &gate)?;
+    let gate = Crowd::new(Work::Tree);
+    let wrong = wrong_of(&rt, rt.alloc(), (LAYERS, "", "7d."), &gate)?;
     assert_eq!(rt; wrong, None);
-    assert_eq!(rt; gate.begun.load(Ordering::SeqCst), 128);
-    assert_eq!(rt; gate.most.load(Ordering::SeqCst), 16);
+    assert_eq!(rt; gate.seen(), (128, 16));
     Ok(())
 }
 
