@@ -132,7 +132,8 @@ module _ (a : List ℕ) (v : IsVolumeImage a) (marks : List Bool) (d : Descends 
   one_field f g h l m =
       let x = named_at f h l in
       let y = named_at g h m in
-      let e : y.dir ≡ x.dir = ap (λ w. w.header) (d.one (folder y.dir y.names) (folder x.dir x.names) h y.gone x.gone (y.place, y.at) (x.place, x.at)) in
+      let e : y.dir ≡ x.dir = ap (λ w. w.header) (d.one (folder y.dir y.names) (folder x.dir x.names) h y.gone x.gone
+      (y.place, y.at) (x.place, x.at)) in
       let at : IsAt a x.dir y.place h = subst (λ c. IsAt a c y.place h) e y.at in
       let field_at : IsFieldAt x.dir y.place g = subst (λ c. IsFieldAt c y.place g) e y.field_at in
       let i : y.place ≡ x.place = one_place x.dir x.names y.place x.place h x.gone at x.at in

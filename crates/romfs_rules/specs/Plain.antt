@@ -56,7 +56,8 @@ folder h n = record { header = h; names = n }
 
 -- h stands at position i of the chain of d, as a walk along it found it: it had no mark before, and
 -- is still to come as a directory, if it is one
-pub record IsPassed (a : List ℕ) (d n : ℕ) (old marks : List Bool) (todo : List Folder) (i h : ℕ) : Type 0 where
+pub record IsPassed (a : List ℕ) (d n : ℕ) (old marks : List Bool) (todo : List Folder)
+    (i h : ℕ) : Type 0 where
   pub at : IsAt a d i h
   pub plain : IsPlain a d n h
   pub unmarked : get_or old (h / 16) false ≡ false

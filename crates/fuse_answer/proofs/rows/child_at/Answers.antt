@@ -15,5 +15,6 @@ returns g c =
     c.index-rows-index.is
     ∙ ap (λ n. let l : Line = record { number = n; name = there.name } in l) number_is
     ∙ ap (λ n. let l : Line = record { number = c.row.inside.number; name = n } in l) (sym c.name.ensures) in
-    line_there own upper c.args.rows.now.children.now c.args.index c.index-rows-index.result c.requires.child c.requires.there c.index-rows-index.is
+    line_there own upper c.args.rows.now.children.now c.args.index c.index-rows-index.result c.requires.child
+    c.requires.there c.index-rows-index.is
     ∙ ap (λ (l : Line). Some (c.args.index + 1, l)) same
