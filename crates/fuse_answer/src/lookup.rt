@@ -78,7 +78,7 @@ fn found<A: Allocator>(
     }
 }
 
-// The entry of a node.
+// The entry of a node, whose number is in use: the other case never comes.
 #[inline(always)]
 fn entry<'a, A: Allocator>(table: &'a Table<A>, number: u64) -> Result<Answer<'a, A>, Errno>
     ensures { TellsEntry table.now number result }

@@ -7,7 +7,7 @@ use reply_model::Move;
 
 /// Adds an amount to a node's balance. The number 0, and one that no balance has, changes nothing.
 ///
-/// It asks that no balance is further from 0 than 2^125, and the amount neither.
+/// It asks that neither a balance nor the amount is further from 0 than 2^125.
 pub fn add_move(balances: &mut [i128], node: u64, amount: i128)
     requires within { AreWithin (2 ^ 125) balances.old }
     requires small { unsigned_abs amount ≤ 2 ^ 125 }

@@ -25,7 +25,7 @@ const WORTH: u64 = 1_000_000;
 /// The most bytes of replies of a round that workers answer: 2 MiB.
 const MAX_REPLIES: u64 = 2_097_152;
 
-/// The part of each message in a whole round that is just worth workers.
+/// Nanoseconds for each message of a whole round that is just worth workers.
 const PACE: u64 = WORTH / MAX_ROUND_MESSAGES as u64;
 
 /// The first messages may take less than their part by so much, which is that of four.

@@ -32,6 +32,7 @@ pub struct Pool<'a, A: Allocator, G: Gate, F> {
     first: Session,
     plan: Plan,
     gate: &'a G,
+    // Answers so many of the first messages of a stream, by workers.
     workers: F,
 }
 

@@ -10,7 +10,7 @@ use fuse_wire::limits::{ENOUGH_REPLIES, MAX_REPLY_SIZE};
 use reply_model::Session;
 use std::alloc::{AllocError, Allocator};
 
-/// A round has less replies than end it, and one more.
+/// The most bytes of a round's replies: fewer than end a round, and one reply more.
 const REPLIES_ROOM: usize = ENOUGH_REPLIES + MAX_REPLY_SIZE;
 
 /// How far a stream is answered.
