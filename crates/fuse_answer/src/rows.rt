@@ -27,34 +27,13 @@ pub(crate) fn put_rows<A: Allocator, O: Allocator>(
 {
     out.reserve(OUT_HEADER_SIZE + rows.size)?;
     put_data_head(out, unique, rows.size)?;
-    let children = first_child(rows);
-    for index in rows.from..children {
+    for index in rows.from..rows.until {
         put_row(table, rows, index, out)?;
-    }
-    for index in children..rows.until {
-        put_child(table, rows, index, out)?;
     }
     Ok(())
 }
 
-// The index of the first child among the rows, or the last index where there is none.
-fn first_child<A: Allocator>(rows: &Listing<'_, A>) -> usize
-    requires { rows.now.from ≤ rows.now.until }
-    ensures from { rows.now.from ≤ result }
-    ensures until { result ≤ rows.now.until }
-    ensures children { result < rows.now.until → 2 ≤ result }
-{
-    if rows.until <= 2 {
-        rows.until
-    } else if rows.from < 2 {
-        2
-    } else {
-        rows.from
-    }
-}
-
 // Appends the row with this index.
-#[inline(never)]
 fn put_row<A: Allocator, O: Allocator>(
     table: &Table<A>,
     rows: &Listing<'_, A>,
@@ -67,43 +46,6 @@ fn put_row<A: Allocator, O: Allocator>(
     ensures { Puts result out.old out.new (row_bytes_at table.now rows.now index) }
 {
     let (ino, name) = line_at(rows, index);
-    put_line(table, rows, index, ino, name, out)
-}
-
-// Appends the row with this index, which is a child's.
-#[inline(always)]
-fn put_child<A: Allocator, O: Allocator>(
-    table: &Table<A>,
-    rows: &Listing<'_, A>,
-    index: usize,
-    out: &mut Vec<u8, O>,
-) -> Result<(), AllocError>
-    requires whole { IsWhole table.now rows.now }
-    requires child { 2 ≤ index }
-    requires from { rows.now.from ≤ index }
-    requires until { index < rows.now.until }
-    ensures { Puts result out.old out.new (row_bytes_at table.now rows.now index) }
-{
-    let (ino, name) = child_at(rows, index);
-    put_line(table, rows, index, ino, name, out)
-}
-
-// Appends the row with this index, which has this number and this name.
-#[inline(always)]
-fn put_line<A: Allocator, O: Allocator>(
-    table: &Table<A>,
-    rows: &Listing<'_, A>,
-    index: usize,
-    ino: u64,
-    name: &[u8],
-    out: &mut Vec<u8, O>,
-) -> Result<(), AllocError>
-    requires whole { IsWhole table.now rows.now }
-    requires line { IsLineAt rows.now index ino name.now }
-    requires from { rows.now.from ≤ index }
-    requires until { index < rows.now.until }
-    ensures { Puts result out.old out.new (row_bytes_at table.now rows.now index) }
-{
     let attr = table.attr(ino);
     let row = Dirent {
         ino,
@@ -127,19 +69,11 @@ pub(crate) fn line_at<'a, A: Allocator>(rows: &Listing<'a, A>, index: usize) -> 
     match index {
         0 => (rows.number, b".".as_slice()),
         1 => (rows.parent, b"..".as_slice()),
-        _ => child_at(rows, index),
+        _ => {
+            let row = &rows.children[index - 2];
+            (row.number, row.name())
+        }
     }
-}
-
-// The number and the name of the row with this index, which is a child's.
-#[inline(always)]
-fn child_at<'a, A: Allocator>(rows: &Listing<'a, A>, index: usize) -> (u64, &'a [u8])
-    requires child { 2 ≤ index }
-    requires there { index < 2 + length rows.now.children.now }
-    ensures { IsLineAt rows.now index result.0 result.1.now }
-{
-    let row = &rows.children[index - 2];
-    (row.number, row.name())
 }
 
 // The upper bits of a node's mode.

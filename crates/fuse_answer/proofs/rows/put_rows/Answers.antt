@@ -40,63 +40,31 @@ loop-index-preserved g c =
     let room = c.loop-index.invariant.room in
     let more = c.loop-index.invariant.grown in
     let grown = c.in_ok-put_row.ensures.3 in
-    let last = c.first_child-children.ensures.until in
-    let lt = c.loop-index-test.true in
     record {
       so_far = row_next c.args.table.now c.args.rows.now c.requires c.args.unique c.loop-index.index c.args.out.now.items
           c.loop-index.out.items c.put_row.new.out.items
-          c.loop-index.auto.index (omega arith) c.loop-index.invariant.so_far c.in_ok-put_row.ensures.0;
+          c.loop-index.auto.index c.loop-index-test.true c.loop-index.invariant.so_far c.in_ok-put_row.ensures.0;
       room = omega arith;
       grown = omega arith;
     }
 
 pub returns-in_err-put_row : goal.returns-in_err-put_row
 returns-in_err-put_row g c =
-    let last = c.first_child-children.ensures.until in
-    let lt = c.loop-index-test.true in
     let fits = row_has_room c.args.table.now c.args.rows.now c.requires c.args.unique c.loop-index.index c.args.out.now.items
     c.loop-index.out.items
-    c.loop-index.auto.index (omega arith) c.loop-index.invariant.so_far in
+    c.loop-index.auto.index c.loop-index-test.true c.loop-index.invariant.so_far in
     let room = c.loop-index.invariant.room in
     let full = c.in_err-put_row.ensures.2 in
     let before = c.args.out.now.ok.0 in
     let now = c.loop-index.out.ok.0 in
     absurd (omega arith)
 
-pub loop-index-2-preserved : goal.loop-index-2-preserved
-loop-index-2-preserved g c =
-    let room = c.loop-index-2.invariant.room in
-    let more = c.loop-index-2.invariant.grown in
-    let grown = c.in_ok-put_child.ensures.3 in
-    let first = c.first_child-children.ensures.from in
-    let from = c.loop-index-2.auto.index in
-    record {
-      so_far = row_next c.args.table.now c.args.rows.now c.requires c.args.unique c.loop-index-2.index c.args.out.now.items
-          c.loop-index-2.out.items c.put_child.new.out.items
-          (omega arith) c.loop-index-2-test.true c.loop-index-2.invariant.so_far c.in_ok-put_child.ensures.0;
-      room = omega arith;
-      grown = omega arith;
-    }
-
-pub returns-in_err-put_child : goal.returns-in_err-put_child
-returns-in_err-put_child g c =
-    let first = c.first_child-children.ensures.from in
-    let from = c.loop-index-2.auto.index in
-    let fits = row_has_room c.args.table.now c.args.rows.now c.requires c.args.unique c.loop-index-2.index c.args.out.now.items
-    c.loop-index-2.out.items
-    (omega arith) c.loop-index-2-test.true c.loop-index-2.invariant.so_far in
-    let room = c.loop-index-2.invariant.room in
-    let full = c.in_err-put_child.ensures.2 in
-    let before = c.args.out.now.ok.0 in
-    let now = c.loop-index-2.out.ok.0 in
-    absurd (omega arith)
-
 pub returns : goal.returns
 returns g c =
-    let last = c.loop-index-2.auto.index-end c.first_child-children.ensures.until in (
-      all_rows c.args.table.now c.args.rows.now c.requires c.args.unique c.loop-index-2.index c.args.out.now.items c.loop-index-2.out.items
-          (omega arith) c.loop-index-2.invariant.so_far,
+    let last = c.loop-index.auto.index-end c.requires.in_order in (
+      all_rows c.args.table.now c.args.rows.now c.requires c.args.unique c.loop-index.index c.args.out.now.items c.loop-index.out.items
+          (omega arith) c.loop-index.invariant.so_far,
       tt,
       tt,
-      c.loop-index-2.invariant.grown,
+      c.loop-index.invariant.grown,
     )

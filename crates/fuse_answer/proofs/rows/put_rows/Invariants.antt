@@ -10,11 +10,3 @@ invariant-loop-index g l = record {
   room : vec_len l.fn.out + (16 + l.rows.size) ≤ vec_capacity l.out;
   grown : vec_capacity l.fn.out ≤ vec_capacity l.out;
 }
-
--- the same before the children
-abbrev pub invariant-loop-index-2 : goal.invariant-loop-index-2
-invariant-loop-index-2 g l = record {
-  so_far : l.out.items ≡ l.fn.out.items ++ (reply_head l.unique l.rows.size ++ written l.table l.rows l.index);
-  room : vec_len l.fn.out + (16 + l.rows.size) ≤ vec_capacity l.out;
-  grown : vec_capacity l.fn.out ≤ vec_capacity l.out;
-}

@@ -1,11 +1,11 @@
-use Rattle.std.proofs.Common.{◌≡◌, ◌∙◌, sym, ap, Some, ◌+◌, ◌-◌, get_or}
+use Rattle.std.proofs.Common.{◌≡◌, ◌∙◌, sym, ap, Some, ◌+◌, ◌-◌, get_or, arith}
 use Rattle.std.specs.Prelude.{codes}
 use Rattle.stack_table.specs.Rows.{Line}
 use Rattle.fuse_answer.proofs.Writing.{line_there}
-use Rattle.fuse_answer.proofs.rows.child_at.Goals as goal
+use Rattle.fuse_answer.proofs.rows.line_at.Goals as goal
 
-pub returns : goal.returns
-returns g c =
+pub returns-in_default : goal.returns-in_default
+returns-in_default g c =
     let own : Line = record { number = c.args.rows.now.number; name = codes "." } in
     let upper : Line = record { number = c.args.rows.now.parent; name = codes ".." } in
     let there : Line = get_or c.args.rows.now.children.now (c.args.index - 2) c.index-rows-index.result in
@@ -15,6 +15,5 @@ returns g c =
     c.index-rows-index.is
     ∙ ap (λ n. let l : Line = record { number = n; name = there.name } in l) number_is
     ∙ ap (λ n. let l : Line = record { number = c.row.inside.number; name = n } in l) (sym c.name.ensures) in
-    line_there own upper c.args.rows.now.children.now c.args.index c.index-rows-index.result c.requires.child
-    c.requires.there c.index-rows-index.is
+    line_there own upper c.args.rows.now.children.now c.args.index c.index-rows-index.result (omega arith) c.requires c.index-rows-index.is
     ∙ ap (λ (l : Line). Some (c.args.index + 1, l)) same
