@@ -156,7 +156,7 @@ fn requests_of<R: Threads + Sync>(rt: &R, global: Global, call: Call) -> Result<
 
 #[test]
 fn preparing_and_runs_are_refused(rt: HostRuntime) -> Result<(), Fail> {
-    assert!(rt; 50 < requests_of(&rt, rt.alloc(), Call::Prepare)?);
+    assert!(rt; 30 < requests_of(&rt, rt.alloc(), Call::Prepare)?);
     for broken in [0, 1] {
         assert!(rt; 5 < requests_of(&rt, rt.alloc(), Call::PrepareBroken(broken))?);
     }
