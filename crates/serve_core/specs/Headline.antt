@@ -11,7 +11,7 @@ use Rattle.serve_loop.specs.declared.stop.Stop.{Stop}
 use Rattle.serve_loop.specs.declared.stop.Stop.TheVariants.{Turns}
 use Rattle.serve_loop.specs.declared.done.Done.{Done}
 use Rattle.layer_check.specs.Layers.{AreRefused}
-use Rattle.image_stack.specs.Preparing.{AreStacked}
+use Rattle.serve_core.specs.Preparing.{AreStacked}
 use Rattle.serve_loop.specs.Serving.{Trace, Does, IsRun}
 use Rattle.serve_loop.specs.Laws.{HasServed}
 

@@ -1,5 +1,5 @@
+pub mod Preparing
 pub mod Headline
 pub use Rattle.devices.specs.States
-pub use Rattle.image_stack.specs.Preparing
 pub use Rattle.layer_check.specs.Layers
 pub use Rattle.serve_loop.specs.Serving

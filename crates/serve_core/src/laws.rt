@@ -1,15 +1,15 @@
 //! What serving over images means: each law follows from what [`crate::serve_as`] promises. What
-//! each end of a stream means say `serve_loop::laws`, and why images are refused, those of
-//! `image_stack`.
+//! each end of a stream means say `serve_loop::laws`.
 
-ghost use Rattle.std.specs.Prelude.{ℕ, List, Ok, Err};
+ghost use Rattle.std.specs.Prelude.{◌≡◌, ◌⊎◌, ℕ, List, Ok, Err};
 ghost use Rattle.romfs_format.specs.declared.rule.Profile.{Profile};
 ghost use Rattle.romfs_format.specs.declared.rule.ImageFault.{ImageFault};
 ghost use Rattle.reply_model.specs.declared.session.Session.{Session};
 ghost use Rattle.serve_loop.specs.declared.done.Done.{Done};
 ghost use Rattle.serve_loop.specs.declared.stop.Stop.{Stop};
-ghost use Rattle.serve_loop.specs.declared.stop.Stop.TheVariants.{Layer, Layers};
+ghost use Rattle.serve_loop.specs.declared.stop.Stop.TheVariants.{Layer, Layers, Memory};
 ghost use Rattle.serve_loop.specs.Serving.{Trace};
+ghost use Rattle.layer_check.specs.Layers.{AreLayers, AreRefused};
 ghost use Rattle.serve_core.specs.Headline.{Serves, HasServedAll, IsRefusedFor};
 
 use std::alloc::Allocator;
@@ -30,4 +30,14 @@ pub fn streams_are_served_over_images<A: Allocator>()
         (t : Trace) (n : ℕ) (f : ImageFault) →
         Serves {A = A} profile first images turns t (Err (Layer n f)) →
         IsRefusedFor profile images t (Layer n f) }
+{}
+
+/// Beside want of memory, images are refused for one reason, and good ones for none.
+#[tactic(auto, using(crate::proofs::Refusals::one_reason))]
+pub fn refusals_are_one()
+    ensures once { (profile : Profile) (images : List (List ℕ)) (r s : Stop) →
+        AreRefused profile images r → AreRefused profile images s →
+        (r ≡ s) ⊎ ((r ≡ Memory) ⊎ (s ≡ Memory)) }
+    ensures good { (profile : Profile) (images layers : List (List ℕ)) (r : Stop) →
+        AreLayers profile images layers → AreRefused profile images r → r ≡ Memory }
 {}

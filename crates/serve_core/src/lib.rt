@@ -7,19 +7,22 @@
 //! begins in too, so whether it is served lastingly: whether its client is told that the tree never
 //! changes.
 //!
-//! The images are prepared by `image_stack`, the loop over the stream is `serve_loop`'s, and what
+//! The check of images is `layer_check`'s, the loop over the stream `serve_loop`'s, and what
 //! answers its rounds `reply_pool`'s. What serving promises at each end is said by `IsRun` in
 //! `serve_loop`'s `specs/Serving`, and over images by `Serves` in `specs/Headline`; [`laws`] draw
 //! from it what each end means.
 #![tactic(auto)]
 
+mod bounds;
 pub mod laws;
+mod preparing;
 mod running;
 mod serving;
 
+pub use bounds::SharedAllocator;
 pub use devices::{Failed, Sink, Source, Spout, Tap};
 pub use fuse_wire::limits::MAX_TURNS;
-pub use image_stack::{SharedAllocator, prepare, prepare_as};
+pub use preparing::{prepare, prepare_as};
 pub use reply_model::Session;
 pub use reply_pool::Plan;
 pub use romfs_format::Profile;

@@ -8,8 +8,8 @@ ghost use Rattle.reply_pool.specs.Spread.{IsSpreadable, SpreadsOut};
 ghost use Rattle.serve_loop.specs.Serving.{AreReady};
 ghost use Rattle.serve_core.specs.Headline.{RunsBetween};
 
+use crate::bounds::SharedAllocator;
 use devices::{Sink, Source};
-use image_stack::SharedAllocator;
 use node_table::Table;
 use reply_model::Session;
 use reply_pool::{Plan, Pool, RoundPieces, spread_out};

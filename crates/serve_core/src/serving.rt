@@ -5,9 +5,10 @@ ghost use Rattle.layer_check.specs.Layers.{contents_of};
 ghost use Rattle.serve_loop.specs.Serving.{AreReady};
 ghost use Rattle.serve_core.specs.Headline.{ServesBetween};
 
+use crate::bounds::SharedAllocator;
+use crate::preparing::prepare_as;
 use crate::running::run_from;
 use devices::{Sink, Source};
-use image_stack::{SharedAllocator, prepare_as};
 use reply_model::Session;
 use reply_pool::Plan;
 use romfs_format::Profile;

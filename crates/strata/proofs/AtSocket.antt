@@ -6,10 +6,9 @@ use Rattle.command_line.specs.declared.options.Line.{Line}
 use Rattle.command_line.specs.declared.options.Verb.TheVariants.{Socket}
 use Rattle.command_line.specs.CommandLine.{IsLineOf}
 use Rattle.devices.specs.States.{Devices}
-use Rattle.fault_lines.specs.declared.faults.Fault.{Fault}
+use Rattle.strata.specs.declared.faults.Fault.{Fault}
 use Rattle.strata.specs.Sessions.{status_at}
-use Rattle.report_lines.specs.Reports.{AreNotStacked}
-use Rattle.strata.specs.Ending.{profile_of, EndsAtSocket, EndsInFault, IsNotBound, IsOfSessions, IsOverWith, IsServedAtSocket, NamesAsMany}
+use Rattle.strata.specs.Ending.{profile_of, AreNotStacked, EndsAtSocket, EndsInFault, IsNotBound, IsOfSessions, IsOverWith, IsServedAtSocket, NamesAsMany}
 use Rattle.strata.proofs.Ended.{begun, whole}
 use Rattle.strata.proofs.InTurn.{of_sessions}
 

@@ -9,12 +9,12 @@ use Rattle.reply_model.specs.declared.session.Session.{Session}
 use Rattle.serve_loop.specs.declared.stop.Stop.{Stop}
 use Rattle.serve_loop.specs.declared.done.Done.{Done}
 use Rattle.serve_loop.specs.Serving.{Trace}
-use Rattle.fault_lines.specs.declared.faults.Fault.{Fault}
-use Rattle.fault_lines.specs.declared.faults.Fault.TheVariants.{Accept, InSession}
-use Rattle.fault_lines.specs.Faults.{status_of}
+use Rattle.strata.specs.declared.faults.Fault.{Fault}
+use Rattle.strata.specs.declared.faults.Fault.TheVariants.{Accept, InSession}
+use Rattle.strata.specs.Faults.{status_of}
 use Rattle.strata.specs.Laws.{IsFirstStopped, IsWhole, TellsOfSessions}
 use Rattle.strata.specs.Sessions.{fault_of, first_fault, or_later, status_at, AreServed, EndWith, IsSession, Served}
-use Rattle.fault_lines.proofs.Statuses.{fault_status}
+use Rattle.strata.proofs.Ended.{fault_status}
 
 -- sessions so far, and the status of the first that stopped
 pub record AreSoFar (A : Type 0) (first : Session) (stack : Stacked) (count status : ℕ) : Type 0 where

@@ -1,6 +1,10 @@
+pub mod Sizes
+pub mod Printed
 pub mod Served
 pub mod Ended
 pub mod InTurn
 pub mod AtSocket
+pub mod Listed
 pub mod Statuses
 pub mod Mounts
+pub mod Blames

@@ -3,12 +3,12 @@
 -- case for each.
 use Rattle.std.proofs.Common.{◌≡◌, ◌∙◌, sym, ap, subst, refl, ℕ, Bool, true, false, inl, inr, List, Option, Some, None, if◌then◌else◌}
 use Rattle.devices.specs.States.{Devices}
-use Rattle.fault_lines.specs.declared.faults.Fault.{Fault}
-use Rattle.fault_lines.specs.Faults.{status_of}
+use Rattle.strata.specs.declared.faults.Fault.{Fault}
+use Rattle.strata.specs.Faults.{status_of}
 use Rattle.strata.specs.Sessions.{status_at}
 use Rattle.strata.specs.Ending.{IsDone, EndsInFault, EndsWith, IsOfSessions, IsOver, IsOverWith}
 use Rattle.strata.specs.Mounts.{is_taken_away, status_on_device, StopsWhere, IsRunOnDevice}
-use Rattle.fault_lines.proofs.Statuses.{fault_status}
+use Rattle.strata.proofs.Ended.{fault_status}
 use Rattle.strata.proofs.Statuses.{ends_for_words, zero_is_other}
 
 module _ (A : Type 0) (words : List (List ℕ)) (input output : Bool) (old new : Devices) where

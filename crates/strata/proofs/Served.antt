@@ -7,9 +7,9 @@ use Rattle.serve_loop.specs.declared.stop.Stop.{Stop}
 use Rattle.serve_loop.specs.declared.done.Done.{Done}
 use Rattle.devices.specs.States.{Devices, SourceState, SinkState}
 use Rattle.serve_loop.specs.Serving.{Trace}
-use Rattle.fault_lines.specs.declared.faults.Fault.{Fault}
-use Rattle.fault_lines.specs.declared.faults.Fault.TheVariants.{Stopped}
-use Rattle.fault_lines.specs.Faults.{out_of_memory, write_failed}
+use Rattle.strata.specs.declared.faults.Fault.{Fault}
+use Rattle.strata.specs.declared.faults.Fault.TheVariants.{Stopped}
+use Rattle.strata.specs.Faults.{out_of_memory, write_failed}
 use Rattle.strata.specs.Ending.{Gave, Took, Asks, GetsReplies, IsServing, IsServedWhole, IsNotServed}
 
 none_where : {X : Type 0} (o : Option X) → is_some o ≡ false → o ≡ None

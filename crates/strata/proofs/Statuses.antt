@@ -19,15 +19,15 @@ use Rattle.devices.specs.States.{Devices}
 use Rattle.serve_loop.specs.Serving.{Trace}
 use Rattle.serve_core.specs.Headline.{Serves}
 use Rattle.serve_core.proofs.Headline.{many_refused, broken_refused}
-use Rattle.image_stack.proofs.Refusals.{not_few, none_broken}
-use Rattle.fault_lines.specs.declared.faults.Fault.{Fault}
-use Rattle.fault_lines.specs.declared.faults.Fault.TheVariants.{ImageFile, RequestsFile, RepliesFile, BalancesFile, Bind, Accept, Broken, InSession, Stopped}
-use Rattle.fault_lines.specs.Faults.{status_of, stop_status, out_of_memory, line_told_of}
+use Rattle.serve_core.proofs.Refusals.{not_few, none_broken}
+use Rattle.strata.specs.declared.faults.Fault.{Fault}
+use Rattle.strata.specs.declared.faults.Fault.TheVariants.{Usage, ImageFile, RequestsFile, RepliesFile, BalancesFile, Bind, Accept, Broken, InSession, Stopped}
+use Rattle.strata.specs.Faults.{status_of, stop_status, out_of_memory, line_told_of}
 use Rattle.strata.specs.Ending.{profile_of, first_of, IsStoppedOver, IsDone, EndsInFault, EndsWith, IsOver, IsOverWith, IsRunOf}
 use Rattle.strata.specs.Laws.{AreBad, AreToBlame}
 use Rattle.strata.specs.Sessions.{IsSession, status_at}
-use Rattle.fault_lines.proofs.Blames.{stop_of}
-use Rattle.fault_lines.proofs.Statuses.{IsStatus, fault_range, fault_status}
+use Rattle.strata.proofs.Blames.{stop_of}
+use Rattle.strata.proofs.Ended.{IsStatus, fault_range, fault_status}
 use Rattle.strata.proofs.InTurn.{of_sessions}
 
 -- a program that stopped has a status of 1 to 5

@@ -1,28 +1,31 @@
 -- What a command leaves behind: its status, and what its output gained.
-use Rattle.std.specs.Prelude.{◌≡◌, ◌≢◌, ◌<◌, ◌⊎◌, ◌||◌, ℕ, List, true, Option, Some, None, is_some, length, vec_len, Result, Ok, Err, OnOk, if◌then◌else◌}
+use Rattle.std.specs.Prelude.{◌≡◌, ◌≢◌, ◌<◌, ◌+◌, ◌⊎◌, ◌||◌, ℕ, List, true, Option, Some, None, is_some, length, vec_len, Result, Ok, Err, OnOk, if◌then◌else◌}
 use Rattle.std.specs.Io.KnownBytes.{Appends, Consumes, IsAtEnd}
 use Rattle.romfs_format.specs.declared.rule.Profile.{Profile}
 use Rattle.romfs_format.specs.declared.rule.Profile.TheVariants.{Usual, Strict}
 use Rattle.devices.specs.Counting.{no_pulls, no_pushes}
+use Rattle.devices.specs.Pushing.{HasFlushed}
 use Rattle.devices.specs.States.{SourceState, SinkState, Devices}
 use Rattle.fuse_wire.specs.declared.limits.TheConstants.{MAX_TURNS}
 use Rattle.stack_table.specs.Stacked.{Stacked}
 use Rattle.serve_loop.specs.declared.stop.Stop.{Stop}
 use Rattle.serve_loop.specs.declared.done.Done.{Done}
-use Rattle.image_stack.specs.Preparing.{AreStacked}
+use Rattle.layer_check.specs.Layers.{AreRefused}
+use Rattle.serve_core.specs.Preparing.{AreStacked}
 use Rattle.serve_loop.specs.Serving.{Trace}
 use Rattle.reply_model.specs.declared.session.Session.{Session}
 use Rattle.reply_model.specs.declared.session.Session.TheVariants.{Fresh, LastingFresh}
 use Rattle.serve_core.specs.Headline.{Serves}
+use Rattle.path_list.specs.Faults.{Lists}
 use Rattle.command_line.specs.declared.options.Line.{Line}
 use Rattle.command_line.specs.declared.options.LineFault.{LineFault}
 use Rattle.command_line.specs.declared.options.Verb.{Verb}
 use Rattle.command_line.specs.declared.options.Verb.TheVariants as verbs
 use Rattle.command_line.specs.CommandLine.{IsLineOf, IsLineFault}
-use Rattle.fault_lines.specs.declared.faults.Fault.{Fault}
-use Rattle.fault_lines.specs.declared.faults.Fault.TheVariants.{ImageFile, RequestsFile, RepliesFile, BalancesFile, Bind, Accept, InSession, Stopped}
-use Rattle.fault_lines.specs.Faults.{line_told_of, status_of, out_of_memory, write_failed}
-use Rattle.report_lines.specs.Reports.{AreGood, AreNotGood, IsStackListed, AreNotStacked, IsNotListed}
+use Rattle.strata.specs.declared.faults.Fault.{Fault}
+use Rattle.strata.specs.declared.faults.Fault.TheVariants.{ImageFile, RequestsFile, RepliesFile, BalancesFile, Bind, Accept, InSession, Stopped}
+use Rattle.strata.specs.Faults.{AreSizes, IsFirstFault, line_told_of, status_of, out_of_memory, write_failed}
+use Rattle.strata.specs.Texts.{size_lines}
 use Rattle.strata.specs.Sessions.{AreServed, status_at}
 
 -- the rules that a line holds images to
@@ -42,6 +45,56 @@ NamesAsMany line images = length images ≡ vec_len line.images
 pub record AreNew (devices : Devices) : Type 0 where
   pub pulls : devices.source.counts ≡ no_pulls
   pub pushes : devices.sink.counts ≡ no_pushes
+
+-- lines were put to a sink and flushed
+pub record ArePut (lines : List ℕ) (old new : SinkState) : Type 0 where
+  pub written : Appends old.held new.held lines
+  pub flushed : HasFlushed lines old.counts new.counts
+
+-- a fault of the output is told, and the output failed once more
+pub record IsLost (fault : Fault) (old new : SinkState) : Type 0 where
+  pub told : fault ≡ write_failed
+  pub failed : new.counts.failures ≡ old.counts.failures + 1
+
+-- lines were not put: the output failed, or memory ran out and it is as it was
+abbrev pub AreNotPut : SinkState → SinkState → Fault → Type 0
+AreNotPut old new fault = IsLost fault old new ⊎ ((fault ≡ out_of_memory) × (new ≡ old))
+
+-- ---- check
+
+-- these images are good, and the output gained a line with the size of each, and was flushed
+pub record AreGood (profile : Profile) (images : List (List ℕ)) (old new : SinkState) : Type 0 where
+  pub sizes : List ℕ
+  pub sizes_are : AreSizes profile images sizes
+  pub put : ArePut (size_lines 0 sizes) old new
+
+-- a check stopped: one of the images is to blame or memory ran out, and the output is as it was; or
+-- the output failed
+abbrev pub AreNotGood : Profile → List (List ℕ) → Fault → SinkState → SinkState → Type 0
+AreNotGood profile images fault old new =
+    (IsFirstFault profile images fault × (new ≡ old)) ⊎ IsLost fault old new
+
+-- ---- list
+
+-- the images are good, and the output gained a line for each path that their stack shows; none
+-- waits for a flush
+pub record IsStackListed (profile : Profile) (images : List (List ℕ))
+    (old new : SinkState) : Type 0 where
+  pub stack : Stacked
+  pub stacked : AreStacked profile images stack
+  pub listed : Lists stack old new
+
+-- why images are not stacked: one of them is to blame, or their number, or memory ran out
+pub record AreNotStacked (profile : Profile) (images : List (List ℕ))
+    (fault : Fault) : Type 0 where
+  pub stop : Stop
+  pub told : fault ≡ Stopped stop
+  pub refused : AreRefused profile images stop
+
+-- a list stopped: so, and the output is as it was; or the output failed
+abbrev pub IsNotListed : Profile → List (List ℕ) → Fault → SinkState → SinkState → Type 0
+IsNotListed profile images fault old new =
+    (AreNotStacked profile images fault × (new ≡ old)) ⊎ IsLost fault old new
 
 -- ---- serve
 

@@ -1,16 +1,20 @@
 -- What the exit statuses mean to a caller.
-use Rattle.std.specs.Prelude.{◌≡◌, ◌<◌, ℕ, ◌⊎◌, List, ◌∷◌, ◌++◌, length, All, Ok, Err}
+use Rattle.std.specs.Prelude.{◌≡◌, ◌<◌, ℕ, ◌⊎◌, ⊤, List, ◌∷◌, ◌++◌, length, All, Ok, Err}
 use Rattle.std.specs.List.{AllByRecursion}
 use Rattle.romfs_format.specs.declared.rule.Profile.{Profile}
 use Rattle.romfs_format.specs.Rules.{IsSoundAs}
 use Rattle.stack_table.specs.Stacked.{Stacked}
 use Rattle.reply_model.specs.declared.session.Session.{Session}
+use Rattle.romfs_format.specs.declared.rule.ImageFault.{ImageFault}
 use Rattle.serve_loop.specs.declared.stop.Stop.{Stop}
+use Rattle.serve_loop.specs.declared.stop.Stop.TheVariants.{Layer, Layers, BadLength, CutOff, Read, Write, Turns, Memory}
 use Rattle.serve_loop.specs.declared.done.Done.{Done}
 use Rattle.layer_check.specs.Layers.{IsFew}
 use Rattle.command_line.specs.declared.options.Line.{Line}
 use Rattle.command_line.specs.CommandLine.{IsLineOf}
-use Rattle.fault_lines.specs.Faults.{stop_status}
+use Rattle.strata.specs.declared.faults.Fault.{Fault}
+use Rattle.strata.specs.declared.faults.Fault.TheVariants.{Usage, ImageFile, RequestsFile, RepliesFile, BalancesFile, Bind, Accept, Broken, InSession, Stopped}
+use Rattle.strata.specs.Faults.{stop_status, status_of}
 use Rattle.strata.specs.Sessions.{Served}
 use Rattle.strata.specs.Ending.{profile_of, NamesAsMany}
 
@@ -51,3 +55,50 @@ pub record TellsOfSessions (A : Type 0) (first : Session) (stack : Stacked)
       ⊎ (((length served ≡ count) × (stop : Stop) × (status ≡ stop_status stop)
       × IsFirstStopped served stop)
       ⊎ ((length served < count) × (status ≡ 1)))
+
+-- ---- which faults have which status
+
+-- the fault says of serving, or of a session, that it stopped so
+abbrev pub IsStoppedSo : (Stop → Type 0) → Fault → Type 0
+IsStoppedSo Is fault =
+    (stop : Stop) × Is stop
+    × ((fault ≡ Stopped stop) ⊎ ((session : ℕ) × (fault ≡ InSession session stop)))
+
+-- the words are no command, or ask for help
+abbrev pub IsOfWords : Fault → Type 0
+IsOfWords (Usage text) = ⊤
+IsOfWords _ = ⊥
+
+-- a file could not be opened, created or read to its end, a socket not bound or no client accepted
+abbrev pub IsOfFiles : Fault → Type 0
+IsOfFiles fault =
+    ((image : ℕ) × (fault ≡ ImageFile image))
+    ⊎ ((fault ≡ RequestsFile) ⊎ ((fault ≡ RepliesFile) ⊎ ((fault ≡ BalancesFile)
+    ⊎ ((fault ≡ Bind) ⊎ (fault ≡ Accept)))))
+
+-- a device failed
+abbrev pub IsOfStreams : Stop → Type 0
+IsOfStreams stop = (stop ≡ Read) ⊎ (stop ≡ Write)
+
+-- an image is broken, or there are none or too many
+abbrev pub IsOfImages : Stop → Type 0
+IsOfImages stop =
+    ((layer : ℕ) × (fault : ImageFault) × (stop ≡ Layer layer fault))
+    ⊎ ((count : ℕ) × (stop ≡ Layers count))
+
+-- the requests are no stream of messages, or do not end
+abbrev pub IsOfRequests : Stop → Type 0
+IsOfRequests stop =
+    ((at : ℕ) × (len : ℕ) × (stop ≡ BadLength at len))
+    ⊎ (((at : ℕ) × (stop ≡ CutOff at)) ⊎ (stop ≡ Turns))
+
+-- a fault that has the status 1, 2, 3, 4 or 5 is one of these
+pub record HasStatusOf (fault : Fault) : Type 0 where
+  pub files : status_of fault ≡ 1 → IsOfFiles fault ⊎ IsStoppedSo IsOfStreams fault
+  pub words : status_of fault ≡ 2 → IsOfWords fault
+  pub images :
+      status_of fault ≡ 3
+      → ((image : ℕ) × (broken : ImageFault) × (fault ≡ Broken image broken))
+      ⊎ IsStoppedSo IsOfImages fault
+  pub requests : status_of fault ≡ 4 → IsStoppedSo IsOfRequests fault
+  pub memory : status_of fault ≡ 5 → IsStoppedSo (λ stop. stop ≡ Memory) fault

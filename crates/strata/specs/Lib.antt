@@ -1,3 +1,5 @@
+pub mod Faults
+pub mod Texts
 pub mod Sessions
 pub mod Ending
 pub mod Laws
@@ -5,5 +7,5 @@ pub mod Mounts
 pub use Rattle.command_line.specs.CommandLine
 pub use Rattle.devices.specs.States
 pub use Rattle.layer_check.specs.Layers
-pub use Rattle.image_stack.specs.Preparing
+pub use Rattle.serve_core.specs.Preparing
 pub use Rattle.serve_loop.specs.Serving

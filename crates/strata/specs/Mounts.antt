@@ -2,9 +2,9 @@
 use Rattle.std.specs.Prelude.{◌≡◌, ◌≢◌, ◌⊎◌, ◌||◌, ℕ, Bool, true, false, List, if◌then◌else◌}
 use Rattle.devices.specs.States.{Devices}
 use Rattle.serve_loop.specs.declared.stop.Stop.TheVariants.{Read, Write}
-use Rattle.fault_lines.specs.declared.faults.Fault.{Fault}
-use Rattle.fault_lines.specs.declared.faults.Fault.TheVariants.{Stopped}
-use Rattle.fault_lines.specs.Faults.{status_of}
+use Rattle.strata.specs.declared.faults.Fault.{Fault}
+use Rattle.strata.specs.declared.faults.Fault.TheVariants.{Stopped}
+use Rattle.strata.specs.Faults.{status_of}
 use Rattle.strata.specs.Ending.{IsDone, EndsInFault}
 
 -- a fault is that the mount was taken away: a pull failed and the input is gone, or a push failed

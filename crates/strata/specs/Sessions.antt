@@ -8,9 +8,9 @@ use Rattle.serve_loop.specs.declared.stop.Stop.{Stop}
 use Rattle.serve_loop.specs.declared.done.Done.{Done}
 use Rattle.serve_loop.specs.Serving.{Trace}
 use Rattle.serve_core.specs.Headline.{IsRunOver}
-use Rattle.fault_lines.specs.declared.faults.Fault.{Fault}
-use Rattle.fault_lines.specs.declared.faults.Fault.TheVariants.{Accept, InSession}
-use Rattle.fault_lines.specs.Faults.{status_of}
+use Rattle.strata.specs.declared.faults.Fault.{Fault}
+use Rattle.strata.specs.declared.faults.Fault.TheVariants.{Accept, InSession}
+use Rattle.strata.specs.Faults.{status_of}
 
 -- a session was served over a stack between devices that were new, as a stream of its own
 pub record IsSession {A : Type 0} (first : Session) (stack : Stacked) (t : Trace)

@@ -7,8 +7,8 @@ ghost use Rattle.std.specs.Prelude.{◌≡◌};
 ghost use Rattle.serve_loop.specs.Serving.{Trace};
 ghost use Rattle.strata.specs.Sessions.{fault_of, status_at, EndWith, IsSession, Served};
 
+use crate::faults::Fault;
 use devices::{Spout, Tap};
-use fault_lines::Fault;
 use serve_core::{Done, FreePass, MAX_TURNS, Plan, Session, Stop, run_from};
 use stack_table::Table;
 use std::alloc::Allocator;

@@ -2,7 +2,7 @@
 
 ghost use Rattle.std.specs.Prelude.{◌≡◌, is_some, true, IfOk, IfErr};
 
-use fault_lines::Fault;
+use crate::faults::Fault;
 use std::fs;
 use std::fs::Files;
 

@@ -11,9 +11,9 @@ ghost use Rattle.stack_table.specs.Stacked.{Stacked};
 ghost use Rattle.reply_model.specs.declared.session.Session.{Session};
 ghost use Rattle.reply_model.specs.declared.session.Session.TheVariants.{Fresh, LastingFresh};
 ghost use Rattle.strata.specs.Sessions.{EndWith};
-ghost use Rattle.fault_lines.specs.declared.faults.Fault.{Fault};
-ghost use Rattle.fault_lines.specs.declared.faults.Fault.TheVariants.{Stopped};
-ghost use Rattle.strata.specs.Laws.{AreToBlame, TellsOfSessions};
+ghost use Rattle.strata.specs.declared.faults.Fault.{Fault};
+ghost use Rattle.strata.specs.declared.faults.Fault.TheVariants.{Stopped};
+ghost use Rattle.strata.specs.Laws.{AreToBlame, HasStatusOf, TellsOfSessions};
 ghost use Rattle.strata.specs.Mounts.{is_taken_away};
 
 use std::alloc::Allocator;
@@ -29,6 +29,13 @@ pub fn statuses_tell<A: Allocator>()
         ((¬ IsTaken words) ⊎ (IsMisnumbered words ⊎ IsCrossed words)) × (new ≡ old) }
     ensures images { (words : List (List ℕ)) (old new : Devices) →
         EndsWith A words 3 old new → AreToBlame words }
+{}
+
+/// The status of a fault says what is to blame: 1 files, sockets and streams; 2 the words; 3 the
+/// images; 4 the requests, also where they do not end; 5 memory.
+#[tactic(auto, using(crate::proofs::Blames::each_status))]
+pub fn each_status_has_its_faults()
+    ensures { (fault : Fault) → HasStatusOf fault }
 {}
 
 /// Sessions end with 0 where all of them were served to their end; else with the status of the

@@ -3,21 +3,19 @@
 ghost use Rattle.std.specs.Prelude.{◌≡◌, ◌⊎◌, is_some, true, IfOk, IfErr};
 ghost use Rattle.command_line.specs.CommandLine.{IsInLimits};
 ghost use Rattle.layer_check.specs.Layers.{contents_of};
-ghost use Rattle.report_lines.specs.Reports.{AreNotStacked};
-ghost use Rattle.strata.specs.Ending.{profile_of, EndsAtSocket, IsNotBound};
+ghost use Rattle.strata.specs.Ending.{profile_of, AreNotStacked, EndsAtSocket, IsNotBound};
 
 use crate::clients::sessions_from;
+use crate::faults::Fault;
 use crate::settings::{first_of, plan_of, profile_of};
 use command_line::Line;
-use fault_lines::Fault;
-use image_stack::prepare_as;
+use serve_core::{FreePass, prepare_as};
 use std::alloc::Allocator;
 use std::fs::{self, Files};
 use std::io::Write;
 use std::net::Net;
 use std::os::unix::net::UnixListener;
 use std::thread::Threads;
-use work_gate::FreePass;
 
 /// Checks and stacks the images, binds a socket at the line's path, serves its sessions over the
 /// stack and gives their status; at last the socket's file is removed. What sessions stop for is

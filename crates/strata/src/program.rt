@@ -13,15 +13,16 @@ ghost use Rattle.fuse_device.specs.Taps.{tap_gone};
 ghost use Rattle.strata.specs.Ending.{AreNew, EndsInFault, IsOverWith, IsRunOf};
 ghost use Rattle.strata.specs.Mounts.{status_on_device, IsRunOnDevice};
 
+use crate::checking::check;
+use crate::faults::Fault;
 use crate::listening::listen;
+use crate::listing::list;
 use crate::serving::serve;
 use crate::settings::profile_of;
 use command_line::{Verb, line};
 use devices::{Sink, Source};
-use fault_lines::Fault;
 use fuse_device::{MessageTap, ReplySpout};
 use image_files::read_images;
-use report_lines::{check, list};
 use serve_core::Stop;
 use std::alloc::{Allocator, Global};
 use std::convert::AsStr;

@@ -8,12 +8,12 @@ ghost use Rattle.layer_check.specs.Layers.{contents_of};
 ghost use Rattle.serve_loop.specs.Serving.{Trace, Does};
 ghost use Rattle.strata.specs.Ending.{AreNew, Gave, GetsReplies, IsServingBy, IsServing, IsServedWhole, IsNotServed};
 
+use crate::balances::tell_balances;
+use crate::faults::Fault;
 use crate::files::{create_named, open_requests};
 use crate::settings::{first_of, plan_of, profile_of};
 use command_line::Line;
 use devices::{Sink, Source, Spout, Tap};
-use fault_lines::Fault;
-use report_lines::tell_balances;
 use serve_core::{Done, FreePass, MAX_TURNS, Stop, serve_from};
 use std::alloc::Allocator;
 use std::fs::Files;

@@ -1,6 +1,6 @@
 use Rattle.std.proofs.Common.{refl, subst}
 use Rattle.layer_check.specs.Layers.{contents_of}
-use Rattle.report_lines.specs.Reports.{AreGood, AreNotGood, IsStackListed, IsNotListed}
+use Rattle.strata.specs.Ending.{AreGood, AreNotGood, IsStackListed, IsNotListed}
 use Rattle.strata.proofs.Ended.{all_named, did, broke_off, unread}
 use Rattle.strata.proofs.AtSocket.{over_there, stopped_there}
 use Rattle.command_line.specs.declared.options.Verb.TheVariants.{Serve, Check, List}

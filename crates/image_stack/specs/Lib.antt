@@ -1,2 +1,0 @@
-pub mod Preparing
-pub use Rattle.layer_check.specs.Layers

@@ -1,0 +1,121 @@
+-- Which faults have which status: `each_status`. A fault has one status, so it is what that one
+-- asks, and the others ask nothing. `stop_of` says so of the reasons why serving stopped, and the
+-- faults follow.
+use Rattle.std.proofs.Common.{◌≡◌, ℕ, inl, inr, refl, arith}
+use Rattle.serve_loop.specs.declared.stop.Stop.{Stop}
+use Rattle.serve_loop.specs.declared.stop.Stop.TheVariants.{Layer, Layers, BadLength, CutOff, Read, Write, Turns, Memory}
+use Rattle.strata.specs.declared.faults.Fault.{Fault}
+use Rattle.strata.specs.declared.faults.Fault.TheVariants.{Usage, ImageFile, RequestsFile, RepliesFile, BalancesFile, Bind, Accept, Broken, InSession, Stopped}
+use Rattle.strata.specs.Faults.{stop_status, status_of}
+use Rattle.strata.specs.Laws.{IsStoppedSo, IsOfFiles, IsOfStreams, IsOfImages, IsOfRequests, HasStatusOf}
+
+-- ---- why serving stopped
+
+-- a reason that has the status 1, 3, 4 or 5 is one of these, and none has the status 2
+pub record HasStopStatusOf (stop : Stop) : Type 0 where
+  pub streams : stop_status stop ≡ 1 → IsOfStreams stop
+  pub words : stop_status stop ≡ 2 → ⊥
+  pub images : stop_status stop ≡ 3 → IsOfImages stop
+  pub requests : stop_status stop ≡ 4 → IsOfRequests stop
+  pub memory : stop_status stop ≡ 5 → stop ≡ Memory
+
+stop_1 : (stop : Stop) → stop_status stop ≡ 1 → IsOfStreams stop → HasStopStatusOf stop
+stop_1 stop s is = record {
+  streams = λ e. is;
+  words = λ e. absurd (omega (arith, s, e));
+  images = λ e. absurd (omega (arith, s, e));
+  requests = λ e. absurd (omega (arith, s, e));
+  memory = λ e. absurd (omega (arith, s, e));
+}
+
+stop_3 : (stop : Stop) → stop_status stop ≡ 3 → IsOfImages stop → HasStopStatusOf stop
+stop_3 stop s is = record {
+  streams = λ e. absurd (omega (arith, s, e));
+  words = λ e. absurd (omega (arith, s, e));
+  images = λ e. is;
+  requests = λ e. absurd (omega (arith, s, e));
+  memory = λ e. absurd (omega (arith, s, e));
+}
+
+stop_4 : (stop : Stop) → stop_status stop ≡ 4 → IsOfRequests stop → HasStopStatusOf stop
+stop_4 stop s is = record {
+  streams = λ e. absurd (omega (arith, s, e));
+  words = λ e. absurd (omega (arith, s, e));
+  images = λ e. absurd (omega (arith, s, e));
+  requests = λ e. is;
+  memory = λ e. absurd (omega (arith, s, e));
+}
+
+stop_5 : (stop : Stop) → stop_status stop ≡ 5 → stop ≡ Memory → HasStopStatusOf stop
+stop_5 stop s is = record {
+  streams = λ e. absurd (omega (arith, s, e));
+  words = λ e. absurd (omega (arith, s, e));
+  images = λ e. absurd (omega (arith, s, e));
+  requests = λ e. absurd (omega (arith, s, e));
+  memory = λ e. is;
+}
+
+-- each reason is one that its status asks for
+pub stop_of : (stop : Stop) → HasStopStatusOf stop
+stop_of Read = stop_1 Read refl (inl refl)
+stop_of Write = stop_1 Write refl (inr refl)
+stop_of (Layer layer fault) = stop_3 (Layer layer fault) refl (inl (layer, fault, refl))
+stop_of (Layers count) = stop_3 (Layers count) refl (inr (count, refl))
+stop_of (BadLength at len) = stop_4 (BadLength at len) refl (inl (at, len, refl))
+stop_of (CutOff at) = stop_4 (CutOff at) refl (inr (inl (at, refl)))
+stop_of Turns = stop_4 Turns refl (inr (inr refl))
+stop_of Memory = stop_5 Memory refl refl
+
+-- ---- faults
+
+fault_1 : (fault : Fault) → status_of fault ≡ 1 → IsOfFiles fault → HasStatusOf fault
+fault_1 fault s is = record {
+  files = λ e. inl is;
+  words = λ e. absurd (omega (arith, s, e));
+  images = λ e. absurd (omega (arith, s, e));
+  requests = λ e. absurd (omega (arith, s, e));
+  memory = λ e. absurd (omega (arith, s, e));
+}
+
+stopped_so : (Is : Stop → Type 0) (stop : Stop) → Is stop → IsStoppedSo Is (Stopped stop)
+stopped_so Is stop is = (stop, is, inl refl)
+
+session_so : (Is : Stop → Type 0) (n : ℕ) (stop : Stop) → Is stop → IsStoppedSo Is (InSession n stop)
+session_so Is n stop is = (stop, is, inr (n, refl))
+
+-- each fault is one that its status asks for
+pub each_status : (fault : Fault) → HasStatusOf fault
+each_status (Usage text) = record {
+  files = λ e. absurd (omega (arith, e));
+  words = λ e. tt;
+  images = λ e. absurd (omega (arith, e));
+  requests = λ e. absurd (omega (arith, e));
+  memory = λ e. absurd (omega (arith, e));
+}
+each_status (ImageFile image) = fault_1 (ImageFile image) refl (inl (image, refl))
+each_status RequestsFile = fault_1 RequestsFile refl (inr (inl refl))
+each_status RepliesFile = fault_1 RepliesFile refl (inr (inr (inl refl)))
+each_status BalancesFile = fault_1 BalancesFile refl (inr (inr (inr (inl refl))))
+each_status Bind = fault_1 Bind refl (inr (inr (inr (inr (inl refl)))))
+each_status Accept = fault_1 Accept refl (inr (inr (inr (inr (inr refl)))))
+each_status (Broken image fault) = record {
+  files = λ e. absurd (omega (arith, e));
+  words = λ e. absurd (omega (arith, e));
+  images = λ e. inl (image, fault, refl);
+  requests = λ e. absurd (omega (arith, e));
+  memory = λ e. absurd (omega (arith, e));
+}
+each_status (Stopped stop) = record {
+  files = λ e. inr (stopped_so IsOfStreams stop ((stop_of stop).streams e));
+  words = λ e. absurd ((stop_of stop).words e);
+  images = λ e. inr (stopped_so IsOfImages stop ((stop_of stop).images e));
+  requests = λ e. stopped_so IsOfRequests stop ((stop_of stop).requests e);
+  memory = λ e. stopped_so (λ s. s ≡ Memory) stop ((stop_of stop).memory e);
+}
+each_status (InSession n stop) = record {
+  files = λ e. inr (session_so IsOfStreams n stop ((stop_of stop).streams e));
+  words = λ e. absurd ((stop_of stop).words e);
+  images = λ e. inr (session_so IsOfImages n stop ((stop_of stop).images e));
+  requests = λ e. session_so IsOfRequests n stop ((stop_of stop).requests e);
+  memory = λ e. session_so (λ s. s ≡ Memory) n stop ((stop_of stop).memory e);
+}

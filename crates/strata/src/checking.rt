@@ -1,0 +1,85 @@
+//! The command `check`.
+
+ghost use Rattle.std.specs.Prelude.{◌≡◌, ◌<◌, ◌^◌, length, string_bytes, OnOk, IfOk, IfErr};
+ghost use Rattle.romfs_format.specs.Fields.{image};
+ghost use Rattle.romfs_format.specs.Rules.{IsSoundAs};
+ghost use Rattle.layer_check.specs.Layers.{contents_of};
+ghost use Rattle.strata.specs.Faults.{AreSizes, IsFirstFault, IsImageFault};
+ghost use Rattle.strata.specs.Texts.{size_lines};
+ghost use Rattle.strata.specs.Ending.{AreGood, AreNotGood};
+
+use crate::faults::Fault;
+use crate::lines::put_lines;
+use devices::Sink;
+use romfs_check::{Check, CheckFault, Image, Profile};
+use serve_core::Stop;
+use std::alloc::{AllocError, Allocator};
+use std::io::Write;
+
+/// Checks the images in order, and puts a line for each if all are good. Else nothing is put.
+pub fn check<A: Allocator + Copy, K: Sink>(
+    alloc: A,
+    images: Vec<Vec<u8, A>, A>,
+    profile: Profile,
+    output: &mut K,
+) -> Result<(), Fault>
+    requires { (K.state output.old).counts.failures < 2 ^ 63 }
+    ensures done { OnOk result (AreGood profile (contents_of images)
+        (K.state output.old) (K.state output.new)) }
+    ensures stopped { IfErr result (λ fault. AreNotGood profile (contents_of images) fault
+        (K.state output.old) (K.state output.new)) }
+{
+    let sizes = checked_sizes(alloc, images, profile)?;
+    let lines = lines_of(alloc, sizes.as_slice())?;
+    put_lines(output, lines.as_bytes())
+}
+
+// A line for each of these sizes in bytes, by the number of its image.
+fn lines_of<A: Allocator>(alloc: A, sizes: &[u32]) -> Result<String<A>, AllocError>
+    ensures { IfOk result (λ lines. string_bytes lines ≡ size_lines 0 sizes.now) }
+{
+    let mut lines = String::new(alloc);
+    for (layer, size) in sizes.iter().enumerate() {
+        writeln!(lines, "layer {layer}: {size} bytes")?;
+    }
+    Ok(lines)
+}
+
+// How many bytes of each image are accessible, if all are good. Else it names the fault of the
+// first that is not.
+fn checked_sizes<A: Allocator + Copy>(
+    alloc: A,
+    images: Vec<Vec<u8, A>, A>,
+    profile: Profile,
+) -> Result<Vec<u32, A>, Fault>
+    ensures ok { IfOk result (λ sizes. AreSizes profile (contents_of images) sizes.items) }
+    ensures err { IfErr result (λ fault. IsFirstFault profile (contents_of images) fault) }
+{
+    let mut sizes = Vec::with_capacity(alloc, images.len())?;
+    for bytes in images {
+        let image = sizes.len() as u64;
+        sizes.push(checked_size(alloc, image, bytes, profile)?)?;
+    }
+    Ok(sizes)
+}
+
+// How many bytes of an image are accessible.
+fn checked_size<A: Allocator + Copy>(
+    alloc: A,
+    number: u64,
+    bytes: Vec<u8, A>,
+    profile: Profile,
+) -> Result<u32, Fault>
+    ensures ok { IfOk result (λ full. (full ≡ length (image bytes.items))
+        × IsSoundAs profile bytes.items) }
+    ensures err { IfErr result (λ fault. IsImageFault profile number bytes.items fault) }
+{
+    match Image::check_as(alloc, bytes, profile) {
+        Ok(image) => Ok(image.full()),
+        Err(CheckFault::Broken(fault)) => Err(Fault::Broken {
+            image: number,
+            fault,
+        }),
+        Err(CheckFault::Memory) => Err(Fault::Stopped(Stop::Memory)),
+    }
+}

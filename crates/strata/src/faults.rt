@@ -1,0 +1,212 @@
+//! What can go wrong in the program: a line for standard error and an exit status each.
+
+ghost use Rattle.std.specs.Prelude.{◌≡◌, ◌++◌, ◌∷◌, [], OnOk};
+ghost use Rattle.std.specs.Io.KnownBytes.{Appends};
+ghost use Rattle.strata.specs.Faults.{status_of, stop_status};
+ghost use Rattle.strata.specs.Texts.{fault_text, stop_text};
+
+use command_line::LineFault;
+use image_files::FilesFault;
+use path_list::ListFault;
+use romfs_check::ImageFault;
+use serve_core::Stop;
+use std::alloc::{AllocError, AllocFailed};
+use std::io::Write;
+use std::{fmt, io};
+
+/// Why the program stopped. Its `Display` is the line for standard error.
+#[derive(Debug, Drop)]
+pub enum Fault {
+    /// The words say no command of the program, or ask for help.
+    Usage { text: String },
+    /// The file of this image, counted from 0, cannot be read to its end.
+    ImageFile { image: u64 },
+    /// The file of requests cannot be opened.
+    RequestsFile,
+    /// The file of replies cannot be created.
+    RepliesFile,
+    /// The file of balances cannot be created.
+    BalancesFile,
+    /// The socket cannot be bound.
+    Bind,
+    /// No client can be accepted at the socket.
+    Accept,
+    /// This image, counted from 0, breaks a rule, as a check of images by themselves has found.
+    Broken { image: u64, fault: ImageFault },
+    /// This session at a socket, counted from 1, was not served to its end.
+    InSession { session: u32, stop: Stop },
+    /// A stream was not served to its end, the images could not be stacked, a write of the
+    /// program's own lines failed, or memory ran out.
+    Stopped(Stop),
+}
+
+impl Fault {
+    /// The exit status that it ends the program with.
+    pub fn status(&self) -> u8
+        ensures { result ≡ status_of self.now }
+    {
+        match self {
+            Fault::Usage { .. } => 2,
+            Fault::ImageFile { .. } => 1,
+            Fault::RequestsFile | Fault::RepliesFile | Fault::BalancesFile => 1,
+            Fault::Bind | Fault::Accept => 1,
+            Fault::Broken { .. } => 3,
+            Fault::InSession { stop, .. } => stop_status(*stop),
+            Fault::Stopped(stop) => stop_status(*stop),
+        }
+    }
+
+    /// Writes its line.
+    pub fn tell<W: Write>(&self, writer: &mut W) -> io::Result<()>
+        ensures { OnOk result (Appends (W.contents writer.old) (W.contents writer.new)
+            (fault_text self.now ++ 10 ∷ [])) }
+    {
+        writeln!(writer, "{self}")?;
+        writer.flush()
+    }
+
+    /// Writes its line, whatever comes of that, and gives the exit status.
+    pub fn end<W: Write>(&self, writer: &mut W) -> u8
+        ensures { result ≡ status_of self.now }
+    {
+        let _ = self.tell(writer);
+        self.status()
+    }
+}
+
+// The exit status where serving stopped.
+fn stop_status(stop: Stop) -> u8
+    ensures { result ≡ stop_status stop }
+{
+    match stop {
+        Stop::Read | Stop::Write => 1,
+        Stop::Layers { .. } | Stop::Layer { .. } => 3,
+        Stop::BadLength { .. } | Stop::CutOff { .. } | Stop::Turns => 4,
+        Stop::Memory => 5,
+    }
+}
+
+impl fmt::Display for Fault {
+    ghost use Rattle.std.specs.Prelude.{Some};
+
+    ghost output = { λ fault. Some (fault_text fault) };
+
+    fn fmt<W: fmt::Write>(&self, f: &mut fmt::Formatter<W>) -> fmt::Result {
+        match self {
+            Fault::Usage { text } => write!(f, "{text}"),
+            Fault::ImageFile { image } => write!(f, "image {image}: cannot be read"),
+            Fault::RequestsFile => write!(f, "requests: cannot be opened"),
+            Fault::RepliesFile => write!(f, "replies: cannot be created"),
+            Fault::BalancesFile => write!(f, "balances: cannot be created"),
+            Fault::Bind => write!(f, "socket: cannot be bound"),
+            Fault::Accept => write!(f, "socket: cannot accept"),
+            Fault::Broken { image, fault } => {
+                write!(f, "layer {image} at {:08x}: {}", fault.place, fault.rule)
+            }
+            Fault::InSession { session, stop } => {
+                let why = Why { stop: *stop };
+                write!(f, "session {session}: {why}")
+            }
+            Fault::Stopped(stop) => {
+                let why = Why { stop: *stop };
+                write!(f, "{why}")
+            }
+        }
+    }
+}
+
+// Why serving stopped. Its `Display` is the line of it.
+#[derive(Drop)]
+struct Why {
+    stop: Stop,
+}
+
+impl fmt::Display for Why {
+    ghost use Rattle.std.specs.Prelude.{Some};
+
+    ghost output = { λ why. Some (stop_text why.stop) };
+
+    fn fmt<W: fmt::Write>(&self, f: &mut fmt::Formatter<W>) -> fmt::Result {
+        match self.stop {
+            Stop::Layer { layer, fault } => {
+                write!(f, "layer {layer} at {:08x}: {}", fault.place, fault.rule)
+            }
+            Stop::Layers { count } => write!(f, "layers: {count}, allowed 1 to 128"),
+            Stop::BadLength { at, len } => write!(f, "request at {at}: bad length {len}"),
+            Stop::CutOff { at } => write!(f, "request at {at}: cut off"),
+            Stop::Read => write!(f, "read fault"),
+            Stop::Write => write!(f, "write fault"),
+            Stop::Turns => write!(f, "turns used up"),
+            Stop::Memory => write!(f, "out of memory"),
+        }
+    }
+}
+
+impl From<LineFault> for Fault {
+    ghost use Rattle.strata.specs.Faults.{line_told_of};
+
+    ghost from_gives = { λ line fault. fault ≡ line_told_of line };
+
+    fn from(fault: LineFault) -> Fault {
+        match fault {
+            LineFault::Usage { text } => Fault::Usage { text },
+            LineFault::Memory => Fault::Stopped(Stop::Memory),
+        }
+    }
+}
+
+impl From<FilesFault> for Fault {
+    ghost use Rattle.strata.specs.Faults.{files_told_of};
+
+    ghost from_gives = { λ files fault. fault ≡ files_told_of files };
+
+    fn from(fault: FilesFault) -> Fault {
+        match fault {
+            FilesFault::Unread { image } => Fault::ImageFile { image },
+            FilesFault::Memory => Fault::Stopped(Stop::Memory),
+        }
+    }
+}
+
+impl From<ListFault> for Fault {
+    ghost use Rattle.strata.specs.Faults.{list_told_of};
+
+    ghost from_gives = { λ list fault. fault ≡ list_told_of list };
+
+    fn from(fault: ListFault) -> Fault {
+        match fault {
+            ListFault::Write => Fault::Stopped(Stop::Write),
+            ListFault::Memory => Fault::Stopped(Stop::Memory),
+        }
+    }
+}
+
+impl From<Stop> for Fault {
+    ghost use Rattle.strata.specs.declared.faults.Fault.TheVariants.{Stopped};
+
+    ghost from_gives = { λ stop fault. fault ≡ Stopped stop };
+
+    fn from(stop: Stop) -> Fault {
+        Fault::Stopped(stop)
+    }
+}
+
+impl From<AllocError> for Fault {
+    ghost use Rattle.strata.specs.Faults.{out_of_memory};
+
+    ghost from_gives = { λ _ fault. fault ≡ out_of_memory };
+
+    fn from(_error: AllocError) -> Fault {
+        Fault::Stopped(Stop::Memory)
+    }
+}
+
+impl<T: Drop> From<AllocFailed<T>> for Fault {
+    ghost use Rattle.strata.specs.Faults.{out_of_memory};
+
+    ghost from_gives = { λ _ fault. fault ≡ out_of_memory };
+
+    fn from(_error: AllocFailed<T>) -> Fault {
+        Fault::Stopped(Stop::Memory)
+    }
+}

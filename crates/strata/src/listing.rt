@@ -1,0 +1,32 @@
+//! The command `list`.
+
+ghost use Rattle.std.specs.Prelude.{◌<◌, ◌^◌, OnOk, IfErr};
+ghost use Rattle.layer_check.specs.Layers.{contents_of};
+ghost use Rattle.strata.specs.Ending.{IsStackListed, IsNotListed};
+
+use crate::faults::Fault;
+use devices::Sink;
+use path_list::write_list;
+use serve_core::{FreePass, Profile, prepare_as};
+use std::alloc::Allocator;
+use std::thread::Threads;
+
+/// Checks the images, stacks them, and puts a line for each path that the stack shows. Where an
+/// image is broken nothing is put.
+pub fn list<R: Threads + Sync, A: Allocator + Copy + Send + Sync, K: Sink>(
+    rt: &R,
+    alloc: A,
+    images: Vec<Vec<u8, A>, A>,
+    profile: Profile,
+    output: &mut K,
+) -> Result<(), Fault>
+    requires { (K.state output.old).counts.failures < 2 ^ 63 }
+    ensures done { OnOk result (IsStackListed profile (contents_of images)
+        (K.state output.old) (K.state output.new)) }
+    ensures stopped { IfErr result (λ fault. IsNotListed profile (contents_of images) fault
+        (K.state output.old) (K.state output.new)) }
+{
+    let table = prepare_as(rt, alloc, images, profile, &FreePass)?;
+    write_list(alloc, &table, output)?;
+    Ok(())
+}
