@@ -1,5 +1,8 @@
 //! What an image may break.
 
+ghost use Rattle.std.specs.Prelude.{◌≡◌};
+ghost use Rattle.romfs_format.specs.Texts.{text_of};
+
 use std::fmt;
 
 /// A rule that every image keeps, in the order in which rules are named where several are broken:
@@ -62,32 +65,40 @@ pub struct ImageFault {
     pub place: u32,
 }
 
+impl Rule {
+    // What its line says.
+    fn text(&self) -> &'static str
+        ensures { result.now ≡ text_of self.now }
+    {
+        match self {
+            Rule::Short => "too short",
+            Rule::Magic => "not romfs",
+            Rule::FullSize => "bad full size",
+            Rule::BadSum => "bad sum",
+            Rule::VolumeName => "bad volume name",
+            Rule::NoRoot => "no root",
+            Rule::Outside => "header outside",
+            Rule::NameOpen => "name not ended",
+            Rule::NameBad => "bad name",
+            Rule::DataOutside => "data outside",
+            Rule::TargetLong => "target too long",
+            Rule::LinkedTwice => "linked twice",
+            Rule::SameName => "name twice",
+            Rule::LinkLoop => "link loop",
+            Rule::LinkDirectory => "link to directory",
+            Rule::MajorLarge => "major too large",
+            Rule::HeaderSum => "bad header sum",
+            Rule::TooDeep => "too deep",
+        }
+    }
+}
+
 impl fmt::Display for Rule {
     ghost use Rattle.std.specs.Prelude.{Some};
-    ghost use Rattle.romfs_format.specs.Texts.{text_of};
 
     ghost output = { λ rule. Some (text_of rule) };
 
     fn fmt<W: fmt::Write>(&self, f: &mut fmt::Formatter<W>) -> fmt::Result {
-        match self {
-            Rule::Short => write!(f, "too short"),
-            Rule::Magic => write!(f, "not romfs"),
-            Rule::FullSize => write!(f, "bad full size"),
-            Rule::BadSum => write!(f, "bad sum"),
-            Rule::VolumeName => write!(f, "bad volume name"),
-            Rule::NoRoot => write!(f, "no root"),
-            Rule::Outside => write!(f, "header outside"),
-            Rule::NameOpen => write!(f, "name not ended"),
-            Rule::NameBad => write!(f, "bad name"),
-            Rule::DataOutside => write!(f, "data outside"),
-            Rule::TargetLong => write!(f, "target too long"),
-            Rule::LinkedTwice => write!(f, "linked twice"),
-            Rule::SameName => write!(f, "name twice"),
-            Rule::LinkLoop => write!(f, "link loop"),
-            Rule::LinkDirectory => write!(f, "link to directory"),
-            Rule::MajorLarge => write!(f, "major too large"),
-            Rule::HeaderSum => write!(f, "bad header sum"),
-            Rule::TooDeep => write!(f, "too deep"),
-        }
+        f.write_str(self.text())
     }
 }
