@@ -105,16 +105,16 @@ pub fn read_op<'a>(opcode: u32, message: &[u8], body: &'a [u8]) -> Op<'a>
     }
 }
 
-// The number of 32 bits at a place of a body.
-fn word(body: &[u8], place: usize) -> u32
+// The number of 32 bits at a place of a message or of its body.
+pub fn word(body: &[u8], place: usize) -> u32
     requires { place + 4 ≤ length body.now }
     ensures { result ≡ field 4 place body.now }
 {
     LittleEndian::read_u32(&body[place..])
 }
 
-// The number of 64 bits at a place of a body.
-fn wide(body: &[u8], place: usize) -> u64
+// The number of 64 bits at a place of a message or of its body.
+pub fn wide(body: &[u8], place: usize) -> u64
     requires { place + 8 ≤ length body.now }
     ensures { result ≡ field 8 place body.now }
 {

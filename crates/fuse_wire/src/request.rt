@@ -5,7 +5,7 @@ ghost use Rattle.fuse_wire.specs.Stream.{IsGoodLength};
 ghost use Rattle.fuse_wire.specs.Requests.{asked};
 ghost use Rattle.fuse_wire.specs.Reads.{asked_of};
 
-use crate::body::read_op;
+use crate::body::{read_op, wide, word};
 use crate::forget::Forgets;
 use crate::limits::HEADER_SIZE;
 use crate::opcode::LOOKUP;
@@ -127,13 +127,9 @@ impl<'a> Request<'a> {
         ensures { asked_of result ≡ asked message.now }
     {
         Request {
-            unique: LittleEndian::read_u64(&message[UNIQUE..]),
-            node: LittleEndian::read_u64(&message[NODEID..]),
-            op: read_op(
-                LittleEndian::read_u32(&message[OPCODE..]),
-                message,
-                &message[HEADER_SIZE..],
-            ),
+            unique: wide(message, UNIQUE),
+            node: wide(message, NODEID),
+            op: read_op(word(message, OPCODE), message, &message[HEADER_SIZE..]),
         }
     }
 }
