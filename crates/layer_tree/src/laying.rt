@@ -162,7 +162,7 @@ fn marks_laid<A: Allocator + Copy>(
 
 /// One tree laid on another. `hidden` are marks where the upper tree has a file and the lower one a
 /// directory or something below, `replaced` where the lower tree has the file. What it does is said
-/// of the two trees alone; `lay` says of it what follows for any layers that these are the trees of.
+/// of the two trees alone; `lay` says what follows for any layers that these are the trees of.
 fn laid<A: Allocator + Copy>(alloc: A, low: Tree<A>, high: Tree<A>) -> Result<Tree<A>, AllocError>
     ensures { IfOk result (λ tree. Lays low high tree) }
 {
