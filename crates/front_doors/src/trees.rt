@@ -7,7 +7,7 @@ ghost use Rattle.stack_core.specs.Trees.{IsTreeOf as IsTreeOfAll};
 ghost use Rattle.stack_model.specs.declared.limits.TheConstants.{MAX_LAYERS};
 
 pub use layer_tree::{Child, Entry, OfLayer, Place, Tree, lay};
-pub use node_table::{Node, NodeAttr, OfTree, Row, Table};
+pub use node_table::{Attr, Node, OfTree, Row, Table};
 use romfs_image::Image;
 pub use stack_core::{FreePass, Gate, Work, shown, stack};
 use std::alloc::{AllocError, Allocator};
@@ -68,13 +68,7 @@ pub fn told<'a, A: Allocator>(
 pub fn numbered<A: Allocator>(
     table: &Table<A>,
     number: u64,
-) -> (
-    Option<&Node>,
-    Option<NodeAttr>,
-    Option<u64>,
-    &[Row<A>],
-    &[u8],
-) {
+) -> (Option<&Node>, Option<Attr>, Option<u64>, &[Row<A>], &[u8]) {
     (
         table.node(number),
         table.attr(number),

@@ -11,17 +11,17 @@ use Rattle.std.proofs.lemmas.List.FromFn.{length-enumerate_from}
 use Rattle.fuse_wire.specs.Structures.{dirent, direntplus}
 use Rattle.fuse_wire.proofs.Sizes.{length-dirent, length-direntplus}
 use Rattle.stack_model.specs.Listing.{Entry}
-use Rattle.stack_model.specs.Attributes.{is_directory_at, mode}
+use Rattle.stack_model.specs.Attributes.{is_directory_at, mode, attr_of}
 use Rattle.stack_model.specs.Numbers.{Place, Child, number, node_of, parent, children}
-use Rattle.stack_table.specs.declared.node.NodeAttr.{NodeAttr as Held}
+use Rattle.node_attr.specs.declared.attr.Attr.{Attr}
 use Rattle.stack_table.specs.Rows.{Line}
 use Rattle.stack_table.specs.Stacked.{Stacked}
-use Rattle.stack_table.specs.Readers.{attr_of, parent_at, rows_at}
+use Rattle.stack_table.specs.Readers.{parent_at, rows_at}
 use Rattle.reply_model.specs.declared.moves.Move.{Move}
 use Rattle.reply_model.specs.Services.{give}
 use Rattle.reply_model.specs.Rows.{Row, fitting, is_child, is_too_small, rows, rows_after, dirent_of, direntplus_of}
 use Rattle.fuse_answer.specs.declared.listing.Listing.{Listing}
-use Rattle.fuse_answer.specs.Listings.{AreListed, NumberedLine, fit_count, fit_size, is_child_line, is_cut_short, line_bytes, lines_answered, lines_of, listed_data, row_size, row_sizes, wired}
+use Rattle.fuse_answer.specs.Listings.{AreListed, NumberedLine, fit_count, fit_size, is_child_line, is_cut_short, line_bytes, lines_answered, lines_of, listed_data, row_size, row_sizes}
 use Rattle.fuse_answer.proofs.Numbered.{IsNumbered, number_is, numbered_children, numbered_node, numbered_parent}
 use Rattle.fuse_answer.proofs.Fitting.{first_rows, not_too_small, rows_size, sizes_of, too_small}
 
@@ -101,7 +101,7 @@ pub plain : (stack : Stacked) → IsForm stack false (dirent_of stack.layers sta
 unfolding dirent_of
 plain stack = record {
   sized = λ r. (let e = length-dirent (number stack.entries r.1.place) r.0 (mode stack.layers r.1.place / 2 ^ 12) r.1.name in omega arith);
-  written = λ r numbered. ap (λ o. dirent (number stack.entries r.1.place) r.0 (option_map_or (λ (a : Held). a.mode / 2 ^ 12)
+  written = λ r numbered. ap (λ o. dirent (number stack.entries r.1.place) r.0 (option_map_or (λ (a : Attr). a.mode / 2 ^ 12)
       (option_map (attr_of stack.layers stack.entries) o) 0) r.1.name) numbered;
 }
 
@@ -109,10 +109,10 @@ plain stack = record {
 pub with_entries : (stack : Stacked) → IsForm stack true (direntplus_of stack.layers stack.entries)
 unfolding direntplus_of
 with_entries stack = record {
-  sized = λ r. (let e = length-direntplus (cond (nat_lt 2 r.0) (Some (wired (attr_of stack.layers stack.entries r.1.place))) None)
+  sized = λ r. (let e = length-direntplus (cond (nat_lt 2 r.0) (Some (attr_of stack.layers stack.entries r.1.place)) None)
       (number stack.entries r.1.place) r.0 (mode stack.layers r.1.place / 2 ^ 12) r.1.name in omega arith);
-  written = λ r numbered. ap (λ o. direntplus (cond (nat_lt 2 r.0) (option_map wired (option_map (attr_of stack.layers stack.entries) o))
-      None) (number stack.entries r.1.place) r.0 (option_map_or (λ (a : Held). a.mode / 2 ^ 12)
+  written = λ r numbered. ap (λ o. direntplus (cond (nat_lt 2 r.0) (option_map (attr_of stack.layers stack.entries) o)
+      None) (number stack.entries r.1.place) r.0 (option_map_or (λ (a : Attr). a.mode / 2 ^ 12)
       (option_map (attr_of stack.layers stack.entries) o) 0) r.1.name) numbered;
 }
 

@@ -8,13 +8,13 @@ use Rattle.romfs_format.specs.declared.head.Kind.{Kind}
 use Rattle.romfs_format.specs.declared.head.Kind.TheVariants.{Directory}
 use Rattle.fuse_wire.specs.declared.errno.Errno.{Errno}
 use Rattle.fuse_wire.specs.declared.errno.Errno.TheVariants.{ENAMETOOLONG, ENOENT, ESTALE}
-use Rattle.fuse_wire.specs.declared.reply.Attr.{Attr}
+use Rattle.node_attr.specs.declared.attr.Attr.{Attr}
 use Rattle.fuse_wire.specs.declared.limits.TheConstants.{MAX_NAME_SIZE}
 use Rattle.fuse_wire.specs.Requests.{lookup}
-use Rattle.stack_model.specs.Attributes.{is_directory, is_directory_at, kind_at}
+use Rattle.stack_model.specs.Attributes.{is_directory, is_directory_at, kind_at, attr_of}
 use Rattle.stack_model.specs.Numbers.{Place, number, node_of, parent, child}
 use Rattle.stack_table.specs.Stacked.{Stacked}
-use Rattle.stack_table.specs.Readers.{attr_of}
+use Rattle.stack_table.specs.Readers.{attr_at}
 use Rattle.reply_model.specs.declared.session.Agreement.{Agreement}
 use Rattle.reply_model.specs.Lookups.{is_itself, is_parent, looked_up}
 use Rattle.reply_model.specs.Services.{refuse_if, unless_directory}
@@ -22,7 +22,6 @@ use Rattle.reply_model.specs.Refusals.{first_refusal, refused_at}
 use Rattle.fuse_answer.specs.declared.outcome.Answer.{Answer}
 use Rattle.fuse_answer.specs.declared.outcome.Answer.TheVariants.{Entry}
 use Rattle.fuse_answer.specs.Answers.{DecidesAt, FindsBelow, IsAnswerAt, TellsEntry, TellsKind}
-use Rattle.fuse_answer.specs.Listings.{wired, wired_at}
 use Rattle.fuse_answer.proofs.Numbered.{IsNumbered, numbered_child, numbered_node, numbered_parent}
 
 numbered_found : (stack : Stacked) (export : Bool) (n : ℕ) (p : Place) (name : List ℕ) (c : Place) → node_of stack.entries n ≡ Some p
@@ -52,7 +51,7 @@ module _ {A : Type 0} (stack : Stacked) (agreed : Agreement) (n : ℕ) (name : L
   entry_at : (p c : Place) → kind_at stack.layers p ≡ Directory → is_itself agreed.export name ≡ false → nat_lt MAX_NAME_SIZE (length name)
       ≡ false
       → looked_up stack.entries agreed.export p name ≡ Some c → IsAnswerAt {A = A} stack agreed (lookup name) p
-      (Entry (wired (attr_of stack.layers stack.entries c)))
+      (Entry (attr_of stack.layers stack.entries c))
   entry_at p c kind other short found = record {
     taken = free (kind_at stack.layers p) (is_itself agreed.export name) (nat_lt MAX_NAME_SIZE (length name)) agreed.lasting
         (looked_up stack.entries agreed.export p name) c kind short found;
@@ -67,7 +66,7 @@ module _ {A : Type 0} (stack : Stacked) (agreed : Agreement) (n : ℕ) (name : L
   found_below kind other short finds entry = go (node_of stack.entries n) refl kind finds
     where
       done : (p c : Place) → kind_at stack.layers p ≡ Directory → looked_up stack.entries agreed.export p name ≡ Some c
-          → r ≡ Ok (Entry (wired (attr_of stack.layers stack.entries c)))
+          → r ≡ Ok (Entry (attr_of stack.layers stack.entries c))
           → MatchResult r (IsAnswerAt stack agreed (lookup name) p) (λ errno. refused_at stack.layers stack.entries agreed (lookup name) p
           ≡ Some errno)
       done p c kind found is =
@@ -76,11 +75,11 @@ module _ {A : Type 0} (stack : Stacked) (agreed : Agreement) (n : ℕ) (name : L
           (entry_at p c kind other short found)
 
       told : (c : Place) → IsNumbered stack.entries c → number stack.entries c ≡ f
-          → r ≡ Ok (Entry (wired (attr_of stack.layers stack.entries c)))
+          → r ≡ Ok (Entry (attr_of stack.layers stack.entries c))
       told c numbered same =
           let P : Option Attr → Type 0 = λ o. MatchOption o (r ≡ Err ENOENT) (λ attr. r ≡ Ok (Entry attr)) in
-          let held : wired_at stack f ≡ Some (wired (attr_of stack.layers stack.entries c)) =
-          ap (wired_at stack) (sym same) ∙ ap (λ o. option_map wired (option_map (attr_of stack.layers stack.entries) o)) numbered in
+          let held : attr_at stack f ≡ Some (attr_of stack.layers stack.entries c) =
+          ap (attr_at stack) (sym same) ∙ ap (λ o. option_map (attr_of stack.layers stack.entries) o) numbered in
           subst P held entry
 
       below : (p : Place) (o : Option Place) → node_of stack.entries n ≡ Some p → kind_at stack.layers p ≡ Directory

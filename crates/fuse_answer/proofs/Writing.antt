@@ -10,8 +10,9 @@ use Rattle.fuse_wire.specs.Replies.{reply_head, reply_with}
 use Rattle.fuse_wire.proofs.Sizes.{length-dirent, length-direntplus, length-head}
 use Rattle.stack_table.specs.Rows.{Line}
 use Rattle.stack_table.specs.Stacked.{Stacked}
+use Rattle.stack_table.specs.Readers.{attr_at}
 use Rattle.fuse_answer.specs.declared.listing.Listing.{Listing}
-use Rattle.fuse_answer.specs.Listings.{IsWhole, NumberedLine, line_bytes, lines_of, listed_data, row_bytes_at, row_size, type_at, wired_at}
+use Rattle.fuse_answer.specs.Listings.{IsWhole, NumberedLine, line_bytes, lines_of, listed_data, row_bytes_at, row_size, type_at}
 use Rattle.fuse_answer.proofs.Lines.{before_later, lines_before, next_line, none_before}
 
 -- the row with an index is that of the child two places before it, and says the place after it
@@ -36,7 +37,7 @@ line_there own upper children (suc (suc k)) line big small is =
 length-line_bytes : (stack : Stacked) (plus : Bool) (r : NumberedLine) → length (line_bytes stack plus r) ≡ row_size plus (length r.1.name)
 length-line_bytes stack false r = let e = length-dirent r.1.number r.0 (type_at stack r.1.number) r.1.name in omega arith
 length-line_bytes stack true r =
-    let e = length-direntplus (cond (nat_lt 2 r.0) (wired_at stack r.1.number) None) r.1.number r.0 (type_at stack r.1.number) r.1.name in
+    let e = length-direntplus (cond (nat_lt 2 r.0) (attr_at stack r.1.number) None) r.1.number r.0 (type_at stack r.1.number) r.1.name in
     omega arith
 
 -- the rows that were written before an index

@@ -12,6 +12,7 @@ use Rattle.romfs_format.specs.declared.head.Kind.{Kind}
 use Rattle.stack_model.specs.Attributes.{kind_at, is_directory_at}
 use Rattle.stack_model.specs.Numbers.{Place, number, node_of}
 use Rattle.stack_table.specs.Stacked.{Stacked}
+use Rattle.stack_table.specs.Readers.{attr_at}
 use Rattle.reply_model.specs.declared.moves.Move.{Move}
 use Rattle.reply_model.specs.declared.session.Agreement.{Agreement}
 use Rattle.reply_model.specs.declared.session.Session.{Session}
@@ -21,8 +22,8 @@ use Rattle.reply_model.specs.Refusals.{refusal_in, refused_at}
 use Rattle.reply_model.specs.Replies.{answer, answer_at}
 use Rattle.reply_model.specs.Moves.{moved, gives_at, take_back}
 use Rattle.fuse_answer.specs.declared.outcome.Answer.{Answer}
-use Rattle.fuse_answer.specs.declared.outcome.Answer.TheVariants.{Done, Terms, Entry, NoEntry, Attributes, Opened, Data, Figures, Rows, Forgotten, AllForgotten}
-use Rattle.fuse_answer.specs.Listings.{listed_data, listed_moves, wired_at, IsWhole}
+use Rattle.fuse_answer.specs.declared.outcome.Answer.TheVariants.{Done, Terms, Entry, NoEntry, Attributes, Opened, Data, Totals, Rows, Forgotten, AllForgotten}
+use Rattle.fuse_answer.specs.Listings.{listed_data, listed_moves, IsWhole}
 
 -- the data of an answer
 abbrev pub answer_data : {A : Type 0} → Stacked → Answer A → List ℕ
@@ -33,7 +34,7 @@ answer_data stack NoEntry = negative_entry_out
 answer_data stack (Attributes attr) = attr_out attr
 answer_data stack (Opened flags) = open_out flags
 answer_data stack (Data bytes) = bytes.now
-answer_data stack (Figures blocks nodes) = statfs_out blocks nodes
+answer_data stack (Totals blocks nodes) = statfs_out blocks nodes
 answer_data stack (Rows listing) = listed_data stack listing
 answer_data stack (Forgotten forget) = []
 answer_data stack (AllForgotten items) = []
@@ -66,7 +67,7 @@ FindsBelow stack export node name result =
 -- the entry of a node
 abbrev pub TellsEntry : {A : Type 0} → Stacked → ℕ → Result (Answer A) Errno → Type 0
 TellsEntry stack node result =
-    MatchOption (wired_at stack node) (result ≡ Err ENOENT) (λ attr. result ≡ Ok (Entry attr))
+    MatchOption (attr_at stack node) (result ≡ Err ENOENT) (λ attr. result ≡ Ok (Entry attr))
 
 -- its data has a length that a reply's header can say
 abbrev pub IsSized : {A : Type 0} → Stacked → Answer A → Type 0

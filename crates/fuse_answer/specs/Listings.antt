@@ -1,12 +1,10 @@
 -- Rows of a directory as a table gives them.
 use Rattle.std.specs.Prelude.{◌≡◌, ℕ, ◌+◌, ◌-◌, ◌/◌, ◌^◌, ◌≤◌, ◌<◌, ◌==◌, ◌&&◌, min, MatchOption, length, List, [], ◌∷◌, map, take, drop, filter, Bool, nat_lt, nat_le, slice_get, Option, Some, None, pos, codes, if◌then◌else◌}
 use Rattle.std.specs.List.{enumerate_from, flat_map}
-use Rattle.std.specs.Option.{option_map, option_map_or}
+use Rattle.std.specs.Option.{option_map_or}
 use Rattle.fuse_wire.specs.declared.limits.TheConstants.{MAX_DATA_SIZE}
-use Rattle.fuse_wire.specs.declared.reply.Attr.{Attr}
 use Rattle.fuse_wire.specs.Structures.{dirent, direntplus, dirent_size}
 use Rattle.fuse_wire.specs.Requests.{NodeOp, readdir, readdirplus}
-use Rattle.stack_table.specs.declared.node.NodeAttr.{NodeAttr as Held}
 use Rattle.stack_table.specs.Rows.{Line}
 use Rattle.stack_table.specs.Stacked.{Stacked}
 use Rattle.stack_table.specs.Readers.{attr_at, parent_at, rows_at}
@@ -16,23 +14,6 @@ use Rattle.fuse_answer.specs.declared.listing.Listing.{Listing}
 -- a row with its place in its directory, from 1 on
 abbrev pub NumberedLine : Type 0
 NumberedLine = ℕ × Line
-
--- the attributes of a table as a reply has them
-abbrev pub wired : Held → Attr
-wired a =
-    record {
-      ino = a.ino;
-      size = a.size;
-      blocks = a.blocks;
-      mode = a.mode;
-      nlink = a.nlink;
-      rdev =
-          a.rdev;
-    }
-
--- the attributes of the node with a number, as a reply has them
-abbrev pub wired_at : Stacked → ℕ → Option Attr
-wired_at stack n = option_map wired (attr_at stack n)
 
 -- the type of a node, as a row says it
 abbrev pub type_at : Stacked → ℕ → ℕ
@@ -64,7 +45,7 @@ is_child_line r = nat_lt 2 r.0
 abbrev pub line_bytes : Stacked → Bool → NumberedLine → List ℕ
 line_bytes stack plus r =
     if plus
-    then direntplus (if is_child_line r then wired_at stack r.1.number else None) r.1.number r.0
+    then direntplus (if is_child_line r then attr_at stack r.1.number else None) r.1.number r.0
     (type_at stack r.1.number) r.1.name
     else dirent r.1.number r.0 (type_at stack r.1.number) r.1.name
 

@@ -98,7 +98,7 @@ fn go_on<'a, A: Allocator>(
         Op::Opendir => open_directory(table, agreed, node),
         Op::Readdir { offset, size } => list(table, agreed, node, offset, size, false),
         Op::Readdirplus { offset, size } => list(table, agreed, node, offset, size, true),
-        Op::Statfs => Ok(Answer::Figures {
+        Op::Statfs => Ok(Answer::Totals {
             blocks: table.blocks_all(),
             nodes: table.len(),
         }),

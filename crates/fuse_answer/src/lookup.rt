@@ -5,7 +5,7 @@ ghost use Rattle.fuse_wire.specs.Requests.{lookup};
 ghost use Rattle.reply_model.specs.Lookups.{is_itself, is_parent};
 ghost use Rattle.fuse_answer.specs.Answers.{DecidesAt, FindsBelow, TellsEntry};
 
-use crate::node::{kind_of, wired};
+use crate::node::kind_of;
 use crate::outcome::Answer;
 use fuse_wire::Errno;
 use fuse_wire::limits::MAX_NAME_SIZE;
@@ -84,7 +84,7 @@ fn entry<'a, A: Allocator>(table: &'a Table<A>, number: u64) -> Result<Answer<'a
     ensures { TellsEntry table.now number result }
 {
     match table.attr(number) {
-        Some(attr) => Ok(Answer::Entry(wired(attr))),
+        Some(attr) => Ok(Answer::Entry(attr)),
         None => Err(Errno::ENOENT),
     }
 }

@@ -4,12 +4,11 @@ ghost use Rattle.std.specs.Prelude.{◌≡◌, take, drop};
 ghost use Rattle.fuse_wire.specs.Requests.{getattr, readlink, open_file, opendir, read};
 ghost use Rattle.reply_model.specs.Services.{opendir_flags};
 ghost use Rattle.fuse_answer.specs.Answers.{DecidesAt, TellsKind};
-ghost use Rattle.fuse_answer.specs.Listings.{wired};
 
 use crate::outcome::Answer;
+use fuse_wire::Errno;
 use fuse_wire::flags::{FOPEN_CACHE_DIR, FOPEN_KEEP_CACHE};
 use fuse_wire::limits::MAX_DATA_SIZE;
-use fuse_wire::{Attr, Errno};
 use reply_model::Agreement;
 use romfs_format::Kind;
 use stack_table::Table;
@@ -25,7 +24,7 @@ pub(crate) fn get_attr<'a, A: Allocator>(
     ensures { DecidesAt table.now agreed number getattr result }
 {
     match table.attr(number) {
-        Some(attr) => Ok(Answer::Attributes(wired(attr))),
+        Some(attr) => Ok(Answer::Attributes(attr)),
         None => Err(Errno::ESTALE),
     }
 }
@@ -127,21 +126,6 @@ fn part(bytes: &[u8], offset: u64, size: u32) -> &[u8]
         &rest[..size as usize]
     } else {
         rest
-    }
-}
-
-// A table's attributes as a reply has them.
-#[inline(always)]
-pub(crate) fn wired(attr: stack_table::NodeAttr) -> Attr
-    ensures { result ≡ wired attr }
-{
-    Attr {
-        ino: attr.ino,
-        size: attr.size,
-        blocks: attr.blocks,
-        mode: attr.mode,
-        nlink: attr.nlink,
-        rdev: attr.rdev,
     }
 }
 

@@ -23,7 +23,7 @@ pub(crate) enum Answer<'a, A: Allocator> {
     /// Bytes of a file, or a link's target.
     Data(&'a [u8]),
     /// The blocks and the nodes of the whole tree.
-    Figures { blocks: u64, nodes: u64 },
+    Totals { blocks: u64, nodes: u64 },
     /// Rows of a directory.
     Rows(Listing<'a, A>),
     /// Lookups of one node are forgotten, which has no reply.

@@ -1,13 +1,12 @@
 //! Rows of a directory as bytes, one after another.
 
 ghost use Rattle.std.specs.Prelude.{◌≡◌, ◌≤◌, ◌<◌, ◌+◌, ◌/◌, ◌^◌, length, None, nat_lt, if◌then◌else◌};
-ghost use Rattle.std.specs.Option.{option_map, option_map_or};
+ghost use Rattle.std.specs.Option.{option_map_or};
 ghost use Rattle.fuse_wire.specs.Replies.{reply_with};
-ghost use Rattle.fuse_answer.specs.Listings.{IsWhole, IsLineAt, listed_data, row_bytes_at, wired};
+ghost use Rattle.fuse_answer.specs.Listings.{IsWhole, IsLineAt, listed_data, row_bytes_at};
 ghost use Rattle.fuse_answer.specs.Puts.{Puts};
 
 use crate::listing::Listing;
-use crate::node::wired;
 use fuse_wire::limits::OUT_HEADER_SIZE;
 use fuse_wire::{Attr, Dirent, put_data_head, put_dirent, put_direntplus};
 use stack_table::Table;
@@ -77,7 +76,7 @@ pub(crate) fn line_at<'a, A: Allocator>(rows: &Listing<'a, A>, index: usize) -> 
 }
 
 // The upper bits of a node's mode.
-fn file_type(attr: Option<stack_table::NodeAttr>) -> u32
+fn file_type(attr: Option<Attr>) -> u32
     ensures { result ≡ option_map_or (λ a. a.mode / 2 ^ 12) attr 0 }
 {
     match attr {
@@ -87,8 +86,8 @@ fn file_type(attr: Option<stack_table::NodeAttr>) -> u32
 }
 
 // The entry of a row; the first two, which are `.` and `..`, have none.
-fn entry_of(off: u64, attr: Option<stack_table::NodeAttr>) -> Option<Attr>
-    ensures { result ≡ (if nat_lt 2 off then option_map wired attr else None) }
+fn entry_of(off: u64, attr: Option<Attr>) -> Option<Attr>
+    ensures { result ≡ (if nat_lt 2 off then attr else None) }
 {
-    if 2 < off { attr.map(wired) } else { None }
+    if 2 < off { attr } else { None }
 }

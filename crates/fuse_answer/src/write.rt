@@ -34,7 +34,7 @@ pub(crate) fn write<A: Allocator, O: Allocator>(
         Answer::Attributes(attr) => put_attr(out, unique, attr),
         Answer::Opened(flags) => put_open(out, unique, *flags),
         Answer::Data(bytes) => put_data(out, unique, bytes),
-        Answer::Figures { blocks, nodes } => put_statfs(out, unique, *blocks, *nodes),
+        Answer::Totals { blocks, nodes } => put_statfs(out, unique, *blocks, *nodes),
         Answer::Rows(rows) => put_rows(table, unique, rows, out),
     }
 }

@@ -20,8 +20,8 @@
 //! Framing and reading take no memory, and a few steps for each byte at most; names and items are
 //! borrowed from their message. A writer puts its fields together on the stack and asks for memory
 //! at most once, for the growth of the vector; where it is refused the vector is as before, and
-//! where the vector has the room no writer fails. The crate stands on `byteorder` and `memchr`
-//! alone.
+//! where the vector has the room no writer fails. The crate stands on `node_attr`, `byteorder`
+//! and `memchr` alone.
 #![tactic(auto)]
 
 mod body;
@@ -42,9 +42,10 @@ mod structures;
 pub use errno::Errno;
 pub use forget::{Forget, Forgets};
 pub use framing::{Framed, frame};
+pub use node_attr::Attr;
 pub use put::{
     dirent_size, put_attr, put_data, put_data_head, put_dirent, put_direntplus, put_entry,
     put_error, put_head, put_init, put_negative_entry, put_open, put_statfs,
 };
-pub use reply::{Attr, Dirent, InitOut};
+pub use reply::{Dirent, InitOut};
 pub use request::{Op, Request, glance};

@@ -1,23 +1,5 @@
 //! What replies say.
 
-/// A node's attributes as a reply has them (linux/fuse.h, `struct fuse_attr`), whoever knows them;
-/// the fields that are left out are the same in every reply.
-#[derive(Clone, Copy, Debug, PartialEq, Eq)]
-pub struct Attr {
-    /// The node's number.
-    pub ino: u64,
-    /// Bytes of data.
-    pub size: u64,
-    /// The same in blocks of 512 bytes, rounded up.
-    pub blocks: u64,
-    /// Type and permissions, as `st_mode` has them.
-    pub mode: u32,
-    /// How many names the node has.
-    pub nlink: u32,
-    /// A device's numbers, else 0.
-    pub rdev: u32,
-}
-
 /// A row of a directory (linux/fuse.h, `struct fuse_dirent`).
 #[derive(Clone, Copy, Debug)]
 pub struct Dirent<'a> {

@@ -107,6 +107,7 @@ fn children_left<T: Copy + Drop, A: Allocator + Copy>(
     if mark.value().opaque {
         return Ok(Vec::new(alloc));
     }
+    // named, so that the proof speaks of what is left, and not of a result that may be an error
     let left = kept_below(alloc, children, mark.children())?;
     Ok(left)
 }
@@ -139,6 +140,7 @@ fn entries_laid<A: Allocator + Copy>(
 {
     let unmarked = kept_inside(alloc, low, marks)?;
     let kept = kept_inside(alloc, unmarked, hidden)?;
+    // named for the proof, as in `children_left`
     let entries = cover(alloc, kept, high)?;
     Ok(entries)
 }
@@ -153,12 +155,14 @@ fn marks_laid<A: Allocator + Copy>(
     ensures { IfOk result (AreUnited low replaced high) }
 {
     let above = cover(alloc, replaced, high)?;
+    // the same
     let marks = cover(alloc, low, above)?;
     Ok(marks)
 }
 
 /// One tree laid on another. `hidden` are marks where the upper tree has a file and the lower one a
-/// directory or something below, `replaced` where the lower tree has the file.
+/// directory or something below, `replaced` where the lower tree has the file. What it does is said
+/// of the two trees alone; `lay` says what follows for any layers that these are the trees of.
 fn laid<A: Allocator + Copy>(alloc: A, low: Tree<A>, high: Tree<A>) -> Result<Tree<A>, AllocError>
     ensures { IfOk result (λ tree. Lays low high tree) }
 {

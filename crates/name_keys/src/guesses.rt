@@ -13,19 +13,19 @@ const PROBES: usize = 4;
 /// What stands where no row was noted.
 const NOWHERE: u32 = u32::MAX;
 
-/// Guesses of where the rows of directories stand among all rows, by what a directory's number and
-/// a name are mixed to.
+/// Guesses of where the rows of directories stand among all rows, by a hash of a directory's number
+/// and a name.
 ///
 /// The lower bits of a slot tell a row's place, as many of them as the last row takes; in the
-/// others stand bits of what its directory and name are mixed to, so that a slot that is another
-/// name's is mostly seen without a look at that row. Whoever is told a place looks whether the row
+/// others stand bits of the hash of its directory and name, so that a slot that is another name's
+/// is mostly seen without a look at that row. Whoever is told a place looks whether the row
 /// there has the name, so a guess that is wrong, or one that is not there, costs a search and
 /// nothing else. No more than 2^31 rows are noted.
 #[derive(Drop)]
 pub struct Guesses<A: Allocator> {
     slots: Vec<u32, A>,
     // The bits of a slot that tell a place.
-    places: u32,
+    place_mask: u32,
 }
 
 impl<A: Allocator> Guesses<A> {
@@ -35,7 +35,7 @@ impl<A: Allocator> Guesses<A> {
         let slots = vec![in alloc; NOWHERE; 2 << bits]?;
         Ok(Guesses {
             slots,
-            places: (1 << bits) - 1,
+            place_mask: (1 << bits) - 1,
         })
     }
 
@@ -48,13 +48,13 @@ impl<A: Allocator> Guesses<A> {
 
     // Notes where a row stands, unless all slots for it are taken.
     fn note(&mut self, directory: u64, name: &[u8], at: usize) {
-        if at > self.places as usize {
+        if at > self.place_mask as usize {
             return;
         }
-        let mixed = mixed(directory, name);
-        let noted = (mixed.tag & !self.places) | at as u32;
+        let hash = hashed(directory, name);
+        let noted = (hash.tag & !self.place_mask) | at as u32;
         for step in 0..PROBES {
-            let place = self.slot(mixed.first, step);
+            let place = self.slot(hash.first, step);
             match self.slots.get_mut(place) {
                 Some(slot) if *slot == NOWHERE => {
                     *slot = noted;
@@ -77,13 +77,13 @@ impl<A: Allocator> Guesses<A> {
         requires { Rise (map T.name rows.now) }
         ensures { MatchOption result ⊤ (λ at. place_of name.now (map T.name rows.now) ≡ Some at) }
     {
-        let mixed = mixed(directory, name);
+        let hash = hashed(directory, name);
         for step in 0..PROBES {
-            let slot = *self.slots.get(self.slot(mixed.first, step))?;
+            let slot = *self.slots.get(self.slot(hash.first, step))?;
             if slot == NOWHERE {
                 return None;
             }
-            if let Some(place) = self.place_in(slot, mixed.tag) {
+            if let Some(place) = self.place_in(slot, hash.tag) {
                 let at = place.wrapping_sub(start);
                 if at < rows.len() && rows[at].name() == name {
                     return Some(at);
@@ -96,13 +96,13 @@ impl<A: Allocator> Guesses<A> {
     /// The first place that is looked at for this name of a directory, among all rows; none where
     /// no row was noted for it.
     pub fn first(&self, directory: u64, name: &[u8]) -> Option<usize> {
-        let mixed = mixed(directory, name);
+        let hash = hashed(directory, name);
         for step in 0..PROBES {
-            let slot = *self.slots.get(self.slot(mixed.first, step))?;
+            let slot = *self.slots.get(self.slot(hash.first, step))?;
             if slot == NOWHERE {
                 return None;
             }
-            let place = self.place_in(slot, mixed.tag);
+            let place = self.place_in(slot, hash.tag);
             if place.is_some() {
                 return place;
             }
@@ -112,8 +112,8 @@ impl<A: Allocator> Guesses<A> {
 
     // The place that a slot tells, unless it is another name's by what stands beside it.
     fn place_in(&self, slot: u32, tag: u32) -> Option<usize> {
-        if (slot ^ tag) & !self.places == 0 {
-            Some((slot & self.places) as usize)
+        if (slot ^ tag) & !self.place_mask == 0 {
+            Some((slot & self.place_mask) as usize)
         } else {
             None
         }
@@ -137,32 +137,41 @@ fn bits_for(rows: usize) -> u32
     31
 }
 
-/// What a directory and a name are mixed to: where their first slot stands, before the number of
-/// slots is known, and the bits that may stand in it beside a place.
+// Odd numbers, so that a product with one tells as much as the word did, with bits that follow no
+// pattern, so that each bit of the word moves many higher ones: 2^64 by the golden ratio, two of
+// the last step of MurmurHash3, and one of degski's mixer. A look-up is right with any numbers.
+const GOLDEN: u64 = 0x9e37_79b9_7f4a_7c15;
+
+const FOR_FIRST: u64 = 0xff51_afd7_ed55_8ccd;
+
+const FOR_MIDDLE: u64 = 0xc4ce_b9fe_1a85_ec53;
+
+const FOR_LAST: u64 = 0xd6e8_feb8_6659_fd93;
+
+/// A hash of a directory and a name: where their first slot stands, before the number of slots is
+/// known, and the bits that may stand in it beside a place.
 #[derive(Clone, Copy)]
-struct Mix {
+struct Hash {
     first: usize,
     tag: u32,
 }
 
-/// What a directory and a name are mixed to. Names of up to 24 bytes are mixed as a whole, of
-/// others the first, the middle and the last eight bytes.
-fn mixed(directory: u64, name: &[u8]) -> Mix {
+/// The hash of a directory and a name. Of names of up to 24 bytes all are hashed, of others the
+/// first, the middle and the last eight bytes.
+fn hashed(directory: u64, name: &[u8]) -> Hash {
     let len = name.len();
-    let begun = directory
-        .wrapping_mul(0x9e37_79b9_7f4a_7c15)
-        .wrapping_add(len as u64);
+    let begun = directory.wrapping_mul(GOLDEN).wrapping_add(len as u64);
     let words = if len < 8 {
-        key_of(name).wrapping_mul(0xff51_afd7_ed55_8ccd)
+        key_of(name).wrapping_mul(FOR_FIRST)
     } else {
-        let first = word(name, 0).wrapping_mul(0xff51_afd7_ed55_8ccd);
-        let middle = word(name, (len - 8) / 2).wrapping_mul(0xc4ce_b9fe_1a85_ec53);
-        let last = word(name, len - 8).wrapping_mul(0xd6e8_feb8_6659_fd93);
+        let first = word(name, 0).wrapping_mul(FOR_FIRST);
+        let middle = word(name, (len - 8) / 2).wrapping_mul(FOR_MIDDLE);
+        let last = word(name, len - 8).wrapping_mul(FOR_LAST);
         first.wrapping_add(middle).wrapping_add(last)
     };
     let all = begun.wrapping_add(words);
-    let folded = (all ^ (all >> 32)).wrapping_mul(0x9e37_79b9_7f4a_7c15);
-    Mix {
+    let folded = (all ^ (all >> 32)).wrapping_mul(GOLDEN);
+    Hash {
         first: (folded >> 32) as usize,
         tag: (folded & 0xffff_ffff) as u32,
     }

@@ -116,50 +116,61 @@ names_rise tell (c ∷ cs) r (suc i) zero d l m = absurd (omega arith)
 names_rise tell (c ∷ cs) r (suc i) (suc j) d l m = names_rise tell cs r.1 i j d (omega arith) (omega arith)
 
 -- what the code reads of a branch: its entry, the header at its place, and where its data lie
-pub record ReadsBranch (layers : List (List ℕ)) (visit : Visit Entry) (entry : Entry) (head : Head) (part : Part) : Type 0 where
-  pub entry_is : entry ≡ visit.0.now.value
+pub record ReadsBranch (layers : List (List ℕ)) (visit : Visit Entry) : Type 0 where
+  pub entry : Entry
+  pub head : Head
+  pub part : Part
   pub image : List ℕ
+  pub entry_is : entry ≡ visit.0.now.value
   pub image_is : image ≡ get_or layers entry.place.layer image
   pub head_is : head ≡ head_of image entry.place.header
   pub data_is : IsDataPart image head.offset part
 
 -- it is known of what the calls give that read it
-pub reads_branch : (layers : List (List ℕ)) (visit : Visit Entry) (entry : Entry) (head : Head) (part : Part) (image : List ℕ)
+abbrev pub reads_branch : {layers : List (List ℕ)} {visit : Visit Entry} {entry : Entry} {head : Head} {part : Part} {image : List ℕ}
     → entry ≡ visit.0.now.value → image ≡ get_or layers entry.place.layer image → head ≡ head_of image entry.place.header
-    → IsDataPart image head.offset part → ReadsBranch layers visit entry head part
-reads_branch layers visit entry head part image entry_is image_is head_is data_is =
-    record { entry_is = entry_is; image = image; image_is = image_is; head_is = head_is; data_is = data_is }
+    → IsDataPart image head.offset part → ReadsBranch layers visit
+reads_branch entry_is image_is head_is data_is = record {
+  entry = _;
+  head = _;
+  part = _;
+  image = _;
+  entry_is = entry_is;
+  image_is = image_is;
+  head_is = head_is;
+  data_is = data_is;
+}
 
--- the node of a branch
-module _ (layers : List (List ℕ)) (tell : Place → ℕ) (visit : Visit Entry) (paths : ℕ) (entry : Entry) (head : Head) (part : Part)
-    (reads : ReadsBranch layers visit entry head part) (old new : Folders) (nlink at : ℕ) (stands : at ≡ length old.all) where
+-- the node of a branch, how often it is linked, and where its directory stands
+module _ {layers : List (List ℕ)} {visit : Visit Entry} (reads : ReadsBranch layers visit) (nlink at : ℕ) where
   abbrev node : Node
   node = record {
-    kind = entry.kind;
-    place = entry.place;
-    exec = head.exec;
-    part = part;
+    kind = reads.entry.kind;
+    place = reads.entry.place;
+    exec = reads.head.exec;
+    part = reads.part;
     mode = 0;
     nlink = nlink;
-    rdev = head.spec;
+    rdev = reads.head.spec;
     directory = at;
   }
 
-  read : IsReadFrom reads.image entry.place.header node
+  read : IsReadFrom reads.image reads.entry.place.header node
   read = record {
-    data_is = subst (λ (x : Head). IsDataPart reads.image x.offset part) reads.head_is reads.data_is;
+    data_is = subst (λ (x : Head). IsDataPart reads.image x.offset reads.part) reads.head_is reads.data_is;
     exec_is = ap (λ (x : Head). x.exec) reads.head_is;
     spec_is = ap (λ (x : Head). x.spec) reads.head_is;
   }
 
   -- what a header says, with what the branch's kind adds, is the node of the branch
-  pub made : AddsByKind tell visit paths (is_directory entry.kind) nlink old.all new.all old.rows new.rows old.keys new.keys
+  pub made : {tell : Place → ℕ} {paths : ℕ} (old new : Folders) → at ≡ length old.all
+      → AddsByKind tell visit paths (is_directory reads.entry.kind) nlink old.all new.all old.rows new.rows old.keys new.keys
       → AddsNode layers tell visit paths old.all new.all old.rows new.rows old.keys new.keys node
-  made adds = record {
+  made old new stands adds = record {
     kind_is = ap (λ (e : Entry). e.kind) reads.entry_is;
     place_is = ap (λ (e : Entry). e.place) reads.entry_is;
-    read = λ image at. subst (λ x. IsReadFrom x entry.place.header node)
-        (reads.image_is ∙ get_or_from_slice_get layers entry.place.layer image reads.image at) read;
+    read = λ image at. subst (λ x. IsReadFrom x reads.entry.place.header node)
+        (reads.image_is ∙ get_or_from_slice_get layers reads.entry.place.layer image reads.image at) read;
     directory_is = stands;
     adds = adds;
   }

@@ -55,8 +55,8 @@ sizes_agree Character n = refl
 sizes_agree Socket n = refl
 sizes_agree Fifo n = refl
 
-module _ (layers : List (List ℕ)) (entries : List Listed) (tell : Place → ℕ) (paths : ℕ) (visit : Visit Entry) (old new : Folders)
-    (node : Node) (made : IsMadeOfVisit layers entries tell paths visit old new node) where
+module _ {layers : List (List ℕ)} {entries : List Listed} {tell : Place → ℕ} {paths : ℕ} {visit : Visit Entry} {old new : Folders}
+    {node : Node} (made : IsMadeOfVisit layers entries tell paths visit old new node) where
   agrees : AgreesAtPlace layers entries tell paths visit
   agrees = made.agrees
 
@@ -177,40 +177,62 @@ module _ (layers : List (List ℕ)) (entries : List Listed) (tell : Place → �
     directory_is = λ is_one. holds_both.1 (sym directory_is ∙ is_one);
   }
 
--- the next first branch as the code reads it, at the place that is held for it: what it says agrees
--- with the listing, and the numbers of its parent and its children stand where they are looked for
-pub record IsNextFirst (layers : List (List ℕ)) (entries : List Listed) (tell : Place → ℕ) (numbers places sizes paths : List ℕ)
+-- the first branches of all places, as the walk and the numbering left them: the visits, each with its
+-- number, the place of the one above it and its size, and of each first branch where it stands among
+-- them and how many paths its place has. They agree with the listing
+pub record FirstBranches (layers : List (List ℕ)) (entries : List Listed) (tell : Place → ℕ) : Type 0 where
+  pub visits : List (Visit Entry)
+  pub numbers : List ℕ
+  pub above : List ℕ
+  pub sizes : List ℕ
+  pub first : List (Visit Entry)
+  pub starts : List ℕ
+  pub paths : List ℕ
+  pub agree : AgreeWithListing layers entries tell first paths
+  pub stand : StandAtStarts tell visits numbers above sizes first starts
+
+-- there is a first branch of this number, and it stands here among the visits
+pub record HasStart (starts : List ℕ) (i start : ℕ) : Type 0 where
+  pub more : i < length starts
+  pub held : start ≡ slice_index starts i
+
+-- one that is read of the same places is
+pub has_start : {starts seen : List ℕ} (i : ℕ) → seen ≡ starts → i < length seen → HasStart starts i (slice_index seen i)
+has_start i same more = record { more = omega (arith, ap length same, more); held = ap (λ xs. slice_index xs i) same }
+
+-- the first branch of a number as the code reads it, at the place that is held for it: what it says
+-- agrees with the listing, and the numbers of its parent and its children stand where they are looked for
+pub record IsNextFirst (layers : List (List ℕ)) (entries : List Listed) (tell : Place → ℕ) (all : FirstBranches layers entries tell)
     (i start : ℕ) (visit : Visit Entry) : Type 0 where
-  pub within : i < length paths
+  pub within : i < length all.paths
   pub placed : slice_get (nodes entries) i ≡ Some (visit_place visit)
-  pub agrees : AgreesAtPlace layers entries tell (slice_index paths i) visit
-  pub above : IsAbove tell numbers places start visit
-  pub children : HasChildrenAfter tell numbers sizes start visit
+  pub agrees : AgreesAtPlace layers entries tell (slice_index all.paths i) visit
+  pub above : IsAbove tell all.numbers all.above start visit
+  pub children : HasChildrenAfter tell all.numbers all.sizes start visit
 
-module _ (layers : List (List ℕ)) (entries : List Listed) (tell : Place → ℕ) (visits : List (Visit Entry)) (numbers places sizes : List ℕ)
-    (first : List (Visit Entry)) (starts paths : List ℕ) (agree : AgreeWithListing layers entries tell first paths)
-    (stand : StandAtStarts tell visits numbers places sizes first starts) (i start : ℕ) (more : i < length starts)
-    (held : start ≡ slice_index starts i) where
-  branch : (visit : Visit Entry) × (slice_get first i ≡ Some visit)
-  branch = element_below first i (let level = stand.level in omega arith)
+module _ {layers : List (List ℕ)} {entries : List Listed} {tell : Place → ℕ} (all : FirstBranches layers entries tell) {i start : ℕ}
+    (stands : HasStart all.starts i start) where
+  branch : (visit : Visit Entry) × (slice_get all.first i ≡ Some visit)
+  branch = element_below all.first i (let level = all.stand.level in let more = stands.more in omega arith)
 
-  there : slice_get visits start ≡ Some branch.0
-  there = subst (λ n. slice_get visits n ≡ Some branch.0) (sym held) (stand.there i branch.0 branch.1)
+  there : slice_get all.visits start ≡ Some branch.0
+  there = subst (λ n. slice_get all.visits n ≡ Some branch.0) (sym stands.held) (all.stand.there i branch.0 branch.1)
 
   -- the place that is held for a first branch is among the visits
-  pub start_within : start < length visits
-  start_within = slice_get_within visits start branch.0 there
+  pub start_within : start < length all.visits
+  start_within = slice_get_within all.visits start branch.0 there
 
   -- the visit that is read at that place is the next first branch
-  pub next_first : (visit : Visit Entry) → visit ≡ get_or visits start visit
-      → IsNextFirst layers entries tell numbers places sizes paths i start visit
-  next_first visit read = subst (IsNextFirst layers entries tell numbers places sizes paths i start)
-      (sym (read ∙ get_or_from_slice_get visits start branch.0 visit there)) (record {
-        within = (let level = stand.level in let counts = agree.level in omega arith);
-        placed = subst (λ ps. slice_get ps i ≡ Some (visit_place branch.0)) agree.places (get_map visit_place first i branch.0 branch.1);
-        agrees = agree.each i branch.0 branch.1;
-        above = subst (λ n. IsAbove tell numbers places n branch.0) (sym held) (stand.above i branch.0 branch.1);
-        children = subst (λ n. HasChildrenAfter tell numbers sizes n branch.0) (sym held) (stand.children i branch.0 branch.1);
+  pub next_first : (visit : Visit Entry) → visit ≡ get_or all.visits start visit → IsNextFirst layers entries tell all i start visit
+  next_first visit read = subst (IsNextFirst layers entries tell all i start)
+      (sym (read ∙ get_or_from_slice_get all.visits start branch.0 visit there)) (record {
+        within = (let level = all.stand.level in let counts = all.agree.level in let more = stands.more in omega arith);
+        placed = subst (λ ps. slice_get ps i ≡ Some (visit_place branch.0)) all.agree.places
+            (get_map visit_place all.first i branch.0 branch.1);
+        agrees = all.agree.each i branch.0 branch.1;
+        above = subst (λ n. IsAbove tell all.numbers all.above n branch.0) (sym stands.held) (all.stand.above i branch.0 branch.1);
+        children = subst (λ n. HasChildrenAfter tell all.numbers all.sizes n branch.0) (sym stands.held)
+            (all.stand.children i branch.0 branch.1);
       })
 
 -- before the first branch no node is made
@@ -223,29 +245,29 @@ nodes_begun layers entries made kept none no_rows no_keys = record {
 }
 
 -- with the node of the next first branch one node more is made
-pub node_made : (layers : List (List ℕ)) (entries : List Listed) (tell : Place → ℕ) (paths : ℕ) (visit : Visit Entry) (old new : Folders)
-    (node : Node) (before after : List Node) (i : ℕ) → IsMadeOfVisit layers entries tell paths visit old new node
+pub node_made : {layers : List (List ℕ)} {entries : List Listed} {tell : Place → ℕ} {paths : ℕ} {visit : Visit Entry} {old new : Folders}
+    {node : Node} {before after : List Node} (i : ℕ) → IsMadeOfVisit layers entries tell paths visit old new node
     → slice_get (nodes entries) i ≡ Some (visit_place visit) → Making layers entries before old i → after ≡ before ++ node ∷ []
     → Making layers entries after new (i + 1)
-node_made layers entries tell paths visit old new node before after i made place_is making pushed = record {
+node_made {layers} {entries} {tell} {paths} {visit} {old} {new} {node} {before} i made place_is making pushed = record {
   level = (let longer = ap length pushed in let level = making.level in omega (arith, length-append before (node ∷ [])));
-  keys_level = level_still layers entries tell paths visit old new node made;
+  keys_level = level_still made;
   each = λ k n p at there. elim (get_push before node k n (subst (λ x. slice_get x k ≡ Some n) pushed at)) [
-    | inl earlier ↦ stays layers entries tell paths visit old new node made (completed n) p (making.each k n p earlier there)
+    | inl earlier ↦ stays made (completed n) p (making.each k n p earlier there)
     | inr (last, same) ↦
         let z : Some p ≡ Some (visit_place visit) = sym there ∙ ap (slice_get (nodes entries)) (last ∙ making.level) ∙ place_is in
         let p_is : visit_place visit ≡ p = cc in
         subst (λ (x : Node). IsNode layers entries new.all new.rows new.keys (completed x) p) same
         (subst (IsNode layers entries new.all new.rows new.keys (completed node)) p_is
-        (is_node layers entries tell paths visit old new node made))
+        (is_node made))
   ];
 }
 
 -- past the last first branch all nodes are made
-pub nodes_ended : (layers : List (List ℕ)) (entries : List Listed) (tell : Place → ℕ) (first : List (Visit Entry)) (paths : List ℕ)
-    (agree : AgreeWithListing layers entries tell first paths) (made : List Node) (kept : Folders) (i : ℕ) → i ≡ length first
+pub nodes_ended : {layers : List (List ℕ)} {entries : List Listed} {tell : Place → ℕ} {first : List (Visit Entry)} {paths : List ℕ}
+    {made : List Node} {kept : Folders} {i : ℕ} → AgreeWithListing layers entries tell first paths → i ≡ length first
     → Making layers entries made kept i → AreMade layers made kept.all kept.rows kept.keys
-nodes_ended layers entries tell first paths agree made kept i all making = (
+nodes_ended {layers} {entries} {first = first} {made = made} {kept = kept} agree all making = (
   entries,
   agree.listing,
   record {

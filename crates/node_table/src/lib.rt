@@ -21,4 +21,4 @@ mod numbering;
 mod walk;
 
 pub use making::OfTree;
-pub use stack_table::{Kind, Node, NodeAttr, Place, Row, Table};
+pub use stack_table::{Attr, Kind, Node, Place, Row, Table};

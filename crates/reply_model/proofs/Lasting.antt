@@ -17,13 +17,12 @@ use Rattle.fuse_wire.specs.Structures.{u16, u32, u64, zeros, errno_number, has_e
 use Rattle.fuse_wire.specs.Replies.{reply_head, reply_with, error_reply}
 use Rattle.stack_model.specs.Listing.{Entry}
 use Rattle.stack_model.specs.Numbers.{Place, node_of}
-use Rattle.stack_model.specs.Attributes.{is_directory, kind_at}
+use Rattle.stack_model.specs.Attributes.{is_directory, kind_at, attr_of}
 use Rattle.reply_model.specs.declared.session.Agreement.{Agreement}
 use Rattle.reply_model.specs.declared.session.Session.{Session}
 use Rattle.reply_model.specs.declared.session.Session.TheVariants.{Fresh, Ready, LastingFresh, LastingReady}
 use Rattle.reply_model.specs.Sessions.{session_after, agreement_of, is_spoken}
 use Rattle.reply_model.specs.Lookups.{is_itself, looked_up}
-use Rattle.reply_model.specs.Rows.{reply_attr}
 use Rattle.reply_model.specs.Services.{refuse_if, unless_regular, opendir_flags, give}
 use Rattle.reply_model.specs.Refusals.{first_refusal, refused_at}
 use Rattle.reply_model.specs.Replies.{answer_at, reply}
@@ -142,7 +141,7 @@ module _ (layers : List (List ℕ)) (entries : List Entry) where
   abbrev looked : ℕ → Bool → Bool → Bool → Bool → Option Place → List ℕ
   looked unique lasting itself directory long found =
       option_map_or (error_reply unique) (sought lasting itself directory long found)
-      (reply_with unique (option_map_or (λ c. entry_out (reply_attr layers entries c)) found negative_entry_out))
+      (reply_with unique (option_map_or (λ c. entry_out (attr_of layers entries c)) found negative_entry_out))
 
   looked_lasts : (unique : ℕ) (itself directory long : Bool) (found : Option Place)
       → Becomes (error_reply unique ENOENT) (reply_with unique negative_entry_out)

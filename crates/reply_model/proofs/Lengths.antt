@@ -29,14 +29,14 @@ use Rattle.fuse_wire.specs.Structures.{u32, u64, init_out, entry_out, negative_e
 use Rattle.fuse_wire.specs.Replies.{reply_with, error_reply}
 use Rattle.stack_model.specs.Listing.{Entry, IsListing}
 use Rattle.stack_model.specs.Numbers.{Place, nodes, node_of}
-use Rattle.stack_model.specs.Attributes.{blocks_all, kind_at, size_at, layer_of, data_of}
+use Rattle.stack_model.specs.Attributes.{blocks_all, kind_at, size_at, layer_of, data_of, attr_of}
 use Rattle.stack_model.proofs.Listings.{IsLedTo, led_to}
 use Rattle.stack_model.proofs.Numbering.{number_listed}
 use Rattle.reply_model.specs.declared.session.Agreement.{Agreement}
 use Rattle.reply_model.specs.declared.session.Session.{Session}
 use Rattle.reply_model.specs.Sessions.{agreement_of}
 use Rattle.reply_model.specs.Lookups.{looked_up}
-use Rattle.reply_model.specs.Rows.{Row, reply_attr, dirent_of, direntplus_of, fitting}
+use Rattle.reply_model.specs.Rows.{Row, dirent_of, direntplus_of, fitting}
 use Rattle.reply_model.specs.Services.{unless_link, is_too_large, refused_rows, opendir_flags, service}
 use Rattle.reply_model.specs.Refusals.{refused_by_itself, refused_at, refusal}
 use Rattle.reply_model.specs.Replies.{is_silent, answer_at, answer, reply}
@@ -127,11 +127,11 @@ module _ (bs : List (List ℕ)) (entries : List Entry) (sound : All IsSound bs) 
       → length (answer_at layers entries x op p) ≤ MAX_DATA_SIZE
   short_at x node (lookup name) p e r = found (looked_up entries x.export p name)
     where
-      found : (o : Option Place) → length (option_map_or (λ c. entry_out (reply_attr layers entries c)) o negative_entry_out)
+      found : (o : Option Place) → length (option_map_or (λ c. entry_out (attr_of layers entries c)) o negative_entry_out)
           ≤ MAX_DATA_SIZE
       found None = let l = length-negative_entry_out in omega arith
-      found (Some c) = let l = length-entry_out (reply_attr layers entries c) in omega arith
-  short_at x node getattr p e r = let l = length-attr_out (reply_attr layers entries p) in omega arith
+      found (Some c) = let l = length-entry_out (attr_of layers entries c) in omega arith
+  short_at x node getattr p e r = let l = length-attr_out (attr_of layers entries p) in omega arith
   short_at x node readlink p e r = let l = short_link node p e (is_link _ (by_kind x readlink p r)) in omega arith
   short_at x node (open_file flags) p e r = let l = length-open_out 2 in omega arith
   short_at x node opendir p e r = let l = length-open_out (opendir_flags x.lasting) in omega arith

@@ -10,9 +10,8 @@ use Rattle.romfs_format.specs.declared.head.Kind.TheVariants.{HardLink, Director
 use Rattle.romfs_format.specs.Fields.{word, exec, size, spec}
 use Rattle.stack_model.specs.Listing.{Entry}
 use Rattle.stack_model.specs.Numbers.{Place, nodes, number_of, number}
-use Rattle.stack_model.specs.Attributes.{mode_of, size_of, device, rdev_of, layer_of, kind_at}
+use Rattle.stack_model.specs.Attributes.{mode_of, size_of, device, rdev_of, layer_of, kind_at, attr_of}
 use Rattle.stack_model.proofs.Numbering.{number_used, numbers_all}
-use Rattle.reply_model.specs.Rows.{reply_attr}
 use Rattle.reply_model.specs.Laws.{AreLayersOfBytes, FitsFields}
 
 mode_fits : (k : Kind) (b : Bool) → mode_of k b < 2 ^ 32
@@ -58,7 +57,7 @@ word_fits a p b =
 
 -- over layers of bytes, the attributes of a place fit their fields, but for its number
 pub attributes_fit : (layers : List (List ℕ)) (entries : List Entry) (p : Place) → AreLayersOfBytes layers
-    → FitsFields (reply_attr layers entries p)
+    → FitsFields (attr_of layers entries p)
 attributes_fit layers entries p b =
     let a = layer_of layers p in
     let s = size_fits (kind_at layers p) (size a p.1) (word_fits a (p.1 + 8) (b.each p.0)) in

@@ -2,14 +2,15 @@
 use Rattle.std.specs.Prelude.{◌≡◌, ℕ, ◌⊎◌, ◌+◌, ◌<◌, ◌≤◌, List, [], ◌∷◌, ◌++◌, length, map, filter, take, slice_get, slice_index, slice_index_or, ◌^◌, Some, Bool, true, false}
 use Rattle.std.specs.List.{flat_map}
 use Rattle.fuse_wire.specs.declared.errno.Errno.{Errno}
-use Rattle.fuse_wire.specs.declared.reply.Attr.{Attr}
+use Rattle.node_attr.specs.declared.attr.Attr.{Attr}
 use Rattle.fuse_wire.specs.Requests.{Op, Asked, at_node, lookup, readdirplus, silent, forget, batch_forget}
 use Rattle.fuse_wire.specs.Structures.{u32, u64, entry_out, negative_entry_out}
 use Rattle.fuse_wire.specs.Replies.{reply_with, error_reply}
 use Rattle.stack_model.specs.Listing.{Entry}
 use Rattle.stack_model.specs.Numbers.{Place}
 use Rattle.reply_model.specs.declared.session.Session.{Session}
-use Rattle.reply_model.specs.Rows.{Row, is_child, reply_attr, direntplus_of}
+use Rattle.stack_model.specs.Attributes.{attr_of}
+use Rattle.reply_model.specs.Rows.{Row, is_child, direntplus_of}
 use Rattle.reply_model.specs.Replies.{reply}
 use Rattle.reply_model.specs.Services.{give}
 use Rattle.reply_model.specs.Moves.{moves}
@@ -39,7 +40,7 @@ module _ (layers : List (List ℕ)) (entries : List Entry) where
   abbrev pub IsEntry : Session → Asked → Type 0
   IsEntry s q =
       (p : Place)
-      × (reply layers entries s q ≡ reply_with q.unique (entry_out (reply_attr layers entries p)))
+      × (reply layers entries s q ≡ reply_with q.unique (entry_out (attr_of layers entries p)))
       × (moves layers entries s q ≡ give layers entries p ∷ [])
 
   -- it is answered that the name is none, and gives nothing

@@ -1,12 +1,10 @@
--- Attributes as linux/fuse.h has them, and the rows of directories (readdir(3): . and .. come
--- first).
+-- The rows of directories as linux/fuse.h has them (readdir(3): . and .. come first).
 use Rattle.std.specs.Prelude.{ℕ, ◌-◌, ◌/◌, ◌^◌, List, [], ◌∷◌, length, drop, Bool, false, nat_lt, nat_le, Some, None, if◌then◌else◌, codes}
 use Rattle.std.specs.List.{enumerate_from}
-use Rattle.fuse_wire.specs.declared.reply.Attr.{Attr}
 use Rattle.fuse_wire.specs.Structures.{dirent, direntplus}
 use Rattle.stack_model.specs.Listing.{Entry}
 use Rattle.stack_model.specs.Numbers.{Place, Child, number, parent, children}
-use Rattle.stack_model.specs.Attributes.{mode, size_at, blocks_of, nlink, rdev}
+use Rattle.stack_model.specs.Attributes.{mode, attr_of}
 
 -- a row: its place in its directory, counted from 1, and its name with the place of its node
 abbrev pub Row : Type 0
@@ -43,17 +41,6 @@ abbrev pub rows_answered : List Entry → (Row → List ℕ) → Place → ℕ �
 rows_answered entries form p offset size = fitting form size (rows_after entries p offset)
 
 module _ (layers : List (List ℕ)) (entries : List Entry) where
-  -- the attributes of a place, as a reply has them
-  abbrev pub reply_attr : Place → Attr
-  reply_attr p = record {
-    ino = number entries p;
-    size = size_at layers p;
-    blocks = blocks_of (size_at layers p);
-    mode = mode layers p;
-    nlink = nlink layers entries p;
-    rdev = rdev layers p;
-  }
-
   -- a row as READDIR gives it: off is its place, and its type the upper bits of the node's mode
   unfoldable pub dirent_of : Row → List ℕ
   dirent_of r = dirent (number entries r.1.place) r.0 (mode layers r.1.place / 2 ^ 12) r.1.name
@@ -61,5 +48,5 @@ module _ (layers : List (List ℕ)) (entries : List Entry) where
   -- the same as READDIRPLUS gives it, with the node's entry; . and .. have none
   unfoldable pub direntplus_of : Row → List ℕ
   direntplus_of r =
-      direntplus (if is_child r then Some (reply_attr r.1.place) else None)
+      direntplus (if is_child r then Some (attr_of layers entries r.1.place) else None)
       (number entries r.1.place) r.0 (mode layers r.1.place / 2 ^ 12) r.1.name

@@ -12,11 +12,11 @@ use Rattle.fuse_wire.specs.Requests.{NodeOp, lookup, getattr, readlink, open_fil
 use Rattle.fuse_wire.specs.Structures.{entry_out, negative_entry_out, attr_out, open_out}
 use Rattle.stack_model.specs.Listing.{Entry}
 use Rattle.stack_model.specs.Numbers.{Place, number}
-use Rattle.stack_model.specs.Attributes.{is_directory, data_of}
+use Rattle.stack_model.specs.Attributes.{is_directory, data_of, attr_of}
 use Rattle.reply_model.specs.declared.moves.Move.{Move}
 use Rattle.reply_model.specs.declared.session.Agreement.{Agreement}
 use Rattle.reply_model.specs.Lookups.{is_itself, looked_up}
-use Rattle.reply_model.specs.Rows.{Row, is_child, reply_attr, is_too_small, rows_after, rows_answered, dirent_of, direntplus_of}
+use Rattle.reply_model.specs.Rows.{Row, is_child, is_too_small, rows_after, rows_answered, dirent_of, direntplus_of}
 
 -- this error, if something is wrong
 abbrev pub refuse_if : Bool → Errno → Option Errno
@@ -90,11 +90,11 @@ module _ (layers : List (List ℕ)) (entries : List Entry) where
         else refuse_if
         (is_none (looked_up entries agreed.export p name) && not agreed.lasting) ENOENT;
     answer = λ p.
-        option_map_or (λ c. entry_out (reply_attr layers entries c))
+        option_map_or (λ c. entry_out (attr_of layers entries c))
         (looked_up entries agreed.export p name) negative_entry_out;
     gives = λ p. map give (option_to_list (looked_up entries agreed.export p name));
   }
-  service agreed getattr = tells of_any_kind (λ p. attr_out (reply_attr layers entries p))
+  service agreed getattr = tells of_any_kind (λ p. attr_out (attr_of layers entries p))
   service agreed readlink = tells unless_link (λ p. data_of layers p)
   service agreed (open_file flags) =
       record (tells unless_regular (λ p. open_out FOPEN_KEEP_CACHE)) {

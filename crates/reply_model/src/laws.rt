@@ -17,7 +17,8 @@ ghost use Rattle.reply_model.specs.Moves.{moves, balance};
 ghost use Rattle.reply_model.specs.Streams.{session_at, replies_by, moves_by, balance_after};
 ghost use Rattle.reply_model.specs.Laws.{IsReplyTo, AreFirstThatFit, GivesEntry, GivesRows, is_moving, AreLayersOfBytes, FitsFields};
 ghost use Rattle.stack_model.specs.Numbers.{Place, nodes, number};
-ghost use Rattle.reply_model.specs.Rows.{Row, fitting, reply_attr};
+ghost use Rattle.stack_model.specs.Attributes.{attr_of};
+ghost use Rattle.reply_model.specs.Rows.{Row, fitting};
 
 /// A reply is empty, or it begins with its own length, as a word of 32 bits, and carries its
 /// request's unique.
@@ -113,7 +114,7 @@ pub fn lasting_replies_differ_in_four_ways()
 #[tactic(auto, using(crate::proofs::Widths::attributes_fit, crate::proofs::Widths::numbers_fit))]
 pub fn attributes_fit_their_fields()
     ensures fields { (layers : List (List ℕ)) (entries : List Entry) (p : Place) →
-        AreLayersOfBytes layers → FitsFields (reply_attr layers entries p) }
+        AreLayersOfBytes layers → FitsFields (attr_of layers entries p) }
     ensures numbers { (entries : List Entry) (p : Place) →
         number entries p ≤ length (nodes entries) }
 {}

@@ -16,14 +16,14 @@ use Rattle.fuse_wire.specs.Stream.{IsMessage, field}
 use Rattle.fuse_wire.proofs.Sizes.{length-direntplus}
 use Rattle.stack_model.specs.Listing.{Entry}
 use Rattle.stack_model.specs.Numbers.{Place, number, node_of}
-use Rattle.stack_model.specs.Attributes.{mode}
+use Rattle.stack_model.specs.Attributes.{mode, attr_of}
 use Rattle.reply_model.specs.declared.moves.Move.{Move}
 use Rattle.reply_model.specs.declared.session.Agreement.{Agreement}
 use Rattle.reply_model.specs.declared.session.Session.{Session}
 use Rattle.reply_model.specs.Sessions.{agreement_of}
 use Rattle.reply_model.specs.Lookups.{looked_up}
 use Rattle.reply_model.specs.Refusals.{refusal}
-use Rattle.reply_model.specs.Rows.{Row, is_child, reply_attr, fitting, direntplus_of, rows_after}
+use Rattle.reply_model.specs.Rows.{Row, is_child, fitting, direntplus_of, rows_after}
 use Rattle.reply_model.specs.Services.{give}
 use Rattle.reply_model.specs.Moves.{take_back, gives_at, moved, moves}
 use Rattle.lookup_balances.specs.Balances.{IsLight, weight}
@@ -198,7 +198,7 @@ module _ (layers : List (List ℕ)) (entries : List Entry) where
   pub row_some : (r : Row) → 1 ≤ length (direntplus_of layers entries r)
   unfolding direntplus_of
   row_some r =
-      let entry = if is_child r then Some (reply_attr layers entries r.1.place) else None in
+      let entry = if is_child r then Some (attr_of layers entries r.1.place) else None in
       let l = length-direntplus entry (number entries r.1.place) r.0 (mode layers r.1.place / 2 ^ 12) r.1.name in
       omega arith
 

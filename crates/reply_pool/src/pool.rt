@@ -86,14 +86,6 @@ impl<'r, A: Allocator, G: Gate> AnswersOne for OneRound<'r, A, G> {
 
     ghost nodes = { λ round. length (nodes round.table.now.entries) };
 
-    fn first(&self) -> Session {
-        self.first
-    }
-
-    fn nodes(&self) -> u64 {
-        self.table.len()
-    }
-
     fn answer<B: Allocator>(
         &self,
         number: u32,

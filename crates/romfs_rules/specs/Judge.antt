@@ -4,7 +4,8 @@ use Rattle.romfs_format.specs.declared.rule.Rule.{Rule}
 use Rattle.romfs_format.specs.declared.rule.Rule.TheVariants.{TooDeep}
 use Rattle.romfs_format.specs.declared.rule.Profile.{Profile}
 use Rattle.romfs_format.specs.declared.rule.ImageFault.{ImageFault}
-use Rattle.romfs_format.specs.Rules.{BreaksHeader, BreaksHeaderAs, rule_number, IsNamedBefore}
+use Rattle.romfs_format.specs.Fields.{image}
+use Rattle.romfs_format.specs.Rules.{BreaksHeader, BreaksHeaderAs, rule_number, IsNamedBefore, IsVolume, IsFaultOfAs}
 use Rattle.romfs_rules.specs.Marks.{HasSlot}
 use Rattle.romfs_rules.specs.Outside.{IsLeast}
 
@@ -65,3 +66,8 @@ IsHeaderFault profile a fault =
 -- the least header that is too deep, where no header breaks another rule
 abbrev pub IsDeepFault : List ℕ → Option ImageFault → Option ℕ → Type 0
 IsDeepFault a fault deep = IsNone fault → IsLeast (BreaksHeader a TooDeep) deep
+
+-- the fault of all bytes of which these are the accessible ones, and that keep the volume rules
+abbrev pub IsFaultBehindVolume : Profile → List ℕ → Option ImageFault → Type 0
+IsFaultBehindVolume profile a fault =
+    (b : List ℕ) → image b ≡ a → IsVolume b → IsFaultOfAs profile b fault

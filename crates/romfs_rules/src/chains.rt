@@ -29,14 +29,14 @@ pub(crate) struct Chains<A: Allocator> {
 }
 
 // Marks the headers of the root's chain, up to one that lies outside or comes again.
-fn mark_root_chain<A: Allocator + Copy>(alloc: A, image: &Volume) -> Result<SlotSet<A>, AllocError>
-    ensures { IfOk result (AreInRootChain image.now.bytes.now) }
+fn mark_root_chain<A: Allocator + Copy>(alloc: A, volume: &Volume) -> Result<SlotSet<A>, AllocError>
+    ensures { IfOk result (AreInRootChain volume.now.bytes.now) }
 {
-    let mut marks = SlotSet::new(alloc, image.bytes.len() / 16)?;
-    let mut at = cleared(word(image.bytes, image.root + 4)) as usize;
-    while is_fresh(image, at, &marks) {
+    let mut marks = SlotSet::new(alloc, volume.bytes.len() / 16)?;
+    let mut at = cleared(word(volume.bytes, volume.root + 4)) as usize;
+    while is_fresh(volume, at, &marks) {
         marks.insert(at / 16);
-        at = cleared(word(image.bytes, at)) as usize;
+        at = cleared(word(volume.bytes, at)) as usize;
     }
     Ok(marks)
 }
@@ -54,50 +54,54 @@ fn push_some<A: Allocator>(todo: &mut Vec<u32, A>, word: Option<u32>) -> Result<
 // The first headers of the root's own directories.
 fn seeds<A: Allocator + Copy>(
     alloc: A,
-    image: &Volume,
+    volume: &Volume,
     root_chain: &SlotSet<A>,
 ) -> Result<Vec<u32, A>, AllocError>
-    requires root_chain { AreInRootChain image.now.bytes.now root_chain.now }
-    ensures { IfOk result (λ todo. AreStarts image.now.bytes.now todo.items) }
+    requires root_chain { AreInRootChain volume.now.bytes.now root_chain.now }
+    ensures { IfOk result (λ todo. AreStarts volume.now.bytes.now todo.items) }
 {
     let mut todo = Vec::new(alloc);
     let mut from = 0;
     while let Some(slot) = root_chain.next_from(from) {
-        push_some(&mut todo, first_below(image, slot * 16))?;
+        push_some(&mut todo, first_below(volume, slot * 16))?;
         from = slot + 1;
     }
     Ok(todo)
 }
 
 // Adds what a header leads on to.
-fn follow<A: Allocator>(image: &Volume, at: usize, todo: &mut Vec<u32, A>) -> Result<(), AllocError>
-    requires inside { IsInside image.now.bytes.now at }
+fn follow<A: Allocator>(
+    volume: &Volume,
+    at: usize,
+    todo: &mut Vec<u32, A>,
+) -> Result<(), AllocError>
+    requires inside { IsInside volume.now.bytes.now at }
     ensures { IfOk result
-        (λ _. Adds (LeadsOn image.now.bytes.now at) todo.old.items todo.new.items) }
+        (λ _. Adds (LeadsOn volume.now.bytes.now at) todo.old.items todo.new.items) }
 {
-    push_some(todo, next_of(image, at))?;
-    push_some(todo, first_below(image, at))?;
+    push_some(todo, next_of(volume, at))?;
+    push_some(todo, first_below(volume, at))?;
     Ok(())
 }
 
 // Marks the headers of the chains of all opened directories but the root.
 fn mark_elsewhere<A: Allocator + Copy>(
     alloc: A,
-    image: &Volume,
+    volume: &Volume,
     root_chain: &SlotSet<A>,
 ) -> Result<SlotSet<A>, AllocError>
-    requires root_chain { AreInRootChain image.now.bytes.now root_chain.now }
-    ensures { IfOk result (AreElsewhere image.now.bytes.now) }
+    requires root_chain { AreInRootChain volume.now.bytes.now root_chain.now }
+    ensures { IfOk result (AreElsewhere volume.now.bytes.now) }
 {
-    let mut marks = SlotSet::new(alloc, image.bytes.len() / 16)?;
-    let mut todo = seeds(alloc, image, root_chain)?;
+    let mut marks = SlotSet::new(alloc, volume.bytes.len() / 16)?;
+    let mut todo = seeds(alloc, volume, root_chain)?;
     while let Some(word) = todo.pop() {
         let at = word as usize;
-        if !is_fresh(image, at, &marks) {
+        if !is_fresh(volume, at, &marks) {
             continue;
         }
         marks.insert(at / 16);
-        follow(image, at, &mut todo)?;
+        follow(volume, at, &mut todo)?;
     }
     Ok(marks)
 }
@@ -105,13 +109,13 @@ fn mark_elsewhere<A: Allocator + Copy>(
 /// Finds the headers in the chains of all opened directories.
 pub(crate) fn find_chains<A: Allocator + Copy>(
     alloc: A,
-    image: &Volume,
+    volume: &Volume,
 ) -> Result<Chains<A>, AllocError>
-    ensures { IfOk result (AreChains image.now.bytes.now) }
+    ensures { IfOk result (AreChains volume.now.bytes.now) }
 {
-    let root_chain = mark_root_chain(alloc, image)?;
-    let mut headers = mark_elsewhere(alloc, image, &root_chain)?;
-    let root_elsewhere = headers.contains(image.root / 16);
+    let root_chain = mark_root_chain(alloc, volume)?;
+    let mut headers = mark_elsewhere(alloc, volume, &root_chain)?;
+    let root_elsewhere = headers.contains(volume.root / 16);
     headers.add_all(&root_chain);
     Ok(Chains {
         headers,

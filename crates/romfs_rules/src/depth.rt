@@ -45,36 +45,36 @@ fn push_some<A: Allocator>(
 // Adds what a header leads to.
 #[tactic(auto, using(crate::proofs::Descent::led))]
 fn follow<A: Allocator>(
-    image: &Volume,
+    volume: &Volume,
     from: Waiting,
     todo: &mut Vec<Waiting, A>,
 ) -> Result<(), AllocError>
-    requires inside { IsInside image.now.bytes.now from.header }
+    requires inside { IsInside volume.now.bytes.now from.header }
     requires names { from.names + 1 < 2 ^ 32 }
     ensures { IfOk result
-        (λ _. Adds (LeadsDown image.now.bytes.now from) todo.old.items todo.new.items) }
+        (λ _. Adds (LeadsDown volume.now.bytes.now from) todo.old.items todo.new.items) }
 {
     let at = from.header as usize;
-    push_some(todo, next_of(image, at), from.names)?;
-    push_some(todo, first_below(image, at), from.names + 1)?;
+    push_some(todo, next_of(volume, at), from.names)?;
+    push_some(todo, first_below(volume, at), from.names + 1)?;
     Ok(())
 }
 
 // Whether a header is a member, and its path has too many names.
-fn is_too_deep(image: &Volume, at: Waiting) -> bool
-    requires inside { IsInside image.now.bytes.now at.header }
-    ensures { IsTrue result ↔ IsTooDeep image.now.bytes.now at }
+fn is_too_deep(volume: &Volume, at: Waiting) -> bool
+    requires inside { IsInside volume.now.bytes.now at.header }
+    ensures { IsTrue result ↔ IsTooDeep volume.now.bytes.now at }
 {
     let place = at.header as usize;
-    at.names >= u32::from(MAX_NAMES) && place != image.root && !is_dotted(image, place)
+    at.names >= u32::from(MAX_NAMES) && place != volume.root && !is_dotted(volume, place)
 }
 
 // The least header that is too deep, with one header more than before.
-fn note(image: &Volume, deep: Option<u32>, at: Waiting) -> Option<u32>
-    requires inside { IsInside image.now.bytes.now at.header }
-    ensures { Notes image.now.bytes.now at deep result }
+fn note(volume: &Volume, deep: Option<u32>, at: Waiting) -> Option<u32>
+    requires inside { IsInside volume.now.bytes.now at.header }
+    ensures { Notes volume.now.bytes.now at deep result }
 {
-    if !is_too_deep(image, at) {
+    if !is_too_deep(volume, at) {
         return deep;
     }
     match deep {
@@ -87,21 +87,21 @@ fn note(image: &Volume, deep: Option<u32>, at: Waiting) -> Option<u32>
 /// rule.
 pub(crate) fn find_deep<A: Allocator + Copy>(
     alloc: A,
-    image: &Volume,
+    volume: &Volume,
 ) -> Result<Option<u32>, AllocError>
-    requires keeps { KeepsAllHeaderRules Usual image.now.bytes.now }
-    ensures { IfOk result (λ deep. IsLeast (BreaksHeader image.now.bytes.now Rule.TooDeep) deep) }
+    requires keeps { KeepsAllHeaderRules Usual volume.now.bytes.now }
+    ensures { IfOk result (λ deep. IsLeast (BreaksHeader volume.now.bytes.now Rule.TooDeep) deep) }
 {
-    let mut marks = SlotSet::new(alloc, image.bytes.len() / 16)?;
+    let mut marks = SlotSet::new(alloc, volume.bytes.len() / 16)?;
     let mut todo = Vec::new(alloc);
-    push_some(&mut todo, first_of(image, image.root), 0)?;
+    push_some(&mut todo, first_of(volume, volume.root), 0)?;
     let mut deep = None;
     while let Some(next) = todo.pop() {
         let at = next.header as usize;
-        if is_fresh(image, at, &marks) {
+        if is_fresh(volume, at, &marks) {
             marks.insert(at / 16);
-            deep = note(image, deep, next);
-            follow(image, next, &mut todo)?;
+            deep = note(volume, deep, next);
+            follow(volume, next, &mut todo)?;
         }
     }
     Ok(deep)

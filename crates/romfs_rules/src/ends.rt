@@ -43,36 +43,36 @@ impl<'s, A: Allocator> Ends<'s, A> {
     }
 
     /// Where the chain of a member ends that is a hard link.
-    pub(crate) fn of_member(&self, image: &Volume, at: usize) -> End
-        requires ends { AreWalkedEnds image.now.bytes.now self.now.walks self.now.ends.items }
-        requires member { IsSomeMember image.now.bytes.now at }
-        requires hard { IsHardLink image.now.bytes.now at }
-        ensures { EndsAs image.now.bytes.now at result }
+    pub(crate) fn of_member(&self, volume: &Volume, at: usize) -> End
+        requires ends { AreWalkedEnds volume.now.bytes.now self.now.walks self.now.ends.items }
+        requires member { IsSomeMember volume.now.bytes.now at }
+        requires hard { IsHardLink volume.now.bytes.now at }
+        ensures { EndsAs volume.now.bytes.now at result }
     {
-        let to = cleared(word(image.bytes, at + 4)) as usize;
-        if is_hard_link(image, to) {
+        let to = cleared(word(volume.bytes, at + 4)) as usize;
+        if is_hard_link(volume, to) {
             self.at(to)
         } else {
-            end_at(image, to)
+            end_at(volume, to)
         }
     }
 }
 
 // Whether a header lies in the image and is a directory.
-fn is_directory(image: &Volume, at: usize) -> bool
+fn is_directory(volume: &Volume, at: usize) -> bool
     requires at { at < 2 ^ 32 }
-    ensures { IsTrue result ↔ IsDirectory image.now.bytes.now at }
+    ensures { IsTrue result ↔ IsDirectory volume.now.bytes.now at }
 {
-    is_inside(image, at) && kind_of(word(image.bytes, at)) == Kind::Directory
+    is_inside(volume, at) && kind_of(word(volume.bytes, at)) == Kind::Directory
 }
 
 // Where a chain ends at a header that is no hard link.
-fn end_at(image: &Volume, at: usize) -> End
+fn end_at(volume: &Volume, at: usize) -> End
     requires at { at < 2 ^ 32 }
-    requires last { ¬ IsHardLink image.now.bytes.now at }
-    ensures { EndsAs image.now.bytes.now at result }
+    requires last { ¬ IsHardLink volume.now.bytes.now at }
+    ensures { EndsAs volume.now.bytes.now at result }
 {
-    if is_directory(image, at) {
+    if is_directory(volume, at) {
         End::AtDirectory
     } else {
         End::AtOther
@@ -81,22 +81,22 @@ fn end_at(image: &Volume, at: usize) -> End
 
 // Where the chain of a hard link ends. Marks each hard link on the way with the number of this
 // walk, up to one that an earlier walk passed.
-fn end_of<A: Allocator>(image: &Volume, from: usize, walks: &mut SlotWords<A>, ends: &[End]) -> End
+fn end_of<A: Allocator>(volume: &Volume, from: usize, walks: &mut SlotWords<A>, ends: &[End]) -> End
     requires aligned { cleared from ≡ from }
-    requires hard { IsHardLink image.now.bytes.now from }
-    requires target { IsTarget image.now.bytes.now from }
-    requires targets { AreTargets image.now.bytes.now walks.old.slots }
-    requires sized { length walks.old.by_slot ≡ length image.now.bytes.now / 16 }
+    requires hard { IsHardLink volume.now.bytes.now from }
+    requires target { IsTarget volume.now.bytes.now from }
+    requires targets { AreTargets volume.now.bytes.now walks.old.slots }
+    requires sized { length walks.old.by_slot ≡ length volume.now.bytes.now / 16 }
     requires few { length ends.now + 1 < 2 ^ 32 }
-    requires known { HasEnds image.now.bytes.now walks.old.by_slot ends.now }
-    ensures end { EndsAs image.now.bytes.now from result }
-    ensures known { HasEnds image.now.bytes.now walks.new.by_slot (ends.now ++ result ∷ []) }
+    requires known { HasEnds volume.now.bytes.now walks.old.by_slot ends.now }
+    ensures end { EndsAs volume.now.bytes.now from result }
+    ensures known { HasEnds volume.now.bytes.now walks.new.by_slot (ends.now ++ result ∷ []) }
     ensures passes { Passes from walks.old.by_slot walks.new.by_slot }
     ensures same { walks.new.slots ≡ walks.old.slots }
 {
     let mine = ends.len() as u32 + 1;
     let mut at = from;
-    while is_hard_link(image, at) {
+    while is_hard_link(volume, at) {
         let walk = walks.at(at / 16);
         if walk == mine {
             return End::Nowhere;
@@ -105,36 +105,36 @@ fn end_of<A: Allocator>(image: &Volume, from: usize, walks: &mut SlotWords<A>, e
             return ends[walk as usize - 1];
         }
         walks.put(at / 16, mine);
-        at = cleared(word(image.bytes, at + 4)) as usize;
+        at = cleared(word(volume.bytes, at + 4)) as usize;
     }
-    end_at(image, at)
+    end_at(volume, at)
 }
 
 // Whether a slot holds a hard link that no walk passed.
-fn is_left<A: Allocator>(image: &Volume, slot: usize, walks: &SlotWords<A>) -> bool
-    requires slot { slot < length image.now.bytes.now / 16 }
+fn is_left<A: Allocator>(volume: &Volume, slot: usize, walks: &SlotWords<A>) -> bool
+    requires slot { slot < length volume.now.bytes.now / 16 }
     requires there { get_or walks.now.slots slot false ≡ true }
-    ensures { IsTrue result ↔ IsUnpassed image.now.bytes.now walks.now.by_slot slot }
+    ensures { IsTrue result ↔ IsUnpassed volume.now.bytes.now walks.now.by_slot slot }
 {
-    walks.at(slot) == 0 && is_hard_link(image, slot * 16)
+    walks.at(slot) == 0 && is_hard_link(volume, slot * 16)
 }
 
 /// Follows each hard link that members' hard links lead over to where it ends.
 pub(crate) fn find_ends<'s, A: Allocator + Copy>(
     alloc: A,
-    image: &Volume,
+    volume: &Volume,
     targets: &'s SlotSet<A>,
 ) -> Result<Ends<'s, A>, AllocError>
-    requires targets { AreTargets image.now.bytes.now targets.now }
+    requires targets { AreTargets volume.now.bytes.now targets.now }
     ensures { IfOk result (λ found.
-        AreWalkedEnds image.now.bytes.now found.walks found.ends.items) }
+        AreWalkedEnds volume.now.bytes.now found.walks found.ends.items) }
 {
     let mut walks = SlotWords::new(alloc, targets)?;
     let mut ends = Vec::new(alloc);
     let mut from = 0;
     while let Some(slot) = targets.next_from(from) {
-        if is_left(image, slot, &walks) {
-            let end = end_of(image, slot * 16, &mut walks, &ends);
+        if is_left(volume, slot, &walks) {
+            let end = end_of(volume, slot * 16, &mut walks, &ends);
             ends.push(end)?;
         }
         from = slot + 1;

@@ -1,12 +1,11 @@
 //! The first rule that an image breaks behind its volume header.
 
-ghost use Rattle.std.specs.Prelude.{◌≡◌, ℕ, List, IfOk, IsTrue};
-ghost use Rattle.romfs_format.specs.Fields.{root as root_of, image};
-ghost use Rattle.romfs_format.specs.Rules.{IsVolume};
+ghost use Rattle.std.specs.Prelude.{◌≡◌, IfOk, IsTrue};
+ghost use Rattle.romfs_format.specs.Fields.{root as root_of};
 ghost use Rattle.romfs_rules.specs.InChains.{AreChains};
 ghost use Rattle.romfs_rules.specs.SameNames.{HaveSameNamesIfAlone};
 ghost use Rattle.romfs_rules.specs.Twice.{AreTwice};
-ghost use Rattle.romfs_rules.specs.Judge.{IsHeaderFault};
+ghost use Rattle.romfs_rules.specs.Judge.{IsHeaderFault, IsFaultBehindVolume};
 ghost use Rattle.romfs_rules.specs.Plain.{KeepsPlainly};
 ghost use Rattle.romfs_format.specs.Rules.{IsFaultOfAs};
 
@@ -28,73 +27,74 @@ use std::alloc::{AllocError, Allocator};
 // root stands in another chain than its own, since then no fault of a name is the first.
 fn same_names_below<A: Allocator + Copy>(
     alloc: A,
-    image: &Volume,
+    volume: &Volume,
     chains: &Chains<A>,
 ) -> Result<Vec<u32, A>, AllocError>
-    requires chains { AreChains image.now.bytes.now chains.now }
-    ensures { IfOk result (λ found. HaveSameNamesIfAlone image.now.bytes.now found.items) }
+    requires chains { AreChains volume.now.bytes.now chains.now }
+    ensures { IfOk result (λ found. HaveSameNamesIfAlone volume.now.bytes.now found.items) }
 {
     if chains.root_elsewhere {
         Ok(Vec::new(alloc))
     } else {
-        find_same_names(alloc, image, chains)
+        find_same_names(alloc, volume, chains)
     }
 }
 
-// The first breach of a rule of file headers, by these sets, and by those of hard links.
-fn header_fault_by<A: Allocator + Copy>(
+// The first breach of a rule of file headers, where what goes by chains is known: by these sets,
+// and by those of hard links, which are made here.
+fn find_header_fault_by_chains<A: Allocator + Copy>(
     alloc: A,
-    image: &Volume,
+    volume: &Volume,
     profile: Profile,
     chains: &Chains<A>,
     same_names: &[u32],
     twice: &[u32],
 ) -> Result<Option<ImageFault>, AllocError>
-    requires chains { AreChains image.now.bytes.now chains.now }
-    requires same_names { HaveSameNamesIfAlone image.now.bytes.now same_names.now }
-    requires twice { AreTwice image.now.bytes.now twice.now }
-    ensures { IfOk result (IsHeaderFault profile image.now.bytes.now) }
+    requires chains { AreChains volume.now.bytes.now chains.now }
+    requires same_names { HaveSameNamesIfAlone volume.now.bytes.now same_names.now }
+    requires twice { AreTwice volume.now.bytes.now twice.now }
+    ensures { IfOk result (IsHeaderFault profile volume.now.bytes.now) }
 {
-    let targets = mark_targets(alloc, image, chains)?;
-    let ends = find_ends(alloc, image, &targets)?;
+    let targets = mark_targets(alloc, volume, chains)?;
+    let ends = find_ends(alloc, volume, &targets)?;
     let sets = Sets {
-        image,
+        volume,
         chains,
         targets: &targets,
         twice,
         same_names,
         ends: &ends,
-        outside: find_outside(image, chains, &targets),
+        outside: find_outside(volume, chains, &targets),
     };
     Ok(sets.header_fault(profile))
 }
 
-// The first breach of a rule of file headers.
-fn header_fault_in<A: Allocator + Copy>(
+// The first breach of a rule of file headers, by all sets of headers, which are made here.
+fn find_header_fault<A: Allocator + Copy>(
     alloc: A,
-    image: &Volume,
+    volume: &Volume,
     profile: Profile,
 ) -> Result<Option<ImageFault>, AllocError>
-    ensures { IfOk result (IsHeaderFault profile image.now.bytes.now) }
+    ensures { IfOk result (IsHeaderFault profile volume.now.bytes.now) }
 {
-    let chains = find_chains(alloc, image)?;
-    let same_names = same_names_below(alloc, image, &chains)?;
-    let twice = find_twice(alloc, image, &chains)?;
-    header_fault_by(alloc, image, profile, &chains, &same_names, &twice)
+    let chains = find_chains(alloc, volume)?;
+    let same_names = same_names_below(alloc, volume, &chains)?;
+    let twice = find_twice(alloc, volume, &chains)?;
+    find_header_fault_by_chains(alloc, volume, profile, &chains, &same_names, &twice)
 }
 
 // Whether an image keeps all rules behind the volume header, as far as one walk tells. The sums of
 // headers are not looked at there, so under the strict profile it is not told.
 fn is_plain_by<A: Allocator + Copy>(
     alloc: A,
-    image: &Volume,
+    volume: &Volume,
     profile: Profile,
 ) -> Result<bool, AllocError>
     ensures { IfOk result (λ plain. IsTrue plain →
-        (profile ≡ Profile.Usual) × KeepsPlainly image.now.bytes.now) }
+        (profile ≡ Profile.Usual) × KeepsPlainly volume.now.bytes.now) }
 {
     match profile {
-        Profile::Usual => is_plain_image(alloc, image),
+        Profile::Usual => is_plain_image(alloc, volume),
         Profile::Strict => Ok(false),
     }
 }
@@ -106,10 +106,9 @@ fn fault_by_sets<A: Allocator + Copy>(
     volume: &Volume,
     profile: Profile,
 ) -> Result<Option<ImageFault>, AllocError>
-    ensures { IfOk result (λ fault. (b : List ℕ) → image b ≡ volume.now.bytes.now
-        → IsVolume b → IsFaultOfAs profile b fault) }
+    ensures { IfOk result (IsFaultBehindVolume profile volume.now.bytes.now) }
 {
-    let header = header_fault_in(alloc, volume, profile)?;
+    let header = find_header_fault(alloc, volume, profile)?;
     let deep = match header {
         Some(_) => None,
         None => find_deep(alloc, volume)?,
@@ -123,8 +122,7 @@ fn fault_in<A: Allocator + Copy>(
     volume: &Volume,
     profile: Profile,
 ) -> Result<Option<ImageFault>, AllocError>
-    ensures { IfOk result (λ fault. (b : List ℕ) → image b ≡ volume.now.bytes.now
-        → IsVolume b → IsFaultOfAs profile b fault) }
+    ensures { IfOk result (IsFaultBehindVolume profile volume.now.bytes.now) }
 {
     if is_plain_by(alloc, volume, profile)? {
         Ok(fault_of(None, None))

@@ -23,7 +23,7 @@ use std::marker::Model;
 /// A reached header inside an image. A clause sees the image and where the header stands.
 #[derive(Drop)]
 pub(crate) struct Header<'h> {
-    pub(crate) image: &'h Volume<'h>,
+    pub(crate) volume: &'h Volume<'h>,
     pub(crate) at: usize,
     /// Its name, if it is ended.
     pub(crate) name: Option<&'h [u8]>,
@@ -45,9 +45,9 @@ impl<'h> Model for Header<'h> {
 
     ghost Value = { HeaderPlace };
 
-    ghost view = { λ held. record { image = held.image.now.bytes.now; at = held.at } };
+    ghost view = { λ held. record { image = held.volume.now.bytes.now; at = held.at } };
 
-    ghost invariant = { λ held. IsHeader held.image.now.bytes.now held.at
+    ghost invariant = { λ held. IsHeader held.volume.now.bytes.now held.at
         held.name held.member held.used held.twice held.same_name held.end };
 }
 
@@ -59,61 +59,61 @@ pub(crate) fn is_bad_name(name: &[u8]) -> bool
 }
 
 // Whether a header is that of a regular file or a symbolic link.
-pub(crate) fn has_data(image: &Volume, at: usize) -> bool
-    requires { at + HEAD_SIZE ≤ length image.now.bytes.now }
-    ensures { IsTrue result ↔ HasData image.now.bytes.now at }
+pub(crate) fn has_data(volume: &Volume, at: usize) -> bool
+    requires { at + HEAD_SIZE ≤ length volume.now.bytes.now }
+    ensures { IsTrue result ↔ HasData volume.now.bytes.now at }
 {
     matches!(
-        kind_of(word(image.bytes, at)),
+        kind_of(word(volume.bytes, at)),
         Kind::Regular | Kind::SymLink
     )
 }
 
 // Whether the data of a header with this name ends beyond the image.
-pub(crate) fn is_data_outside(image: &Volume, at: usize, name: &[u8]) -> bool
-    requires at { at + HEAD_SIZE ≤ length image.now.bytes.now }
-    requires name { data_at at name.now ≤ length image.now.bytes.now }
-    ensures { IsTrue result ↔ EndsOutside image.now.bytes.now at name.now }
+pub(crate) fn is_data_outside(volume: &Volume, at: usize, name: &[u8]) -> bool
+    requires at { at + HEAD_SIZE ≤ length volume.now.bytes.now }
+    requires name { data_at at name.now ≤ length volume.now.bytes.now }
+    ensures { IsTrue result ↔ EndsOutside volume.now.bytes.now at name.now }
 {
-    let size = word(image.bytes, at + 8) as usize;
-    image.bytes.len() < at + HEAD_SIZE + padded(name.len() + 1) + size
+    let size = word(volume.bytes, at + 8) as usize;
+    volume.bytes.len() < at + HEAD_SIZE + padded(name.len() + 1) + size
 }
 
 // Whether a header is that of a symbolic link with a target that is too long.
-pub(crate) fn is_target_long(image: &Volume, at: usize) -> bool
-    requires { at + HEAD_SIZE ≤ length image.now.bytes.now }
-    ensures { IsTrue result ↔ HasLongTarget image.now.bytes.now at }
+pub(crate) fn is_target_long(volume: &Volume, at: usize) -> bool
+    requires { at + HEAD_SIZE ≤ length volume.now.bytes.now }
+    ensures { IsTrue result ↔ HasLongTarget volume.now.bytes.now at }
 {
-    kind_of(word(image.bytes, at)) == Kind::SymLink && word(image.bytes, at + 8) > MAX_TARGET_SIZE
+    kind_of(word(volume.bytes, at)) == Kind::SymLink && word(volume.bytes, at + 8) > MAX_TARGET_SIZE
 }
 
 // Whether a header is that of a device.
-fn is_device(image: &Volume, at: usize) -> bool
-    requires { at + HEAD_SIZE ≤ length image.now.bytes.now }
-    ensures { IsTrue result ↔ IsDevice image.now.bytes.now at }
+fn is_device(volume: &Volume, at: usize) -> bool
+    requires { at + HEAD_SIZE ≤ length volume.now.bytes.now }
+    ensures { IsTrue result ↔ IsDevice volume.now.bytes.now at }
 {
     matches!(
-        kind_of(word(image.bytes, at)),
+        kind_of(word(volume.bytes, at)),
         Kind::Block | Kind::Character
     )
 }
 
 // Whether a header is that of a device with a major number that is too large.
-pub(crate) fn is_major_large(image: &Volume, at: usize) -> bool
-    requires { at + HEAD_SIZE ≤ length image.now.bytes.now }
-    ensures { IsTrue result ↔ HasLargeMajor image.now.bytes.now at }
+pub(crate) fn is_major_large(volume: &Volume, at: usize) -> bool
+    requires { at + HEAD_SIZE ≤ length volume.now.bytes.now }
+    ensures { IsTrue result ↔ HasLargeMajor volume.now.bytes.now at }
 {
-    is_device(image, at) && word(image.bytes, at + 4) / 65536 > MAX_MAJOR
+    is_device(volume, at) && word(volume.bytes, at + 4) / 65536 > MAX_MAJOR
 }
 
 // Whether the words of a header, its name and the padding do not sum to 0.
-fn is_sum_bad(image: &Volume, at: usize) -> bool
-    requires inside { at + HEAD_SIZE ≤ length image.now.bytes.now }
-    ensures { IsTrue result ↔ HasBadSum image.now.bytes.now at }
+fn is_sum_bad(volume: &Volume, at: usize) -> bool
+    requires inside { at + HEAD_SIZE ≤ length volume.now.bytes.now }
+    ensures { IsTrue result ↔ HasBadSum volume.now.bytes.now at }
 {
-    match text_at(image.bytes, at + HEAD_SIZE) {
-        None => at == image.root,
-        Some(name) => word_sum(header_bytes(image.bytes, at, name)) != 0,
+    match text_at(volume.bytes, at + HEAD_SIZE) {
+        None => at == volume.root,
+        Some(name) => word_sum(header_bytes(volume.bytes, at, name)) != 0,
     }
 }
 
@@ -122,7 +122,7 @@ impl<'h> Header<'h> {
     fn breaks_name_open(&self) -> bool
         ensures { IsTrue result ↔ BreaksHeader self.now.image Rule.NameOpen self.now.at }
     {
-        self.at != self.image.root && self.name.is_none()
+        self.at != self.volume.root && self.name.is_none()
     }
 
     // Whether it is a member whose name is empty or holds `/`.
@@ -140,7 +140,7 @@ impl<'h> Header<'h> {
         ensures { IsTrue result ↔ (IsUsed self.now.image self.now.at
             × HasData self.now.image self.now.at) }
     {
-        has_data(self.image, self.at) && self.used
+        has_data(self.volume, self.at) && self.used
     }
 
     // Whether it is used, and its data as a regular file or a symbolic link end beyond the image.
@@ -149,7 +149,7 @@ impl<'h> Header<'h> {
     {
         match self.name {
             None => false,
-            Some(name) => is_data_outside(self.image, self.at, name) && self.has_used_data(),
+            Some(name) => is_data_outside(self.volume, self.at, name) && self.has_used_data(),
         }
     }
 
@@ -157,7 +157,7 @@ impl<'h> Header<'h> {
     fn breaks_target_long(&self) -> bool
         ensures { IsTrue result ↔ BreaksHeader self.now.image Rule.TargetLong self.now.at }
     {
-        is_target_long(self.image, self.at) && self.used
+        is_target_long(self.volume, self.at) && self.used
     }
 
     // Whether it is a member and a hard link whose chain ends in this way.
@@ -175,7 +175,7 @@ impl<'h> Header<'h> {
     fn breaks_major_large(&self) -> bool
         ensures { IsTrue result ↔ BreaksHeader self.now.image Rule.MajorLarge self.now.at }
     {
-        is_major_large(self.image, self.at) && self.used
+        is_major_large(self.volume, self.at) && self.used
     }
 
     // Whether its sum is looked at, and bad.
@@ -184,7 +184,7 @@ impl<'h> Header<'h> {
     {
         match profile {
             Profile::Usual => false,
-            Profile::Strict => is_sum_bad(self.image, self.at),
+            Profile::Strict => is_sum_bad(self.volume, self.at),
         }
     }
 
@@ -195,7 +195,7 @@ impl<'h> Header<'h> {
             (rule_number Rule.LinkedTwice) result }
     {
         // a look at a field, by which the proof sees what is known of a header
-        let _ = &self.image;
+        let _ = &self.volume;
         if self.breaks_name_open() {
             return Some(Rule::NameOpen);
         }

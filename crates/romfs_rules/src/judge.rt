@@ -29,7 +29,7 @@ use std::marker::Model;
 /// The sets of headers that the rules are judged by. A clause sees the image.
 #[derive(Drop)]
 pub(crate) struct Sets<'s, A: Allocator> {
-    pub(crate) image: &'s Volume<'s>,
+    pub(crate) volume: &'s Volume<'s>,
     /// The headers in chains.
     pub(crate) chains: &'s Chains<A>,
     /// Those that the hard links of members lead over.
@@ -52,9 +52,9 @@ impl<'s, A: Allocator> Model for Sets<'s, A> {
 
     ghost use Rattle.romfs_rules.specs.Sets.{AreSets};
 
-    ghost view = { λ held. held.image.now.bytes.now };
+    ghost view = { λ held. held.volume.now.bytes.now };
 
-    ghost invariant = { λ held. AreSets held.image.now.bytes.now held };
+    ghost invariant = { λ held. AreSets held.volume.now.bytes.now held };
 }
 
 impl<'s, A: Allocator> Sets<'s, A> {
@@ -72,7 +72,7 @@ impl<'s, A: Allocator> Sets<'s, A> {
         requires { HasSlot self.now at }
         ensures { IsTrue result ↔ BreaksHeader self.now Rule.LinkedTwice at }
     {
-        is_listed(self.twice, at) || at == self.image.root && self.chains.root_elsewhere
+        is_listed(self.twice, at) || at == self.volume.root && self.chains.root_elsewhere
     }
 
     // Where the hard links of a header end, if it is a member and a hard link.
@@ -81,8 +81,8 @@ impl<'s, A: Allocator> Sets<'s, A> {
         requires member { IsTrue member ↔ IsSomeMember self.now at }
         ensures { IsEndOfMember self.now at result }
     {
-        if is_hard_link(self.image, at) && member {
-            Some(self.ends.of_member(self.image, at))
+        if is_hard_link(self.volume, at) && member {
+            Some(self.ends.of_member(self.volume, at))
         } else {
             None
         }
@@ -94,10 +94,10 @@ impl<'s, A: Allocator> Sets<'s, A> {
         ensures image { result.image ≡ self.now }
         ensures at { result.at ≡ at }
     {
-        let name = text_at(self.image.bytes, at + HEAD_SIZE);
-        let member = is_member_by(self.image, at, name, self.chains);
+        let name = text_at(self.volume.bytes, at + HEAD_SIZE);
+        let member = is_member_by(self.volume, at, name, self.chains);
         Header {
-            image: self.image,
+            volume: self.volume,
             at,
             name,
             member,
@@ -114,10 +114,10 @@ impl<'s, A: Allocator> Sets<'s, A> {
         ensures { MatchOption result (KeepsBelow profile self.now (length self.now))
             (λ f. IsFirstInside profile self.now f.rule f.place) }
     {
-        if let Some(fault) = self.header(self.image.root).fault(profile) {
+        if let Some(fault) = self.header(self.volume.root).fault(profile) {
             return Some(fault);
         }
-        let mut from = self.image.root / 16 + 1;
+        let mut from = self.volume.root / 16 + 1;
         while let Some(slot) = self.chains.headers.next_of_either(self.targets, from) {
             if let Some(fault) = self.header(slot * 16).fault(profile) {
                 return Some(fault);

@@ -14,26 +14,26 @@ use romfs_format::read::{cleared, kind_of, word};
 /// The header after a header in its chain.
 #[tactic(auto, using(crate::proofs::Leads::next_none, crate::proofs::Leads::next_some))]
 #[inline(always)]
-pub(crate) fn next_of(image: &Volume, at: usize) -> Option<u32>
-    requires inside { IsInside image.now.bytes.now at }
-    ensures { IsTheOne (IsNext image.now.bytes.now at) result }
+pub(crate) fn next_of(volume: &Volume, at: usize) -> Option<u32>
+    requires inside { IsInside volume.now.bytes.now at }
+    ensures { IsTheOne (IsNext volume.now.bytes.now at) result }
 {
-    let next = cleared(word(image.bytes, at));
+    let next = cleared(word(volume.bytes, at));
     if next == 0 { None } else { Some(next) }
 }
 
 /// The first header of a directory.
 #[tactic(auto, using(crate::proofs::Leads::firsts))]
 #[inline(always)]
-pub(crate) fn first_of(image: &Volume, at: usize) -> Option<u32>
-    requires inside { IsInside image.now.bytes.now at }
-    ensures { IsTheOne (IsFirst image.now.bytes.now at) result }
+pub(crate) fn first_of(volume: &Volume, at: usize) -> Option<u32>
+    requires inside { IsInside volume.now.bytes.now at }
+    ensures { IsTheOne (IsFirst volume.now.bytes.now at) result }
 {
-    let first = cleared(word(image.bytes, at + 4));
+    let first = cleared(word(volume.bytes, at + 4));
     if first == 0 {
         return None;
     }
-    if first as usize == at && at != image.root {
+    if first as usize == at && at != volume.root {
         None
     } else {
         Some(first)
@@ -43,25 +43,25 @@ pub(crate) fn first_of(image: &Volume, at: usize) -> Option<u32>
 /// The first header of a header that opens as a directory, unless it is the root's.
 #[tactic(auto, using(crate::proofs::Leads::downs))]
 #[inline(always)]
-pub(crate) fn first_below(image: &Volume, at: usize) -> Option<u32>
-    requires inside { IsInside image.now.bytes.now at }
-    ensures { IsTheOne (IsFirstBelow image.now.bytes.now at) result }
+pub(crate) fn first_below(volume: &Volume, at: usize) -> Option<u32>
+    requires inside { IsInside volume.now.bytes.now at }
+    ensures { IsTheOne (IsFirstBelow volume.now.bytes.now at) result }
 {
-    if at == image.root || !opens(image, at) {
+    if at == volume.root || !opens(volume, at) {
         return None;
     }
-    first_of(image, at)
+    first_of(volume, at)
 }
 
 /// The destination of a hard link.
 #[tactic(auto, using(crate::proofs::Leads::hard_some, crate::proofs::Leads::hard_none))]
-pub(crate) fn destination_of(image: &Volume, at: usize) -> Option<u32>
-    requires inside { IsInside image.now.bytes.now at }
-    ensures { IsTheOne
-        (λ g. IsHardLink image.now.bytes.now at × (g ≡ destination image.now.bytes.now at)) result }
+pub(crate) fn destination_of(volume: &Volume, at: usize) -> Option<u32>
+    requires inside { IsInside volume.now.bytes.now at }
+    ensures { IsTheOne (λ g. IsHardLink volume.now.bytes.now at
+        × (g ≡ destination volume.now.bytes.now at)) result }
 {
-    if kind_of(word(image.bytes, at)) == Kind::HardLink {
-        Some(cleared(word(image.bytes, at + 4)))
+    if kind_of(word(volume.bytes, at)) == Kind::HardLink {
+        Some(cleared(word(volume.bytes, at + 4)))
     } else {
         None
     }

@@ -15,13 +15,13 @@ use std::alloc::Allocator;
 /// The header that next names, of a header in a chain.
 #[tactic(auto, using(crate::proofs::Links::no_next))]
 #[inline(always)]
-pub(crate) fn next_link<A: Allocator>(image: &Volume, at: usize, chains: &Chains<A>) -> Option<u32>
-    requires slot { HasSlot image.now.bytes.now at }
-    requires chains { AreChains image.now.bytes.now chains.now }
-    ensures { IsTheOne (IsLink image.now.bytes.now (next_of at)) result }
+pub(crate) fn next_link<A: Allocator>(volume: &Volume, at: usize, chains: &Chains<A>) -> Option<u32>
+    requires slot { HasSlot volume.now.bytes.now at }
+    requires chains { AreChains volume.now.bytes.now chains.now }
+    ensures { IsTheOne (IsLink volume.now.bytes.now (next_of at)) result }
 {
-    if is_in_chain(image, at, chains) {
-        next_of(image, at)
+    if is_in_chain(volume, at, chains) {
+        next_of(volume, at)
     } else {
         None
     }
@@ -30,13 +30,17 @@ pub(crate) fn next_link<A: Allocator>(image: &Volume, at: usize, chains: &Chains
 /// The first header of an opened directory.
 #[tactic(auto, using(crate::proofs::Links::first_named, crate::proofs::Links::no_first))]
 #[inline(always)]
-pub(crate) fn first_link<A: Allocator>(image: &Volume, at: usize, chains: &Chains<A>) -> Option<u32>
-    requires slot { HasSlot image.now.bytes.now at }
-    requires chains { AreChains image.now.bytes.now chains.now }
-    ensures { IsTheOne (IsLink image.now.bytes.now (first_of at)) result }
+pub(crate) fn first_link<A: Allocator>(
+    volume: &Volume,
+    at: usize,
+    chains: &Chains<A>,
+) -> Option<u32>
+    requires slot { HasSlot volume.now.bytes.now at }
+    requires chains { AreChains volume.now.bytes.now chains.now }
+    ensures { IsTheOne (IsLink volume.now.bytes.now (first_of at)) result }
 {
-    if is_opened(image, at, chains) {
-        first_of(image, at)
+    if is_opened(volume, at, chains) {
+        first_of(volume, at)
     } else {
         None
     }

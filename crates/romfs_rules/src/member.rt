@@ -17,13 +17,13 @@ use romfs_format::read::{is_dot_name, kind_of, text_at, word};
 use std::alloc::Allocator;
 
 // Whether a header with this name is named `.` or `..`.
-fn is_dotted_by(image: &Volume, at: usize, name: Option<&[u8]>) -> bool
-    requires inside { IsInside image.now.bytes.now at }
-    requires name { option_map (λ n. n.now) name ≡ text_at image.now.bytes.now (at + HEAD_SIZE) }
-    ensures { IsTrue result ↔ IsDotted image.now.bytes.now at }
+fn is_dotted_by(volume: &Volume, at: usize, name: Option<&[u8]>) -> bool
+    requires inside { IsInside volume.now.bytes.now at }
+    requires name { option_map (λ n. n.now) name ≡ text_at volume.now.bytes.now (at + HEAD_SIZE) }
+    ensures { IsTrue result ↔ IsDotted volume.now.bytes.now at }
 {
     // the image is named by the clauses alone
-    let _ = image;
+    let _ = volume;
     match name {
         None => false,
         Some(name) => is_dot_name(name),
@@ -32,20 +32,20 @@ fn is_dotted_by(image: &Volume, at: usize, name: Option<&[u8]>) -> bool
 
 // Whether a header's name begins with a dot. Most do not, and then its end is not looked for.
 #[inline(always)]
-fn begins_with_dot(image: &Volume, at: usize) -> bool
-    requires inside { IsInside image.now.bytes.now at }
-    ensures { IsDotted image.now.bytes.now at → IsTrue result }
+fn begins_with_dot(volume: &Volume, at: usize) -> bool
+    requires inside { IsInside volume.now.bytes.now at }
+    ensures { IsDotted volume.now.bytes.now at → IsTrue result }
 {
-    at + HEAD_SIZE < image.bytes.len() && image.bytes[at + HEAD_SIZE] == b'.'
+    at + HEAD_SIZE < volume.bytes.len() && volume.bytes[at + HEAD_SIZE] == b'.'
 }
 
 /// Whether a header is named `.` or `..`.
-pub(crate) fn is_dotted(image: &Volume, at: usize) -> bool
-    requires inside { IsInside image.now.bytes.now at }
-    ensures { IsTrue result ↔ IsDotted image.now.bytes.now at }
+pub(crate) fn is_dotted(volume: &Volume, at: usize) -> bool
+    requires inside { IsInside volume.now.bytes.now at }
+    ensures { IsTrue result ↔ IsDotted volume.now.bytes.now at }
 {
-    if begins_with_dot(image, at) {
-        is_dotted_by(image, at, text_at(image.bytes, at + HEAD_SIZE))
+    if begins_with_dot(volume, at) {
+        is_dotted_by(volume, at, text_at(volume.bytes, at + HEAD_SIZE))
     } else {
         false
     }
@@ -53,65 +53,65 @@ pub(crate) fn is_dotted(image: &Volume, at: usize) -> bool
 
 /// Whether a header opens as a directory wherever it is a member.
 #[inline(always)]
-pub(crate) fn opens(image: &Volume, at: usize) -> bool
-    requires inside { IsInside image.now.bytes.now at }
-    ensures { IsTrue result ↔ Opens image.now.bytes.now at }
+pub(crate) fn opens(volume: &Volume, at: usize) -> bool
+    requires inside { IsInside volume.now.bytes.now at }
+    ensures { IsTrue result ↔ Opens volume.now.bytes.now at }
 {
-    kind_of(word(image.bytes, at)) == Kind::Directory && !is_dotted(image, at)
+    kind_of(word(volume.bytes, at)) == Kind::Directory && !is_dotted(volume, at)
 }
 
 /// Whether a header stands in a chain.
-pub(crate) fn is_in_chain<A: Allocator>(image: &Volume, at: usize, chains: &Chains<A>) -> bool
-    requires slot { HasSlot image.now.bytes.now at }
-    requires chains { AreChains image.now.bytes.now chains.now }
-    ensures { IsTrue result ↔ IsInSomeChain image.now.bytes.now at }
+pub(crate) fn is_in_chain<A: Allocator>(volume: &Volume, at: usize, chains: &Chains<A>) -> bool
+    requires slot { HasSlot volume.now.bytes.now at }
+    requires chains { AreChains volume.now.bytes.now chains.now }
+    ensures { IsTrue result ↔ IsInSomeChain volume.now.bytes.now at }
 {
     chains.headers.contains(at / 16)
 }
 
 /// Whether a header is a directory that is opened.
 #[inline(always)]
-pub(crate) fn is_opened<A: Allocator>(image: &Volume, at: usize, chains: &Chains<A>) -> bool
-    requires slot { HasSlot image.now.bytes.now at }
-    requires chains { AreChains image.now.bytes.now chains.now }
-    ensures { IsTrue result ↔ IsOpened image.now.bytes.now at }
+pub(crate) fn is_opened<A: Allocator>(volume: &Volume, at: usize, chains: &Chains<A>) -> bool
+    requires slot { HasSlot volume.now.bytes.now at }
+    requires chains { AreChains volume.now.bytes.now chains.now }
+    ensures { IsTrue result ↔ IsOpened volume.now.bytes.now at }
 {
-    at == image.root || is_in_chain(image, at, chains) && opens(image, at)
+    at == volume.root || is_in_chain(volume, at, chains) && opens(volume, at)
 }
 
 // Whether a header stands in a chain, the root's in another than its own.
-fn stands_kept<A: Allocator>(image: &Volume, at: usize, chains: &Chains<A>) -> bool
-    requires slot { HasSlot image.now.bytes.now at }
-    requires chains { AreChains image.now.bytes.now chains.now }
-    ensures { IsTrue result ↔ StandsKept image.now.bytes.now at }
+fn stands_kept<A: Allocator>(volume: &Volume, at: usize, chains: &Chains<A>) -> bool
+    requires slot { HasSlot volume.now.bytes.now at }
+    requires chains { AreChains volume.now.bytes.now chains.now }
+    ensures { IsTrue result ↔ StandsKept volume.now.bytes.now at }
 {
-    if at == image.root {
+    if at == volume.root {
         chains.root_elsewhere
     } else {
-        is_in_chain(image, at, chains)
+        is_in_chain(volume, at, chains)
     }
 }
 
 /// Whether a header with this name is a member of some directory.
 pub(crate) fn is_member_by<A: Allocator>(
-    image: &Volume,
+    volume: &Volume,
     at: usize,
     name: Option<&[u8]>,
     chains: &Chains<A>,
 ) -> bool
-    requires slot { HasSlot image.now.bytes.now at }
-    requires name { option_map (λ n. n.now) name ≡ text_at image.now.bytes.now (at + HEAD_SIZE) }
-    requires chains { AreChains image.now.bytes.now chains.now }
-    ensures { IsTrue result ↔ IsSomeMember image.now.bytes.now at }
+    requires slot { HasSlot volume.now.bytes.now at }
+    requires name { option_map (λ n. n.now) name ≡ text_at volume.now.bytes.now (at + HEAD_SIZE) }
+    requires chains { AreChains volume.now.bytes.now chains.now }
+    ensures { IsTrue result ↔ IsSomeMember volume.now.bytes.now at }
 {
-    stands_kept(image, at, chains) && !is_dotted_by(image, at, name)
+    stands_kept(volume, at, chains) && !is_dotted_by(volume, at, name)
 }
 
 /// Whether a header is a member of some directory.
-pub(crate) fn is_some_member<A: Allocator>(image: &Volume, at: usize, chains: &Chains<A>) -> bool
-    requires slot { HasSlot image.now.bytes.now at }
-    requires chains { AreChains image.now.bytes.now chains.now }
-    ensures { IsTrue result ↔ IsSomeMember image.now.bytes.now at }
+pub(crate) fn is_some_member<A: Allocator>(volume: &Volume, at: usize, chains: &Chains<A>) -> bool
+    requires slot { HasSlot volume.now.bytes.now at }
+    requires chains { AreChains volume.now.bytes.now chains.now }
+    ensures { IsTrue result ↔ IsSomeMember volume.now.bytes.now at }
 {
-    is_member_by(image, at, text_at(image.bytes, at + HEAD_SIZE), chains)
+    is_member_by(volume, at, text_at(volume.bytes, at + HEAD_SIZE), chains)
 }

@@ -18,31 +18,31 @@ use romfs_format::read::{is_dot_name, text_at};
 use std::alloc::{AllocError, Allocator};
 
 // The name that a header has wherever it is a member: not the root's, nor `.` or `..`.
-fn kept_name<'a>(image: &Volume<'a>, at: usize) -> Option<&'a [u8]>
-    requires inside { at + HEAD_SIZE ≤ length image.now.bytes.now }
-    ensures { option_map (λ name. name.now) result ≡ kept_name image.now.bytes.now at }
+fn kept_name<'a>(volume: &Volume<'a>, at: usize) -> Option<&'a [u8]>
+    requires inside { at + HEAD_SIZE ≤ length volume.now.bytes.now }
+    ensures { option_map (λ name. name.now) result ≡ kept_name volume.now.bytes.now at }
 {
-    if at == image.root {
+    if at == volume.root {
         return None;
     }
-    let name = text_at(image.bytes, at + HEAD_SIZE)?;
+    let name = text_at(volume.bytes, at + HEAD_SIZE)?;
     if is_dot_name(name) { None } else { Some(name) }
 }
 
 // What the name of each header is mixed to, and 0 where it has none.
 fn name_hashes<A: Allocator + Copy>(
     alloc: A,
-    image: &Volume,
+    volume: &Volume,
     heads: &[u32],
 ) -> Result<Vec<u64, A>, AllocError>
     requires inside { (i : ℕ) → i < length heads.now →
-        get_or heads.now i 0 + HEAD_SIZE ≤ length image.now.bytes.now }
+        get_or heads.now i 0 + HEAD_SIZE ≤ length volume.now.bytes.now }
     ensures { IfOk result (λ hashes. AreNameHashes
-        (kept_names image.now.bytes.now heads.now) (length heads.now) hashes.items) }
+        (kept_names volume.now.bytes.now heads.now) (length heads.now) hashes.items) }
 {
     let mut hashes = Vec::with_capacity(alloc, heads.len())?;
     for at in heads {
-        let hash = match kept_name(image, *at as usize) {
+        let hash = match kept_name(volume, *at as usize) {
             Some(name) => hash_of(name),
             None => 0,
         };
@@ -68,25 +68,25 @@ pub(crate) fn have_hashes_apart(hashes: &[u64]) -> bool
 // once.
 fn named_headers<'a, A: Allocator + Copy>(
     alloc: A,
-    image: &Volume<'a>,
+    volume: &Volume<'a>,
     heads: &[u32],
     once: &[bool],
 ) -> Result<Vec<NumberedName<'a>, A>, AllocError>
     requires few { length heads.now < 2 ^ 32 }
     requires inside { (i : ℕ) → i < length heads.now →
-        get_or heads.now i 0 + HEAD_SIZE ≤ length image.now.bytes.now }
+        get_or heads.now i 0 + HEAD_SIZE ≤ length volume.now.bytes.now }
     requires sized { length once.now ≡ length heads.now }
     requires once { HaveTheirsAlone
-        (kept_names image.now.bytes.now heads.now) (length heads.now) once.now }
+        (kept_names volume.now.bytes.now heads.now) (length heads.now) once.now }
     ensures { IfOk result (λ named. HoldTheShared
-        (kept_names image.now.bytes.now heads.now) (length heads.now) named.items) }
+        (kept_names volume.now.bytes.now heads.now) (length heads.now) named.items) }
 {
     let mut named = Vec::new(alloc);
     for (number, at) in heads.iter().enumerate() {
         if once[number] {
             continue;
         }
-        if let Some(name) = kept_name(image, *at as usize) {
+        if let Some(name) = kept_name(volume, *at as usize) {
             named.push(NumberedName {
                 hash: hash_of(name),
                 name,
@@ -101,37 +101,37 @@ fn named_headers<'a, A: Allocator + Copy>(
 /// with one more for none; None only where no two headers have one name.
 pub(crate) fn name_classes_by<A: Allocator + Copy>(
     alloc: A,
-    image: &Volume,
+    volume: &Volume,
     heads: &[u32],
     hashes: &[u64],
 ) -> Result<Option<Vec<u32, A>>, AllocError>
     requires few { length heads.now < 2 ^ 32 }
     requires inside { (i : ℕ) → i < length heads.now →
-        get_or heads.now i 0 + HEAD_SIZE ≤ length image.now.bytes.now }
+        get_or heads.now i 0 + HEAD_SIZE ≤ length volume.now.bytes.now }
     requires hashes { AreNameHashes
-        (kept_names image.now.bytes.now heads.now) (length heads.now) hashes.now }
+        (kept_names volume.now.bytes.now heads.now) (length heads.now) hashes.now }
     ensures { IfOk result (λ classes. MatchOption classes
-        (HaveNamesApart image.now.bytes.now heads.now)
-        (λ some. AreClassesOf image.now.bytes.now heads.now some.items)) }
+        (HaveNamesApart volume.now.bytes.now heads.now)
+        (λ some. AreClassesOf volume.now.bytes.now heads.now some.items)) }
 {
     let once = seen_once(alloc, hashes)?;
-    let named = named_headers(alloc, image, heads, &once)?;
+    let named = named_headers(alloc, volume, heads, &once)?;
     classes(alloc, named, heads.len())
 }
 
 /// The same by their names alone.
 pub(crate) fn name_classes_of<A: Allocator + Copy>(
     alloc: A,
-    image: &Volume,
+    volume: &Volume,
     heads: &[u32],
 ) -> Result<Option<Vec<u32, A>>, AllocError>
     requires few { length heads.now < 2 ^ 32 }
     requires inside { (i : ℕ) → i < length heads.now →
-        get_or heads.now i 0 + HEAD_SIZE ≤ length image.now.bytes.now }
+        get_or heads.now i 0 + HEAD_SIZE ≤ length volume.now.bytes.now }
     ensures { IfOk result (λ classes. MatchOption classes
-        (HaveNamesApart image.now.bytes.now heads.now)
-        (λ some. AreClassesOf image.now.bytes.now heads.now some.items)) }
+        (HaveNamesApart volume.now.bytes.now heads.now)
+        (λ some. AreClassesOf volume.now.bytes.now heads.now some.items)) }
 {
-    let hashes = name_hashes(alloc, image, heads)?;
-    name_classes_by(alloc, image, heads, &hashes)
+    let hashes = name_hashes(alloc, volume, heads)?;
+    name_classes_by(alloc, volume, heads, &hashes)
 }

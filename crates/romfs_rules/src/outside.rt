@@ -36,7 +36,7 @@ pub(crate) struct Outside {
 // What tells where headers lead. A clause sees the image.
 #[derive(Drop)]
 struct Known<'k, A: Allocator> {
-    image: &'k Volume<'k>,
+    volume: &'k Volume<'k>,
     /// The headers in chains.
     chains: &'k Chains<A>,
     /// Those that the hard links of members lead over.
@@ -50,10 +50,10 @@ impl<'k, A: Allocator> Model for Known<'k, A> {
 
     ghost Value = { List ℕ };
 
-    ghost view = { λ held. held.image.now.bytes.now };
+    ghost view = { λ held. held.volume.now.bytes.now };
 
-    ghost invariant = { λ held. AreChains held.image.now.bytes.now held.chains.now
-        × AreTargets held.image.now.bytes.now held.targets.now };
+    ghost invariant = { λ held. AreChains held.volume.now.bytes.now held.chains.now
+        × AreTargets held.volume.now.bytes.now held.targets.now };
 }
 
 // The lesser of a word and what was found before.
@@ -69,19 +69,19 @@ fn lesser(found: Option<u32>, word: u32) -> u32
 // What is found with one header more, if there is one.
 #[tactic(auto, using(crate::proofs::Reach::notes))]
 #[inline(always)]
-fn note(found: Outside, image: &Volume, word: Option<u32>) -> Outside
-    ensures { NotesOnBoth image.now.bytes.now (λ h. word ≡ Some h) found result }
+fn note(found: Outside, volume: &Volume, word: Option<u32>) -> Outside
+    ensures { NotesOnBoth volume.now.bytes.now (λ h. word ≡ Some h) found result }
 {
     let Some(word) = word else {
         return found;
     };
     let at = word as usize;
-    if at < image.root {
+    if at < volume.root {
         Outside {
             below: Some(lesser(found.below, word)),
             above: found.above,
         }
-    } else if image.bytes.len() < at + HEAD_SIZE {
+    } else if volume.bytes.len() < at + HEAD_SIZE {
         Outside {
             below: found.below,
             above: Some(lesser(found.above, word)),
@@ -98,7 +98,7 @@ impl<'k, A: Allocator> Known<'k, A> {
         requires { HasSlot self.now at }
         ensures { IsTrue result ↔ (IsSomeMember self.now at ⊎ IsTarget self.now at) }
     {
-        self.targets.contains(at / 16) || is_some_member(self.image, at, self.chains)
+        self.targets.contains(at / 16) || is_some_member(self.volume, at, self.chains)
     }
 
     // The destination of a hard link that is a member, or that a member's hard link leads over.
@@ -107,11 +107,11 @@ impl<'k, A: Allocator> Known<'k, A> {
         requires { HasSlot self.now at }
         ensures { IsTheOne (NamesDestination self.now at) result }
     {
-        if !is_hard_link(self.image, at) {
+        if !is_hard_link(self.volume, at) {
             return None;
         }
         if self.is_asked(at) {
-            destination_of(self.image, at)
+            destination_of(self.volume, at)
         } else {
             None
         }
@@ -124,13 +124,14 @@ impl<'k, A: Allocator> Known<'k, A> {
         requires { HasSlot self.now at }
         ensures { NotesOnBoth self.now (NamesBySpec self.now at) found result }
     {
-        if is_inside(self.image, cleared(word(self.image.bytes, at + 4)) as usize) {
+        let named = cleared(word(self.volume.bytes, at + 4)) as usize;
+        if is_inside(self.volume, named) {
             return found;
         }
-        let first = first_link(self.image, at, self.chains);
+        let first = first_link(self.volume, at, self.chains);
         let destination = self.destination(at);
-        let with_first = note(found, self.image, first);
-        note(with_first, self.image, destination)
+        let with_first = note(found, self.volume, first);
+        note(with_first, self.volume, destination)
     }
 
     // What is found with the headers more that a header leads to.
@@ -139,25 +140,25 @@ impl<'k, A: Allocator> Known<'k, A> {
         requires { HasSlot self.now at }
         ensures { NotesOnBoth self.now (Names self.now at) found result }
     {
-        let next = next_link(self.image, at, self.chains);
-        let with_next = note(found, self.image, next);
+        let next = next_link(self.volume, at, self.chains);
+        let with_next = note(found, self.volume, next);
         self.note_spec(with_next, at)
     }
 }
 
 /// Finds the least headers outside the image that are reached, on either side.
 pub(crate) fn find_outside<A: Allocator>(
-    image: &Volume,
+    volume: &Volume,
     chains: &Chains<A>,
     targets: &SlotSet<A>,
 ) -> Outside
-    requires chains { AreChains image.now.bytes.now chains.now }
-    requires targets { AreTargets image.now.bytes.now targets.now }
-    ensures below { IsLeastBelow image.now.bytes.now result.below }
-    ensures above { IsLeastPastEnd image.now.bytes.now result.above }
+    requires chains { AreChains volume.now.bytes.now chains.now }
+    requires targets { AreTargets volume.now.bytes.now targets.now }
+    ensures below { IsLeastBelow volume.now.bytes.now result.below }
+    ensures above { IsLeastPastEnd volume.now.bytes.now result.above }
 {
     let known = Known {
-        image,
+        volume,
         chains,
         targets,
     };
@@ -165,8 +166,8 @@ pub(crate) fn find_outside<A: Allocator>(
         below: None,
         above: None,
     };
-    let mut found = known.note_named(none, image.root);
-    let mut from = image.root / 16 + 1;
+    let mut found = known.note_named(none, volume.root);
+    let mut from = volume.root / 16 + 1;
     while let Some(slot) = chains.headers.next_of_either(targets, from) {
         found = known.note_named(found, slot * 16);
         from = slot + 1;

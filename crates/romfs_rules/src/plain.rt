@@ -32,17 +32,17 @@ pub(crate) struct Folder {
 
 // Adds a header of a directory's chain, if it opens as a directory.
 fn push_below<A: Allocator>(
-    image: &Volume,
+    volume: &Volume,
     folder: Folder,
     at: usize,
     todo: &mut Vec<Folder, A>,
 ) -> Result<(), AllocError>
-    requires inside { IsInside image.now.bytes.now at }
+    requires inside { IsInside volume.now.bytes.now at }
     requires names { folder.names + 1 < 2 ^ 32 }
     ensures { IfOk result
-        (λ _. AddsFolder image.now.bytes.now folder at todo.old.items todo.new.items) }
+        (λ _. AddsFolder volume.now.bytes.now folder at todo.old.items todo.new.items) }
 {
-    if at != image.root && opens(image, at) {
+    if at != volume.root && opens(volume, at) {
         todo.push(Folder {
             header: at as u32,
             names: folder.names + 1,
@@ -54,34 +54,34 @@ fn push_below<A: Allocator>(
 // Goes along the chain of a directory, and tells whether each header there is new and plain. Both
 // lists get them all, where they stand and what their names are mixed to.
 fn is_plain_chain<A: Allocator>(
-    image: &Volume,
+    volume: &Volume,
     folder: Folder,
     marks: &mut SlotSet<A>,
     todo: &mut Vec<Folder, A>,
     heads: &mut Vec<u32, A>,
     hashes: &mut Vec<u64, A>,
 ) -> Result<bool, AllocError>
-    requires inside { IsInside image.now.bytes.now folder.header }
-    requires sized { length marks.old ≡ length image.now.bytes.now / 16 }
+    requires inside { IsInside volume.now.bytes.now folder.header }
+    requires sized { length marks.old ≡ length volume.now.bytes.now / 16 }
     requires no_heads { heads.old.items ≡ [] }
     requires no_hashes { hashes.old.items ≡ [] }
-    ensures { IfOk result (λ plain. IsTrue plain → PassesChain image.now.bytes.now folder
+    ensures { IfOk result (λ plain. IsTrue plain → PassesChain volume.now.bytes.now folder
         marks.old marks.new todo.old.items todo.new.items heads.new.items hashes.new.items) }
 {
-    let mut next = first_of(image, folder.header as usize);
+    let mut next = first_of(volume, folder.header as usize);
     while let Some(head) = next {
         let at = head as usize;
-        if !is_fresh(image, at, marks) {
+        if !is_fresh(volume, at, marks) {
             return Ok(false);
         }
-        let Some(hash) = plain_hash(image, folder, at) else {
+        let Some(hash) = plain_hash(volume, folder, at) else {
             return Ok(false);
         };
         marks.insert(at / 16);
         heads.push(head)?;
         hashes.push(hash)?;
-        push_below(image, folder, at, todo)?;
-        next = next_of(image, at);
+        push_below(volume, folder, at, todo)?;
+        next = next_of(volume, at);
     }
     Ok(true)
 }
@@ -89,21 +89,21 @@ fn is_plain_chain<A: Allocator>(
 // Whether no two of these headers have one name.
 fn have_names_apart<A: Allocator + Copy>(
     alloc: A,
-    image: &Volume,
+    volume: &Volume,
     heads: &[u32],
     hashes: &[u64],
 ) -> Result<bool, AllocError>
     requires few { length heads.now < 2 ^ 32 }
     requires inside { (i : ℕ) → i < length heads.now →
-        get_or heads.now i 0 + HEAD_SIZE ≤ length image.now.bytes.now }
+        get_or heads.now i 0 + HEAD_SIZE ≤ length volume.now.bytes.now }
     requires hashes { AreNameHashes
-        (kept_names image.now.bytes.now heads.now) (length heads.now) hashes.now }
-    ensures { IfOk result (λ apart. IsTrue apart → HaveNamesApart image.now.bytes.now heads.now) }
+        (kept_names volume.now.bytes.now heads.now) (length heads.now) hashes.now }
+    ensures { IfOk result (λ apart. IsTrue apart → HaveNamesApart volume.now.bytes.now heads.now) }
 {
     if hashes.len() <= FEW && have_hashes_apart(hashes) {
         return Ok(true);
     }
-    match name_classes_by(alloc, image, heads, hashes)? {
+    match name_classes_by(alloc, volume, heads, hashes)? {
         None => Ok(true),
         Some(_) => Ok(false),
     }
@@ -113,45 +113,45 @@ fn have_names_apart<A: Allocator + Copy>(
 // name.
 fn is_plain_folder<A: Allocator + Copy>(
     alloc: A,
-    image: &Volume,
+    volume: &Volume,
     folder: Folder,
     marks: &mut SlotSet<A>,
     todo: &mut Vec<Folder, A>,
     heads: &mut Vec<u32, A>,
     hashes: &mut Vec<u64, A>,
 ) -> Result<bool, AllocError>
-    requires inside { IsInside image.now.bytes.now folder.header }
-    requires sized { length marks.old ≡ length image.now.bytes.now / 16 }
-    ensures { IfOk result (λ plain. IsTrue plain → PassesFolder image.now.bytes.now folder
+    requires inside { IsInside volume.now.bytes.now folder.header }
+    requires sized { length marks.old ≡ length volume.now.bytes.now / 16 }
+    ensures { IfOk result (λ plain. IsTrue plain → PassesFolder volume.now.bytes.now folder
         marks.old marks.new todo.old.items todo.new.items) }
 {
     heads.clear();
     hashes.clear();
-    if !is_plain_chain(image, folder, marks, todo, heads, hashes)? {
+    if !is_plain_chain(volume, folder, marks, todo, heads, hashes)? {
         return Ok(false);
     }
-    have_names_apart(alloc, image, heads, hashes)
+    have_names_apart(alloc, volume, heads, hashes)
 }
 
 /// Whether an image keeps all rules behind the volume header, as far as one walk tells.
 pub(crate) fn is_plain_image<A: Allocator + Copy>(
     alloc: A,
-    image: &Volume,
+    volume: &Volume,
 ) -> Result<bool, AllocError>
-    ensures { IfOk result (λ plain. IsTrue plain → KeepsPlainly image.now.bytes.now) }
+    ensures { IfOk result (λ plain. IsTrue plain → KeepsPlainly volume.now.bytes.now) }
 {
-    let mut marks = SlotSet::new(alloc, image.bytes.len() / 16)?;
+    let mut marks = SlotSet::new(alloc, volume.bytes.len() / 16)?;
     let mut todo = Vec::new(alloc);
     let mut heads = Vec::new(alloc);
     let mut hashes = Vec::new(alloc);
     todo.push(Folder {
-        header: image.root as u32,
+        header: volume.root as u32,
         names: 0,
     })?;
     while let Some(folder) = todo.pop() {
         if !is_plain_folder(
             alloc,
-            image,
+            volume,
             folder,
             &mut marks,
             &mut todo,

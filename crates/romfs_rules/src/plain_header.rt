@@ -20,47 +20,47 @@ use romfs_format::read::{cleared, is_dot_name, kind_of, text_at, word};
 
 // Whether the data, the target and the major number of a header with this name break no rule.
 #[inline(always)]
-fn has_plain_body(image: &Volume, at: usize, name: &[u8]) -> bool
-    requires at { at + HEAD_SIZE ≤ length image.now.bytes.now }
-    requires name { data_at at name.now ≤ length image.now.bytes.now }
-    ensures { IsTrue result → HasPlainBody image.now.bytes.now at name.now }
+fn has_plain_body(volume: &Volume, at: usize, name: &[u8]) -> bool
+    requires at { at + HEAD_SIZE ≤ length volume.now.bytes.now }
+    requires name { data_at at name.now ≤ length volume.now.bytes.now }
+    ensures { IsTrue result → HasPlainBody volume.now.bytes.now at name.now }
 {
-    if has_data(image, at) && is_data_outside(image, at, name) {
+    if has_data(volume, at) && is_data_outside(volume, at, name) {
         return false;
     }
-    !is_target_long(image, at) && !is_major_large(image, at)
+    !is_target_long(volume, at) && !is_major_large(volume, at)
 }
 
 // Whether hard links that lead here end here, at a header that breaks no rule.
-fn is_plain_end(image: &Volume, at: usize) -> bool
+fn is_plain_end(volume: &Volume, at: usize) -> bool
     requires at { at < 2 ^ 32 }
-    ensures { IsTrue result → IsPlainEnd image.now.bytes.now at }
+    ensures { IsTrue result → IsPlainEnd volume.now.bytes.now at }
 {
-    if !is_inside(image, at) {
+    if !is_inside(volume, at) {
         return false;
     }
-    let Some(name) = text_at(image.bytes, at + HEAD_SIZE) else {
+    let Some(name) = text_at(volume.bytes, at + HEAD_SIZE) else {
         return false;
     };
-    let kind = kind_of(word(image.bytes, at));
+    let kind = kind_of(word(volume.bytes, at));
     if kind == Kind::HardLink || kind == Kind::Directory {
         return false;
     }
-    has_plain_body(image, at, name)
+    has_plain_body(volume, at, name)
 }
 
 // Whether a member with this name breaks no rule by its own bytes, and ends right where it leads.
 #[inline(always)]
-fn is_plain_member(image: &Volume, at: usize, name: &[u8]) -> bool
-    requires at { at + HEAD_SIZE ≤ length image.now.bytes.now }
-    requires name { data_at at name.now ≤ length image.now.bytes.now }
-    ensures { IsTrue result → IsPlainMember image.now.bytes.now at name.now }
+fn is_plain_member(volume: &Volume, at: usize, name: &[u8]) -> bool
+    requires at { at + HEAD_SIZE ≤ length volume.now.bytes.now }
+    requires name { data_at at name.now ≤ length volume.now.bytes.now }
+    ensures { IsTrue result → IsPlainMember volume.now.bytes.now at name.now }
 {
-    if is_bad_name(name) || !has_plain_body(image, at, name) {
+    if is_bad_name(name) || !has_plain_body(volume, at, name) {
         return false;
     }
-    if kind_of(word(image.bytes, at)) == Kind::HardLink {
-        is_plain_end(image, cleared(word(image.bytes, at + 4)) as usize)
+    if kind_of(word(volume.bytes, at)) == Kind::HardLink {
+        is_plain_end(volume, cleared(word(volume.bytes, at + 4)) as usize)
     } else {
         true
     }
@@ -68,32 +68,32 @@ fn is_plain_member(image: &Volume, at: usize, name: &[u8]) -> bool
 
 // Whether a header with this name, in the chain of a directory, breaks no rule by its own bytes.
 #[inline(always)]
-fn is_plain(image: &Volume, folder: Folder, at: usize, name: &[u8]) -> bool
-    requires inside { IsInside image.now.bytes.now at }
-    requires text { text_at image.now.bytes.now (at + HEAD_SIZE) ≡ Some name.now }
-    requires within { data_at at name.now ≤ length image.now.bytes.now }
-    ensures { IsTrue result → IsPlain image.now.bytes.now folder.header folder.names at }
+fn is_plain(volume: &Volume, folder: Folder, at: usize, name: &[u8]) -> bool
+    requires inside { IsInside volume.now.bytes.now at }
+    requires text { text_at volume.now.bytes.now (at + HEAD_SIZE) ≡ Some name.now }
+    requires within { data_at at name.now ≤ length volume.now.bytes.now }
+    ensures { IsTrue result → IsPlain volume.now.bytes.now folder.header folder.names at }
 {
     if folder.names >= u32::from(MAX_NAMES) {
         return false;
     }
-    if at == image.root {
-        folder.header as usize == image.root
+    if at == volume.root {
+        folder.header as usize == volume.root
     } else {
-        is_dot_name(name) || is_plain_member(image, at, name)
+        is_dot_name(name) || is_plain_member(volume, at, name)
     }
 }
 
 /// What the name is mixed to of a header in the chain of a directory, if the header breaks no rule
 /// by its own bytes; none where it may break some.
 #[inline(always)]
-pub(crate) fn plain_hash(image: &Volume, folder: Folder, at: usize) -> Option<u64>
-    requires { IsInside image.now.bytes.now at }
+pub(crate) fn plain_hash(volume: &Volume, folder: Folder, at: usize) -> Option<u64>
+    requires { IsInside volume.now.bytes.now at }
     ensures { IfSome result
-        (λ hash. IsHashed image.now.bytes.now folder.header folder.names at hash) }
+        (λ hash. IsHashed volume.now.bytes.now folder.header folder.names at hash) }
 {
-    let name = text_at(image.bytes, at + HEAD_SIZE)?;
-    if is_plain(image, folder, at, name) {
+    let name = text_at(volume.bytes, at + HEAD_SIZE)?;
+    if is_plain(volume, folder, at, name) {
         Some(hash_of(name))
     } else {
         None

@@ -24,18 +24,18 @@ use successor_graph::note_repeats;
 
 // The number of the header after one, or that of headers where there is none inside the image.
 fn next_number<A: Allocator>(
-    image: &Volume,
+    volume: &Volume,
     heads: &[u32],
     numbers: &SlotNumbers<A>,
     at: usize,
 ) -> u32
     requires few { length heads.now < 2 ^ 32 }
-    requires numbered { AreNumbered image.now.bytes.now heads.now numbers.now }
-    requires at { IsLinked image.now.bytes.now at }
-    ensures { IsNextNumber image.now.bytes.now heads.now at result }
+    requires numbered { AreNumbered volume.now.bytes.now heads.now numbers.now }
+    requires at { IsLinked volume.now.bytes.now at }
+    ensures { IsNextNumber volume.now.bytes.now heads.now at result }
 {
-    let after = cleared(word(image.bytes, at)) as usize;
-    if after != 0 && is_inside(image, after) {
+    let after = cleared(word(volume.bytes, at)) as usize;
+    if after != 0 && is_inside(volume, after) {
         numbers.number(after / 16)
     } else {
         heads.len() as u32
@@ -45,17 +45,17 @@ fn next_number<A: Allocator>(
 // The number of the header after each, and one more, for none, that leads to itself.
 fn next_numbers<A: Allocator + Copy>(
     alloc: A,
-    image: &Volume,
+    volume: &Volume,
     heads: &[u32],
     numbers: &SlotNumbers<A>,
 ) -> Result<Vec<u32, A>, AllocError>
     requires few { length heads.now < 2 ^ 32 }
-    requires numbered { AreNumbered image.now.bytes.now heads.now numbers.now }
-    ensures { IfOk result (λ next. AreNextNumbers image.now.bytes.now heads.now next.items) }
+    requires numbered { AreNumbered volume.now.bytes.now heads.now numbers.now }
+    ensures { IfOk result (λ next. AreNextNumbers volume.now.bytes.now heads.now next.items) }
 {
     let mut next = Vec::with_capacity(alloc, heads.len() + 1)?;
     for at in heads {
-        next.push(next_number(image, heads, numbers, *at as usize))?;
+        next.push(next_number(volume, heads, numbers, *at as usize))?;
     }
     next.push(heads.len() as u32)?;
     Ok(next)
@@ -81,19 +81,19 @@ fn chosen<A: Allocator>(alloc: A, heads: &[u32], noted: &[bool]) -> Result<Vec<u
 // by their classes.
 fn same_names_by<A: Allocator + Copy>(
     alloc: A,
-    image: &Volume,
+    volume: &Volume,
     chains: &Chains<A>,
     heads: &[u32],
     class: Vec<u32, A>,
 ) -> Result<Vec<u32, A>, AllocError>
-    requires chains { AreChains image.now.bytes.now chains.now }
-    requires alone { ¬ HasRootElsewhere image.now.bytes.now }
+    requires chains { AreChains volume.now.bytes.now chains.now }
+    requires alone { ¬ HasRootElsewhere volume.now.bytes.now }
     requires heads { AreCollected chains.now.headers (length chains.now.headers) heads.now }
-    requires class { AreClassesOf image.now.bytes.now heads.now class.items }
-    ensures { IfOk result (λ found. HaveSameNames image.now.bytes.now found.items) }
+    requires class { AreClassesOf volume.now.bytes.now heads.now class.items }
+    ensures { IfOk result (λ found. HaveSameNames volume.now.bytes.now found.items) }
 {
     let numbers = SlotNumbers::of(alloc, &chains.headers)?;
-    let next = next_numbers(alloc, image, heads, &numbers)?;
+    let next = next_numbers(alloc, volume, heads, &numbers)?;
     drop(numbers);
     let noted = note_repeats(alloc, next, class)?;
     chosen(alloc, heads, &noted)
@@ -103,16 +103,16 @@ fn same_names_by<A: Allocator + Copy>(
 /// place, in the order of their places.
 pub(crate) fn find_same_names<A: Allocator + Copy>(
     alloc: A,
-    image: &Volume,
+    volume: &Volume,
     chains: &Chains<A>,
 ) -> Result<Vec<u32, A>, AllocError>
-    requires chains { AreChains image.now.bytes.now chains.now }
-    requires alone { ¬ HasRootElsewhere image.now.bytes.now }
-    ensures { IfOk result (λ found. HaveSameNames image.now.bytes.now found.items) }
+    requires chains { AreChains volume.now.bytes.now chains.now }
+    requires alone { ¬ HasRootElsewhere volume.now.bytes.now }
+    ensures { IfOk result (λ found. HaveSameNames volume.now.bytes.now found.items) }
 {
     let heads = places_of(alloc, &chains.headers)?;
-    match name_classes_of(alloc, image, &heads)? {
+    match name_classes_of(alloc, volume, &heads)? {
         None => Ok(Vec::new(alloc)),
-        Some(class) => same_names_by(alloc, image, chains, &heads, class),
+        Some(class) => same_names_by(alloc, volume, chains, &heads, class),
     }
 }

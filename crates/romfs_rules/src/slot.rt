@@ -13,27 +13,27 @@ use slot_sets::SlotSet;
 use std::alloc::Allocator;
 
 /// Whether a header lies in the image.
-pub(crate) fn is_inside(image: &Volume, at: usize) -> bool
+pub(crate) fn is_inside(volume: &Volume, at: usize) -> bool
     requires at { at < 2 ^ 32 }
-    ensures { IsTrue result ↔ IsInside image.now.bytes.now at }
+    ensures { IsTrue result ↔ IsInside volume.now.bytes.now at }
 {
-    image.root <= at && at + HEAD_SIZE <= image.bytes.len()
+    volume.root <= at && at + HEAD_SIZE <= volume.bytes.len()
 }
 
 /// Whether a header lies in the image, and has no mark.
-pub(crate) fn is_fresh<A: Allocator>(image: &Volume, at: usize, marks: &SlotSet<A>) -> bool
+pub(crate) fn is_fresh<A: Allocator>(volume: &Volume, at: usize, marks: &SlotSet<A>) -> bool
     requires at { at < 2 ^ 32 }
-    requires sized { length marks.now ≡ length image.now.bytes.now / 16 }
-    ensures fresh { IsTrue result → IsFresh image.now.bytes.now marks.now at }
-    ensures stale { result ≡ false → (¬ IsInside image.now.bytes.now at) ⊎ IsMarked marks.now at }
+    requires sized { length marks.now ≡ length volume.now.bytes.now / 16 }
+    ensures fresh { IsTrue result → IsFresh volume.now.bytes.now marks.now at }
+    ensures stale { result ≡ false → (¬ IsInside volume.now.bytes.now at) ⊎ IsMarked marks.now at }
 {
-    is_inside(image, at) && !marks.contains(at / 16)
+    is_inside(volume, at) && !marks.contains(at / 16)
 }
 
 /// Whether a header lies in the image and is a hard link.
-pub(crate) fn is_hard_link(image: &Volume, at: usize) -> bool
+pub(crate) fn is_hard_link(volume: &Volume, at: usize) -> bool
     requires at { at < 2 ^ 32 }
-    ensures { IsTrue result ↔ IsHardLink image.now.bytes.now at }
+    ensures { IsTrue result ↔ IsHardLink volume.now.bytes.now at }
 {
-    is_inside(image, at) && kind_of(word(image.bytes, at)) == Kind::HardLink
+    is_inside(volume, at) && kind_of(word(volume.bytes, at)) == Kind::HardLink
 }

@@ -16,17 +16,17 @@ use slot_sets::SlotSet;
 use std::alloc::{AllocError, Allocator};
 
 // Marks the headers on the destination chain of a header, up to one that has a mark.
-fn mark_destinations<A: Allocator>(image: &Volume, from: usize, marks: &mut SlotSet<A>)
+fn mark_destinations<A: Allocator>(volume: &Volume, from: usize, marks: &mut SlotSet<A>)
     requires from { from < 2 ^ 32 }
-    requires sized { length marks.old ≡ length image.now.bytes.now / 16 }
-    requires closed { IsClosed image.now.bytes.now marks.old }
-    ensures follows { FollowsLink image.now.bytes.now from marks.old marks.new }
-    ensures closed { IsClosed image.now.bytes.now marks.new }
+    requires sized { length marks.old ≡ length volume.now.bytes.now / 16 }
+    requires closed { IsClosed volume.now.bytes.now marks.old }
+    ensures follows { FollowsLink volume.now.bytes.now from marks.old marks.new }
+    ensures closed { IsClosed volume.now.bytes.now marks.new }
 {
     let mut at = from;
-    while is_hard_link(image, at) {
-        at = cleared(word(image.bytes, at + 4)) as usize;
-        if !is_fresh(image, at, marks) {
+    while is_hard_link(volume, at) {
+        at = cleared(word(volume.bytes, at + 4)) as usize;
+        if !is_fresh(volume, at, marks) {
             return;
         }
         marks.insert(at / 16);
@@ -36,18 +36,18 @@ fn mark_destinations<A: Allocator>(image: &Volume, from: usize, marks: &mut Slot
 /// Marks the headers on the destination chains of members that are hard links.
 pub(crate) fn mark_targets<A: Allocator + Copy>(
     alloc: A,
-    image: &Volume,
+    volume: &Volume,
     chains: &Chains<A>,
 ) -> Result<SlotSet<A>, AllocError>
-    requires chains { AreChains image.now.bytes.now chains.now }
-    ensures { IfOk result (AreTargets image.now.bytes.now) }
+    requires chains { AreChains volume.now.bytes.now chains.now }
+    ensures { IfOk result (AreTargets volume.now.bytes.now) }
 {
-    let mut marks = SlotSet::new(alloc, image.bytes.len() / 16)?;
+    let mut marks = SlotSet::new(alloc, volume.bytes.len() / 16)?;
     let mut from = 0;
     while let Some(slot) = chains.headers.next_from(from) {
         let at = slot * 16;
-        if is_hard_link(image, at) && is_some_member(image, at, chains) {
-            mark_destinations(image, at, &mut marks);
+        if is_hard_link(volume, at) && is_some_member(volume, at, chains) {
+            mark_destinations(volume, at, &mut marks);
         }
         from = slot + 1;
     }

@@ -19,20 +19,20 @@ use std::alloc::{AllocError, Allocator};
 // Counts a link to a header, if it lies in the image.
 #[inline(always)]
 fn count_link<A: Allocator>(
-    image: &Volume,
+    volume: &Volume,
     to: Option<u32>,
     once: &mut SlotSet<A>,
     twice: &mut SlotSet<A>,
 )
-    requires once { length once.old ≡ length image.now.bytes.now / 16 }
-    requires twice { length twice.old ≡ length image.now.bytes.now / 16 }
-    ensures { Counts image.now.bytes.now to once.old twice.old once.new twice.new }
+    requires once { length once.old ≡ length volume.now.bytes.now / 16 }
+    requires twice { length twice.old ≡ length volume.now.bytes.now / 16 }
+    ensures { Counts volume.now.bytes.now to once.old twice.old once.new twice.new }
 {
     let Some(to) = to else {
         return;
     };
     let at = to as usize;
-    if !is_inside(image, at) {
+    if !is_inside(volume, at) {
         return;
     }
     if once.contains(at / 16) {
@@ -45,40 +45,40 @@ fn count_link<A: Allocator>(
 // Counts the links of a header's fields.
 #[inline(always)]
 fn count_links<A: Allocator>(
-    image: &Volume,
+    volume: &Volume,
     at: usize,
     chains: &Chains<A>,
     once: &mut SlotSet<A>,
     twice: &mut SlotSet<A>,
 )
-    requires slot { HasSlot image.now.bytes.now at }
-    requires chains { AreChains image.now.bytes.now chains.now }
-    requires once { length once.old ≡ length image.now.bytes.now / 16 }
-    requires twice { length twice.old ≡ length image.now.bytes.now / 16 }
-    ensures { CountsBoth image.now.bytes.now at once.old twice.old once.new twice.new }
+    requires slot { HasSlot volume.now.bytes.now at }
+    requires chains { AreChains volume.now.bytes.now chains.now }
+    requires once { length once.old ≡ length volume.now.bytes.now / 16 }
+    requires twice { length twice.old ≡ length volume.now.bytes.now / 16 }
+    ensures { CountsBoth volume.now.bytes.now at once.old twice.old once.new twice.new }
 {
-    let next = next_link(image, at, chains);
-    count_link(image, next, once, twice);
-    let first = first_link(image, at, chains);
-    count_link(image, first, once, twice);
+    let next = next_link(volume, at, chains);
+    count_link(volume, next, once, twice);
+    let first = first_link(volume, at, chains);
+    count_link(volume, first, once, twice);
 }
 
 // Marks the headers that two links name.
 fn mark_twice<A: Allocator + Copy>(
     alloc: A,
-    image: &Volume,
+    volume: &Volume,
     chains: &Chains<A>,
 ) -> Result<SlotSet<A>, AllocError>
-    requires chains { AreChains image.now.bytes.now chains.now }
+    requires chains { AreChains volume.now.bytes.now chains.now }
     ensures { IfOk result (λ marks.
-        AreMarks image.now.bytes.now (IsLinkedTwice image.now.bytes.now) marks) }
+        AreMarks volume.now.bytes.now (IsLinkedTwice volume.now.bytes.now) marks) }
 {
-    let mut once = SlotSet::new(alloc, image.bytes.len() / 16)?;
-    let mut twice = SlotSet::new(alloc, image.bytes.len() / 16)?;
-    count_links(image, image.root, chains, &mut once, &mut twice);
-    let mut from = image.root / 16 + 1;
+    let mut once = SlotSet::new(alloc, volume.bytes.len() / 16)?;
+    let mut twice = SlotSet::new(alloc, volume.bytes.len() / 16)?;
+    count_links(volume, volume.root, chains, &mut once, &mut twice);
+    let mut from = volume.root / 16 + 1;
     while let Some(slot) = chains.headers.next_from(from) {
-        count_links(image, slot * 16, chains, &mut once, &mut twice);
+        count_links(volume, slot * 16, chains, &mut once, &mut twice);
         from = slot + 1;
     }
     Ok(twice)
@@ -87,12 +87,12 @@ fn mark_twice<A: Allocator + Copy>(
 /// The headers that two links name, rising.
 pub(crate) fn find_twice<A: Allocator + Copy>(
     alloc: A,
-    image: &Volume,
+    volume: &Volume,
     chains: &Chains<A>,
 ) -> Result<Vec<u32, A>, AllocError>
-    requires chains { AreChains image.now.bytes.now chains.now }
-    ensures { IfOk result (λ found. AreTwice image.now.bytes.now found.items) }
+    requires chains { AreChains volume.now.bytes.now chains.now }
+    ensures { IfOk result (λ found. AreTwice volume.now.bytes.now found.items) }
 {
-    let twice = mark_twice(alloc, image, chains)?;
+    let twice = mark_twice(alloc, volume, chains)?;
     places_of(alloc, &twice)
 }

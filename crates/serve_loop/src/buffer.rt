@@ -80,13 +80,9 @@ impl<A: Allocator> Buffer<A> {
             (held_in self.old) (held_in self.new) result }
         ensures end { IfOk result (λ n. n ≡ 0 → IsAtEnd (S.state source.new).left) }
     {
-        match pull_at(source, self.bytes.as_mut_slice(), self.end) {
-            Ok(got) => {
-                self.end += got;
-                Ok(got)
-            }
-            Err(failed) => Err(failed),
-        }
+        let got = pull_at(source, self.bytes.as_mut_slice(), self.end)?;
+        self.end += got;
+        Ok(got)
     }
 }
 

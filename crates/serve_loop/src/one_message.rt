@@ -13,15 +13,8 @@ use std::alloc::{AllocError, Allocator};
 pub trait AnswersOne {
     ghost answering: { Self → Answering };
 
+    // How many nodes there are. They are numbered from 1 on.
     ghost nodes: { Self → ℕ };
-
-    /// The session that a stream begins in.
-    fn first(&self) -> Session
-        ensures { result ≡ (answering self.now).first };
-
-    /// How many nodes there are. They are numbered from 1 on.
-    fn nodes(&self) -> u64
-        ensures { result ≡ nodes self.now };
 
     /// Answers the message that has this number in its round, from 0 on, and says the session after
     /// it. Appends the reply, and adds what the message moves to the balances, in which node n has

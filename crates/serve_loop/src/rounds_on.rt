@@ -39,10 +39,9 @@ fn answer_round<R: Threads + Sync, T: Rounds, K: Sink, A: Allocator + Copy + Sen
     if round.messages == 0 {
         return Ok(false);
     }
-    match hand_on(sink, progress.replies.as_slice()) {
-        Ok(()) => {}
-        Err(_) => return Err(Stop::Write),
-    }
+    let Ok(()) = hand_on(sink, progress.replies.as_slice()) else {
+        return Err(Stop::Write);
+    };
     progress.buffer.pass(round.used);
     progress.session = round.session;
     progress.at += round.used as u64;

@@ -66,14 +66,11 @@ pub fn run_by<R: Threads + Sync, T: Rounds, S: Source, K: Sink, A: Allocator + C
             Ok(()) => {}
             Err(stop) => return Err(stop),
         }
-        match bad_length(progress.buffer.rest()) {
-            Some(len) => {
-                return Err(Stop::BadLength {
-                    at: progress.at,
-                    len,
-                });
-            }
-            None => {}
+        if let Some(len) = bad_length(progress.buffer.rest()) {
+            return Err(Stop::BadLength {
+                at: progress.at,
+                len,
+            });
         }
     }
     Err(Stop::Turns)

@@ -35,6 +35,12 @@ slots_of n words set e = sym (ap length e) ∙ bits_length n words
 pub word_read : (words : List ℕ) (i w : ℕ) → i < length words → w ≡ get_or words i w → w ≡ get_or words i 0
 word_read words i w l e = e ∙ get_or_default_zero words i w l
 
+-- the word of a slot, as it was read
+pub word_of_slot : (n : ℕ) (words : List ℕ) (held : List Bool) (slot w : ℕ) → bits n words ≡ held → n ≤ length words * 64
+    → slot < length held → w ≡ get_or words (slot / 64) w → (slot < n) × (w ≡ get_or words (slot / 64) 0)
+word_of_slot n words held slot w is enough within read =
+    let same = slots_of n words held is in (omega arith, word_read words (slot / 64) w (omega arith) read)
+
 -- words of zeros are the empty set
 pub bits_none : (n m : ℕ) (words : List ℕ) → words ≡ replicate m 0 → n ≤ m * 64 → bits n words ≡ replicate n false
 bits_none n m words e h = same_lists (bits n words) (replicate n false) (bits_length n words ∙ sym (length-replicate n false)) (λ k d l.

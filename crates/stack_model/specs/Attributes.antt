@@ -4,8 +4,9 @@ use Rattle.std.specs.Option.{option_map_or}
 use Rattle.romfs_format.specs.declared.head.Kind.{Kind}
 use Rattle.romfs_format.specs.declared.head.Kind.TheVariants.{HardLink, Directory, Regular, SymLink, Block, Character, Socket, Fifo}
 use Rattle.romfs_format.specs.Fields.{kind, exec, size, spec, name, data_at}
+use Rattle.node_attr.specs.declared.attr.Attr.{Attr}
 use Rattle.stack_model.specs.Listing.{Entry}
-use Rattle.stack_model.specs.Numbers.{Place, place, same_place, children}
+use Rattle.stack_model.specs.Numbers.{Place, place, same_place, number, children}
 use Rattle.std.specs.Prelude.{length}
 
 -- whether the kind is a directory's
@@ -83,6 +84,17 @@ module _ (layers : List (List ℕ)) where
   -- the same, held at the field's greatest value
   abbrev pub nlink : List Entry → Place → ℕ
   nlink entries p = min (links entries p) (2 ^ 32 - 1)
+
+  -- all of these of a place, with its number
+  abbrev pub attr_of : List Entry → Place → Attr
+  attr_of entries p = record {
+    ino = number entries p;
+    size = size_at p;
+    blocks = blocks_of (size_at p);
+    mode = mode p;
+    nlink = nlink entries p;
+    rdev = rdev p;
+  }
 
   -- the data of a regular file, or the target of a symbolic link
   unfoldable pub data_of : Place → List ℕ

@@ -76,10 +76,11 @@ pub record LayerExamples : Type 0 where
   pub names_of_a_file : links [] two_layers (0, 0x60) ≡ 2
   pub order : path_cmp (codes "a" ∷ codes "b" ∷ []) (codes "a!" ∷ []) ≡ Less
 
--- the first word of a header: of a directory with the executable bit, and of a file
+-- the first word of a directory's header, with the executable bit
 abbrev pub directory_word : List ℕ
 directory_word = 0 ∷ 0 ∷ 0 ∷ 9 ∷ []
 
+-- the first word of a file's header
 abbrev pub file_word : List ℕ
 file_word = 0 ∷ 0 ∷ 0 ∷ 2 ∷ []
 

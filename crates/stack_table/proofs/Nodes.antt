@@ -9,13 +9,13 @@ use Rattle.std.proofs.lemmas.Option.{slice_get_within, slice_get-get_or, slice_g
 use Rattle.romfs_reader.specs.Readers.{bytes_at, IsPart}
 use Rattle.stack_model.specs.Listing.{Entry}
 use Rattle.stack_model.specs.Numbers.{Place, Child, nodes, node_of, number_of, number, same_name, children, child}
-use Rattle.stack_model.specs.Attributes.{is_directory, is_directory_at, kind_at}
+use Rattle.stack_model.specs.Attributes.{is_directory, is_directory_at, kind_at, attr_of}
 use Rattle.stack_model.proofs.Numbering.{number_used}
 use Rattle.stack_table.specs.declared.node.Node.{Node}
 use Rattle.stack_table.specs.declared.directory.Directory.{Directory}
 use Rattle.stack_table.specs.Stacked.{Stacked}
 use Rattle.stack_table.specs.Rows.{Line, number_named}
-use Rattle.stack_table.specs.Readers.{TellsNode, attr_of, attr_at, parent_of, parent_at, child_of, child_at, rows_of, rows_at, data_of_number}
+use Rattle.stack_table.specs.Readers.{TellsNode, attr_at, parent_of, parent_at, child_of, child_at, rows_of, rows_at, data_of_number}
 use Rattle.stack_table.specs.Held.{held_at, kept_of, directory_held, attr_held, IsHeldDirectory, IsNode, IsTable}
 
 -- the number of a place that has one

@@ -5,7 +5,7 @@ use Rattle.romfs_reader.specs.Readers.{bytes_at, IsPart}
 use Rattle.stack_model.specs.Listing.{Entry, IsListing}
 use Rattle.stack_model.specs.Numbers.{Place, nodes, number, parent}
 use Rattle.stack_model.specs.Attributes.{is_directory, kind_at, mode, size_at, rdev, nlink, blocks_of, blocks_all, data_of}
-use Rattle.stack_table.specs.declared.node.NodeAttr.{NodeAttr}
+use Rattle.node_attr.specs.declared.attr.Attr.{Attr}
 use Rattle.stack_table.specs.declared.node.Node.{Node}
 use Rattle.stack_table.specs.declared.directory.Directory.{Directory}
 use Rattle.name_keys.specs.Keyed.{AreKeyed}
@@ -27,7 +27,7 @@ abbrev pub directory_held : List Node → List Directory → ℕ → Option Dire
 directory_held held directories n = option_and_then (kept_of directories) (held_at held n)
 
 -- the attributes that a node holds
-abbrev pub attr_held : ℕ → Node → NodeAttr
+abbrev pub attr_held : ℕ → Node → Attr
 attr_held n node = record {
   ino = n;
   size = node.part.len;

@@ -4,9 +4,9 @@ use Rattle.std.specs.Borrow.{Bor}
 use Rattle.std.specs.Option.{option_map, option_map_or, option_and_then}
 use Rattle.stack_model.specs.Listing.{Entry}
 use Rattle.stack_model.specs.Numbers.{Place as ModelPlace, number, node_of, parent, children, child}
-use Rattle.stack_model.specs.Attributes.{is_directory_at, kind_at, mode, size_at, rdev, blocks_of, nlink, data_of}
+use Rattle.stack_model.specs.Attributes.{is_directory_at, kind_at, attr_of, data_of}
 use Rattle.shown_tree.specs.declared.place.Place.{Place}
-use Rattle.stack_table.specs.declared.node.NodeAttr.{NodeAttr}
+use Rattle.node_attr.specs.declared.attr.Attr.{Attr}
 use Rattle.stack_table.specs.declared.node.Node.{Node}
 use Rattle.stack_table.specs.Rows.{Line}
 use Rattle.stack_table.specs.Stacked.{Stacked}
@@ -16,17 +16,6 @@ abbrev pub placed : Place → ModelPlace
 placed place = (place.layer, place.header)
 
 module _ (layers : List (List ℕ)) (entries : List Entry) where
-  -- the attributes of a place, as a table answers them
-  abbrev pub attr_of : ModelPlace → NodeAttr
-  attr_of p = record {
-    ino = number entries p;
-    size = size_at layers p;
-    blocks = blocks_of (size_at layers p);
-    mode = mode layers p;
-    nlink = nlink layers entries p;
-    rdev = rdev layers p;
-  }
-
   -- the number of the directory above; none where the place is no directory
   abbrev pub parent_of : ModelPlace → Option ℕ
   parent_of p = if is_directory_at layers p then Some (number entries (parent entries p)) else None
@@ -54,7 +43,7 @@ TellsNode stack n found =
     MatchOption found (node_of stack.entries n ≡ None) (λ node. IsNodeOf stack n node.now)
 
 -- the attributes of a number
-abbrev pub attr_at : Stacked → ℕ → Option NodeAttr
+abbrev pub attr_at : Stacked → ℕ → Option Attr
 attr_at stack n = option_map (attr_of stack.layers stack.entries) (node_of stack.entries n)
 
 -- the number of the directory above

@@ -31,7 +31,8 @@ mod row;
 mod table;
 
 pub use directory::{Directories, Directory};
-pub use node::{Node, NodeAttr};
+pub use node::Node;
+pub use node_attr::Attr;
 pub use romfs_reader::Kind;
 pub use row::Row;
 pub use shown_tree::Place;

@@ -7,9 +7,10 @@ ghost use Rattle.stack_table.specs.Held.{attr_held, held_at, directory_held};
 ghost use Rattle.stack_table.specs.Rows.{names};
 
 use crate::directory::{Directories, Directory};
-use crate::node::{Node, NodeAttr};
+use crate::node::Node;
 use crate::row::Row;
 use name_keys::{Guesses, find};
+use node_attr::Attr;
 use romfs_reader::Kind;
 use std::alloc::{AllocError, Allocator};
 
@@ -25,11 +26,11 @@ pub(crate) fn node_at(nodes: &[Node], number: u64) -> Option<&Node>
 }
 
 // The attributes of a node with this number.
-pub(crate) fn attr_of(number: u64, node: &Node) -> NodeAttr
+pub(crate) fn attr_of(number: u64, node: &Node) -> Attr
     ensures { result ≡ attr_held number node.now }
 {
     let size = u64::from(node.part.len);
-    NodeAttr {
+    Attr {
         ino: number,
         size,
         blocks: (size + 511) / 512,
@@ -141,12 +142,9 @@ pub(crate) fn guesses_of<A: Allocator>(
     for (at, _node) in nodes.iter().enumerate() {
         let number = (at as u64).wrapping_add(1);
         if let Some(directory) = directory_at(nodes, &directories.all, number) {
-            match directories
-                .rows
-                .get(directory.rows_start..directory.rows_end)
-            {
-                Some(rows) => guesses.note_all(number, directory.rows_start, rows),
-                None => {}
+            let range = directory.rows_start..directory.rows_end;
+            if let Some(rows) = directories.rows.get(range) {
+                guesses.note_all(number, directory.rows_start, rows);
             }
         }
     }

@@ -10,9 +10,10 @@ ghost use Rattle.stack_table.specs.Readers.{TellsNode, attr_at, parent_at, child
 
 use crate::directory::{Directories, Directory};
 use crate::lookup::{attr_of, directory_at, guesses_of, keys_of, node_at, place_of, rows_of};
-use crate::node::{Node, NodeAttr};
+use crate::node::Node;
 use crate::row::Row;
 use name_keys::Guesses;
+use node_attr::Attr;
 use romfs_reader::Image;
 use std::alloc::{AllocError, Allocator, Global};
 use std::marker::Model;
@@ -167,7 +168,7 @@ impl<A: Allocator> Table<A> {
     }
 
     /// The attributes of a node; none where the number is not in use.
-    pub fn attr(&self, number: u64) -> Option<NodeAttr>
+    pub fn attr(&self, number: u64) -> Option<Attr>
         ensures { result ≡ attr_at self.now number }
     {
         let node = node_at(&self.nodes, number)?;

@@ -31,8 +31,6 @@ pub fn create_named<R: Files>(
     let Some(path) = path else {
         return Ok(None);
     };
-    match fs::create(rt, path) {
-        Ok(file) => Ok(Some(file)),
-        Err(_) => Err(fault),
-    }
+    let file = fs::create(rt, path).map_err(|_| fault)?;
+    Ok(Some(file))
 }

@@ -6,8 +6,8 @@ use Rattle.romfs_rules.proofs.chains.mark_root_chain.Goals as goal
 
 pub loop-marks-init : goal.loop-marks-init
 loop-marks-init g c = record {
-  walked = rw c.cleared-at.ensures (begun c.args.image.now.bytes.now c.args.image.now.keeps c.args.image.now.root c.word.result
-      c.args.image.now.rooted c.word.ensures c.in_ok-marks.marks c.in_ok-marks.ensures);
+  walked = rw c.cleared-at.ensures (begun c.args.volume.now.bytes.now c.args.volume.now.keeps c.args.volume.now.root c.word.result
+      c.args.volume.now.rooted c.word.ensures c.in_ok-marks.marks c.in_ok-marks.ensures);
   narrow = omega arith;
 }
 
@@ -21,12 +21,12 @@ pub loop-marks-preserved : goal.loop-marks-preserved
 loop-marks-preserved g c =
     let f = c.loop-marks-test.ensures.fresh refl in
     record {
-      walked = rw c.insert.ensures (steps c.args.image.now.bytes.now c.loop-marks.marks c.loop-marks.at c.loop-marks.invariant.walked
-          c.args.image.now.keeps f.0 f.1
+      walked = rw c.insert.ensures (steps c.args.volume.now.bytes.now c.loop-marks.marks c.loop-marks.at c.loop-marks.invariant.walked
+          c.args.volume.now.keeps f.0 f.1
           c.cleared-at-in-loop-marks.result (c.cleared-at-in-loop-marks.ensures ∙ ap cleared c.word-in-loop-marks.ensures));
       narrow = omega arith;
     }
 
 pub returns : goal.returns
-returns g c = all_marked c.args.image.now.bytes.now c.loop-marks.marks c.loop-marks.at c.loop-marks.invariant.walked
+returns g c = all_marked c.args.volume.now.bytes.now c.loop-marks.marks c.loop-marks.at c.loop-marks.invariant.walked
     (c.loop-marks-test.ensures.stale refl)

@@ -5,7 +5,7 @@ use Rattle.romfs_rules.proofs.chains.mark_root_chain.Given as goal
 
 -- the walk along the root's chain stands here, at a word, with these marks
 abbrev pub invariant-loop-marks : goal.invariant-loop-marks
-invariant-loop-marks g l = record { walked : Walked l.image.bytes.now l.marks l.at; narrow : l.at < 2 ^ 32 }
+invariant-loop-marks g l = record { walked : Walked l.volume.bytes.now l.marks l.at; narrow : l.at < 2 ^ 32 }
 
 -- how many slots have no mark
 abbrev pub decreases-loop-marks : goal.decreases-loop-marks

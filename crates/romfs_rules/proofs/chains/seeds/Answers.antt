@@ -5,12 +5,12 @@ use Rattle.romfs_rules.proofs.chains.seeds.Goals as goal
 pub loop-slot-init : goal.loop-slot-init
 loop-slot-init g c = record {
   low = omega arith;
-  seeded = rw c.new-todo.ensures.items (unseeded c.args.image.now.bytes.now c.args.root_chain.now c.requires.root_chain);
+  seeded = rw c.new-todo.ensures.items (unseeded c.args.volume.now.bytes.now c.args.root_chain.now c.requires.root_chain);
 }
 
 pub loop-slot-preserved : goal.loop-slot-preserved
 loop-slot-preserved g c =
-    let a = c.args.image.now.bytes.now in
+    let a = c.args.volume.now.bytes.now in
     let set = c.args.root_chain.now in
     let n = c.in-Some.ensures.next in
     let h = n.high in
@@ -24,7 +24,7 @@ loop-slot-preserved g c =
 
 pub returns : goal.returns
 returns g c =
-    let a = c.args.image.now.bytes.now in
+    let a = c.args.volume.now.bytes.now in
     let set = c.args.root_chain.now in
     all_seeded a set c.requires.root_chain (length set) c.loop-slot.todo.items (omega arith)
     (passed_to a set c.requires.root_chain c.loop-slot.from (length set) c.loop-slot.todo.items

@@ -4,7 +4,7 @@ use Rattle.romfs_rules.proofs.chains.seeds.Given as goal
 
 -- the words are the starts of the slots before the next one
 abbrev pub invariant-loop-slot : goal.invariant-loop-slot
-invariant-loop-slot g l = record { low : l.from ≤ length l.root_chain; seeded : Seeded l.image.bytes.now l.root_chain l.from l.todo.items }
+invariant-loop-slot g l = record { low : l.from ≤ length l.root_chain; seeded : Seeded l.volume.bytes.now l.root_chain l.from l.todo.items }
 
 -- how many slots are left
 abbrev pub decreases-loop-slot : goal.decreases-loop-slot

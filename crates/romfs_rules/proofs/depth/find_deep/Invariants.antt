@@ -3,7 +3,7 @@ use Rattle.romfs_rules.proofs.depth.find_deep.Given as goal
 
 -- the walk down has these headers to come, these marks, and found this
 abbrev pub invariant-loop-next : goal.invariant-loop-next
-invariant-loop-next g l = Descends l.image.bytes.now l.todo.items l.marks l.deep
+invariant-loop-next g l = Descends l.volume.bytes.now l.todo.items l.marks l.deep
 
 -- what the walk has left
 abbrev pub decreases-loop-next : goal.decreases-loop-next

@@ -9,20 +9,20 @@ pub loop-walks-init : goal.loop-walks-init
 loop-walks-init g c = record {
   target = c.requires.target;
   same = refl;
-  going = goes c.args.image.now.bytes.now c.args.ends.now c.args.from c.args.walks.now.by_slot c.requires.sized
+  going = goes c.args.volume.now.bytes.now c.args.ends.now c.args.from c.args.walks.now.by_slot c.requires.sized
       (omega (arith, c.requires.hard.0.1)) c.requires.aligned c.requires.known;
   passing = passing c.args.from c.args.walks.now.by_slot;
 }
 
 pub returns-then-walk-mine-clause-end : goal.returns-then-walk-mine-clause-end
 returns-then-walk-mine-clause-end g c = c.loop-walks.invariant.going.start Nowhere
-    (comes_back c.args.image.now.bytes.now c.args.ends.now c.args.from c.loop-walks.at c.loop-walks.walks.by_slot
+    (comes_back c.args.volume.now.bytes.now c.args.ends.now c.args.from c.loop-walks.at c.loop-walks.walks.by_slot
     c.loop-walks.invariant.going (sym c.at-walk.ensures ∙ c.if-walk-mine.true))
 
 pub returns-then-walk-mine-clause-known : goal.returns-then-walk-mine-clause-known
-returns-then-walk-mine-clause-known g c = arrives c.args.image.now.bytes.now c.args.ends.now c.args.from c.loop-walks.at
+returns-then-walk-mine-clause-known g c = arrives c.args.volume.now.bytes.now c.args.ends.now c.args.from c.loop-walks.at
     c.loop-walks.walks.by_slot Nowhere c.loop-walks.invariant.going
-    (comes_back c.args.image.now.bytes.now c.args.ends.now c.args.from c.loop-walks.at c.loop-walks.walks.by_slot
+    (comes_back c.args.volume.now.bytes.now c.args.ends.now c.args.from c.loop-walks.at c.loop-walks.walks.by_slot
     c.loop-walks.invariant.going (sym c.at-walk.ensures ∙ c.if-walk-mine.true))
 
 pub returns-then-walk-mine-clause-passes : goal.returns-then-walk-mine-clause-passes
@@ -32,13 +32,13 @@ returns-then-walk-mine-clause-passes g c = passed_at c.args.from c.loop-walks.at
 
 pub returns-then-walk-ne0-clause-end : goal.returns-then-walk-ne0-clause-end
 returns-then-walk-ne0-clause-end g c = c.loop-walks.invariant.going.start _
-    (meets c.args.image.now.bytes.now c.args.ends.now c.args.from c.loop-walks.at _ _ c.loop-walks.walks.by_slot
+    (meets c.args.volume.now.bytes.now c.args.ends.now c.args.from c.loop-walks.at _ _ c.loop-walks.walks.by_slot
     c.loop-walks.invariant.going (sym c.at-walk.ensures) c.if-walk-ne0.true c.if-walk-mine.false refl)
 
 pub returns-then-walk-ne0-clause-known : goal.returns-then-walk-ne0-clause-known
-returns-then-walk-ne0-clause-known g c = arrives c.args.image.now.bytes.now c.args.ends.now c.args.from c.loop-walks.at
+returns-then-walk-ne0-clause-known g c = arrives c.args.volume.now.bytes.now c.args.ends.now c.args.from c.loop-walks.at
     c.loop-walks.walks.by_slot _ c.loop-walks.invariant.going
-    (meets c.args.image.now.bytes.now c.args.ends.now c.args.from c.loop-walks.at _ _ c.loop-walks.walks.by_slot
+    (meets c.args.volume.now.bytes.now c.args.ends.now c.args.from c.loop-walks.at _ _ c.loop-walks.walks.by_slot
     c.loop-walks.invariant.going (sym c.at-walk.ensures) c.if-walk-ne0.true c.if-walk-mine.false refl)
 
 pub returns-then-walk-ne0-clause-passes : goal.returns-then-walk-ne0-clause-passes
@@ -47,23 +47,23 @@ returns-then-walk-ne0-clause-passes g c = passed_at c.args.from c.loop-walks.at 
     (λ e. c.if-walk-ne0.true (c.at-walk.ensures ∙ e))
 
 pub loop-walks-smaller : goal.loop-walks-smaller
-loop-walks-smaller g c = rw c.put.ensures.put (fewer c.args.image.now.bytes.now c.args.ends.now c.args.from
+loop-walks-smaller g c = rw c.put.ensures.put (fewer c.args.volume.now.bytes.now c.args.ends.now c.args.from
     c.loop-walks.at c.loop-walks.walks.by_slot c.loop-walks.invariant.going (c.loop-walks-test.ensures.0 refl)
     (sym c.at-walk.ensures ∙ c.if-walk-ne0.false))
 
 pub loop-walks-preserved : goal.loop-walks-preserved
 loop-walks-preserved g c =
     let hard = c.loop-walks-test.ensures.0 refl in
-    let s : spec c.args.image.now.bytes.now c.loop-walks.at < 2 ^ 32 = rw (← c.word.ensures) (omega arith) in
+    let s : spec c.args.volume.now.bytes.now c.loop-walks.at < 2 ^ 32 = rw (← c.word.ensures) (omega arith) in
     let sized = c.loop-walks.invariant.going.sized in
     let inside = hard.0.1 in
     let l : c.loop-walks.at / 16 < length c.loop-walks.walks.by_slot = omega arith in
     record {
       target = rw (c.cleared-at.ensures, c.word.ensures)
-          (next_target c.args.image.now.bytes.now c.loop-walks.at c.loop-walks.invariant.target hard);
+          (next_target c.args.volume.now.bytes.now c.loop-walks.at c.loop-walks.invariant.target hard);
       same = c.put.ensures.same ∙ c.loop-walks.invariant.same;
       going = rw (c.put.ensures.put, c.cleared-at.ensures, c.word.ensures)
-          (passes c.args.image.now.bytes.now c.args.ends.now c.args.from c.loop-walks.at c.loop-walks.walks.by_slot
+          (passes c.args.volume.now.bytes.now c.args.ends.now c.args.from c.loop-walks.at c.loop-walks.walks.by_slot
           c.loop-walks.invariant.going hard (sym c.at-walk.ensures ∙ c.if-walk-ne0.false) s);
       passing = rw c.put.ensures.put (passing_on c.args.from c.loop-walks.at _ (length c.args.ends.now)
           c.args.walks.now.by_slot c.loop-walks.walks.by_slot c.loop-walks.invariant.passing l);
@@ -85,7 +85,7 @@ pub returns-clause-end : goal.returns-clause-end
 returns-clause-end g c = c.loop-walks.invariant.going.start c.end_at.result c.end_at.ensures
 
 pub returns-clause-known : goal.returns-clause-known
-returns-clause-known g c = arrives c.args.image.now.bytes.now c.args.ends.now c.args.from c.loop-walks.at
+returns-clause-known g c = arrives c.args.volume.now.bytes.now c.args.ends.now c.args.from c.loop-walks.at
     c.loop-walks.walks.by_slot c.end_at.result c.loop-walks.invariant.going c.end_at.ensures
 
 pub returns-clause-passes : goal.returns-clause-passes

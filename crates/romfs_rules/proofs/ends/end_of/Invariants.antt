@@ -6,9 +6,9 @@ use Rattle.romfs_rules.proofs.ends.end_of.Given as goal
 -- the walk stands at a target, over the same set, and has kept earlier marks
 abbrev pub invariant-loop-walks : goal.invariant-loop-walks
 invariant-loop-walks g l = record {
-  target : IsTarget l.image.bytes.now l.at;
+  target : IsTarget l.volume.bytes.now l.at;
   same : l.walks.slots ≡ l.initial.walks.slots;
-  going : Going l.image.bytes.now l.ends l.from l.at l.walks.by_slot;
+  going : Going l.volume.bytes.now l.ends l.from l.at l.walks.by_slot;
   passing : Passing l.from l.at l.initial.walks.by_slot l.walks.by_slot;
 }
 

@@ -11,13 +11,13 @@ loop-slot-init g c =
     record {
       low = omega arith;
       same = e.0;
-      found = rw (e.1, c.new-ends.ensures.items) (found_none c.args.image.now.bytes.now (length c.args.targets.now)
+      found = rw (e.1, c.new-ends.ensures.items) (found_none c.args.volume.now.bytes.now (length c.args.targets.now)
           c.requires.targets.sized);
     }
 
 pub loop-slot-preserved : goal.loop-slot-preserved
 loop-slot-preserved g c =
-    let a = c.args.image.now.bytes.now in
+    let a = c.args.volume.now.bytes.now in
     let slot = c.in-Some.slot in
     let n = c.in-Some.ensures.next in
     let h = n.high in
@@ -43,7 +43,7 @@ loop-slot-preserved g c =
 
 pub returns : goal.returns
 returns g c =
-    let a = c.args.image.now.bytes.now in
+    let a = c.args.volume.now.bytes.now in
     let targets = c.args.targets.now in
     let s = c.requires.targets.sized in
     let all = found_to a c.loop-slot.walks.by_slot c.loop-slot.ends.items targets c.requires.targets

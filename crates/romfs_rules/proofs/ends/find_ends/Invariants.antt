@@ -7,7 +7,7 @@ abbrev pub invariant-loop-slot : goal.invariant-loop-slot
 invariant-loop-slot g l = record {
   low : l.from ≤ length l.targets;
   same : l.walks.slots ≡ l.targets;
-  found : Found l.image.bytes.now l.walks.by_slot l.ends.items l.from;
+  found : Found l.volume.bytes.now l.walks.by_slot l.ends.items l.from;
 }
 
 -- how many slots are left

@@ -8,16 +8,16 @@ use Rattle.romfs_rules.proofs.names.name_classes_by.Goals as goal
 pub named_headers-requires-clause-once : goal.named_headers-requires-clause-once
 named_headers-requires-clause-once g c =
     let heads = c.args.heads.now in
-    subst (HaveTheirsAlone (kept_names c.args.image.now.bytes.now heads) (length heads)) (sym c.deref.ensures.value)
-    (told_alone (kept_names c.args.image.now.bytes.now heads) (length heads) c.args.hashes.now c.in_ok-once.once.items
+    subst (HaveTheirsAlone (kept_names c.args.volume.now.bytes.now heads) (length heads)) (sym c.deref.ensures.value)
+    (told_alone (kept_names c.args.volume.now.bytes.now heads) (length heads) c.args.hashes.now c.in_ok-once.once.items
     c.requires.hashes c.in_ok-once.ensures)
 
 pub classes-requires-clause-named : goal.classes-requires-clause-named
-classes-requires-clause-named g c = (kept_names c.args.image.now.bytes.now c.args.heads.now, c.in_ok-named.ensures)
+classes-requires-clause-named g c = (kept_names c.args.volume.now.bytes.now c.args.heads.now, c.in_ok-named.ensures)
 
 pub returns : goal.returns
 returns g c =
-    let a = c.args.image.now.bytes.now in
+    let a = c.args.volume.now.bytes.now in
     let heads = c.args.heads.now in
     let n = length heads in
     IfOk-weaker c.classes.result

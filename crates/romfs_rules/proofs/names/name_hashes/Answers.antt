@@ -7,7 +7,7 @@ use Rattle.romfs_rules.proofs.names.name_hashes.Goals.{in-Some, in-None}
 
 pub loop-at-preserved : goal.loop-at-preserved
 loop-at-preserved g c =
-    let name = kept_names c.args.image.now.bytes.now c.args.heads.now in
+    let name = kept_names c.args.volume.now.bytes.now c.args.heads.now in
     let i = c.loop-at.at-index in
     let own : (q : List ℕ) → name i ≡ Some q → c.match-kept_name.hash ≡ name_hash q = λ q e. elim c.match-kept_name.branch [
       | in-Some w ↦ w.hash-is ∙ w.hash_of-hash.ensures ∙ ap name_hash (same_some _ q (w.in-Some.ensures ∙ e))

@@ -8,12 +8,12 @@ pub loop-number-preserved-then-once-number : goal.loop-number-preserved-then-onc
 loop-number-preserved-then-once-number g c =
     let at = c.loop-number.number in
     let lt : at < length c.args.heads.now = omega arith in
-    one_without (kept_names c.args.image.now.bytes.now c.args.heads.now) (length c.args.heads.now) at c.loop-number.named.items
+    one_without (kept_names c.args.volume.now.bytes.now c.args.heads.now) (length c.args.heads.now) at c.loop-number.named.items
     (λ q e. c.requires.once at q lt c.if-once-number.true e) c.loop-number.invariant
 
 pub loop-number-preserved : goal.loop-number-preserved
 loop-number-preserved g c =
-    let name = kept_names c.args.image.now.bytes.now c.args.heads.now in
+    let name = kept_names c.args.volume.now.bytes.now c.args.heads.now in
     let n = length c.args.heads.now in
     elim c.match-kept_name.branch [
       | in-Some+in_ok-push w ↦
@@ -28,5 +28,5 @@ loop-number-preserved g c =
 
 pub returns : goal.returns
 returns g c =
-    all_held (kept_names c.args.image.now.bytes.now c.args.heads.now) (length c.args.heads.now) c.loop-number.number
+    all_held (kept_names c.args.volume.now.bytes.now c.args.heads.now) (length c.args.heads.now) c.loop-number.number
     c.loop-number.named.items (omega arith) c.loop-number.invariant

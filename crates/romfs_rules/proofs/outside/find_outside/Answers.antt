@@ -5,23 +5,23 @@ use Rattle.romfs_rules.proofs.Reach.{IsFoundBefore, nothing, scans, scanned_to, 
 use Rattle.romfs_rules.proofs.outside.find_outside.Goals as goal
 
 pub note_named-found-requires : goal.note_named-found-requires
-note_named-found-requires g c = root_slot c.args.image.now.bytes.now c.args.image.now.keeps c.args.image.now.root
-    c.args.image.now.rooted
+note_named-found-requires g c = root_slot c.args.volume.now.bytes.now c.args.volume.now.keeps c.args.volume.now.root
+    c.args.volume.now.rooted
 
 pub note_named-found-requires-in-Some : goal.note_named-found-requires-in-Some
 note_named-found-requires-in-Some g c =
     let n = c.in-Some.ensures in
-    slot_behind c.args.image.now.bytes.now c.args.chains.now.headers c.loop-slot.from c.in-Some.slot
+    slot_behind c.args.volume.now.bytes.now c.args.chains.now.headers c.loop-slot.from c.in-Some.slot
     c.requires.chains.headers.sized c.loop-slot.invariant.behind n.low n.high
 
 pub loop-slot-init : goal.loop-slot-init
 loop-slot-init g c =
-    let a = c.args.image.now.bytes.now in
-    let slot = c.args.image.now.root / 16 in
-    let t = c.args.image.now.rooted in
+    let a = c.args.volume.now.bytes.now in
+    let slot = c.args.volume.now.root / 16 in
+    let t = c.args.volume.now.rooted in
     let k = cleared_root a in
-    let e : c.args.image.now.root ≡ slot * 16 = omega arith in
-    let v = c.args.image.now.keeps.inside in
+    let e : c.args.volume.now.root ≡ slot * 16 = omega arith in
+    let v = c.args.volume.now.keeps.inside in
     let s = c.requires.chains.headers.sized in
     let inside = slot_inside a slot (omega arith) (omega arith) in
     let after = c.note_named-found in
@@ -38,7 +38,7 @@ loop-slot-init g c =
 
 pub loop-slot-preserved : goal.loop-slot-preserved
 loop-slot-preserved g c =
-    let a = c.args.image.now.bytes.now in
+    let a = c.args.volume.now.bytes.now in
     let slot = c.in-Some.slot in
     let n = c.in-Some.ensures in
     let l = n.low in
@@ -65,7 +65,7 @@ loop-slot-preserved g c =
 
 pub returns : goal.returns
 returns g c =
-    let a = c.args.image.now.bytes.now in
+    let a = c.args.volume.now.bytes.now in
     let headers = c.args.chains.now.headers in
     let targets = c.args.targets.now in
     let s = c.requires.chains.headers.sized in
@@ -76,10 +76,10 @@ returns g c =
     c.requires.chains.headers c.requires.targets c.loop-slot.from (length headers) found b
     c.loop-slot.invariant.low d.0 d.1 f in
     record {
-      below = all_scanned a (IsBelow a) c.args.image.now.keeps (length headers) c.loop-slot.found.below
+      below = all_scanned a (IsBelow a) c.args.volume.now.keeps (length headers) c.loop-slot.found.below
           (omega arith) (λ g q e. omega arith) (all (IsBelow a) c.loop-slot.found.below
           c.loop-slot.invariant.below);
-      above = all_scanned a (IsPastEnd a) c.args.image.now.keeps (length headers) c.loop-slot.found.above
-          (omega arith) (λ g q e. (let i = inside_root a c.args.image.now.keeps in omega arith))
+      above = all_scanned a (IsPastEnd a) c.args.volume.now.keeps (length headers) c.loop-slot.found.above
+          (omega arith) (λ g q e. (let i = inside_root a c.args.volume.now.keeps in omega arith))
           (all (IsPastEnd a) c.loop-slot.found.above c.loop-slot.invariant.above);
     }

@@ -7,10 +7,10 @@ use Rattle.romfs_rules.proofs.outside.find_outside.Given as goal
 -- the least on each side of what headers below the next slot, behind the root's, lead to is found
 abbrev pub invariant-loop-slot : goal.invariant-loop-slot
 invariant-loop-slot g l = record {
-  behind : root l.fn.image.bytes.now < l.from * 16;
+  behind : root l.fn.volume.bytes.now < l.from * 16;
   low : l.from ≤ length l.chains.headers;
-  below : IsFoundBefore l.fn.image.bytes.now (IsBelow l.fn.image.bytes.now) l.from l.found.below;
-  above : IsFoundBefore l.fn.image.bytes.now (IsPastEnd l.fn.image.bytes.now) l.from l.found.above;
+  below : IsFoundBefore l.fn.volume.bytes.now (IsBelow l.fn.volume.bytes.now) l.from l.found.below;
+  above : IsFoundBefore l.fn.volume.bytes.now (IsPastEnd l.fn.volume.bytes.now) l.from l.found.above;
 }
 
 -- how many slots are left

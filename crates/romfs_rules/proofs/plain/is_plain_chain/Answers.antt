@@ -5,9 +5,9 @@ use Rattle.romfs_rules.proofs.plain.is_plain_chain.Goals as goal
 
 pub loop-next-init : goal.loop-next-init
 loop-next-init g c = record {
-  chained = begun c.args.image.now.bytes.now c.args.folder c.args.marks.now c.args.todo.now.items c.args.heads.now.items
+  chained = begun c.args.volume.now.bytes.now c.args.folder c.args.marks.now c.args.todo.now.items c.args.heads.now.items
       c.first_of-next.result c.requires.no_heads c.first_of-next.ensures;
-  hashed = none_hashed c.args.image.now.bytes.now c.args.heads.now.items c.args.hashes.now.items c.requires.no_heads
+  hashed = none_hashed c.args.volume.now.bytes.now c.args.heads.now.items c.args.hashes.now.items c.requires.no_heads
       c.requires.no_hashes;
 }
 
@@ -23,16 +23,16 @@ loop-next-preserved g c =
     let x = c.in-Some-plain_hash.ensures in
     record {
       chained = rw (c.insert.ensures, c.in_ok-push.ensures.items)
-          (steps c.args.image.now.bytes.now c.args.folder c.args.marks.now c.args.todo.now.items c.loop-next.marks
+          (steps c.args.volume.now.bytes.now c.args.folder c.args.marks.now c.args.todo.now.items c.loop-next.marks
           c.loop-next.todo.items c.loop-next.heads.items c.in-Some.head (rw c.in-Some.is at c.loop-next.invariant.chained)
           x.plain f.1 f.2 c.push_below.new.todo.items c.in_ok-push_below.ensures
           c.next_of-next.result c.next_of-next.ensures);
       hashed = rw (c.in_ok-push.ensures.items, c.in_ok-push-2.ensures.items)
-          (hashed_more c.args.image.now.bytes.now c.in-Some.head c.in-Some-plain_hash.hash c.loop-next.heads.items
+          (hashed_more c.args.volume.now.bytes.now c.in-Some.head c.in-Some-plain_hash.hash c.loop-next.heads.items
           c.loop-next.hashes.items x.mixed c.loop-next.invariant.hashed);
     }
 
 pub returns : goal.returns
-returns g c = λ _. ended c.args.image.now.bytes.now c.args.folder c.args.marks.now c.args.todo.now.items c.loop-next.marks
+returns g c = λ _. ended c.args.volume.now.bytes.now c.args.folder c.args.marks.now c.args.todo.now.items c.loop-next.marks
     c.loop-next.todo.items c.loop-next.heads.items c.loop-next.hashes.items (rw c.in_default.is at c.loop-next.invariant.chained)
     c.loop-next.invariant.hashed

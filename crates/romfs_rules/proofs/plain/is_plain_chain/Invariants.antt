@@ -7,8 +7,8 @@ use Rattle.romfs_rules.proofs.plain.is_plain_chain.Given as goal
 -- the headers before the next one were passed, and this is what their names are mixed to
 abbrev pub invariant-loop-next : goal.invariant-loop-next
 invariant-loop-next g l = record {
-  chained : Chained l.image.bytes.now l.folder l.initial.marks l.marks l.initial.todo.items l.todo.items l.heads.items l.next;
-  hashed : AreNameHashes (kept_names l.image.bytes.now l.heads.items) (length l.heads.items) l.hashes.items;
+  chained : Chained l.volume.bytes.now l.folder l.initial.marks l.marks l.initial.todo.items l.todo.items l.heads.items l.next;
+  hashed : AreNameHashes (kept_names l.volume.bytes.now l.heads.items) (length l.heads.items) l.hashes.items;
 }
 
 -- how many slots have no mark

@@ -9,7 +9,7 @@ name_classes_of-requires-clause-inside g c =
 
 pub returns-in-None : goal.returns-in-None
 returns-in-None g c =
-    let a = c.args.image.now.bytes.now in
+    let a = c.args.volume.now.bytes.now in
     let heads = c.in_ok-heads.heads.items in
     let n = numbered a _ heads c.requires.chains.headers c.in_ok-heads.ensures in
     let apart : HaveNamesApart a heads =

@@ -9,5 +9,5 @@ pub returns : goal.returns
 returns g c =
     let e : c.loop-at.at-index ≡ length c.args.heads.now = omega arith in
     rw c.in_ok-push-2.ensures.items (follow_all _ _ _ _ refl
-    (subst (λ n. AreNextSoFar c.args.image.now.bytes.now c.args.heads.now c.loop-at.next.items n) e
+    (subst (λ n. AreNextSoFar c.args.volume.now.bytes.now c.args.heads.now c.loop-at.next.items n) e
     c.loop-at.invariant))

@@ -13,7 +13,7 @@ chosen-requires-clause-rising g c = c.requires.heads.rising
 
 pub returns : goal.returns
 returns g c =
-    let a = c.args.image.now.bytes.now in
+    let a = c.args.volume.now.bytes.now in
     let heads = c.args.heads.now in
     let n = numbered a _ heads c.requires.chains.headers c.requires.heads in
     IfOk-weaker c.chosen.result (λ found. AreChosen heads c.in_ok-noted.noted.items (length heads) found.items)
@@ -27,7 +27,7 @@ pub note_repeats-requires-clause-few : goal.note_repeats-requires-clause-few
 note_repeats-requires-clause-few g c =
     let few = c.requires.heads.few in
     let sized = c.requires.chains.headers.sized in
-    let small = c.args.image.now.keeps.small in
+    let small = c.args.volume.now.keeps.small in
     let next = c.in_ok-next.ensures.sized in
     omega arith
 

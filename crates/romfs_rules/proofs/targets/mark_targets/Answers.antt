@@ -12,7 +12,7 @@ is_some_member-requires-clause-slot g c = record {
 
 pub loop-slot-preserved : goal.loop-slot-preserved
 loop-slot-preserved g c =
-    let image = c.args.image.now.bytes.now in
+    let image = c.args.volume.now.bytes.now in
     let slot = c.in-Some.slot in
     let marks = c.loop-slot.marks in
     let n = c.in-Some.ensures.next in
@@ -34,7 +34,7 @@ loop-slot-preserved g c =
 
 pub returns : goal.returns
 returns g c =
-    let image = c.args.image.now.bytes.now in
+    let image = c.args.volume.now.bytes.now in
     let headers = c.args.chains.now.headers in
     all_targets image c.loop-slot.marks (subst (λ n. Reaches image n c.loop-slot.marks) c.requires.chains.headers.sized
     (skipped_to image headers c.requires.chains.headers c.loop-slot.from (length headers) c.loop-slot.marks

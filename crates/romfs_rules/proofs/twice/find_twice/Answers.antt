@@ -8,7 +8,7 @@ use Rattle.romfs_rules.proofs.twice.find_twice.Goals as goal
 
 pub returns : goal.returns
 returns g c =
-    let a = c.args.image.now.bytes.now in
+    let a = c.args.volume.now.bytes.now in
     let twice = c.in_ok-twice.twice in
     IfOk-weaker c.places_of.result (λ heads. AreCollected twice (length twice) heads.items)
     (λ found. IsListOf a (IsLinkedTwice a) found.items)

@@ -6,35 +6,35 @@ use Rattle.romfs_rules.proofs.twice.mark_twice.Goals as goal
 
 pub loop-slot-init : goal.loop-slot-init
 loop-slot-init g c =
-    let a = c.args.image.now.bytes.now in
-    let slot = c.args.image.now.root / 16 in
-    let e : c.args.image.now.root ≡ slot * 16 = (let k = cleared_root a in let t = c.args.image.now.rooted in omega arith) in
-    let v = c.args.image.now.keeps.inside in
+    let a = c.args.volume.now.bytes.now in
+    let slot = c.args.volume.now.root / 16 in
+    let e : c.args.volume.now.root ≡ slot * 16 = (let k = cleared_root a in let t = c.args.volume.now.rooted in omega arith) in
+    let v = c.args.volume.now.keeps.inside in
     let s = c.requires.chains.headers.sized in
-    let t = c.args.image.now.rooted in
+    let t = c.args.volume.now.rooted in
     record {
       behind = omega arith;
       low = omega arith;
       tallied = passes a slot c.in_ok-once.once c.in_ok-twice.twice c.count_links.new.once
           c.count_links.new.twice (subst (λ h. CountsBoth a h c.in_ok-once.once c.in_ok-twice.twice
           c.count_links.new.once c.count_links.new.twice) e c.count_links.ensures)
-          (none_tallied a c.args.image.now.keeps slot (omega arith) c.in_ok-once.once c.in_ok-twice.twice c.in_ok-once.ensures
+          (none_tallied a c.args.volume.now.keeps slot (omega arith) c.in_ok-once.once c.in_ok-twice.twice c.in_ok-once.ensures
           c.in_ok-twice.ensures);
     }
 
 pub count_links-requires-clause-slot : goal.count_links-requires-clause-slot
-count_links-requires-clause-slot g c = root_slot c.args.image.now.bytes.now c.args.image.now.keeps c.args.image.now.root
-    c.args.image.now.rooted
+count_links-requires-clause-slot g c = root_slot c.args.volume.now.bytes.now c.args.volume.now.keeps c.args.volume.now.root
+    c.args.volume.now.rooted
 
 pub count_links-requires-in-Some-clause-slot : goal.count_links-requires-in-Some-clause-slot
 count_links-requires-in-Some-clause-slot g c =
     let n = c.in-Some.ensures.next in
-    slot_behind c.args.image.now.bytes.now c.args.chains.now.headers c.loop-slot.from c.in-Some.slot
+    slot_behind c.args.volume.now.bytes.now c.args.chains.now.headers c.loop-slot.from c.in-Some.slot
     c.requires.chains.headers.sized c.loop-slot.invariant.behind n.low n.high
 
 pub loop-slot-preserved : goal.loop-slot-preserved
 loop-slot-preserved g c =
-    let a = c.args.image.now.bytes.now in
+    let a = c.args.volume.now.bytes.now in
     let n = c.in-Some.ensures.next in
     let l = n.low in
     let h = n.high in
@@ -44,16 +44,16 @@ loop-slot-preserved g c =
       low = omega arith;
       tallied = passes a c.in-Some.slot c.loop-slot.once c.loop-slot.twice c.count_links-in-Some.new.once
           c.count_links-in-Some.new.twice c.count_links-in-Some.ensures
-          (skipped_to a c.args.image.now.keeps c.args.chains.now.headers c.requires.chains.headers c.loop-slot.from
+          (skipped_to a c.args.volume.now.keeps c.args.chains.now.headers c.requires.chains.headers c.loop-slot.from
           c.in-Some.slot c.loop-slot.once c.loop-slot.twice b l n.clear c.loop-slot.invariant.tallied);
     }
 
 pub returns : goal.returns
 returns g c =
-    let a = c.args.image.now.bytes.now in
+    let a = c.args.volume.now.bytes.now in
     let headers = c.args.chains.now.headers in
-    all_twice a c.args.image.now.keeps c.loop-slot.once c.loop-slot.twice
+    all_twice a c.args.volume.now.keeps c.loop-slot.once c.loop-slot.twice
     (subst (λ n. Tallied a (Below a n) c.loop-slot.once c.loop-slot.twice) c.requires.chains.headers.sized
-    (skipped_to a c.args.image.now.keeps headers c.requires.chains.headers c.loop-slot.from (length headers)
+    (skipped_to a c.args.volume.now.keeps headers c.requires.chains.headers c.loop-slot.from (length headers)
     c.loop-slot.once c.loop-slot.twice c.loop-slot.invariant.behind c.loop-slot.invariant.low
     c.in_default.ensures.next c.loop-slot.invariant.tallied))

@@ -6,9 +6,9 @@ use Rattle.romfs_rules.proofs.twice.mark_twice.Given as goal
 -- the links below the next slot, which is behind the root's, are tallied
 abbrev pub invariant-loop-slot : goal.invariant-loop-slot
 invariant-loop-slot g l = record {
-  behind : root l.image.bytes.now < l.from * 16;
+  behind : root l.volume.bytes.now < l.from * 16;
   low : l.from ≤ length l.chains.headers;
-  tallied : Tallied l.image.bytes.now (Below l.image.bytes.now l.from) l.once l.twice;
+  tallied : Tallied l.volume.bytes.now (Below l.volume.bytes.now l.from) l.once l.twice;
 }
 
 -- how many slots are left

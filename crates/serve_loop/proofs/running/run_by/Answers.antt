@@ -85,7 +85,7 @@ pub loop-turn-preserved : goal.loop-turn-preserved
 loop-turn-preserved g c =
     let fed = fed_now g (goal.at.loop-turn-preserved g c).In-Ok c.if-got-eq0.false in (
       goes_on _ _ _ _ c.args.turns _ _ fed _ _ c.in-Ok-answer_all.ensures.ok.0
-          (subst IsOpen c.rest-in-loop-turn.ensures c.in-None.ensures),
+          (subst IsOpen c.rest-in-loop-turn.ensures c.in_default.ensures),
       c.in-Ok-answer_all.ensures.in_order,
     )
 

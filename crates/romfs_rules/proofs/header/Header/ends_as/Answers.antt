@@ -14,7 +14,7 @@ end_same Nowhere = refl
 
 pub returns-in-Some : goal.returns-in-Some
 returns-in-Some c =
-    let a = c.self.inside.image.now.bytes.now in
+    let a = c.self.inside.volume.now.bytes.now in
     rw (← c.self.view_is) (link_says a c.self.inside.at c.in-Some.found c.args.end c.eq.result
     (rw c.in-Some.is at c.self.invariant.ends) (
       λ t. same_true the_type (search rules) c.in-Some.found c.args.end (sym c.eq.ensures ∙ t),

@@ -8,26 +8,26 @@ use Rattle.romfs_rules.proofs.judge.Sets.fault_inside.Goals.{In-Some-next_of_eit
 use Rattle.romfs_rules.proofs.judge.Sets.fault_inside.Goals as goal
 
 pub header-requires : goal.header-requires
-header-requires g c = rw (← c.self.view_is) (asked_root c.args.profile _ c.self.inside.image.now.keeps _ c.self.inside.image.now.rooted)
+header-requires g c = rw (← c.self.view_is) (asked_root c.args.profile _ c.self.inside.volume.now.keeps _ c.self.inside.volume.now.rooted)
 
 pub returns-in-Some : goal.returns-in-Some
 returns-in-Some g c =
     let e = c.header.ensures in
-    rw (← c.self.view_is) (at_root c.args.profile _ c.self.inside.image.now.keeps c.in-Some.fault _
-    c.self.inside.image.now.rooted (rw (e.image, e.at, ← c.self.view_is) at c.in-Some.ensures))
+    rw (← c.self.view_is) (at_root c.args.profile _ c.self.inside.volume.now.keeps c.in-Some.fault _
+    c.self.inside.volume.now.rooted (rw (e.image, e.at, ← c.self.view_is) at c.in-Some.ensures))
 
 pub loop-slot-init : goal.loop-slot-init
 loop-slot-init g c =
-    let a = c.self.inside.image.now.bytes.now in
-    let t = c.self.inside.image.now.rooted in
+    let a = c.self.inside.volume.now.bytes.now in
+    let t = c.self.inside.volume.now.rooted in
     let k = cleared_root a in
-    let v = c.self.inside.image.now.keeps.inside in
+    let v = c.self.inside.volume.now.keeps.inside in
     let s = c.self.invariant.chains.headers.sized in
     let e = c.header.ensures in
     rw (← c.self.view_is) (record {
       behind = omega arith;
       low = omega arith;
-      keeps = root_kept c.args.profile a c.self.inside.image.now.keeps _ c.self.inside.image.now.root t refl
+      keeps = root_kept c.args.profile a c.self.inside.volume.now.keeps _ c.self.inside.volume.now.root t refl
           (rw (e.image, e.at, ← c.self.view_is) at c.in_default.ensures);
     })
 
@@ -36,7 +36,7 @@ next : (g : Over) (c : In-Some-next_of_either g)
     (c.in-Some-next_of_either.slot * 16)
 next g c =
     let l = rw (← c.self.view_is) at c.loop-slot.invariant in
-    rw (← c.self.view_is) (asked_next c.args.profile _ c.self.inside.image.now.keeps _ _ c.self.invariant.chains.headers
+    rw (← c.self.view_is) (asked_next c.args.profile _ c.self.inside.volume.now.keeps _ _ c.self.invariant.chains.headers
     c.self.invariant.targets _ _ l.behind l.keeps c.in-Some-next_of_either.ensures)
 
 pub header-requires-in-Some-next_of_either : goal.header-requires-in-Some-next_of_either
@@ -46,7 +46,7 @@ pub returns-in-Some-fault : goal.returns-in-Some-fault
 returns-in-Some-fault g c =
     let e = c.header-in-Some-next_of_either.ensures in
     let n = next g (goal.at.returns-in-Some-fault g c).In-Some-next_of_either in
-    at_slot c.args.profile _ (rw c.self.view_is at c.self.inside.image.now.keeps) c.in-Some-fault.fault _ n.0 n.1
+    at_slot c.args.profile _ (rw c.self.view_is at c.self.inside.volume.now.keeps) c.in-Some-fault.fault _ n.0 n.1
     (rw (e.image, e.at) at c.in-Some-fault.ensures)
 
 pub loop-slot-preserved : goal.loop-slot-preserved
@@ -59,7 +59,7 @@ loop-slot-preserved g c =
     record {
       behind = omega arith;
       low = omega arith;
-      keeps = scan_more c.args.profile _ (rw c.self.view_is at c.self.inside.image.now.keeps) c.in-Some-next_of_either.slot n.1
+      keeps = scan_more c.args.profile _ (rw c.self.view_is at c.self.inside.volume.now.keeps) c.in-Some-next_of_either.slot n.1
           (rw (e.image, e.at) at c.in_default-fault.ensures);
     }
 
@@ -69,7 +69,7 @@ returns g c =
     let headers = c.self.inside.chains.now.headers in
     let d = c.in_default-next_of_either.ensures in
     let s = c.self.invariant.chains.headers.sized in
-    let v = c.self.inside.image.now.keeps in
+    let v = c.self.inside.volume.now.keeps in
     rw (← c.self.view_is) (scan_all c.args.profile _ v (length headers) (omega arith)
     (scanned_to c.args.profile _ v headers _ c.self.invariant.chains.headers c.self.invariant.targets c.loop-slot.from
     (length headers) l.behind l.low (omega arith) d.0 d.1 l.keeps))

@@ -14,7 +14,7 @@ pub returns-then-at-self : goal.returns-then-at-self
 returns-then-at-self g c =
     let a = c.args.self.now in
     let sets = subst (λ a. AreSets a c.self.inside) c.self.view_is c.self.invariant in
-    let e = c.if-at-self.true ∙ (rw c.self.view_is at c.self.inside.image.now.rooted) in
+    let e = c.if-at-self.true ∙ (rw c.self.view_is at c.self.inside.volume.now.rooted) in
     let law = root_elsewhere a c.args.at e in
     let flag = sets.chains.root in
     or_else (list_says _ _ _ _ _ sets.twice c.requires c.is_listed.ensures) c.if-is_listed.false
@@ -23,6 +23,6 @@ returns-then-at-self g c =
 pub returns-else-at-self : goal.returns-else-at-self
 returns-else-at-self g c =
     let sets = subst (λ a. AreSets a c.self.inside) c.self.view_is c.self.invariant in
-    let root = rw c.self.view_is at c.self.inside.image.now.rooted in
+    let root = rw c.self.view_is at c.self.inside.volume.now.rooted in
     or_else (list_says _ _ _ _ _ sets.twice c.requires c.is_listed.ensures) c.if-is_listed.false
     (λ t. absurd (grind (arith, common_steps)), λ x. absurd (c.if-at-self.false (x.0 ∙ sym root)))

@@ -1,39 +1,41 @@
 use Rattle.std.proofs.Common.{◌∙◌, [], ap, take, drop, sym, refl, subst, ◌+◌, ◌≤◌, length}
 use Rattle.std.proofs.KnownBytes.{Consumes-nil, Consumes-kept}
 use Rattle.std.proofs.lemmas.List.{with_items_is}
+use Rattle.std.proofs.lemmas.Result.{err_from_is_err_and}
 use Rattle.fuse_wire.specs.declared.limits.TheConstants.{PULL_SIZE}
 use Rattle.serve_loop.proofs.Parts.{as_many, held_grown, held_unchanged}
 use Rattle.serve_loop.proofs.buffer.Buffer.pull.Goals as goal
 
-pub returns-in-Ok-clause-pull : goal.returns-in-Ok-clause-pull
-returns-in-Ok-clause-pull g c =
+pub returns-clause-pull : goal.returns-clause-pull
+returns-clause-pull g c =
     let b = c.args.self.now in
     let new = c.pull_at.new.bytes in
-    let gives = c.in-Ok.ensures.gives in
-    let same = c.in-Ok.ensures.front ∙ ap (take b.end) c.as_mut_slice.ensures.value in
-    let l = c.in-Ok.ensures.same ∙ ap length c.as_mut_slice.ensures.value in
+    let gives = c.in_ok-got.ensures.gives in
+    let same = c.in_ok-got.ensures.front ∙ ap (take b.end) c.as_mut_slice.ensures.value in
+    let l = c.in_ok-got.ensures.same ∙ ap length c.as_mut_slice.ensures.value in
     let room = c.requires.room.room in (
-      take c.in-Ok.got (drop b.end new),
+      take c.in_ok-got.got (drop b.end new),
       gives.1,
       record {
-        counts = c.in-Ok.ensures.counts;
-        is = (as_many new c.in-Ok.got b.end gives.0 (subst (λ n. b.end + PULL_SIZE ≤ n) (sym l) room), gives.0);
-        behind = held_grown b.bytes.items new _ b.start b.end c.in-Ok.got (with_items_is b.bytes new (c.in-Ok.ensures.same
+        counts = c.in_ok-got.ensures.counts;
+        is = (as_many new c.in_ok-got.got b.end gives.0 (subst (λ n. b.end + PULL_SIZE ≤ n) (sym l) room), gives.0);
+        behind = held_grown b.bytes.items new _ b.start b.end c.in_ok-got.got (with_items_is b.bytes new (c.in_ok-got.ensures.same
             ∙ c.as_mut_slice.ensures.len)) c.requires.range.ordered same;
       },
     )
 
-pub returns-in-Err-clause-pull : goal.returns-in-Err-clause-pull
-returns-in-Err-clause-pull g c =
+pub returns-in_err-got-clause-pull : goal.returns-in_err-got-clause-pull
+returns-in_err-got-clause-pull g c =
     let b = c.args.self.now in
     let new = c.pull_at.new.bytes in
-    let same = c.in-Err.ensures.front ∙ ap (take b.end) c.as_mut_slice.ensures.value in (
+    let same = c.in_err-got.ensures.front ∙ ap (take b.end) c.as_mut_slice.ensures.value in
+    let failed = err_from_is_err_and c.from_residual.result c.from_residual.ensures.1 in rw failed.1 (
       [],
-      Consumes-kept _ _ _ [] (Consumes-nil _) c.in-Err.ensures.gives,
+      Consumes-kept _ _ _ [] (Consumes-nil _) c.in_err-got.ensures.gives,
       record {
-        counts = c.in-Err.ensures.counts;
+        counts = c.in_err-got.ensures.counts;
         is = refl;
-        behind = held_unchanged b.bytes.items new _ b.start b.end (with_items_is b.bytes new (c.in-Err.ensures.same
+        behind = held_unchanged b.bytes.items new _ b.start b.end (with_items_is b.bytes new (c.in_err-got.ensures.same
             ∙ c.as_mut_slice.ensures.len)) c.requires.range.ordered same;
       },
     )

@@ -1,4 +1,4 @@
-use Rattle.romfs_rules.proofs.fault.header_fault_by.Goals as goal
+use Rattle.romfs_rules.proofs.fault.find_header_fault_by_chains.Goals as goal
 
 pub invariant_of-sets : goal.invariant_of-sets
 invariant_of-sets g c = record {
