@@ -5,17 +5,20 @@
 //! for each file of the lower tree on which the upper one lays a directory (`clashes`), since what
 //! that file cuts is cut by the run of both.
 
-ghost use Rattle.std.specs.Prelude.{◌≡◌, ◌<◌, ◌+◌, ◌++◌, ℕ, List, length, IfOk, OnOk, false};
+ghost use Rattle.std.specs.Prelude.{◌≡◌, ◌<◌, ◌+◌, [], ◌∷◌, ◌++◌, ℕ, List, length, IfOk, OnOk, false};
 ghost use Rattle.path_tree.specs.Rows.{NamesRise, IsForest, IsFirstNamed};
 ghost use Rattle.shown_tree.specs.Trees.{IsTreeOf};
 ghost use Rattle.layer_tree.specs.Laying.{AreKept, AreChildrenLeft, AreUnited, CoverTheKept, IsKept, KeepsFirst, IsFrom, Lays};
 
 use crate::clashes::clashes_both_ways;
-use path_tree::{Branch, cover, drop_first, pass_first, pass_with, take_children};
+use path_tree::{Branch, cover, drop_first, pass_first, pass_with, place, take_children};
 use shown_tree::{Child, Mark, Tree};
 use std::alloc::{AllocError, Allocator};
 use std::cmp::Ordering;
 use std::collections::VecDeque;
+
+/// How many marks at most are looked for one by one.
+const FEW: usize = 8;
 
 /// What is left of branches from a name on, and the first of it if it has the name.
 #[inline(never)]
@@ -38,8 +41,8 @@ pub(crate) fn seek<'a, T: Copy + Drop, A: Allocator>(
     (rest, None)
 }
 
-/// What marks leave of the branches of a directory: both are gone through in step, in the order of
-/// names. With no marks nothing is looked into.
+/// What marks leave of the branches of a directory. Few marks are looked for one by one, and with
+/// none nothing is looked into. With more both are gone through in step, in the order of names.
 #[cycle(keeping)]
 fn kept_below<T: Copy + Drop, A: Allocator + Copy>(
     alloc: A,
@@ -50,8 +53,8 @@ fn kept_below<T: Copy + Drop, A: Allocator + Copy>(
     requires marks { IsForest marks.now }
     ensures { IfOk result (λ kept. AreKept lows.items marks.now kept.items) }
 {
-    if marks.is_empty() {
-        return Ok(lows);
+    if marks.len() <= FEW {
+        return kept_by_few(alloc, lows, marks);
     }
     let mut kept = Vec::with_capacity(alloc, lows.len())?;
     let mut lows = VecDeque::from(lows);
@@ -65,6 +68,61 @@ fn kept_below<T: Copy + Drop, A: Allocator + Copy>(
         }
     }
     Ok(kept)
+}
+
+/// What few marks leave of the branches of a directory, in place, from the last mark on.
+#[cycle(keeping)]
+fn kept_by_few<T: Copy + Drop, A: Allocator + Copy>(
+    alloc: A,
+    mut lows: Vec<Branch<T, A>, A>,
+    marks: &[Branch<Mark, A>],
+) -> Result<Vec<Branch<T, A>, A>, AllocError>
+    requires lows { IsForest lows.items }
+    requires marks { IsForest marks.now }
+    ensures { IfOk result (λ kept. AreKept lows.items marks.now kept.items) }
+{
+    let mut left = marks;
+    while let Some((mark, before)) = left.split_last() {
+        keep_by_one(alloc, &mut lows, mark)?;
+        left = before;
+    }
+    Ok(lows)
+}
+
+/// What one mark and those below it leave of the branches of a directory, in place.
+#[cycle(keeping)]
+fn keep_by_one<T: Copy + Drop, A: Allocator + Copy>(
+    alloc: A,
+    lows: &mut Vec<Branch<T, A>, A>,
+    mark: &Branch<Mark, A>,
+) -> Result<(), AllocError>
+    requires { IsForest lows.old.items }
+    ensures { OnOk result (AreKept lows.old.items (mark.now ∷ []) lows.new.items) }
+{
+    match place(lows, mark.name()) {
+        Err(_) => Ok(()),
+        Ok(i) if mark.value().cut => {
+            lows.remove(i);
+            Ok(())
+        }
+        Ok(i) => keep_inside(alloc, &mut lows[i], mark),
+    }
+}
+
+/// What a mark that does not cut a branch itself, and those below it, leave of the branch, in place.
+#[cycle(keeping)]
+fn keep_inside<T: Copy + Drop, A: Allocator + Copy>(
+    alloc: A,
+    low: &mut Branch<T, A>,
+    mark: &Branch<Mark, A>,
+) -> Result<(), AllocError>
+    requires { mark.now.value.cut ≡ false }
+    ensures { OnOk result (IsKept low.old mark.now low.new) }
+{
+    let children = low.take_children(alloc);
+    let left = children_left(alloc, children, mark)?;
+    low.set_children(left);
+    Ok(())
 }
 
 /// Takes the first branch from a directory; what a mark and those below it leave of it is added to
