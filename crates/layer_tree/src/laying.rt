@@ -4,6 +4,8 @@
 //! lies below its files. Its entries cover what is left. The marks of both are united, with a mark
 //! for each file of the lower tree on which the upper one lays a directory (`clashes`), since what
 //! that file cuts is cut by the run of both.
+//!
+//! A result that is taken by `?` and given back in `Ok` is promised in other words than it came in.
 
 ghost use Rattle.std.specs.Prelude.{◌≡◌, ◌<◌, ◌+◌, [], ◌∷◌, ◌++◌, ℕ, List, length, IfOk, OnOk, false};
 ghost use Rattle.path_tree.specs.Rows.{NamesRise, IsForest, IsFirstNamed};
@@ -32,7 +34,7 @@ pub(crate) fn seek<'a, T: Copy + Drop, A: Allocator>(
 {
     let mut rest = branches;
     while let Some((first, later)) = rest.split_first() {
-        match first.name().cmp(name) {
+        match first.order(name) {
             Ordering::Less => rest = later,
             Ordering::Equal => return (rest, Some(first)),
             Ordering::Greater => return (rest, None),
@@ -109,7 +111,8 @@ fn keep_by_one<T: Copy + Drop, A: Allocator + Copy>(
     }
 }
 
-/// What a mark that does not cut a branch itself, and those below it, leave of the branch, in place.
+/// What a mark that does not cut a branch itself, and those below it, leave of the branch, in
+/// place.
 #[cycle(keeping)]
 fn keep_inside<T: Copy + Drop, A: Allocator + Copy>(
     alloc: A,
@@ -215,7 +218,8 @@ fn marks_laid<A: Allocator + Copy>(
     Ok(marks)
 }
 
-/// One tree laid on another. `hidden` are marks where the upper tree has a file and the lower one a
+/// One tree laid on another, as `lay` has it, but said of trees alone: what that says of runs of
+/// layers follows from this. `hidden` are marks where the upper tree has a file and the lower one a
 /// directory or something below, `replaced` where the lower tree has the file.
 fn laid<A: Allocator + Copy>(alloc: A, low: Tree<A>, high: Tree<A>) -> Result<Tree<A>, AllocError>
     ensures { IfOk result (λ tree. Lays low high tree) }

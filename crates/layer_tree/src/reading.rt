@@ -332,9 +332,10 @@ fn add_plain_folder<A: Allocator + Copy>(
         head.now.offset name.now to.old.entries.items to.old.marks.items
         to.new.entries.items to.new.marks.items) }
 {
-    let entry = entry_at(layer.number, head);
+    let own_entry = entry_at(layer.number, head);
     let own_name = Name::of(layer.alloc, name)?;
-    to.entries.push(Branch::new(own_name, entry, below.entries))?;
+    to.entries
+        .push(Branch::new(own_name, own_entry, below.entries))?;
     Ok(())
 }
 

@@ -29,7 +29,8 @@ module _ {T : Type 0} (f : T → T → T) where
       → Merges f ss (h ∷ []) (take i ss ++ h ∷ drop i ss)
   gaps [] h zero g = Highs_left (h ∷ [])
   gaps [] h (suc i) g = absurd (omega (arith, g.0))
-  gaps (s ∷ ss) h zero g = High s h ss [] (s ∷ ss) (above_of s.name h.name (g.1.1 0 s (omega arith) (omega arith))) (Lows_left (s ∷ ss))
+  gaps (s ∷ ss) h zero g =
+      High s h ss [] (s ∷ ss) (above_of s.name h.name (g.1.1 0 s (omega arith) (omega arith))) (Lows_left (s ∷ ss))
   gaps (s ∷ ss) h (suc i) g = Low s h ss [] (take i ss ++ h ∷ drop i ss) (g.1.0 0 s (omega arith) (omega arith)) (gaps ss h i (
     omega (arith, g.0),
     (λ k d l m. g.1.0 (suc k) d (omega arith) (omega arith), λ k d l m. g.1.1 (suc k) d (omega arith) (omega arith)),

@@ -63,6 +63,19 @@ impl<T: Copy + Drop, A: Allocator> Branch<T, A> {
         self.name.as_slice()
     }
 
+    /// How the branch's name stands to another one. Most names differ in their first byte.
+    pub fn order(&self, name: &[u8]) -> Ordering
+        ensures { result ≡ name_cmp self.now.name name.now }
+    {
+        let own = self.name.as_slice();
+        if let (Some(first), Some(other)) = (own.first(), name.first()) {
+            if first != other {
+                return first.cmp(other);
+            }
+        }
+        own.cmp(name)
+    }
+
     /// The branch's value.
     pub fn value(&self) -> T
         ensures { result ≡ self.now.value }
@@ -128,13 +141,6 @@ impl<T: Copy + Drop, A: Allocator + Copy> Branch<T, A> {
     }
 }
 
-/// How the branch's name stands to a name.
-fn compare<T: Copy + Drop, A: Allocator>(branch: &Branch<T, A>, name: &[u8]) -> Ordering
-    ensures { result ≡ name_cmp branch.now.name name.now }
-{
-    branch.name.as_slice().cmp(name)
-}
-
 /// The branch of that name, by halves.
 pub fn child<'a, T: Copy + Drop, A: Allocator>(
     children: &'a [Branch<T, A>],
@@ -158,5 +164,5 @@ pub fn place<T: Copy + Drop, A: Allocator>(
     ensures { MatchResult result
         (IsPlaceOf name.now children.now) (IsGapFor name.now children.now) }
 {
-    children.binary_search_by(|c| compare(c, name))
+    children.binary_search_by(|c| c.order(name))
 }

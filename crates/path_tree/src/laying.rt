@@ -40,13 +40,6 @@ pub fn cover<T: Lay, A: Allocator + Copy>(
     Ok(Branch::new(name, T::lay(below, above), children))
 }
 
-/// Which name comes first.
-fn order<T: Copy + Drop, A: Allocator>(low: &Branch<T, A>, high: &Branch<T, A>) -> Ordering
-    ensures { result ≡ name_cmp low.now.name high.now.name }
-{
-    low.name().cmp(high.name())
-}
-
 /// The branches of a directory, laid on those of another one.
 #[cycle(laying)]
 pub fn merge<T: Lay, A: Allocator + Copy>(
@@ -68,7 +61,7 @@ pub fn merge<T: Lay, A: Allocator + Copy>(
     let mut lows = VecDeque::from(lows);
     let mut highs = VecDeque::from(highs);
     while let (Some(low), Some(high)) = (lows.front(), highs.front()) {
-        match order(low, high) {
+        match low.order(high.name()) {
             Ordering::Less => pass_first(&mut lows, &mut out)?,
             Ordering::Greater => pass_first(&mut highs, &mut out)?,
             Ordering::Equal => cover_first(alloc, &mut lows, &mut highs, &mut out)?,
@@ -80,7 +73,8 @@ pub fn merge<T: Lay, A: Allocator + Copy>(
     Ok(out)
 }
 
-/// The branches of a directory, few of them, laid on those of another one, one by one from the last.
+/// The branches of a directory, few of them, laid on those of another one, one by one from the
+/// last.
 #[cycle(laying)]
 fn merge_few<T: Lay, A: Allocator + Copy>(
     alloc: A,

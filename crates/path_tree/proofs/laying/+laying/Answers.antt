@@ -47,7 +47,7 @@ merge-loop-low-preserved-in_ok-pass_first-in-Less g t c =
     let p = c.in_ok-pass_first-in-Less.ensures in
     let highs = shown c.loop-low.highs.items c.in-Some-Some.high c.in-Some-Some.ensures'.item in
     let low = rw p.left at c.in-Some-Some.ensures.lookup in
-    let less : name_cmp p.first.name c.in-Some-Some.high.now.name ≡ Less = cc (low, c.in-Less.ensures) in
+    let less : name_cmp p.first.name c.in-Some-Some.high.now.name ≡ Less = cc (low, c.name.ensures, c.in-Less.ensures) in
     rw (p.added, highs)
     (low_first g.T.Lay.laid _ _ _ _ _ _ _ (rw (p.left, highs) at c.loop-low.invariant) less)
 
@@ -57,7 +57,7 @@ merge-loop-low-preserved-in_ok-pass_first-in-Greater g t c =
     let p = c.in_ok-pass_first-in-Greater.ensures in
     let lows = shown c.loop-low.lows.items c.in-Some-Some.low c.in-Some-Some.ensures.item in
     let high = rw p.left at c.in-Some-Some.ensures'.lookup in
-    let greater : name_cmp c.in-Some-Some.low.now.name p.first.name ≡ Greater = cc (high, c.in-Greater.ensures) in
+    let greater : name_cmp c.in-Some-Some.low.now.name p.first.name ≡ Greater = cc (high, c.name.ensures, c.in-Greater.ensures) in
     rw (p.added, lows)
     (high_first g.T.Lay.laid _ _ _ _ _ _ _ (rw (lows, p.left) at c.loop-low.invariant) greater)
 
@@ -66,7 +66,7 @@ merge-loop-low-preserved g t c =
     let p = c.in_ok-cover_first-in-Equal.ensures in
     let low = rw p.low_left at c.in-Some-Some.ensures.lookup in
     let high = rw p.high_left at c.in-Some-Some.ensures'.lookup in
-    let equal : name_cmp p.low.name p.high.name ≡ Equal = cc (low, high, c.in-Equal.ensures) in
+    let equal : name_cmp p.low.name p.high.name ≡ Equal = cc (low, high, c.name.ensures, c.in-Equal.ensures) in
     rw p.added
     (both_first g.T.Lay.laid _ _ _ _ _ _ _ (rw (p.low_left, p.high_left) at c.loop-low.invariant) _
     equal p.laid)
