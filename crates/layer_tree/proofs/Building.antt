@@ -162,6 +162,21 @@ before_built a layer (alone x ms e es ks n w b) m r = let t = before_built a lay
 before_built a layer (built x ms e es k ks n w b) m r = let t = before_built a layer b m r.1 in
     ((rw w.entry_name r.0, t.0), (rw w.mark_name r.0, t.1))
 
+built_fewer : (a : List ℕ) (layer : ℕ) {ms : List NamedMember} {es : List (Subtree Entry)} {ks : List (Subtree Mark)}
+    → AreBuilt a layer ms es ks → length es ≤ length ms
+built_fewer a layer none_built = omega arith
+built_fewer a layer (hidden m ms es ks h b) = omega (arith, built_fewer a layer b)
+built_fewer a layer (alone m ms e es ks n w b) = omega (arith, built_fewer a layer b)
+built_fewer a layer (built m ms e es k ks n w b) = omega (arith, built_fewer a layer b)
+
+-- where all members have branches none is a marker
+pub no_markers : (a : List ℕ) (layer : ℕ) {ms : List NamedMember} {es : List (Subtree Entry)} {ks : List (Subtree Mark)}
+    → AreBuilt a layer ms es ks → length es ≡ length ms → AreWhiteouts ms []
+no_markers a layer none_built l = none_white
+no_markers a layer (hidden m ms es ks h b) l = absurd (omega (arith, l, built_fewer a layer b))
+no_markers a layer (alone m ms e es ks n w b) l = other m ms [] n (no_markers a layer b (omega (arith, l)))
+no_markers a layer (built m ms e es k ks n w b) l = other m ms [] n (no_markers a layer b (omega (arith, l)))
+
 -- of members in the order of names, the entries and the marks are forests
 pub forests : (a : List ℕ) (layer : ℕ) {ms : List NamedMember} {es : List (Subtree Entry)} {ks : List (Subtree Mark)}
     → AreBuilt a layer ms es ks → NamedRise ms → IsForest es × IsForest ks

@@ -28,7 +28,7 @@ use Rattle.layer_tree.proofs.Removing.{file_covers}
 use Rattle.layer_tree.proofs.Joining.{cut_united}
 use Rattle.layer_tree.proofs.Stepping.{all_cut}
 use Rattle.layer_tree.proofs.Layered.{opened_directory, final_directory}
-use Rattle.layer_tree.proofs.Building.{forests, white_forest, FoundBuilt, nowhere, somewhere, find_built, FoundWhite, unmarked, marked, find_white}
+use Rattle.layer_tree.proofs.Building.{no_markers, forests, white_forest, FoundBuilt, nowhere, somewhere, find_built, FoundWhite, unmarked, marked, find_white}
 
 -- no member stands in what is no directory
 no_member : (a : List ℕ) (i : IsImage a) (h c : ℕ) → kind a h ≢ Directory → IsMember a h c → ⊥
@@ -267,6 +267,24 @@ alone_without a layer h n e k w blank = record { name = w.entry_name; entries = 
         let same : removed_by (λ q. None) (at_path (whole e)) path ≡ removed_by (at_path (whole k)) (at_path (whole e)) path
         = ap (λ x. x || covered_by (at_path (whole e)) path) (nothing_cut path ∙ sym (nothing path)) in
         subst (λ x. IsTrue x ↔ CutsAt a h path) (sym same) (w.exact path p)
+
+-- the branch of a directory of which all members have branches, and none a mark, needs no mark
+pub plain_folder : (a : List ℕ) (layer h : ℕ) (ms : List NamedMember) (es : List (Subtree Entry)) (ks : List (Subtree Mark))
+    → IsImage a → AreByName a h ms → AreBuilt a layer ms es ks → length es ≡ length ms → ks ≡ []
+    → kind a h ≡ Directory → (entry : Entry) → IsEntryIn a layer h entry → (n : List ℕ)
+    → IsBranchAlone a layer h n (record { name = n; value = entry; below = spread es })
+plain_folder a layer h ms es ks i m b l e d entry w n =
+    let found : IsMadeOfMembers a layer h ms es [] [] [] = record {
+      sound = i;
+      members = m;
+      built = subst (λ xs. AreBuilt a layer ms es xs) e b;
+      whited = no_markers a layer b l;
+      laid = record { forest = record { names = tt; each = tt }; at = λ x p. refl };
+    } in
+    let both = folder a layer h ms es [] [] [] found false (opaque_is_held a layer h ms es [] [] [] found) d entry w n in
+    alone_without a layer h n (record { name = n; value = entry; below = spread es })
+    (record { name = n; value = record { cut = false; opaque = false }; below = [] }) both
+    (record { uncut = refl; clear = refl; nothing = refl })
 
 -- a mark that itself cuts nothing is blank exactly where it has no branches
 pub blank_below : (k : Subtree Mark) (ks : List (Subtree Mark)) (none : Bool) → k.value.cut ≡ false → k.value.opaque ≡ false

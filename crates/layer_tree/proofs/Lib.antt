@@ -1,5 +1,6 @@
 pub mod Plain
 pub mod Stepping
+pub mod Picking
 pub mod Removing
 pub mod Clashing
 pub mod Meeting

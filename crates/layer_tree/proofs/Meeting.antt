@@ -13,7 +13,7 @@ use Rattle.shown_tree.specs.declared.place.Mark.{Mark}
 use Rattle.shown_tree.specs.Marks.{marked}
 use Rattle.layer_tree.specs.Laying.{IsFrom, Clash, AreClashes, AreApart, IsApart}
 use Rattle.layer_tree.proofs.Clashing.{clash_same, no_files, no_others, marked_in}
-use Rattle.layer_tree.proofs.Stepping.{still_same}
+use Rattle.layer_tree.proofs.Stepping.{still_same, named_measure}
 
 -- neither needs a mark for the other
 abbrev pub Apart : (Path → Option Mark) → (Path → Option Mark) → Type 0
@@ -84,9 +84,10 @@ module _ {T : Type 0} (m : T → Mark) (files later others rest rest' : List (Su
   pub apart : (o : Subtree T) → named f.name rest' ≡ Some o → IsApart m f o → IsMeeting m files later others rest'
   apart o n w = on (rw n (w.low_file, w.high_file))
 
-  -- there is less to go through below one of the files than in all of them
-  pub deeper_measure : 2 * length f.below + 1 < 2 * length (spread files)
-  deeper_measure = omega (arith, grown f later, inv.smaller)
+  -- there is less to go through below two branches of one name than in all of them
+  pub deeper_measure : (o : Subtree T) → named f.name rest' ≡ Some o
+      → 3 * (length f.below + length o.below) + 2 < 3 * (length (spread files) + length (spread others))
+  deeper_measure o n = omega (arith, grown f later, inv.smaller, named_measure f.name others o (sym at_other ∙ n))
 
 -- with none left, the branches of the two directories clash nowhere
 pub meeting_ended : {T : Type 0} (m : T → Mark) (files left others rest : List (Subtree T))

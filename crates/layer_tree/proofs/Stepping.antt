@@ -148,7 +148,6 @@ pub record Keeping {T : Type 0} (lows ls out : List (Subtree T)) (marks rest : L
   pub names : NamesRise ls
   pub rest_names : NamesRise rest
   pub same : AllByRecursion (λ l. named l.name rest ≡ named l.name marks) ls
-  pub smaller : length (spread ls) ≤ length (spread lows)
 
 all_same : {T : Type 0} (ls : List (Subtree T)) (marks : List (Subtree Mark))
     → AllByRecursion (λ l. named l.name marks ≡ named l.name marks) ls
@@ -163,8 +162,16 @@ keeping_begun lows marks f r = record {
   names = f.names;
   rest_names = r;
   same = all_same lows marks;
-  smaller = omega arith;
 }
+
+-- below a branch that is found is less than in its directory
+pub named_measure : {T : Type 0} (n : List ℕ) (ss : List (Subtree T)) (s : Subtree T) → named n ss ≡ Some s
+    → length s.below + 1 ≤ length (spread ss)
+named_measure {T} n [] s e = absurd (cc)
+named_measure {T} n (x ∷ xs) s e = elim (same_or_not x.name n) [
+  | inl y ↦ (let f = rw y.1 at e in let same : x ≡ s = cc in omega (arith, grown x xs, ap (λ (z : Subtree T). length z.below) same))
+  | inr y ↦ omega (arith, grown x xs, named_measure n xs s (rw y.1 at e))
+]
 
 -- of what is left, l is the first branch
 module _ {T : Type 0} (lows ls out : List (Subtree T)) (marks rest rest' : List (Subtree Mark)) (l : Subtree T)
@@ -182,8 +189,11 @@ module _ {T : Type 0} (lows ls out : List (Subtree T)) (marks rest rest' : List 
       names = inv.names.1;
       rest_names = from.names;
       same = still_same l.name rest rest' marks from ls inv.names.0 inv.same.1;
-      smaller = omega (arith, grown l ls, inv.smaller);
     }
+
+    -- below the mark of the branch is less than in all of them
+    pub mark_measure : (m : Subtree Mark) → named l.name rest' ≡ Some m → length m.below + 1 ≤ length (spread marks)
+    mark_measure m n = named_measure l.name marks m (sym at_mark ∙ n)
 
     -- a branch without a mark is left as it is
     pub untouched : named l.name rest' ≡ None → Keeping lows ls (out ++ l ∷ []) marks rest'
@@ -203,16 +213,6 @@ module _ {T : Type 0} (lows ls out : List (Subtree T)) (marks rest rest' : List 
         → Keeping lows ls (out ++ option_to_list o) marks rest'
     kept_or_not m None n k = rw append-nil (left_out m n k)
     kept_or_not m (Some b) n k = kept_one m b n k
-
--- the children of the first branch are fewer than all that is left
-pub below_measure : {T : Type 0} (ls ls' children : List (Subtree T)) (l : Subtree T) → ls ≡ l ∷ ls' → l.below ≡ spread children
-    → 3 * length (spread children) + 3 < 3 * length (spread ls) + 1
-below_measure ls ls' children l e below = rw e (omega (arith, grown l ls', ap length below))
-
--- and all that is left is no more than all
-pub left_measure : {T : Type 0} (lows ls out : List (Subtree T)) (marks rest : List (Subtree Mark))
-    → Keeping lows ls out marks rest → 3 * length (spread ls) + 1 < 3 * length (spread lows) + 2
-left_measure lows ls out marks rest inv = omega (arith, inv.smaller)
 
 -- with no branch to go, what is left is what marks leave of all
 pub keeping_ended : {T : Type 0} (lows ls out : List (Subtree T)) (marks rest : List (Subtree Mark))

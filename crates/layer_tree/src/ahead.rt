@@ -24,9 +24,10 @@ impl NamesAhead {
         NamesAhead { passed: 0, sum: 0 }
     }
 
-    /// Goes over one member more of these; now and then the names of the next ones are read.
+    /// Goes over one member more of these; now and then the names of the next ones are read. Those
+    /// of a small directory were all read just before.
     pub(crate) fn pass(&mut self, members: &[NamedMember<'_>]) {
-        if self.passed % TOGETHER == 0 {
+        if members.len() > TOGETHER && self.passed % TOGETHER == 0 {
             self.read(members);
         }
         self.passed = self.passed.wrapping_add(1);

@@ -4,18 +4,23 @@
 //! lies below its files. Its entries cover what is left. The marks of both are united, with a mark
 //! for each file of the lower tree on which the upper one lays a directory (`clashes`), since what
 //! that file cuts is cut by the run of both.
+//!
+//! A result that is taken by `?` and given back in `Ok` is promised in other words than it came in.
 
-ghost use Rattle.std.specs.Prelude.{◌≡◌, ◌<◌, ◌+◌, ◌++◌, ℕ, List, length, IfOk, OnOk, false};
+ghost use Rattle.std.specs.Prelude.{◌≡◌, ◌<◌, ◌+◌, [], ◌∷◌, ◌++◌, ℕ, List, length, IfOk, OnOk, false};
 ghost use Rattle.path_tree.specs.Rows.{NamesRise, IsForest, IsFirstNamed};
 ghost use Rattle.shown_tree.specs.Trees.{IsTreeOf};
 ghost use Rattle.layer_tree.specs.Laying.{AreKept, AreChildrenLeft, AreUnited, CoverTheKept, IsKept, KeepsFirst, IsFrom, Lays};
 
 use crate::clashes::clashes_both_ways;
-use path_tree::{Branch, cover, drop_first, pass_first, pass_with, take_children};
+use path_tree::{Branch, cover, drop_first, pass_first, pass_with, place, take_children};
 use shown_tree::{Child, Mark, Tree};
 use std::alloc::{AllocError, Allocator};
 use std::cmp::Ordering;
 use std::collections::VecDeque;
+
+/// How many marks at most are looked for one by one.
+const FEW: usize = 8;
 
 /// What is left of branches from a name on, and the first of it if it has the name.
 #[inline(never)]
@@ -29,7 +34,7 @@ pub(crate) fn seek<'a, T: Copy + Drop, A: Allocator>(
 {
     let mut rest = branches;
     while let Some((first, later)) = rest.split_first() {
-        match first.name().cmp(name) {
+        match first.order(name) {
             Ordering::Less => rest = later,
             Ordering::Equal => return (rest, Some(first)),
             Ordering::Greater => return (rest, None),
@@ -38,8 +43,8 @@ pub(crate) fn seek<'a, T: Copy + Drop, A: Allocator>(
     (rest, None)
 }
 
-/// What marks leave of the branches of a directory: both are gone through in step, in the order of
-/// names. With no marks nothing is looked into.
+/// What marks leave of the branches of a directory. Few marks are looked for one by one, and with
+/// none nothing is looked into. With more both are gone through in step, in the order of names.
 #[cycle(keeping)]
 fn kept_below<T: Copy + Drop, A: Allocator + Copy>(
     alloc: A,
@@ -50,8 +55,8 @@ fn kept_below<T: Copy + Drop, A: Allocator + Copy>(
     requires marks { IsForest marks.now }
     ensures { IfOk result (λ kept. AreKept lows.items marks.now kept.items) }
 {
-    if marks.is_empty() {
-        return Ok(lows);
+    if marks.len() <= FEW {
+        return kept_by_few(alloc, lows, marks);
     }
     let mut kept = Vec::with_capacity(alloc, lows.len())?;
     let mut lows = VecDeque::from(lows);
@@ -65,6 +70,62 @@ fn kept_below<T: Copy + Drop, A: Allocator + Copy>(
         }
     }
     Ok(kept)
+}
+
+/// What few marks leave of the branches of a directory, in place, from the last mark on.
+#[cycle(keeping)]
+fn kept_by_few<T: Copy + Drop, A: Allocator + Copy>(
+    alloc: A,
+    mut lows: Vec<Branch<T, A>, A>,
+    marks: &[Branch<Mark, A>],
+) -> Result<Vec<Branch<T, A>, A>, AllocError>
+    requires lows { IsForest lows.items }
+    requires marks { IsForest marks.now }
+    ensures { IfOk result (λ kept. AreKept lows.items marks.now kept.items) }
+{
+    let mut left = marks;
+    while let Some((mark, before)) = left.split_last() {
+        keep_by_one(alloc, &mut lows, mark)?;
+        left = before;
+    }
+    Ok(lows)
+}
+
+/// What one mark and those below it leave of the branches of a directory, in place.
+#[cycle(keeping)]
+fn keep_by_one<T: Copy + Drop, A: Allocator + Copy>(
+    alloc: A,
+    lows: &mut Vec<Branch<T, A>, A>,
+    mark: &Branch<Mark, A>,
+) -> Result<(), AllocError>
+    requires { IsForest lows.old.items }
+    ensures { OnOk result (AreKept lows.old.items (mark.now ∷ []) lows.new.items) }
+{
+    match place(lows, mark.name()) {
+        Err(_) => Ok(()),
+        Ok(i) if mark.value().cut => {
+            lows.remove(i);
+            Ok(())
+        }
+        Ok(i) => keep_inside(alloc, &mut lows[i], mark),
+    }
+}
+
+/// What a mark that does not cut a branch itself, and those below it, leave of the branch, in
+/// place.
+#[cycle(keeping)]
+fn keep_inside<T: Copy + Drop, A: Allocator + Copy>(
+    alloc: A,
+    low: &mut Branch<T, A>,
+    mark: &Branch<Mark, A>,
+) -> Result<(), AllocError>
+    requires { mark.now.value.cut ≡ false }
+    ensures { OnOk result (IsKept low.old mark.now low.new) }
+{
+    let children = low.take_children(alloc);
+    let left = children_left(alloc, children, mark)?;
+    low.set_children(left);
+    Ok(())
 }
 
 /// Takes the first branch from a directory; what a mark and those below it leave of it is added to
@@ -160,9 +221,9 @@ fn marks_laid<A: Allocator + Copy>(
     Ok(marks)
 }
 
-/// One tree laid on another. `hidden` are marks where the upper tree has a file and the lower one a
-/// directory or something below, `replaced` where the lower tree has the file. What it does is said
-/// of the two trees alone; `lay` says what follows for any layers that these are the trees of.
+/// One tree laid on another, as `lay` has it, but said of trees alone: what that says of runs of
+/// layers follows from this. `hidden` are marks where the upper tree has a file and the lower one a
+/// directory or something below, `replaced` where the lower tree has the file.
 fn laid<A: Allocator + Copy>(alloc: A, low: Tree<A>, high: Tree<A>) -> Result<Tree<A>, AllocError>
     ensures { IfOk result (λ tree. Lays low high tree) }
 {

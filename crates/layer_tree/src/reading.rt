@@ -8,7 +8,7 @@
 //! It takes n log n steps in the members of the layer and the hard links that they lead to: ends of
 //! hard links that were found are kept while the tree is made.
 
-ghost use Rattle.std.specs.Prelude.{◌≡◌, ◌≢◌, [], ◌∷◌, ◌↔◌, IfOk, OnOk, IsTrue, MatchOption, is_some};
+ghost use Rattle.std.specs.Prelude.{◌≡◌, ◌≢◌, [], ◌∷◌, ◌↔◌, length, IfOk, OnOk, IsTrue, MatchOption, is_some};
 ghost use Rattle.romfs_reader.specs.Images.{IsImage};
 ghost use Rattle.romfs_reader.specs.Readers.{IsGiven};
 ghost use Rattle.shown_tree.specs.Trees.{IsTreeOf};
@@ -25,6 +25,9 @@ use std::alloc::{AllocError, Allocator};
 
 /// What the name of the marker of a whole directory says after `.wh.`.
 const WHOLE: &[u8; 8] = b".wh..opq";
+
+/// For how many entries at least a directory that has any gets room.
+const SOME: usize = 4;
 
 /// The mark of a path that is cut.
 pub(crate) const CUT: Mark = Mark {
@@ -174,7 +177,7 @@ fn branches_below<A: Allocator + Copy>(
     ensures ends { ends.new ≡ layer.now.image.now }
 {
     let mut made = Branches {
-        entries: Vec::with_capacity(layer.alloc, members.len())?,
+        entries: Vec::with_capacity(layer.alloc, room_for(members.len()))?,
         marks: Vec::new(layer.alloc),
     };
     let mut ahead = NamesAhead::new();
@@ -186,6 +189,12 @@ fn branches_below<A: Allocator + Copy>(
         add_branches(layer, ends, member.name, &member.head, left - 1, &mut made)?;
     }
     Ok(made)
+}
+
+/// For how many entries a directory of so many members gets room: a small one gets more than it
+/// needs, since others are often laid on it.
+fn room_for(members: usize) -> usize {
+    if members == 0 { 0 } else { members.max(SOME) }
 }
 
 /// The entry of a header whose hard links end at `end`: the kind and the place of that.
@@ -259,7 +268,7 @@ fn folder<A: Allocator + Copy>(
     Ok((entries, marks))
 }
 
-/// The same, added to others.
+/// The same, added to others; a directory without any marker needs no mark.
 ///
 /// `AllocError` comes only where memory was refused; nothing is promised of `to` then.
 #[inline(never)]
@@ -281,11 +290,52 @@ fn add_folder<A: Allocator + Copy>(
         head.now.offset name.now to.old.entries.items to.old.marks.items
         to.new.entries.items to.new.marks.items) }
 {
+    if is_plain(members, &below) {
+        return add_plain_folder(layer, name, head, members, below, to);
+    }
     let (entry, mark) = folder(layer, name, head, members, below)?;
     to.entries.push(entry)?;
     if let Some(mark) = needed(mark) {
         to.marks.push(mark)?;
     }
+    Ok(())
+}
+
+/// Whether all members of a directory have branches of entries, and none has a mark.
+fn is_plain<A: Allocator>(members: &[NamedMember<'_>], below: &Branches<A>) -> bool
+    ensures { IsTrue result → (length below.now.entries.items ≡ length members.now)
+        × (below.now.marks.items ≡ []) }
+{
+    below.entries.len() == members.len() && below.marks.is_empty()
+}
+
+/// Adds a directory of which no member is a marker or has a mark.
+///
+/// `AllocError` comes only where memory was refused; nothing is promised of `to` then.
+fn add_plain_folder<A: Allocator + Copy>(
+    layer: &Layer<'_, A>,
+    name: &[u8],
+    head: &Head,
+    members: &[NamedMember<'_>],
+    below: Branches<A>,
+    to: &mut Branches<A>,
+) -> Result<(), AllocError>
+    requires sound { IsImage layer.now.image.now }
+    requires given { IsGiven layer.now.image.now head.now }
+    requires directory { head.now.kind ≡ Kind.Directory }
+    requires members { AreByName layer.now.image.now head.now.offset members.now }
+    requires below { AreBuilt layer.now.image.now layer.now.number
+        members.now below.entries.items below.marks.items }
+    requires all { length below.entries.items ≡ length members.now }
+    requires unmarked { below.marks.items ≡ [] }
+    ensures { OnOk result (AddsMade layer.now.image.now layer.now.number
+        head.now.offset name.now to.old.entries.items to.old.marks.items
+        to.new.entries.items to.new.marks.items) }
+{
+    let own_entry = entry_at(layer.number, head);
+    let own_name = Name::of(layer.alloc, name)?;
+    to.entries
+        .push(Branch::new(own_name, own_entry, below.entries))?;
     Ok(())
 }
 

@@ -6,13 +6,13 @@ use Rattle.std.specs.declared.cmp.Ordering.{Ordering}
 use Rattle.std.specs.declared.cmp.Ordering.TheVariants.{Less, Equal, Greater}
 use Rattle.std.specs.Ordering.{ordering_reverse, ordering_index}
 use Rattle.std.specs.List.{AllByRecursion}
-use Rattle.std.specs.List.Sorted.{IsNonDecreasingBy}
-use Rattle.std.specs.Prelude.{nat_eq}
+use Rattle.std.specs.List.Sorted.{IsNonDecreasingBy, IsSearchInRange, IsBinarySearchResult}
+use Rattle.std.specs.Prelude.{nat_eq, Result, Ok, Err, MatchResult}
 use Rattle.std.specs.Cmp.Lexicographic.{pointwise, same_text, other_text}
 use Rattle.std.proofs.lemmas.Bool.{cases_lt}
 use Rattle.std.proofs.lemmas.Cmp.{nat_list_cmp_total}
 use Rattle.std.proofs.lemmas.Map.Lookups.{exact_bytes}
-use Rattle.path_tree.specs.Rows.{Subtree, name_cmp, named, NamesRise}
+use Rattle.path_tree.specs.Rows.{Subtree, name_cmp, named, NamesRise, IsPlaceOf, IsParted, IsGapFor}
 
 -- two names are the same and the test is true, or they differ and it is false
 abbrev pub IsSameOrNot : List ℕ → List ℕ → Type 0
@@ -62,21 +62,22 @@ named_below n (s ∷ ss) a = elim (same_or_not s.name n) [
       (named_below n ss a.1)
 ]
 
-all_at : {T : Type 0} (n : List ℕ) (ss : List (Subtree T)) → AllByRecursion (λ t. name_cmp n t.name ≡ Less) ss
+-- a branch that comes after a name, of branches that do
+pub all_at : {T : Type 0} (n : List ℕ) (ss : List (Subtree T)) → AllByRecursion (λ t. name_cmp n t.name ≡ Less) ss
     → (i : ℕ) (d : Subtree T) → i < length ss → name_cmp n (get_or ss i d).name ≡ Less
 all_at n [] a i d l = absurd (omega arith)
 all_at n (s ∷ ss) a zero d l = a.0
 all_at n (s ∷ ss) a (suc i) d l = all_at n ss a.1 i d (omega arith)
 
--- a branch whose name compares as equal to a name is the one of that name
+-- a branch with a name is the one of that name
 pub named_at : {T : Type 0} (n : List ℕ) (ss : List (Subtree T)) → NamesRise ss → (i : ℕ) (d : Subtree T)
-    → i < length ss → name_cmp (get_or ss i d).name n ≡ Equal → named n ss ≡ Some (get_or ss i d)
+    → i < length ss → (get_or ss i d).name ≡ n → named n ss ≡ Some (get_or ss i d)
 named_at n [] r i d l e = absurd (omega arith)
-named_at n (s ∷ ss) r zero d l e = elim (same_or_not s.name n) [ inl x ↦ rw x.1 | inr x ↦ absurd (x.0 (exact_bytes s.name n e)) ]
+named_at n (s ∷ ss) r zero d l e = elim (same_or_not s.name n) [ inl x ↦ rw x.1 | inr x ↦ absurd (x.0 e) ]
 named_at n (s ∷ ss) r (suc i) d l e =
     let lt : i < length ss = omega arith in
     elim (same_or_not s.name n) [
-      | inl x ↦ absurd (below_differs s.name _ (all_at s.name ss r.0 i d lt) (x.0 ∙ sym (exact_bytes _ n e)))
+      | inl x ↦ absurd (below_differs s.name _ (all_at s.name ss r.0 i d lt) (x.0 ∙ sym e))
       | inr x ↦ rw x.1 (named_at n ss r.1 i d lt e)
     ]
 
@@ -87,12 +88,6 @@ named_nowhere n (s ∷ ss) f = elim (same_or_not s.name n) [
   | inl x ↦ absurd (f 0 s (omega arith) (rw x.0 (itself n)))
   | inr x ↦ rw x.1 (named_nowhere n ss (λ i d l. f (suc i) d (omega arith)))
 ]
-
--- the branches before i have lesser names than n, and those from i on greater ones
-abbrev pub IsParted : {T : Type 0} → List ℕ → List (Subtree T) → ℕ → Type 0
-IsParted {T} n ss i =
-    ((k : ℕ) (d : Subtree T) → 0 ≤ k → k < i → name_cmp (get_or ss k d).name n ≡ Less)
-    × ((k : ℕ) (d : Subtree T) → i ≤ k → k < length ss → name_cmp (get_or ss k d).name n ≡ Greater)
 
 -- where branches part into lesser and greater names, none has the name
 pub named_between : {T : Type 0} (n : List ℕ) (ss : List (Subtree T)) (i : ℕ) → IsParted n ss i → named n ss ≡ None
@@ -124,3 +119,9 @@ from_name n (s ∷ ss) r zero zero d le lt = omega arith
 from_name n (s ∷ ss) r zero (suc j) d le lt = keeps s.name (get_or ss j d).name n (all_at s.name ss r.0 j d (omega arith)) _ _ refl refl
 from_name n (s ∷ ss) r (suc i) zero d le lt = absurd (omega arith)
 from_name n (s ∷ ss) r (suc i) (suc j) d le lt = from_name n ss r.1 i j d (omega arith) (omega arith)
+
+-- where a search by halves finds a name, a branch has it, and where it finds none, there is a gap for it
+pub placed : {T : Type 0} (n : List ℕ) (ss : List (Subtree T)) → NamesRise ss → (r : Result ℕ ℕ) → IsSearchInRange r (length ss)
+    → IsBinarySearchResult (λ s. name_cmp s.name n) ss r → MatchResult r (IsPlaceOf n ss) (IsGapFor n ss)
+placed n ss rise (Ok i) l e = (l, λ d. exact_bytes (get_or ss i d).name n (e d))
+placed n ss rise (Err i) l e = (l, e (from_name n ss rise))

@@ -1,12 +1,12 @@
 -- Trees seen as rows: a value at each path. Names are lists of bytes, and a path is the list of
 -- names from the root.
-use Rattle.std.specs.Prelude.{◌≡◌, ℕ, ◌+◌, ◌≤◌, List, [], ◌∷◌, ◌++◌, length, max, Bool, Option, Some, None, MatchOption, nat_eq, if◌then◌else◌}
+use Rattle.std.specs.Prelude.{◌≡◌, ℕ, ◌+◌, ◌<◌, ◌≤◌, List, [], ◌∷◌, ◌++◌, length, max, Bool, Option, Some, None, MatchOption, nat_eq, slice_index_or, if◌then◌else◌}
 use Rattle.std.specs.Borrow.{Bor}
 use Rattle.std.specs.Cmp.Lexicographic.{slice_cmp, pointwise}
 use Rattle.std.specs.Ordering.{nat_cmp}
-use Rattle.std.specs.List.{AllByRecursion}
+use Rattle.std.specs.List.{AllByRecursion, AllWithin}
 use Rattle.std.specs.declared.cmp.Ordering.{Ordering}
-use Rattle.std.specs.declared.cmp.Ordering.TheVariants.{Less}
+use Rattle.std.specs.declared.cmp.Ordering.TheVariants.{Less, Greater}
 use Rattle.std.proofs.Common.{arith, length-append}
 use denote.Param.Weighed.{most}
 
@@ -66,6 +66,19 @@ named n (s ∷ ss) = if pointwise nat_eq s.name n then Some s else named n ss
 abbrev pub IsFirstNamed : {T : Type 0} → List ℕ → List (Subtree T) → Option (Bor (Subtree T))
     → Type 0
 IsFirstNamed n ss found = MatchOption found (named n ss ≡ None) (λ c. named n ss ≡ Some c.now)
+
+-- the branch at i has that name
+abbrev pub IsPlaceOf : {T : Type 0} → List ℕ → List (Subtree T) → ℕ → Type 0
+IsPlaceOf {T} n ss i = (i < length ss) × ((d : Subtree T) → (slice_index_or ss i d).name ≡ n)
+
+-- the branches before i have lesser names, and those from i on greater ones
+abbrev pub IsParted : {T : Type 0} → List ℕ → List (Subtree T) → ℕ → Type 0
+IsParted n ss i = AllWithin (λ s. name_cmp s.name n ≡ Less) ss 0 i
+    × AllWithin (λ s. name_cmp s.name n ≡ Greater) ss i (length ss)
+
+-- no branch has that name, which would stand at i
+abbrev pub IsGapFor : {T : Type 0} → List ℕ → List (Subtree T) → ℕ → Type 0
+IsGapFor n ss i = (i ≤ length ss) × IsParted n ss i
 
 -- two lists of names are the same
 abbrev pub equal_names : List (List ℕ) → List (List ℕ) → Bool

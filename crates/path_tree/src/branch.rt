@@ -1,7 +1,7 @@
 //! A branch of a tree, and what is found below it.
 
 ghost use Rattle.std.specs.Prelude.{◌≡◌, ◌<◌, [], length, map, MatchOption, MatchResult};
-ghost use Rattle.path_tree.specs.Rows.{spread, whole, name_cmp, NamesRise, IsForest, IsFirstNamed, IsUnder};
+ghost use Rattle.path_tree.specs.Rows.{spread, whole, name_cmp, NamesRise, IsForest, IsFirstNamed, IsPlaceOf, IsGapFor, IsUnder};
 
 use crate::name::Name;
 use std::alloc::{AllocError, Allocator};
@@ -63,6 +63,19 @@ impl<T: Copy + Drop, A: Allocator> Branch<T, A> {
         self.name.as_slice()
     }
 
+    /// How the branch's name stands to another one. Most names differ in their first byte.
+    pub fn order(&self, name: &[u8]) -> Ordering
+        ensures { result ≡ name_cmp self.now.name name.now }
+    {
+        let own = self.name.as_slice();
+        if let (Some(first), Some(other)) = (own.first(), name.first()) {
+            if first != other {
+                return first.cmp(other);
+            }
+        }
+        own.cmp(name)
+    }
+
     /// The branch's value.
     pub fn value(&self) -> T
         ensures { result ≡ self.now.value }
@@ -96,14 +109,26 @@ impl<T: Copy + Drop, A: Allocator> Branch<T, A> {
 }
 
 impl<T: Copy + Drop, A: Allocator + Copy> Branch<T, A> {
-    /// Takes the children.
-    pub(crate) fn take_children(&mut self, alloc: A) -> Vec<Branch<T, A>, A>
+    /// Takes the children; the branch stays without any.
+    pub fn take_children(&mut self, alloc: A) -> Vec<Branch<T, A>, A>
         ensures left { self.new
             ≡ record { name = self.old.name; value = self.old.value; below = [] } }
         ensures below { self.old.below ≡ spread result.items }
         ensures forest { IsForest result.items }
     {
         mem::replace(&mut self.children, Vec::new(alloc))
+    }
+
+    /// Puts children in place of the branch's own.
+    pub fn set_children(&mut self, children: Vec<Branch<T, A>, A>)
+        requires { IsForest children.items }
+        ensures { self.new ≡ record {
+          name = self.old.name;
+          value = self.old.value;
+          below = spread children.items;
+        } }
+    {
+        self.children = children;
     }
 
     /// The branch's name once more. `AllocError` comes only where memory was refused for a name of
@@ -116,13 +141,6 @@ impl<T: Copy + Drop, A: Allocator + Copy> Branch<T, A> {
     }
 }
 
-/// How the branch's name stands to a name.
-fn compare<T: Copy + Drop, A: Allocator>(branch: &Branch<T, A>, name: &[u8]) -> Ordering
-    ensures { result ≡ name_cmp branch.now.name name.now }
-{
-    branch.name.as_slice().cmp(name)
-}
-
 /// The branch of that name, by halves.
 pub fn child<'a, T: Copy + Drop, A: Allocator>(
     children: &'a [Branch<T, A>],
@@ -131,8 +149,20 @@ pub fn child<'a, T: Copy + Drop, A: Allocator>(
     requires { NamesRise children.now }
     ensures { IsFirstNamed name.now children.now result }
 {
-    match children.binary_search_by(|c| compare(c, name)) {
+    match place(children, name) {
         Ok(i) => Some(&children[i]),
         Err(_) => None,
     }
+}
+
+/// Where the branch of that name stands, by halves; with none, where it would.
+pub fn place<T: Copy + Drop, A: Allocator>(
+    children: &[Branch<T, A>],
+    name: &[u8],
+) -> Result<usize, usize>
+    requires { NamesRise children.now }
+    ensures { MatchResult result
+        (IsPlaceOf name.now children.now) (IsGapFor name.now children.now) }
+{
+    children.binary_search_by(|c| c.order(name))
 }

@@ -13,7 +13,7 @@ mod laying;
 mod moving;
 mod name;
 
-pub use branch::{Branch, child};
+pub use branch::{Branch, child, place};
 pub use laying::{Lay, cover, merge};
 pub use moving::{add_last, drop_first, pass_first, pass_with, take_children, take_first};
 pub use name::Name;

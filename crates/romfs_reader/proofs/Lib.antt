@@ -4,6 +4,7 @@ pub mod Given
 pub mod Listing
 pub mod Hops
 pub mod Named
+pub mod Dots
 pub mod Steps
 pub mod Readings
 pub mod Whole

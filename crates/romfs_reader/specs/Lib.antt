@@ -2,3 +2,4 @@ pub mod Readers
 pub mod Walks
 pub mod Ends
 pub mod Images
+pub mod Dots

@@ -1,16 +1,22 @@
 //! The members of a directory, along its chain.
 
-ghost use Rattle.std.specs.Prelude.{◌≡◌, ◌<◌, ◌^◌, length};
+ghost use Rattle.std.specs.Prelude.{◌≡◌, ◌+◌, ◌<◌, ◌≤◌, ◌^◌, length, IsTrue};
 ghost use Rattle.std.specs.Iterator.{YieldsFirst, item_count};
 ghost use Rattle.romfs_format.specs.Fields.{root as root_of, IsInside};
 ghost use Rattle.romfs_format.specs.Heads.{head_of};
+ghost use Rattle.romfs_format.specs.declared.limits.TheConstants.{HEAD_SIZE};
+ghost use Rattle.romfs_reader.specs.Dots.{HasDotName};
 ghost use Rattle.romfs_reader.specs.Readers.{passes_over};
 ghost use Rattle.romfs_reader.specs.Walks.{IsWalk, IsNextMember, members_from};
 
 use crate::parts::name_in;
 use romfs_format::head::Head;
-use romfs_format::read::{head_at, is_dot_name};
+use romfs_format::limits::HEAD_SIZE;
+use romfs_format::read::{cleared, head_at, is_dot_name, word};
 use std::marker::Model;
+
+/// How many bytes a short name takes with its padding.
+const PADDED: usize = 16;
 
 /// The members of a directory, in the order of its chain. A clause sees the list of those that are
 /// left, so that a loop over them knows which it has seen.
@@ -88,12 +94,33 @@ fn is_passed_over(image: &[u8], root: u32, directory: u32, head: &Head) -> bool
     is_dot_name(name_in(image, head))
 }
 
+/// Whether the first bytes of a header's name say that it is `.` or `..`: no end of a name is
+/// looked for. Each directory has such members, so that a walk meets many.
+fn begins_as_dots(image: &[u8], at: u32) -> bool
+    requires small { length image.now < 2 ^ 32 }
+    requires inside { at + HEAD_SIZE ≤ length image.now }
+    ensures { IsTrue result → HasDotName image.now at }
+{
+    let name = &image[at as usize + HEAD_SIZE..];
+    if name.len() < PADDED || name[0] != b'.' {
+        return false;
+    }
+    if name[1] == 0 {
+        return true;
+    }
+    name[1] == b'.' && name[2] == 0
+}
+
 /// The first member from a place of a chain on.
 fn member_from(image: &[u8], root: u32, directory: u32, mut at: u32) -> Option<Head>
     requires { IsWalk image.now root at }
     ensures { IsNextMember image.now root directory at result }
 {
     while at != 0 {
+        if begins_as_dots(image, at) {
+            at = cleared(word(image, at as usize));
+            continue;
+        }
         let head = head_at(image, at);
         if !is_passed_over(image, root, directory, &head) {
             return Some(head);

@@ -4,29 +4,36 @@ use Rattle.layer_tree.proofs.Clashing.{file_alone, unmarked_folder}
 use Rattle.layer_tree.proofs.Meeting.{alone, apart, deeper_measure, meeting_ended}
 use Rattle.layer_tree.proofs.apart.+meeting.Goals as goal
 
-pub are_apart-is_apart-requires : goal.are_apart-is_apart-requires
-are_apart-is_apart-requires g t c κs within =
-    let so_far = rw c.in-Some.ensures.cases.0 at c.loop-low.invariant in
-    let m = deeper_measure _ _ _ _ _ _ _ so_far (rw c.name.ensures at c.seek.ensures.rest) in
+pub few_are_apart-is_apart-requires : goal.few_are_apart-is_apart-requires
+few_are_apart-is_apart-requires g t c κs within =
+    let so_far = rw c.in-Some.ensures.cases.0 at c.loop-one.invariant in
+    let from = rw c.name.ensures at c.seek.ensures.rest in
+    let there = rw (c.in-Some-found.is, c.name.ensures) at c.seek.ensures.first in
+    let m = deeper_measure _ _ _ _ _ _ _ so_far from _ there in
     search (rules, m)
 
-pub are_apart-loop-low-preserved-else-not-is_apart : goal.are_apart-loop-low-preserved-else-not-is_apart
-are_apart-loop-low-preserved-else-not-is_apart g t c =
-    let so_far = rw c.in-Some.ensures.cases.0 at c.loop-low.invariant in
+pub few_are_apart-loop-one-preserved-else-not-is_apart : goal.few_are_apart-loop-one-preserved-else-not-is_apart
+few_are_apart-loop-one-preserved-else-not-is_apart g t c =
+    let so_far = rw c.in-Some.ensures.cases.0 at c.loop-one.invariant in
     let from = rw c.name.ensures at c.seek.ensures.rest in
     let there = rw (c.in-Some-found.is, c.name.ensures) at c.seek.ensures.first in
     apart _ _ _ _ _ _ _ so_far from _ there (c.is_apart.ensures (search rules))
 
-pub are_apart-loop-low-preserved : goal.are_apart-loop-low-preserved
-are_apart-loop-low-preserved g t c =
-    let so_far = rw c.in-Some.ensures.cases.0 at c.loop-low.invariant in
+pub few_are_apart-loop-one-preserved : goal.few_are_apart-loop-one-preserved
+few_are_apart-loop-one-preserved g t c =
+    let so_far = rw c.in-Some.ensures.cases.0 at c.loop-one.invariant in
     let from = rw c.name.ensures at c.seek.ensures.rest in
     alone _ _ _ _ _ _ _ so_far from (rw (c.in_default-found.is, c.name.ensures) at c.seek.ensures.first)
 
-pub are_apart-returns : goal.are_apart-returns
-are_apart-returns g t c e =
-    let ended = nil_from_length c.loop-low.left.now (search rules) in
-    meeting_ended _ _ _ _ _ c.loop-low.invariant ended c.requires.lows.names c.requires.highs.names
+pub few_are_apart-returns : goal.few_are_apart-returns
+few_are_apart-returns g t c e =
+    let ended = nil_from_length c.loop-one.left.now (search rules) in
+    meeting_ended _ _ _ _ _ c.loop-one.invariant ended c.requires.few.names c.requires.many.names
+
+pub are_apart-returns-then-highs-lows : goal.are_apart-returns-then-highs-lows
+are_apart-returns-then-highs-lows g t c e =
+    let other_way = c.few_are_apart.ensures e in
+    record { low_files = other_way.high_files; high_files = other_way.low_files }
 
 pub is_apart-returns-then-is_bare : goal.is_apart-returns-then-is_bare
 is_apart-returns-then-is_bare g t c e = record {

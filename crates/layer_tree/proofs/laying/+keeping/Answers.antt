@@ -1,15 +1,10 @@
-use Rattle.std.proofs.Common.{rules, ◌≡◌, length, sym, refl, None}
-use Rattle.std.proofs.lemmas.Bool.{eqb-true}
-use Rattle.std.proofs.lemmas.List.{nil_from_length, append-nil}
+use Rattle.std.proofs.Common.{rules, ◌≡◌, sym, refl, None}
+use Rattle.std.proofs.lemmas.List.{append-nil}
 use Rattle.path_tree.specs.Rows.{spread}
-use Rattle.path_tree.proofs.Merging.{some_shown, nothing_shown}
-use Rattle.layer_tree.proofs.Stepping.{no_marks, keeping_begun, keeping_ended, untouched, kept_or_not, below_measure, left_measure, all_cut, alone, inside, kept_first}
+use Rattle.path_tree.proofs.Merging.{shown, some_shown, nothing_shown}
+use Rattle.layer_tree.proofs.Stepping.{keeping_begun, keeping_ended, untouched, kept_or_not, mark_measure, all_cut, alone, inside, kept_first, with_children}
+use Rattle.layer_tree.proofs.Picking.{picking_begun, one_more, next_measure, in_gap, cut_at, at_place_if}
 use Rattle.layer_tree.proofs.laying.+keeping.Goals as goal
-
-pub kept_below-returns-then-is_empty : goal.kept_below-returns-then-is_empty
-kept_below-returns-then-is_empty g t c =
-    let e : length c.args.marks.now ≡ 0 = eqb-true _ _ (sym c.if-is_empty.ensures) in
-    rw (nil_from_length c.args.marks.now e) (no_marks c.args.lows.items c.requires.lows)
 
 pub kept_below-loop-low-init : goal.kept_below-loop-low-init
 kept_below-loop-low-init g t c =
@@ -27,7 +22,10 @@ kept_below-loop-low-preserved-in-Continue-branch-2 g t c =
 pub kept_below-keep_first-requires : goal.kept_below-keep_first-requires
 kept_below-keep_first-requires g t c κs within =
     let some = some_shown c.loop-low.lows.items c.in-Some.low c.in-Some.ensures.item in
-    let m = left_measure _ _ _ _ _ c.loop-low.invariant in
+    let so_far = rw (shown _ c.in-Some.low c.in-Some.ensures.item) at c.loop-low.invariant in
+    let from = rw c.name.ensures at c.seek.ensures.rest in
+    let marked = rw (c.in-Some-found.is, c.name.ensures) at c.seek.ensures.first in
+    let m = mark_measure _ _ _ _ _ _ _ so_far from _ marked in
     search (rules, some, m)
 
 pub kept_below-loop-low-preserved : goal.kept_below-loop-low-preserved
@@ -43,12 +41,6 @@ pub kept_below-returns : goal.kept_below-returns
 kept_below-returns g t c =
     keeping_ended _ _ _ _ _ c.loop-low.invariant (nothing_shown _ c.in_default.ensures.item)
     c.requires.lows c.requires.marks.names
-
-pub keep_first-children_left-requires : goal.keep_first-children_left-requires
-keep_first-children_left-requires g t c κs within =
-    let taken = c.take_children-children.ensures in
-    let m = below_measure _ _ _ _ taken.was taken.below in
-    search (rules, m)
 
 pub keep_first-returns-then-value : goal.keep_first-returns-then-value
 keep_first-returns-then-value g t c = record {
@@ -78,3 +70,37 @@ children_left-returns g t c = record {
       c.args.children.items c.in_ok-left.left.items c.children.result.now c.requires.uncut (search rules) refl
       c.children.ensures.below c.in_ok-left.ensures;
 }
+
+pub kept_by_few-loop-mark-init : goal.kept_by_few-loop-mark-init
+kept_by_few-loop-mark-init g t c = picking_begun c.args.lows.items c.args.marks.now c.requires.lows
+
+pub kept_by_few-keep_by_one-requires : goal.kept_by_few-keep_by_one-requires
+kept_by_few-keep_by_one-requires g t c κs within =
+    let forest = c.loop-mark.invariant.kept.forest in
+    let m = next_measure _ _ _ _ _ _ c.in-Some.ensures.cases.0 c.loop-mark.invariant in
+    search (rules, forest, m)
+
+pub kept_by_few-loop-mark-preserved : goal.kept_by_few-loop-mark-preserved
+kept_by_few-loop-mark-preserved g t c =
+    one_more _ _ _ _ _ _ c.in-Some.ensures.cases.0 c.loop-mark.invariant _ c.requires.marks.names c.in_ok-keep_by_one.ensures
+
+pub keep_by_one-returns-in-Err : goal.keep_by_one-returns-in-Err
+keep_by_one-returns-in-Err g t c =
+    in_gap c.args.mark.now c.args.lows.now.items c.in-Err.field-0 c.requires
+    (rw (c.name.ensures, c.deref.ensures.value) at c.in-Err.ensures)
+
+pub keep_by_one-returns-in-Ok : goal.keep_by_one-returns-in-Ok
+keep_by_one-returns-in-Ok g t c =
+    rw c.remove.ensures.items
+    (cut_at c.args.mark.now c.args.lows.now.items c.remove.result c.in-Ok.i c.requires
+    (rw (c.name.ensures, c.deref.ensures.value) at c.in-Ok.ensures) (all_cut c.args.mark.now (search rules)))
+
+pub keep_by_one-returns-in-Ok-2 : goal.keep_by_one-returns-in-Ok-2
+keep_by_one-returns-in-Ok-2 g t c =
+    at_place_if c.args.mark.now c.keep_inside.result c.args.lows.now.items c.index_mut.result.now c.keep_inside.new.low c.in-Ok.i
+    c.requires (rw (c.name.ensures, c.deref.ensures.value) at c.in-Ok.ensures) c.index_mut.ensures.value c.keep_inside.ensures
+
+pub keep_inside-returns : goal.keep_inside-returns
+keep_inside-returns g t c =
+    rw (c.set_children.ensures, c.take_children-children.ensures.left)
+    (with_children c.args.low.now c.args.mark.now _ _ c.take_children-children.ensures.below c.in_ok-left.ensures)

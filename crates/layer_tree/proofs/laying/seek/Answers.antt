@@ -6,12 +6,12 @@ use Rattle.layer_tree.proofs.laying.seek.Goals as goal
 
 pub loop-first-preserved : goal.loop-first-preserved
 loop-first-preserved g c =
-    let less : name_cmp c.in-Some.first.now.name c.args.name.now ≡ Less = cc (c.name.ensures, c.in-Less.ensures) in
+    let less : name_cmp c.in-Some.first.now.name c.args.name.now ≡ Less = cc (c.in-Less.ensures) in
     pass_one _ _ _ _ _ c.loop-first.invariant c.in-Some.ensures.cases.0 less
 
 pub returns-in-Equal : goal.returns-in-Equal
 returns-in-Equal g c =
-    let equal : name_cmp c.in-Some.first.now.name c.args.name.now ≡ Equal = cc (c.name.ensures, c.in-Equal.ensures) in
+    let equal : name_cmp c.in-Some.first.now.name c.args.name.now ≡ Equal = cc (c.in-Equal.ensures) in
     record {
       rest = from_here _ _ _ _ _ c.loop-first.invariant c.in-Some.ensures.cases.0 (λ less. cc);
       first = first_named _ _ _ _ _ c.loop-first.invariant c.in-Some.ensures.cases.0 equal;
@@ -19,7 +19,7 @@ returns-in-Equal g c =
 
 pub returns-in-Greater : goal.returns-in-Greater
 returns-in-Greater g c =
-    let greater : name_cmp c.in-Some.first.now.name c.args.name.now ≡ Greater = cc (c.name.ensures, c.in-Greater.ensures) in
+    let greater : name_cmp c.in-Some.first.now.name c.args.name.now ≡ Greater = cc (c.in-Greater.ensures) in
     record {
       rest = from_here _ _ _ _ _ c.loop-first.invariant c.in-Some.ensures.cases.0 (λ less. cc);
       first = none_named _ _ _ _ _ c.loop-first.invariant c.in-Some.ensures.cases.0 greater;

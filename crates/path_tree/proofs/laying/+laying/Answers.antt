@@ -1,13 +1,14 @@
 use Rattle.std.proofs.Common.{rules, ◌≡◌, ◌++◌, refl}
 use Rattle.std.specs.declared.cmp.Ordering.TheVariants.{Less, Equal, Greater}
 use Rattle.path_tree.specs.Rows.{Subtree, name_cmp, spread}
+use Rattle.path_tree.proofs.Adding.{at_place_if, in_gap, adding_begun, one_more, next_rises, next_measure}
 use Rattle.path_tree.proofs.Merging.{branch_laid, are_laid, low_first, high_first, both_first, below_measure, left_measure, lows_left, highs_left, shown, some_shown, nothing_shown}
 use Rattle.path_tree.proofs.laying.+laying.Goals as goal
 use Rattle.path_tree.proofs.laying.+laying.Goals.{merge-in_default, merge-in_default-2}
 
 pub cover_first-merge-requires : goal.cover_first-merge-requires
 cover_first-merge-requires g t c κs within =
-    let m = below_measure _ _ _ _ _ _ c.take_first-below.ensures.first c.take_first-name.ensures.first in
+    let m = below_measure _ _ _ c.take_first-name.ensures.first in
     search (rules, m)
 
 pub cover_first-returns : goal.cover_first-returns
@@ -46,7 +47,7 @@ merge-loop-low-preserved-in_ok-pass_first-in-Less g t c =
     let p = c.in_ok-pass_first-in-Less.ensures in
     let highs = shown c.loop-low.highs.items c.in-Some-Some.high c.in-Some-Some.ensures'.item in
     let low = rw p.left at c.in-Some-Some.ensures.lookup in
-    let less : name_cmp p.first.name c.in-Some-Some.high.now.name ≡ Less = cc (low, c.in-Less.ensures) in
+    let less : name_cmp p.first.name c.in-Some-Some.high.now.name ≡ Less = cc (low, c.name.ensures, c.in-Less.ensures) in
     rw (p.added, highs)
     (low_first g.T.Lay.laid _ _ _ _ _ _ _ (rw (p.left, highs) at c.loop-low.invariant) less)
 
@@ -56,7 +57,7 @@ merge-loop-low-preserved-in_ok-pass_first-in-Greater g t c =
     let p = c.in_ok-pass_first-in-Greater.ensures in
     let lows = shown c.loop-low.lows.items c.in-Some-Some.low c.in-Some-Some.ensures.item in
     let high = rw p.left at c.in-Some-Some.ensures'.lookup in
-    let greater : name_cmp c.in-Some-Some.low.now.name p.first.name ≡ Greater = cc (high, c.in-Greater.ensures) in
+    let greater : name_cmp c.in-Some-Some.low.now.name p.first.name ≡ Greater = cc (high, c.name.ensures, c.in-Greater.ensures) in
     rw (p.added, lows)
     (high_first g.T.Lay.laid _ _ _ _ _ _ _ (rw (lows, p.left) at c.loop-low.invariant) greater)
 
@@ -65,7 +66,7 @@ merge-loop-low-preserved g t c =
     let p = c.in_ok-cover_first-in-Equal.ensures in
     let low = rw p.low_left at c.in-Some-Some.ensures.lookup in
     let high = rw p.high_left at c.in-Some-Some.ensures'.lookup in
-    let equal : name_cmp p.low.name p.high.name ≡ Equal = cc (low, high, c.in-Equal.ensures) in
+    let equal : name_cmp p.low.name p.high.name ≡ Equal = cc (low, high, c.name.ensures, c.in-Equal.ensures) in
     rw p.added
     (both_first g.T.Lay.laid _ _ _ _ _ _ _ (rw (p.low_left, p.high_left) at c.loop-low.invariant) _
     equal p.laid)
@@ -78,3 +79,35 @@ merge-returns g t c =
       | merge-in_default w ↦ lows_left g.T.Lay.laid _ _ _ _ _ c.loop-low.invariant (nothing_shown _ w.in_default.ensures'.item)
       | merge-in_default-2 w ↦ highs_left g.T.Lay.laid _ _ _ _ _ c.loop-low.invariant (nothing_shown _ w.in_default.ensures.item)
     ]) c.requires.low c.requires.high)
+
+pub merge_few-loop-high-init : goal.merge_few-loop-high-init
+merge_few-loop-high-init g t c = adding_begun g.T.Lay.laid c.args.lows.items c.args.highs.items c.requires.low
+
+pub merge_few-lay_one-requires : goal.merge_few-lay_one-requires
+merge_few-lay_one-requires g t c κs within =
+    let low = c.loop-high.invariant.laid.forest in
+    let high = next_rises g.T.Lay.laid _ _ _ _ _ _ c.in-Some.ensures.items c.loop-high.invariant c.requires.high in
+    let m = next_measure g.T.Lay.laid _ _ _ _ _ _ c.in-Some.ensures.items c.loop-high.invariant in
+    search (rules, low, high, m)
+
+pub merge_few-loop-high-preserved : goal.merge_few-loop-high-preserved
+merge_few-loop-high-preserved g t c =
+    one_more g.T.Lay.laid _ _ _ _ _ _ c.in-Some.ensures.items c.loop-high.invariant _ c.requires.high.names c.in_ok-lay_one.ensures
+
+pub lay_one-returns-in-Ok : goal.lay_one-returns-in-Ok
+lay_one-returns-in-Ok g t c =
+    at_place_if g.T.Lay.laid c.lay_on.result c.args.lows.now.items c.args.high c.index_mut.result.now c.lay_on.new.low c.in-Ok.i
+    c.requires.low c.requires.high (rw (c.name.ensures, c.deref.ensures.value) at c.in-Ok.ensures) c.index_mut.ensures.value
+    c.lay_on.ensures
+
+pub lay_one-returns-in_ok-insert-in-Err : goal.lay_one-returns-in_ok-insert-in-Err
+lay_one-returns-in_ok-insert-in-Err g t c =
+    rw c.in_ok-insert-in-Err.ensures.items
+    (in_gap g.T.Lay.laid c.args.lows.now.items c.args.high c.in-Err.i c.requires.low c.requires.high
+    (rw (c.name.ensures, c.deref.ensures.value) at c.in-Err.ensures))
+
+pub lay_on-returns : goal.lay_on-returns
+lay_on-returns g t c =
+    rw (c.new.ensures, c.into_parts-name.ensures.name, c.lay.ensures, c.into_parts-name.ensures.value, c.value-below.ensures)
+    (branch_laid g.T.Lay.laid c.args.low.now c.args.high _ _ _ c.take_children-own.ensures.below c.into_parts-name.ensures.below
+    c.in_ok-children.ensures)

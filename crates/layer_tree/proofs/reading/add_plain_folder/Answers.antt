@@ -1,0 +1,30 @@
+use Rattle.std.proofs.Common.{◌≡◌, sym, ap, ◌∙◌, None}
+use Rattle.std.proofs.lemmas.List.{append-nil}
+use Rattle.romfs_format.specs.declared.head.Head.{Head}
+use Rattle.romfs_format.specs.declared.head.Kind.TheVariants.{Directory}
+use Rattle.romfs_format.specs.Fields.{kind}
+use Rattle.layer_tree.proofs.Building.{forests}
+use Rattle.layer_tree.proofs.Entering.{directory_stays, entered}
+use Rattle.layer_tree.proofs.Folding.{plain_folder}
+use Rattle.layer_tree.proofs.reading.add_plain_folder.Goals as goal
+
+pub new-requires : goal.new-requires
+new-requires g c = (forests c.args.layer.now.image.now c.args.layer.now.number c.requires.below c.requires.members.rising).0
+
+pub returns : goal.returns
+returns g c =
+    let a = c.args.layer.now.image.now in
+    let h = c.args.head.now.offset in
+    let e : c.in_ok-own_name.own_name ≡ c.args.name.now = c.in_ok-own_name.ensures in
+    let directory : kind a h ≡ Directory = sym (ap (λ (x : Head). x.kind) c.requires.given.is) ∙ c.requires.directory in
+    let entry = entered a c.args.layer.now.number h c.args.head.now c.entry_at-own_entry.result c.requires.given
+    (directory_stays a h directory) c.entry_at-own_entry.ensures.layer c.entry_at-own_entry.ensures.header
+    c.entry_at-own_entry.ensures.kind in
+    record {
+      made = (c.new.result, None);
+      is = rw (c.new.ensures, e) (plain_folder a c.args.layer.now.number h c.args.members.now c.args.below.entries.items
+          c.args.below.marks.items c.requires.sound c.requires.members c.requires.below c.requires.all c.requires.unmarked directory
+          c.entry_at-own_entry.result entry c.args.name.now);
+      entries = c.in_ok-push.ensures.items;
+      marks = sym (append-nil c.args.to.now.marks.items);
+    }
