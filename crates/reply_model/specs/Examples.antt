@@ -208,6 +208,8 @@ pub record InitExamples : Type 0 where
   pub minor_23 : length (over_empty Fresh (request 26 1 0 (init_in 7 23 131072 0x1))) ≡ 80
   pub exported : take 4 (drop 28 (over_empty Fresh (request 26 1 0 (init_in 7 31 131072 0x10))))
       ≡ u32 0x10
+  pub every_flag : take 4 (drop 28 (over_empty Fresh (request 26 1 0 (init_in 7 31 0 0xffffffff))))
+      ≡ u32 0x446011
   pub older_minor : over_empty Fresh (request 26 1 0 (init_in 7 11 131072 0x1))
       ≡ refused 1 0xffffffb9
   pub older_major : over_empty Fresh (request 26 1 0 (init_in 6 31 131072 0x1))
