@@ -208,6 +208,8 @@ pub record InitExamples : Type 0 where
   pub minor_23 : length (over_empty Fresh (request 26 1 0 (init_in 7 23 131072 0x1))) ≡ 80
   pub exported : take 4 (drop 28 (over_empty Fresh (request 26 1 0 (init_in 7 31 131072 0x10))))
       ≡ u32 0x10
+  pub every_flag : take 4 (drop 28 (over_empty Fresh (request 26 1 0 (init_in 7 31 0 0xffffffff))))
+      ≡ u32 0x446011
   pub older_minor : over_empty Fresh (request 26 1 0 (init_in 7 11 131072 0x1))
       ≡ refused 1 0xffffffb9
   pub older_major : over_empty Fresh (request 26 1 0 (init_in 6 31 131072 0x1))
@@ -262,11 +264,12 @@ upper_row =
     dump (0x01000000 ∷ 0x00000000 ∷ 0x02000000 ∷ 0x00000000
     ∷ 0x02000000 ∷ 0x04000000 ∷ 0x2e2e0000 ∷ 0x00000000 ∷ [])
 
--- READDIR of the root: both rows, one, or none that fits; and after the last one
+-- READDIR of the root: both rows, one, one that just fits, or none; and after the last one
 pub record ReaddirExamples : Type 0 where
   pub both : over_empty (Ready false) (request 28 2 1 (read_in 0 4096))
       ≡ headed 2 80 ++ own_row ++ upper_row
   pub one : over_empty (Ready false) (request 28 2 1 (read_in 0 63)) ≡ headed 2 48 ++ own_row
+  pub just_one : over_empty (Ready false) (request 28 2 1 (read_in 0 32)) ≡ headed 2 48 ++ own_row
   pub too_small : over_empty (Ready false) (request 28 2 1 (read_in 0 31)) ≡ refused 2 0xffffffea
   pub no_room : over_empty (Ready false) (request 28 2 1 (read_in 0 0)) ≡ refused 2 0xffffffea
   pub too_large : over_empty (Ready false) (request 28 2 1 (read_in 0 (MAX_DATA_SIZE + 1)))
@@ -295,6 +298,7 @@ pub record ReadExamples : Type 0 where
       0xffffffea
   pub directory : over_sample (request 15 2 3 (read_in 0 1)) ≡ refused 2 0xffffffeb
   pub link : over_sample (request 15 2 5 (read_in 0 1)) ≡ refused 2 0xffffffea
+  pub device : over_sample (request 15 2 6 (read_in 0 1)) ≡ refused 2 0xffffffea
   pub stale : over_sample (request 15 2 7 (read_in 0 1)) ≡ refused 2 0xffffff8c
 
 -- the entry of x in the directory d
@@ -374,7 +378,15 @@ pub record RefusalOrder : Type 0 where
   pub kind_before_access : over_sample (request 14 2 3 (u32 2 ++ zeros 4)) ≡ refused 2 0xffffffeb
   pub kind_before_rows : over_sample (request 28 2 2 (read_in 0 0)) ≡ refused 2 0xffffffec
 
--- mode 0x2180 and rdev 0x103 of the device; the root has one directory; 11 blocks and 6 nodes
+-- a second path of the root of the empty image
+abbrev pub two_paths : List Entry
+two_paths =
+    record { path = []; layer = 0; header = 0x20 }
+    ∷ record { path = codes "r" ∷ []; layer = 0; header = 0x20 }
+    ∷ []
+
+-- mode 0x2180 and rdev 0x103 of the device; the root has one directory; 11 blocks and 6 nodes, and
+-- one node where two paths have one place
 pub record NodeExamples : Type 0 where
   pub device_mode : take 4 (drop 92 (over_sample (request 3 2 6 (zeros 16))))
       ≡ dump (0x80210000 ∷ [])
@@ -386,6 +398,9 @@ pub record NodeExamples : Type 0 where
       over_sample (request 17 2 0 [])
       ≡ headed 2 96 ++ u64 11 ++ zeros 16 ++ u64 6 ++ zeros 8 ++ u32 512 ++ u32 255 ++ u32 512
       ++ zeros 28
+  pub statfs_of_two_paths :
+      take 8 (drop 40 (reply (empty_image ∷ []) two_paths (Ready false) (asked (request 17 2 0 []))))
+      ≡ u64 1
   pub readdir_of_file : over_sample (request 28 2 2 (read_in 0 4096)) ≡ refused 2 0xffffffec
   pub readdirplus_of_link : over_sample (request 44 2 5 (read_in 0 4096)) ≡ refused 2 0xffffffec
   pub file_mode : take 4 (drop 92 (over_sample (request 3 2 2 (zeros 16)))) ≡ dump (0xa4810000 ∷ [])
@@ -394,6 +409,7 @@ pub record NodeExamples : Type 0 where
   pub link_mode : take 4 (drop 92 (over_sample (request 3 2 5 (zeros 16)))) ≡ dump (0xffa10000 ∷ [])
   pub readlink : over_sample (request 5 2 5 []) ≡ headed 2 19 ++ codes "d/x"
   pub readlink_of_file : over_sample (request 5 2 2 []) ≡ refused 2 0xffffffea
+  pub readlink_of_directory : over_sample (request 5 2 3 []) ≡ refused 2 0xffffffea
   pub release : over_sample (request 18 2 99 []) ≡ headed 2 16
   pub forget : over_sample (request 2 2 2 (zeros 8)) ≡ []
   pub write : over_sample (request 16 2 2 (zeros 40)) ≡ refused 2 0xffffffe2
@@ -412,6 +428,7 @@ pub record OpenExamples : Type 0 where
       ≡ headed 2 32 ++ zeros 8 ++ u32 2 ++ zeros 4
   pub open_link : over_sample (request 14 2 5 (zeros 8)) ≡ refused 2 0xffffffea
   pub open_directory : over_sample (request 14 2 3 (zeros 8)) ≡ refused 2 0xffffffeb
+  pub open_device : over_sample (request 14 2 6 (zeros 8)) ≡ refused 2 0xffffffea
   pub opendir : over_sample (request 27 2 3 (zeros 8)) ≡ headed 2 32 ++ zeros 16
   pub opendir_of_file : over_sample (request 27 2 2 (zeros 8)) ≡ refused 2 0xffffffec
 

@@ -1,6 +1,6 @@
 -- Worked examples of streams that are served lastingly: requests written out, and what they are
 -- answered, over the images of `Examples`.
-use Rattle.std.specs.Prelude.{◌≡◌, ℕ, pos, List, [], ◌∷◌, ◌++◌, length, map, replicate, Bool, true, false, codes}
+use Rattle.std.specs.Prelude.{◌≡◌, ℕ, pos, List, [], ◌∷◌, ◌++◌, length, map, take, drop, replicate, Bool, true, false, codes}
 use Rattle.fuse_wire.specs.Requests.{init, done, destroy, asked}
 use Rattle.fuse_wire.specs.Structures.{u32, zeros}
 use Rattle.reply_model.specs.declared.session.Session.TheVariants.{Fresh, Ready, LastingFresh, LastingReady}
@@ -44,6 +44,9 @@ pub record LastingInitExamples : Type 0 where
       ≡ older_init_reply
   pub minor_22_no_open : over_empty LastingFresh (request 26 1 0 (init_in 7 22 131072 0x20001))
       ≡ older_lasting_reply
+  pub every_flag :
+      take 4 (drop 28 (over_empty LastingFresh (request 26 1 0 (init_in 7 31 0 0xffffffff))))
+      ≡ u32 0x1c66011
   pub minor_12 : length (over_empty LastingFresh (request 26 1 0 (init_in 7 12 131072 0x1))) ≡ 40
   pub minor_11 : over_empty LastingFresh (request 26 1 0 (init_in 7 11 131072 0x1))
       ≡ refused 1 0xffffffb9
