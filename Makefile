@@ -1,15 +1,16 @@
 # make test: the merge gate. It holds the public calls against their table, proves every crate from nothing, tries the wrong bodies, and runs all tests and cases.
 # make build: the proved program, as build/strata. make demo: shows it at work.
+# make kept: the same, proved so that `rt check` in a crate's folder and make trials then prove what has changed alone.
 # make cases: the cases alone, on build/strata. make plant: sees that the cases notice wrong lines.
 # make mounted [STRATA=PROGRAM]: real mounts, looked at through the kernel.
 # make layers: tools/layers.py on layouts made on the spot, and, where umoci stands, on images that umoci makes.
-# make trials [CRATES=..]: tries the wrong bodies of trials/, over what make build kept; docs/trials.txt tells the last runs.
+# make trials [CRATES=..]: tries the wrong bodies of trials/, over what make kept has kept; docs/trials.txt tells the last runs.
 # make bench: figures. make growth: how time and memory grow with nodes and layers, drawn in docs/growth.svg.
 # make fuzz [FUZZ=WORDS]: random and changed inputs, against a plain reading of the formats; WORDS are those of tools/fuzz.py,
 # as `--minutes 120 --seed 1000000 long device`.
 # make threads: 10,000 runs of one stream by 64 workers, each of which must give the same bytes; and valgrind over it.
 # make soak [MINUTES=20]: little memory by steps, the largest image, and random requests for so many minutes a part.
-.PHONY: test build demo cases layers mounted plant trials bench growth fuzz threads soak needed
+.PHONY: test build kept demo cases layers mounted plant trials bench growth fuzz threads soak needed
 
 PYTHON = python3 -B
 
@@ -29,6 +30,9 @@ build: build/strata
 
 build/strata: crates.txt $(shell find crates -name '*.rt' -o -name '*.antt') | needed
 	@$(PYTHON) tools/prove.py
+
+kept: needed
+	$(PYTHON) tools/prove.py --kept
 
 LAYERS = demo/lower.romfs demo/upper.romfs
 demo: build/strata

@@ -3,7 +3,7 @@
 The prover must refuse each. --all tries those of the crate's own must-fail/ too. The last line says how many were
 refused; the status is 0 where these are all. What a crate's run showed is its line of docs/trials.txt from then on.
 
-Each crate is laid into a scratch copy of the repository, with what `make build` kept of it and of the crates below.
+Each crate is laid into a scratch copy of the repository, with what `make kept` kept of it and of the crates below.
 Edits that change bodies alone, each another function's, are laid into it together, and one `rt check --only` of these
 functions tries them. That is fair: what a function's proof takes from another is its contract, which stands, and never
 its body or its proof. So a wrong body is judged by its own goals: it counts as refused where one of them is, at a
@@ -37,14 +37,20 @@ AT_NAME = "only at a name"
 NAMES = re.compile(r"has no field|is not in scope|has no `|was not admitted")
 
 
-def crates_below():
-    """Each crate of crates.txt with the crates of the repository that it stands on, at any distance."""
+def crates_used():
+    """Each crate of crates.txt with the libraries that it uses, of the repository and of the kit."""
     named = {}
     with open(ROOT + "/crates.txt", encoding="utf-8") as lines:
         for line in lines:
             if ":" in line and not line.startswith("#"):
                 head, _, rest = line.partition(":")
                 named[head.split()[0]] = rest.split()
+    return named
+
+
+def crates_below():
+    """Each crate of crates.txt with the crates of the repository that it stands on, at any distance."""
+    named = crates_used()
     below = {}
 
     def visit(name):
