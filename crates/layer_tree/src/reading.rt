@@ -26,9 +26,6 @@ use std::alloc::{AllocError, Allocator};
 /// What the name of the marker of a whole directory says after `.wh.`.
 const WHOLE: &[u8; 8] = b".wh..opq";
 
-/// For how many entries at least a directory that has any gets room.
-const SOME: usize = 4;
-
 /// The mark of a path that is cut.
 pub(crate) const CUT: Mark = Mark {
     cut: true,
@@ -177,7 +174,7 @@ fn branches_below<A: Allocator + Copy>(
     ensures ends { ends.new ≡ layer.now.image.now }
 {
     let mut made = Branches {
-        entries: Vec::with_capacity(layer.alloc, room_for(members.len()))?,
+        entries: Vec::with_capacity(layer.alloc, members.len())?,
         marks: Vec::new(layer.alloc),
     };
     let mut ahead = NamesAhead::new();
@@ -189,12 +186,6 @@ fn branches_below<A: Allocator + Copy>(
         add_branches(layer, ends, member.name, &member.head, left - 1, &mut made)?;
     }
     Ok(made)
-}
-
-/// For how many entries a directory of so many members gets room: a small one gets more than it
-/// needs, since others are often laid on it.
-fn room_for(members: usize) -> usize {
-    if members == 0 { 0 } else { members.max(SOME) }
 }
 
 /// The entry of a header whose hard links end at `end`: the kind and the place of that.

@@ -5,4 +5,3 @@ pub mod Spread
 pub mod Under
 pub mod Rising
 pub mod Merging
-pub mod Adding

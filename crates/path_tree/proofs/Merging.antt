@@ -113,7 +113,7 @@ module _ {T : Type 0} (f : T → T → T) where
 -- ls0 and hs0 are merged up to ls and hs, which are left
 pub record Merging {T : Type 0} (f : T → T → T) (ls0 hs0 ls hs out : List (Subtree T)) : Type 0 where
   pub merged : (more : List (Subtree T)) → Merges f ls hs more → Merges f ls0 hs0 (out ++ more)
-  pub smaller : length (spread hs) ≤ length (spread hs0)
+  pub smaller : length (spread ls) + length (spread hs) ≤ length (spread ls0) + length (spread hs0)
 
 -- a branch adds one row to a directory, and those below it
 pub grown : {T : Type 0} (s : Subtree T) (ss : List (Subtree T)) → length (spread (s ∷ ss)) ≡ length s.below + length (spread ss) + 1
@@ -126,7 +126,7 @@ module _ {T : Type 0} (f : T → T → T) (ls0 hs0 ls hs out : List (Subtree T))
   pub low_first : name_cmp l.name h.name ≡ Less → Merging f ls0 hs0 ls (h ∷ hs) (out ++ l ∷ [])
   low_first lt = record {
     merged = λ more m. rw append_assoc (inv.merged (l ∷ more) (Low l h ls hs more lt m));
-    smaller = inv.smaller;
+    smaller = omega (arith, grown l ls, inv.smaller);
   }
 
   -- where the upper side's first name comes first, its branch is put out as it is
@@ -140,17 +140,17 @@ module _ {T : Type 0} (f : T → T → T) (ls0 hs0 ls hs out : List (Subtree T))
   pub both_first : (b : Subtree T) → name_cmp l.name h.name ≡ Equal → IsLaid f l h b → Merging f ls0 hs0 ls hs (out ++ b ∷ [])
   both_first b e c = record {
     merged = λ more m. rw append_assoc (inv.merged (b ∷ more) (Both l h b ls hs more (exact_bytes l.name h.name e) c m));
-    smaller = omega (arith, grown h hs, inv.smaller);
+    smaller = omega (arith, grown l ls, grown h hs, inv.smaller);
   }
 
--- below the first upper branch is less than all that is left of them
-pub below_measure : {T : Type 0} (hs hs' : List (Subtree T)) (h : Subtree T) → hs ≡ h ∷ hs'
-    → 4 * length h.below + 3 < 4 * length (spread hs)
-below_measure hs hs' h e = rw e (omega (arith, grown h hs'))
+-- the children of first branches are fewer than all that is left
+pub below_measure : {T : Type 0} (ls ls' hs hs' : List (Subtree T)) (l h : Subtree T) → ls ≡ l ∷ ls' → hs ≡ h ∷ hs'
+    → 2 * (length l.below + length h.below) + 1 < 2 * (length (spread ls) + length (spread hs))
+below_measure ls ls' hs hs' l h e d = rw (e, d) (omega (arith, grown l ls', grown h hs'))
 
 module _ {T : Type 0} (f : T → T → T) (ls0 hs0 ls hs out : List (Subtree T)) (inv : Merging f ls0 hs0 ls hs out) where
   -- all that is left is no more than all
-  pub left_measure : 4 * length (spread hs) < 4 * length (spread hs0) + 3
+  pub left_measure : 2 * (length (spread ls) + length (spread hs)) < 2 * (length (spread ls0) + length (spread hs0)) + 1
   left_measure = omega (arith, inv.smaller)
 
   -- where no upper branches are left, the lower ones that are left complete the result

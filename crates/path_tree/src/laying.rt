@@ -1,18 +1,14 @@
 //! Trees laid one on another.
 
-ghost use Rattle.std.specs.Prelude.{◌≡◌, ◌<◌, [], ◌∷◌, ◌++◌, length, IfOk, OnOk};
-ghost use Rattle.path_tree.specs.Rows.{name_cmp, IsRising, IsForest};
+ghost use Rattle.std.specs.Prelude.{◌≡◌, ◌<◌, ◌++◌, length, IfOk, OnOk};
+ghost use Rattle.path_tree.specs.Rows.{IsForest};
 ghost use Rattle.path_tree.specs.Laying.{IsLaid, AreLaid, CoversFirst};
 
-use crate::branch::{Branch, place};
+use crate::branch::Branch;
 use crate::moving::{add_last, pass_first, take_first};
 use std::alloc::{AllocError, Allocator};
 use std::cmp::Ordering;
 use std::collections::VecDeque;
-
-/// How many branches at most are laid on a directory in place. More of them, or a directory that is
-/// gone through anyway, make a new one.
-const FEW: usize = 8;
 
 /// Values of which one can be laid on another.
 pub trait Lay: Copy + Drop {
@@ -54,8 +50,8 @@ pub fn merge<T: Lay, A: Allocator + Copy>(
     if lows.is_empty() {
         return Ok(highs);
     }
-    if highs.len() <= FEW {
-        return merge_few(alloc, lows, highs);
+    if highs.is_empty() {
+        return Ok(lows);
     }
     let mut out = Vec::with_capacity(alloc, lows.len().saturating_add(highs.len()))?;
     let mut lows = VecDeque::from(lows);
@@ -71,61 +67,6 @@ pub fn merge<T: Lay, A: Allocator + Copy>(
     append(&mut out, lows)?;
     append(&mut out, highs)?;
     Ok(out)
-}
-
-/// The branches of a directory, few of them, laid on those of another one, one by one from the
-/// last.
-#[cycle(laying)]
-fn merge_few<T: Lay, A: Allocator + Copy>(
-    alloc: A,
-    mut lows: Vec<Branch<T, A>, A>,
-    mut highs: Vec<Branch<T, A>, A>,
-) -> Result<Vec<Branch<T, A>, A>, AllocError>
-    requires low { IsForest lows.items }
-    requires high { IsForest highs.items }
-    ensures { IfOk result (λ out. AreLaid T.laid lows.items highs.items out.items) }
-{
-    while let Some(high) = highs.pop() {
-        lay_one(alloc, &mut lows, high)?;
-    }
-    Ok(lows)
-}
-
-/// A branch laid on those of a directory: on the one of its name, or beside them.
-#[cycle(laying)]
-fn lay_one<T: Lay, A: Allocator + Copy>(
-    alloc: A,
-    lows: &mut Vec<Branch<T, A>, A>,
-    high: Branch<T, A>,
-) -> Result<(), AllocError>
-    requires low { IsForest lows.old.items }
-    requires high { IsRising high }
-    ensures { OnOk result (AreLaid T.laid lows.old.items (high ∷ []) lows.new.items) }
-{
-    match place(lows, high.name()) {
-        Ok(i) => lay_on(alloc, &mut lows[i], high),
-        Err(i) => {
-            lows.insert(i, high)?;
-            Ok(())
-        }
-    }
-}
-
-/// A branch laid on another one of its name, in its place.
-#[cycle(laying)]
-fn lay_on<T: Lay, A: Allocator + Copy>(
-    alloc: A,
-    low: &mut Branch<T, A>,
-    high: Branch<T, A>,
-) -> Result<(), AllocError>
-    ensures { OnOk result (IsLaid T.laid low.old high low.new) }
-{
-    let below = low.value();
-    let own = low.take_children(alloc);
-    let (name, above, others) = high.into_parts();
-    let children = merge(alloc, own, others)?;
-    *low = Branch::new(name, T::lay(below, above), children);
-    Ok(())
 }
 
 /// The first branches of two directories, one laid on the other, are added to `out`.

@@ -1,14 +1,13 @@
 use Rattle.std.proofs.Common.{rules, ◌≡◌, ◌++◌, refl}
 use Rattle.std.specs.declared.cmp.Ordering.TheVariants.{Less, Equal, Greater}
 use Rattle.path_tree.specs.Rows.{Subtree, name_cmp, spread}
-use Rattle.path_tree.proofs.Adding.{at_place_if, in_gap, adding_begun, one_more, next_rises, next_measure}
 use Rattle.path_tree.proofs.Merging.{branch_laid, are_laid, low_first, high_first, both_first, below_measure, left_measure, lows_left, highs_left, shown, some_shown, nothing_shown}
 use Rattle.path_tree.proofs.laying.+laying.Goals as goal
 use Rattle.path_tree.proofs.laying.+laying.Goals.{merge-in_default, merge-in_default-2}
 
 pub cover_first-merge-requires : goal.cover_first-merge-requires
 cover_first-merge-requires g t c κs within =
-    let m = below_measure _ _ _ c.take_first-name.ensures.first in
+    let m = below_measure _ _ _ _ _ _ c.take_first-below.ensures.first c.take_first-name.ensures.first in
     search (rules, m)
 
 pub cover_first-returns : goal.cover_first-returns
@@ -79,35 +78,3 @@ merge-returns g t c =
       | merge-in_default w ↦ lows_left g.T.Lay.laid _ _ _ _ _ c.loop-low.invariant (nothing_shown _ w.in_default.ensures'.item)
       | merge-in_default-2 w ↦ highs_left g.T.Lay.laid _ _ _ _ _ c.loop-low.invariant (nothing_shown _ w.in_default.ensures.item)
     ]) c.requires.low c.requires.high)
-
-pub merge_few-loop-high-init : goal.merge_few-loop-high-init
-merge_few-loop-high-init g t c = adding_begun g.T.Lay.laid c.args.lows.items c.args.highs.items c.requires.low
-
-pub merge_few-lay_one-requires : goal.merge_few-lay_one-requires
-merge_few-lay_one-requires g t c κs within =
-    let low = c.loop-high.invariant.laid.forest in
-    let high = next_rises g.T.Lay.laid _ _ _ _ _ _ c.in-Some.ensures.items c.loop-high.invariant c.requires.high in
-    let m = next_measure g.T.Lay.laid _ _ _ _ _ _ c.in-Some.ensures.items c.loop-high.invariant in
-    search (rules, low, high, m)
-
-pub merge_few-loop-high-preserved : goal.merge_few-loop-high-preserved
-merge_few-loop-high-preserved g t c =
-    one_more g.T.Lay.laid _ _ _ _ _ _ c.in-Some.ensures.items c.loop-high.invariant _ c.requires.high.names c.in_ok-lay_one.ensures
-
-pub lay_one-returns-in-Ok : goal.lay_one-returns-in-Ok
-lay_one-returns-in-Ok g t c =
-    at_place_if g.T.Lay.laid c.lay_on.result c.args.lows.now.items c.args.high c.index_mut.result.now c.lay_on.new.low c.in-Ok.i
-    c.requires.low c.requires.high (rw (c.name.ensures, c.deref.ensures.value) at c.in-Ok.ensures) c.index_mut.ensures.value
-    c.lay_on.ensures
-
-pub lay_one-returns-in_ok-insert-in-Err : goal.lay_one-returns-in_ok-insert-in-Err
-lay_one-returns-in_ok-insert-in-Err g t c =
-    rw c.in_ok-insert-in-Err.ensures.items
-    (in_gap g.T.Lay.laid c.args.lows.now.items c.args.high c.in-Err.i c.requires.low c.requires.high
-    (rw (c.name.ensures, c.deref.ensures.value) at c.in-Err.ensures))
-
-pub lay_on-returns : goal.lay_on-returns
-lay_on-returns g t c =
-    rw (c.new.ensures, c.into_parts-name.ensures.name, c.lay.ensures, c.into_parts-name.ensures.value, c.value-below.ensures)
-    (branch_laid g.T.Lay.laid c.args.low.now c.args.high _ _ _ c.take_children-own.ensures.below c.into_parts-name.ensures.below
-    c.in_ok-children.ensures)
