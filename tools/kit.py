@@ -21,7 +21,8 @@ class Kit:
     def build(self, crate, folder, uses, proved, jobs):
         """What proves the crate of a folder, over what it uses, and then writes it below `proved`: a library as
         CRATE.rlib, which holds its statements, and a program as CRATE.o."""
-        words = [self.folder + "/bin/rattle", "build", "--crate-name", crate, "--jobs", str(jobs), "--links", crate + "="]
+        words = [self.folder + "/bin/rattle", "build", "--crate-name", crate, "--jobs", str(jobs)]
+        words += ["--links", crate + "="]
         for name in ["std", *uses]:
             words += ["--extern", "%s=%s/%s.rlib" % (name, self.folder + "/rlibs" if self.has(name) else proved, name)]
         words += ["-L", "dependency=%s/rlibs" % self.folder, "-L", "dependency=" + proved]

@@ -1,4 +1,4 @@
-"""Proves and builds the program, crates side by side where they do not stand on each other: python3 tools/prove.py [--kept]
+"""Proves and builds the program, crates side by side where they can be: python3 tools/prove.py [--kept]
 
 Each crate of crates.txt below strata_main is proved from nothing, as the gate proves it: over the statements of what it
 stands on, a sixth of what their proofs are to read. What is proved stands in build/proved, with a sum of all that it
@@ -46,7 +46,7 @@ def say(text):
 
 
 class Proving:
-    """The proof of one crate, under way, by a command in a folder. Its end is told to `keep`, and whether all was proved."""
+    """The proof of one crate, under way, by a command in a folder. `keep` is told of its end, and whether all is proved."""
 
     def __init__(self, crate, words, folder, is_first, keep):
         self.crate, self.keep, self.begun = crate, keep, time.monotonic()
@@ -103,8 +103,9 @@ class Statements:
         """What earlier runs proved and can stay: over what has been proved again nothing stays."""
         found = set()
         for crate in wanted:
-            made = self.of(crate, "o" if crate == PROGRAM else "rlib")
-            if found.issuperset(self.below[crate]) and os.path.exists(made) and text_of(self.of(crate, "sum")) == self.sum(crate):
+            is_there = os.path.exists(self.of(crate, "o" if crate == PROGRAM else "rlib"))
+            is_same = text_of(self.of(crate, "sum")) == self.sum(crate)
+            if is_there and is_same and found.issuperset(self.below[crate]):
                 found.add(crate)
             elif os.path.exists(self.of(crate, "sum")):
                 os.remove(self.of(crate, "sum"))
@@ -119,7 +120,8 @@ class Statements:
                 with open(self.of(crate, "sum"), "w", encoding="utf-8") as file:
                     file.write(before)
 
-        return Proving(crate, self.kit.build(crate, folder, self.uses[crate], self.folder, jobs), folder, is_first, keep)
+        words = self.kit.build(crate, folder, self.uses[crate], self.folder, jobs)
+        return Proving(crate, words, folder, is_first, keep)
 
     def program(self):
         made = ROOT + "/build/strata.new"
@@ -165,7 +167,7 @@ class Kept:
 
 
 def linked(source, target):
-    """A link to what earlier runs kept, where the file system has links; a copy of any source, since it may be edited."""
+    """A link to what earlier runs kept, where the file system has links; a copy of any source, which may be edited."""
     try:
         if "/out/" not in source:
             raise OSError
