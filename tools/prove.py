@@ -46,7 +46,7 @@ def say(text):
 
 
 class Proving:
-    """The proof of one crate, under way, by a command in a folder. `keep` is told of its end, and whether all is proved."""
+    """The proof of one crate, under way, by a command in a folder. `keep` is told whether all is proved at its end."""
 
     def __init__(self, crate, words, folder, is_first, keep):
         self.crate, self.keep, self.begun = crate, keep, time.monotonic()
