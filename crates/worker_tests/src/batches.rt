@@ -5,41 +5,13 @@ use crate::jobs::jobs_of;
 use crate::tables::sample_table;
 use reply_model::Move;
 use reply_pool::{Plan, Rounded, round};
-use stack_core::{Gate, Work};
 use std::alloc::{AllocError, Allocator, Global};
-use std::sync::atomic::{AtomicU64, Ordering};
 use std::test::Fail;
 use std::thread::Threads;
+use test_kit::gates::Recording;
 use test_kit::script::{lookups, script, script_replies};
 
 const PLANS: [(u32, u32); 6] = [(1, 1), (2, 1), (5, 1), (1, 3), (2, 3), (5, 3)];
-
-/// A gate that counts how often each batch passes it: batch k in the digit k of a hexadecimal
-/// number.
-#[derive(Drop)]
-struct Counts {
-    digits: AtomicU64,
-}
-
-impl Counts {
-    fn new() -> Self {
-        Counts {
-            digits: AtomicU64::new(0),
-        }
-    }
-
-    fn digits(&self) -> u64 {
-        self.digits.load(Ordering::SeqCst)
-    }
-}
-
-impl Gate for Counts {
-    fn pass(&self, work: Work, number: u32) {
-        if work == Work::Batch && number < 16 {
-            self.digits.fetch_add(1 << (4 * number), Ordering::SeqCst);
-        }
-    }
-}
 
 #[derive(Clone, Copy, Debug, PartialEq, Eq)]
 pub enum Jobs {
@@ -74,7 +46,7 @@ fn is_right<A: Allocator>(rounded: &Rounded<A>, jobs: Jobs, replies: &[u8]) -> b
     }
 }
 
-/// Whether a round of jobs comes to what it should, and the batches that pass its gate; over the
+/// Whether a round of jobs comes to what it should, and the work that passes its gate; over the
 /// table of the sample image, in memory of `plain`.
 pub fn round_of<R: Threads + Sync, A: Allocator + Copy + Send + Sync>(
     rt: &R,
@@ -83,16 +55,16 @@ pub fn round_of<R: Threads + Sync, A: Allocator + Copy + Send + Sync>(
     alloc: A,
     jobs: Jobs,
     plan: (u32, u32),
-) -> Option<Result<(bool, u64), AllocError>> {
+) -> Option<Result<(bool, (u64, u64, u64)), AllocError>> {
     let plan = Plan::new(plan.0, plan.1)?;
-    let counts = Counts::new();
+    let gate = Recording::new();
     let stream = stream_of(global, jobs).ok()?;
     let replies = script_replies(global).ok()?;
     let requests = jobs_of(global, &stream).ok()?;
     let table = sample_table(rt, plain)?;
     let few = requests.len().min(256);
-    match round(rt, alloc, &table, &requests[..few], plan, &counts) {
-        Ok(rounded) => Some(Ok((is_right(&rounded, jobs, &replies), counts.digits()))),
+    match round(rt, alloc, &table, &requests[..few], plan, &gate) {
+        Ok(rounded) => Some(Ok((is_right(&rounded, jobs, &replies), gate.seen()))),
         Err(AllocError) => Some(Err(AllocError)),
     }
 }
@@ -102,17 +74,17 @@ fn rounds_by_any_plan(rt: HostRuntime) -> Result<(), Fail> {
     for jobs in [Jobs::None, Jobs::Script, Jobs::Lookups] {
         for plan in PLANS {
             let came_to = round_of(&rt, rt.alloc(), rt.alloc(), rt.alloc(), jobs, plan);
-            let Some(Ok((is_right, digits))) = came_to else {
+            let Some(Ok((is_right, passed))) = came_to else {
                 return Err(Fail::new("no round"));
             };
             assert!(rt; is_right, "{jobs:?} by {plan:?}");
-            let passed = match (jobs, plan.1) {
+            let batches = match (jobs, plan.1) {
                 (Jobs::None, _) => 0,
                 (Jobs::Script, 1) => 0x1111_1111_1111,
                 (Jobs::Lookups, 1) => 0x11_1111_1111,
                 _ => 0x1111,
             };
-            assert!(rt; digits == passed, "{jobs:?} by {plan:?}");
+            assert!(rt; passed == (0, 0, batches), "{jobs:?} by {plan:?}");
         }
     }
     Ok(())

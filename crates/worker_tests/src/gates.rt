@@ -3,61 +3,12 @@
 use crate::jobs::jobs_of;
 use crate::tables::sample_table;
 use reply_pool::{Plan, round};
-use stack_core::{Gate, Work};
+use stack_core::Work;
 use std::alloc::Global;
-use std::sync::atomic::{AtomicU64, Ordering};
 use std::test::Fail;
 use std::thread::Threads;
+use test_kit::gates::{FEW, Holding, MANY};
 use test_kit::script::script;
-
-/// Turns of a gate: more than any schedule takes, where another worker is there.
-const MANY: u32 = 1 << 30;
-
-/// Turns of a gate that is to be given up.
-const FEW: u32 = 1 << 20;
-
-/// Holds some batches until others have come, for so many turns at most. Batch k has the bit k.
-#[derive(Drop)]
-struct Holding {
-    held: u64,
-    awaited: u64,
-    turns: u32,
-    came: AtomicU64,
-    given_up: AtomicU64,
-}
-
-impl Gate for Holding {
-    fn pass(&self, work: Work, number: u32) {
-        if work == Work::Batch && number < 64 {
-            let own = 1 << number;
-            self.came.fetch_or(own, Ordering::SeqCst);
-            if self.held & own != 0 {
-                self.hold();
-            }
-        }
-    }
-}
-
-impl Holding {
-    fn new(held: u64, awaited: u64, turns: u32) -> Self {
-        Self {
-            held,
-            awaited,
-            turns,
-            came: AtomicU64::new(0),
-            given_up: AtomicU64::new(0),
-        }
-    }
-
-    fn hold(&self) {
-        for _ in 0..self.turns {
-            if self.came.load(Ordering::SeqCst) & self.awaited == self.awaited {
-                return;
-            }
-        }
-        self.given_up.store(1, Ordering::SeqCst);
-    }
-}
 
 /// Whether a batch was given up in a round of so many jobs in batches of one by two workers.
 fn is_given_up<R: Threads + Sync>(
@@ -75,23 +26,23 @@ fn is_given_up<R: Threads + Sync>(
         return None;
     }
     let rounded = round(rt, alloc, &table, few, plan, gate).ok()?;
-    (!rounded.bytes.is_empty()).then_some(gate.given_up.load(Ordering::SeqCst) == 1)
+    (!rounded.bytes.is_empty()).then_some(gate.is_given_up())
 }
 
 #[test]
 fn the_first_batch_waits_for_the_second(rt: HostRuntime) {
-    let gate = Holding::new(0b1, 0b10, MANY);
+    let gate = Holding::new(Work::Batch, 0b1, 0b10, MANY);
     assert_eq!(rt; is_given_up(&rt, rt.alloc(), 2, &gate), Some(false));
 }
 
 #[test]
 fn one_worker_answers_all_other_batches(rt: HostRuntime) {
-    let gate = Holding::new(0b1, 0b1110, MANY);
+    let gate = Holding::new(Work::Batch, 0b1, 0b1110, MANY);
     assert_eq!(rt; is_given_up(&rt, rt.alloc(), 4, &gate), Some(false));
 }
 
 #[test]
 fn no_third_worker_is_there(rt: HostRuntime) {
-    let gate = Holding::new(0b11, 0b100, FEW);
+    let gate = Holding::new(Work::Batch, 0b11, 0b100, FEW);
     assert_eq!(rt; is_given_up(&rt, rt.alloc(), 3, &gate), Some(true));
 }
