@@ -1,13 +1,14 @@
-//! A batch is held until others have come.
+//! A batch is held until others have come, and workers are counted.
 
 use crate::jobs::jobs_of;
 use crate::tables::sample_table;
-use reply_pool::{Plan, round};
+use reply_model::Session;
+use reply_pool::{Plan, round, spread_out};
 use stack_core::Work;
 use std::alloc::Global;
 use std::test::Fail;
 use std::thread::Threads;
-use test_kit::gates::{FEW, Holding, MANY};
+use test_kit::gates::{Crowd, FEW, Holding, MANY};
 use test_kit::script::script;
 
 /// Whether a batch was given up in a round of so many jobs in batches of one by two workers.
@@ -45,4 +46,29 @@ fn one_worker_answers_all_other_batches(rt: HostRuntime) {
 fn no_third_worker_is_there(rt: HostRuntime) {
     let gate = Holding::new(Work::Batch, 0b11, 0b100, FEW);
     assert_eq!(rt; is_given_up(&rt, rt.alloc(), 3, &gate), Some(true));
+}
+
+/// Of 24 requests of a stream as many are under way at a time as the plan has workers.
+#[test]
+fn sixteen_workers_answer_a_stream(rt: HostRuntime) -> Result<(), Fail> {
+    let global = rt.alloc();
+    let plan = Plan::new(16, 1).ok_or("a plan")?;
+    let table = sample_table(&rt, global).ok_or("a table")?;
+    let mut stream = script(global)?;
+    let again = script(global)?;
+    stream.extend_from_slice(&again)?;
+    assert!(rt; stream.len() < 4096);
+    let gate = Crowd::new(Work::Batch);
+    let spread = spread_out(
+        &rt,
+        global,
+        &table,
+        &stream,
+        Session::Fresh,
+        24,
+        plan,
+        &gate,
+    );
+    assert!(rt; spread.is_ok() && gate.seen() == (24, 16));
+    Ok(())
 }
