@@ -11,7 +11,8 @@ stands on, so two crates that share one would wait for each other. Each is prove
 
 The last crate waits for the longest chain of crates that stand on each other. So of crates that can begin, the one with
 the longest chain above it begins first; the first of all gets two processors or more, and the others let it go before.
-What a crate costs is read from docs/GATE.md.
+The program itself gets one, since copies of the prover would each read all of it. What a crate costs is read from
+docs/GATE.md.
 """
 import fcntl
 import hashlib
@@ -273,7 +274,7 @@ def prove_all(below, way, running):
         first = next(name for name in wanted if name not in proved)
         for name in ready[:places - len(running)]:
             share = -(-places // (len(running) + len(ready)))
-            jobs = min(places, max(share, 2 if name == first else 1))
+            jobs = 1 if name == PROGRAM else min(places, max(share, 2 if name == first else 1))
             running.append(way.begin(name, jobs, name == first))
             ready.remove(name)
         for it in [it for it in running if it.is_ended()]:
