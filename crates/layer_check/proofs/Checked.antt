@@ -6,7 +6,8 @@ use Rattle.std.specs.declared.vec.Vec.{Vec}
 use Rattle.std.proofs.lemmas.List.{length-map, length-append, map-append, take-append-drop, length-take-le}
 use Rattle.std.proofs.lemmas.List.Elements.{All-push, All-append}
 use Rattle.romfs_format.specs.Fields.{image}
-use Rattle.romfs_format.specs.Rules.{IsSoundAs}
+use Rattle.romfs_format.specs.Rules.{IsFaultAs, IsSoundAs}
+use Rattle.romfs_format.specs.declared.rule.ImageFault.{ImageFault}
 use Rattle.romfs_format.specs.declared.rule.Profile.{Profile}
 use Rattle.serve_loop.specs.declared.stop.Stop.{Stop}
 use Rattle.serve_loop.specs.declared.stop.Stop.TheVariants.{Layer, Layers, BadLength, CutOff, Read, Write, Turns, Memory}
@@ -25,6 +26,25 @@ one_more v profile all below left rest x layers more checked e l s f d m = (
   record {
     sound = All-push (IsSoundAs profile) below (v x) s.sound d;
     are = m ∙ ap (λ xs. xs ++ checked ∷ []) s.are ∙ ap (λ n. map image below ++ n ∷ []) f ∙ sym (map-append image below (v x ∷ []));
+  },
+)
+
+-- where the next image breaks a rule, it is the lowest that does
+pub next_breaks : {X : Type 0} (v : X → List ℕ) (profile : Profile) (all below : List (List ℕ)) (left rest : List X) (x : X)
+    (layers : List (List ℕ)) (first n : ℕ) (fault : ImageFault)
+    → all ≡ below ++ map v left → left ≡ x ∷ rest → AreChecked profile below layers → n ≡ length layers
+    → IsFaultAs profile (v x) fault.rule fault.place → IsBroken first profile all (Layer (first + n) fault)
+next_breaks v profile all below left rest x layers first n fault e l s h f = (
+  n,
+  refl,
+  record {
+    below = below;
+    above = map v rest;
+    bytes = v x;
+    images_are = e ∙ ap (λ xs. below ++ map v xs) l;
+    layer_is = h ∙ ap length s.are ∙ length-map below image;
+    sound = s.sound;
+    broken = f;
   },
 )
 

@@ -399,7 +399,8 @@ pub record NodeExamples : Type 0 where
       ≡ headed 2 96 ++ u64 11 ++ zeros 16 ++ u64 6 ++ zeros 8 ++ u32 512 ++ u32 255 ++ u32 512
       ++ zeros 28
   pub statfs_of_two_paths :
-      take 8 (drop 40 (reply (empty_image ∷ []) two_paths (Ready false) (asked (request 17 2 0 []))))
+      take 8 (drop 40
+        (reply (empty_image ∷ []) two_paths (Ready false) (asked (request 17 2 0 []))))
       ≡ u64 1
   pub readdir_of_file : over_sample (request 28 2 2 (read_in 0 4096)) ≡ refused 2 0xffffffec
   pub readdirplus_of_link : over_sample (request 44 2 5 (read_in 0 4096)) ≡ refused 2 0xffffffec

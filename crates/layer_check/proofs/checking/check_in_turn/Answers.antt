@@ -1,6 +1,10 @@
-use Rattle.std.proofs.Common.{◌≡◌, length, arith}
+use Rattle.std.proofs.Common.{◌≡◌, ◌+◌, length, subst, sym, arith}
 use Rattle.std.specs.Vec.Iter.{into_iter_items}
-use Rattle.layer_check.proofs.Checked.{all_checked, one_more}
+use Rattle.romfs_check.specs.Refusals.{IsRefusalAs}
+use Rattle.serve_loop.specs.declared.stop.Stop.TheVariants.{Layer}
+use Rattle.layer_check.specs.Checking.{IsBroken}
+use Rattle.layer_check.specs.Layers.{contents_of}
+use Rattle.layer_check.proofs.Checked.{all_checked, next_breaks, one_more}
 use Rattle.layer_check.proofs.checking.check_in_turn.Goals as goal
 
 pub loop-bytes-preserved : goal.loop-bytes-preserved
@@ -26,4 +30,21 @@ returns g c =
           c.loop-bytes.checked.items
           done.1 none done.2,
       tt,
+    )
+
+pub returns-in-Err-Broken : goal.returns-in-Err-Broken
+returns-in-Err-Broken g c =
+    let done = c.loop-bytes.invariant.done in
+    let bytes = c.in-Some.bytes in
+    let number : c.len-in-loop-bytes.result ≡ length c.loop-bytes.checked.items = omega (
+      arith,
+      c.len-in-loop-bytes.ensures,
+      c.loop-bytes.checked.ok,
+    ) in
+    let broken = subst (λ fault. IsRefusalAs c.args.profile bytes.items fault) c.in-Err-Broken.field-0-is c.in-Err-Broken.ensures.err in
+    let why = next_breaks (λ image. image.items) c.args.profile _ done.0 _ _ bytes c.loop-bytes.checked.items c.args.first
+    c.len-in-loop-bytes.result c.in-Err-Broken.fault done.1 c.in-Some.ensures.steps.0 done.2 number broken in (
+      tt,
+      subst (λ fault. IsBroken c.args.first c.args.profile (contents_of c.args.images)
+          (Layer (c.args.first + c.len-in-loop-bytes.result) fault)) (sym c.in-Err-Broken.fault-is) why,
     )
