@@ -400,7 +400,7 @@ pub record NodeExamples : Type 0 where
       ++ zeros 28
   pub statfs_of_two_paths :
       take 8 (drop 40
-        (reply (empty_image ∷ []) two_paths (Ready false) (asked (request 17 2 0 []))))
+      (reply (empty_image ∷ []) two_paths (Ready false) (asked (request 17 2 0 []))))
       ≡ u64 1
   pub readdir_of_file : over_sample (request 28 2 2 (read_in 0 4096)) ≡ refused 2 0xffffffec
   pub readdirplus_of_link : over_sample (request 44 2 5 (read_in 0 4096)) ≡ refused 2 0xffffffec
