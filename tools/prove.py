@@ -302,7 +302,12 @@ def main(words):
     say("build/strata is built")
 
 
+def interrupted(_signal, _frame):
+    raise KeyboardInterrupt
+
+
 if __name__ == "__main__":
+    signal.signal(signal.SIGTERM, interrupted)  # so what is under way ends with it
     try:
         main(sys.argv[1:])
     except KeyboardInterrupt:
