@@ -10,10 +10,10 @@ use Rattle.std.specs.declared.cmp.Ordering.TheVariants.{Less}
 use Rattle.stack_model.specs.Stack.{Path}
 use Rattle.stack_model.specs.Attributes.{is_directory}
 use Rattle.path_tree.specs.Rows.{Subtree, name_cmp, named, NamesRise, IsRising, at_path, spread, whole}
-use Rattle.path_tree.specs.Laying.{laid_at}
+use Rattle.tree_merge.specs.Laying.{laid_at}
 use Rattle.path_tree.proofs.Names.{same_or_not, named_below, not_below_itself}
 use Rattle.path_tree.proofs.Spread.{through, at_spread}
-use Rattle.path_tree.proofs.Merging.{grown}
+use Rattle.tree_merge.proofs.Merging.{grown}
 use Rattle.shown_tree.specs.declared.place.Entry.{Entry}
 use Rattle.shown_tree.specs.declared.place.Mark.{Mark}
 use Rattle.shown_tree.specs.Marks.{cuts_itself, cuts_below, cut_by, marked, mark_of, covered_by, removed_by}

@@ -12,9 +12,9 @@ use Rattle.romfs_reader.proofs.Paths.{one_header}
 use Rattle.stack_model.specs.Stack.{Path, IsPlain, marker, opaque}
 use Rattle.stack_model.specs.Attributes.{is_directory}
 use Rattle.path_tree.specs.Rows.{Subtree, spread, whole, named, at_path, IsForest}
-use Rattle.path_tree.specs.Laying.{AreLaid}
+use Rattle.tree_merge.specs.Laying.{AreLaid}
 use Rattle.path_tree.proofs.Spread.{through, at_spread}
-use Rattle.path_tree.proofs.Rising.{branch_rises}
+use Rattle.tree_merge.proofs.Rising.{branch_rises}
 use Rattle.path_tree.proofs.Lists.{all_get}
 use Rattle.shown_tree.specs.declared.place.Entry.{Entry}
 use Rattle.shown_tree.specs.declared.place.Mark.{Mark}

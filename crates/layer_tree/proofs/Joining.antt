@@ -8,7 +8,7 @@ use Rattle.romfs_format.specs.declared.head.Kind.TheVariants.{Directory}
 use Rattle.stack_model.specs.Stack.{Path, IsPlain, Shows, IsTop, IsFree, IsCut}
 use Rattle.stack_model.proofs.Joined.{shows_joined, cuts_joined, free_is}
 use Rattle.path_tree.specs.Rows.{Subtree, whole, at_path}
-use Rattle.path_tree.specs.Laying.{laid_at, IsLaid}
+use Rattle.tree_merge.specs.Laying.{laid_at, IsLaid}
 use Rattle.shown_tree.specs.declared.place.Entry.{Entry}
 use Rattle.shown_tree.specs.declared.place.Mark.{Mark}
 use Rattle.shown_tree.specs.Marks.{cuts_itself, cuts_below, cut_by, mark_of, is_plain}

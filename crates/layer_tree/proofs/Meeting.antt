@@ -8,7 +8,7 @@ use Rattle.stack_model.specs.Stack.{Path}
 use Rattle.path_tree.specs.Rows.{Subtree, named, NamesRise, spread, whole}
 use Rattle.path_tree.proofs.Names.{same_or_not, not_below_itself}
 use Rattle.path_tree.proofs.Spread.{at_spread}
-use Rattle.path_tree.proofs.Merging.{grown}
+use Rattle.tree_merge.proofs.Merging.{grown}
 use Rattle.shown_tree.specs.declared.place.Mark.{Mark}
 use Rattle.shown_tree.specs.Marks.{marked}
 use Rattle.layer_tree.specs.Laying.{IsFrom, Clash, AreClashes, AreApart, IsApart}

@@ -1,6 +1,6 @@
 -- What few marks leave of branches, looked for one by one, from the last. at_place, cut_at and
 -- in_gap say what is left by one of them; Picking is the loop.
-use Rattle.std.proofs.Common.{◌≡◌, ◌≢◌, ◌∙◌, sym, ap, subst, ℕ, zero, suc, ◌+◌, ◌*◌, ◌<◌, ◌≤◌, inl, inr, List, [], ◌∷◌, ◌++◌, length, take, drop, get_or, refl, arith, append_assoc, Option, Some, None}
+use Rattle.std.proofs.Common.{◌≡◌, ◌≢◌, ◌∙◌, sym, ap, subst, ℕ, zero, suc, ◌+◌, ◌<◌, ◌≤◌, inl, inr, List, [], ◌∷◌, ◌++◌, length, take, drop, get_or, refl, arith, append_assoc, Option, Some, None}
 use Rattle.std.specs.Prelude.{slice_set, Result, Ok, Err, OnOk}
 use Rattle.std.proofs.lemmas.List.{append-nil}
 use Rattle.std.specs.declared.cmp.Ordering.TheVariants.{Less}
@@ -8,7 +8,7 @@ use Rattle.std.specs.List.{AllByRecursion}
 use Rattle.stack_model.specs.Stack.{Path}
 use Rattle.path_tree.specs.Rows.{Subtree, name_cmp, named, NamesRise, IsForest, IsPlaceOf, IsGapFor, at_path, spread}
 use Rattle.path_tree.proofs.Names.{IsSameOrNot, same_or_not, below_differs, named_below, all_at, above_of}
-use Rattle.path_tree.proofs.Merging.{grown}
+use Rattle.tree_merge.proofs.Merging.{grown}
 use Rattle.shown_tree.specs.declared.place.Mark.{Mark}
 use Rattle.shown_tree.specs.Marks.{cut_by}
 use Rattle.shown_tree.proofs.Cutting.{cut_through, by_name}

@@ -1,18 +1,18 @@
 -- Branches and marks in step, in the order of names. IsPassed is the loop that seeks a name,
 -- Keeping the loop over branches and their marks, Keeps what it makes of each, and are_kept what
 -- that is for all. all_cut, alone and inside say what a mark leaves of one branch.
-use Rattle.std.proofs.Common.{◌≡◌, ◌≢◌, ◌∙◌, sym, ap, subst, ℕ, ◌+◌, ◌*◌, ◌<◌, ◌≤◌, inl, inr, List, [], ◌∷◌, ◌++◌, length, refl, arith, append_assoc, Option, Some, None, Bool, true, false}
+use Rattle.std.proofs.Common.{◌≡◌, ◌≢◌, ◌∙◌, sym, ap, subst, ℕ, ◌+◌, ◌≤◌, inl, inr, List, [], ◌∷◌, ◌++◌, length, refl, arith, append_assoc, Option, Some, None, Bool, true, false}
 use Rattle.std.specs.Prelude.{option_to_list}
 use Rattle.std.proofs.lemmas.List.{append-nil}
 use Rattle.std.proofs.lemmas.Cmp.{nat_list_cmp_total}
 use Rattle.std.specs.declared.cmp.Ordering.TheVariants.{Less, Equal, Greater}
 use Rattle.std.specs.List.{AllByRecursion}
 use Rattle.path_tree.specs.Rows.{Subtree, name_cmp, named, NamesRise, IsRising, IsForest, at_path, spread, whole}
-use Rattle.path_tree.specs.Laying.{PassesWith, TakesChildren}
+use Rattle.tree_merge.specs.Laying.{PassesWith, TakesChildren}
 use Rattle.path_tree.proofs.Names.{same_or_not, not_below_itself, named_below, all_above, above_of}
 use Rattle.path_tree.proofs.Spread.{through, at_spread}
-use Rattle.path_tree.proofs.Rising.{branch_rises}
-use Rattle.path_tree.proofs.Merging.{grown}
+use Rattle.tree_merge.proofs.Rising.{branch_rises}
+use Rattle.tree_merge.proofs.Merging.{grown}
 use Rattle.std.proofs.lemmas.Map.Lookups.{exact_bytes}
 use Rattle.stack_model.specs.Stack.{Path}
 use Rattle.shown_tree.specs.declared.place.Mark.{Mark}

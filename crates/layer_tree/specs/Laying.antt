@@ -4,7 +4,7 @@
 use Rattle.std.specs.Prelude.{◌≡◌, ◌≢◌, ℕ, ◌⊎◌, List, [], ◌∷◌, ◌++◌, Bool, true, false, not, ◌||◌, Option, Some, None, MatchOption, option_to_list, if◌then◌else◌}
 use Rattle.path_tree.specs.Rows.{Subtree, name_cmp, named, NamesRise, spread, whole, at_path, IsRising, IsForest, PathsRise}
 use Rattle.std.specs.declared.cmp.Ordering.TheVariants.{Less}
-use Rattle.path_tree.specs.Laying.{laid_at, IsLaid}
+use Rattle.tree_merge.specs.Laying.{laid_at, IsLaid}
 use Rattle.stack_model.specs.Stack.{Path}
 use Rattle.shown_tree.specs.declared.place.Entry.{Entry}
 use Rattle.shown_tree.specs.declared.place.Mark.{Mark}

@@ -13,11 +13,12 @@ ghost use Rattle.shown_tree.specs.Trees.{IsTreeOf};
 ghost use Rattle.layer_tree.specs.Laying.{AreKept, AreChildrenLeft, AreUnited, CoverTheKept, IsKept, KeepsFirst, IsFrom, Lays};
 
 use crate::clashes::clashes_both_ways;
-use path_tree::{Branch, cover, drop_first, pass_first, pass_with, place, take_children};
+use path_tree::{Branch, place};
 use shown_tree::{Child, Mark, Tree};
 use std::alloc::{AllocError, Allocator};
 use std::cmp::Ordering;
 use std::collections::VecDeque;
+use tree_merge::{cover, drop_first, pass_first, pass_with, take_children};
 
 /// How many marks at most are looked for one by one.
 const FEW: usize = 8;

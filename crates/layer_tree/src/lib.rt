@@ -9,8 +9,8 @@
 //! lays one tree on another, `clashes` finds where one has a file and the other more than a leaf,
 //! and `apart` sees that there is no such path.
 //!
-//! The crate stands on `shown_tree` and `path_tree` for trees, on `romfs_reader` for images and on
-//! `stack_model` for what stacks show.
+//! The crate stands on `shown_tree`, `path_tree` and `tree_merge` for trees, on `romfs_reader` for
+//! images and on `stack_model` for what stacks show.
 #![tactic(auto)]
 
 mod ahead;

@@ -17,11 +17,12 @@ ghost use Rattle.layer_tree.specs.Reading.{IsAtDepth, AddsMade, AreByName, AreMa
 
 use crate::ahead::NamesAhead;
 use crate::members::{NamedMember, sorted_members, whiteout_of};
-use path_tree::{Branch, Name, child, merge};
+use path_tree::{Branch, Name, child};
 use romfs_format::limits::MAX_NAMES;
 use romfs_reader::{Ends, Head, Image, Kind};
 use shown_tree::{Child, Entry, Mark, Place, Tree, is_marker};
 use std::alloc::{AllocError, Allocator};
+use tree_merge::merge;
 
 /// What the name of the marker of a whole directory says after `.wh.`.
 const WHOLE: &[u8; 8] = b".wh..opq";

@@ -3,5 +3,3 @@ pub mod Names
 pub mod Paths
 pub mod Spread
 pub mod Under
-pub mod Rising
-pub mod Merging

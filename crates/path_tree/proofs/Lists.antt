@@ -1,12 +1,7 @@
--- Elements of lists, as slice_get and get_or find them.
-use Rattle.std.proofs.Common.{◌≡◌, sym, ap, subst, ℕ, zero, suc, ◌<◌, List, [], ◌∷◌, length, get_or, drop, map, refl, arith, Some}
+-- Elements of lists, as slice_get finds them.
+use Rattle.std.proofs.Common.{◌≡◌, subst, ℕ, zero, suc, List, [], ◌∷◌, map, refl, Some}
 use Rattle.std.specs.Prelude.{slice_get}
 use Rattle.std.specs.List.{AllByRecursion}
-
--- the element at the front is the first
-pub front_is : {X : Type 0} (xs : List X) (x : X) → 0 < length xs → x ≡ get_or xs 0 x → xs ≡ x ∷ drop 1 xs
-front_is [] x l e = absurd (omega arith)
-front_is (y ∷ ys) x l e = ap (λ z. z ∷ ys) (sym e)
 
 -- what holds of all elements holds of each
 pub all_get : {X : Type 0} (P : X → Type 0) (xs : List X) (k : ℕ) (x : X) → AllByRecursion P xs → slice_get xs k ≡ Some x → P x

@@ -5,15 +5,14 @@
 //! what a function does to a tree is said by what each path has afterwards.
 //!
 //! A [`Name`] of at most 22 bytes stands in its branch, and a longer one beside it. A name is found
-//! by halves. No recursion goes deeper than the tree.
+//! by halves. No recursion goes deeper than the tree. What values need where trees are laid on one
+//! another is [`Lay`]; `tree_merge` lays them.
 #![tactic(auto)]
 
 mod branch;
-mod laying;
-mod moving;
 mod name;
+mod values;
 
 pub use branch::{Branch, child, place};
-pub use laying::{Lay, cover, merge};
-pub use moving::{add_last, drop_first, pass_first, pass_with, take_children, take_first};
 pub use name::Name;
+pub use values::Lay;

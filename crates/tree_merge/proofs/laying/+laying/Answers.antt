@@ -1,9 +1,9 @@
 use Rattle.std.proofs.Common.{rules, ◌≡◌, ◌++◌, refl}
 use Rattle.std.specs.declared.cmp.Ordering.TheVariants.{Less, Equal, Greater}
 use Rattle.path_tree.specs.Rows.{Subtree, name_cmp, spread}
-use Rattle.path_tree.proofs.Merging.{branch_laid, are_laid, low_first, high_first, both_first, below_measure, left_measure, lows_left, highs_left, shown, some_shown, nothing_shown}
-use Rattle.path_tree.proofs.laying.+laying.Goals as goal
-use Rattle.path_tree.proofs.laying.+laying.Goals.{merge-in_default, merge-in_default-2}
+use Rattle.tree_merge.proofs.Merging.{branch_laid, are_laid, low_first, high_first, both_first, below_measure, left_measure, lows_left, highs_left, shown, some_shown, nothing_shown}
+use Rattle.tree_merge.proofs.laying.+laying.Goals as goal
+use Rattle.tree_merge.proofs.laying.+laying.Goals.{merge-in_default, merge-in_default-2}
 
 pub cover_first-merge-requires : goal.cover_first-merge-requires
 cover_first-merge-requires g t c κs within =

@@ -2,22 +2,13 @@
 
 ghost use Rattle.std.specs.Prelude.{◌≡◌, ◌<◌, ◌++◌, length, IfOk, OnOk};
 ghost use Rattle.path_tree.specs.Rows.{IsForest};
-ghost use Rattle.path_tree.specs.Laying.{IsLaid, AreLaid, CoversFirst};
+ghost use Rattle.tree_merge.specs.Laying.{IsLaid, AreLaid, CoversFirst};
 
-use crate::branch::Branch;
 use crate::moving::{add_last, pass_first, take_first};
+use path_tree::{Branch, Lay};
 use std::alloc::{AllocError, Allocator};
 use std::cmp::Ordering;
 use std::collections::VecDeque;
-
-/// Values of which one can be laid on another.
-pub trait Lay: Copy + Drop {
-    ghost laid: { Self → Self → Self };
-
-    /// What a path has where the lower tree has the first value there and the upper one the second.
-    fn lay(low: Self, high: Self) -> Self
-        ensures { result ≡ laid low high };
-}
 
 /// A tree laid on another one. At each path it has the values of both, one laid on the other; where
 /// one alone has a value, that one. The name is that of the upper tree.

@@ -1,7 +1,7 @@
 use Rattle.std.proofs.Common.{length, ◌+◌, ◌*◌}
 use Rattle.path_tree.specs.Rows.{spread}
-use Rattle.path_tree.proofs.Merging.{Merging}
-use Rattle.path_tree.proofs.laying.+laying.Given as goal
+use Rattle.tree_merge.proofs.Merging.{Merging}
+use Rattle.tree_merge.proofs.laying.+laying.Given as goal
 
 -- the rows of all branches that are left of both directories, counted twice
 abbrev pub decreases-cover_first : goal.decreases-cover_first

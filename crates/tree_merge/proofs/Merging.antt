@@ -1,7 +1,8 @@
 -- The branches of two directories, laid one on another. `Merges` says in steps which branches come
 -- of both; these are in order, and have at each path what is laid there (`are_laid`). The loop
--- keeps `Merging`: what merges the branches left merges all. Each turn and the end have a lemma.
-use Rattle.std.proofs.Common.{◌≡◌, sym, subst, ℕ, ◌+◌, ◌*◌, ◌<◌, ◌≤◌, inl, inr, List, [], ◌∷◌, ◌++◌, length, drop, refl, arith, append_assoc, length-append, Option, Some, None}
+-- keeps `Merging`: what merges the branches left merges all. Each turn and the end have a lemma, and
+-- so has what a queue shows at its front.
+use Rattle.std.proofs.Common.{◌≡◌, sym, ap, subst, ℕ, ◌+◌, ◌*◌, ◌<◌, ◌≤◌, inl, inr, List, [], ◌∷◌, ◌++◌, length, get_or, drop, refl, arith, append_assoc, length-append, Option, Some, None}
 use Rattle.std.proofs.lemmas.List.{append-nil}
 use Rattle.std.proofs.lemmas.Map.Lookups.{exact_bytes}
 use Rattle.std.specs.declared.cmp.Ordering.TheVariants.{Less, Equal, Greater}
@@ -9,10 +10,10 @@ use Rattle.std.specs.List.{AllByRecursion}
 use Rattle.std.specs.Slice.{IsItemAt}
 use Rattle.std.specs.Borrow.{Bor}
 use Rattle.path_tree.specs.Rows.{Subtree, name_cmp, named, NamesRise, IsRising, IsForest, at_path, spread, whole, prefixed, length_prefixed}
-use Rattle.path_tree.specs.Laying.{laid_at, IsLaid, AreLaid}
+use Rattle.tree_merge.specs.Laying.{laid_at, IsLaid, AreLaid}
 use Rattle.path_tree.proofs.Names.{same_or_not, named_below, all_above, above_of}
 use Rattle.path_tree.proofs.Spread.{through, at_spread}
-use Rattle.path_tree.proofs.Rising.{branch_rises}
+use Rattle.tree_merge.proofs.Rising.{branch_rises}
 
 -- which branches come of both
 pub data Merges {T : Type 0} (f : T → T → T) : List (Subtree T) → List (Subtree T) → List (Subtree T) → Type 0 where
@@ -175,3 +176,8 @@ some_shown (y ∷ ys) x e = omega arith
 pub nothing_shown : {X : Type 0} (xs : List X) → IsItemAt xs 0 None → xs ≡ []
 nothing_shown [] e = refl
 nothing_shown (y ∷ ys) e = absurd (let n = e.2 (omega arith) in cc)
+
+-- the element at the front is the first
+pub front_is : {X : Type 0} (xs : List X) (x : X) → 0 < length xs → x ≡ get_or xs 0 x → xs ≡ x ∷ drop 1 xs
+front_is [] x l e = absurd (omega arith)
+front_is (y ∷ ys) x l e = ap (λ z. z ∷ ys) (sym e)

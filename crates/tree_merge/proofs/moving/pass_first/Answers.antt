@@ -1,4 +1,4 @@
-use Rattle.path_tree.proofs.moving.pass_first.Goals as goal
+use Rattle.tree_merge.proofs.moving.pass_first.Goals as goal
 
 pub returns : goal.returns
 returns g c = record {

@@ -1,5 +1,5 @@
-use Rattle.path_tree.proofs.Merging.{branch_laid}
-use Rattle.path_tree.proofs.laying.cover.Goals as goal
+use Rattle.tree_merge.proofs.Merging.{branch_laid}
+use Rattle.tree_merge.proofs.laying.cover.Goals as goal
 
 pub returns : goal.returns
 returns g c =

@@ -1,8 +1,8 @@
 use Rattle.std.proofs.Common.{◌∷◌, ◌∙◌, ap, drop}
 use Rattle.std.specs.Prelude.{slice_set}
 use Rattle.path_tree.specs.Rows.{Subtree}
-use Rattle.path_tree.proofs.Lists.{front_is}
-use Rattle.path_tree.proofs.moving.take_children.Goals as goal
+use Rattle.tree_merge.proofs.Merging.{front_is}
+use Rattle.tree_merge.proofs.moving.take_children.Goals as goal
 
 pub returns : goal.returns
 returns g c =

@@ -1,5 +1,5 @@
 use Rattle.path_tree.specs.Rows.{spread}
-use Rattle.path_tree.proofs.moving.drop_first.Goals as goal
+use Rattle.tree_merge.proofs.moving.drop_first.Goals as goal
 
 pub returns : goal.returns
 returns g c = record {

@@ -5,10 +5,9 @@
 
 ghost use Rattle.std.specs.Prelude.{◌≡◌, ◌<◌, [], ◌∷◌, ◌++◌, length, OnOk};
 ghost use Rattle.path_tree.specs.Rows.{spread, IsForest};
-ghost use Rattle.path_tree.specs.Laying.{Passes, PassesWith, DropsFirst, TakesChildren};
+ghost use Rattle.tree_merge.specs.Laying.{Passes, PassesWith, DropsFirst, TakesChildren};
 
-use crate::branch::Branch;
-use crate::name::Name;
+use path_tree::{Branch, Name};
 use std::alloc::{AllocError, Allocator};
 use std::collections::VecDeque;
 
@@ -59,7 +58,7 @@ pub fn drop_first<T: Copy + Drop, A: Allocator>(from: &mut VecDeque<Branch<T, A>
 
 /// Takes the first branch from a list, as its name, value and children.
 #[inline(never)]
-pub fn take_first<T: Copy + Drop, A: Allocator>(
+pub(crate) fn take_first<T: Copy + Drop, A: Allocator>(
     from: &mut VecDeque<Branch<T, A>, A>,
 ) -> (Name<A>, T, Vec<Branch<T, A>, A>)
     requires { 0 < length from.old.items }
@@ -91,7 +90,7 @@ pub fn take_children<T: Copy + Drop, A: Allocator + Copy>(
 ///
 /// `AllocError` comes only where memory was refused; nothing is promised of the list then.
 #[inline(never)]
-pub fn add_last<T: Copy + Drop, A: Allocator>(
+pub(crate) fn add_last<T: Copy + Drop, A: Allocator>(
     to: &mut Vec<Branch<T, A>, A>,
     name: Name<A>,
     value: T,

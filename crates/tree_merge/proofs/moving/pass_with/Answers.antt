@@ -1,5 +1,5 @@
 use Rattle.path_tree.specs.Rows.{spread}
-use Rattle.path_tree.proofs.moving.pass_with.Goals as goal
+use Rattle.tree_merge.proofs.moving.pass_with.Goals as goal
 
 pub returns : goal.returns
 returns g c = record {
