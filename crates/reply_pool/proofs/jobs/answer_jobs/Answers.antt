@@ -1,6 +1,17 @@
-use Rattle.std.proofs.Common.{arith}
-use Rattle.reply_pool.proofs.Few.{weight_small}
+use Rattle.std.proofs.Common.{◌*◌, ◌^◌, ◌≤◌, unsigned_abs, List, [], ◌∷◌, length, arith}
+use Rattle.std.proofs.lemmas.List.Elements.{All-head, All-tail}
+use Rattle.fuse_answer.specs.Puts.{AreSmall}
+use Rattle.reply_model.specs.declared.moves.Move.{Move}
+use Rattle.lookup_balances.specs.Balances.{weight}
 use Rattle.reply_pool.proofs.jobs.answer_jobs.Goals as goal
+
+-- small moves weigh 64 bits each at most
+weight_small : (xs : List Move) → AreSmall xs → weight xs ≤ 2 ^ 64 * length xs
+weight_small [] small = omega arith
+weight_small (x ∷ xs) small =
+    let one = All-head (λ (m : Move). unsigned_abs m.amount ≤ 2 ^ 64) x xs small in
+    let rest = weight_small xs (All-tail (λ (m : Move). unsigned_abs m.amount ≤ 2 ^ 64) x xs small) in
+    omega arith
 
 pub sums-requires : goal.sums-requires
 sums-requires g c =

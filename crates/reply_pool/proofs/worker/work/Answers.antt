@@ -5,9 +5,9 @@ use Rattle.std.specs.List.{All}
 use Rattle.std.proofs.lemmas.List.Elements.{All-nil, All-push}
 use Rattle.draw_board.specs.Hands.{left, positions, seen_below, total_of}
 use Rattle.lookup_balances.specs.Balances.{weight}
-use Rattle.reply_pool.specs.declared.pieces.Piece.{Piece}
-use Rattle.reply_pool.specs.Batches.{AreLight, IsPiece, numbers_of}
-use Rattle.reply_pool.proofs.Hands.{numbers_miss, piece_of, told_more, unanswered}
+use Rattle.reply_pieces.specs.declared.pieces.Piece.{Piece}
+use Rattle.reply_pieces.specs.Batches.{AreLight, IsPiece, numbers_of}
+use Rattle.reply_pieces.proofs.Hands.{numbers_miss, piece_of, told_more, unanswered}
 use Rattle.reply_pool.proofs.worker.work.Goals as goal
 
 pub loop-number-init : goal.loop-number-init

@@ -1,4 +1,4 @@
-use Rattle.reply_pool.proofs.Hands.{both_all, light_both}
+use Rattle.reply_pieces.proofs.Hands.{both_all, light_both}
 use Rattle.reply_pool.proofs.workers.+crew.Goals as goal
 
 pub returns-clause-pieces : goal.returns-clause-pieces
