@@ -1,25 +1,19 @@
 -- Pieces, appended and added to balances one after another: `bytes_on` and `moves_on` put one more
 -- behind those so far, and `next_light` says that these and the next weigh no more than all.
-use Rattle.std.proofs.Common.{◌≡◌, ◌∙◌, sym, ap, subst, ℕ, ◌+◌, ◌<◌, ◌≤◌, ℤ, List, [], ◌∷◌, ◌++◌, length, take, drop, arith, append-nil, append_assoc, get_or}
+use Rattle.std.proofs.Common.{◌≡◌, ◌∙◌, sym, ap, subst, ℕ, ◌+◌, ◌<◌, ◌≤◌, ℤ, List, ◌++◌, length, take, drop, arith, append_assoc, take_all, get_or}
 use Rattle.std.specs.List.{flat_map}
 use Rattle.std.proofs.lemmas.Grind.{flat_map-append}
-use Rattle.std.proofs.lemmas.List.{take_more, take-append-drop}
+use Rattle.std.proofs.lemmas.List.{take-append-drop}
 use Rattle.reply_model.specs.declared.moves.Move.{Move}
 use Rattle.lookup_balances.specs.Balances.{IsMoved, weight}
 use Rattle.lookup_balances.proofs.Sums.{moved_on, weight_append}
 use Rattle.reply_pieces.specs.declared.pieces.Piece.{Piece}
+use Rattle.reply_pieces.proofs.Told.{told_next}
 
 module _ {A : Type 0} where
   -- what pieces move, one after another
   abbrev pub moves_of : List (Piece A) → List Move
   moves_of ps = flat_map (λ (p : Piece A). p.moves.items) ps
-
-  -- what pieces say up to the next one
-  told_next : {Y : Type 0} (f : Piece A → List Y) (ps : List (Piece A)) (i : ℕ) (p : Piece A) → i < length ps → p ≡ get_or ps i p
-      → flat_map f (take (i + 1) ps) ≡ flat_map f (take i ps) ++ f p
-  told_next {Y = Y} f ps i p there is =
-      ap (flat_map f) (take_more ps i p there) ∙ flat_map-append f (take i ps) (get_or ps i p ∷ [])
-      ∙ ap (λ (ys : List Y). flat_map f (take i ps) ++ ys) (append-nil (f (get_or ps i p)) ∙ ap f (sym is))
 
   -- the moves of the pieces so far and of the next one weigh no more than those of all
   pub next_light : (ps : List (Piece A)) (i : ℕ) (p : Piece A) → i < length ps → p ≡ get_or ps i p
@@ -40,9 +34,19 @@ module _ {A : Type 0} where
       (moved_on (moves_of (take i ps)) p.moves.items a b c m n)
 
   -- the bytes of one piece more were appended
-  pub bytes_on : (ps : List (Piece A)) (i : ℕ) (p : Piece A) (old so_far new : List ℕ) → i < length ps → p ≡ get_or ps i p
-      → so_far ≡ old ++ flat_map (λ (q : Piece A). q.bytes.items) (take i ps) → new ≡ so_far ++ p.bytes.items
+  pub bytes_on : (ps : List (Piece A)) (i : ℕ) (p : Piece A) (old so_far more new : List ℕ) → i < length ps → p ≡ get_or ps i p
+      → so_far ≡ old ++ flat_map (λ (q : Piece A). q.bytes.items) (take i ps) → new ≡ so_far ++ more → more ≡ p.bytes.items
       → new ≡ old ++ flat_map (λ (q : Piece A). q.bytes.items) (take (i + 1) ps)
-  bytes_on ps i p old so_far new there is e f =
-      f ∙ ap (λ (v : List ℕ). v ++ p.bytes.items) e ∙ append_assoc old (flat_map (λ (q : Piece A). q.bytes.items) (take i ps)) p.bytes.items
+  bytes_on ps i p old so_far more new there is e put said =
+      put ∙ ap (λ (v : List ℕ). so_far ++ v) said ∙ ap (λ (v : List ℕ). v ++ p.bytes.items) e
+      ∙ append_assoc old (flat_map (λ (q : Piece A). q.bytes.items) (take i ps)) p.bytes.items
       ∙ ap (λ (v : List ℕ). old ++ v) (sym (told_next (λ (q : Piece A). q.bytes.items) ps i p there is))
+
+  -- all bytes were appended, and all moves added
+  pub all_on : (ps : List (Piece A)) (i : ℕ) (old new : List ℕ) (a b : List ℤ) → length ps ≤ i
+      → new ≡ old ++ flat_map (λ (q : Piece A). q.bytes.items) (take i ps) → IsMoved (moves_of (take i ps)) a b
+      → record { bytes : new ≡ old ++ flat_map (λ (q : Piece A). q.bytes.items) ps; moves : IsMoved (moves_of ps) a b }
+  all_on ps i old new a b past e m = let all = take_all i ps past in record {
+    bytes = e ∙ ap (λ (qs : List (Piece A)). old ++ flat_map (λ (q : Piece A). q.bytes.items) qs) all;
+    moves = subst (λ (qs : List (Piece A)). IsMoved (moves_of qs) a b) all m;
+  }

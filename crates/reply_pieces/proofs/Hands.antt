@@ -75,6 +75,12 @@ unanswered total position answer none is = dite (dec_le total position) (λ d. d
     let some : draw_answer total position ≡ Some position = ap (λ b. cond b (Some position) None) (lt-ltb position total lt) in
     absurd (cc))
 
+-- a draw that answers a number was below the numbers' end
+pub answered_below : (total position number : ℕ) → Some number ≡ draw_answer total position → position < total
+answered_below total position number answered = dite (dec_le total position) (λ past.
+    let none : draw_answer total position ≡ None = ap (λ b. cond b (Some position) None) (le-ltb position total past) in
+    absurd (cc)) (λ d. lt_of_not-le d)
+
 module _ {A : Type 0} where
   abbrev number : Piece A → ℕ
   number piece = piece.number

@@ -6,4 +6,5 @@ pub mod Each
 pub mod Batched
 pub mod Hands
 pub mod Spreading
+pub mod Told
 pub mod Adding

@@ -41,3 +41,15 @@ returns-clause-some g c =
       | then-loop-round-test+in-More w ↦ inr (subst IsRest at (inl w.in-More.ensures))
       | then-loop-round-test+in-Bad w ↦ inr (subst IsRest at (inr (_, w.in-Bad.ensures)))
     ]
+
+pub overflow_add-round-in-Whole : goal.overflow_add-round-in-Whole
+overflow_add-round-in-Whole g c = omega arith
+
+pub loop-round-smaller : goal.loop-round-smaller
+loop-round-smaller g c = omega arith
+
+pub returns-clause-jobs : goal.returns-clause-jobs
+returns-clause-jobs g c = c.loop-round.invariant.first
+
+pub returns-clause-few : goal.returns-clause-few
+returns-clause-few g c = omega arith
