@@ -1,10 +1,10 @@
-pub mod Sums
-pub mod Plans
-pub mod Jobs
-pub mod Batches
-pub mod Workers
-pub mod Answers
-pub mod Spread
+pub use Rattle.reply_pieces.specs.Sums
+pub use Rattle.round_plan.specs.Plans
+pub use Rattle.reply_pieces.specs.Jobs
+pub use Rattle.reply_pieces.specs.Batches
+pub use Rattle.reply_pieces.specs.Workers
+pub use Rattle.reply_pieces.specs.Answers
+pub use Rattle.reply_pieces.specs.Spread
 pub use Rattle.draw_board.specs.Hands
 pub use Rattle.lookup_balances.specs.Balances
 pub use Rattle.serve_loop.specs.Rounds

@@ -5,24 +5,14 @@ ghost use Rattle.fuse_wire.specs.declared.limits.TheConstants.{MAX_ROUND_MESSAGE
 ghost use Rattle.fuse_answer.specs.Puts.{AreSmall};
 ghost use Rattle.fuse_wire.specs.Reads.{asked_of};
 ghost use Rattle.lookup_balances.specs.Balances.{weight};
-ghost use Rattle.reply_pool.specs.Jobs.{HasFewItems, IsRounded, moved_by, reply_to};
+ghost use Rattle.reply_pieces.specs.Jobs.{HasFewItems, IsRounded, moved_by, reply_to};
 
-use crate::sums::sums;
 use fuse_answer::{answer, moves};
 use fuse_wire::{Op, Request};
 use reply_model::{Move, Session};
+use reply_pieces::{Rounded, sums};
 use stack_table::Table;
 use std::alloc::{AllocError, Allocator};
-
-/// What a round comes to.
-#[derive(Drop)]
-pub struct Rounded<A: Allocator> {
-    /// The replies in the order of the jobs, one after another.
-    pub bytes: Vec<u8, A>,
-    /// How many lookups of each node the round gives, less those that it takes: in ascending order
-    /// of nodes, each node once, and none with 0.
-    pub moves: Vec<Move, A>,
-}
 
 // Answers jobs one after another.
 pub(crate) fn answer_jobs<A: Allocator, B: Allocator + Copy>(

@@ -3,19 +3,19 @@
 ghost use Rattle.std.specs.Prelude.{◌≡◌, ◌<◌, ◌≤◌, ℕ, List, length};
 ghost use Rattle.draw_board.specs.Hands.{total_of};
 ghost use Rattle.reply_model.specs.declared.moves.Move.{Move};
-ghost use Rattle.reply_pool.specs.Batches.{batches};
-ghost use Rattle.reply_pool.specs.Sums.{AreSums};
-ghost use Rattle.reply_pool.specs.Workers.{AreWhole, IsLast, WorksAlone};
+ghost use Rattle.reply_pieces.specs.Batches.{batches};
+ghost use Rattle.reply_pieces.specs.Sums.{AreSums};
+ghost use Rattle.reply_pieces.specs.Workers.{AreWhole, IsLast, WorksAlone};
 
-use crate::pieces::Piece;
 use draw_board::{Board, Hand};
 use fuse_wire::Request;
 use reply_model::Session;
+use reply_pieces::Piece;
 use stack_table::Table;
 use std::alloc::Allocator;
 
 /// Moves have one list of sums.
-#[tactic(auto, using(crate::proofs::Ordered::one_form))]
+#[tactic(auto, using(reply_pieces::proofs::Ordered::one_form))]
 pub fn sums_are_one()
     ensures { (moves xs ys : List Move) → AreSums moves xs → AreSums moves ys → xs ≡ ys }
 {}

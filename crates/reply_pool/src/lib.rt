@@ -12,40 +12,32 @@
 //! What they give are the replies that `reply_model` defines, and the sums of its moves, which have
 //! one form ([`laws`]), for every plan.
 //!
-//! A round of jobs takes these steps, each in a module of its own:
+//! A round of jobs takes these steps: batches and pieces are those of `reply_pieces`, and what is
+//! in between is here, each in a module of its own:
 //!
 //! ```text
-//! jobs     -> batches        batches: number k holds the jobs from k times the size on
+//! jobs     -> batches        reply_pieces
 //! batches  -> pieces         worker:  draw a number, answer its batch (jobs), until none is left
 //!                            workers: a hand for each of the threads, rejoined after them
-//! pieces   -> one Rounded    pieces:  sorted by number, bytes joined, moves summed (sums)
+//! pieces   -> one Rounded    reply_pieces
 //! ```
 //!
 //! `Pool` (`pool`) answers a round on the caller's thread, message after message, once what its
-//! LOOKUPs will read was read ahead (`ahead`). A round of long replies (`load`) it answers by
-//! workers: `spread` reads its messages as jobs, has their batches drawn as above (`gathered` is
-//! what comes back), and appends the pieces to the loop's own buffer.
+//! LOOKUPs will read was read ahead (`round_plan`). A round of long replies, as `round_plan` judges
+//! it, is answered by workers: `spread` reads its messages as jobs and has their batches drawn as
+//! above, and `reply_pieces` appends the pieces to the loop's own buffer.
 #![tactic(auto)]
 
-mod ahead;
-mod batches;
-mod gathered;
 mod jobs;
 pub mod laws;
-mod load;
-mod pieces;
-mod plan;
 mod pool;
 mod spread;
-mod sums;
 mod worker;
 mod workers;
 
-pub use gathered::{Gathered, RoundPieces};
-pub use jobs::Rounded;
-pub use pieces::Piece;
-pub use plan::Plan;
 pub use pool::Pool;
+pub use reply_pieces::{Gathered, Piece, RoundPieces, Rounded};
+pub use round_plan::Plan;
 pub use spread::spread_out;
 pub use worker::work;
 pub use workers::round;

@@ -5,16 +5,14 @@ ghost use Rattle.fuse_wire.specs.declared.limits.TheConstants.{MAX_ROUND_MESSAGE
 ghost use Rattle.stack_model.specs.Numbers.{nodes};
 ghost use Rattle.lookup_balances.specs.Balances.{AreWithin};
 ghost use Rattle.serve_loop.specs.Rounds.{change, AppendsAnswer};
-ghost use Rattle.reply_pool.specs.Answers.{answering};
-ghost use Rattle.reply_pool.specs.Spread.{IsSpreadable};
+ghost use Rattle.reply_pieces.specs.Answers.{answering};
+ghost use Rattle.reply_pieces.specs.Spread.{IsSpreadable};
 
-use crate::ahead::LookupsAhead;
-use crate::gathered::Gathered;
-use crate::load::worth_workers;
-use crate::plan::{Plan, pass_batch};
 use fuse_answer::{after, answer_and_move};
 use fuse_wire::Request;
 use reply_model::Session;
+use reply_pieces::Gathered;
+use round_plan::{LookupsAhead, Plan, pass_batch, worth_workers};
 use serve_loop::{AnswersOne, Round, Rounds, walk};
 use stack_table::Table;
 use std::alloc::{AllocError, Allocator};

@@ -1,28 +1,20 @@
 //! A round of a stream, answered by several workers.
 //!
-//! The first messages of the stream are read as jobs, the workers draw batches of these, and the
-//! pieces that they give back are appended to the loop's replies in the order of their numbers.
+//! The first messages of the stream are read as jobs, and the workers draw batches of these. The
+//! pieces that they give back, `reply_pieces` appends to the loop's replies.
 
-ghost use Rattle.std.specs.Prelude.{◌≡◌, ◌<◌, ◌≤◌, ◌^◌, ◌++◌, ◌⊎◌, drop, length, IfOk, OnOk};
-ghost use Rattle.std.specs.List.{flat_map};
+ghost use Rattle.std.specs.Prelude.{◌<◌, ◌≤◌, ◌^◌, ◌⊎◌, drop, length, IfOk};
 ghost use Rattle.fuse_wire.specs.declared.limits.TheConstants.{MAX_ROUND_MESSAGES};
 ghost use Rattle.work_gate.specs.declared.limits.TheConstants.{MAX_BATCH};
 ghost use Rattle.fuse_wire.specs.Stream.{IsRest};
-ghost use Rattle.lookup_balances.specs.Balances.{AreWithin, IsMoved, weight};
-ghost use Rattle.stack_table.specs.Stacked.{Stacked};
-ghost use Rattle.reply_model.specs.declared.session.Session.{Session};
-ghost use Rattle.reply_pool.specs.Answers.{answering};
-ghost use Rattle.reply_pool.specs.Batches.{AreEachOnce, AreLight};
-ghost use Rattle.reply_pool.specs.Spread.{AreFirstJobs, SpreadsOut};
+ghost use Rattle.reply_pieces.specs.Spread.{AreFirstJobs, SpreadsOut};
 
-use crate::gathered::{Gathered, RoundPieces};
-use crate::pieces::{Piece, sort_by_number};
-use crate::plan::Plan;
 use crate::workers::answer_batches;
 use fuse_answer::after;
 use fuse_wire::{Framed, Request, frame};
-use lookup_balances::add_moves;
 use reply_model::Session;
+use reply_pieces::RoundPieces;
+use round_plan::Plan;
 use serve_loop::Round;
 use stack_table::Table;
 use std::alloc::{AllocError, Allocator};
@@ -58,25 +50,6 @@ pub fn spread_out<R: Threads + Sync, A: Allocator + Copy + Send + Sync, G: Gate 
     let size = batch_size(plan, jobs.len());
     let pieces = answer_batches(rt, alloc, table, &jobs, size, plan.workers(), gate)?;
     Ok(RoundPieces { round, pieces })
-}
-
-impl<A: Allocator> Gathered for RoundPieces<A> {
-    ghost whole = { λ spread. AreEachOnce spread.pieces.items × AreLight spread.pieces.items };
-
-    ghost answers = { λ spread by s stream.
-        (first : Session) × (stack : Stacked) × (by ≡ answering first stack)
-        × SpreadsOut stack s stream spread };
-
-    fn append<B: Allocator>(
-        self,
-        replies: &mut Vec<u8, B>,
-        balances: &mut [i128],
-    ) -> Result<Round, AllocError> {
-        let RoundPieces { round, mut pieces } = self;
-        sort_by_number(&mut pieces);
-        append_all(&pieces, replies, balances)?;
-        Ok(round)
-    }
 }
 
 // Reads so many of the first messages of a stream, or as many as are whole.
@@ -126,24 +99,4 @@ fn batch_size(plan: Plan, jobs: usize) -> u32
     let workers = plan.workers();
     let even = (jobs as u32 + workers - 1) / workers;
     plan.batch().min(even.max(1))
-}
-
-// Appends the bytes of pieces one after another, and adds what they move to balances.
-fn append_all<A: Allocator, B: Allocator>(
-    pieces: &[Piece<A>],
-    replies: &mut Vec<u8, B>,
-    balances: &mut [i128],
-) -> Result<(), AllocError>
-    requires light { weight (flat_map (λ piece. piece.moves.items) pieces.now) ≤ 2 ^ 112 }
-    requires within { AreWithin (2 ^ 122) balances.old }
-    ensures bytes { OnOk result (replies.new.items
-        ≡ replies.old.items ++ flat_map (λ piece. piece.bytes.items) pieces.now) }
-    ensures moves { OnOk result (IsMoved (flat_map (λ piece. piece.moves.items) pieces.now)
-        balances.old balances.new) }
-{
-    for piece in pieces {
-        replies.extend_from_slice(&piece.bytes)?;
-        add_moves(balances, &piece.moves);
-    }
-    Ok(())
 }

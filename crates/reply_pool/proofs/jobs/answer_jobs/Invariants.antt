@@ -1,7 +1,7 @@
 use Rattle.std.proofs.Common.{◌≡◌, ◌*◌, ◌^◌, ◌≤◌, length, take}
 use Rattle.std.specs.List.{flat_map}
 use Rattle.fuse_answer.specs.Puts.{AreSmall}
-use Rattle.reply_pool.specs.Jobs.{moved_by, reply_to}
+use Rattle.reply_pieces.specs.Jobs.{moved_by, reply_to}
 use Rattle.reply_pool.proofs.jobs.answer_jobs.Given as goal
 
 -- the replies and moves of the jobs so far, and that these are few and small

@@ -1,7 +1,7 @@
 use Rattle.std.proofs.Common.{◌∙◌, ℕ, ap}
 use Rattle.std.specs.List.{range_with_len}
 use Rattle.draw_board.specs.Positions.{times}
-use Rattle.reply_pool.proofs.Hands.{alone, closed, whole}
+use Rattle.reply_pieces.proofs.Hands.{alone, closed, whole}
 use Rattle.reply_pool.proofs.laws.each_batch_once.Goals as goal
 
 pub returns : goal.returns

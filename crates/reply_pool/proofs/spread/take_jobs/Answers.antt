@@ -3,8 +3,8 @@ use Rattle.std.proofs.lemmas.List.{take_rest}
 use Rattle.fuse_wire.specs.Requests.{Asked}
 use Rattle.fuse_wire.specs.Stream.{IsRest}
 use Rattle.reply_model.specs.Sessions.{session_after}
-use Rattle.reply_pool.specs.Jobs.{Job}
-use Rattle.reply_pool.proofs.Spreading.{none_taken, one_taken}
+use Rattle.reply_pieces.specs.Jobs.{Job}
+use Rattle.reply_pieces.proofs.Spreading.{none_taken, one_taken}
 use Rattle.reply_pool.proofs.spread.take_jobs.Goals as goal
 use Rattle.reply_pool.proofs.spread.take_jobs.Goals.{else-loop-round-test, then-loop-round-test+in-Bad, then-loop-round-test+in-More}
 
@@ -41,3 +41,15 @@ returns-clause-some g c =
       | then-loop-round-test+in-More w ↦ inr (subst IsRest at (inl w.in-More.ensures))
       | then-loop-round-test+in-Bad w ↦ inr (subst IsRest at (inr (_, w.in-Bad.ensures)))
     ]
+
+pub overflow_add-round-in-Whole : goal.overflow_add-round-in-Whole
+overflow_add-round-in-Whole g c = omega arith
+
+pub loop-round-smaller : goal.loop-round-smaller
+loop-round-smaller g c = omega arith
+
+pub returns-clause-jobs : goal.returns-clause-jobs
+returns-clause-jobs g c = c.loop-round.invariant.first
+
+pub returns-clause-few : goal.returns-clause-few
+returns-clause-few g c = omega arith

@@ -1,14 +1,27 @@
-use Rattle.std.proofs.Common.{◌≤◌, ◌∙◌, ℕ, ◌^◌, List, [], ◌∷◌, ◌++◌, ap, arith, refl, sym, subst, append-nil, append_assoc}
+use Rattle.std.proofs.Common.{◌≡◌, ◌≤◌, ◌∙◌, ℕ, ◌^◌, List, [], ◌∷◌, ◌++◌, ap, arith, refl, sym, subst, append-nil, append_assoc}
 use mathlib.Core.Logic.{dite}
 use native.Mathlib.Decide.{ℕ_discrete}
 use Rattle.std.specs.List.{All}
 use Rattle.std.proofs.lemmas.List.Elements.{All-nil, All-push}
-use Rattle.draw_board.specs.Hands.{left, positions, seen_below, total_of}
+use Rattle.draw_board.specs.declared.board.Board.{Board}
+use Rattle.draw_board.specs.declared.hand.Hand.{Hand}
+use Rattle.draw_board.specs.Hands.{KeepsShare, left, positions, seen_below, total_of}
 use Rattle.lookup_balances.specs.Balances.{weight}
-use Rattle.reply_pool.specs.declared.pieces.Piece.{Piece}
-use Rattle.reply_pool.specs.Batches.{AreLight, IsPiece, numbers_of}
-use Rattle.reply_pool.proofs.Hands.{numbers_miss, piece_of, told_more, unanswered}
+use Rattle.reply_pieces.specs.declared.pieces.Piece.{Piece}
+use Rattle.reply_pieces.specs.Batches.{AreLight, IsPiece, numbers_of}
+use Rattle.reply_pieces.specs.Workers.{KeepsHand}
+use Rattle.reply_pieces.proofs.Hands.{answered_below, numbers_miss, piece_of, told_more, unanswered}
 use Rattle.reply_pool.proofs.worker.work.Goals as goal
+
+-- one draw more keeps the hand's share, and what it drew before
+kept_on : {B : Type 0} (board : Board B) (first old new : Hand) (added : List ℕ) (n : ℕ) → KeepsShare board first old
+    → KeepsShare board old new → positions old ≡ positions first ++ added → positions new ≡ positions old ++ n ∷ []
+    → KeepsHand board first new
+kept_on board first old new added n was keeps drawn more = record {
+  share = (keeps.0, keeps.1 ∙ was.1);
+  added = added ++ n ∷ [];
+  kept = more ∙ ap (λ (ps : List ℕ). ps ++ n ∷ []) drawn ∙ append_assoc (positions first) added (n ∷ []);
+}
 
 pub loop-number-init : goal.loop-number-init
 loop-number-init g c = let none = c.new-pieces.ensures.items in record {
@@ -42,16 +55,40 @@ loop-number-preserved g c =
       light = subst (All Small) (sym more) (All-push Small c.loop-number.pieces.items piece inv.light c.in_ok-bytes.ensures.light);
     }
 
+pub loop-number-smaller : goal.loop-number-smaller
+loop-number-smaller g c =
+    let d = c.in-Some.ensures in
+    let total : ℕ = total_of c.args.board.now in
+    dite (ℕ_discrete (left c.loop-number.hand) 0)
+    (λ none. let no = (d.no_miss none).0 in absurd (cc))
+    (λ more. let t = d.step (omega arith) in let below = answered_below total t.position c.in-Some.number t.answered in omega arith)
+
+pub returns-in_err-bytes-clause-hand : goal.returns-in_err-bytes-clause-hand
+returns-in_err-bytes-clause-hand g c =
+    let inv = c.loop-number.invariant in
+    let d = c.in-Some.ensures in
+    kept_on c.args.board.now c.args.hand.now c.loop-number.hand c.draw.new.hand inv.added c.in-Some.number inv.share d.hand inv.drawn
+    d.number.1
+
 pub returns-in_err-push-clause-hand : goal.returns-in_err-push-clause-hand
 returns-in_err-push-clause-hand g c =
     let inv = c.loop-number.invariant in
     let d = c.in-Some.ensures in
-    let n = c.in-Some.number in
-    record {
+    kept_on c.args.board.now c.args.hand.now c.loop-number.hand c.draw.new.hand inv.added c.in-Some.number inv.share d.hand inv.drawn
+    d.number.1
+
+pub returns-clause-hand : goal.returns-clause-hand
+returns-clause-hand g c =
+    let inv = c.loop-number.invariant in
+    let d = c.draw.ensures in
+    dite (ℕ_discrete (left c.loop-number.hand) 0)
+    (λ none. let same = (d.no_miss none).1 in record {
       share = (d.hand.0, d.hand.1 ∙ inv.share.1);
-      added = inv.added ++ n ∷ [];
-      kept = d.number.1 ∙ ap (λ (ps : List ℕ). ps ++ n ∷ []) inv.drawn ∙ append_assoc (positions c.args.hand.now) inv.added (n ∷ []);
-    }
+      added = inv.added;
+      kept = ap positions same ∙ inv.drawn;
+    })
+    (λ some. let t = d.step (omega arith) in
+    kept_on c.args.board.now c.args.hand.now c.loop-number.hand c.draw.new.hand inv.added t.position inv.share d.hand inv.drawn t.added)
 
 pub returns-clause-pieces : goal.returns-clause-pieces
 returns-clause-pieces g c =

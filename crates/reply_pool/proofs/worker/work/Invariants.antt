@@ -2,7 +2,7 @@ use Rattle.std.proofs.Common.{◌≡◌, ◌-◌, ◌++◌, List, ℕ}
 use Rattle.std.specs.List.{All}
 use Rattle.draw_board.specs.Hands.{KeepsShare, positions, seen_below, total_of}
 use Rattle.draw_board.specs.Positions.{numbers}
-use Rattle.reply_pool.specs.Batches.{AreLight, IsPiece, numbers_of}
+use Rattle.reply_pieces.specs.Batches.{AreLight, IsPiece, numbers_of}
 use Rattle.reply_pool.proofs.worker.work.Given as goal
 
 -- a piece for each number that the hand has drawn so far, which answers its batch and is light

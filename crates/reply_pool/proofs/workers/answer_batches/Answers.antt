@@ -1,5 +1,5 @@
 use Rattle.std.proofs.Common.{◌∙◌, sym}
-use Rattle.reply_pool.proofs.Hands.{every_batch, no_batch}
+use Rattle.reply_pieces.proofs.Hands.{every_batch, no_batch}
 use Rattle.reply_pool.proofs.workers.answer_batches.Goals as goal
 
 pub returns-then-total-eq0 : goal.returns-then-total-eq0

@@ -1,8 +1,8 @@
 use Rattle.std.proofs.Common.{ℕ, length}
 use Rattle.std.proofs.lemmas.Result.{IfOk-weaker}
-use Rattle.reply_pool.specs.Batches.{batches}
-use Rattle.reply_pool.proofs.Batched.{batches_few}
-use Rattle.reply_pool.proofs.Hands.{rounds}
+use Rattle.reply_pieces.specs.Batches.{batches}
+use Rattle.reply_pieces.proofs.Batched.{batches_few}
+use Rattle.reply_pieces.proofs.Hands.{rounds}
 use Rattle.reply_pool.proofs.workers.round.Goals as goal
 
 pub in_order-requires-clause-once : goal.in_order-requires-clause-once

@@ -1,0 +1,10 @@
+pub mod Light
+pub mod Few
+pub mod Ordered
+pub mod Summing
+pub mod Each
+pub mod Batched
+pub mod Hands
+pub mod Spreading
+pub mod Told
+pub mod Adding

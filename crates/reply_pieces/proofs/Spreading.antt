@@ -1,0 +1,145 @@
+-- A round of a stream by workers: `by_jobs`. Messages say what their jobs say (`jobs_told`,
+-- `jobs_moved`), pieces of all batches what the jobs say (Hands), and what was appended is what the
+-- pieces say; so it is a round of the messages.
+use Rattle.std.proofs.Common.{◌≡◌, ◌∙◌, sym, ap, subst, ℕ, zero, suc, ◌+◌, ◌<◌, ◌≤◌, ◌⊎◌, inl, inr, ℤ, ◌+ℤ◌, List, [], ◌∷◌, ◌++◌, length, map, take, drop, refl, arith, length-append}
+use Rattle.std.specs.Prelude.{slice_index}
+use Rattle.std.proofs.lemmas.List.{map-append}
+use Rattle.std.specs.List.{AllByRecursion, flat_map}
+use Rattle.fuse_wire.specs.Reads.{asked_of}
+use Rattle.fuse_wire.specs.Requests.{asked}
+use Rattle.fuse_wire.specs.Stream.{BeginsMessage, IsMessage, IsRest}
+use Rattle.stack_table.specs.Stacked.{Stacked}
+use Rattle.reply_model.specs.declared.moves.Move.{Move}
+use Rattle.reply_model.specs.declared.session.Session.{Session}
+use Rattle.reply_model.specs.Moves.{balance, moves}
+use Rattle.reply_model.specs.Replies.{reply}
+use Rattle.reply_model.specs.Sessions.{session_after}
+use Rattle.reply_model.specs.Streams.{moves_by, replies_by, session_at}
+use Rattle.lookup_balances.specs.Balances.{balance_at, IsLight, IsMoved}
+use Rattle.lookup_balances.proofs.Sums.{light_on}
+use Rattle.serve_loop.specs.declared.round.Round.{Round}
+use Rattle.serve_loop.specs.Rounds.{AppendsRound, AreFirst, Balances, joined}
+use Rattle.serve_loop.proofs.Walking.{first_on, none_first, one_first, session_append}
+use Rattle.reply_pieces.specs.declared.pieces.Piece.{Piece}
+use Rattle.reply_pieces.specs.declared.gathered.RoundPieces.{RoundPieces}
+use Rattle.reply_pieces.specs.Answers.{answering}
+use Rattle.reply_pieces.specs.Jobs.{Job, moved_by, reply_to}
+use Rattle.reply_pieces.specs.Spread.{AnswerAll, AreAppended, AreFirstJobs, AreJobs, SpreadsOut}
+use Rattle.reply_pieces.proofs.Hands.{all_move, whole}
+use Rattle.reply_pieces.proofs.Light.{AreBytes, message_light}
+
+-- one message more, as a job behind the others
+pub jobs_on : (s : Session) (ms : List (List ℕ)) (js : List Job) (m : List ℕ) (j : Job) → AreJobs s ms js
+    → j.0 ≡ session_at s (map asked ms) → asked_of j.1 ≡ asked m → AreJobs s (ms ++ m ∷ []) (js ++ j ∷ [])
+jobs_on s [] [] m j a e f = (e, f, tt)
+jobs_on s [] (x ∷ js) m j a e f = absurd a
+jobs_on s (n ∷ ms) [] m j a e f = absurd a
+jobs_on s (n ∷ ms) (x ∷ js) m j a e f = (a.0, a.1, jobs_on (session_after s (asked n).op) ms js m j a.2 e f)
+
+-- no message, as no job
+pub none_taken : (s : Session) (stream : List ℕ) (js : List Job) → js ≡ []
+    → AreFirstJobs s stream (record { used = 0; messages = 0; session = s }) js
+none_taken s stream js none = subst (AreFirstJobs s stream (record { used = 0; messages = 0; session = s })) (sym none)
+    (record { messages = []; first = none_first stream; count = refl; session = refl; as_jobs = tt })
+
+-- one message more, as the code cuts it
+pub one_taken : (s : Session) (stream : List ℕ) (round : Round) (js all : List Job) (rest : List ℕ) (len : ℕ) (after : Session) (job : Job)
+    → AreFirstJobs s stream round js → rest ≡ drop round.used stream → BeginsMessage rest len → job.0 ≡ round.session
+    → asked_of job.1 ≡ asked (take len rest) → after ≡ session_after round.session (asked (take len rest)).op → all ≡ js ++ job ∷ []
+    → AreFirstJobs s stream (record { used = round.used + len; messages = round.messages + 1; session = after }) all
+one_taken s stream round js all rest len after job f e begins before asks next more =
+    let m : List ℕ = take len rest in
+    let there : AreFirst (drop round.used stream) (m ∷ []) len = subst (λ (r : List ℕ). AreFirst r (m ∷ []) len) e
+    (one_first rest len begins) in
+    record {
+      messages = f.messages ++ m ∷ [];
+      first = first_on stream f.messages (m ∷ []) round.used len f.first there;
+      count = (let k = f.count in let n = length-append f.messages (m ∷ []) in omega arith);
+      session = next ∙ ap (λ (t : Session). session_after t (asked m).op) f.session
+          ∙ sym (session_append s (map asked f.messages) (asked m ∷ [])) ∙ ap (session_at s) (sym (map-append asked f.messages (m ∷ [])));
+      as_jobs = subst (λ (xs : List Job). AreJobs s (f.messages ++ m ∷ []) xs) (sym more)
+          (jobs_on s f.messages js m job f.as_jobs (before ∙ f.session) asks);
+    }
+
+module _ (stack : Stacked) where
+  -- jobs are replied to as their messages are
+  jobs_told : (s : Session) (ms : List (List ℕ)) (js : List Job) → AreJobs s ms js
+      → flat_map (reply_to stack) js ≡ replies_by (reply stack.layers stack.entries) s (map asked ms)
+  jobs_told s [] [] a = refl
+  jobs_told s [] (j ∷ js) a = absurd a
+  jobs_told s (m ∷ ms) [] a = absurd a
+  jobs_told s (m ∷ ms) (j ∷ js) a =
+      let one : reply_to stack j ≡ reply stack.layers stack.entries s (asked m) =
+      ap (λ t. reply stack.layers stack.entries t (asked_of j.1)) a.0 ∙ ap (reply stack.layers stack.entries s) a.1 in
+      ap (λ xs. xs ++ flat_map (reply_to stack) js) one
+      ∙ ap (λ xs. reply stack.layers stack.entries s (asked m) ++ xs) (jobs_told (session_after s (asked m).op) ms js a.2)
+
+  -- and move what their messages move
+  jobs_moved : (s : Session) (ms : List (List ℕ)) (js : List Job) → AreJobs s ms js
+      → flat_map (moved_by stack) js ≡ moves_by (moves stack.layers stack.entries) s (map asked ms)
+  jobs_moved s [] [] a = refl
+  jobs_moved s [] (j ∷ js) a = absurd a
+  jobs_moved s (m ∷ ms) [] a = absurd a
+  jobs_moved s (m ∷ ms) (j ∷ js) a =
+      let one : moved_by stack j ≡ moves stack.layers stack.entries s (asked m) =
+      ap (λ t. moves stack.layers stack.entries t (asked_of j.1)) a.0 ∙ ap (moves stack.layers stack.entries s) a.1 in
+      ap (λ xs. xs ++ flat_map (moved_by stack) js) one
+      ∙ ap (λ xs. moves stack.layers stack.entries s (asked m) ++ xs) (jobs_moved (session_after s (asked m).op) ms js a.2)
+
+front_bytes : (m r : List ℕ) → AreBytes (m ++ r) → AreBytes m
+front_bytes [] r b k = omega arith
+front_bytes (x ∷ m) r b zero = b 0
+front_bytes (x ∷ m) r b (suc k) = front_bytes m r (λ i. b (suc i)) k
+
+back_bytes : (m r : List ℕ) → AreBytes (m ++ r) → AreBytes r
+back_bytes [] r b = b
+back_bytes (x ∷ m) r b = back_bytes m r (λ i. b (suc i))
+
+-- what messages move is light
+messages_light : (stack : Stacked) (s : Session) (ms : List (List ℕ)) → AllByRecursion IsMessage ms → AreBytes (joined ms)
+    → IsLight (moves_by (moves stack.layers stack.entries) s (map asked ms)) (length (joined ms))
+messages_light stack s [] each b = omega arith
+messages_light stack s (m ∷ ms) each b =
+    subst (λ n. IsLight (moves_by (moves stack.layers stack.entries) s (map asked (m ∷ ms))) n) (sym (length-append m (joined ms)))
+    (light_on _ _ _ _ (message_light stack.layers stack.entries s m each.0 (front_bytes m (joined ms) b))
+    (messages_light stack (session_after s (asked m).op) ms each.1 (back_bytes m (joined ms) b)))
+
+-- moves with the same balances move the same
+moved_same : (xs ys : List Move) (a b : List ℤ) → ((node : ℕ) → balance node xs ≡ balance node ys) → IsMoved xs a b → IsMoved ys a b
+moved_same xs ys a b e m = record { same = m.same; each = λ i h. (m.each i h ∙ ap (λ z. balance_at a i +ℤ z) (e (i + 1))) }
+
+-- the pieces of all batches of the first messages' jobs, appended in order, are a round
+pub by_jobs : {A : Type 0} (first : Session) (stack : Stacked) (s : Session) (stream : List ℕ) (round : Round) (jobs : List Job) (size : ℕ)
+    (pieces : List (Piece A)) (old new : List ℕ) (b : Balances) → 1 ≤ size → ((k : ℕ) → slice_index stream k < 256)
+    → AreFirstJobs s stream round jobs → (0 < round.messages) ⊎ IsRest (drop round.used stream) → AnswerAll stack jobs size pieces
+    → AreAppended pieces old new b → AppendsRound (answering first stack) s stream round old new b
+by_jobs first stack s stream round jobs size pieces old new b some bytes f o a p = (
+  replies_by (reply stack.layers stack.entries) s (map asked f.messages),
+  p.bytes ∙ ap (λ (v : List ℕ). old ++ v) ((whole stack jobs size pieces some a.answered a.once).replies p.ordered p.order
+      ∙ jobs_told stack s f.messages jobs f.as_jobs),
+  record {
+    messages = f.messages;
+    first = f.first;
+    count = f.count;
+    answered = record {
+      session = f.session;
+      told = refl;
+      moves = moved_same (flat_map (λ piece. piece.moves.items) p.ordered) (moves_by (moves stack.layers stack.entries) s
+          (map asked f.messages)) b.old b.new
+          (λ node. (all_move stack jobs size pieces p.ordered node some a.answered a.once p.order
+          ∙ ap (balance node) (jobs_moved stack s f.messages jobs f.as_jobs))) p.moves;
+      light = messages_light stack s f.messages f.first.each
+          (front_bytes (joined f.messages) (drop round.used stream) (subst (λ (v : List ℕ). (k : ℕ) → slice_index v k < 256) f.first.whole
+          bytes));
+    };
+    some = elim o [ inl h ↦ inl (let k = f.count in omega arith) | inr r ↦ inr r ];
+  },
+)
+
+-- the same of what workers gave back
+pub by_spread : {A : Type 0} (first : Session) (stack : Stacked) (s : Session) (stream : List ℕ) (spread : RoundPieces A) (old new : List ℕ)
+    (b : Balances)
+    → SpreadsOut stack s stream spread → AreAppended spread.pieces.items old new b
+    → AppendsRound (answering first stack) s stream spread.round old new b
+by_spread first stack s stream spread old new b o a =
+    by_jobs first stack s stream spread.round o.jobs o.size spread.pieces.items old new b o.sized o.bytes o.first o.some o.answered a

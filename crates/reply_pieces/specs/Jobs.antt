@@ -1,0 +1,39 @@
+-- What a round of jobs comes to.
+use Rattle.std.specs.Prelude.{◌≡◌, ℕ, ◌<◌, ◌≤◌, ◌^◌, List, length}
+use Rattle.std.specs.List.{flat_map}
+use Rattle.fuse_wire.specs.declared.request.Request.{Request}
+use Rattle.fuse_wire.specs.Reads.{asked_of}
+use Rattle.fuse_wire.specs.Requests.{Op, at_node, readdirplus, silent, batch_forget}
+use Rattle.fuse_wire.specs.declared.limits.TheConstants.{MAX_FORGETS}
+use Rattle.stack_table.specs.Stacked.{Stacked}
+use Rattle.reply_model.specs.declared.moves.Move.{Move}
+use Rattle.reply_model.specs.declared.session.Session.{Session}
+use Rattle.reply_model.specs.Replies.{reply}
+use Rattle.reply_model.specs.Moves.{moves}
+use Rattle.reply_pieces.specs.declared.pieces.Rounded.{Rounded}
+use Rattle.reply_pieces.specs.Sums.{AreSums}
+
+-- a request, with the session before it
+abbrev pub Job : Type 0
+Job = Session × Request
+
+-- the reply to a job
+abbrev pub reply_to : Stacked → Job → List ℕ
+reply_to stack job = reply stack.layers stack.entries job.0 (asked_of job.1)
+
+-- what a job moves
+abbrev pub moved_by : Stacked → Job → List Move
+moved_by stack job = moves stack.layers stack.entries job.0 (asked_of job.1)
+
+-- the replies to jobs one after another, and the sums of what they move by node
+pub record IsRounded {A : Type 0} (stack : Stacked) (jobs : List Job)
+    (rounded : Rounded A) : Type 0 where
+  pub replies : rounded.bytes.items ≡ flat_map (reply_to stack) jobs
+  pub sums : AreSums (flat_map (moved_by stack) jobs) rounded.moves.items
+
+-- a request has no more items than a message has room for, and asks for no more rows than 32 bits
+-- say
+abbrev pub HasFewItems : Op → Type 0
+HasFewItems (silent (batch_forget items)) = length items ≤ MAX_FORGETS
+HasFewItems (at_node (readdirplus offset size)) = size < 2 ^ 32
+HasFewItems _ = Unit {0}

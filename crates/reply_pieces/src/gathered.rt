@@ -1,0 +1,83 @@
+//! What the workers of a round give back, and how it is appended to the bytes of a loop.
+
+ghost use Rattle.std.specs.Prelude.{◌≡◌, ◌≤◌, ◌^◌, ◌++◌, ℕ, List, IfOk, OnOk};
+ghost use Rattle.std.specs.List.{flat_map};
+ghost use Rattle.stack_table.specs.Stacked.{Stacked};
+ghost use Rattle.reply_model.specs.declared.session.Session.{Session};
+ghost use Rattle.lookup_balances.specs.Balances.{AreWithin, IsMoved, weight};
+ghost use Rattle.serve_loop.specs.Rounds.{Answering, change, AppendsRound};
+ghost use Rattle.reply_pieces.specs.Answers.{answering};
+ghost use Rattle.reply_pieces.specs.Batches.{AreEachOnce, AreLight};
+ghost use Rattle.reply_pieces.specs.Spread.{SpreadsOut};
+
+use crate::pieces::{Piece, sort_by_number};
+use lookup_balances::add_moves;
+use serve_loop::Round;
+use std::alloc::{AllocError, Allocator};
+
+/// Some of the first messages of a stream, answered by workers.
+#[derive(Drop)]
+pub struct RoundPieces<A: Allocator> {
+    /// How far they go.
+    pub round: Round,
+    /// What their batches are answered with, in the order in which the workers ended.
+    pub pieces: Vec<Piece<A>, A>,
+}
+
+/// What workers gave back, to be appended.
+pub trait Gathered {
+    ghost whole: { Self → Type 0 };
+
+    ghost answers: { Self → Answering → Session → List ℕ → Type 0 };
+
+    /// Appends the replies, and adds what they move to the balances.
+    fn append<A: Allocator>(
+        self,
+        replies: &mut Vec<u8, A>,
+        balances: &mut [i128],
+    ) -> Result<Round, AllocError>
+        requires whole { whole self }
+        requires within { AreWithin (2 ^ 122) balances.old }
+        ensures { IfOk result (λ round. (by : Answering) (s : Session) (stream : List ℕ) →
+            answers self by s stream → AppendsRound by s stream round
+            replies.old.items replies.new.items (change balances.old balances.new)) };
+}
+
+impl<A: Allocator> Gathered for RoundPieces<A> {
+    ghost whole = { λ spread. AreEachOnce spread.pieces.items × AreLight spread.pieces.items };
+
+    ghost answers = { λ spread by s stream.
+        (first : Session) × (stack : Stacked) × (by ≡ answering first stack)
+        × SpreadsOut stack s stream spread };
+
+    fn append<B: Allocator>(
+        self,
+        replies: &mut Vec<u8, B>,
+        balances: &mut [i128],
+    ) -> Result<Round, AllocError> {
+        let RoundPieces { round, mut pieces } = self;
+        sort_by_number(&mut pieces);
+        append_all(&pieces, replies, balances)?;
+        Ok(round)
+    }
+}
+
+// Appends the bytes of pieces one after another, and adds what they move to balances.
+fn append_all<A: Allocator, B: Allocator>(
+    pieces: &[Piece<A>],
+    replies: &mut Vec<u8, B>,
+    balances: &mut [i128],
+) -> Result<(), AllocError>
+    requires light { weight (flat_map (λ piece. piece.moves.items) pieces.now) ≤ 2 ^ 112 }
+    requires within { AreWithin (2 ^ 122) balances.old }
+    ensures bytes { OnOk result (replies.new.items
+        ≡ replies.old.items ++ flat_map (λ piece. piece.bytes.items) pieces.now) }
+    ensures moves { OnOk result (IsMoved (flat_map (λ piece. piece.moves.items) pieces.now)
+        balances.old balances.new) }
+{
+    for piece in pieces {
+        replies.extend_from_slice(&piece.bytes)?;
+        add_moves(balances, &piece.moves);
+    }
+    Ok(())
+}

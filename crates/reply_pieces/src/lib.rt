@@ -1,0 +1,25 @@
+//! What the jobs of a round are answered with, in pieces, and how the pieces are put together.
+//!
+//! A job is a request, with the session before it. The jobs of a round come in batches, of which
+//! number k holds the jobs from k times the size on ([`batch`]). What a batch is answered with is a
+//! [`Piece`], whoever answers it, and the pieces of all batches come in any order:
+//!
+//! ```text
+//! pieces -> one Rounded     pieces:   sorted by number, bytes joined, moves summed (by_node)
+//! pieces -> a loop's bytes  gathered: sorted by number, bytes appended, moves added to balances
+//! ```
+//!
+//! The definitions say what requests are replied to and move (`reply_model`), over the layers and
+//! the shown paths of a stack. What answers a request this crate does not know, so it is proved
+//! beside `fuse_answer`.
+#![tactic(auto)]
+
+mod batches;
+mod by_node;
+mod gathered;
+mod pieces;
+
+pub use batches::{batch, count_batches};
+pub use by_node::sums;
+pub use gathered::{Gathered, RoundPieces};
+pub use pieces::{Piece, Rounded, in_order};

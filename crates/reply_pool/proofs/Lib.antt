@@ -1,9 +1,0 @@
-pub mod Light
-pub mod Few
-pub mod Ordered
-pub mod Summing
-pub mod Each
-pub mod Batched
-pub mod Hands
-pub mod Spreading
-pub mod Adding

@@ -1,0 +1,145 @@
+//! How much work a round is, and whether it is worth workers.
+//!
+//! A worker is started in the time of some hundred ordinary requests. So a round is worth workers
+//! only where its replies are long, and how long they are is told by the table: by the bytes of
+//! files and the rows of directories that are there, never by the size that a request asks for.
+//!
+//! The look goes over the first messages and adds up what the reply to each is expected to take.
+//! It ends as soon as those seen take less time than their part of a whole round that is worth
+//! workers. So it sees five messages of ordinary requests, and all of a round that has many rows.
+
+ghost use Rattle.std.specs.Prelude.{◌≤◌, ◌^◌, IfSome};
+ghost use Rattle.fuse_wire.specs.declared.limits.TheConstants.{MAX_ROUND_MESSAGES};
+
+use fuse_wire::limits::{MAX_DATA_SIZE, MAX_ROUND_MESSAGES, OUT_HEADER_SIZE};
+use fuse_wire::{Framed, Op, Request, frame};
+use romfs_format::Kind;
+use romfs_format::limits::MAX_TARGET_SIZE;
+use stack_table::Table;
+use std::alloc::Allocator;
+
+/// A round is worth workers that one thread answers in so many nanoseconds. Within 2 MiB of replies
+/// READ and READDIRPLUS take less: what workers save on them, one more copy of their replies costs.
+const WORTH: u64 = 1_000_000;
+
+/// The most bytes of replies of a round that workers answer: 2 MiB.
+const MAX_REPLIES: u64 = 2_097_152;
+
+/// Nanoseconds for each message of a whole round that is just worth workers.
+const PACE: u64 = WORTH / MAX_ROUND_MESSAGES as u64;
+
+/// The first messages may take less than their part by so much, which is that of four.
+const HEAD_START: u64 = 4 * PACE;
+
+/// What any reply takes, in nanoseconds, beside the bytes and rows that it has.
+const REPLY_TIME: u64 = 100;
+
+/// How many bytes of a file are copied in a nanosecond.
+const COPIED: u64 = 8;
+
+/// What a row of READDIR takes, in nanoseconds, and one of READDIRPLUS.
+const PLAIN_ROW_TIME: u64 = 20;
+
+const PLUS_ROW_TIME: u64 = 34;
+
+/// The most bytes of a reply without data and rows: the target of a symbolic link.
+const SHORT_REPLY: u64 = (OUT_HEADER_SIZE as u32 + MAX_TARGET_SIZE) as u64;
+
+/// What the reply to a request is expected to take.
+#[derive(Clone, Copy)]
+struct Load {
+    // Nanoseconds of one thread.
+    time: u64,
+    // Bytes at most.
+    room: u64,
+    ghost short: { time ≤ 2 ^ 33 },
+    ghost small: { room ≤ 2 ^ 33 },
+}
+
+/// How many of the first messages of a stream workers are to answer: 1 to 256, with no more than
+/// 2 MiB of replies. None where the round is not worth workers.
+pub fn worth_workers<A: Allocator>(table: &Table<A>, stream: &[u8]) -> Option<usize>
+    ensures { IfSome result (λ n. (1 ≤ n) × (n ≤ MAX_ROUND_MESSAGES)) }
+{
+    let mut rest = stream;
+    let mut messages = 0usize;
+    let mut time = 0u64;
+    let mut room = 0u64;
+    while messages < MAX_ROUND_MESSAGES && PACE * messages as u64 <= time + HEAD_START {
+        let Framed::Whole(len) = frame(rest) else {
+            break;
+        };
+        let load = expected(table, &Request::read(&rest[..len]));
+        if MAX_REPLIES < room + load.room {
+            break;
+        }
+        time += load.time;
+        room += load.room;
+        messages += 1;
+        rest = &rest[len..];
+    }
+    if WORTH <= time { Some(messages) } else { None }
+}
+
+// What the reply to a request is expected to take.
+fn expected<A: Allocator>(table: &Table<A>, request: &Request<'_>) -> Load {
+    match request.op {
+        Op::Read { offset, size } if size <= MAX_DATA_SIZE => {
+            data_load(left(file_size(table, request.node), offset), size)
+        }
+        Op::Readdir { offset, size } if size <= MAX_DATA_SIZE => {
+            rows_load(left(rows(table, request.node), offset), size, false)
+        }
+        Op::Readdirplus { offset, size } if size <= MAX_DATA_SIZE => {
+            rows_load(left(rows(table, request.node), offset), size, true)
+        }
+        _ => Load {
+            time: REPLY_TIME,
+            room: SHORT_REPLY,
+        },
+    }
+}
+
+// Of data, of which so many bytes are left.
+fn data_load(left: u64, size: u32) -> Load {
+    let bytes = left.min(u64::from(size));
+    Load {
+        time: REPLY_TIME + bytes / COPIED,
+        room: OUT_HEADER_SIZE as u64 + bytes,
+    }
+}
+
+// Of rows, of which so many are left. A `struct fuse_dirent` (linux/fuse.h) has 24 bytes and a
+// name, padded to eights: 32 to 280. With its entry a row has 128 bytes more.
+#[inline(always)]
+fn rows_load(left: u64, size: u32, with_entries: bool) -> Load {
+    let size = u64::from(size);
+    let rows = left.min(size);
+    let (time, most) = if with_entries {
+        (rows.min(size / 160) * PLUS_ROW_TIME, rows * 408)
+    } else {
+        (rows.min(size / 32) * PLAIN_ROW_TIME, rows * 280)
+    };
+    Load {
+        time: REPLY_TIME + time,
+        room: OUT_HEADER_SIZE as u64 + size.min(most),
+    }
+}
+
+// How many are left behind an offset.
+fn left(len: u64, offset: u64) -> u64 {
+    if offset < len { len - offset } else { 0 }
+}
+
+// How many bytes a regular file has; 0 of any other node.
+fn file_size<A: Allocator>(table: &Table<A>, number: u64) -> u64 {
+    match table.node(number) {
+        Some(node) if node.kind == Kind::Regular => table.bytes(number).len() as u64,
+        _ => 0,
+    }
+}
+
+// How many rows a directory has beside `.` and `..`; 0 of any other node.
+fn rows<A: Allocator>(table: &Table<A>, number: u64) -> u64 {
+    table.rows(number).len() as u64
+}
