@@ -1,7 +1,7 @@
 //! The counts that devices keep. A count that has come to 2^64 - 1 stays there.
 
-ghost use Rattle.std.specs.Prelude.{◌≡◌};
-ghost use Rattle.std.specs.Io.KnownBytes.{Keeps};
+ghost use Rattle.std.specs.Prelude.{◌≡◌, ◌≤◌, length, IfOk};
+ghost use Rattle.std.specs.Io.KnownBytes.{Keeps, WriteAppends};
 ghost use Rattle.devices.specs.Counting.{no_pulls, no_pushes, pulled, pushed, flushed};
 
 use crate::failed::Failed;
@@ -99,6 +99,21 @@ impl Pushes {
             }
             Err(_) => self.failures = self.failures.saturating_add(1),
         }
+    }
+
+    /// Writes bytes, once, and counts it as a push. Any error is a failure, an interrupted one too.
+    pub(crate) fn push<W: Write>(&mut self, writer: &mut W, bytes: &[u8]) -> Result<usize, Failed>
+        ensures bound { IfOk result (λ n. n ≤ length bytes.now) }
+        ensures bytes { WriteAppends (W.contents writer.old) (W.contents writer.new)
+            result bytes.now }
+        ensures counts { self.new ≡ pushed self.old (length bytes.now) result }
+    {
+        let taken = match writer.write(bytes) {
+            Ok(n) => Ok(n),
+            Err(_) => Err(Failed),
+        };
+        self.note_push(bytes.len(), &taken);
+        taken
     }
 
     /// Flushes a writer, and counts it. Any error is a failure, an interrupted one too.

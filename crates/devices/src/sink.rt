@@ -50,12 +50,7 @@ impl<W: Write> Sink for Spout<W> {
     ghost state = { λ spout. sink_state (W.contents spout.writer) spout.counts };
 
     fn push(&mut self, bytes: &[u8]) -> Result<usize, Failed> {
-        let taken = match self.writer.write(bytes) {
-            Ok(n) => Ok(n),
-            Err(_) => Err(Failed),
-        };
-        self.counts.note_push(bytes.len(), &taken);
-        taken
+        self.counts.push(&mut self.writer, bytes)
     }
 
     fn flush(&mut self) -> Result<(), Failed> {

@@ -105,12 +105,18 @@ module _ (a : List ℕ) (i : IsImage a) where
         | inr m ↦ not_directory a i h (m, l, (e, f, (inside l m, k)))
       ]
 
+  -- a path leads to e, once hard links are followed
+  pub record LeadsTo (path : Path) (e : ℕ) : Type 0 where
+    pub header : ℕ
+    pub has : Has a path header
+    pub final : IsFinal a header e
+
   -- a directory has one path
-  pub one_directory : (p q : Path) (g h e : ℕ) → Has a p g → Has a q h → IsFinal a g e → IsFinal a h e → kind a e ≡ Directory → p ≡ q
-  one_directory p q g h e x y f r k =
-      let s : g ≡ e = straight p g e x f k in
-      let t : h ≡ e = straight q h e y r k in
-      one_path p q e (subst (λ z. Has a p z) s x) (subst (λ z. Has a q z) t y)
+  pub one_directory : (p q : Path) (e : ℕ) → LeadsTo p e → LeadsTo q e → kind a e ≡ Directory → p ≡ q
+  one_directory p q e x y k =
+      let s : x.header ≡ e = straight p x.header e x.has x.final k in
+      let t : y.header ≡ e = straight q y.header e y.has y.final k in
+      one_path p q e (subst (λ z. Has a p z) s x.has) (subst (λ z. Has a q z) t y.has)
 
   -- a directory is where it stands
   pub directory_stays : (h e : ℕ) → kind a h ≡ Directory → IsFinal a h e → e ≡ h

@@ -46,20 +46,24 @@ text_first : (byte : ℕ) (rest : List ℕ) → name_text (byte ∷ rest) ≡ es
 unfolding name_text
 text_first byte rest = refl
 
+-- a name is cut behind i bytes, a run
+pub record IsCut (name run others : List ℕ) (i : ℕ) : Type 0 where
+  pub plain : IsRun name i
+  pub front : run ≡ take i name
+  pub back : others ≡ drop i name
+
 -- what follows a run is the text of the other bytes
-pub run_then : (name run others : List ℕ) (i : ℕ)
-    → IsRun name i → run ≡ take i name → others ≡ drop i name → run ++ name_text others ≡ name_text name
-run_then name run others i r p q =
-    ap (λ t. t ++ name_text others) (p ∙ sym r) ∙ ap (λ t. name_text (take i name) ++ name_text t) q
+pub run_then : {name run others : List ℕ} {i : ℕ} → IsCut name run others i → run ++ name_text others ≡ name_text name
+run_then {name} {run} {others} {i} c =
+    ap (λ t. t ++ name_text others) (c.front ∙ sym c.plain) ∙ ap (λ t. name_text (take i name) ++ name_text t) c.back
     ∙ text_joined (take i name) (drop i name) ∙ ap name_text (take-append-drop i name)
 
 -- a run, the next byte escaped and the text of what is behind it are the text of the name
-pub byte_then : (name run others rest : List ℕ) (byte i : ℕ)
-    → IsRun name i → run ≡ take i name → others ≡ drop i name → IsFirstAndRest others byte rest →
-    (run ++ escaped byte) ++ name_text rest ≡ name_text name
-byte_then name run others rest byte i r p q f =
+pub byte_then : {name run others : List ℕ} {i : ℕ} → IsCut name run others i → (byte : ℕ) (rest : List ℕ)
+    → IsFirstAndRest others byte rest → (run ++ escaped byte) ++ name_text rest ≡ name_text name
+byte_then {run = run} c byte rest f =
     append_assoc run (escaped byte) (name_text rest) ∙ ap (λ t. run ++ t) (sym (text_first byte rest) ∙ ap name_text (sym f.0))
-    ∙ run_then name run others i r p q
+    ∙ run_then c
 
 -- before a step nothing is put, and the whole name is left
 pub all_left : (w : SinkState) (r name : List ℕ) → PutsAllBut w r w r name name

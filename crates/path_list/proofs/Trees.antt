@@ -177,9 +177,13 @@ module _ (layers : List (List ℕ)) (entries : List Entry) (s : AreImages layers
       let z : Some r.bytes ≡ Some f.bytes = sym r.is ∙ ap (slice_get layers) (sym layer) ∙ f.is in
       let same : r.bytes ≡ f.bytes = cc in
       let dir : kind f.bytes d.header ≡ Directory = is_kind (kind f.bytes d.header) (sym (kind_from d f.bytes f.is) ∙ k) in
-      one_directory f.bytes (s.each d.layer f.bytes f.is) d.path e.path f.first r.first d.header f.has
-      (subst (λ a. Has a e.path r.first) same r.has) f.ends
-      (subst (λ h. IsFinal f.bytes r.first h) (sym header) (subst (λ a. IsFinal a r.first e.header) same r.ends))
+      one_directory f.bytes (s.each d.layer f.bytes f.is) d.path e.path d.header
+      (record { header = f.first; has = f.has; final = f.ends })
+      (record {
+        header = r.first;
+        has = subst (λ a. Has a e.path r.first) same r.has;
+        final = subst (λ h. IsFinal f.bytes r.first h) (sym header) (subst (λ a. IsFinal a r.first e.header) same r.ends);
+      })
       dir
 
   above : (e : Entry) (top path : Path) (n : List ℕ) → IsAmong e entries → e.path ≡ top ++ n ∷ path → IsShownDirectory layers entries top

@@ -6,8 +6,8 @@ ghost use Rattle.devices.specs.Pushing.{Settles};
 ghost use Rattle.path_list.specs.Lines.{hex_digit, escaped, name_text, names_text, path_text, octal_digit, mode_text, is_unescaped, spaced};
 ghost use Rattle.path_list.specs.Walks.{Puts, PutsAllBut, way};
 
-use crate::room::{put, put_byte};
-use crate::trail::Trail;
+use crate::room::Room;
+use crate::trail::Way;
 use devices::{Failed, Sink};
 use itoa::Buffer;
 use std::alloc::Allocator;
@@ -47,27 +47,6 @@ fn is_unescaped(byte: u8) -> bool
     0x21 <= byte && byte <= 0x7e && byte != b'\\'
 }
 
-// Puts a byte of a name.
-fn put_escaped<K: Sink, A: Allocator>(
-    sink: &mut K,
-    room: &mut Vec<u8, A>,
-    byte: u8,
-) -> Result<(), Failed>
-    requires { (K.state sink.old).counts.failures < 2 ^ 63 }
-    ensures { Puts result (K.state sink.old) room.old.items (K.state sink.new) room.new.items
-        (escaped byte) }
-{
-    if is_unescaped(byte) {
-        put_byte(sink, room, byte)
-    } else {
-        put(
-            sink,
-            room,
-            &[b'\\', hex_digit(byte / 16), hex_digit(byte % 16)],
-        )
-    }
-}
-
 // How many bytes at the front of a name are printed as themselves.
 fn count_unescaped(name: &[u8]) -> usize
     ensures bound { result ≤ length name.now }
@@ -81,92 +60,87 @@ fn count_unescaped(name: &[u8]) -> usize
     name.len()
 }
 
-// Puts a name up to its first byte that is escaped, with this one, and returns the rest.
-fn put_run<'a, K: Sink, A: Allocator>(
-    sink: &mut K,
-    room: &mut Vec<u8, A>,
-    name: &'a [u8],
-) -> Result<&'a [u8], Failed>
-    requires some { 0 < length name.now }
-    requires counts { (K.state sink.old).counts.failures < 2 ^ 63 }
-    ensures put { IfOk result (λ rest. PutsAllBut (K.state sink.old) room.old.items
-        (K.state sink.new) room.new.items name.now rest.now) }
-    ensures shorter { IfOk result (λ rest. length rest.now < length name.now) }
-    ensures counted { Settles result (K.state sink.old) (K.state sink.new) }
-{
-    let (run, others) = name.split_at(count_unescaped(name));
-    put(sink, room, run)?;
-    match others.split_first() {
-        None => Ok(others),
-        Some((byte, rest)) => {
-            put_escaped(sink, room, *byte)?;
-            Ok(rest)
+impl<A: Allocator> Room<A> {
+    // Puts a byte of a name.
+    fn put_escaped<K: Sink>(&mut self, sink: &mut K, byte: u8) -> Result<(), Failed>
+        requires { (K.state sink.old).counts.failures < 2 ^ 63 }
+        ensures { Puts result (K.state sink.old) self.old.waiting.items
+            (K.state sink.new) self.new.waiting.items (escaped byte) }
+    {
+        if is_unescaped(byte) {
+            self.put_byte(sink, byte)
+        } else {
+            self.put(sink, &[b'\\', hex_digit(byte / 16), hex_digit(byte % 16)])
         }
     }
-}
 
-// Puts a name.
-fn put_name<K: Sink, A: Allocator>(
-    sink: &mut K,
-    room: &mut Vec<u8, A>,
-    name: &[u8],
-) -> Result<(), Failed>
-    requires { (K.state sink.old).counts.failures < 2 ^ 63 }
-    ensures { Puts result (K.state sink.old) room.old.items (K.state sink.new) room.new.items
-        (name_text name.now) }
-{
-    let mut rest = name;
-    while !rest.is_empty() {
-        rest = put_run(sink, room, rest)?;
+    // Puts a name up to its first byte that is escaped, with this one, and returns the rest.
+    fn put_run<'a, K: Sink>(&mut self, sink: &mut K, name: &'a [u8]) -> Result<&'a [u8], Failed>
+        requires some { 0 < length name.now }
+        requires counts { (K.state sink.old).counts.failures < 2 ^ 63 }
+        ensures put { IfOk result (λ rest. PutsAllBut (K.state sink.old) self.old.waiting.items
+            (K.state sink.new) self.new.waiting.items name.now rest.now) }
+        ensures shorter { IfOk result (λ rest. length rest.now < length name.now) }
+        ensures counted { Settles result (K.state sink.old) (K.state sink.new) }
+    {
+        let (run, others) = name.split_at(count_unescaped(name));
+        self.put(sink, run)?;
+        match others.split_first() {
+            None => Ok(others),
+            Some((byte, rest)) => {
+                self.put_escaped(sink, *byte)?;
+                Ok(rest)
+            }
+        }
     }
-    Ok(())
-}
 
-// Puts the names of a way, each after a slash.
-fn put_names<K: Sink, A: Allocator>(
-    sink: &mut K,
-    room: &mut Vec<u8, A>,
-    trail: Option<&Trail<'_>>,
-) -> Result<(), Failed>
-    requires { (K.state sink.old).counts.failures < 2 ^ 63 }
-    ensures { Puts result (K.state sink.old) room.old.items (K.state sink.new) room.new.items
-        (names_text (way trail.entry)) }
-{
-    let Some(here) = trail else {
-        return Ok(());
-    };
-    put_names(sink, room, here.above)?;
-    put_byte(sink, room, b'/')?;
-    put_name(sink, room, here.name)
-}
-
-// Puts the path of a way.
-pub(crate) fn put_path<K: Sink, A: Allocator>(
-    sink: &mut K,
-    room: &mut Vec<u8, A>,
-    trail: Option<&Trail<'_>>,
-) -> Result<(), Failed>
-    requires { (K.state sink.old).counts.failures < 2 ^ 63 }
-    ensures { Puts result (K.state sink.old) room.old.items (K.state sink.new) room.new.items
-        (path_text (way trail.entry)) }
-{
-    match trail {
-        None => put_byte(sink, room, b'/'),
-        Some(_) => put_names(sink, room, trail),
+    // Puts a name.
+    fn put_name<K: Sink>(&mut self, sink: &mut K, name: &[u8]) -> Result<(), Failed>
+        requires { (K.state sink.old).counts.failures < 2 ^ 63 }
+        ensures { Puts result (K.state sink.old) self.old.waiting.items
+            (K.state sink.new) self.new.waiting.items (name_text name.now) }
+    {
+        let mut rest = name;
+        while !rest.is_empty() {
+            rest = self.put_run(sink, rest)?;
+        }
+        Ok(())
     }
-}
 
-// Puts a number, and a space.
-pub(crate) fn put_number<K: Sink, A: Allocator>(
-    sink: &mut K,
-    room: &mut Vec<u8, A>,
-    number: u64,
-) -> Result<(), Failed>
-    requires { (K.state sink.old).counts.failures < 2 ^ 63 }
-    ensures { Puts result (K.state sink.old) room.old.items (K.state sink.new) room.new.items
-        (spaced (decimal number)) }
-{
-    let mut digits = Buffer::new();
-    put(sink, room, digits.format(number).as_bytes())?;
-    put_byte(sink, room, b' ')
+    // Puts the names of a way, each after a slash.
+    fn put_names<K: Sink>(&mut self, sink: &mut K, trail: Way<'_>) -> Result<(), Failed>
+        requires { (K.state sink.old).counts.failures < 2 ^ 63 }
+        ensures { Puts result (K.state sink.old) self.old.waiting.items
+            (K.state sink.new) self.new.waiting.items (names_text (way trail.entry)) }
+    {
+        let Some(here) = trail else {
+            return Ok(());
+        };
+        self.put_names(sink, here.above)?;
+        self.put_byte(sink, b'/')?;
+        self.put_name(sink, here.name)
+    }
+
+    /// Puts the path of a way.
+    pub(crate) fn put_path<K: Sink>(&mut self, sink: &mut K, trail: Way<'_>) -> Result<(), Failed>
+        requires { (K.state sink.old).counts.failures < 2 ^ 63 }
+        ensures { Puts result (K.state sink.old) self.old.waiting.items
+            (K.state sink.new) self.new.waiting.items (path_text (way trail.entry)) }
+    {
+        match trail {
+            None => self.put_byte(sink, b'/'),
+            Some(_) => self.put_names(sink, trail),
+        }
+    }
+
+    /// Puts a number, and a space.
+    pub(crate) fn put_number<K: Sink>(&mut self, sink: &mut K, number: u64) -> Result<(), Failed>
+        requires { (K.state sink.old).counts.failures < 2 ^ 63 }
+        ensures { Puts result (K.state sink.old) self.old.waiting.items
+            (K.state sink.new) self.new.waiting.items (spaced (decimal number)) }
+    {
+        let mut digits = Buffer::new();
+        self.put(sink, digits.format(number).as_bytes())?;
+        self.put_byte(sink, b' ')
+    }
 }

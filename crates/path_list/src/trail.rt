@@ -2,7 +2,10 @@
 
 use std::marker::Model;
 
-/// A name, and the way to the directory that it stands in; none is that of the root.
+/// The way to a path; none is that of the root.
+pub(crate) type Way<'a> = Option<&'a Trail<'a>>;
+
+/// A name, and the way to the directory that it stands in.
 #[derive(Drop)]
 pub(crate) struct Trail<'a> {
     pub(crate) above: Option<&'a Trail<'a>>,

@@ -6,9 +6,9 @@ ghost use Rattle.path_list.specs.Lines.{lines};
 ghost use Rattle.path_list.specs.Faults.{Lists, IsBrokenOff};
 ghost use Rattle.path_list.specs.Walks.{Puts, IsVisited, way, line_at, lines_below};
 
-use crate::room::{drain, put, put_byte};
-use crate::text::{put_number, put_path, spaced_mode};
-use crate::trail::Trail;
+use crate::room::Room;
+use crate::text::spaced_mode;
+use crate::trail::{Trail, Way};
 use devices::{Failed, Sink};
 use romfs_reader::Image;
 use stack_table::Table;
@@ -16,6 +16,13 @@ use std::alloc::{AllocError, Allocator};
 
 // How many bytes of lines wait before they are written.
 const PIECE: usize = 65_536;
+
+// A shown path: its number, and the way to it.
+#[derive(Clone, Copy)]
+struct Shown<'a> {
+    number: u64,
+    trail: Way<'a>,
+}
 
 /// Why a list was not written to its end.
 #[derive(Clone, Copy, Debug, PartialEq, Eq)]
@@ -46,58 +53,6 @@ impl From<Failed> for ListFault {
     }
 }
 
-// Puts the line of a number at a path; none where the number is not in use.
-fn put_line<K: Sink, A: Allocator, B: Allocator>(
-    sink: &mut K,
-    room: &mut Vec<u8, A>,
-    table: &Table<B>,
-    number: u64,
-    trail: Option<&Trail<'_>>,
-) -> Result<(), Failed>
-    requires { (K.state sink.old).counts.failures < 2 ^ 63 }
-    ensures { Puts result (K.state sink.old) room.old.items (K.state sink.new) room.new.items
-        (line_at table.now number (way trail.entry)) }
-{
-    let Some(node) = table.node(number) else {
-        return Ok(());
-    };
-    let Some(attr) = table.attr(number) else {
-        return Ok(());
-    };
-    put_number(sink, room, attr.ino)?;
-    put(sink, room, &spaced_mode(attr.mode))?;
-    put_number(sink, room, u64::from(attr.nlink))?;
-    put_number(sink, room, attr.size)?;
-    put_number(sink, room, u64::from(node.place.layer))?;
-    put_path(sink, room, trail)?;
-    put_byte(sink, room, b'\n')
-}
-
-// Puts the lines of all paths below that of a number. No recursion goes deeper than the paths are
-// long.
-fn put_below<K: Sink, A: Allocator, B: Allocator>(
-    sink: &mut K,
-    room: &mut Vec<u8, A>,
-    table: &Table<B>,
-    number: u64,
-    trail: Option<&Trail<'_>>,
-) -> Result<(), Failed>
-    requires visited { IsVisited table.now number (way trail) }
-    requires counts { (K.state sink.old).counts.failures < 2 ^ 63 }
-    ensures { Puts result (K.state sink.old) room.old.items (K.state sink.new) room.new.items
-        (lines_below table.now (way trail.entry)) }
-{
-    for row in table.rows(number) {
-        let below = Trail {
-            above: trail,
-            name: row.name(),
-        };
-        put_line(sink, room, table, row.number, Some(&below))?;
-        put_below(sink, room, table, row.number, Some(&below))?;
-    }
-    Ok(())
-}
-
 // Tells that each image keeps all rules, and does nothing else: what a call on an image promises
 // says so of that image.
 fn are_images<A: Allocator>(images: &[Image<A>])
@@ -108,23 +63,83 @@ fn are_images<A: Allocator>(images: &[Image<A>])
     }
 }
 
-// Puts all lines.
-fn put_all<K: Sink, A: Allocator, B: Allocator>(
-    sink: &mut K,
-    room: &mut Vec<u8, A>,
-    table: &Table<B>,
-) -> Result<(), Failed>
-    requires { (K.state sink.old).counts.failures < 2 ^ 63 }
-    ensures { Puts result (K.state sink.old) room.old.items (K.state sink.new) room.new.items
-        (lines table.now.layers table.now.entries) }
-{
-    are_images(table.images());
-    if table.len() == 0 {
-        return Ok(());
+impl<A: Allocator> Room<A> {
+    // Puts the line of a number at a path; none where the number is not in use.
+    fn put_line<K: Sink, B: Allocator>(
+        &mut self,
+        sink: &mut K,
+        table: &Table<B>,
+        shown: Shown<'_>,
+    ) -> Result<(), Failed>
+        requires { (K.state sink.old).counts.failures < 2 ^ 63 }
+        ensures { Puts result (K.state sink.old) self.old.waiting.items
+            (K.state sink.new) self.new.waiting.items
+            (line_at table.now shown.entry.number (way shown.entry.trail)) }
+    {
+        let Some(node) = table.node(shown.number) else {
+            return Ok(());
+        };
+        let Some(attr) = table.attr(shown.number) else {
+            return Ok(());
+        };
+        self.put_number(sink, attr.ino)?;
+        self.put(sink, &spaced_mode(attr.mode))?;
+        self.put_number(sink, u64::from(attr.nlink))?;
+        self.put_number(sink, attr.size)?;
+        self.put_number(sink, u64::from(node.place.layer))?;
+        self.put_path(sink, shown.trail)?;
+        self.put_byte(sink, b'\n')
     }
-    // 1 is the root's number
-    put_line(sink, room, table, 1, None)?;
-    put_below(sink, room, table, 1, None)
+
+    // Puts the lines of all paths below one. No recursion goes deeper than the paths are long.
+    fn put_below<K: Sink, B: Allocator>(
+        &mut self,
+        sink: &mut K,
+        table: &Table<B>,
+        shown: Shown<'_>,
+    ) -> Result<(), Failed>
+        requires visited { IsVisited table.now shown.number (way shown.trail) }
+        requires counts { (K.state sink.old).counts.failures < 2 ^ 63 }
+        ensures { Puts result (K.state sink.old) self.old.waiting.items
+            (K.state sink.new) self.new.waiting.items
+            (lines_below table.now (way shown.entry.trail)) }
+    {
+        for row in table.rows(shown.number) {
+            let trail = Trail {
+                above: shown.trail,
+                name: row.name(),
+            };
+            let below = Shown {
+                number: row.number,
+                trail: Some(&trail),
+            };
+            self.put_line(sink, table, below)?;
+            self.put_below(sink, table, below)?;
+        }
+        Ok(())
+    }
+
+    // Puts all lines.
+    fn put_all<K: Sink, B: Allocator>(
+        &mut self,
+        sink: &mut K,
+        table: &Table<B>,
+    ) -> Result<(), Failed>
+        requires { (K.state sink.old).counts.failures < 2 ^ 63 }
+        ensures { Puts result (K.state sink.old) self.old.waiting.items
+            (K.state sink.new) self.new.waiting.items (lines table.now.layers table.now.entries) }
+    {
+        are_images(table.images());
+        if table.len() == 0 {
+            return Ok(());
+        }
+        let root = Shown {
+            number: 1,
+            trail: None,
+        };
+        self.put_line(sink, table, root)?;
+        self.put_below(sink, table, root)
+    }
 }
 
 /// Puts a line for each shown path of the table's layers to a sink, in the order of the paths.
@@ -146,8 +161,8 @@ pub fn write_list<A: Allocator, B: Allocator, K: Sink>(
     ensures ok { OnOk result (Lists table.now (K.state sink.old) (K.state sink.new)) }
     ensures err { IfErr result (IsBrokenOff (K.state sink.old) (K.state sink.new)) }
 {
-    let mut room = Vec::with_capacity(alloc, PIECE)?;
-    put_all(sink, &mut room, table)?;
-    drain(sink, &mut room)?;
+    let mut room = Room::new(alloc, PIECE)?;
+    room.put_all(sink, table)?;
+    room.drain(sink)?;
     Ok(())
 }

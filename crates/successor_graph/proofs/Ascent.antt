@@ -1,15 +1,15 @@
 -- A climb as a whole: the path that its steps are on, and what is still to be entered
 -- (`IsUnderWay`). It begins with no steps (`begins`), skips what was entered, enters and leaves
 -- points, and where it is over, all that leads to the point `bottom` has been entered (`ends`).
-use Rattle.std.proofs.Common.{◌≡◌, ◌∙◌, sym, ap, subst, ℕ, zero, suc, ◌+◌, ◌<◌, ◌≤◌, ◌⊎◌, inl, inr, List, [], ◌∷◌, length, get_or, set, min, drop, reverse, ◌++◌, Bool, true, false, refl, arith}
+use Rattle.std.proofs.Common.{◌≡◌, ◌∙◌, sym, ap, subst, ℕ, zero, suc, ◌+◌, ◌<◌, ◌≤◌, ◌⊎◌, inl, inr, List, [], ◌∷◌, length, get_or, set, drop, reverse, ◌++◌, Bool, true, false, refl, arith}
 use Rattle.std.proofs.lemmas.List.{get_or-set_other, reverse-append, reverse-reverse}
 use Rattle.std.proofs.Math.Seq.{drop-cons}
 use Rattle.std.proofs.Math.Numerals.{add-one}
 use Rattle.std.proofs.lemmas.Bool.{cases_eq}
 use Rattle.successor_graph.specs.declared.climb.Step.{Step}
-use Rattle.successor_graph.specs.Climb.{After, one, more, On, top, under, IsLowest, IsLow, IsSpare, IsCompared, AreLower, IsNoted, Ahead, here, later, IsGraph, IsCycle, IsFound, IsSkipped, AreMarksKept}
+use Rattle.successor_graph.specs.Climb.{After, one, more, On, top, under, IsLowest, IsLow, IsSpare, IsCompared, AreLower, Ahead, here, later, Points, IsGraph, Findings, Enters, IsCycle, IsFound, IsSkipped, AreMarksKept}
 use Rattle.successor_graph.proofs.Marks.{newly_set, still_set}
-use Rattle.successor_graph.proofs.Climbing.{Covers, covers_next, after_next, low_enters, low_leaves, spare_enters, compared_enters, lower_enters}
+use Rattle.successor_graph.proofs.Climbing.{Covers, IsPut, covers_next, after_next, low_enters, low_leaves, spare_enters, compared_enters, lower_enters}
 
 -- the path that the steps, the last first, are on
 abbrev pub path : List ℕ → List Step → List ℕ
@@ -35,16 +35,16 @@ pub data Waits (sibling : List ℕ) : List Step → ℕ → Type 0 where
 
 -- a climb under way to what leads to `bottom`; the list of those to be entered next begins at
 -- `from`
-pub record IsUnderWay (next class first sibling cycle rest : List ℕ) (bottom from : ℕ) (steps : List Step)
-    (entered noted : List Bool) (low : List ℕ) : Type 0 where
-  pub tower : Tower next class cycle bottom steps
-  pub lowest : IsLow class low (path cycle steps)
-  pub spare : IsSpare class (path cycle steps) noted
-  pub compared : IsCompared next class entered noted
-  pub lower : AreLower next class noted
-  pub leads : (x : ℕ) → Ahead sibling from x → get_or next x 0 ≡ top_of bottom steps
-  pub closed : (x : ℕ) → x < length next → get_or entered (get_or next x 0) false ≡ true
-      → (get_or entered x false ≡ true) ⊎ (Ahead sibling from x ⊎ (Waits sibling steps x ⊎ On rest (get_or next x 0)))
+pub record IsUnderWay (p : Points) (cycle rest : List ℕ) (bottom from : ℕ) (steps : List Step) (found : Findings) : Type 0 where
+  pub tower : Tower p.next p.class cycle bottom steps
+  pub lowest : IsLow p.class found.low (path cycle steps)
+  pub spare : IsSpare p.class (path cycle steps) found.noted
+  pub compared : IsCompared p.next p.class found.entered found.noted
+  pub lower : AreLower p.next p.class found.noted
+  pub leads : (x : ℕ) → Ahead p.sibling from x → get_or p.next x 0 ≡ top_of bottom steps
+  pub closed : (x : ℕ) → x < length p.next → get_or found.entered (get_or p.next x 0) false ≡ true
+      → (get_or found.entered x false ≡ true)
+      ⊎ (Ahead p.sibling from x ⊎ (Waits p.sibling steps x ⊎ On rest (get_or p.next x 0)))
 
 on_left : {y : ℕ} {xs : List ℕ} (ys : List ℕ) → On xs y → On (xs ++ ys) y
 on_left ys top = top
@@ -97,12 +97,11 @@ keeps before entered at l k = record {
 }
 
 -- the last step of a climb is at a point of the graph
-pub step_fits : {next class first sibling cycle rest : List ℕ} {bottom from : ℕ} {s : Step} {steps : List Step} {entered noted : List Bool}
-    {low : List ℕ}
-    → IsUnderWay next class first sibling cycle rest bottom from (s ∷ steps) entered noted low → s.at < length next
-step_fits {next = next} {class = class} {cycle = cycle} {bottom = bottom} {s = s} {steps = steps} w = go w.tower
+pub step_fits : {p : Points} {cycle rest : List ℕ} {bottom from : ℕ} {s : Step} {steps : List Step} {found : Findings}
+    → IsUnderWay p cycle rest bottom from (s ∷ steps) found → s.at < length p.next
+step_fits {p = p} {cycle = cycle} {bottom = bottom} {s = s} {steps = steps} w = go w.tower
   where
-    go : Tower next class cycle bottom (s ∷ steps) → s.at < length next
+    go : Tower p.next p.class cycle bottom (s ∷ steps) → s.at < length p.next
     go (over t i e l) = i
 
 ahead_cases : {sibling : List ℕ} {from x : ℕ} → Ahead sibling from x → (x ≡ from) ⊎ Ahead sibling (get_or sibling from 0) x
@@ -138,55 +137,58 @@ rest_cases : {b x : ℕ} {rest : List ℕ} → On (b ∷ rest) x → (x ≡ b) �
 rest_cases top = inl refl
 rest_cases (under o) = inr o
 
-module _ (next class first sibling cycle : List ℕ) (graph : IsGraph next class first sibling) (bottom : ℕ)
-    (is : IsCycle next cycle) (on : On cycle bottom) where
-  covers_ring : (u : ℕ) → get_or next u 0 ≡ bottom → Covers next cycle u
+-- a cycle, and a point of it
+pub record IsRing (next cycle : List ℕ) (bottom : ℕ) : Type 0 where
+  pub is : IsCycle next cycle
+  pub on : On cycle bottom
+
+module _ (p : Points) (graph : IsGraph p) (cycle : List ℕ) (bottom : ℕ) (ring : IsRing p.next cycle bottom) where
+  covers_ring : (u : ℕ) → get_or p.next u 0 ≡ bottom → Covers p.next cycle u
   covers_ring u e = record {
     on = λ y a. elim (after_next a) [
-      | inl f ↦ subst (λ z. On cycle z) (sym e ∙ f) on
-      | inr b ↦ around b (subst (λ z. On cycle z) (sym e) on)
+      | inl f ↦ subst (λ z. On cycle z) (sym e ∙ f) ring.on
+      | inr b ↦ around b (subst (λ z. On cycle z) (sym e) ring.on)
     ];
-    after = λ y o. more e (is.tied bottom y on o);
+    after = λ y o. more e (ring.is.tied bottom y ring.on o);
   }
     where
-      around : {x y : ℕ} → After next x y → On cycle x → On cycle y
-      around (one e) o = subst (λ z. On cycle z) e (is.round _ o)
-      around (more e a) o = around a (subst (λ z. On cycle z) e (is.round _ o))
+      around : {x y : ℕ} → After p.next x y → On cycle x → On cycle y
+      around (one e) o = subst (λ z. On cycle z) e (ring.is.round _ o)
+      around (more e a) o = around a (subst (λ z. On cycle z) e (ring.is.round _ o))
 
   -- what comes after a point that leads to the top is the path
-  covers : {steps : List Step} → Tower next class cycle bottom steps → (u : ℕ) → get_or next u 0 ≡ top_of bottom steps
-      → Covers next (path cycle steps) u
+  covers : {steps : List Step} → Tower p.next p.class cycle bottom steps → (u : ℕ) → get_or p.next u 0 ≡ top_of bottom steps
+      → Covers p.next (path cycle steps) u
   covers bare u e = covers_ring u e
-  covers (over {s = s} {steps = steps} t i e l) u f = covers_next next (path cycle steps) s.at u f (covers t s.at e)
+  covers (over {s = s} {steps = steps} t i e l) u f = covers_next p.next (path cycle steps) s.at u f (covers t s.at e)
 
-  sibling_leads : (u x : ℕ) → u < length next → Ahead sibling (get_or sibling u 0) x → get_or next x 0 ≡ get_or next u 0
-  sibling_leads u x l a = graph.lists.same (get_or next u 0) x (graph.leads.each u l) (ahead_then (graph.lists.whole u l) a)
+  sibling_leads : (u x : ℕ) → u < length p.next → Ahead p.sibling (get_or p.sibling u 0) x → get_or p.next x 0 ≡ get_or p.next u 0
+  sibling_leads u x l a = graph.lists.same (get_or p.next u 0) x (graph.leads.each u l) (ahead_then (graph.lists.whole u l) a)
 
   module _ (rest : List ℕ) where
     -- the climb to what leads to `bottom` begins with no steps, at the first of those points
-    pub begins : (entered noted : List Bool) (low : List ℕ) → IsFound next class cycle (bottom ∷ rest) entered noted low
-        → IsUnderWay next class first sibling cycle rest bottom (get_or first bottom 0) [] entered noted low
-    begins entered noted low f = record {
+    pub begins : (found : Findings) → IsFound p.next p.class cycle (bottom ∷ rest) found
+        → IsUnderWay p cycle rest bottom (get_or p.first bottom 0) [] found
+    begins found f = record {
       tower = bare;
       lowest = f.lowest;
       spare = f.spare;
       compared = f.compared;
       lower = f.lower;
-      leads = λ x a. graph.lists.same bottom x (is.inside bottom on) a;
+      leads = λ x a. graph.lists.same bottom x (ring.is.inside bottom ring.on) a;
       closed = λ x l m. elim (f.closed x l m) [
         | inl e ↦ inl e
         | inr o ↦ elim (rest_cases o) [
-          | inl e ↦ inr (inl (subst (λ t. Ahead sibling (get_or first t 0) x) e (graph.lists.whole x l)))
+          | inl e ↦ inr (inl (subst (λ t. Ahead p.sibling (get_or p.first t 0) x) e (graph.lists.whole x l)))
           | inr p ↦ inr (inr (inr p))
         ]
       ];
     }
 
     -- a climb under way stays so where entered points of the list are skipped
-    pub skips : (from at : ℕ) (steps : List Step) (entered noted : List Bool) (low : List ℕ) → IsSkipped sibling entered from at
-        → IsUnderWay next class first sibling cycle rest bottom from steps entered noted low
-        → IsUnderWay next class first sibling cycle rest bottom at steps entered noted low
-    skips from at steps entered noted low s w = record {
+    pub skips : (from at : ℕ) (steps : List Step) (found : Findings) → IsSkipped p.sibling found.entered from at
+        → IsUnderWay p cycle rest bottom from steps found → IsUnderWay p cycle rest bottom at steps found
+    skips from at steps found s w = record {
       tower = w.tower;
       lowest = w.lowest;
       spare = w.spare;
@@ -200,65 +202,67 @@ module _ (next class first sibling cycle : List ℕ) (graph : IsGraph next class
       ];
     }
 
-    -- `at` is entered as the last step, and what leads to it comes next
-    pub enters : (at old : ℕ) (steps : List Step) (entered noted noted' : List Bool) (low low' : List ℕ) (s : Step) → s.at ≡ at
-        → s.low ≡ old
-        → at < length next → old ≡ get_or low (get_or class at 0) 0
-        → low' ≡ set low (get_or class at 0) (min old at) → IsNoted noted noted' (length class) old at
-        → IsUnderWay next class first sibling cycle rest bottom at steps entered noted low
-        → IsUnderWay next class first sibling cycle rest bottom (get_or first at 0) (s ∷ steps) (set entered at true) noted' low'
-    enters at old steps entered noted noted' low low' s sa sl fits o lows made w =
+    -- a point is entered as the last step, and what leads to it comes next
+    pub enters : (s : Step) (steps : List Step) (found new : Findings) → Enters p.next p.class s.at s.low found new
+        → IsUnderWay p cycle rest bottom s.at steps found
+        → IsUnderWay p cycle rest bottom (get_or p.first s.at 0) (s ∷ steps) new
+    enters s steps found new e w =
+        let at = s.at in
+        let fits = e.inside in
         let sized = graph.classes.sized in
-        let marked = w.compared.sized in
         let siblings = graph.lists.siblings in
-        let here_next : get_or next at 0 ≡ top_of bottom steps = w.leads at (here (omega arith)) in
-        let cover : Covers next (path cycle steps) at = covers w.tower at here_next in
-        let known : get_or class at 0 < length class = (let e = graph.classes.each at fits in omega arith) in
-        let lowest : IsLowest class (path cycle steps) (length class) (get_or class at 0) old = subst
-        (λ v. IsLowest class (path cycle steps) (length class) (get_or class at 0) v) (sym o)
+        let here_next : get_or p.next at 0 ≡ top_of bottom steps = w.leads at (here (omega arith)) in
+        let cover : Covers p.next (path cycle steps) at = covers w.tower at here_next in
+        let known : get_or p.class at 0 < length p.class = (let k = graph.classes.each at fits in omega arith) in
+        let lowest : IsLowest p.class (path cycle steps) (length p.class) (get_or p.class at 0) s.low = subst
+        (λ v. IsLowest p.class (path cycle steps) (length p.class) (get_or p.class at 0) v) (sym e.lowest_is)
         (w.lowest.each _ known) in
-        let spare : IsSpare class (at ∷ path cycle steps) noted' = spare_enters next class (path cycle steps)
-        at old noted noted' (omega arith) lowest made w.spare in
+        let put : IsPut p.class (path cycle steps) at s.low found.noted new.noted = record {
+          fits = omega arith;
+          lowest = lowest;
+          made = rw sized e.noted;
+        } in
+        let spare = spare_enters p.next p.class (path cycle steps) at s.low found.noted new.noted put w.spare in
         record {
-          tower = over w.tower (rw sa fits) (rw sa here_next) (rw (sa, sl) lowest);
-          lowest = rw (sa, lows, o) (low_enters class low (path cycle steps) at (omega arith) known w.lowest);
-          spare = rw sa spare;
-          compared = compared_enters next class (path cycle steps) at old noted noted' (omega arith) lowest made cover entered
-              (omega arith) w.compared spare;
-          lower = lower_enters next class (path cycle steps) at old noted noted' (omega arith) lowest made (λ y p. inl (cover.after y p))
+          tower = over w.tower fits here_next lowest;
+          lowest = rw (e.low, e.lowest_is) (low_enters p.class found.low (path cycle steps) at (omega arith) known w.lowest);
+          spare = spare;
+          compared = rw e.entered (compared_enters p.next p.class (path cycle steps) at s.low found.noted new.noted put cover found.entered
+              e.room w.compared spare);
+          lower = lower_enters p.next p.class (path cycle steps) at s.low found.noted new.noted put (λ y q. inl (cover.after y q))
               w.lower;
-          leads = λ x a. rw sa (graph.lists.same at x fits a);
-          closed = λ x l m. elim (cases_eq (get_or next x 0) at) [
-            | inl e ↦ inr (inl (subst (λ t. Ahead sibling (get_or first t 0) x) e (graph.lists.whole x l)))
-            | inr d ↦ elim (w.closed x l (sym (get_or-set_other entered at (get_or next x 0) true false d) ∙ m)) [
-              | inl e ↦ inl (still_set entered at x (omega arith) e)
+          leads = λ x a. graph.lists.same at x fits a;
+          closed = rw e.entered (λ x l m. elim (cases_eq (get_or p.next x 0) at) [
+            | inl f ↦ inr (inl (subst (λ t. Ahead p.sibling (get_or p.first t 0) x) f (graph.lists.whole x l)))
+            | inr d ↦ elim (w.closed x l (sym (get_or-set_other found.entered at (get_or p.next x 0) true false d) ∙ m)) [
+              | inl f ↦ inl (still_set found.entered at x e.room f)
               | inr (inl a) ↦ elim (ahead_cases a) [
-                | inl e ↦ inl (rw e (newly_set entered at (omega arith)))
-                | inr b ↦ inr (inr (inl (now (rw sa b))))
+                | inl f ↦ inl (rw f (newly_set found.entered at e.room))
+                | inr b ↦ inr (inr (inl (now b)))
               ]
               | inr (inr (inl v)) ↦ inr (inr (inl (then v)))
-              | inr (inr (inr p)) ↦ inr (inr (inr p))
+              | inr (inr (inr q)) ↦ inr (inr (inr q))
             ]
-          ];
+          ]);
         }
 
     -- where a list is over, the last step is left: the climb goes on at its sibling
-    pub leaves : (at : ℕ) (s : Step) (steps : List Step) (entered noted : List Bool) (low : List ℕ) → length next ≤ at
-        → IsUnderWay next class first sibling cycle rest bottom at (s ∷ steps) entered noted low
-        → IsUnderWay next class first sibling cycle rest bottom (get_or sibling s.at 0) steps entered noted
-        (set low (get_or class s.at 0) s.low)
-    leaves at s steps entered noted low past w = go w.tower
+    pub leaves : (at : ℕ) (s : Step) (steps : List Step) (found : Findings) → length p.next ≤ at
+        → IsUnderWay p cycle rest bottom at (s ∷ steps) found
+        → IsUnderWay p cycle rest bottom (get_or p.sibling s.at 0) steps
+        (record { entered = found.entered; noted = found.noted; low = set found.low (get_or p.class s.at 0) s.low })
+    leaves at s steps found past w = go w.tower
       where
-        go : Tower next class cycle bottom (s ∷ steps)
-            → IsUnderWay next class first sibling cycle rest bottom (get_or sibling s.at 0) steps entered noted
-            (set low (get_or class s.at 0) s.low)
+        go : Tower p.next p.class cycle bottom (s ∷ steps)
+            → IsUnderWay p cycle rest bottom (get_or p.sibling s.at 0) steps
+            (record { entered = found.entered; noted = found.noted; low = set found.low (get_or p.class s.at 0) s.low })
         go (over t i e l) =
             let sized = graph.classes.sized in
             let siblings = graph.lists.siblings in
             let named = graph.classes.each s.at i in
             record {
               tower = t;
-              lowest = low_leaves class low (path cycle steps) s.at (omega arith) (omega arith) s.low l w.lowest;
+              lowest = low_leaves p.class found.low (path cycle steps) s.at (omega arith) (omega arith) s.low l w.lowest;
               spare = record {
                 sized = w.spare.sized;
                 inside = λ x o. w.spare.inside x (under o);
@@ -276,9 +280,9 @@ module _ (next class first sibling cycle : List ℕ) (graph : IsGraph next class
             }
 
     -- where the list is over and no step is left, all that leads to `bottom` has been entered
-    pub ends : (at : ℕ) (entered noted : List Bool) (low : List ℕ) → length next ≤ at
-        → IsUnderWay next class first sibling cycle rest bottom at [] entered noted low → IsFound next class cycle rest entered noted low
-    ends at entered noted low past w = record {
+    pub ends : (at : ℕ) (found : Findings) → length p.next ≤ at → IsUnderWay p cycle rest bottom at [] found
+        → IsFound p.next p.class cycle rest found
+    ends at found past w = record {
       lowest = w.lowest;
       spare = w.spare;
       compared = w.compared;
@@ -291,5 +295,5 @@ module _ (next class first sibling cycle : List ℕ) (graph : IsGraph next class
       ];
     }
       where
-        none_wait : {x : ℕ} → ¬ Waits sibling [] x
+        none_wait : {x : ℕ} → ¬ Waits p.sibling [] x
         none_wait v = elim v [ ]

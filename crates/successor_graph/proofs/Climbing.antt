@@ -105,26 +105,31 @@ module _ (class low path : List ℕ) (u : ℕ) (fits : u < length class) (named 
     ];
   }
 
--- what is noted as u is put on the path, where v was the lowest of its class
-module _ (next class path : List ℕ) (u v : ℕ) (noted more : List Bool) (fits : u < length class)
-    (lowest : IsLowest class path (length class) (get_or class u 0) v) (made : IsNoted noted more (length class) v u) where
+-- u is put on the path, where v was the lowest of its class, and the higher of both is noted
+pub record IsPut (class path : List ℕ) (u v : ℕ) (noted more : List Bool) : Type 0 where
+  pub fits : u < length class
+  pub lowest : IsLowest class path (length class) (get_or class u 0) v
+  pub made : IsNoted noted more (length class) v u
+
+-- what then is noted
+module _ (next class path : List ℕ) (u v : ℕ) (noted more : List Bool) (put : IsPut class path u v noted more) where
   -- with u on the path, all but the lowest of each class on it are noted
   pub spare_enters : IsSpare class path noted → IsSpare class (u ∷ path) more
   spare_enters s = record {
-    sized = made.sized ∙ s.sized;
+    sized = put.made.sized ∙ s.sized;
     inside = λ x o. elim (on_cases o) [ inl f ↦ omega arith | inr q ↦ s.inside x q ];
     each = λ x y o p e l. elim (on_cases o) [
       | inl f ↦ elim (on_cases p) [
         | inl g ↦ absurd (omega arith)
         | inr q ↦ (
             let c : get_or class y 0 ≡ get_or class u 0 = sym e ∙ ap (λ z. get_or class z 0) f in
-            let k = lowest.least y q c in
+            let k = put.lowest.least y q c in
             let m : max v u ≡ x = omega arith in
-            subst (λ z. get_or more z false ≡ true) m (made.made (omega arith) (omega arith)))
+            subst (λ z. get_or more z false ≡ true) m (put.made.made (omega arith) (omega arith)))
       ]
       | inr q ↦ elim (on_cases p) [
         | inl g ↦ higher x (s.inside x q) q (e ∙ ap (λ z. get_or class z 0) g) (omega arith)
-        | inr r ↦ made.kept x (s.each x y q r e l)
+        | inr r ↦ put.made.kept x (s.each x y q r e l)
       ]
     ];
   }
@@ -132,15 +137,15 @@ module _ (next class path : List ℕ) (u v : ℕ) (noted more : List Bool) (fits
       here : (x : ℕ) → x < length class → On path x → get_or class x 0 ≡ get_or class u 0 → u < x → v ≤ x
           → On path v → get_or class v 0 ≡ get_or class u 0 → get_or more x false ≡ true
       here x i q c l k o f = elim (cases_order v x) [
-        | inl e ↦ (let m : max v u ≡ x = omega arith in subst (λ z. get_or more z false ≡ true) m (made.made (omega arith) (omega arith)))
-        | inr (inl m) ↦ made.kept x (s.each x v q o (c ∙ sym f) m)
+        | inl e ↦ (let m : max v u ≡ x = omega arith in subst (λ z. get_or more z false ≡ true) m (put.made.made (omega arith) (omega arith)))
+        | inr (inl m) ↦ put.made.kept x (s.each x v q o (c ∙ sym f) m)
         | inr (inr m) ↦ absurd (omega arith)
       ]
 
       higher : (x : ℕ) → x < length class → On path x → get_or class x 0 ≡ get_or class u 0 → u < x → get_or more x false ≡ true
       higher x i q c l =
-          let k = lowest.least x q c in
-          elim lowest.there [ inl e ↦ absurd (omega arith) | inr o ↦ here x i q c l k o.0 o.1 ]
+          let k = put.lowest.least x q c in
+          elim put.lowest.there [ inl e ↦ absurd (omega arith) | inr o ↦ here x i q c l k o.0 o.1 ]
 
   -- u, once entered, has been compared with what comes after it
   pub compared_enters : Covers next path u → (entered : List Bool) → u < length entered
@@ -150,20 +155,20 @@ module _ (next class path : List ℕ) (u v : ℕ) (noted more : List Bool) (fits
     sized = length-set entered u true ∙ w.sized;
     low = λ x y m a e l. elim (cases_eq x u) [
       | inl f ↦ s.each x y (subst (λ z. On (u ∷ path) z) (sym f) top) (under (c.on y (subst (λ z. After next z y) f a))) e l
-      | inr d ↦ made.kept x (w.low x y (sym (get_or-set_other entered u x true false d) ∙ m) a e l)
+      | inr d ↦ put.made.kept x (w.low x y (sym (get_or-set_other entered u x true false d) ∙ m) a e l)
     ];
     high = λ x y m a e l. elim (cases_eq x u) [
       | inl f ↦ s.each y x (under (c.on y (subst (λ z. After next z y) f a))) (subst (λ z. On (u ∷ path) z) (sym f) top) (sym e) l
-      | inr d ↦ made.kept y (w.high x y (sym (get_or-set_other entered u x true false d) ∙ m) a e l)
+      | inr d ↦ put.made.kept y (w.high x y (sym (get_or-set_other entered u x true false d) ∙ m) a e l)
     ];
   }
 
   -- what is noted as u is entered has a lower point of its class before or after it
   pub lower_enters : ((y : ℕ) → On path y → After next u y ⊎ After next y u) → AreLower next class noted → AreLower next class more
   lower_enters r w = record {
-    each = λ x m. elim (made.only x m) [
+    each = λ x m. elim (put.made.only x m) [
       | inl o ↦ w.each x o
-      | inr k ↦ elim lowest.there [
+      | inr k ↦ elim put.lowest.there [
         | inl e ↦ absurd (let f = k.1 in omega arith)
         | inr o ↦ right x k.0 k.2 o.0 o.1
       ]

@@ -6,7 +6,7 @@ use Rattle.std.proofs.lemmas.Bool.{cases_eq, cases_lt}
 use Rattle.std.proofs.Props.{props}
 use mathlib.Core.Logic.{∥∥₁_elim}
 use Rattle.successor_graph.specs.declared.graph.Graph.{Graph}
-use Rattle.successor_graph.specs.Climb.{Ahead, here, later, IsGraph}
+use Rattle.successor_graph.specs.Climb.{Ahead, here, later, Points, IsGraph}
 
 past : {sibling : List ℕ} {from x : ℕ} → length sibling ≤ from → ¬ Ahead sibling from x
 past l (here k) = omega arith
@@ -31,8 +31,12 @@ ahead sibling r (suc n) from x l = elim (cases_lt from (length sibling)) [
   ]
 ]
 
+-- the points of a value of the type `Graph`
+abbrev pub points : {A : Type 0} → Graph A → Points
+points g = record { next = g.next.items; class = g.class.items; first = g.first.items; sibling = g.sibling.items }
+
 -- each value of the type `Graph` is a graph: points, classes, and the lists of what leads where
-pub graph_of : {A : Type 0} (g : Graph A) → IsGraph g.next.items g.class.items g.first.items g.sibling.items
+pub graph_of : {A : Type 0} (g : Graph A) → IsGraph (points g)
 graph_of g = record {
   few = g.few;
   leads = g.leads;

@@ -1,12 +1,12 @@
 -- Cycles: how one is found, entered and left. A walk that comes back to where it was has met a
 -- cycle (`meets`); its points are entered one by one (`IsRounding`) until it is whole (`gathered`);
 -- with all that leads to it entered, it is taken off the path (`IsClearing`, `left`).
-use Rattle.std.proofs.Common.{◌≡◌, ◌∙◌, sym, ap, subst, ℕ, zero, suc, ◌+◌, ◌<◌, ◌≤◌, ◌⊎◌, inl, inr, List, [], ◌∷◌, length, get_or, set, min, drop, reverse, Bool, true, false, refl, arith}
+use Rattle.std.proofs.Common.{◌≡◌, ◌∙◌, sym, ap, subst, ℕ, zero, suc, ◌+◌, ◌<◌, ◌≤◌, ◌⊎◌, inl, inr, List, [], ◌∷◌, length, get_or, set, drop, reverse, Bool, true, false, refl, arith}
 use Rattle.std.proofs.lemmas.List.{get_or-set_same, get_or-set_other, length-set, get_or_read}
 use Rattle.std.proofs.lemmas.Bool.{cases_eq}
-use Rattle.successor_graph.specs.Climb.{After, one, more, On, top, under, IsLowest, IsLow, IsSpare, IsCompared, AreLower, IsNoted, AreBelow, IsFound, AreMarksKept, IsClosed, IsFreshWalk, IsGathered}
+use Rattle.successor_graph.specs.Climb.{After, one, more, On, top, under, IsLowest, IsLow, IsSpare, IsCompared, AreLower, AreBelow, Findings, Clears, Enters, IsFound, AreMarksKept, IsClosed, IsFreshWalk, IsGathered}
 use Rattle.successor_graph.proofs.Marks.{newly_set, still_set, was_set}
-use Rattle.successor_graph.proofs.Climbing.{then_next, after_next, on_cases, low_enters, spare_enters, lower_enters}
+use Rattle.successor_graph.proofs.Climbing.{IsPut, then_next, after_next, on_cases, low_enters, spare_enters, lower_enters}
 use Rattle.successor_graph.proofs.Ascent.{on_reverse, on_reversed, drop_turn}
 
 -- a mark is set or not
@@ -82,34 +82,30 @@ module _ (next : List ℕ) where
   leads_in entered b c {x = x} l (more e a) m = c.each x l (rw e (leads_in entered b c (rw (← e) (b.each x l)) a m))
 
 -- where no points wait, each point that leads to an entered one is entered
-pub closed : {next class cycle : List ℕ} {entered noted : List Bool} {low : List ℕ} → IsFound next class cycle [] entered noted low
-    → IsClosed next entered
+pub closed : {next class cycle : List ℕ} {found : Findings} → IsFound next class cycle [] found → IsClosed next found.entered
 closed f = record { each = λ x l m. elim (f.closed x l m) [ inl e ↦ e | inr o ↦ absurd (elim o [ ]) ] }
 
--- the entering of a cycle that is under way, at `at`, with the last point entered first in `path`
-pub record IsRounding (next class : List ℕ) (first entered : List Bool) (from at : ℕ) (path : List ℕ) (noted : List Bool)
-    (low : List ℕ) : Type 0 where
-  pub lowest : IsLow class low path
-  pub spare : IsSpare class path noted
-  pub compared : IsCompared next class first noted
-  pub lower : AreLower next class noted
+-- the entering of a cycle that is under way, at `at`, with the last point entered first in `path`; `first` was entered before it
+pub record IsRounding (next class : List ℕ) (first : List Bool) (from at : ℕ) (path : List ℕ) (found : Findings) : Type 0 where
+  pub lowest : IsLow class found.low path
+  pub spare : IsSpare class path found.noted
+  pub compared : IsCompared next class first found.noted
+  pub lower : AreLower next class found.noted
   pub closed : IsClosed next first
-  pub each : (x : ℕ) → get_or entered x false ≡ true → (get_or first x false ≡ true) ⊎ On path x
-  pub all : (x : ℕ) → On path x → get_or entered x false ≡ true
-  pub kept : AreMarksKept first entered
+  pub each : (x : ℕ) → get_or found.entered x false ≡ true → (get_or first x false ≡ true) ⊎ On path x
+  pub all : (x : ℕ) → On path x → get_or found.entered x false ≡ true
+  pub kept : AreMarksKept first found.entered
   pub fresh : get_or first at false ≡ false
   pub leads : (at ≡ from) ⊎ After next from at
   pub led : (x : ℕ) → On path x → (x ≡ from) ⊎ After next from x
   pub on : (x : ℕ) → On path x → On path (get_or next x 0) ⊎ (get_or next x 0 ≡ at)
   pub start : ((at ≡ from) × (path ≡ [])) ⊎ On path from
 
-module _ (next class : List ℕ) (few : length class ≡ length next) (leads : AreBelow next (length next))
-    (classes : AreBelow class (length next)) (from : ℕ) (cycle : After next from from) where
+module _ (next class : List ℕ) (classes : AreBelow class (length next)) (from : ℕ) (cycle : After next from from) where
   -- the entering of a cycle begins with an empty path
-  pub begins : (entered noted : List Bool) (low : List ℕ) → get_or entered from false ≡ false
-      → IsFound next class [] [] entered noted low
-      → IsRounding next class entered entered from from [] noted low
-  begins entered noted low e f = record {
+  pub begins : (found : Findings) → get_or found.entered from false ≡ false → IsFound next class [] [] found
+      → IsRounding next class found.entered from from [] found
+  begins found e f = record {
     lowest = f.lowest;
     spare = f.spare;
     compared = f.compared;
@@ -132,34 +128,39 @@ module _ (next class : List ℕ) (few : length class ≡ length next) (leads : A
       elim b [ inl e ↦ subst (λ z. After next x z) (sym e) back | inr c ↦ then_after back c ]
 
   -- `at` is put on the path, and the next point is to be entered
-  pub enters : (first entered noted noted' : List Bool) (at old : ℕ) (path low low' : List ℕ)
-      → at < length next → at < length entered → old ≡ get_or low (get_or class at 0) 0
-      → low' ≡ set low (get_or class at 0) (min old at) → IsNoted noted noted' (length class) old at
-      → IsRounding next class first entered from at path noted low
-      → IsRounding next class first (set entered at true) from (get_or next at 0) (at ∷ path) noted' low'
-  enters first entered noted noted' at old path low low' fits room o lows made w =
+  pub enters : (first : List Bool) (at old : ℕ) (path : List ℕ) (found new : Findings) → Enters next class at old found new
+      → IsRounding next class first from at path found
+      → IsRounding next class first from (get_or next at 0) (at ∷ path) new
+  enters first at old path found new s w =
+      let few = classes.sized in
+      let fits = s.inside in
       let known : get_or class at 0 < length class = (let e = classes.each at fits in omega arith) in
-      let lowest : IsLowest class path (length class) (get_or class at 0) old = subst
-      (λ v. IsLowest class path (length class) (get_or class at 0) v) (sym o) (w.lowest.each _ known) in
+      let put : IsPut class path at old found.noted new.noted = record {
+        fits = omega arith;
+        lowest = subst (λ v. IsLowest class path (length class) (get_or class at 0) v) (sym s.lowest_is) (w.lowest.each _ known);
+        made = rw few s.noted;
+      } in
       record {
-        lowest = rw (lows, o) (low_enters class low path at (omega arith) known w.lowest);
-        spare = spare_enters next class path at old noted noted' (omega arith) lowest made w.spare;
+        lowest = rw (s.low, s.lowest_is) (low_enters class found.low path at (omega arith) known w.lowest);
+        spare = spare_enters next class path at old found.noted new.noted put w.spare;
         compared = record {
           sized = w.compared.sized;
-          low = λ x y m a e l. made.kept x (w.compared.low x y m a e l);
-          high = λ x y m a e l. made.kept y (w.compared.high x y m a e l);
+          low = λ x y m a e l. put.made.kept x (w.compared.low x y m a e l);
+          high = λ x y m a e l. put.made.kept y (w.compared.high x y m a e l);
         };
-        lower = lower_enters next class path at old noted noted' (omega arith) lowest made (λ y p. inl (tied at y w.leads (w.led y p)))
-            w.lower;
+        lower = lower_enters next class path at old found.noted new.noted put (λ y p. inl (tied at y w.leads (w.led y p))) w.lower;
         closed = w.closed;
-        each = λ x m. elim (was_set entered at x m) [
+        each = rw s.entered (λ x m. elim (was_set found.entered at x m) [
           | inl e ↦ inr (subst (λ z. On (at ∷ path) z) (sym e) top)
           | inr o ↦ elim (w.each x o) [ inl e ↦ inl e | inr p ↦ inr (under p) ]
-        ];
-        all = λ x p. elim (on_cases p) [ inl e ↦ rw e (newly_set entered at room) | inr q ↦ still_set entered at x room (w.all x q) ];
-        kept = record {
-          each = λ x m. still_set entered at x room (w.kept.each x m);
-        };
+        ]);
+        all = rw s.entered (λ x p. elim (on_cases p) [
+          | inl e ↦ rw e (newly_set found.entered at s.room)
+          | inr q ↦ still_set found.entered at x s.room (w.all x q)
+        ]);
+        kept = rw s.entered (record {
+          each = λ x m. still_set found.entered at x s.room (w.kept.each x m);
+        });
         fresh = marked (get_or first (get_or next at 0) false) (λ m. clash _ (w.closed.each at fits m) w.fresh);
         leads = inr (elim w.leads [ inl e ↦ subst (λ z. After next z (get_or next at 0)) e (one refl) | inr a ↦ then_next a ]);
         led = λ x p. elim (on_cases p) [ inl e ↦ subst (λ z. (z ≡ from) ⊎ After next from z) (sym e) w.leads | inr q ↦ w.led x q ];
@@ -171,21 +172,21 @@ module _ (next class : List ℕ) (few : length class ≡ length next) (leads : A
       }
 
   -- where `at` is entered already, the whole cycle is on the path
-  pub gathered : (first entered noted : List Bool) (at : ℕ) (xs low : List ℕ) → length entered ≡ length next
-      → get_or entered at false ≡ true → IsRounding next class first entered from at (reverse xs) noted low
-      → IsGathered next class from xs entered noted low
-  gathered first entered noted at xs low sized m w =
+  pub gathered : (first : List Bool) (at : ℕ) (xs : List ℕ) (found : Findings) → length found.entered ≡ length next
+      → get_or found.entered at false ≡ true → IsRounding next class first from at (reverse xs) found
+      → IsGathered next class from xs found
+  gathered first at xs found sized m w =
       let here : On (reverse xs) at = elim (w.each at m) [ inl e ↦ absurd (clash _ e w.fresh) | inr p ↦ p ] in
       let round : (x : ℕ) → On (reverse xs) x → On (reverse xs) (get_or next x 0) =
       λ x p. elim (w.on x p) [ inl q ↦ q | inr e ↦ subst (λ z. On (reverse xs) z) (sym e) here ] in
       record {
         start = elim w.start [ inl s ↦ on_reversed xs (subst (λ z. On (reverse xs) z) s.0 here) | inr p ↦ on_reversed xs p ];
         is = record {
-          inside = λ x p. (let l = w.spare.inside x p in omega arith);
+          inside = λ x p. (let l = w.spare.inside x p in let few = classes.sized in omega arith);
           round = round;
           tied = λ x y p q. tied x y (w.led x p) (w.led y q);
         };
-        found = record {
+        right = record {
           lowest = w.lowest;
           spare = w.spare;
           compared = record {
@@ -258,28 +259,40 @@ clears_all class low w = record {
   };
 }
 
+-- nothing has been entered or noted, and no class has a lowest on the path
+pub record IsBlank (next class : List ℕ) (found : Findings) : Type 0 where
+  pub classed : length class ≡ length next
+  pub entered_sized : length found.entered ≡ length next
+  pub noted_sized : length found.noted ≡ length class
+  pub low_sized : length found.low ≡ length class
+  pub none_entered : (x : ℕ) → get_or found.entered x false ≡ false
+  pub none_noted : (x : ℕ) → get_or found.noted x false ≡ false
+  pub none_low : (c : ℕ) → c < length class → get_or found.low c 0 ≡ length class
+
 -- where nothing has been entered or noted, what has been found is right
-pub nothing : (next class low : List ℕ) (entered noted : List Bool) → length class ≡ length next
-    → length entered ≡ length next → length noted ≡ length class → length low ≡ length class
-    → ((x : ℕ) → get_or entered x false ≡ false) → ((x : ℕ) → get_or noted x false ≡ false)
-    → ((c : ℕ) → c < length class → get_or low c 0 ≡ length class)
-    → IsFound next class [] [] entered noted low
-nothing next class low entered noted f e n k x y z = record {
-  lowest = record { sized = k; each = λ c l. record { there = inl (z c l); least = λ y o e. absurd (elim o [ ]) } };
-  spare = record { sized = n; inside = λ x o. absurd (elim o [ ]); each = λ x y o p e l. absurd (elim o [ ]) };
-  compared = record { sized = e; low = λ u v m a e l. absurd (clash _ m (x u)); high = λ u v m a e l. absurd (clash _ m (x u)) };
-  lower = record { each = λ u m. absurd (clash _ m (y u)) };
-  closed = λ u l m. absurd (clash _ m (x (get_or next u 0)));
+pub nothing : (next class : List ℕ) (found : Findings) → IsBlank next class found → IsFound next class [] [] found
+nothing next class found b = record {
+  lowest = record {
+    sized = b.low_sized;
+    each = λ c l. record { there = inl (b.none_low c l); least = λ y o e. absurd (elim o [ ]) };
+  };
+  spare = record { sized = b.noted_sized; inside = λ x o. absurd (elim o [ ]); each = λ x y o p e l. absurd (elim o [ ]) };
+  compared = record {
+    sized = b.entered_sized;
+    low = λ u v m a e l. absurd (clash _ m (b.none_entered u));
+    high = λ u v m a e l. absurd (clash _ m (b.none_entered u));
+  };
+  lower = record { each = λ u m. absurd (clash _ m (b.none_noted u)) };
+  closed = λ u l m. absurd (clash _ m (b.none_entered (get_or next u 0)));
 }
 
 -- a cycle is left, where all that leads to it has been entered
-pub left : (next class low low' : List ℕ) (entered noted : List Bool) (cycle : List ℕ)
-    → IsFound next class cycle [] entered noted low → IsLow class low' []
-    → IsFound next class [] [] entered noted low'
-left next class low low' entered noted cycle f w = record {
-  lowest = w;
-  spare = record { sized = f.spare.sized; inside = λ x o. absurd (elim o [ ]); each = λ x y o p e l. absurd (elim o [ ]) };
-  compared = f.compared;
-  lower = f.lower;
-  closed = f.closed;
+pub left : (next class cycle : List ℕ) (found new : Findings) → IsFound next class cycle [] found → Clears class found new
+    → IsFound next class [] [] new
+left next class cycle found new f c = record {
+  lowest = c.low;
+  spare = rw c.noted (record { sized = f.spare.sized; inside = λ x o. absurd (elim o [ ]); each = λ x y o p e l. absurd (elim o [ ]) });
+  compared = rw (c.entered, c.noted) f.compared;
+  lower = rw c.noted f.lower;
+  closed = rw c.entered f.closed;
 }

@@ -1,6 +1,7 @@
 -- Numbered points, each of which leads on to one, and those of which one of the same class comes
 -- along the way.
-use Rattle.std.specs.Prelude.{◌≡◌, ◌≢◌, ℕ, ◌^◌, ◌<◌, ◌≤◌, ◌⊎◌, List, ◌∷◌, length, max, get_or, reverse, Bool, true, false}
+use Rattle.std.specs.Prelude.{◌≡◌, ◌≢◌, ℕ, ◌^◌, ◌<◌, ◌≤◌, ◌⊎◌, List, [], ◌∷◌, length, min, max, get_or, set, reverse, Bool, true, false}
+use Rattle.successor_graph.specs.declared.found.Found.{Found}
 
 -- y comes after x
 pub data After (next : List ℕ) : ℕ → ℕ → Type 0 where
@@ -84,12 +85,50 @@ pub record IsNoted (before after : List Bool) (n old at : ℕ) : Type 0 where
   pub only : (x : ℕ) → get_or after x false ≡ true
       → (get_or before x false ≡ true) ⊎ ((x ≡ max old at) × (old < n) × (old ≢ at))
 
--- points that each lead on to one, their classes, and the lists of those that lead to each
-pub record IsGraph (next class first sibling : List ℕ) : Type 0 where
-  pub few : length next < 2 ^ 32
-  pub leads : AreBelow next (length next)
-  pub classes : AreBelow class (length next)
-  pub lists : AreLists next first sibling
+-- points: where each leads, its class, the first of those that lead to it, and what follows it there
+pub record Points : Type 0 where
+  pub next : List ℕ
+  pub class : List ℕ
+  pub first : List ℕ
+  pub sibling : List ℕ
+
+-- they each lead on to one, have classes, and the lists of those that lead to each
+pub record IsGraph (p : Points) : Type 0 where
+  pub few : length p.next < 2 ^ 32
+  pub leads : AreBelow p.next (length p.next)
+  pub classes : AreBelow p.class (length p.next)
+  pub lists : AreLists p.next p.first p.sibling
+
+-- what a climb has found: the points that it has entered, those that it has noted, and the lowest
+-- of each class on its path
+pub record Findings : Type 0 where
+  pub entered : List Bool
+  pub noted : List Bool
+  pub low : List ℕ
+
+-- so much the code's value says
+abbrev pub findings : {A : Type 0} → Found A → Findings
+findings found = record {
+  entered = found.entered.items;
+  noted = found.noted.items;
+  low = found.low.items;
+}
+
+-- a point is put on the path, where `lowest` was the lowest of its class, and the higher of both is
+-- noted
+pub record Enters (next class : List ℕ) (at lowest : ℕ) (before after : Findings) : Type 0 where
+  pub inside : at < length next
+  pub room : at < length before.entered
+  pub lowest_is : lowest ≡ get_or before.low (get_or class at 0) 0
+  pub low : after.low ≡ set before.low (get_or class at 0) (min lowest at)
+  pub entered : after.entered ≡ set before.entered at true
+  pub noted : IsNoted before.noted after.noted (length next) lowest at
+
+-- no class has a lowest on the path any more; what was entered and noted is as it was
+pub record Clears (class : List ℕ) (before after : Findings) : Type 0 where
+  pub low : IsLow class after.low []
+  pub entered : after.entered ≡ before.entered
+  pub noted : after.noted ≡ before.noted
 
 -- points of which each comes after each
 pub record IsCycle (next cycle : List ℕ) : Type 0 where
@@ -99,14 +138,13 @@ pub record IsCycle (next cycle : List ℕ) : Type 0 where
 
 -- what has been found where the path holds a cycle, and what leads to the points that wait is still
 -- to be entered
-pub record IsFound (next class cycle waits : List ℕ) (entered noted : List Bool)
-    (low : List ℕ) : Type 0 where
-  pub lowest : IsLow class low cycle
-  pub spare : IsSpare class cycle noted
-  pub compared : IsCompared next class entered noted
-  pub lower : AreLower next class noted
-  pub closed : (x : ℕ) → x < length next → get_or entered (get_or next x 0) false ≡ true
-      → (get_or entered x false ≡ true) ⊎ On waits (get_or next x 0)
+pub record IsFound (next class cycle waits : List ℕ) (found : Findings) : Type 0 where
+  pub lowest : IsLow class found.low cycle
+  pub spare : IsSpare class cycle found.noted
+  pub compared : IsCompared next class found.entered found.noted
+  pub lower : AreLower next class found.noted
+  pub closed : (x : ℕ) → x < length next → get_or found.entered (get_or next x 0) false ≡ true
+      → (get_or found.entered x false ≡ true) ⊎ On waits (get_or next x 0)
 
 -- each mark before is one after
 pub record AreMarksKept (before after : List Bool) : Type 0 where
@@ -139,9 +177,9 @@ pub record IsMet (next : List ℕ) (before after : List Bool) (from to : ℕ) : 
       → get_or entered from false ≡ false → After next to to
 
 -- the cycle of a point, entered, as the path of what has been found
-pub record IsGathered (next class : List ℕ) (from : ℕ) (cycle : List ℕ) (entered noted : List Bool)
-    (low : List ℕ) : Type 0 where
+pub record IsGathered (next class : List ℕ) (from : ℕ) (cycle : List ℕ)
+    (found : Findings) : Type 0 where
   pub start : On cycle from
   pub is : IsCycle next (reverse cycle)
-  pub found : IsFound next class (reverse cycle) cycle entered noted low
-  pub all : (x : ℕ) → On cycle x → get_or entered x false ≡ true
+  pub right : IsFound next class (reverse cycle) cycle found
+  pub all : (x : ℕ) → On cycle x → get_or found.entered x false ≡ true

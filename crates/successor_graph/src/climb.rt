@@ -1,21 +1,11 @@
 //! The climb over a graph, from each of its cycles.
 
-ghost use Rattle.std.specs.Prelude.{◌≡◌, ◌+◌, ◌<◌, ◌^◌, ℕ, true, false, IfOk, length, get_or, set, min, drop, reverse, []};
-ghost use Rattle.successor_graph.specs.Climb.{After, AreBelow, IsFound, IsLow, IsCycle, IsMet, IsGathered, IsNoted, IsSkipped, AreMarksKept, AreNoted};
+ghost use Rattle.std.specs.Prelude.{◌≡◌, ◌+◌, ◌<◌, ◌^◌, ℕ, true, false, IfOk, length, get_or, set, drop, reverse, []};
+ghost use Rattle.successor_graph.specs.Climb.{After, AreBelow, Clears, Enters, findings, IsFound, IsLow, IsCycle, IsMet, IsGathered, IsSkipped, AreMarksKept, AreNoted};
 
+use crate::found::Found;
 use crate::graph::Graph;
 use std::alloc::{AllocError, Allocator};
-
-// What a climb has found.
-#[derive(Drop)]
-struct Found<A: Allocator> {
-    entered: Vec<bool, A>,
-    /// The lowest point of each class on the path, or the number of points.
-    low: Vec<u32, A>,
-    noted: Vec<bool, A>,
-    ghost entered_sized: { length entered.items ≡ length low.items },
-    ghost noted_sized: { length noted.items ≡ length low.items },
-}
 
 // A point on the path, and what was the lowest of its class before it.
 #[derive(Clone, Copy)]
@@ -28,12 +18,8 @@ struct Step {
 fn enter<A: Allocator>(graph: &Graph<A>, found: &mut Found<A>, at: u32) -> u32
     requires at { at < length graph.now.next.items }
     requires low { length found.old.low.items ≡ length graph.now.next.items }
-    ensures lowest { result ≡ get_or found.old.low.items (get_or graph.now.class.items at 0) 0 }
-    ensures low { found.new.low.items
-        ≡ set found.old.low.items (get_or graph.now.class.items at 0) (min result at) }
-    ensures entered { found.new.entered.items ≡ set found.old.entered.items at true }
-    ensures noted { IsNoted found.old.noted.items found.new.noted.items
-        (length graph.now.next.items) result at }
+    ensures { Enters graph.now.next.items graph.now.class.items at result
+        (findings found.old) (findings found.new) }
 {
     let place = at as usize;
     let class = graph.class[place] as usize;
@@ -86,10 +72,10 @@ fn climb<A: Allocator + Copy>(
     requires cycle { IsCycle graph.now.next.items (reverse cycle.now) }
     requires found { IsFound graph.now.next.items graph.now.class.items
         (reverse cycle.now) (drop turn cycle.now)
-        found.old.entered.items found.old.noted.items found.old.low.items }
+        (findings found.old) }
     ensures found { IfOk result (λ _. IsFound graph.now.next.items graph.now.class.items
         (reverse cycle.now) (drop (turn + 1) cycle.now)
-        found.new.entered.items found.new.noted.items found.new.low.items) }
+        (findings found.new)) }
     ensures kept { AreMarksKept found.old.entered.items found.new.entered.items }
 {
     let mut steps: Vec<Step, A> = Vec::new(alloc);
@@ -135,9 +121,9 @@ fn gather<A: Allocator + Copy>(
     requires fresh { get_or found.old.entered.items from false ≡ false }
     requires cycle { After graph.now.next.items from from }
     requires found { IsFound graph.now.next.items graph.now.class.items [] []
-        found.old.entered.items found.old.noted.items found.old.low.items }
+        (findings found.old) }
     ensures gathered { IfOk result (λ cycle. IsGathered graph.now.next.items graph.now.class.items
-        from cycle.items found.new.entered.items found.new.noted.items found.new.low.items) }
+        from cycle.items (findings found.new)) }
     ensures kept { AreMarksKept found.old.entered.items found.new.entered.items }
 {
     let mut cycle = Vec::new(alloc);
@@ -154,9 +140,7 @@ fn gather<A: Allocator + Copy>(
 fn clear<A: Allocator>(graph: &Graph<A>, found: &mut Found<A>, cycle: &[u32])
     requires cycle { IsCycle graph.now.next.items (reverse cycle.now) }
     requires low { IsLow graph.now.class.items found.old.low.items (reverse cycle.now) }
-    ensures low { IsLow graph.now.class.items found.new.low.items [] }
-    ensures entered { found.new.entered.items ≡ found.old.entered.items }
-    ensures noted { found.new.noted.items ≡ found.old.noted.items }
+    ensures { Clears graph.now.class.items (findings found.old) (findings found.new) }
 {
     let none = graph.next.len() as u32;
     for at in cycle {
@@ -176,9 +160,9 @@ fn enter_all<A: Allocator + Copy>(
     requires visited { length visited.old ≡ length graph.now.next.items }
     requires walked { AreMarksKept visited.old found.old.entered.items }
     requires found { IsFound graph.now.next.items graph.now.class.items [] []
-        found.old.entered.items found.old.noted.items found.old.low.items }
+        (findings found.old) }
     ensures found { IfOk result (λ _. IsFound graph.now.next.items graph.now.class.items [] []
-        found.new.entered.items found.new.noted.items found.new.low.items) }
+        (findings found.new)) }
     ensures kept { IfOk result (λ _. AreMarksKept found.old.entered.items found.new.entered.items) }
     ensures walked { IfOk result (λ _. AreMarksKept visited.new found.new.entered.items) }
     ensures entered { IfOk result (λ _. get_or found.new.entered.items from false ≡ true) }

@@ -32,6 +32,7 @@
 #![tactic(auto)]
 
 mod climb;
+mod found;
 mod graph;
 
 pub use climb::note_repeats;

@@ -41,7 +41,10 @@ loop-at-preserved g c =
       noted = l.noted;
     }
 
-pub returns-clause-low : goal.returns-clause-low
-returns-clause-low g c = clears_all _ _ (subst (λ x. IsClearing c.args.graph.now.class.items
-    c.loop-at.found.low.items x) (drop_past c.args.cycle.now c.loop-at.at-index (omega arith))
-    c.loop-at.invariant.clearing)
+pub returns : goal.returns
+returns g c = record {
+  low = clears_all _ _ (subst (λ x. IsClearing c.args.graph.now.class.items c.loop-at.found.low.items x)
+      (drop_past c.args.cycle.now c.loop-at.at-index (omega arith)) c.loop-at.invariant.clearing);
+  entered = c.loop-at.invariant.entered;
+  noted = c.loop-at.invariant.noted;
+}

@@ -1,9 +1,9 @@
-use Rattle.std.proofs.Common.{◌≡◌, ◌∙◌, ap, ◌+◌, ◌<◌, length, get_or, drop, reverse, arith, refl}
+use Rattle.std.proofs.Common.{◌≡◌, ◌∙◌, ap, ◌+◌, ◌<◌, length, get_or, drop, reverse, arith}
 use Rattle.std.proofs.lemmas.List.{get_or_read, length-set, length-append}
-use Rattle.successor_graph.specs.Climb.{IsSkipped}
+use Rattle.successor_graph.specs.Climb.{IsSkipped, findings}
 use Rattle.successor_graph.proofs.Marks.{unmarked, marks_fall}
-use Rattle.successor_graph.proofs.Ascent.{IsUnderWay, begins, skips, enters, leaves, ends, on_turn, drop_turn, reverse_push, keeps, popped, no_steps, step_fits}
-use Rattle.successor_graph.proofs.Graphs.{graph_of}
+use Rattle.successor_graph.proofs.Ascent.{IsUnderWay, IsRing, begins, skips, enters, leaves, ends, on_turn, drop_turn, reverse_push, keeps, popped, no_steps, step_fits}
+use Rattle.successor_graph.proofs.Graphs.{points, graph_of}
 use Rattle.successor_graph.proofs.climb.climb.Given.{Over}
 use Rattle.successor_graph.proofs.climb.climb.Goals.{After-skip_entered-at}
 use Rattle.successor_graph.proofs.climb.climb.Goals as goal
@@ -22,23 +22,25 @@ loop-found-init g c =
     let e = get_or_read c.args.graph.now.first.items (get_or c.args.cycle.now c.args.turn 0)
     c.index-from.result.now (let k = f.lists.firsts in omega arith) c.index-from.ensures 0 in
     record {
-      under_way = rw (c.new-steps.ensures.items, e) (begins _ _ _ _ _ f _ c.requires.cycle o _ _ _ _
+      under_way = rw (c.new-steps.ensures.items, e) (begins _ f _ _ (record { is = c.requires.cycle; on = o }) _ _
           (rw (← drop_turn c.args.cycle.now c.args.turn c.requires.turn) c.requires.found));
       kept = record { each = λ x m. m };
       low = c.requires.found.lowest.sized ∙ f.classes.sized;
     }
 
+-- the point of this turn is on the cycle
+ring_of : (g : Over) (c : After-skip_entered-at g) → IsRing c.args.graph.now.next.items (reverse c.args.cycle.now)
+    (get_or c.args.cycle.now c.args.turn 0)
+ring_of g c = record { is = c.requires.cycle; on = on_turn c.args.cycle.now c.args.turn c.requires.turn }
+
 -- from the next point that is not entered, the climb is under way
-skipped : (g : Over) (c : After-skip_entered-at g) → IsUnderWay c.args.graph.now.next.items c.args.graph.now.class.items
-    c.args.graph.now.first.items c.args.graph.now.sibling.items (reverse c.args.cycle.now)
+skipped : (g : Over) (c : After-skip_entered-at g) → IsUnderWay (points c.args.graph.now) (reverse c.args.cycle.now)
     (drop (c.args.turn + 1) c.args.cycle.now) (get_or c.args.cycle.now c.args.turn 0) c.skip_entered-at.result
-    (reverse c.loop-found.steps.items) c.loop-found.found.entered.items c.loop-found.found.noted.items
-    c.loop-found.found.low.items
+    (reverse c.loop-found.steps.items) (findings c.loop-found.found)
 skipped g c =
     let s : IsSkipped c.args.graph.now.sibling.items c.loop-found.found.entered.items c.loop-found.from
     c.skip_entered-at.result = rw (c.deref.ensures.value) at c.skip_entered-at.ensures.skipped in
-    skips _ _ _ _ _ (graph_of c.args.graph.now) _ c.requires.cycle (on_turn c.args.cycle.now c.args.turn c.requires.turn)
-    _ _ _ _ _ _ _ s c.loop-found.invariant.under_way
+    skips _ (graph_of c.args.graph.now) _ _ (ring_of g c) _ _ _ _ _ s c.loop-found.invariant.under_way
 
 pub loop-found-smaller-then-at-len : goal.loop-found-smaller-then-at-len
 loop-found-smaller-then-at-len g c =
@@ -56,16 +58,14 @@ loop-found-preserved-then-at-len g c =
     let f = graph_of c.args.graph.now in
     let l = c.loop-found.invariant in
     let at = c.skip_entered-at.result in
-    let o = on_turn c.args.cycle.now c.args.turn c.requires.turn in
+    let ring = ring_of g (goal.at.loop-found-preserved-then-at-len g c).After-skip_entered-at in
     let w = skipped g (goal.at.loop-found-preserved-then-at-len g c).After-skip_entered-at in
     let i : at < length c.args.graph.now.next.items = omega arith in
     let e = get_or_read c.args.graph.now.first.items at c.index-from-then-at-len.result.now
     (let k = f.lists.firsts in omega arith) c.index-from-then-at-len.ensures 0 in
     record {
-      under_way = rw (c.in_ok-push.ensures.items, reverse_push, c.enter-low.ensures.entered, e)
-          (enters _ _ _ _ _ f _ c.requires.cycle o _ at _ _ _ _ _ _ _
-          (record { at = at; low = c.enter-low.result }) refl refl i c.enter-low.ensures.lowest
-          c.enter-low.ensures.low (rw f.classes.sized c.enter-low.ensures.noted) w);
+      under_way = rw (c.in_ok-push.ensures.items, reverse_push, e)
+          (enters _ f _ _ ring _ (record { at = at; low = c.enter-low.result }) _ _ _ c.enter-low.ensures w);
       kept = rw c.enter-low.ensures.entered (keeps _ _ at (let v = c.loop-found.found.entered_sized in let w = l.low in
           omega arith) l.kept);
       low = ap length c.enter-low.ensures.low ∙ length-set c.loop-found.found.low.items _ _ ∙ l.low;
@@ -79,12 +79,12 @@ loop-found-preserved g c =
     let f = graph_of c.args.graph.now in
     let l = c.loop-found.invariant in
     let at = c.skip_entered-at.result in
-    let o = on_turn c.args.cycle.now c.args.turn c.requires.turn in
+    let ring = ring_of g (goal.at.loop-found-preserved g c).After-skip_entered-at in
     let w = skipped g (goal.at.loop-found-preserved g c).After-skip_entered-at in
     let e = c.leave-from.ensures in
     record {
       under_way = rw (e.next, e.low, e.entered, e.noted)
-          (leaves _ _ _ _ _ f _ c.requires.cycle o _ at _ _ _ _ _ (omega arith)
+          (leaves _ f _ _ ring _ at _ _ _ (omega arith)
           (rw (popped _ _ _ c.in-Some.ensures.items) at w));
       kept = rw e.entered l.kept;
       low = ap length e.low ∙ length-set c.loop-found.found.low.items _ _ ∙ l.low;
@@ -95,7 +95,7 @@ returns-in-None-clause-found g c =
     let f = graph_of c.args.graph.now in
     let l = c.loop-found.invariant in
     let at = c.skip_entered-at.result in
-    let o = on_turn c.args.cycle.now c.args.turn c.requires.turn in
+    let ring = ring_of g (goal.at.returns-in-None-clause-found g c).After-skip_entered-at in
     let w = skipped g (goal.at.returns-in-None-clause-found g c).After-skip_entered-at in
     let n : length c.loop-found.steps.items ≡ 0 = (let z = c.in-None.ensures.cases.0 in omega (arith, c.loop-found.steps.ok.0)) in
-    ends _ _ _ _ _ f _ c.requires.cycle o _ at _ _ _ (omega arith) (rw (no_steps c.loop-found.steps.items n) at w)
+    ends _ f _ _ ring _ at _ (omega arith) (rw (no_steps c.loop-found.steps.items n) at w)

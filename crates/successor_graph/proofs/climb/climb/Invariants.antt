@@ -1,15 +1,15 @@
 use Rattle.std.proofs.Common.{◌≡◌, ◌+◌, ◌*◌, length, get_or, drop, reverse}
-use Rattle.successor_graph.specs.Climb.{AreMarksKept}
+use Rattle.successor_graph.specs.Climb.{AreMarksKept, findings}
 use Rattle.successor_graph.proofs.Marks.{unmarked}
+use Rattle.successor_graph.proofs.Graphs.{points}
 use Rattle.successor_graph.proofs.Ascent.{IsUnderWay}
 use Rattle.successor_graph.proofs.climb.climb.Given as goal
 
 -- a climb is under way to the point of this turn, and marks are kept
 abbrev pub invariant-loop-found : goal.invariant-loop-found
 invariant-loop-found g l = record {
-  under_way : IsUnderWay l.graph.next.items l.graph.class.items l.graph.first.items l.graph.sibling.items
-      (reverse l.cycle) (drop (l.turn + 1) l.cycle) (get_or l.cycle l.turn 0) l.from (reverse l.steps.items)
-      l.found.entered.items l.found.noted.items l.found.low.items;
+  under_way : IsUnderWay (points l.graph) (reverse l.cycle) (drop (l.turn + 1) l.cycle) (get_or l.cycle l.turn 0) l.from
+      (reverse l.steps.items) (findings l.found);
   kept : AreMarksKept l.fn.found.entered.items l.found.entered.items;
   low : length l.found.low.items ≡ length l.graph.next.items;
 }

@@ -1,5 +1,5 @@
 use Rattle.std.proofs.Common.{◌≡◌, subst, inl, inr, ◌≤◌, length, reverse, get_or, true, false, arith}
-use Rattle.successor_graph.specs.Climb.{IsFound}
+use Rattle.successor_graph.specs.Climb.{IsFound, findings}
 use Rattle.successor_graph.proofs.Rounds.{closed, left, drop_past, leads_in, marked_inside, unmarked}
 use Rattle.successor_graph.proofs.climb.enter_all.Given.{Over}
 use Rattle.successor_graph.proofs.climb.enter_all.Goals as goal
@@ -22,13 +22,10 @@ loop-turn-preserved g c = record {
 
 pub returns-clause-found : goal.returns-clause-found
 returns-clause-found g c =
-    let e = c.clear.ensures in
     let past : length c.in_ok-cycle.cycle.items ≤ c.loop-turn.turn = omega (arith, c.in_ok-cycle.cycle.ok.0) in
-    rw (e.entered, e.noted) (left _ _ _ _ _ _ _ (subst
-    (λ x. IsFound c.args.graph.now.next.items c.args.graph.now.class.items
-    (reverse c.in_ok-cycle.cycle.items) x c.loop-turn.found.entered.items c.loop-turn.found.noted.items
-    c.loop-turn.found.low.items) (drop_past c.in_ok-cycle.cycle.items c.loop-turn.turn past)
-    c.loop-turn.invariant.found) e.low)
+    left _ _ _ _ _ (subst (λ x. IsFound c.args.graph.now.next.items c.args.graph.now.class.items
+    (reverse c.in_ok-cycle.cycle.items) x (findings c.loop-turn.found)) (drop_past c.in_ok-cycle.cycle.items c.loop-turn.turn past)
+    c.loop-turn.invariant.found) c.clear.ensures
 
 pub returns-clause-kept : goal.returns-clause-kept
 returns-clause-kept g c = record {

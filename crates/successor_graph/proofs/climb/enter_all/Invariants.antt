@@ -1,11 +1,11 @@
 use Rattle.std.proofs.Common.{drop, reverse}
-use Rattle.successor_graph.specs.Climb.{IsFound, AreMarksKept}
+use Rattle.successor_graph.specs.Climb.{IsFound, AreMarksKept, findings}
 use Rattle.successor_graph.proofs.climb.enter_all.Given as goal
 
 -- only what leads to points from this turn on is still to be entered, and marks are kept
 abbrev pub invariant-loop-turn : goal.invariant-loop-turn
 invariant-loop-turn g l = record {
   found : IsFound l.graph.next.items l.graph.class.items (reverse l.cycle.items) (drop l.turn l.cycle.items)
-      l.found.entered.items l.found.noted.items l.found.low.items;
+      (findings l.found);
   kept : AreMarksKept l.initial.found.entered.items l.found.entered.items;
 }

@@ -11,8 +11,7 @@ pub loop-found-init : goal.loop-found-init
 loop-found-init g c =
     let f = c.args.graph.now in
     record {
-      rounding = rw c.new-cycle.ensures.items (begins _ _ f.classes.sized f.leads f.classes _ c.requires.cycle _ _ _ c.requires.fresh
-          c.requires.found);
+      rounding = rw c.new-cycle.ensures.items (begins _ _ f.classes _ c.requires.cycle _ c.requires.fresh c.requires.found);
       inside = c.requires.from;
       low = c.requires.found.lowest.sized ∙ f.classes.sized;
     }
@@ -43,9 +42,8 @@ loop-found-preserved g c =
     let i = has_mark g (goal.at.loop-found-preserved g c).At-loop-found in
     let e = get_or_read c.args.graph.now.next.items at _ l.inside c.index-at.ensures 0 in
     record {
-      rounding = rw (c.in_ok-push.ensures.items, reverse_push, c.enter.ensures.entered, e)
-          (enters _ _ f.classes.sized f.leads f.classes _ c.requires.cycle _ _ _ _ at _ _ _ _ l.inside i
-          c.enter.ensures.lowest c.enter.ensures.low (rw f.classes.sized c.enter.ensures.noted) l.rounding);
+      rounding = rw (c.in_ok-push.ensures.items, reverse_push, e)
+          (enters _ _ f.classes _ c.requires.cycle _ at _ _ _ _ c.enter.ensures l.rounding);
       inside = rw e (f.leads.each at l.inside);
       low = ap length c.enter.ensures.low ∙ length-set c.loop-found.found.low.items _ _ ∙ l.low;
     }
@@ -57,5 +55,5 @@ returns-clause-gathered g c =
     let at = c.loop-found.at in
     let i = has_mark g (goal.at.returns-clause-gathered g c).At-loop-found in
     let e = get_or_read c.loop-found.found.entered.items at _ i c.index.ensures false in
-    gathered _ _ f.classes.sized f.leads f.classes _ c.requires.cycle _ _ _ at _ _ (c.loop-found.found.entered_sized ∙ l.low) (sym e
-    ∙ c.loop-found-test.false) l.rounding
+    gathered _ _ f.classes _ c.requires.cycle _ at _ _ (c.loop-found.found.entered_sized ∙ l.low) (sym e ∙ c.loop-found-test.false)
+    l.rounding

@@ -1,4 +1,5 @@
 use Rattle.std.proofs.Common.{◌≡◌, ◌<◌, length, reverse}
+use Rattle.successor_graph.specs.Climb.{findings}
 use Rattle.successor_graph.proofs.Marks.{unmarked}
 use Rattle.successor_graph.proofs.Rounds.{IsRounding}
 use Rattle.successor_graph.proofs.climb.gather.Given as goal
@@ -6,8 +7,8 @@ use Rattle.successor_graph.proofs.climb.gather.Given as goal
 -- the entering of the cycle has come to `at`
 abbrev pub invariant-loop-found : goal.invariant-loop-found
 invariant-loop-found g l = record {
-  rounding : IsRounding l.graph.next.items l.graph.class.items l.fn.found.entered.items l.found.entered.items
-      l.from l.at (reverse l.cycle.items) l.found.noted.items l.found.low.items;
+  rounding : IsRounding l.graph.next.items l.graph.class.items l.fn.found.entered.items l.from l.at (reverse l.cycle.items)
+      (findings l.found);
   inside : l.at < length l.graph.next.items;
   low : length l.found.low.items ≡ length l.graph.next.items;
 }

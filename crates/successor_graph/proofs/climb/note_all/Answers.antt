@@ -15,11 +15,16 @@ loop-from-init g c =
     let visited = c.as_mut_slice-visited.ensures.value ∙ c.in_ok-marks.ensures.items_if_clones_equal (λ y e. e) in
     let size : length c.in_ok-vec.field-0.items ≡ length c.args.graph.now.next.items = ap length entered ∙ length-replicate _ false ∙ n in
     record {
-      found = nothing _ _ _ _ _ f.classes.sized size
-          (ap length noted ∙ length-replicate _ false ∙ n ∙ sym f.classes.sized)
-          (ap length low ∙ length-replicate _ _ ∙ n ∙ sym f.classes.sized)
-          (no_marks _ _ entered) (no_marks _ _ noted) (λ k l. ap (λ xs. get_or xs k 0) low
-          ∙ get_or-replicate _ k _ 0 (let s = f.classes.sized in omega arith) ∙ n ∙ sym f.classes.sized);
+      found = nothing _ _ _ (record {
+        classed = f.classes.sized;
+        entered_sized = size;
+        noted_sized = ap length noted ∙ length-replicate _ false ∙ n ∙ sym f.classes.sized;
+        low_sized = ap length low ∙ length-replicate _ _ ∙ n ∙ sym f.classes.sized;
+        none_entered = no_marks _ _ entered;
+        none_noted = no_marks _ _ noted;
+        none_low = λ k l. ap (λ xs. get_or xs k 0) low ∙ get_or-replicate _ k _ 0 (let s = f.classes.sized in omega arith)
+            ∙ n ∙ sym f.classes.sized;
+      });
       walked = record { each = λ x m. absurd (clash _ m (no_marks _ _ visited x)) };
       visited = ap length visited ∙ length-replicate _ false ∙ n;
       entered = size;

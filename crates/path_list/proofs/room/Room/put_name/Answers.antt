@@ -1,6 +1,6 @@
 use Rattle.std.proofs.Common.{rules}
 use Rattle.path_list.proofs.Runs.{all_left, less_left, none_left}
-use Rattle.path_list.proofs.text.put_name.Goals as goal
+use Rattle.path_list.proofs.room.Room.put_name.Goals as goal
 
 pub loop-rest-init : goal.loop-rest-init
 loop-rest-init g c = all_left _ _ _

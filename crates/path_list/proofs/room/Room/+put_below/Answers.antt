@@ -3,7 +3,7 @@ use Rattle.stack_table.specs.Rows.{Line}
 use Rattle.path_list.specs.Walks.{way}
 use Rattle.path_list.proofs.Gaining.{puts_same}
 use Rattle.path_list.proofs.Visits.{goes_on, walked}
-use Rattle.path_list.proofs.walk.+put_below.Goals as goal
+use Rattle.path_list.proofs.room.Room.+put_below.Goals as goal
 
 pub put_below-requires : goal.put_below-requires
 put_below-requires g t c κs within =
@@ -11,7 +11,7 @@ put_below-requires g t c κs within =
     let same : record { number = c.row.inside.number; name = c.name.result.now } ≡ c.row-item.result =
     ap (λ (n : ℕ). record { number = n; name = c.name.result.now }) number_is
     ∙ ap (λ (x : List ℕ). record { number = c.row-item.result.number; name = x }) c.name.ensures in
-    let w = goes_on c.args.table.now c.args.number (way c.args.trail) c.requires.visited c.rows-row-items.result.now c.loop-row.row-index
+    let w = goes_on c.args.table.now c.args.shown.number (way c.args.shown.trail) c.requires.visited c.rows-row-items.result.now c.loop-row.row-index
     c.row-item.result c.row.inside.number c.name.result.now c.rows-row-items.ensures c.loop-row-test.true c.row-item.is same in
     let visit = w.0 in
     let less = w.1 in
@@ -20,5 +20,5 @@ put_below-requires g t c κs within =
     search (rules, visit, less, few)
 
 pub returns : goal.returns
-returns g t c = puts_same (walked c.args.table.now c.args.number (way c.args.trail) c.requires.visited
+returns g t c = puts_same (walked c.args.table.now c.args.shown.number (way c.args.shown.trail) c.requires.visited
     c.rows-row-items.result.now c.loop-row.row-index c.rows-row-items.ensures c.loop-row-test.false) c.loop-row.invariant

@@ -2,7 +2,7 @@ use Rattle.std.proofs.Common.{subst}
 use Rattle.path_list.specs.Below.{AreImages}
 use Rattle.path_list.proofs.Gaining.{puts_none, puts_more, puts_same}
 use Rattle.path_list.proofs.Whole.{none, begun}
-use Rattle.path_list.proofs.walk.put_all.Goals as goal
+use Rattle.path_list.proofs.room.Room.put_all.Goals as goal
 
 pub returns-then-len-eq0 : goal.returns-then-len-eq0
 returns-then-len-eq0 g c = puts_same (none c.args.table.now c.len.result c.len.ensures.value c.if-len-eq0.true) (puts_none _ _ _)
