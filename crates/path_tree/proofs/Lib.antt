@@ -5,3 +5,4 @@ pub mod Spread
 pub mod Under
 pub mod Rising
 pub mod Merging
+pub mod Padded
