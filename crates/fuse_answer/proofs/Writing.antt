@@ -1,18 +1,19 @@
 -- The bytes of a directory's rows, row by row: `IsSoFar` is what holds as they are appended, from
--- the header (`head_first`) by each row (`row_next`) to the whole reply (`all_rows`). Where there
+-- the header and the rows set behind it (`set_behind`) by each row (`row_next`) to the whole reply (`all_rows`). Where there
 -- is room for all, no row lacks it (`row_has_room`).
-use Rattle.std.proofs.Common.{◌≡◌, ◌∙◌, sym, ap, ℕ, zero, suc, ◌+◌, ◌-◌, ◌^◌, ◌<◌, ◌≤◌, List, [], ◌∷◌, ◌++◌, length, get_or, Bool, true, false, cond, Some, None, subst, arith, append-nil, append_assoc, length-append}
-use Rattle.std.specs.Prelude.{nat_lt, slice_get}
+use Rattle.std.proofs.Common.{◌≡◌, ◌∙◌, sym, ap, ℕ, zero, suc, ◌+◌, ◌-◌, ◌^◌, ◌<◌, ◌≤◌, List, [], ◌∷◌, ◌++◌, length, take, get_or, Bool, true, false, cond, Option, Some, None, subst, arith, append-nil, append_assoc, length-append}
+use Rattle.std.specs.Prelude.{nat_lt, slice_get, replicate, MatchOption, IfSome}
 use Rattle.std.specs.List.{enumerate_from, flat_map}
 use Rattle.std.specs.Option.{option_map_or}
 use Rattle.std.proofs.lemmas.List.Concat.{flat_map-append}
 use Rattle.fuse_wire.specs.Replies.{reply_head, reply_with}
+use Rattle.fuse_wire.specs.Structures.{dirent_size, zeros}
 use Rattle.fuse_wire.proofs.Sizes.{length-dirent, length-direntplus, length-head}
 use Rattle.stack_table.specs.Rows.{Line}
 use Rattle.stack_table.specs.Stacked.{Stacked}
 use Rattle.stack_table.specs.Readers.{attr_at}
 use Rattle.fuse_answer.specs.declared.listing.Listing.{Listing}
-use Rattle.fuse_answer.specs.Listings.{IsWhole, NumberedLine, line_bytes, lines_of, listed_data, row_bytes_at, row_size, type_at}
+use Rattle.fuse_answer.specs.Listings.{IsPaddedAt, IsWhole, NumberedLine, line_bytes, lines_of, listed_data, row_bytes_at, row_size, type_at}
 use Rattle.fuse_answer.proofs.Lines.{before_later, lines_before, next_line, none_before}
 
 -- the row with an index is that of the child two places before it, and says the place after it
@@ -43,6 +44,37 @@ length-line_bytes stack true r =
 -- the rows that were written before an index
 abbrev pub written : {A : Type 0} → Stacked → Listing A → ℕ → List ℕ
 written stack l index = flat_map (line_bytes stack l.with_entries) (lines_before l index)
+
+-- up to a place the rows before an index are set, behind what stood
+pub record AreSet {A : Type 0} (stack : Stacked) (l : Listing A) (before now : List ℕ) (at index : ℕ) : Type 0 where
+  pub so_far : take at now ≡ before ++ written stack l index
+  pub place : at ≡ length before + length (written stack l index)
+
+-- a row of READDIRPLUS is as long as its name says
+pub row_length : {A : Type 0} (stack : Stacked) (l : Listing A) (index : ℕ) (r : NumberedLine) → slice_get (lines_of l) index ≡ Some r
+    → l.with_entries ≡ true → length (row_bytes_at stack l index) ≡ 128 + dirent_size (length r.1.name)
+row_length stack l index r is plus =
+    let row = ap (λ o. length (option_map_or (line_bytes stack l.with_entries) o [])) is in
+    let with_entry = ap (λ b. length (line_bytes stack b r)) plus in
+    let size = length-line_bytes stack true r in
+    omega arith
+
+-- the name of a row with zeros behind it, as a row is set from it
+pub padded_there : {A : Type 0} (l : Listing A) (index : ℕ) (r : NumberedLine) (padded : List ℕ) → slice_get (lines_of l) index ≡ Some r
+    → IsPaddedAt l index padded → padded ≡ r.1.name ++ zeros (22 - length r.1.name)
+unfolding zeros
+padded_there l index r padded is there =
+    (subst (λ o. IfSome o (λ r. (length r.1.name ≤ 22) × (padded ≡ r.1.name ++ replicate (22 - length r.1.name) 0))) is there).1
+
+-- a name that may stand with zeros behind it, of the row with an index
+pub padded_line : {A X : Type 0} (o : Option X) (now : X → List ℕ) (l : Listing A) (index : ℕ) (r : NumberedLine)
+    → slice_get (lines_of l) index ≡ Some r
+    → MatchOption o (22 < length r.1.name) (λ p. (length r.1.name ≤ 22)
+    × (now p ≡ r.1.name ++ replicate (22 - length r.1.name) 0))
+    → IfSome o (λ p. IsPaddedAt l index (now p))
+padded_line None now l index r is given = tt
+padded_line (Some p) now l index r is given =
+    subst (λ o. IfSome o (λ r. (length r.1.name ≤ 22) × (now p ≡ r.1.name ++ replicate (22 - length r.1.name) 0))) (sym is) given
 
 module _ {A : Type 0} (stack : Stacked) (l : Listing A) (whole : IsWhole stack l) where
   abbrev bytes_of : NumberedLine → List ℕ
@@ -100,11 +132,41 @@ module _ {A : Type 0} (stack : Stacked) (l : Listing A) (whole : IsWhole stack l
   abbrev pub IsSoFar : ℕ → List ℕ → ℕ → List ℕ → Type 0
   IsSoFar unique before index now = now ≡ before ++ (reply_head unique l.size ++ written stack l index)
 
-  -- after the header no row is written
-  pub head_first : (unique : ℕ) (before now : List ℕ) → now ≡ before ++ reply_head unique l.size → IsSoFar unique before l.from now
-  head_first unique before now is =
-      is ∙ ap (λ b. before ++ b) (sym (append-nil (reply_head unique l.size))
-      ∙ ap (λ ls. reply_head unique l.size ++ flat_map bytes_of ls) (sym (none_before l)))
+  -- behind the header those before an index are set
+  pub set_behind : (unique index : ℕ) (before head now : List ℕ) → head ≡ before ++ reply_head unique l.size
+      → now ≡ head ++ written stack l index → IsSoFar unique before index now
+  set_behind unique index before head now h is =
+      is ∙ ap (λ b. b ++ written stack l index) h ∙ append_assoc before (reply_head unique l.size) (written stack l index)
+
+  -- before the first row nothing is written
+  pub none_written : (before : List ℕ) → before ≡ before ++ written stack l l.from
+  none_written before = sym (append-nil before) ∙ ap (λ ls. before ++ flat_map bytes_of ls) (sym (none_before l))
+
+  -- at first none is
+  pub set_first : (before now : List ℕ) (at : ℕ) → at ≡ length before → take at now ≡ before → AreSet stack l before now at l.from
+  set_first before now at place is =
+      let none = ap (λ ls. length (flat_map bytes_of ls)) (none_before l) in
+      record { so_far = is ∙ none_written before; place = omega arith }
+
+  -- where the row with the index is set next, those before the next index are
+  pub set_next : (index : ℕ) (before now next : List ℕ) (at end : ℕ) → l.from ≤ index → index < l.until → AreSet stack l before now at index
+      → take end next ≡ take at now ++ row_bytes_at stack l index → end ≡ at + length (row_bytes_at stack l index)
+      → AreSet stack l before next end (index + 1)
+  set_next index before now next at end from until set is place =
+      let w = written stack l index in
+      let r = row_bytes_at stack l index in
+      let one = one_written index from until in
+      let len = ap length one in
+      let sum = length-append w r in
+      let old = set.place in
+      record {
+        so_far = is ∙ ap (λ b. b ++ r) set.so_far ∙ append_assoc before w r ∙ ap (λ b. before ++ b) (sym one);
+        place = omega arith;
+      }
+
+  -- no row is set behind the listing's size
+  pub set_few : (index : ℕ) (before now : List ℕ) (at : ℕ) → index ≤ l.until → AreSet stack l before now at index → at ≤ length before + l.size
+  set_few index before now at until set = let few = written_few index until in let place = set.place in omega arith
 
   -- where a row is appended after those before it, those before the next one are written
   pub row_next : (unique index : ℕ) (before now next : List ℕ) → l.from ≤ index → index < l.until

@@ -1,5 +1,5 @@
 -- Rows of a directory as a table gives them.
-use Rattle.std.specs.Prelude.{◌≡◌, ℕ, ◌+◌, ◌-◌, ◌/◌, ◌^◌, ◌≤◌, ◌<◌, ◌==◌, ◌&&◌, min, MatchOption, length, List, [], ◌∷◌, map, take, drop, filter, Bool, nat_lt, nat_le, slice_get, Option, Some, None, pos, codes, if◌then◌else◌}
+use Rattle.std.specs.Prelude.{◌≡◌, ℕ, ◌+◌, ◌-◌, ◌/◌, ◌^◌, ◌≤◌, ◌<◌, ◌==◌, ◌&&◌, min, MatchOption, IfSome, length, List, [], ◌∷◌, ◌++◌, replicate, map, take, drop, filter, Bool, nat_lt, nat_le, slice_get, Option, Some, None, pos, codes, if◌then◌else◌}
 use Rattle.std.specs.List.{enumerate_from, flat_map}
 use Rattle.std.specs.Option.{option_map_or}
 use Rattle.fuse_wire.specs.declared.limits.TheConstants.{MAX_DATA_SIZE}
@@ -33,6 +33,12 @@ abbrev pub IsLineAt : {A : Type 0} → Listing A → ℕ → ℕ → List ℕ �
 IsLineAt l index number name =
     slice_get (lines_of l) index ≡ Some (index + 1, record { number = number; name = name })
 
+-- these are the bytes of the name of the row with an index, and zeros up to 22
+abbrev pub IsPaddedAt : {A : Type 0} → Listing A → ℕ → List ℕ → Type 0
+IsPaddedAt l index padded =
+    IfSome (slice_get (lines_of l) index) (λ r. (length r.1.name ≤ 22)
+    × (padded ≡ r.1.name ++ replicate (22 - length r.1.name) 0))
+
 -- those that it answers
 abbrev pub lines_answered : {A : Type 0} → Listing A → List NumberedLine
 lines_answered l = take (l.until - l.from) (drop l.from (lines_of l))
@@ -62,6 +68,11 @@ row_given l index = option_map_or (λ r. lines_given (r ∷ [])) (slice_get (lin
 abbrev pub row_bytes_at : {A : Type 0} → Stacked → Listing A → ℕ → List ℕ
 row_bytes_at stack l index =
     option_map_or (line_bytes stack l.with_entries) (slice_get (lines_of l) index) []
+
+-- the bytes of the rows of a listing before an index
+abbrev pub bytes_before : {A : Type 0} → Stacked → Listing A → ℕ → List ℕ
+bytes_before stack l index =
+    flat_map (line_bytes stack l.with_entries) (take (index - l.from) (drop l.from (lines_of l)))
 
 -- the bytes of the rows that a listing answers
 abbrev pub listed_data : {A : Type 0} → Stacked → Listing A → List ℕ

@@ -1,16 +1,28 @@
 //! Rows of a directory as bytes, one after another.
 
-ghost use Rattle.std.specs.Prelude.{◌≡◌, ◌≤◌, ◌<◌, ◌+◌, ◌/◌, ◌^◌, length, None, nat_lt, if◌then◌else◌};
+ghost use Rattle.std.specs.Prelude.{◌≡◌, ◌≤◌, ◌<◌, ◌+◌, ◌/◌, ◌^◌, ◌++◌, length, take, true, None, nat_lt, if◌then◌else◌, vec_len, vec_capacity, MatchOption, IfSome};
 ghost use Rattle.std.specs.Option.{option_map_or};
 ghost use Rattle.fuse_wire.specs.Replies.{reply_with};
-ghost use Rattle.fuse_answer.specs.Listings.{IsWhole, IsLineAt, listed_data, row_bytes_at};
+ghost use Rattle.fuse_wire.specs.declared.put.TheConstants.{SHORT_ROW_SIZE};
+ghost use Rattle.stack_table.specs.Readers.{attr_at};
+ghost use Rattle.fuse_answer.specs.Listings.{IsWhole, IsLineAt, IsPaddedAt, bytes_before, listed_data, row_bytes_at, type_at};
 ghost use Rattle.fuse_answer.specs.Puts.{Puts};
 
 use crate::listing::Listing;
 use fuse_wire::limits::OUT_HEADER_SIZE;
-use fuse_wire::{Attr, Dirent, put_data_head, put_dirent, put_direntplus};
+use fuse_wire::{
+    Attr, Dirent, SHORT_ROW_SIZE, put_data_head, put_dirent, put_direntplus, set_direntplus,
+};
 use stack_table::Table;
 use std::alloc::{AllocError, Allocator};
+
+/// Zeros over which rows are set.
+const ZEROS: [u8; 1024] = [0; 1024];
+
+/// The names of the first two rows, with zeros behind them.
+const DOT: &[u8; 22] = b".\0\0\0\0\0\0\0\0\0\0\0\0\0\0\0\0\0\0\0\0\0";
+
+const DOTS: &[u8; 22] = b"..\0\0\0\0\0\0\0\0\0\0\0\0\0\0\0\0\0\0\0\0";
 
 /// Appends the reply with a directory's rows, in one growth: once there is room for it, nothing
 /// fails.
@@ -26,10 +38,86 @@ pub(crate) fn put_rows<A: Allocator, O: Allocator>(
 {
     out.reserve(OUT_HEADER_SIZE + rows.size)?;
     put_data_head(out, unique, rows.size)?;
-    for index in rows.from..rows.until {
+    let set = set_rows(table, rows, out);
+    for index in set..rows.until {
         put_row(table, rows, index, out)?;
     }
     Ok(())
+}
+
+// Sets the first rows of READDIRPLUS over zeros, up to one with a long name, and returns the index
+// of the next one; none where there is no room for more zeros than all rows take.
+#[inline(always)]
+fn set_rows<A: Allocator, O: Allocator>(
+    table: &Table<A>,
+    rows: &Listing<'_, A>,
+    out: &mut Vec<u8, O>,
+) -> usize
+    requires { IsWhole table.now rows.now }
+    ensures from { rows.now.from ≤ result }
+    ensures until { result ≤ rows.now.until }
+    ensures items { out.new.items ≡ out.old.items ++ bytes_before table.now rows.now result }
+    ensures capacity { vec_capacity out.old ≤ vec_capacity out.new }
+{
+    let zeros = rows.size + SHORT_ROW_SIZE;
+    if !rows.with_entries || out.capacity() - out.len() < zeros {
+        return rows.from;
+    }
+    let mut at = out.len();
+    put_zeros(out, zeros);
+    for index in rows.from..rows.until {
+        match set_row(table, rows, index, out, at) {
+            Some(end) => at = end,
+            None => {
+                out.truncate(at);
+                return index;
+            }
+        }
+    }
+    out.truncate(at);
+    rows.until
+}
+
+// Appends so many bytes, where there is room for them.
+fn put_zeros<O: Allocator>(out: &mut Vec<u8, O>, count: usize)
+    requires { vec_len out.old + count ≤ vec_capacity out.old }
+    ensures before { take (vec_len out.old) out.new.items ≡ out.old.items }
+    ensures size { vec_len out.new ≡ vec_len out.old + count }
+    ensures capacity { vec_capacity out.old ≤ vec_capacity out.new }
+{
+    let mut left = count;
+    while left > ZEROS.len() {
+        let _ = out.extend_from_slice(&ZEROS);
+        left -= ZEROS.len();
+    }
+    let _ = out.extend_from_slice(&ZEROS[..left]);
+}
+
+// Sets the row of READDIRPLUS with this index at a place, and returns its end; none where its name
+// is long.
+#[inline(always)]
+fn set_row<A: Allocator, O: Allocator>(
+    table: &Table<A>,
+    rows: &Listing<'_, A>,
+    index: usize,
+    out: &mut Vec<u8, O>,
+    at: usize,
+) -> Option<usize>
+    requires until { index < rows.now.until }
+    requires there { rows.now.until ≤ 2 + length rows.now.children.now }
+    requires entries { rows.now.with_entries ≡ true }
+    requires room { at + SHORT_ROW_SIZE ≤ vec_len out.old }
+    ensures row { MatchOption result (out.new.items ≡ out.old.items)
+        (λ end. take end out.new.items
+        ≡ take at out.old.items ++ row_bytes_at table.now rows.now index) }
+    ensures end { IfSome result (λ end.
+        end ≡ at + length (row_bytes_at table.now rows.now index)) }
+    ensures size { vec_len out.new ≡ vec_len out.old }
+    ensures capacity { vec_capacity out.old ≤ vec_capacity out.new }
+{
+    let padded = padded_at(rows, index)?;
+    let (row, entry) = row_at(table, rows, index);
+    Some(set_direntplus(out.as_mut_slice(), at, entry.as_ref(), &row, padded))
 }
 
 // Appends the row with this index.
@@ -44,6 +132,29 @@ fn put_row<A: Allocator, O: Allocator>(
     requires until { index < rows.now.until }
     ensures { Puts result out.old out.new (row_bytes_at table.now rows.now index) }
 {
+    let (row, entry) = row_at(table, rows, index);
+    if rows.with_entries {
+        put_direntplus(out, entry.as_ref(), &row)
+    } else {
+        put_dirent(out, &row)
+    }
+}
+
+// The row with this index, and its entry.
+#[inline(always)]
+fn row_at<'a, A: Allocator>(
+    table: &Table<A>,
+    rows: &Listing<'a, A>,
+    index: usize,
+) -> (Dirent<'a>, Option<Attr>)
+    requires until { index < rows.now.until }
+    requires there { rows.now.until ≤ 2 + length rows.now.children.now }
+    ensures line { IsLineAt rows.now index result.0.ino result.0.name.now }
+    ensures place { result.0.off ≡ index + 1 }
+    ensures kind { result.0.file_type ≡ type_at table.now result.0.ino }
+    ensures entry { result.1
+        ≡ (if nat_lt 2 (index + 1) then attr_at table.now result.0.ino else None) }
+{
     let (ino, name) = line_at(rows, index);
     let attr = table.attr(ino);
     let row = Dirent {
@@ -52,11 +163,23 @@ fn put_row<A: Allocator, O: Allocator>(
         file_type: file_type(attr),
         name,
     };
-    if rows.with_entries {
-        let entry = entry_of(row.off, attr);
-        put_direntplus(out, entry.as_ref(), &row)
-    } else {
-        put_dirent(out, &row)
+    let entry = entry_of(row.off, attr);
+    (row, entry)
+}
+
+// The name of the row with this index, with zeros behind it, where it is short.
+#[inline(always)]
+fn padded_at<'a, A: Allocator>(rows: &Listing<'a, A>, index: usize) -> Option<&'a [u8; 22]>
+    requires { index < 2 + length rows.now.children.now }
+    ensures { IfSome result (λ padded. IsPaddedAt rows.now index padded.now) }
+{
+    match index {
+        0 => Some(DOT),
+        1 => Some(DOTS),
+        _ => {
+            let row = &rows.children[index - 2];
+            row.padded_name()
+        }
     }
 }
 

@@ -135,8 +135,8 @@ pub ruleset sizes = (
 )
 
 -- the parts of a row of READDIRPLUS, as they are put one after another, are its bytes
-pub plus_row_is : (entry : Option Attr) (row : Dirent) (head front : List ℕ)
-    → head ≡ option_map_or entry_out entry (zeros 128) → front ≡ head ++ row_front row
-    → front ++ row.name.now ++ padding (length row.name.now) ≡ plus_row_bytes entry row
+pub plus_row_is : (entry : Option Attr) (row : Dirent) (before head front : List ℕ)
+    → head ≡ before ++ option_map_or entry_out entry (zeros 128) → front ≡ head ++ row_front row
+    → front ++ row.name.now ++ padding (length row.name.now) ≡ before ++ plus_row_bytes entry row
 unfolding dirent direntplus
-plus_row_is entry row head front h f = rw (f, h) grind (arith, append_assoc)
+plus_row_is entry row before head front h f = rw (f, h) grind (arith, append_assoc)

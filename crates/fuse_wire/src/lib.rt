@@ -8,7 +8,8 @@
 //!   [`put_negative_entry`], [`put_attr`], [`put_open`] and [`put_statfs`] append a whole reply
 //!   each.
 //! - A READDIR's reply is written row by row: [`put_data_head`], then [`put_dirent`] or
-//!   [`put_direntplus`] for each row. [`dirent_size`] says how long a row will be.
+//!   [`put_direntplus`] for each row. [`dirent_size`] says how long a row will be, and
+//!   [`set_direntplus`] sets a row with a short name over bytes that stand already.
 //!
 //! What the calls promise is said by definitions that restate the protocol, in `specs/`: how a
 //! stream is cut into messages (`Stream`, `Frames`), what a message asks (`Requests`, `Reads`), and
@@ -18,10 +19,10 @@
 //! [`examples`] lists what each opcode asks.
 //!
 //! Framing and reading take no memory, and a few steps for each byte at most; names and items are
-//! borrowed from their message. A writer puts its fields together on the stack and asks for memory
-//! at most once, for the growth of the vector; where it is refused the vector is as before, and
-//! where the vector has the room no writer fails. The crate stands on `node_attr`, `byteorder`
-//! and `memchr` alone.
+//! borrowed from their message. What appends a reply or a row puts its fields together on the stack
+//! and asks for memory at most once, for the growth of the vector; where it is refused the vector
+//! is as before, and where the vector has the room nothing fails. The crate stands on `node_attr`,
+//! `byteorder` and `memchr` alone.
 #![tactic(auto)]
 
 mod body;
@@ -44,8 +45,9 @@ pub use forget::{Forget, Forgets};
 pub use framing::{Framed, frame};
 pub use node_attr::Attr;
 pub use put::{
-    dirent_size, put_attr, put_data, put_data_head, put_dirent, put_direntplus, put_entry,
-    put_error, put_head, put_init, put_negative_entry, put_open, put_statfs,
+    SHORT_ROW_SIZE, dirent_size, put_attr, put_data, put_data_head, put_dirent, put_direntplus,
+    put_entry, put_error, put_head, put_init, put_negative_entry, put_open, put_statfs,
+    set_direntplus,
 };
 pub use reply::{Dirent, InitOut};
 pub use request::{Op, Request, glance};

@@ -2,14 +2,15 @@
 //! for them and gets none, it is as before.
 #![tactic(auto, unfolding(crate::specs::Replies::reply_with), using(crate::proofs::Sizes::sizes))]
 
-ghost use Rattle.std.specs.Prelude.{◌≡◌, ◌++◌, ◌<◌, ◌≤◌, ◌+◌, ◌-◌, ◌^◌, [], None, length, vec_len, vec_capacity};
-ghost use Rattle.std.specs.Option.{option_copied};
+ghost use Rattle.std.specs.Prelude.{◌≡◌, ◌++◌, ◌<◌, ◌≤◌, ◌+◌, ◌-◌, ◌^◌, [], length, take, vec_len, vec_capacity};
+ghost use Rattle.std.specs.Option.{option_copied, option_map_or};
 ghost use Rattle.fuse_wire.specs.Structures.{zeros, init_out, entry_out, negative_entry_out, attr_out, open_out, statfs_out, dirent_size, padding, row_bytes, plus_row_bytes};
 ghost use Rattle.fuse_wire.specs.Replies.{reply_head, reply_with, error_reply};
 ghost use Rattle.fuse_wire.specs.Appends.{Appends};
-ghost use Rattle.fuse_wire.specs.declared.put.TheConstants.{DIRENT_FRONT_SIZE};
+ghost use Rattle.fuse_wire.specs.declared.put.TheConstants.{DIRENT_FRONT_SIZE, SHORT_ROW_SIZE};
 
-use crate::structure::Structure;
+use crate::limits::OUT_HEADER_SIZE;
+use crate::structure::{set_bytes, set_zeros};
 use crate::structures::{
     ATTR_OUT_SIZE, COMPAT_22_INIT_OUT_SIZE, ENTRY_OUT_SIZE, INIT_OUT_SIZE, OPEN_OUT_SIZE,
     STATFS_OUT_SIZE, attr_out, dirent_front, entry_out, error_head, head, init_out,
@@ -20,6 +21,10 @@ use std::alloc::{AllocError, Allocator};
 
 /// The size of a `struct fuse_dirent` before its name.
 const DIRENT_FRONT_SIZE: usize = 24;
+
+/// The bytes over which a row with a short name is set: the entry, the front, and the name with
+/// zeros behind it.
+pub const SHORT_ROW_SIZE: usize = 176;
 
 /// What stands behind a name, up to a multiple of 8 bytes: fewer than these.
 const PADDING: [u8; 8] = [0; 8];
@@ -41,9 +46,9 @@ pub fn put_data_head<A: Allocator>(
     requires { 16 + size < 2 ^ 32 }
     ensures { Appends result out.old out.new (reply_head unique size) }
 {
-    let mut reply = Structure::new();
-    head(&mut reply, unique, size);
-    out.extend_from_slice(reply.as_slice())
+    let mut reply = [0; OUT_HEADER_SIZE];
+    let end = head(&mut reply, 0, unique, size);
+    out.extend_from_slice(&reply[..end])
 }
 
 /// Appends the reply of an error: a `struct fuse_out_header` of 16 bytes alone, with the negated
@@ -55,9 +60,9 @@ pub fn put_error<A: Allocator>(
 ) -> Result<(), AllocError>
     ensures { Appends result out.old out.new (error_reply unique errno) }
 {
-    let mut reply = Structure::new();
-    error_head(&mut reply, unique, errno);
-    out.extend_from_slice(reply.as_slice())
+    let mut reply = [0; OUT_HEADER_SIZE];
+    let end = error_head(&mut reply, 0, unique, errno);
+    out.extend_from_slice(&reply[..end])
 }
 
 /// Appends a reply with these bytes of data behind its header, in one growth.
@@ -69,9 +74,9 @@ pub fn put_data<A: Allocator>(
     requires { 16 + length bytes.now < 2 ^ 32 }
     ensures { Appends result out.old out.new (reply_with unique bytes.now) }
 {
-    let mut reply = Structure::new();
-    head(&mut reply, unique, bytes.len());
-    put_three(out, reply.as_slice(), bytes, &[])
+    let mut reply = [0; OUT_HEADER_SIZE];
+    let end = head(&mut reply, 0, unique, bytes.len());
+    put_three(out, &reply[..end], bytes, &[])
 }
 
 /// Appends the reply to an INIT that is not refused (`struct fuse_init_out`): 80 bytes, or 40 where
@@ -83,10 +88,10 @@ pub fn put_init<A: Allocator>(
 ) -> Result<(), AllocError>
     ensures { Appends result out.old out.new (reply_with unique (init_out init.now)) }
 {
-    let mut reply = Structure::new();
-    head(&mut reply, unique, init_out_size(init));
-    init_out(&mut reply, init);
-    out.extend_from_slice(reply.as_slice())
+    let mut reply = [0; OUT_HEADER_SIZE + INIT_OUT_SIZE];
+    let at = head(&mut reply, 0, unique, init_out_size(init));
+    let end = init_out(&mut reply, at, init);
+    out.extend_from_slice(&reply[..end])
 }
 
 // The size of the answer to an INIT.
@@ -108,10 +113,10 @@ pub fn put_entry<A: Allocator>(
 ) -> Result<(), AllocError>
     ensures { Appends result out.old out.new (reply_with unique (entry_out node.now)) }
 {
-    let mut reply = Structure::new();
-    head(&mut reply, unique, ENTRY_OUT_SIZE);
-    entry_out(&mut reply, node);
-    out.extend_from_slice(reply.as_slice())
+    let mut reply = [0; OUT_HEADER_SIZE + ENTRY_OUT_SIZE];
+    let at = head(&mut reply, 0, unique, ENTRY_OUT_SIZE);
+    let end = entry_out(&mut reply, at, node);
+    out.extend_from_slice(&reply[..end])
 }
 
 /// Appends the reply that a name is none, of 144 bytes (`struct fuse_entry_out`, with a nodeid of
@@ -119,10 +124,10 @@ pub fn put_entry<A: Allocator>(
 pub fn put_negative_entry<A: Allocator>(out: &mut Vec<u8, A>, unique: u64) -> Result<(), AllocError>
     ensures { Appends result out.old out.new (reply_with unique negative_entry_out) }
 {
-    let mut reply = Structure::new();
-    head(&mut reply, unique, ENTRY_OUT_SIZE);
-    negative_entry_out(&mut reply);
-    out.extend_from_slice(reply.as_slice())
+    let mut reply = [0; OUT_HEADER_SIZE + ENTRY_OUT_SIZE];
+    let at = head(&mut reply, 0, unique, ENTRY_OUT_SIZE);
+    let end = negative_entry_out(&mut reply, at);
+    out.extend_from_slice(&reply[..end])
 }
 
 /// Appends the reply with a node's attributes, of 120 bytes (`struct fuse_attr_out`).
@@ -133,10 +138,10 @@ pub fn put_attr<A: Allocator>(
 ) -> Result<(), AllocError>
     ensures { Appends result out.old out.new (reply_with unique (attr_out node.now)) }
 {
-    let mut reply = Structure::new();
-    head(&mut reply, unique, ATTR_OUT_SIZE);
-    attr_out(&mut reply, node);
-    out.extend_from_slice(reply.as_slice())
+    let mut reply = [0; OUT_HEADER_SIZE + ATTR_OUT_SIZE];
+    let at = head(&mut reply, 0, unique, ATTR_OUT_SIZE);
+    let end = attr_out(&mut reply, at, node);
+    out.extend_from_slice(&reply[..end])
 }
 
 /// Appends the reply to an OPEN or OPENDIR, of 32 bytes (`struct fuse_open_out`), with handle 0 and
@@ -149,10 +154,10 @@ pub fn put_open<A: Allocator>(
 ) -> Result<(), AllocError>
     ensures { Appends result out.old out.new (reply_with unique (open_out open_flags)) }
 {
-    let mut reply = Structure::new();
-    head(&mut reply, unique, OPEN_OUT_SIZE);
-    open_out(&mut reply, open_flags);
-    out.extend_from_slice(reply.as_slice())
+    let mut reply = [0; OUT_HEADER_SIZE + OPEN_OUT_SIZE];
+    let at = head(&mut reply, 0, unique, OPEN_OUT_SIZE);
+    let end = open_out(&mut reply, at, open_flags);
+    out.extend_from_slice(&reply[..end])
 }
 
 /// Appends the reply to a STATFS, of 96 bytes (`struct fuse_statfs_out`): all blocks of 512 bytes,
@@ -165,10 +170,10 @@ pub fn put_statfs<A: Allocator>(
 ) -> Result<(), AllocError>
     ensures { Appends result out.old out.new (reply_with unique (statfs_out blocks files)) }
 {
-    let mut reply = Structure::new();
-    head(&mut reply, unique, STATFS_OUT_SIZE);
-    statfs_out(&mut reply, blocks, files);
-    out.extend_from_slice(reply.as_slice())
+    let mut reply = [0; OUT_HEADER_SIZE + STATFS_OUT_SIZE];
+    let at = head(&mut reply, 0, unique, STATFS_OUT_SIZE);
+    let end = statfs_out(&mut reply, at, blocks, files);
+    out.extend_from_slice(&reply[..end])
 }
 
 /// The bytes of a row of READDIR whose name has this many bytes (`FUSE_DIRENT_SIZE`), a multiple of
@@ -189,9 +194,9 @@ pub fn put_dirent<A: Allocator>(out: &mut Vec<u8, A>, row: &Dirent<'_>) -> Resul
     requires { length row.now.name.now < 2 ^ 32 }
     ensures { Appends result out.old out.new (row_bytes row.now) }
 {
-    let mut front = Structure::new();
-    dirent_front(&mut front, row);
-    put_row(out, &front, row.name)
+    let mut front = [0; DIRENT_FRONT_SIZE];
+    let end = dirent_front(&mut front, 0, row);
+    put_row(out, &front[..end], row.name)
 }
 
 /// Appends a row of READDIRPLUS (`struct fuse_direntplus`): the node's entry, or 128 zeros for `.`
@@ -205,40 +210,63 @@ pub fn put_direntplus<A: Allocator>(
     requires { length row.now.name.now < 2 ^ 32 }
     ensures { Appends result out.old out.new (plus_row_bytes (option_copied entry.entry) row.now) }
 {
-    let Some(node) = entry else {
-        return put_bare(out, *row);
-    };
-    let mut front = Structure::new();
-    entry_out(&mut front, node);
-    dirent_front(&mut front, row);
-    put_row(out, &front, row.name)
+    let mut front = [0; ENTRY_OUT_SIZE + DIRENT_FRONT_SIZE];
+    let at = entry_or_zeros(&mut front, 0, entry);
+    let end = dirent_front(&mut front, at, row);
+    put_row(out, &front[..end], row.name)
 }
 
-// Appends a row of READDIRPLUS that has no entry. Few have none, so this stands apart from the loop
-// over rows.
-#[inline(never)]
-fn put_bare<A: Allocator>(out: &mut Vec<u8, A>, row: Dirent<'_>) -> Result<(), AllocError>
-    requires { length row.name.now < 2 ^ 32 }
-    ensures { Appends result out.old out.new (plus_row_bytes None row.entry) }
+/// Sets a row of READDIRPLUS over bytes that stand already, from a place on, and returns where it
+/// ends. Its name has at most 22 bytes, and comes also with zeros behind it, up to 22; of the
+/// [`SHORT_ROW_SIZE`] bytes that are set those behind the end say nothing.
+#[tactic(auto, unfolding(crate::specs::Structures::dirent), using(crate::proofs::Sizes::sizes))]
+#[inline(always)]
+pub fn set_direntplus(
+    bytes: &mut [u8],
+    at: usize,
+    entry: Option<&Attr>,
+    row: &Dirent<'_>,
+    padded: &[u8; 22],
+) -> usize
+    requires room { at + SHORT_ROW_SIZE ≤ length bytes.old }
+    requires short { length row.now.name.now ≤ 22 }
+    requires padded { padded.now ≡ row.now.name.now ++ zeros (22 - length row.now.name.now) }
+    ensures row { take result bytes.new
+        ≡ take at bytes.old ++ plus_row_bytes (option_copied entry.entry) row.now }
+    ensures size { length bytes.new ≡ length bytes.old }
+    ensures end { result ≡ at + (128 + dirent_size (length row.now.name.now)) }
 {
-    let mut front = Structure::new();
-    front.zeros::<ENTRY_OUT_SIZE>();
-    dirent_front(&mut front, &row);
-    put_row(out, &front, row.name)
+    let at = entry_or_zeros(bytes, at, entry);
+    let end = at + dirent_size(row.name.len());
+    let at = dirent_front(bytes, at, row);
+    let at = set_bytes(bytes, at, padded);
+    let _ = set_zeros::<2>(bytes, at);
+    end
+}
+
+// The entry of a row of READDIRPLUS, or zeros.
+#[inline(always)]
+fn entry_or_zeros(fields: &mut [u8], at: usize, entry: Option<&Attr>) -> usize
+    requires { at + 128 ≤ length fields.old }
+    ensures fields { take result fields.new
+        ≡ take at fields.old ++ option_map_or entry_out (option_copied entry.entry) (zeros 128) }
+    ensures size { length fields.new ≡ length fields.old }
+    ensures end { result ≡ at + 128 }
+{
+    match entry {
+        Some(node) => entry_out(fields, at, node),
+        None => set_zeros::<ENTRY_OUT_SIZE>(fields, at),
+    }
 }
 
 // Appends the front of a row, its name, and zeros.
 #[tactic(auto, using(crate::proofs::Padding::padding_is))]
 #[inline(always)]
-fn put_row<A: Allocator>(
-    out: &mut Vec<u8, A>,
-    front: &Structure,
-    name: &[u8],
-) -> Result<(), AllocError>
-    requires { length name.now < 2 ^ 32 }
+fn put_row<A: Allocator>(out: &mut Vec<u8, A>, front: &[u8], name: &[u8]) -> Result<(), AllocError>
+    requires front { length front.now ≤ 152 }
+    requires name { length name.now < 2 ^ 32 }
     ensures { Appends result out.old out.new (front.now ++ name.now ++ padding (length name.now)) }
 {
-    let front = front.as_slice();
     let padding = padding(name.len());
     if out.capacity() - out.len() < front.len() + name.len() + PADDING.len() {
         return put_three(out, front, name, &PADDING[..padding]);

@@ -1,98 +1,67 @@
-//! A structure that is put together field by field, in the order of its declaration. Numbers are
-//! little-endian.
+//! Fields that are set over bytes that stand already, from a place on. Each function returns the
+//! place behind its field: to a contract the bytes before it are those before the field, and the
+//! field. Numbers are little-endian.
 
-ghost use Rattle.std.specs.Prelude.{◌≡◌, ◌+◌, ◌≤◌, ◌++◌, [], ℕ, List, length, take};
-ghost use Rattle.fuse_wire.specs.declared.structure.TheConstants.{ROOM};
+ghost use Rattle.std.specs.Prelude.{◌≡◌, ◌+◌, ◌≤◌, ◌++◌, length, take};
 ghost use Rattle.fuse_wire.specs.Structures.{u16, u32, u64, zeros};
 
-use std::marker::Model;
-
-/// The most bytes that stand together: a `struct fuse_entry_out` with a `struct fuse_dirent` up to
-/// its name.
-pub const ROOM: usize = 152;
-
-/// The fields so far, side by side: to a contract their bytes.
-#[derive(Drop)]
-pub struct Structure {
-    bytes: [u8; ROOM],
-    len: usize,
+// A number of 16 bits.
+#[tactic(auto, unfolding(crate::specs::Structures::u16))]
+#[inline(always)]
+pub fn set_u16(fields: &mut [u8], at: usize, number: u16) -> usize
+    requires { at + 2 ≤ length fields.old }
+    ensures fields { take result fields.new ≡ take at fields.old ++ u16 number }
+    ensures size { length fields.new ≡ length fields.old }
+    ensures end { result ≡ at + 2 }
+{
+    set_bytes(fields, at, &number.to_le_bytes())
 }
 
-impl Model for Structure {
-    ghost Value = { List ℕ };
-
-    ghost view = { λ s. take s.len s.bytes };
-
-    ghost invariant = { λ s. s.len ≤ ROOM };
+// A number of 32 bits.
+#[tactic(auto, unfolding(crate::specs::Structures::u32))]
+#[inline(always)]
+pub fn set_u32(fields: &mut [u8], at: usize, number: u32) -> usize
+    requires { at + 4 ≤ length fields.old }
+    ensures fields { take result fields.new ≡ take at fields.old ++ u32 number }
+    ensures size { length fields.new ≡ length fields.old }
+    ensures end { result ≡ at + 4 }
+{
+    set_bytes(fields, at, &number.to_le_bytes())
 }
 
-impl Structure {
-    // No fields yet.
-    pub fn new() -> Self
-        ensures { result ≡ [] }
-    {
-        Structure {
-            bytes: [0; ROOM],
-            len: 0,
-        }
-    }
+// A number of 64 bits.
+#[tactic(auto, unfolding(crate::specs::Structures::u64))]
+#[inline(always)]
+pub fn set_u64(fields: &mut [u8], at: usize, number: u64) -> usize
+    requires { at + 8 ≤ length fields.old }
+    ensures fields { take result fields.new ≡ take at fields.old ++ u64 number }
+    ensures size { length fields.new ≡ length fields.old }
+    ensures end { result ≡ at + 8 }
+{
+    set_bytes(fields, at, &number.to_le_bytes())
+}
 
-    // A number of 16 bits.
-    #[tactic(auto, unfolding(crate::specs::Structures::u16))]
-    pub fn u16(&mut self, number: u16)
-        requires { length self.old + 2 ≤ ROOM }
-        ensures fields { self.new ≡ self.old ++ u16 number }
-        ensures len { length self.new ≡ length self.old + 2 }
-    {
-        self.bytes(&number.to_le_bytes());
-    }
+// Fields that are not used.
+#[tactic(auto, unfolding(crate::specs::Structures::zeros))]
+#[inline(always)]
+pub fn set_zeros<const N: usize>(fields: &mut [u8], at: usize) -> usize
+    requires { at + N ≤ length fields.old }
+    ensures fields { take result fields.new ≡ take at fields.old ++ zeros N }
+    ensures size { length fields.new ≡ length fields.old }
+    ensures end { result ≡ at + N }
+{
+    set_bytes(fields, at, &[0; N])
+}
 
-    // A number of 32 bits.
-    #[tactic(auto, unfolding(crate::specs::Structures::u32))]
-    pub fn u32(&mut self, number: u32)
-        requires { length self.old + 4 ≤ ROOM }
-        ensures fields { self.new ≡ self.old ++ u32 number }
-        ensures len { length self.new ≡ length self.old + 4 }
-    {
-        self.bytes(&number.to_le_bytes());
-    }
-
-    // A number of 64 bits.
-    #[tactic(auto, unfolding(crate::specs::Structures::u64))]
-    pub fn u64(&mut self, number: u64)
-        requires { length self.old + 8 ≤ ROOM }
-        ensures fields { self.new ≡ self.old ++ u64 number }
-        ensures len { length self.new ≡ length self.old + 8 }
-    {
-        self.bytes(&number.to_le_bytes());
-    }
-
-    // Fields that are not used.
-    #[tactic(auto, unfolding(crate::specs::Structures::zeros))]
-    pub fn zeros<const N: usize>(&mut self)
-        requires { length self.old + N ≤ ROOM }
-        ensures fields { self.new ≡ self.old ++ zeros N }
-        ensures len { length self.new ≡ length self.old + N }
-    {
-        self.bytes(&[0; N]);
-    }
-
-    // Bytes of other fields.
-    pub fn bytes(&mut self, bytes: &[u8])
-        requires { length self.old + length bytes.now ≤ ROOM }
-        ensures fields { self.new ≡ self.old ++ bytes.now }
-        ensures len { length self.new ≡ length self.old + length bytes.now }
-    {
-        let end = self.len + bytes.len();
-        self.bytes[self.len..end].copy_from_slice(bytes);
-        self.len = end;
-    }
-
-    // All bytes so far.
-    pub fn as_slice(&self) -> &[u8]
-        ensures fields { result.now ≡ self.now }
-        ensures most { length result.now ≤ ROOM }
-    {
-        &self.bytes[..self.len]
-    }
+// Bytes of other fields.
+#[inline(always)]
+pub fn set_bytes(fields: &mut [u8], at: usize, bytes: &[u8]) -> usize
+    requires { at + length bytes.now ≤ length fields.old }
+    ensures fields { take result fields.new ≡ take at fields.old ++ bytes.now }
+    ensures size { length fields.new ≡ length fields.old }
+    ensures end { result ≡ at + length bytes.now }
+{
+    let end = at + bytes.len();
+    fields[at..end].copy_from_slice(bytes);
+    end
 }

@@ -1,13 +1,12 @@
-//! The structures of replies (linux/fuse.h), each put behind the fields that stand already, field
-//! by field in its order.
+//! The structures of replies (linux/fuse.h), each set over bytes that stand already, from a place
+//! on, field by field in its order. Each function returns the place behind it.
 
-ghost use Rattle.std.specs.Prelude.{◌≡◌, ◌++◌, ◌<◌, ◌≤◌, ◌+◌, ◌^◌, length};
-ghost use Rattle.fuse_wire.specs.declared.structure.TheConstants.{ROOM};
+ghost use Rattle.std.specs.Prelude.{◌≡◌, ◌++◌, ◌<◌, ◌≤◌, ◌+◌, ◌^◌, length, take};
 ghost use Rattle.fuse_wire.specs.Structures.{init_out, init_out_22, init_out_rest, max_pages, served_flags, attr, entry_out, negative_entry_out, attr_out, open_out, statfs_out, row_front};
 ghost use Rattle.fuse_wire.specs.Replies.{reply_head, error_reply};
 
 use crate::limits::{MAX_NAME_SIZE, MAX_READAHEAD, MAX_WRITE, OUT_HEADER_SIZE};
-use crate::structure::Structure;
+use crate::structure::{set_u16, set_u32, set_u64, set_zeros};
 use crate::{Attr, Dirent, Errno, InitOut, flags};
 
 /// The size of a `struct fuse_init_out`.
@@ -67,39 +66,44 @@ const STATFS_BLOCK_SIZE: u32 = 512;
 
 // `struct fuse_out_header` of a reply without an error and with `size` bytes of data.
 #[tactic(auto, unfolding(crate::specs::Replies::reply_head))]
-pub fn head(fields: &mut Structure, unique: u64, size: usize)
-    requires room { length fields.old + 16 ≤ ROOM }
+pub fn head(fields: &mut [u8], at: usize, unique: u64, size: usize) -> usize
+    requires room { at + 16 ≤ length fields.old }
     requires size { 16 + size < 2 ^ 32 }
-    ensures fields { fields.new ≡ fields.old ++ reply_head unique size }
-    ensures len { length fields.new ≡ length fields.old + 16 }
+    ensures fields { take result fields.new ≡ take at fields.old ++ reply_head unique size }
+    ensures size { length fields.new ≡ length fields.old }
+    ensures end { result ≡ at + 16 }
 {
-    fields.u32((OUT_HEADER_SIZE + size) as u32); // len
-    fields.u32(0); // error
-    fields.u64(unique);
+    let at = set_u32(fields, at, (OUT_HEADER_SIZE + size) as u32); // len
+    let at = set_u32(fields, at, 0); // error
+    set_u64(fields, at, unique)
 }
 
 // The same of a reply with an error.
 #[tactic(auto, unfolding(crate::specs::Replies::error_reply))]
-pub fn error_head(fields: &mut Structure, unique: u64, errno: Errno)
-    requires { length fields.old + 16 ≤ ROOM }
-    ensures { fields.new ≡ fields.old ++ error_reply unique errno }
+pub fn error_head(fields: &mut [u8], at: usize, unique: u64, errno: Errno) -> usize
+    requires { at + 16 ≤ length fields.old }
+    ensures fields { take result fields.new ≡ take at fields.old ++ error_reply unique errno }
+    ensures size { length fields.new ≡ length fields.old }
+    ensures end { result ≡ at + 16 }
 {
-    fields.u32(OUT_HEADER_SIZE as u32); // len
-    fields.u32(errno.number().wrapping_neg()); // error
-    fields.u64(unique);
+    let at = set_u32(fields, at, OUT_HEADER_SIZE as u32); // len
+    let at = set_u32(fields, at, errno.number().wrapping_neg()); // error
+    set_u64(fields, at, unique)
 }
 
 // `struct fuse_init_out`, as far as the client knows it.
-#[tactic(auto, unfolding(crate::specs::Structures::init_out))]
-pub fn init_out(fields: &mut Structure, init: &InitOut)
-    requires { length fields.old + 64 ≤ ROOM }
-    ensures { fields.new ≡ fields.old ++ init_out init.now }
+#[tactic(auto, unfolding(crate::specs::Structures::init_out), using(crate::proofs::Sizes::sizes))]
+pub fn init_out(fields: &mut [u8], at: usize, init: &InitOut) -> usize
+    requires { at + 64 ≤ length fields.old }
+    ensures fields { take result fields.new ≡ take at fields.old ++ init_out init.now }
+    ensures size { length fields.new ≡ length fields.old }
+    ensures end { result ≡ at + length (init_out init.now) }
 {
     match *init {
         InitOut::Version => {
-            fields.u32(MAJOR);
-            fields.u32(MINOR);
-            fields.zeros::<56>();
+            let at = set_u32(fields, at, MAJOR);
+            let at = set_u32(fields, at, MINOR);
+            set_zeros::<56>(fields, at)
         }
         InitOut::Terms {
             lasting,
@@ -107,9 +111,11 @@ pub fn init_out(fields: &mut Structure, init: &InitOut)
             max_readahead,
             flags,
         } => {
-            init_out_22(fields, lasting, max_readahead, flags);
+            let at = init_out_22(fields, at, lasting, max_readahead, flags);
             if 23 <= minor {
-                init_out_rest(fields, lasting, flags);
+                init_out_rest(fields, at, lasting, flags)
+            } else {
+                at
             }
         }
     }
@@ -117,31 +123,35 @@ pub fn init_out(fields: &mut Structure, init: &InitOut)
 
 // Its fields up to `max_write`.
 #[tactic(auto, unfolding(crate::specs::Structures::init_out_22))]
-fn init_out_22(fields: &mut Structure, lasting: bool, max_readahead: u32, flags: u32)
-    requires { length fields.old + 24 ≤ ROOM }
-    ensures fields { fields.new ≡ fields.old ++ init_out_22 lasting max_readahead flags }
-    ensures len { length fields.new ≡ length fields.old + 24 }
+fn init_out_22(fields: &mut [u8], at: usize, lasting: bool, max_readahead: u32, flags: u32) -> usize
+    requires { at + 24 ≤ length fields.old }
+    ensures fields { take result fields.new
+        ≡ take at fields.old ++ init_out_22 lasting max_readahead flags }
+    ensures size { length fields.new ≡ length fields.old }
+    ensures end { result ≡ at + 24 }
 {
-    fields.u32(MAJOR);
-    fields.u32(MINOR);
-    fields.u32(max_readahead.min(MAX_READAHEAD));
-    fields.u32(flags & served_flags(lasting));
-    fields.u16(MAX_BACKGROUND);
-    fields.u16(CONGESTION_THRESHOLD);
-    fields.u32(MAX_WRITE);
+    let at = set_u32(fields, at, MAJOR);
+    let at = set_u32(fields, at, MINOR);
+    let at = set_u32(fields, at, max_readahead.min(MAX_READAHEAD));
+    let at = set_u32(fields, at, flags & served_flags(lasting));
+    let at = set_u16(fields, at, MAX_BACKGROUND);
+    let at = set_u16(fields, at, CONGESTION_THRESHOLD);
+    set_u32(fields, at, MAX_WRITE)
 }
 
 // Its fields from `time_gran` on.
 #[tactic(auto, unfolding(crate::specs::Structures::init_out_rest))]
-fn init_out_rest(fields: &mut Structure, lasting: bool, flags: u32)
-    requires { length fields.old + 40 ≤ ROOM }
-    ensures fields { fields.new ≡ fields.old ++ init_out_rest lasting flags }
-    ensures len { length fields.new ≡ length fields.old + 40 }
+fn init_out_rest(fields: &mut [u8], at: usize, lasting: bool, flags: u32) -> usize
+    requires { at + 40 ≤ length fields.old }
+    ensures fields { take result fields.new
+        ≡ take at fields.old ++ init_out_rest lasting flags }
+    ensures size { length fields.new ≡ length fields.old }
+    ensures end { result ≡ at + 40 }
 {
-    fields.u32(TIME_GRANULARITY);
-    fields.u16(max_pages(lasting, flags));
-    fields.u16(0); // map_alignment
-    fields.zeros::<32>(); // unused
+    let at = set_u32(fields, at, TIME_GRANULARITY);
+    let at = set_u16(fields, at, max_pages(lasting, flags));
+    let at = set_u16(fields, at, 0); // map_alignment
+    set_zeros::<32>(fields, at) // unused
 }
 
 // The flags that a session may have.
@@ -167,109 +177,122 @@ fn max_pages(lasting: bool, flags: u32) -> u16
 
 // `struct fuse_attr`. Owners and times are all 0.
 #[tactic(auto, unfolding(crate::specs::Structures::attr))]
-fn attr(fields: &mut Structure, node: &Attr)
-    requires { length fields.old + 88 ≤ ROOM }
-    ensures fields { fields.new ≡ fields.old ++ attr node.now }
-    ensures len { length fields.new ≡ length fields.old + 88 }
+fn attr(fields: &mut [u8], at: usize, node: &Attr) -> usize
+    requires { at + 88 ≤ length fields.old }
+    ensures fields { take result fields.new ≡ take at fields.old ++ attr node.now }
+    ensures size { length fields.new ≡ length fields.old }
+    ensures end { result ≡ at + 88 }
 {
-    fields.u64(node.ino);
-    fields.u64(node.size);
-    fields.u64(node.blocks);
-    fields.u64(0); // atime
-    fields.u64(0); // mtime
-    fields.u64(0); // ctime
-    fields.u32(0); // atimensec
-    fields.u32(0); // mtimensec
-    fields.u32(0); // ctimensec
-    fields.u32(node.mode);
-    fields.u32(node.nlink);
-    fields.u32(0); // uid
-    fields.u32(0); // gid
-    fields.u32(node.rdev);
-    fields.u32(BLOCK_SIZE); // blksize
-    fields.u32(0); // padding
+    let at = set_u64(fields, at, node.ino);
+    let at = set_u64(fields, at, node.size);
+    let at = set_u64(fields, at, node.blocks);
+    let at = set_u64(fields, at, 0); // atime
+    let at = set_u64(fields, at, 0); // mtime
+    let at = set_u64(fields, at, 0); // ctime
+    let at = set_u32(fields, at, 0); // atimensec
+    let at = set_u32(fields, at, 0); // mtimensec
+    let at = set_u32(fields, at, 0); // ctimensec
+    let at = set_u32(fields, at, node.mode);
+    let at = set_u32(fields, at, node.nlink);
+    let at = set_u32(fields, at, 0); // uid
+    let at = set_u32(fields, at, 0); // gid
+    let at = set_u32(fields, at, node.rdev);
+    let at = set_u32(fields, at, BLOCK_SIZE); // blksize
+    set_u32(fields, at, 0) // padding
 }
 
 // `struct fuse_entry_out`.
 #[tactic(auto, unfolding(crate::specs::Structures::entry_out))]
-pub fn entry_out(fields: &mut Structure, node: &Attr)
-    requires { length fields.old + 128 ≤ ROOM }
-    ensures { fields.new ≡ fields.old ++ entry_out node.now }
+pub fn entry_out(fields: &mut [u8], at: usize, node: &Attr) -> usize
+    requires { at + 128 ≤ length fields.old }
+    ensures fields { take result fields.new ≡ take at fields.old ++ entry_out node.now }
+    ensures size { length fields.new ≡ length fields.old }
+    ensures end { result ≡ at + 128 }
 {
-    fields.u64(node.ino); // nodeid
-    fields.u64(0); // generation
-    fields.u64(VALID_SECONDS); // entry_valid
-    fields.u64(VALID_SECONDS); // attr_valid
-    fields.u32(0); // entry_valid_nsec
-    fields.u32(0); // attr_valid_nsec
-    attr(fields, node);
+    let at = set_u64(fields, at, node.ino); // nodeid
+    let at = set_u64(fields, at, 0); // generation
+    let at = set_u64(fields, at, VALID_SECONDS); // entry_valid
+    let at = set_u64(fields, at, VALID_SECONDS); // attr_valid
+    let at = set_u32(fields, at, 0); // entry_valid_nsec
+    let at = set_u32(fields, at, 0); // attr_valid_nsec
+    attr(fields, at, node)
 }
 
 // `struct fuse_entry_out` of a name that is none.
 #[tactic(auto, unfolding(crate::specs::Structures::negative_entry_out))]
-pub fn negative_entry_out(fields: &mut Structure)
-    requires { length fields.old + 128 ≤ ROOM }
-    ensures { fields.new ≡ fields.old ++ negative_entry_out }
+pub fn negative_entry_out(fields: &mut [u8], at: usize) -> usize
+    requires { at + 128 ≤ length fields.old }
+    ensures fields { take result fields.new ≡ take at fields.old ++ negative_entry_out }
+    ensures size { length fields.new ≡ length fields.old }
+    ensures end { result ≡ at + 128 }
 {
-    fields.u64(0); // nodeid
-    fields.u64(0); // generation
-    fields.u64(VALID_SECONDS); // entry_valid
-    fields.u64(0); // attr_valid
-    fields.u32(0); // entry_valid_nsec
-    fields.u32(0); // attr_valid_nsec
-    fields.zeros::<88>(); // attr
+    let at = set_u64(fields, at, 0); // nodeid
+    let at = set_u64(fields, at, 0); // generation
+    let at = set_u64(fields, at, VALID_SECONDS); // entry_valid
+    let at = set_u64(fields, at, 0); // attr_valid
+    let at = set_u32(fields, at, 0); // entry_valid_nsec
+    let at = set_u32(fields, at, 0); // attr_valid_nsec
+    set_zeros::<88>(fields, at) // attr
 }
 
 // `struct fuse_attr_out`.
 #[tactic(auto, unfolding(crate::specs::Structures::attr_out))]
-pub fn attr_out(fields: &mut Structure, node: &Attr)
-    requires { length fields.old + 104 ≤ ROOM }
-    ensures { fields.new ≡ fields.old ++ attr_out node.now }
+pub fn attr_out(fields: &mut [u8], at: usize, node: &Attr) -> usize
+    requires { at + 104 ≤ length fields.old }
+    ensures fields { take result fields.new ≡ take at fields.old ++ attr_out node.now }
+    ensures size { length fields.new ≡ length fields.old }
+    ensures end { result ≡ at + 104 }
 {
-    fields.u64(VALID_SECONDS); // attr_valid
-    fields.u32(0); // attr_valid_nsec
-    fields.u32(0); // dummy
-    attr(fields, node);
+    let at = set_u64(fields, at, VALID_SECONDS); // attr_valid
+    let at = set_u32(fields, at, 0); // attr_valid_nsec
+    let at = set_u32(fields, at, 0); // dummy
+    attr(fields, at, node)
 }
 
 // `struct fuse_open_out`.
 #[tactic(auto, unfolding(crate::specs::Structures::open_out))]
-pub fn open_out(fields: &mut Structure, open_flags: u32)
-    requires { length fields.old + 16 ≤ ROOM }
-    ensures { fields.new ≡ fields.old ++ open_out open_flags }
+pub fn open_out(fields: &mut [u8], at: usize, open_flags: u32) -> usize
+    requires { at + 16 ≤ length fields.old }
+    ensures fields { take result fields.new ≡ take at fields.old ++ open_out open_flags }
+    ensures size { length fields.new ≡ length fields.old }
+    ensures end { result ≡ at + 16 }
 {
-    fields.u64(0); // fh
-    fields.u32(open_flags);
-    fields.u32(0); // padding
+    let at = set_u64(fields, at, 0); // fh
+    let at = set_u32(fields, at, open_flags);
+    set_u32(fields, at, 0) // padding
 }
 
 // `struct fuse_statfs_out`, which holds a `struct fuse_kstatfs`.
 #[tactic(auto, unfolding(crate::specs::Structures::statfs_out))]
-pub fn statfs_out(fields: &mut Structure, blocks: u64, files: u64)
-    requires { length fields.old + 80 ≤ ROOM }
-    ensures { fields.new ≡ fields.old ++ statfs_out blocks files }
+pub fn statfs_out(fields: &mut [u8], at: usize, blocks: u64, files: u64) -> usize
+    requires { at + 80 ≤ length fields.old }
+    ensures fields { take result fields.new ≡ take at fields.old ++ statfs_out blocks files }
+    ensures size { length fields.new ≡ length fields.old }
+    ensures end { result ≡ at + 80 }
 {
-    fields.u64(blocks);
-    fields.u64(0); // bfree
-    fields.u64(0); // bavail
-    fields.u64(files);
-    fields.u64(0); // ffree
-    fields.u32(STATFS_BLOCK_SIZE); // bsize
-    fields.u32(MAX_NAME_SIZE); // namelen
-    fields.u32(STATFS_BLOCK_SIZE); // frsize
-    fields.u32(0); // padding
-    fields.zeros::<24>(); // spare
+    let at = set_u64(fields, at, blocks);
+    let at = set_u64(fields, at, 0); // bfree
+    let at = set_u64(fields, at, 0); // bavail
+    let at = set_u64(fields, at, files);
+    let at = set_u64(fields, at, 0); // ffree
+    let at = set_u32(fields, at, STATFS_BLOCK_SIZE); // bsize
+    let at = set_u32(fields, at, MAX_NAME_SIZE); // namelen
+    let at = set_u32(fields, at, STATFS_BLOCK_SIZE); // frsize
+    let at = set_u32(fields, at, 0); // padding
+    set_zeros::<24>(fields, at) // spare
 }
 
 // `struct fuse_dirent` up to its name.
 #[tactic(auto, unfolding(crate::specs::Structures::dirent_front))]
-pub fn dirent_front(fields: &mut Structure, row: &Dirent<'_>)
-    requires room { length fields.old + 24 ≤ ROOM }
+pub fn dirent_front(fields: &mut [u8], at: usize, row: &Dirent<'_>) -> usize
+    requires room { at + 24 ≤ length fields.old }
     requires named { length row.now.name.now < 2 ^ 32 }
-    ensures { fields.new ≡ fields.old ++ row_front row.now }
+    ensures fields { take result fields.new ≡ take at fields.old ++ row_front row.now }
+    ensures size { length fields.new ≡ length fields.old }
+    ensures end { result ≡ at + 24 }
 {
-    fields.u64(row.ino);
-    fields.u64(row.off);
-    fields.u32(row.name.len() as u32); // namelen
-    fields.u32(row.file_type); // type
+    let at = set_u64(fields, at, row.ino);
+    let at = set_u64(fields, at, row.off);
+    let at = set_u32(fields, at, row.name.len() as u32); // namelen
+    set_u32(fields, at, row.file_type) // type
 }

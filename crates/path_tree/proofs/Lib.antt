@@ -3,3 +3,4 @@ pub mod Names
 pub mod Paths
 pub mod Spread
 pub mod Under
+pub mod Padded

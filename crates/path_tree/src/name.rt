@@ -1,6 +1,7 @@
 //! Names that need no allocation while they are short.
 
-ghost use Rattle.std.specs.Prelude.{◌≡◌, ◌<◌, ◌≤◌, length, MatchResult};
+ghost use Rattle.std.specs.Prelude.{◌≡◌, ◌<◌, ◌≤◌, length, MatchOption, MatchResult};
+ghost use Rattle.path_tree.specs.Padded.{IsPadded};
 
 use std::alloc::{AllocError, Allocator, Global};
 use std::marker::Model;
@@ -8,7 +9,7 @@ use std::marker::Model;
 /// How many bytes stand in the value itself.
 const MOST: usize = 22;
 
-/// A name of at most 22 bytes.
+/// A name of at most 22 bytes, with zeros behind it.
 #[derive(Drop)]
 struct Short {
     len: u8,
@@ -17,15 +18,17 @@ struct Short {
 
 impl Model for Short {
     ghost use Rattle.std.specs.Prelude.{◌≤◌, List, ℕ, take};
+    ghost use Rattle.path_tree.specs.Padded.{IsPadded};
 
     ghost Value = { List ℕ };
 
     ghost view = { λ s. take s.len s.bytes };
 
-    ghost invariant = { λ s. s.len ≤ 22 };
+    ghost invariant = { λ s. (s.len ≤ 22) × IsPadded (take s.len s.bytes) s.bytes };
 }
 
 impl Short {
+    #[tactic(auto, using(crate::proofs::Padded::zeros_left))]
     fn of(name: &[u8]) -> Short
         requires { length name.now ≤ 22 }
         ensures { result ≡ name.now }
@@ -42,6 +45,12 @@ impl Short {
         ensures { result.now ≡ self.now }
     {
         &self.bytes[..self.len as usize]
+    }
+
+    fn padded(&self) -> &[u8; 22]
+        ensures { IsPadded self.now result.now }
+    {
+        &self.bytes
     }
 
     fn copied(&self) -> Short
@@ -115,6 +124,17 @@ impl<A: Allocator> Name<A> {
         match &self.bytes {
             Bytes::Here(short) => short.as_slice(),
             Bytes::There(long) => long.as_slice(),
+        }
+    }
+
+    /// The bytes of a name of at most 22, with zeros behind them up to 22; none of a longer name.
+    pub fn padded(&self) -> Option<&[u8; 22]>
+        ensures { MatchOption result (22 < length self.now)
+            (λ padded. IsPadded self.now padded.now) }
+    {
+        match &self.bytes {
+            Bytes::Here(short) => Some(short.padded()),
+            Bytes::There(_) => None,
         }
     }
 }

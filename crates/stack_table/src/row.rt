@@ -1,6 +1,7 @@
 //! A child of a directory.
 
-ghost use Rattle.std.specs.Prelude.{◌≡◌};
+ghost use Rattle.std.specs.Prelude.{◌≡◌, ◌<◌, length, MatchOption};
+ghost use Rattle.path_tree.specs.Padded.{IsPadded};
 
 use name_keys::HasName;
 use path_tree::Name;
@@ -28,6 +29,14 @@ impl<A: Allocator> Row<A> {
         ensures { result.now ≡ self.now.name }
     {
         self.name.as_slice()
+    }
+
+    /// The child's name with zeros behind it, up to 22 bytes; none of a longer name.
+    pub fn padded_name(&self) -> Option<&[u8; 22]>
+        ensures { MatchOption result (22 < length self.now.name)
+            (λ padded. IsPadded self.now.name padded.now) }
+    {
+        self.name.padded()
     }
 }
 

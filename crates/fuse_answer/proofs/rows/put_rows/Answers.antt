@@ -3,7 +3,7 @@ use Rattle.std.proofs.lemmas.Result.{err_from_is_err_and}
 use Rattle.fuse_wire.proofs.Sizes.{length-head, length-reply_with}
 use Rattle.fuse_wire.specs.Replies.{reply_head}
 use Rattle.fuse_answer.specs.Listings.{listed_data}
-use Rattle.fuse_answer.proofs.Writing.{all_rows, head_first, row_has_room, row_next}
+use Rattle.fuse_answer.proofs.Writing.{all_rows, row_has_room, row_next, set_behind}
 use Rattle.fuse_answer.proofs.rows.put_rows.Goals as goal
 
 pub returns-in_err-reserve : goal.returns-in_err-reserve
@@ -28,9 +28,12 @@ loop-index-init g c =
     let same = c.in_ok-reserve.ensures.len in
     let more = c.in_ok-reserve.ensures.capacity in
     let grown = c.in_ok-put_data_head.ensures.3 in
+    let wide = c.set_rows-set.ensures.capacity in
     record {
-      so_far = head_first c.args.table.now c.args.rows.now c.requires c.args.unique c.args.out.now.items c.put_data_head.new.out.items
-          (c.in_ok-put_data_head.ensures.0 ∙ ap (λ b. b ++ reply_head c.args.unique c.args.rows.now.size) c.reserve.ensures.items);
+      so_far = set_behind c.args.table.now c.args.rows.now c.requires c.args.unique c.set_rows-set.result c.args.out.now.items
+          c.put_data_head.new.out.items c.set_rows-set.new.out.items
+          (c.in_ok-put_data_head.ensures.0 ∙ ap (λ b. b ++ reply_head c.args.unique c.args.rows.now.size) c.reserve.ensures.items)
+          c.set_rows-set.ensures.items;
       room = omega arith;
       grown = omega arith;
     }
@@ -40,19 +43,23 @@ loop-index-preserved g c =
     let room = c.loop-index.invariant.room in
     let more = c.loop-index.invariant.grown in
     let grown = c.in_ok-put_row.ensures.3 in
+    let first = c.set_rows-set.ensures.from in
+    let from = c.loop-index.auto.index in
     record {
       so_far = row_next c.args.table.now c.args.rows.now c.requires c.args.unique c.loop-index.index c.args.out.now.items
           c.loop-index.out.items c.put_row.new.out.items
-          c.loop-index.auto.index c.loop-index-test.true c.loop-index.invariant.so_far c.in_ok-put_row.ensures.0;
+          (omega arith) c.loop-index-test.true c.loop-index.invariant.so_far c.in_ok-put_row.ensures.0;
       room = omega arith;
       grown = omega arith;
     }
 
 pub returns-in_err-put_row : goal.returns-in_err-put_row
 returns-in_err-put_row g c =
+    let first = c.set_rows-set.ensures.from in
+    let from = c.loop-index.auto.index in
     let fits = row_has_room c.args.table.now c.args.rows.now c.requires c.args.unique c.loop-index.index c.args.out.now.items
     c.loop-index.out.items
-    c.loop-index.auto.index c.loop-index-test.true c.loop-index.invariant.so_far in
+    (omega arith) c.loop-index-test.true c.loop-index.invariant.so_far in
     let room = c.loop-index.invariant.room in
     let full = c.in_err-put_row.ensures.2 in
     let before = c.args.out.now.ok.0 in
@@ -61,7 +68,7 @@ returns-in_err-put_row g c =
 
 pub returns : goal.returns
 returns g c =
-    let last = c.loop-index.auto.index-end c.requires.in_order in (
+    let last = c.loop-index.auto.index-end c.set_rows-set.ensures.until in (
       all_rows c.args.table.now c.args.rows.now c.requires c.args.unique c.loop-index.index c.args.out.now.items c.loop-index.out.items
           (omega arith) c.loop-index.invariant.so_far,
       tt,
