@@ -17,7 +17,7 @@ use Rattle.lookup_balances.proofs.Sums.{moved_on, none_moved, within_less, withi
 use Rattle.fuse_answer.specs.declared.listing.Listing.{Listing}
 use Rattle.fuse_answer.specs.Answers.{taken_back}
 use Rattle.fuse_answer.specs.Puts.{Grows}
-use Rattle.fuse_answer.specs.Listings.{NumberedLine, is_child_line, lines_given, row_given}
+use Rattle.fuse_answer.specs.Listings.{NumberedLine, is_child_line, lines_answered, lines_given, row_given}
 use Rattle.fuse_answer.proofs.Lines.{IsNext, before_later, lines_before, next_line, none_before}
 
 given_on : (xs ys : List NumberedLine) → lines_given (xs ++ ys) ≡ lines_given xs ++ lines_given ys
@@ -96,6 +96,14 @@ module _ {A : Type 0} (l : Listing A) where
         within = within_less (2 ^ 123 + (index - l.from) + weight (row_given l index)) (2 ^ 123 + (index + 1 - l.from)) next (omega arith)
             (within_moved (2 ^ 123 + (index - l.from)) (row_given l index) now next so_far.within step);
       }
+
+  -- where an index is the last one's, all that is answered gives what the rows before it do
+  pub all_given : (index : ℕ) → index ≡ l.until → given index ≡ lines_given (lines_answered l)
+  all_given index is = ap given is
+
+  -- so many rows leave room for one more
+  pub room_for_row : (index : ℕ) (old now : List ℤ) → index - l.from ≤ 2 ^ 123 → IsAdded index old now → AreWithin (2 ^ 124) now
+  room_for_row index old now few so_far = within_less (2 ^ 123 + (index - l.from)) (2 ^ 124) now (omega arith) so_far.within
 
 -- what is taken back of some and then others
 taken_on : (stack : Stacked) (xs ys : List Forget) → taken_back stack (xs ++ ys) ≡ taken_back stack xs ++ taken_back stack ys

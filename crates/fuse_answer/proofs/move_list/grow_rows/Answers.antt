@@ -1,7 +1,8 @@
-use Rattle.std.proofs.Common.{◌+◌, ◌<◌, length, arith}
+use Rattle.std.proofs.Common.{◌≡◌, ◌∙◌, ◌+◌, ◌<◌, ◌++◌, List, ap, length, arith}
 use Rattle.std.proofs.lemmas.Result.{err_from_is_err_and}
+use Rattle.reply_model.specs.declared.moves.Move.{Move}
 use Rattle.fuse_answer.specs.Listings.{row_given}
-use Rattle.fuse_answer.proofs.Moving.{given, given_less, none_given, row_appended, stopped}
+use Rattle.fuse_answer.proofs.Moving.{all_given, given, given_less, none_given, row_appended, stopped}
 use Rattle.fuse_answer.proofs.move_list.grow_rows.Goals as goal
 
 pub loop-index-init : goal.loop-index-init
@@ -30,3 +31,15 @@ returns-in_err-put_given-clause-moves g c =
     rw failed.1 (stopped failed.0 c.args.into.now c.loop-index.into c.put_given.new.into (given l index) (row_given l index)
     (given l l.until) was.so_far put.1 put.2 was.room put.3
     (given_less l index c.loop-index.auto.index c.loop-index-test.true c.requires.there))
+
+pub returns-clause-small : goal.returns-clause-small
+returns-clause-small g c = c.loop-index.invariant.small
+
+pub returns-clause-moves : goal.returns-clause-moves
+returns-clause-moves g c =
+    let last : c.loop-index.index ≡ c.args.rows.now.until = omega arith in (
+      c.loop-index.invariant.so_far ∙ ap (λ (ms : List Move). c.args.into.now.items ++ ms) (all_given c.args.rows.now c.loop-index.index last),
+      tt,
+      tt,
+      c.loop-index.invariant.room,
+    )

@@ -4,6 +4,12 @@ use Rattle.stack_table.specs.Rows.{Line}
 use Rattle.fuse_answer.proofs.Writing.{line_there}
 use Rattle.fuse_answer.proofs.rows.line_at.Goals as goal
 
+pub overflow_sub-row : goal.overflow_sub-row
+overflow_sub-row g c = omega arith
+
+pub bounds-rows-index : goal.bounds-rows-index
+bounds-rows-index g c = omega arith
+
 pub returns-in_default : goal.returns-in_default
 returns-in_default g c =
     let own : Line = record { number = c.args.rows.now.number; name = codes "." } in

@@ -1,4 +1,4 @@
-use Rattle.std.proofs.Common.{◌++◌, ◌^◌, ℕ, List, ap, append-nil, arith, subst, sym, take}
+use Rattle.std.proofs.Common.{◌^◌, List, ap, append-nil, arith, subst, sym, take}
 use Rattle.lookup_balances.specs.Balances.{IsMoved, weight}
 use Rattle.reply_model.specs.declared.moves.Move.{Move}
 use Rattle.lookup_balances.proofs.Sums.{none_moved, still_within}
