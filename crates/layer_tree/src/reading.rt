@@ -8,7 +8,7 @@
 //! It takes n log n steps in the members of the layer and the hard links that they lead to: ends of
 //! hard links that were found are kept while the tree is made.
 
-ghost use Rattle.std.specs.Prelude.{◌≡◌, ◌≢◌, [], ◌∷◌, ◌↔◌, length, IfOk, OnOk, IsTrue, MatchOption, is_some};
+ghost use Rattle.std.specs.Prelude.{◌≡◌, ◌≢◌, [], ◌∷◌, ◌++◌, ◌↔◌, length, IfOk, OnOk, IsTrue, MatchOption, is_some};
 ghost use Rattle.romfs_reader.specs.Images.{IsImage};
 ghost use Rattle.romfs_reader.specs.Readers.{IsGiven};
 ghost use Rattle.shown_tree.specs.Trees.{IsTreeOf};
@@ -260,7 +260,7 @@ fn folder<A: Allocator + Copy>(
     Ok((entries, marks))
 }
 
-/// The same, added to others; a directory without any marker needs no mark.
+/// The same, added to others; a directory of which no member is a marker or has a mark needs none.
 ///
 /// `AllocError` comes only where memory was refused; nothing is promised of `to` then.
 #[inline(never)]
@@ -283,12 +283,16 @@ fn add_folder<A: Allocator + Copy>(
         to.new.entries.items to.new.marks.items) }
 {
     if is_plain(members, &below) {
-        return add_plain_folder(layer, name, head, members, below, to);
+        let own_entry = entry_at(layer.number, head);
+        let own_name = Name::of(layer.alloc, name)?;
+        to.entries
+            .push(Branch::new(own_name, own_entry, below.entries))?;
+        return Ok(());
     }
     let (entry, mark) = folder(layer, name, head, members, below)?;
     to.entries.push(entry)?;
     if let Some(mark) = needed(mark) {
-        to.marks.push(mark)?;
+        add_mark(&mut to.marks, mark)?;
     }
     Ok(())
 }
@@ -301,33 +305,19 @@ fn is_plain<A: Allocator>(members: &[NamedMember<'_>], below: &Branches<A>) -> b
     below.entries.len() == members.len() && below.marks.is_empty()
 }
 
-/// Adds a directory of which no member is a marker or has a mark.
+/// Adds a mark to a list, which gets room for one at first: most have no more.
 ///
 /// `AllocError` comes only where memory was refused; nothing is promised of `to` then.
-fn add_plain_folder<A: Allocator + Copy>(
-    layer: &Layer<'_, A>,
-    name: &[u8],
-    head: &Head,
-    members: &[NamedMember<'_>],
-    below: Branches<A>,
-    to: &mut Branches<A>,
+fn add_mark<A: Allocator>(
+    to: &mut Vec<Branch<Mark, A>, A>,
+    mark: Branch<Mark, A>,
 ) -> Result<(), AllocError>
-    requires sound { IsImage layer.now.image.now }
-    requires given { IsGiven layer.now.image.now head.now }
-    requires directory { head.now.kind ≡ Kind.Directory }
-    requires members { AreByName layer.now.image.now head.now.offset members.now }
-    requires below { AreBuilt layer.now.image.now layer.now.number
-        members.now below.entries.items below.marks.items }
-    requires all { length below.entries.items ≡ length members.now }
-    requires unmarked { below.marks.items ≡ [] }
-    ensures { OnOk result (AddsMade layer.now.image.now layer.now.number
-        head.now.offset name.now to.old.entries.items to.old.marks.items
-        to.new.entries.items to.new.marks.items) }
+    ensures { OnOk result (to.new.items ≡ to.old.items ++ mark ∷ []) }
 {
-    let own_entry = entry_at(layer.number, head);
-    let own_name = Name::of(layer.alloc, name)?;
-    to.entries
-        .push(Branch::new(own_name, own_entry, below.entries))?;
+    if to.is_empty() {
+        to.reserve_exact(1)?;
+    }
+    to.push(mark)?;
     Ok(())
 }
 
@@ -352,7 +342,7 @@ fn whiteouts_of<A: Allocator + Copy>(
             continue;
         };
         let name = Name::of(alloc, name)?;
-        marks.push(leaf(alloc, name, CUT))?;
+        add_mark(&mut marks, leaf(alloc, name, CUT))?;
     }
     Ok(marks)
 }

@@ -14,8 +14,8 @@ loop-member-preserved g c =
     let lt : c.loop-member.member-index < length c.args.members.now = omega arith in
     let same : c.in_ok-name.name ≡ c.in-Some.name.now = c.in_ok-name.ensures in
     white_one c.args.members.now c.loop-member.member-index c.loop-member.marks.items lt
-    c.loop-member.invariant c.in_ok-name.name c.leaf.result c.push.new.self.items
-    (c.in-Some.ensures ∙ ap (λ n. marker ++ n) (sym same)) c.leaf.ensures c.in_ok-push.ensures.items
+    c.loop-member.invariant c.in_ok-name.name c.leaf.result c.add_mark.new.to.items
+    (c.in-Some.ensures ∙ ap (λ n. marker ++ n) (sym same)) c.leaf.ensures c.in_ok-add_mark.ensures
 
 pub returns : goal.returns
 returns g c =
