@@ -29,6 +29,11 @@ def files_of(crate):
     return sorted(glob.glob(os.path.join(ROOT, "crates", crate, "src", "**", "*.rt"), recursive=True))
 
 
+def tests_of(crate):
+    """Where the modules of a crate of tests stand below its src/."""
+    return "tests/" if os.path.exists(os.path.join(ROOT, "crates", crate, "src/tests.rt")) else ""
+
+
 def source(crate):
     return "\n".join(read(path) for path in files_of(crate))
 
@@ -102,7 +107,7 @@ class Row:
         seen = set()
         for test in self.tests:
             crate, _, module = test.partition("::")
-            path = "crates/%s/src/%s.rt" % (crate, module) if module else test
+            path = "crates/%s/src/%s%s.rt" % (crate, tests_of(crate), module) if module else test
             if not os.path.exists(os.path.join(ROOT, path)):
                 yield "%s is not there, and is to show %s" % (path, self.calls[0])
             elif module and "#[test]" not in read(path):

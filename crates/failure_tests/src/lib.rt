@@ -10,12 +10,4 @@
 #![tactic(auto)]
 
 #[cfg(test)]
-mod failing;
-#[cfg(test)]
-mod layers;
-#[cfg(test)]
-mod memory;
-#[cfg(test)]
-mod workers;
-#[cfg(test)]
-mod writers;
+mod tests;

@@ -2,14 +2,14 @@
 //!
 //! Nothing is promised of what these functions write: tests show it.
 
-ghost use Rattle.std.specs.Prelude.{◌≡◌, ◌+◌, ◌≤◌, length, IfSome, IfOk};
+ghost use Rattle.std.specs.Prelude.{◌≡◌, ◌≤◌, length, IfSome, IfOk};
 ghost use Rattle.romfs_format.specs.declared.limits.TheConstants.{HEAD_SIZE};
 ghost use Rattle.romfs_image.specs.declared.sample.BuildFault.TheVariants.{Memory};
 
 mod layout;
 
 use byteorder::{BigEndian, ByteOrder};
-use layout::{Layout, Placement, data_of, is_directory, is_listing};
+use layout::{Layout, Placement, data_of, is_directory, is_listing, place_at};
 use romfs_format::limits::{HEAD_SIZE, SUMMED_SIZE};
 use romfs_format::read::{word, word_sum};
 use std::alloc::{AllocError, AllocFailed, Allocator};
@@ -106,11 +106,7 @@ pub fn build<A: Allocator + Copy>(
     }
     let layout = Layout::of(alloc, volume, items)?;
     let mut image = Vec::with_capacity(alloc, layout.full as usize)?;
-    put_volume(&mut image, layout.full, volume)?;
-    put_root(&mut image, &layout.root)?;
-    for (item, placement) in items.iter().zip(&layout.placements) {
-        put_item(&mut image, &layout, placement, item)?;
-    }
+    put_all(&mut image, &layout, volume, items)?;
     seal(&mut image);
     Ok(image)
 }
@@ -138,42 +134,65 @@ fn full_size(bytes: &[u8]) -> Option<usize>
     (HEAD_SIZE <= full && full <= bytes.len()).then_some(full)
 }
 
+/// The volume header, the root, and the items in order.
+fn put_all<A: Allocator>(
+    image: &mut Vec<u8, A>,
+    layout: &Layout<A>,
+    volume: &[u8],
+    items: &[Item<A>],
+) -> Result<(), BuildFault> {
+    put_volume(image, layout.full, volume)?;
+    put_root(image, layout, items)?;
+    for (at, (item, placement)) in items.iter().zip(&layout.placements).enumerate() {
+        let later = at.saturating_add(1);
+        let next = place_at(layout, items, later, item.depth);
+        let first = place_at(layout, items, later, item.depth.saturating_add(1));
+        put_item(image, layout, placement, item, [next, first])?;
+    }
+    Ok(())
+}
+
 fn put_volume<A: Allocator>(
     image: &mut Vec<u8, A>,
     full: u32,
     name: &[u8],
 ) -> Result<(), AllocError> {
-    image.extend_from_slice(b"-rom1fs-")?;
-    put_word(image, full)?;
-    put_word(image, 0)?;
+    let mut head = *b"-rom1fs-\0\0\0\0\0\0\0\0";
+    BigEndian::write_u32(&mut head[8..], full);
+    image.extend_from_slice(&head)?;
     put_name(image, name)
 }
 
 /// The root's `.`, an executable directory, and its `..`, which is a hard link to it.
-fn put_root<A: Allocator>(image: &mut Vec<u8, A>, root: &Placement) -> Result<(), AllocError> {
+fn put_root<A: Allocator>(
+    image: &mut Vec<u8, A>,
+    layout: &Layout<A>,
+    items: &[Item<A>],
+) -> Result<(), AllocError> {
+    let root = &layout.root;
+    let first = place_at(layout, items, 0, 1);
     put_head(image, [root.dot_dot | 9, root.at, 0], b".")?;
-    put_head(image, [root.first, root.above, 0], b"..")
+    put_head(image, [first, root.above, 0], b"..")
 }
 
-/// An item with its data; a directory with its `.` and `..`.
+/// An item with its data; a directory with its `.` and `..`. `links` are the header after it in its
+/// directory, and its first member.
 fn put_item<A: Allocator>(
     image: &mut Vec<u8, A>,
     layout: &Layout<A>,
     placement: &Placement,
     item: &Item<A>,
+    links: [u32; 2],
 ) -> Result<(), BuildFault> {
+    let [next, first] = links;
     let data = data_of(item);
     let exec = if item.exec { 8 } else { 0 };
     let (kind, info) = kind_and_info(layout, placement, &item.what);
     let size = u32::try_from(data.len()).map_err(|_| BuildFault::Size)?;
-    put_head(
-        image,
-        [placement.next | exec | kind, info, size],
-        &item.name,
-    )?;
+    put_head(image, [next | exec | kind, info, size], &item.name)?;
     if is_directory(item) {
         put_head(image, [placement.dot_dot, placement.at, 0], b".")?;
-        put_head(image, [placement.first, placement.above, 0], b"..")?;
+        put_head(image, [first, placement.above, 0], b"..")?;
     }
     image.extend_from_slice(data)?;
     put_zeros(image)?;
@@ -209,23 +228,16 @@ fn put_head<A: Allocator>(
     name: &[u8],
 ) -> Result<(), AllocError> {
     let at = image.len();
-    put_word(image, words[0])?;
-    put_word(image, words[1])?;
-    put_word(image, words[2])?;
-    put_word(image, 0)?;
+    let mut head = [0; HEAD_SIZE];
+    BigEndian::write_u32(&mut head, words[0]);
+    BigEndian::write_u32(&mut head[4..], words[1]);
+    BigEndian::write_u32(&mut head[8..], words[2]);
+    image.extend_from_slice(&head)?;
     put_name(image, name)?;
     let head = &mut image[at..];
     let sum = word_sum(head);
     BigEndian::write_u32(&mut head[12..], sum.wrapping_neg());
     Ok(())
-}
-
-fn put_word<A: Allocator>(image: &mut Vec<u8, A>, word: u32) -> Result<(), AllocError>
-    ensures { IfOk result (λ _. length image.new.items ≡ length image.old.items + 4) }
-{
-    let mut bytes = [0; 4];
-    BigEndian::write_u32(&mut bytes, word);
-    image.extend_from_slice(&bytes)
 }
 
 /// A name, the zero byte after it and zeros to a multiple of 16.

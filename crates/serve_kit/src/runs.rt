@@ -1,4 +1,4 @@
-//! Runs over the sample image, and what they came to.
+//! Runs of streams over tables and images, and what they came to.
 
 use crate::calls::Calls;
 use crate::reader::Pieces;
@@ -7,13 +7,14 @@ use devices::{Spout, Tap};
 use reply_pool::Plan;
 use romfs_format::Profile;
 use serve_core::{Done, Session, Stop, prepare, run, serve_as, serve_from};
-use stack_core::FreePass;
+use stack_core::{FreePass, Gate};
 use stack_table::Table;
 use std::alloc::{AllocError, Allocator, Global};
 use std::thread::Threads;
+use test_kit::long::image;
 use test_kit::messages::REQUESTS;
 use test_kit::refusing::Refusing;
-use test_kit::sample_images::{alone, sample};
+use test_kit::sample_images::{alone, samples};
 use test_kit::script::{bad_stream, forgets, long_replies, long_stream, script};
 
 /// More pulls than any of the streams has.
@@ -86,9 +87,14 @@ pub const WHOLE: Run = Run {
     flushes: u64::MAX,
 };
 
+/// All of a stream by so many workers, in batches of so many messages.
+pub fn by(plan: (u32, u32)) -> Run {
+    Run { plan, ..WHOLE }
+}
+
 fn pieces_of<'a>(stream: &'a [u8], run: Run, watched: Watched<'a>) -> Pieces<'a> {
     Pieces {
-        rest: stream,
+        rest: &stream[..stream.len().min(run.given)],
         piece: run.piece,
         fails: run.breaks,
         calls: Calls::new(watched),
@@ -113,10 +119,61 @@ pub type Watched<'a> = Option<&'a Refusing<Global>>;
 pub type End = Result<(u64, u128), Stop>;
 
 /// What a run came to.
+#[derive(Drop)]
+pub struct Finished<A: Allocator> {
+    done: Result<Done<A>, Stop>,
+    /// The bytes that were put.
+    pub put: Vec<u8>,
+    pub reads: u64,
+    /// Writes and flushes.
+    pub writes: u64,
+    /// Calls of a device after memory was refused.
+    pub late: u64,
+}
+
+impl<A: Allocator> Finished<A> {
+    fn of(done: Result<Done<A>, Stop>, pieces: Pieces<'_>, taker: Taker<'_>) -> Self {
+        Finished {
+            done,
+            put: taker.taken,
+            reads: pieces.calls.made,
+            writes: taker.calls.made,
+            late: pieces.calls.late.saturating_add(taker.calls.late),
+        }
+    }
+
+    pub fn end(&self) -> End {
+        match &self.done {
+            Ok(done) => Ok((done.messages, done.written)),
+            Err(stop) => Err(*stop),
+        }
+    }
+
+    /// The balance of each node; none where the run stopped.
+    pub fn balances(&self) -> &[i128] {
+        match &self.done {
+            Ok(done) => done.balances.as_slice(),
+            Err(_) => &[],
+        }
+    }
+
+    /// What is seen of it, where these are the replies.
+    fn seen(&self, replies: &[u8]) -> Seen {
+        Seen {
+            end: self.end(),
+            put: replies.starts_with(&self.put).then_some(self.put.len()),
+            reads: self.reads,
+            writes: self.writes,
+            late: self.late,
+        }
+    }
+}
+
+/// What is seen of a run.
 #[derive(Clone, Copy, Debug, PartialEq, Eq)]
 pub struct Seen {
     pub end: End,
-    /// How many bytes were taken, where they are the first of the replies.
+    /// How many bytes were put, where they are the first of the replies.
     pub put: Option<usize>,
     pub reads: u64,
     /// Writes and flushes.
@@ -142,43 +199,44 @@ impl Seen {
     }
 }
 
-/// What a run came to that ended so.
-fn told<A: Allocator>(
-    done: &Result<Done<A>, Stop>,
-    pieces: &Pieces<'_>,
-    taker: &Taker<'_>,
-    replies: &[u8],
-) -> Seen {
-    let end = match done {
-        Ok(done) => Ok((done.messages, done.written)),
-        Err(stop) => Err(*stop),
-    };
-    let put = replies
-        .starts_with(&taker.taken)
-        .then_some(taker.taken.len());
-    Seen {
-        end,
-        put,
-        reads: pieces.calls.made,
-        writes: taker.calls.made,
-        late: pieces.calls.late.saturating_add(taker.calls.late),
-    }
+/// The table of images.
+pub fn table_of<R: Threads + Sync, A: Allocator + Copy + Send + Sync>(
+    rt: &R,
+    alloc: A,
+    images: Vec<Vec<u8, A>, A>,
+) -> Option<Table<A>> {
+    prepare(rt, alloc, images, &FreePass).ok()
 }
 
-/// A run of the first bytes of a stream over a table.
-pub fn run_over<R: Threads + Sync, A: Allocator + Copy + Send + Sync>(
+/// The table of the sample image.
+pub fn sample_table<R: Threads + Sync, A: Allocator + Copy + Send + Sync>(
+    rt: &R,
+    alloc: A,
+) -> Option<Table<A>> {
+    table_of(rt, alloc, samples(alloc, 1)?)
+}
+
+/// The table of the large file and directory.
+pub fn long_table<R: Threads + Sync, A: Allocator + Copy + Send + Sync>(
+    rt: &R,
+    alloc: A,
+) -> Option<Table<A>> {
+    table_of(rt, alloc, alone(alloc, image(alloc).ok()?).ok()?)
+}
+
+/// A run of a stream over a table.
+pub fn ran<R: Threads + Sync, A: Allocator + Copy + Send + Sync, G: Gate + Sync>(
     rt: &R,
     global: Global,
     alloc: A,
     table: &Table<A>,
-    streams: (&[u8], &[u8]),
+    stream: &[u8],
     row: Run,
     watched: Watched<'_>,
-) -> Option<Seen> {
+    gate: &G,
+) -> Option<Finished<A>> {
     let plan = Plan::new(row.plan.0, row.plan.1)?;
-    let (stream, replies) = streams;
-    let given = &stream[..stream.len().min(row.given)];
-    let mut pieces = pieces_of(given, row, watched);
+    let mut pieces = pieces_of(stream, row, watched);
     let mut taker = taker_of(global, row, watched);
     let done = run(
         rt,
@@ -188,12 +246,27 @@ pub fn run_over<R: Threads + Sync, A: Allocator + Copy + Send + Sync>(
         &mut Spout::new(&mut taker),
         plan,
         u64::from(row.turns),
-        &FreePass,
+        gate,
     );
-    Some(told(&done, &pieces, &taker, replies))
+    Some(Finished::of(done, pieces, taker))
 }
 
-/// A run over the table of the sample image, which stands in memory of `plain`.
+/// What is seen of a run of a stream, the first of these two, over a table.
+pub fn run_over<R: Threads + Sync, A: Allocator + Copy + Send + Sync>(
+    rt: &R,
+    global: Global,
+    alloc: A,
+    table: &Table<A>,
+    streams: (&[u8], &[u8]),
+    row: Run,
+    watched: Watched<'_>,
+) -> Option<Seen> {
+    let (stream, replies) = streams;
+    let ran = ran(rt, global, alloc, table, stream, row, watched, &FreePass)?;
+    Some(ran.seen(replies))
+}
+
+/// What is seen of a run over the table of the sample image, which stands in memory of `plain`.
 pub fn run_of<R: Threads + Sync, A: Allocator + Copy + Send + Sync>(
     rt: &R,
     global: Global,
@@ -208,13 +281,14 @@ pub fn run_of<R: Threads + Sync, A: Allocator + Copy + Send + Sync>(
     run_over(rt, global, alloc, &table, (&stream, &replies), row, watched)
 }
 
-/// A run over images.
+/// What is seen of a run over images, of a stream that is served lastingly or by `serve_as`.
 pub fn serve_of<R: Threads + Sync, A: Allocator + Copy + Send + Sync>(
     rt: &R,
     global: Global,
     alloc: A,
     images: Vec<Vec<u8, A>, A>,
     profile: Profile,
+    lasting: bool,
     row: Run,
     watched: Watched<'_>,
 ) -> Option<Seen> {
@@ -223,55 +297,20 @@ pub fn serve_of<R: Threads + Sync, A: Allocator + Copy + Send + Sync>(
     let replies = long_replies(global).ok()?;
     let mut pieces = pieces_of(&stream, row, watched);
     let mut taker = taker_of(global, row, watched);
-    let done = serve_as(
-        rt,
-        alloc,
-        images,
-        profile,
-        &mut Tap::new(&mut pieces),
-        &mut Spout::new(&mut taker),
-        plan,
-        u64::from(row.turns),
-        &FreePass,
-    );
-    Some(told(&done, &pieces, &taker, &replies))
-}
-
-/// A run over images, of a stream that is served lastingly.
-pub fn serve_lastingly<R: Threads + Sync, A: Allocator + Copy + Send + Sync>(
-    rt: &R,
-    global: Global,
-    alloc: A,
-    images: Vec<Vec<u8, A>, A>,
-    row: Run,
-    watched: Watched<'_>,
-) -> Option<Seen> {
-    let plan = Plan::new(row.plan.0, row.plan.1)?;
-    let stream = stream_of(global, row.stream).ok()?;
-    let replies = long_replies(global).ok()?;
-    let mut pieces = pieces_of(&stream, row, watched);
-    let mut taker = taker_of(global, row, watched);
-    let done = serve_from(
-        rt,
-        alloc,
-        images,
-        Profile::Usual,
-        Session::LastingFresh,
-        &mut Tap::new(&mut pieces),
-        &mut Spout::new(&mut taker),
-        plan,
-        u64::from(row.turns),
-        &FreePass,
-    );
-    Some(told(&done, &pieces, &taker, &replies))
-}
-
-/// The table of the sample image.
-pub fn sample_table<R: Threads + Sync, A: Allocator + Copy + Send + Sync>(
-    rt: &R,
-    alloc: A,
-) -> Option<Table<A>> {
-    let image = sample(alloc).ok()?;
-    let images = alone(alloc, image).ok()?;
-    prepare(rt, alloc, images, &FreePass).ok()
+    let mut tap = Tap::new(&mut pieces);
+    let mut spout = Spout::new(&mut taker);
+    let turns = u64::from(row.turns);
+    let done = if lasting {
+        let first = Session::LastingFresh;
+        serve_from(
+            rt, alloc, images, profile, first, &mut tap, &mut spout, plan, turns, &FreePass,
+        )
+    } else {
+        serve_as(
+            rt, alloc, images, profile, &mut tap, &mut spout, plan, turns, &FreePass,
+        )
+    };
+    drop(tap);
+    drop(spout);
+    Some(Finished::of(done, pieces, taker).seen(&replies))
 }

@@ -13,14 +13,4 @@
 #![tactic(auto)]
 
 #[cfg(test)]
-mod balances;
-#[cfg(test)]
-mod frames;
-#[cfg(test)]
-mod gates;
-#[cfg(test)]
-mod room;
-#[cfg(test)]
-mod streams;
-#[cfg(test)]
-mod workers;
+mod tests;

@@ -3,6 +3,8 @@
 //! A gate is shared by the threads that pass it, so no contract can say what its counts hold. The
 //! tests look at them when all threads have ended.
 
+use crate::refusing::Refusing;
+use std::alloc::Global;
 use std::sync::atomic::{AtomicU64, Ordering};
 use work_gate::{Gate, Work};
 
@@ -152,5 +154,33 @@ impl Crowd {
                 return;
             }
         }
+    }
+}
+
+/// Notes how many requests for memory came before the last piece of work was begun.
+#[derive(Drop)]
+pub struct Noting<'a> {
+    memory: &'a Refusing<Global>,
+    before: AtomicU64,
+}
+
+impl Gate for Noting<'_> {
+    fn pass(&self, _work: Work, _number: u32) {
+        self.before.store(self.memory.requests(), Ordering::SeqCst);
+    }
+}
+
+impl<'a> Noting<'a> {
+    /// Nothing was begun yet.
+    pub fn new(memory: &'a Refusing<Global>) -> Self {
+        Self {
+            memory,
+            before: AtomicU64::new(u64::MAX),
+        }
+    }
+
+    /// How many there were; the largest number, where no work was begun.
+    pub fn before(&self) -> u64 {
+        self.before.load(Ordering::SeqCst)
     }
 }

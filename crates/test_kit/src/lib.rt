@@ -6,11 +6,13 @@
 //! - `bytes`: bytes as a dump prints them.
 //! - `messages`: requests, and the replies to some of them, as bytes.
 //! - `sample_images`: small images.
+//! - `long`: a large file, a large directory, and streams whose replies are long.
 //! - `script`: streams of requests to the sample image, and the replies to one.
 #![tactic(auto)]
 
 pub mod bytes;
 pub mod gates;
+pub mod long;
 pub mod messages;
 pub mod refusing;
 pub mod sample_images;

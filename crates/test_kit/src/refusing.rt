@@ -160,3 +160,23 @@ pub fn refuse_each<F: FnMut(&Refusing<Global>, u64) -> Result<(), Fail>>(
     }
     Err(Fail::new("no end of requests"))
 }
+
+/// The same of a call that says whether it came to what it should. Gives how many requests it
+/// makes, or else the number of the first request at whose refusal it came to something else.
+pub fn refuse_in_turn<F: FnMut(&Refusing<Global>, u64) -> bool>(
+    alloc: Global,
+    mut call: F,
+) -> Result<u64, u64>
+    requires { F.IsAlwaysCallable call }
+{
+    for refuse_at in 1..1000 {
+        let refusing = Refusing::new(alloc, refuse_at);
+        if !call(&refusing, refuse_at) {
+            return Err(refuse_at);
+        }
+        if !refusing.refused() {
+            return Ok(refuse_at - 1);
+        }
+    }
+    Err(1000)
+}

@@ -107,11 +107,15 @@ pub fn checked<A: Allocator + Copy>(alloc: A, bytes: Vec<u8, A>) -> Result<Image
     }
 }
 
+fn layer<A: Allocator + Copy>(alloc: A, words: &str) -> Result<Image<A>, BuildFault> {
+    checked(alloc, image(alloc, b"v", words)?)
+}
+
 /// Layers of such words, the lowest first, with a `+` between any two.
 pub fn layers<A: Allocator + Copy>(alloc: A, all: &str) -> Result<Vec<Image<A>, A>, BuildFault> {
     let mut images = Vec::new(alloc);
     for words in all.split('+') {
-        images.push(checked(alloc, image(alloc, b"v", words)?)?)?;
+        images.push(layer(alloc, words)?)?;
     }
     Ok(images)
 }
@@ -124,4 +128,22 @@ pub fn alone<A: Allocator + Copy>(
     let mut images = Vec::new(alloc);
     images.push(image)?;
     Ok(images)
+}
+
+/// So many sample images.
+pub fn samples<A: Allocator + Copy>(alloc: A, count: usize) -> Option<Vec<Vec<u8, A>, A>> {
+    let mut images = Vec::new(alloc);
+    for _ in 0..count {
+        images.push(sample(alloc).ok()?).ok()?;
+    }
+    Some(images)
+}
+
+/// So many empty images.
+pub fn empties(alloc: Global, count: usize) -> Option<Vec<Vec<u8>>> {
+    let mut images = Vec::new(alloc);
+    for _ in 0..count {
+        images.push(empty(alloc).ok()?).ok()?;
+    }
+    Some(images)
 }

@@ -2,13 +2,15 @@
 
 use crate::jobs::jobs_of;
 use crate::tables::sample_table;
+use crate::threads::pieces_of;
 use reply_model::Session;
 use reply_pool::{Plan, round, spread_out};
 use stack_core::Work;
 use std::alloc::Global;
 use std::test::Fail;
 use std::thread::Threads;
-use test_kit::gates::{Crowd, FEW, Holding, MANY};
+use test_kit::gates::{Crowd, FEW, Holding, MANY, Noting};
+use test_kit::refusing::Refusing;
 use test_kit::script::script;
 
 /// Whether a batch was given up in a round of so many jobs in batches of one by two workers.
@@ -46,6 +48,17 @@ fn one_worker_answers_all_other_batches(rt: HostRuntime) {
 fn no_third_worker_is_there(rt: HostRuntime) {
     let gate = Holding::new(Work::Batch, 0b11, 0b100, FEW);
     assert_eq!(rt; is_given_up(&rt, rt.alloc(), 3, &gate), Some(true));
+}
+
+/// A worker asks for memory for its answers alone, and passes the gate of its only batch before.
+#[test]
+fn a_batch_is_answered_behind_its_gate(rt: HostRuntime) {
+    let plain = Refusing::new(rt.alloc(), 0);
+    let memory = Refusing::new(rt.alloc(), 0);
+    let gate = Noting::new(&memory);
+    let pieces = pieces_of(&rt, rt.alloc(), &plain, &memory, 3, &gate);
+    assert!(rt; matches!(pieces, Some(Ok((1, 2)))));
+    assert!(rt; gate.before() == 0 && 0 < memory.requests());
 }
 
 /// Of 24 requests of a stream as many are under way at a time as the plan has workers.

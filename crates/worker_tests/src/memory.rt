@@ -3,6 +3,7 @@
 use crate::answers::{Left, appended};
 use crate::batches::{Jobs, round_of};
 use crate::threads::pieces_of;
+use stack_core::FreePass;
 use std::alloc::{AllocError, Global};
 use std::test::Fail;
 use std::thread::Threads;
@@ -46,7 +47,7 @@ fn is_told<'a, R: Threads + Sync>(
                 None => false,
             }
         }
-        Call::Work => match pieces_of(rt, global, plain, alloc) {
+        Call::Work => match pieces_of(rt, global, plain, alloc, 12, &FreePass) {
             Some(Ok((pieces, draws))) => !alloc.refused() && pieces == 4 && draws == 5,
             Some(Err(AllocError)) => alloc.refused(),
             None => false,

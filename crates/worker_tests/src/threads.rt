@@ -10,7 +10,7 @@ use crate::tables::sample_table;
 use draw_board::{Board, Hand};
 use node_table::Table;
 use reply_pool::{Piece, work};
-use stack_core::FreePass;
+use stack_core::{FreePass, Gate};
 use std::alloc::{AllocError, Allocator, Global};
 use std::snapshot::Snapshot;
 use std::sync::Wait;
@@ -46,21 +46,23 @@ fn batches_in(jobs: usize) -> u32
     ((jobs + size - 1) / size) as u32
 }
 
-/// How many pieces one worker answers the script with, and how often it draws.
-pub fn pieces_of<R: Threads + Sync, A: Allocator + Copy + Send + Sync>(
+/// How many pieces one worker answers so many requests of the script with, and how often it draws.
+pub fn pieces_of<R: Threads + Sync, A: Allocator + Copy + Send + Sync, G: Gate>(
     rt: &R,
     global: Global,
     plain: A,
     alloc: A,
+    jobs: usize,
+    gate: &G,
 ) -> Option<Result<(usize, u64), AllocError>> {
     let stream = script(global).ok()?;
     let requests = jobs_of(global, &stream).ok()?;
-    let jobs = requests.get(..12)?;
+    let jobs = requests.get(..jobs.min(12))?;
     let table = sample_table(rt, plain)?;
     let Ok((board, mut hand)) = Board::start(global, batches_in(jobs.len()), 1) else {
         return None;
     };
-    let pieces = work(rt, alloc, &table, jobs, SIZE, &board, &mut hand, &FreePass);
+    let pieces = work(rt, alloc, &table, jobs, SIZE, &board, &mut hand, gate);
     let draws = board.close(hand);
     match pieces {
         Ok(pieces) => Some(Ok((pieces.len(), draws))),

@@ -6,7 +6,7 @@ ghost use Rattle.romfs_format.specs.Fields.{data_at, padded};
 use super::{BuildFault, Item, What};
 use romfs_format::limits::HEAD_SIZE;
 use romfs_format::read::padded;
-use std::alloc::{AllocError, Allocator};
+use std::alloc::Allocator;
 
 /// Whether items stand in walk order, each below a directory, with names that end, and whether hard
 /// links lead to items.
@@ -49,20 +49,16 @@ pub(super) fn data_of<A: Allocator>(item: &Item<A>) -> &[u8] {
     }
 }
 
-/// The place of a header, and the places that it and its directory's dots name. 0 is none.
+/// The places of a header, of the directory that it stands in and, of a directory, of its dots.
 #[derive(Clone, Copy)]
 pub(super) struct Placement {
     pub at: u32,
-    /// The header after it in the same directory.
-    pub next: u32,
     /// The header of the directory that it stands in.
     pub above: u32,
     /// A directory's `.`.
     pub dot: u32,
     /// A directory's `..`.
     pub dot_dot: u32,
-    /// What comes after a directory's `..`: its first member.
-    pub first: u32,
 }
 
 /// Where the headers of an image stand.
@@ -84,17 +80,14 @@ impl<A: Allocator + Copy> Layout<A> {
         let mut layout = Layout {
             root: Placement {
                 at,
-                next: 0,
                 above: at,
                 dot: at,
                 dot_dot,
-                first: 0,
             },
             placements: Vec::new(alloc),
             full: after(dot_dot, b"..", &[])?,
         };
         layout.place(alloc, items)?;
-        layout.chain(alloc, items)?;
         Ok(layout)
     }
 
@@ -123,29 +116,11 @@ impl<A: Allocator + Copy> Layout<A> {
         };
         self.placements.push(Placement {
             at,
-            next: 0,
             above,
             dot: end,
             dot_dot,
-            first: 0,
         })?;
         self.full = full;
-        Ok(())
-    }
-
-    /// Finds what comes after each item in its directory, and each directory's first member. It
-    /// goes backwards, and keeps for each depth the header that was met last in the open directory.
-    fn chain(&mut self, alloc: A, items: &[Item<A>]) -> Result<(), AllocError> {
-        let mut later = Vec::new(alloc);
-        for (placement, item) in self.placements.iter_mut().zip(items).rev() {
-            let depth = usize::from(item.depth);
-            later.resize(depth + 2, 0)?;
-            placement.first = later[depth + 1];
-            placement.next = later[depth];
-            later[depth] = placement.at;
-            later.truncate(depth + 1);
-        }
-        self.root.first = later.get(1).copied().unwrap_or(0);
         Ok(())
     }
 }
@@ -158,6 +133,23 @@ impl<A: Allocator> Layout<A> {
             None => 0,
         }
     }
+}
+
+/// Where the first item from index `from` on stands that has this depth, unless one that is less
+/// deep comes before it; 0 where none has.
+pub(super) fn place_at<A: Allocator>(
+    layout: &Layout<A>,
+    items: &[Item<A>],
+    from: usize,
+    depth: u16,
+) -> u32 {
+    for index in from..items.len() {
+        if items[index].depth <= depth {
+            let is_there = items[index].depth == depth;
+            return if is_there { layout.place_of(index) } else { 0 };
+        }
+    }
+    0
 }
 
 /// Where the next header stands after the one at `at` with this name and data. A volume header is

@@ -1,10 +1,10 @@
 //! The twelve-request script over the sample image, however it comes and goes, and a long stream
 //! without a reply.
 
-use serve_core::Stop;
-use serve_kit::runs::{Outcome, Run, Seen, Stream, TURNS, WHOLE, run_of, serve_lastingly};
+use serve_core::{Profile, Stop};
+use serve_kit::runs::{Outcome, Run, Seen, Stream, TURNS, WHOLE, run_of, serve_of};
 use std::test::Fail;
-use test_kit::sample_images::{alone, sample};
+use test_kit::sample_images::samples;
 
 #[test]
 fn every_way_gives_the_same_bytes(rt: HostRuntime) -> Result<(), Fail> {
@@ -26,9 +26,10 @@ fn every_way_gives_the_same_bytes(rt: HostRuntime) -> Result<(), Fail> {
 /// No reply to the script differs where it is served lastingly.
 #[test]
 fn the_script_is_served_lastingly(rt: HostRuntime) -> Result<(), Fail> {
-    let images = alone(rt.alloc(), sample(rt.alloc())?)?;
-    let seen = serve_lastingly(&rt, rt.alloc(), rt.alloc(), images, WHOLE, None).ok_or("a run")?;
-    assert!(rt; seen.end == Ok((12, 1531)) && seen.put == Some(1531));
+    let (global, profile) = (rt.alloc(), Profile::Usual);
+    let images = samples(global, 1).ok_or("an image")?;
+    let seen = serve_of(&rt, global, global, images, profile, true, WHOLE, None);
+    assert!(rt; seen.is_some_and(|seen| seen.end == Ok((12, 1531)) && seen.put == Some(1531)));
     Ok(())
 }
 

@@ -1,13 +1,13 @@
 //! Streams whose rounds are worth workers: for every plan they give what one worker gives.
 
-use serve_kit::long::{Long, stream};
-use serve_kit::outcomes::{Outcome, long_table, ran};
+use serve_kit::runs::{Finished, by, long_table, ran};
 use stack_core::{FreePass, Gate, Work};
 use stack_table::Table;
 use std::alloc::Global;
 use std::sync::atomic::{AtomicU64, Ordering};
 use std::test::Fail;
 use std::thread::Threads;
+use test_kit::long::{Long, stream};
 
 /// How many requests a stream has: enough for the first round, which has INIT and is answered by
 /// one thread, and one round by workers.
@@ -54,58 +54,64 @@ impl Holding {
     }
 }
 
-/// A run of a stream of 270 requests by one worker, which must have all their replies.
-fn by_one<R: Threads + Sync>(
-    rt: &R,
-    global: Global,
-    table: &Table<Global>,
-    stream: &[u8],
-    long: Long,
-) -> Result<Outcome, Fail> {
-    let alone = ran(rt, global, global, table, stream, (1, 16), &FreePass).ok_or("a run")?;
+/// Whether all replies to 270 requests stand.
+fn is_whole(ran: &Finished<Global>, long: Long) -> bool {
     let all = long.reply().saturating_mul(270).saturating_add(80);
-    if alone.end == Ok((271, u128::from(all))) && alone.bytes.len() as u64 == all {
-        Ok(alone)
-    } else {
-        Err(Fail::new(format_args!("{long:?} by one worker")))
-    }
+    ran.end() == Ok((271, u128::from(all))) && ran.put.len() as u64 == all
 }
 
 /// Whether two runs came to the same.
-fn is_same(one: &Outcome, other: &Outcome) -> bool {
-    one.end == other.end && one.bytes == other.bytes && one.balances == other.balances
+fn is_same(one: &Finished<Global>, other: &Finished<Global>) -> bool {
+    one.end() == other.end() && one.put == other.put && one.balances() == other.balances()
+}
+
+/// Whether a stream of 270 requests by one worker and by this plan comes to the same, with so many
+/// writes and flushes by either.
+fn is_right<R: Threads + Sync, G: Gate + Sync>(
+    rt: &R,
+    global: Global,
+    table: &Table<Global>,
+    long: Long,
+    plan: (u32, u32),
+    writes: (u64, u64),
+    gate: &G,
+) -> Option<bool> {
+    let stream = stream(global, long, COUNT).ok()?;
+    let alone = ran(
+        rt,
+        global,
+        global,
+        table,
+        &stream,
+        by((1, 16)),
+        None,
+        &FreePass,
+    )?;
+    let many = ran(rt, global, global, table, &stream, by(plan), None, gate)?;
+    let are_right = is_whole(&alone, long) && is_same(&many, &alone);
+    Some(are_right && (alone.writes, many.writes) == writes)
 }
 
 /// Rounds end with the reply with which 262,144 bytes are reached, and have one write and one flush
 /// each.
 #[test]
 fn long_replies_by_any_plan(rt: HostRuntime) -> Result<(), Fail> {
-    let global = rt.alloc();
-    let table = long_table(&rt, global).ok_or("a table")?;
-    for (long, writes) in [(Long::Read, 34), (Long::Readdirplus, 32)] {
-        let stream = stream(global, long, COUNT)?;
-        let alone = by_one(&rt, global, &table, &stream, long)?;
-        let many = ran(&rt, global, global, &table, &stream, (5, 3), &FreePass).ok_or("a run")?;
-        assert!(rt; is_same(&many, &alone), "{long:?}");
-        assert!(rt; alone.writes == writes && many.writes == writes, "{long:?}");
+    let table = long_table(&rt, rt.alloc()).ok_or("a table")?;
+    for (long, writes) in [(Long::Read, (34, 34)), (Long::Readdirplus, (32, 32))] {
+        let is_right = is_right(&rt, rt.alloc(), &table, long, (5, 3), writes, &FreePass);
+        assert!(rt; is_right == Some(true), "{long:?}");
     }
     Ok(())
 }
 
 #[test]
 fn long_lists_by_workers(rt: HostRuntime) -> Result<(), Fail> {
-    let global = rt.alloc();
-    let table = long_table(&rt, global).ok_or("a table")?;
-    let stream = stream(global, Long::Readdir, COUNT)?;
-    let alone = by_one(&rt, global, &table, &stream, Long::Readdir)?;
+    let table = long_table(&rt, rt.alloc()).ok_or("a table")?;
     for plan in [(2, 1), (2, 3), (5, 1), (5, 3), (4, 16)] {
         let gate = Holding::new();
-        let many = ran(&rt, global, global, &table, &stream, plan, &gate).ok_or("a run")?;
-        assert!(rt; is_same(&many, &alone), "{plan:?}");
-        assert!(rt;
-            many.writes == 6 && gate.given_up.load(Ordering::SeqCst) == 0,
-            "{plan:?}"
-        );
+        let is_right = is_right(&rt, rt.alloc(), &table, Long::Readdir, plan, (34, 6), &gate);
+        let is_given_up = gate.given_up.load(Ordering::SeqCst) != 0;
+        assert!(rt; is_right == Some(true) && !is_given_up, "{plan:?}");
     }
     Ok(())
 }

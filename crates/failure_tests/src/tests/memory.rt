@@ -1,17 +1,16 @@
 //! Each request for memory of a call is refused in turn.
 
 use romfs_format::Profile;
-use romfs_image::sample::BuildFault;
 use serve_core::{Stop, prepare};
 use serve_kit::runs::{Run, Seen, Stream, WHOLE, run_of, serve_of};
 use stack_core::FreePass;
 use std::alloc::Global;
 use std::test::Fail;
 use std::thread::Threads;
-use test_kit::refusing::{Refusing, refuse_each};
-use test_kit::sample_images::{alone, sample};
+use test_kit::refusing::{Refusing, refuse_in_turn};
+use test_kit::sample_images::samples;
 
-#[derive(Clone, Copy, Debug)]
+#[derive(Clone, Copy)]
 enum Call {
     Prepare,
     /// Of two images, of which this one is broken.
@@ -27,28 +26,25 @@ fn nodes_of_two<'a, R: Threads + Sync>(
     plain: &'a Refusing<Global>,
     alloc: &'a Refusing<Global>,
 ) -> Option<Result<u64, Stop>> {
-    let mut images = alone(plain, sample(plain).ok()?).ok()?;
-    images.push(sample(plain).ok()?).ok()?;
-    match prepare(rt, alloc, images, &FreePass) {
+    match prepare(rt, alloc, samples(plain, 2)?, &FreePass) {
         Ok(table) => Some(Ok(table.len())),
         Err(stop) => Some(Err(stop)),
     }
 }
 
-/// Two images in memory, of which this one is broken.
+/// Images in memory that refuses one request.
 type Images<'a> = Vec<Vec<u8, &'a Refusing<Global>>, &'a Refusing<Global>>;
 
-fn images_with<'a>(plain: &'a Refusing<Global>, broken: u16) -> Result<Images<'a>, BuildFault> {
-    let good = sample(plain)?;
-    let bad = b"no image".to_vec(plain)?;
-    let (low, high) = if broken == 0 {
-        (bad, good)
+/// Two images, of which this one is broken.
+fn images_with<'a>(plain: &'a Refusing<Global>, broken: u16) -> Option<Images<'a>> {
+    let mut images = samples(plain, 1)?;
+    let bad = b"no image".to_vec(plain).ok()?;
+    if broken == 0 {
+        images.insert(0, bad).ok()?;
     } else {
-        (good, bad)
-    };
-    let mut images = alone(plain, low)?;
-    images.push(high)?;
-    Ok(images)
+        images.push(bad).ok()?;
+    }
+    Some(images)
 }
 
 /// Which image is told to be broken, or else that memory was refused.
@@ -58,8 +54,7 @@ fn told_of<'a, R: Threads + Sync>(
     alloc: &'a Refusing<Global>,
     broken: u16,
 ) -> Option<Result<u16, Stop>> {
-    let images = images_with(plain, broken).ok()?;
-    match prepare(rt, alloc, images, &FreePass) {
+    match prepare(rt, alloc, images_with(plain, broken)?, &FreePass) {
         Ok(_) => None,
         Err(Stop::Layer { layer, fault: _ }) => Some(Ok(layer)),
         Err(stop) => Some(Err(stop)),
@@ -80,15 +75,24 @@ fn serve_in<'a, R: Threads + Sync>(
     alloc: &'a Refusing<Global>,
     row: Run,
 ) -> Option<Seen> {
-    let images = alone(plain, sample(plain).ok()?).ok()?;
-    serve_of(rt, global, alloc, images, Profile::Usual, row, Some(alloc))
+    let images = samples(plain, 1)?;
+    serve_of(
+        rt,
+        global,
+        alloc,
+        images,
+        Profile::Usual,
+        false,
+        row,
+        Some(alloc),
+    )
 }
 
 /// How many requests for memory it takes to prepare the sample image.
 fn requests_of_preparing<R: Threads + Sync>(rt: &R, global: Global) -> Option<u64> {
     let plain = Refusing::new(global, 0);
     let counting = Refusing::new(global, 0);
-    let images = alone(&plain, sample(&plain).ok()?).ok()?;
+    let images = samples(&plain, 1)?;
     let table = prepare(rt, &counting, images, &FreePass);
     let requests = counting.requests();
     table.is_ok().then_some(requests)
@@ -143,43 +147,57 @@ fn is_told<'a, R: Threads + Sync>(
 }
 
 /// How many requests a call makes, each of which is refused once.
-fn requests_of<R: Threads + Sync>(rt: &R, global: Global, call: Call) -> Result<u64, Fail> {
+fn requests_of<R: Threads + Sync>(rt: &R, global: Global, call: Call) -> Result<u64, u64> {
     let plain = Refusing::new(global, 0);
-    refuse_each(global, |refusing, refuse_at| {
-        if is_told(rt, global, &plain, refusing, refuse_at, call) {
-            Ok(())
-        } else {
-            Err(Fail::new(format_args!("{call:?} at {refuse_at}")))
-        }
+    refuse_in_turn(global, |refusing, refuse_at| {
+        is_told(rt, global, &plain, refusing, refuse_at, call)
     })
 }
 
 #[test]
-fn preparing_and_runs_are_refused(rt: HostRuntime) -> Result<(), Fail> {
-    assert!(rt; 30 < requests_of(&rt, rt.alloc(), Call::Prepare)?);
+fn preparing_and_runs_are_refused(rt: HostRuntime) {
+    let preparing = requests_of(&rt, rt.alloc(), Call::Prepare);
+    assert!(rt; matches!(preparing, Ok(31..)), "{preparing:?}");
     for broken in [0, 1] {
-        assert!(rt; 5 < requests_of(&rt, rt.alloc(), Call::PrepareBroken(broken))?);
+        let preparing = requests_of(&rt, rt.alloc(), Call::PrepareBroken(broken));
+        assert!(rt; matches!(preparing, Ok(6..)), "{broken}: {preparing:?}");
     }
     // Balances, replies, the buffer, and its growth.
-    assert!(rt; requests_of(&rt, rt.alloc(), Call::Run)? == 4);
-    Ok(())
+    assert_eq!(rt; requests_of(&rt, rt.alloc(), Call::Run), Ok(4));
 }
 
 #[test]
 fn serving_is_refused(rt: HostRuntime) -> Result<(), Fail> {
     let preparing = requests_of_preparing(&rt, rt.alloc()).ok_or("the sample image")?;
-    let mut requests = 0;
+    assert!(rt; 20 < preparing);
     for plan in [(1, 1), (2, 3), (5, 1)] {
-        requests = requests_of(&rt, rt.alloc(), Call::Serve(preparing, plan))?;
-        assert!(rt; 20 < preparing && preparing < requests, "{plan:?}");
+        let requests = requests_of(&rt, rt.alloc(), Call::Serve(preparing, plan));
+        assert!(rt;
+            requests.is_ok_and(|it| preparing < it),
+            "{plan:?}: {requests:?}"
+        );
     }
-    // The last request is for room behind the beginning of the WRITE: all replies before it are
-    // put.
+    Ok(())
+}
+
+/// The last request is for room behind the beginning of the WRITE: all replies before it are put.
+#[test]
+fn the_last_request_is_refused_behind_all_replies(rt: HostRuntime) -> Result<(), Fail> {
     let plain = Refusing::new(rt.alloc(), 0);
-    let last = Refusing::new(rt.alloc(), requests);
+    let counting = Refusing::new(rt.alloc(), 0);
+    let all = serve_in(&rt, rt.alloc(), &plain, &counting, LONG);
+    let last = Refusing::new(rt.alloc(), counting.requests());
     let seen = serve_in(&rt, rt.alloc(), &plain, &last, LONG).ok_or("a run")?;
+    assert!(rt; is_run(&all, false) && is_run(&Some(seen), true));
     assert!(rt; seen.put == Some(1531) && seen.reads == 2 && seen.writes == 2);
-    // With no turns no more is asked for than what preparing takes.
+    Ok(())
+}
+
+/// With no turns no more is asked for than what preparing takes.
+#[test]
+fn no_turns_take_no_memory(rt: HostRuntime) -> Result<(), Fail> {
+    let preparing = requests_of_preparing(&rt, rt.alloc()).ok_or("the sample image")?;
+    let plain = Refusing::new(rt.alloc(), 0);
     let counting = Refusing::new(rt.alloc(), 0);
     let row = Run { turns: 0, ..LONG };
     let seen = serve_in(&rt, rt.alloc(), &plain, &counting, row).ok_or("a run")?;
@@ -195,7 +213,16 @@ fn requests_of_refusing<R: Threads + Sync>(rt: &R, global: Global, count: u64) -
         images.push(Vec::new(&memory)).ok()?;
     }
     let before = memory.requests();
-    let seen = serve_of(rt, global, &memory, images, Profile::Usual, WHOLE, None)?;
+    let seen = serve_of(
+        rt,
+        global,
+        &memory,
+        images,
+        Profile::Usual,
+        false,
+        WHOLE,
+        None,
+    )?;
     let untouched = seen.reads == 0 && seen.writes == 0;
     (seen.end == Err(Stop::Layers { count }) && untouched).then_some(
         memory.requests().saturating_sub(before),

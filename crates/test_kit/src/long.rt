@@ -16,7 +16,7 @@ const INIT: [u8; 56] = [
 ];
 
 /// A request of which each stream has many.
-#[derive(Clone, Copy, Debug, PartialEq, Eq)]
+#[derive(Clone, Copy, Debug)]
 pub enum Long {
     /// READ of the file, a page from its beginning on.
     Read,
@@ -58,13 +58,30 @@ impl Long {
     }
 }
 
-fn item<A: Allocator>(depth: u16, name: Vec<u8, A>, what: What<A>) -> Item<A> {
-    Item {
+fn put<A: Allocator + Copy>(
+    items: &mut Vec<Item<A>, A>,
+    alloc: A,
+    depth: u16,
+    name: &[u8],
+    what: What<A>,
+) -> Result<(), AllocError> {
+    let name = name.to_vec(alloc)?;
+    items.push(Item {
         depth,
         name,
         exec: false,
         what,
+    })?;
+    Ok(())
+}
+
+/// A page of data.
+fn page<A: Allocator>(alloc: A) -> Result<Vec<u8, A>, AllocError> {
+    let mut data = Vec::new(alloc);
+    for place in 0..FILE {
+        data.push((place % 251) as u8)?;
     }
+    Ok(data)
 }
 
 /// The last digit of a number.
@@ -72,15 +89,8 @@ fn digit(number: u32) -> u8 {
     b'0' + (number % 10) as u8
 }
 
-/// A file `a`, and a directory `d` with the names 1000 to 4999.
-fn items<A: Allocator + Copy>(alloc: A) -> Result<Vec<Item<A>, A>, AllocError> {
-    let mut items = Vec::new(alloc);
-    let mut data = Vec::new(alloc);
-    for place in 0..FILE {
-        data.push((place % 251) as u8)?;
-    }
-    items.push(item(1, b"a".to_vec(alloc)?, What::Regular(data)))?;
-    items.push(item(1, b"d".to_vec(alloc)?, What::Directory))?;
+/// Empty files with the names 1000 to 4999.
+fn put_names<A: Allocator + Copy>(items: &mut Vec<Item<A>, A>, alloc: A) -> Result<(), AllocError> {
     for number in 1000..1000 + NAMES {
         let name = [
             digit(number / 1000),
@@ -88,9 +98,17 @@ fn items<A: Allocator + Copy>(alloc: A) -> Result<Vec<Item<A>, A>, AllocError> {
             digit(number / 10),
             digit(number),
         ];
-        let file = What::Regular(Vec::new(alloc));
-        items.push(item(2, name.to_vec(alloc)?, file))?;
+        put(items, alloc, 2, &name, What::Regular(Vec::new(alloc)))?;
     }
+    Ok(())
+}
+
+/// A file `a`, and a directory `d` with the names 1000 to 4999.
+fn items<A: Allocator + Copy>(alloc: A) -> Result<Vec<Item<A>, A>, AllocError> {
+    let mut items = Vec::new(alloc);
+    put(&mut items, alloc, 1, b"a", What::Regular(page(alloc)?))?;
+    put(&mut items, alloc, 1, b"d", What::Directory)?;
+    put_names(&mut items, alloc)?;
     Ok(items)
 }
 
@@ -108,13 +126,14 @@ fn put_request(
     size: u32,
 ) -> Result<(), AllocError> {
     let (opcode, node) = asked;
-    stream.extend_from_slice(&[80, 0, 0, 0, opcode, 0, 0, 0])?;
-    stream.extend_from_slice(&u64::from(unique).to_le_bytes())?;
-    stream.extend_from_slice(&u64::from(node).to_le_bytes())?;
-    // The rest of the header, the handle, and the offset.
-    stream.extend_from_slice(&[0; 32])?;
-    stream.extend_from_slice(&size.to_le_bytes())?;
-    stream.extend_from_slice(&[0; 20])
+    // The rest of the header, the handle and the offset are zeros.
+    let mut request = [0; 80];
+    request[0] = 80;
+    request[4] = opcode;
+    request[8..12].copy_from_slice(&unique.to_le_bytes());
+    request[16] = node;
+    request[56..60].copy_from_slice(&size.to_le_bytes());
+    stream.extend_from_slice(&request)
 }
 
 /// INIT, and so many requests.
@@ -131,7 +150,7 @@ pub fn mebibyte<A: Allocator + Copy>(alloc: A) -> Result<Vec<u8, A>, BuildFault>
     let mut data = Vec::new(alloc);
     data.resize(1 << 20, 7)?;
     let mut items = Vec::new(alloc);
-    items.push(item(1, b"a".to_vec(alloc)?, What::Regular(data)))?;
+    put(&mut items, alloc, 1, b"a", What::Regular(data))?;
     build(alloc, b"v", &items)
 }
 

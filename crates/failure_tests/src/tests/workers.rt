@@ -1,14 +1,13 @@
 //! Runs that workers answer, with each request for memory refused in turn.
 
 use serve_core::Stop;
-use serve_kit::long::{Long, image, stream};
-use serve_kit::outcomes::{long_table, ran, table_of};
-use serve_kit::runs::{Run, WHOLE, run_over};
+use serve_kit::runs::{by, long_table, ran, run_over};
 use stack_core::FreePass;
 use std::alloc::Global;
 use std::test::Fail;
 use std::thread::Threads;
-use test_kit::refusing::{Refusing, refuse_each};
+use test_kit::long::{Long, stream};
+use test_kit::refusing::{Refusing, refuse_in_turn};
 
 /// Whether a run of a stream tells that memory was refused, with some of the first replies put, and
 /// no device called after it; or else gives them all. The table stands in memory of `plain`.
@@ -20,20 +19,17 @@ fn is_told<'a, R: Threads + Sync>(
     plan: (u32, u32),
     streams: (&[u8], &[u8]),
 ) -> bool {
-    let Ok(image) = image(plain) else {
+    let Some(table) = long_table(rt, plain) else {
         return false;
     };
-    let Some(table) = table_of(rt, plain, image) else {
-        return false;
-    };
-    let row = Run { plan, ..WHOLE };
-    let Some(seen) = run_over(rt, global, alloc, &table, streams, row, Some(alloc)) else {
+    let Some(seen) = run_over(rt, global, alloc, &table, streams, by(plan), Some(alloc)) else {
         return false;
     };
     if alloc.refused() {
-        return seen.end == Err(Stop::Memory) && seen.put.is_some() && seen.late == 0;
+        seen.end == Err(Stop::Memory) && seen.put.is_some() && seen.late == 0
+    } else {
+        seen.end.is_ok() && seen.put == Some(streams.1.len())
     }
-    seen.end.is_ok() && seen.put == Some(streams.1.len())
 }
 
 /// How many requests for memory a run of a stream makes, each of which is refused once.
@@ -42,14 +38,10 @@ fn requests_of<R: Threads + Sync>(
     global: Global,
     plan: (u32, u32),
     streams: (&[u8], &[u8]),
-) -> Result<u64, Fail> {
+) -> Result<u64, u64> {
     let plain = Refusing::new(global, 0);
-    refuse_each(global, |refusing, refuse_at| {
-        if is_told(rt, global, &plain, refusing, plan, streams) {
-            Ok(())
-        } else {
-            Err(Fail::new(format_args!("{plan:?} at {refuse_at}")))
-        }
+    refuse_in_turn(global, |refusing, _| {
+        is_told(rt, global, &plain, refusing, plan, streams)
     })
 }
 
@@ -60,13 +52,18 @@ fn runs_by_workers_are_refused(rt: HostRuntime) -> Result<(), Fail> {
     let global = rt.alloc();
     let table = long_table(&rt, global).ok_or("a table")?;
     let stream = stream(global, Long::All, 17)?;
-    let whole = ran(&rt, global, global, &table, &stream, (1, 16), &FreePass).ok_or("a run")?;
+    let run = by((1, 16));
+    let whole = ran(&rt, global, global, &table, &stream, run, None, &FreePass);
+    let whole = whole.ok_or("a run")?;
     let all = Long::All.reply().saturating_mul(17).saturating_add(80);
-    assert!(rt; whole.bytes.len() as u64 == all);
-    let streams = (stream.as_slice(), whole.bytes.as_slice());
-    assert!(rt; requests_of(&rt, global, (1, 1), streams)? == 3);
-    for plan in [(2, 3), (5, 1)] {
-        assert!(rt; 15 < requests_of(&rt, global, plan, streams)?, "{plan:?}");
+    assert!(rt; whole.put.len() as u64 == all);
+    let streams = (stream.as_slice(), whole.put.as_slice());
+    for (plan, least, most) in [((1, 1), 3, 3), ((2, 3), 16, 999), ((5, 1), 16, 999)] {
+        let requests = requests_of(&rt, global, plan, streams);
+        assert!(rt;
+            requests.is_ok_and(|it| least <= it && it <= most),
+            "{plan:?}: {requests:?}"
+        );
     }
     Ok(())
 }
