@@ -12,7 +12,7 @@ use Rattle.romfs_format.specs.Chains.{IsFirst, IsNext, IsAt, IsInChain, IsOpened
 use Rattle.slot_sets.specs.Sets.{IsClear}
 use Rattle.slot_sets.proofs.Unions.{over_to}
 use Rattle.romfs_rules.specs.Marks.{IsMarked, AreMarks, IsInRootChain, IsElsewhere, Opens}
-use Rattle.romfs_rules.specs.Leads.{IsTheOne, LeadsOn, on, down, IsStart, AreStarts, Adds}
+use Rattle.romfs_rules.specs.Leads.{IsTheOne, IsFirstBelow, LeadsOn, on, down, IsStart, AreStarts, Adds}
 use Rattle.romfs_rules.proofs.Lists.{none_in, one_in, has_one}
 use Rattle.romfs_rules.proofs.Slots.{cleared_at, cleared_in_chain, one_more}
 use Rattle.romfs_rules.proofs.Standing.{opened_in}
@@ -192,12 +192,11 @@ some_short (Some n) = omega arith
 
 -- the header after one and the first below it, as far as there are such, are all that it leads on
 -- to
-pub led : (a : List ℕ) (at : ℕ) (n f : Option ℕ) (before middle after : List ℕ) → IsTheOne (IsNext a at) n
-    → IsTheOne (λ g. (at ≢ root a) × Opens a at × IsFirst a at g) f
-    → middle ≡ before ++ option_to_list n → after ≡ middle ++ option_to_list f → Adds (LeadsOn a at) before after
-led a at n f before middle after next first m k = record {
+pub led : (a : List ℕ) (at : ℕ) {n f : Option ℕ} (before after : List ℕ) → IsTheOne (IsNext a at) n → IsTheOne (IsFirstBelow a at) f
+    → after ≡ (before ++ option_to_list n) ++ option_to_list f → Adds (LeadsOn a at) before after
+led a at {n} {f} before after next first k = record {
   new = option_to_list n ++ option_to_list f;
-  is = k ∙ ap (λ x. x ++ option_to_list f) m ∙ append_assoc before (option_to_list n) (option_to_list f);
+  is = k ∙ append_assoc before (option_to_list n) (option_to_list f);
   few = (let x = some_short n in let y = some_short f in simp length-append (omega arith));
   only = λ g c. elim (Contains-append_cases (option_to_list n) (option_to_list f) g c) [
     | inl x ↦ on ((next.each g).0 (some_has n g x))

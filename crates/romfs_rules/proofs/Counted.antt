@@ -1,8 +1,9 @@
--- Counting links, as lists. Tallied says which headers some link names, and which two do: of one
+-- Counting links, as lists. One link counts for nothing, for the first or for a second (counts_none,
+-- counts_first, counts_again). Tallied says which headers some link names, and which two do: of one
 -- field more (counts_more), so of both of a slot (passes), and slots in no chain add nothing
 -- (skipped_to). After the last slot, what two links name is known (all_twice).
-use Rattle.std.proofs.Common.{◌≡◌, ◌≢◌, ◌∙◌, sym, ap, subst, ℕ, ◌+◌, ◌*◌, ◌/◌, ◌<◌, ◌≤◌, ◌⊎◌, inl, inr, List, length, get_or, replicate, Bool, true, false, Option, refl, arith}
-use Rattle.std.proofs.lemmas.List.{length-replicate}
+use Rattle.std.proofs.Common.{◌≡◌, ◌≢◌, ◌∙◌, sym, ap, subst, ℕ, ◌+◌, ◌*◌, ◌/◌, ◌<◌, ◌⊎◌, inl, inr, List, length, get_or, set, replicate, Bool, true, false, Option, Some, refl, arith}
+use Rattle.std.proofs.lemmas.List.{length-replicate, length-set}
 use Rattle.std.proofs.lemmas.Bool.{cases_eq, cases_lt, true≢false}
 use Rattle.romfs_format.specs.Fields.{root, IsInside, spec, cleared}
 use Rattle.romfs_format.specs.Links.{Field, first_of, next_of, IsLink}
@@ -10,12 +11,68 @@ use Rattle.romfs_format.specs.Rules.{IsLinkedTwice}
 use Rattle.romfs_rules.specs.Marks.{IsVolumeImage, IsMarked, AreMarks}
 use Rattle.romfs_rules.specs.Leads.{IsTheOne}
 use Rattle.romfs_rules.specs.Twice.{IsSlotOf, Counts, CountsBoth}
-use Rattle.slot_sets.specs.Sets.{IsClear}
 use Rattle.romfs_rules.specs.Leads.{IsInSomeChain}
 use Rattle.slot_sets.proofs.Unions.{over_to}
-use Rattle.romfs_rules.proofs.Slots.{outside_set, twice_cleared, cleared_root, cleared_in_chain, inside_opened, cleared_opened}
+use Rattle.romfs_rules.proofs.Slots.{IsGap, twice_cleared, cleared_root, cleared_in_chain, inside_opened, cleared_opened}
 use Rattle.romfs_rules.proofs.Standing.{opened, in_some_chain}
-use Rattle.successor_graph.proofs.Marks.{no_marks}
+use Rattle.successor_graph.proofs.Marks.{no_marks, newly_set, still_set, was_set}
+
+-- what one link counts for
+module _ (a : List ℕ) (to : Option ℕ) (once twice : List Bool) where
+  -- a link to no header in the image counts for nothing
+  pub counts_none : ((k : ℕ) → ¬ IsSlotOf a to k) → Counts a to once twice once twice
+  counts_none n = record {
+    once_sized = refl;
+    twice_sized = refl;
+    once_each = λ k. (λ o. inl o, elim [ inl o ↦ o | inr s ↦ absurd (n k s) ]);
+    twice_each = λ k. (λ o. inl o, elim [ inl o ↦ o | inr s ↦ absurd (n k s.0) ]);
+  }
+
+  module _ (h : ℕ) (is : to ≡ Some h) (i : IsInside a h) where
+    its_slot : (k : ℕ) → IsSlotOf a to k → k ≡ h / 16
+    its_slot k s = let e : Some s.0 ≡ Some h = sym s.1 ∙ is in let f : s.0 ≡ h = cc in s.3 ∙ ap (λ y. y / 16) f
+
+    -- the first link to a header in the image counts as one
+    pub counts_first : h / 16 < length once → get_or once (h / 16) false ≡ false → Counts a to once twice (set once (h / 16) true) twice
+    counts_first l m = record {
+      once_sized = length-set once (h / 16) true;
+      twice_sized = refl;
+      once_each = λ k. (
+        λ o. elim (was_set once (h / 16) k o) [ inl e ↦ inr (h, is, i, e) | inr q ↦ inl q ],
+        elim [
+          | inl q ↦ still_set once (h / 16) k l q
+          | inr s ↦ subst (λ j. get_or (set once (h / 16) true) j false ≡ true) (sym (its_slot k s)) (newly_set once (h / 16) l)
+        ],
+      );
+      twice_each = λ k. (
+        λ o. inl o,
+        elim [
+          | inl q ↦ q
+          | inr s ↦ absurd (true≢false (sym s.1 ∙ subst (λ j. get_or once j false ≡ false) (sym (its_slot k s.0)) m))
+        ],
+      );
+    }
+
+    -- a second one counts as two
+    pub counts_again : h / 16 < length twice → get_or once (h / 16) false ≡ true → Counts a to once twice once (set twice (h / 16) true)
+    counts_again l m = record {
+      once_sized = refl;
+      twice_sized = length-set twice (h / 16) true;
+      once_each = λ k. (
+        λ o. inl o,
+        elim [ inl o ↦ o | inr s ↦ subst (λ j. get_or once j false ≡ true) (sym (its_slot k s)) m ],
+      );
+      twice_each = λ k. (
+        λ o. elim (was_set twice (h / 16) k o) [
+          | inl e ↦ inr ((h, is, i, e), subst (λ j. get_or once j false ≡ true) (sym e) m)
+          | inr q ↦ inl q
+        ],
+        elim [
+          | inl q ↦ still_set twice (h / 16) k l q
+          | inr s ↦ subst (λ j. get_or (set twice (h / 16) true) j false ≡ true) (sym (its_slot k s.0)) (newly_set twice (h / 16) l)
+        ],
+      );
+    }
 
 module _ (a : List ℕ) where
   cleared_link : (f : Field) (h : ℕ) → IsLink a f h → cleared h ≡ h
@@ -167,10 +224,9 @@ module _ (a : List ℕ) where
   place_chained (next_of g) h l = inr (in_some_chain a l.0 g l.1.opened l.1.in_chain)
 
   -- a run of slots behind the root's whose headers are in no chain adds nothing to the tally
-  pub skipped_to : IsVolumeImage a → (headers : List Bool) → AreMarks a (IsInSomeChain a) headers
-      → (low high : ℕ) (once twice : List Bool) → root a < low * 16 → low ≤ high → IsClear headers low high
-      → Tallied (Below low) once twice → Tallied (Below high) once twice
-  skipped_to v headers m low high once twice r l c t = over_to (λ k. Tallied (Below k) once twice) low high l
+  pub skipped_to : {low high : ℕ} → IsVolumeImage a → (once twice : List Bool) → root a < low * 16
+      → IsGap a (IsInSomeChain a) low high → Tallied (Below low) once twice → Tallied (Below high) once twice
+  skipped_to {low} {high} v once twice r gap t = over_to (λ k. Tallied (Below k) once twice) low high gap.rising
       t (λ k n o x. same_tally (Below k) (Below (k + 1)) once twice
       (λ f h y. (y.0, (let z = y.1 in omega arith)))
       (λ f h y. (
@@ -181,7 +237,7 @@ module _ (a : List ℕ) where
               let e : place_of f ≡ k * 16 = (let p = cleared_place f h y.0 in let q = y.1 in omega arith) in
               absurd (elim (place_chained f h y.0) [
                 | inl q ↦ (let d : k * 16 ≡ root a = sym e ∙ q in omega arith)
-                | inr q ↦ outside_set a (IsInSomeChain a) headers m low high c k n o
+                | inr q ↦ gap.none k n o
                     (subst (λ i. IsInside a i) e (inside_place v f h y.0))
                     (subst (λ i. IsInSomeChain a i) e q)
               ]))

@@ -13,7 +13,7 @@ use Rattle.romfs_format.specs.Fields.{root, IsInside}
 use Rattle.romfs_format.specs.Chains.{IsFirst, IsNext, IsAt, IsOpened, at_root, below, IsMember}
 use Rattle.romfs_format.specs.Rules.{BreaksHeader}
 use Rattle.romfs_rules.specs.Marks.{IsMarked, Opens}
-use Rattle.romfs_rules.specs.Leads.{IsTheOne, Adds}
+use Rattle.romfs_rules.specs.Leads.{IsTheOne, IsFirstBelow, Adds}
 use Rattle.romfs_format.specs.declared.rule.Profile.TheVariants.{Usual}
 use Rattle.romfs_rules.specs.Judge.{KeepsAllHeaderRules}
 use Rattle.romfs_rules.specs.Outside.{IsLeast}
@@ -40,12 +40,12 @@ one_waits None n = omega arith
 one_waits (Some h) n = omega arith
 
 -- the header after one, and the first below it at one name more, are all that it leads down to
-pub led : (a : List ℕ) (w : Waiting) (next first : Option ℕ) (before middle after : List Waiting) → IsTheOne (IsNext a w.header) next
-    → IsTheOne (λ g. (w.header ≢ root a) × Opens a w.header × IsFirst a w.header g) first
-    → middle ≡ before ++ waiting next w.names → after ≡ middle ++ waiting first (w.names + 1) → Adds (LeadsDown a w) before after
-led a w next first before middle after x y m k = record {
+pub led : (a : List ℕ) (w : Waiting) {next first : Option ℕ} (before after : List Waiting) → IsTheOne (IsNext a w.header) next
+    → IsTheOne (IsFirstBelow a w.header) first
+    → after ≡ (before ++ waiting next w.names) ++ waiting first (w.names + 1) → Adds (LeadsDown a w) before after
+led a w {next} {first} before after x y k = record {
   new = waiting next w.names ++ waiting first (w.names + 1);
-  is = k ∙ ap (λ z. z ++ waiting first (w.names + 1)) m ∙ append_assoc before (waiting next w.names) (waiting first (w.names + 1));
+  is = k ∙ append_assoc before (waiting next w.names) (waiting first (w.names + 1));
   few = (let p = one_waits next w.names in let q = one_waits first (w.names + 1) in simp length-append (omega arith));
   only = λ v c. elim (Contains-append_cases (waiting next w.names) (waiting first (w.names + 1)) v c) [
     | inl z ↦ (let r = waits_for next w.names v z in subst (λ u. LeadsDown a w u) (sym r.2) (on ((x.each r.0).0 r.1)))

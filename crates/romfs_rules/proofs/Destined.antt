@@ -1,20 +1,19 @@
 -- The walk over destination chains, as lists. Walks is one walk, which marks what it comes to
 -- (marks_on); Reaches is the scan over slots that follows members' hard links (passes, skips).
 -- Marks that are closed hold whole chains (whole), so at last all targets (all_targets).
-use Rattle.std.proofs.Common.{◌≡◌, ◌∙◌, sym, subst, ℕ, ◌+◌, ◌*◌, ◌/◌, ◌^◌, ◌<◌, ◌≤◌, ◌⊎◌, inl, inr, List, length, get_or, set, Bool, true, false, arith}
-use Rattle.std.proofs.lemmas.List.{length-set}
-use Rattle.std.proofs.lemmas.Bool.{cases_eq}
+use Rattle.std.proofs.Common.{◌≡◌, ◌∙◌, sym, ap, replicate, subst, ℕ, ◌+◌, ◌*◌, ◌/◌, ◌^◌, ◌<◌, ◌⊎◌, inl, inr, List, length, get_or, set, Bool, true, false, arith}
+use Rattle.std.proofs.lemmas.List.{length-set, length-replicate}
+use Rattle.std.proofs.lemmas.Bool.{cases_eq, true≢false}
 use Rattle.romfs_format.specs.Fields.{IsInside, spec}
 use Rattle.romfs_format.specs.Chains.{IsSomeMember}
 use Rattle.romfs_format.specs.Links.{IsHardLink, destination, IsDestination, here, there, IsTarget}
 use Rattle.romfs_rules.specs.Marks.{IsMarked, AreMarks}
 use Rattle.romfs_rules.specs.Targets.{IsFollowed, IsClosed, FollowsLink}
-use Rattle.slot_sets.specs.Sets.{IsClear}
 use Rattle.romfs_rules.specs.Leads.{IsInSomeChain}
 use Rattle.slot_sets.proofs.Unions.{over_to}
-use Rattle.romfs_rules.proofs.Slots.{outside_set, twice_cleared, cleared_in_chain}
+use Rattle.romfs_rules.proofs.Slots.{IsGap, twice_cleared, cleared_in_chain}
 use Rattle.romfs_rules.proofs.Standing.{member_in_chain}
-use Rattle.successor_graph.proofs.Marks.{unmarked, marks_fall, newly_set, still_set, was_set}
+use Rattle.successor_graph.proofs.Marks.{unmarked, no_marks, marks_fall, newly_set, still_set, was_set}
 
 -- where a hard link on a destination chain leads is on that chain too
 pub goes_on : (a : List ℕ) {h g : ℕ} → IsDestination a h g → IsHardLink a g → IsDestination a h (destination a g)
@@ -100,6 +99,15 @@ module _ (a : List ℕ) where
     pub closed : IsClosed a marks
     pub below : (k : ℕ) → k < slot → IsHardLink a (k * 16) → IsSomeMember a (k * 16) → IsFollowed a marks (k * 16)
 
+  -- before the first slot nothing is marked or followed
+  pub none_reached : (marks : List Bool) → marks ≡ replicate (length a / 16) false → Reaches 0 marks
+  none_reached marks e = record {
+    sized = ap length e ∙ length-replicate (length a / 16) false;
+    each = λ k m. absurd (true≢false (sym m ∙ no_marks marks (length a / 16) e k));
+    closed = record { each = λ k m l. absurd (true≢false (sym m ∙ no_marks marks (length a / 16) e k)) };
+    below = λ k l. absurd (omega arith);
+  }
+
   lifted : (old new : List Bool) (from h : ℕ) → FollowsLink a from old new → IsFollowed a old h → IsFollowed a new h
   lifted old new from h f (inl m) = inl (f.kept (destination a h / 16) m)
   lifted old new from h f (inr n) = inr n
@@ -131,12 +139,9 @@ module _ (a : List ℕ) where
   }
 
   -- a run of slots whose headers are in no chain is done as it is
-  pub skipped_to : (headers : List Bool) → AreMarks a (IsInSomeChain a) headers
-      → (low high : ℕ) (marks : List Bool) → low ≤ high → IsClear headers low high → Reaches low marks
-      → Reaches high marks
-  skipped_to headers m low high marks l c r = over_to (λ k. Reaches k marks) low high l r
-      (λ k n o x. skips k marks (λ y. outside_set a (IsInSomeChain a) headers m low high c k n o y.0.0
-      (member_in_chain a (k * 16) y.1)) x)
+  pub skipped_to : {low high : ℕ} (marks : List Bool) → IsGap a (IsInSomeChain a) low high → Reaches low marks → Reaches high marks
+  skipped_to {low} {high} marks gap r = over_to (λ k. Reaches k marks) low high gap.rising r
+      (λ k n o x. skips k marks (λ y. gap.none k n o y.0.0 (member_in_chain a (k * 16) y.1)) x)
 
   -- after the last slot the marks are those of all headers on members' destination chains
   pub all_targets : (marks : List Bool) → Reaches (length a / 16) marks → AreMarks a (IsTarget a) marks

@@ -14,9 +14,8 @@ use Rattle.romfs_format.specs.Chains.{IsSomeMember}
 use Rattle.romfs_rules.specs.Marks.{AreMarks}
 use Rattle.romfs_rules.proofs.Destined.{goes_on}
 use Rattle.slot_sets.specs.Words.{Words}
-use Rattle.slot_sets.specs.Sets.{IsClear}
 use Rattle.slot_sets.proofs.Unions.{over_to}
-use Rattle.romfs_rules.proofs.Slots.{outside_set, twice_cleared, cleared_destination}
+use Rattle.romfs_rules.proofs.Slots.{IsGap, twice_cleared, cleared_destination}
 use Rattle.romfs_rules.specs.Ends.{HasEnds, AreWalkedEnds, KnowsEnd, Passes, IsUnpassedTarget}
 
 -- from within a closed set of hard links no chain leaves
@@ -183,10 +182,10 @@ module _ (a : List ℕ) (ends : List End) where
         old (suc n) h = refl
 
   -- the number of an earlier walk says how the chain ends from there
-  pub meets : (from at m n : ℕ) (marks : List ℕ) → Going a ends from at marks → get_or marks (at / 16) 0 ≡ m
-      → m ≢ 0 → m ≢ length ends + 1 → n ≡ m - 1 → EndsAs a at (get_or ends n AtDirectory)
-  meets from at m n marks g e z o p = let h = g.high (at / 16) in let q : m ≡ suc n = omega arith in
-      subst (λ y. EndsAs a y (get_or ends n AtDirectory)) g.aligned (g.past (at / 16) n (e ∙ q) (omega arith))
+  pub meets : {from at : ℕ} {marks : List ℕ} → Going a ends from at marks → (m : ℕ) → get_or marks (at / 16) 0 ≡ m
+      → m ≢ 0 → m ≢ length ends + 1 → EndsAs a at (get_or ends (m - 1) AtDirectory)
+  meets {at = at} g m e z o = let h = g.high (at / 16) in let q : m ≡ suc (m - 1) = omega arith in
+      subst (λ y. EndsAs a y (get_or ends (m - 1) AtDirectory)) g.aligned (g.past (at / 16) (m - 1) (e ∙ q) (omega arith))
 
 -- a walk that is under way has kept earlier marks, and marked where it began unless it stands there
 pub record Passing (from at : ℕ) (before marks : List ℕ) : Type 0 where
@@ -288,12 +287,10 @@ module _ (a walks : List ℕ) (ends : List End) (slot : ℕ) (f : Found a walks 
   }
 
 -- a run of slots whose headers are on no member's destination chain needs no walk
-pub found_to : (a walks : List ℕ) (ends : List End) (targets : List Bool) → AreMarks a (IsTarget a) targets
-    → (low high : ℕ) → low ≤ high → IsClear targets low high → Found a walks ends low
-    → Found a walks ends high
-found_to a walks ends targets m low high l c f = over_to (λ k. Found a walks ends k) low high l f
-    (λ k n o x. found_same a walks ends k x (λ y. outside_set a (IsTarget a) targets m low high c k n o
-    y.1.0.0 y.0))
+pub found_to : {a : List ℕ} {low high : ℕ} (walks : List ℕ) (ends : List End) → IsGap a (IsTarget a) low high
+    → Found a walks ends low → Found a walks ends high
+found_to {a} {low} {high} walks ends gap f = over_to (λ k. Found a walks ends k) low high gap.rising f
+    (λ k n o x. found_same a walks ends k x (λ y. gap.none k n o y.1.0.0 y.0))
 
 -- the number of a walk says where its chain ends
 module _ (a : List ℕ) (walks : Words) (ends : List End) (at : ℕ) (k : KnowsEnd a walks ends at) where

@@ -1,8 +1,9 @@
 -- What the tests of the rules say of a header: each is true exactly where its fact holds. They are
--- joined by and_known, or_else and or_true, and read a mark (mark_says), a list (list_says,
+-- joined by and_known, or_else and or_true, and read a mark (mark_says), a list (rises, list_says,
 -- listed_says), the data (data_says), or the end of hard links, which is one (one_end, link_says).
-use Rattle.std.proofs.Common.{◌≡◌, ◌∙◌, sym, subst, ℕ, ◌/◌, ◌↔◌, ◌⊎◌, inl, inr, List, Bool, get_or, true, false, Some, IsTrue, IsSomeAnd, Contains, refl}
-use Rattle.std.proofs.lemmas.Bool.{false≢true}
+use Rattle.std.proofs.Common.{◌≡◌, ◌∙◌, sym, subst, ℕ, ◌/◌, ◌<◌, ◌≤◌, ◌↔◌, ◌⊎◌, inl, inr, List, Bool, get_or, true, false, Some, IsTrue, IsSomeAnd, Contains, length, refl, arith}
+use Rattle.std.proofs.lemmas.Bool.{cases_order, false≢true}
+use Rattle.std.proofs.lemmas.List.{get_or_default}
 use Rattle.romfs_format.specs.declared.head.End.{End}
 use Rattle.romfs_format.specs.declared.head.End.TheVariants.{AtDirectory, AtOther, Nowhere}
 use Rattle.romfs_format.specs.declared.rule.Rule.TheVariants.{DataOutside, LinkedTwice, SameName}
@@ -26,6 +27,19 @@ mark_says a P marks h b m s e = (
   λ p. e
       ∙ (marked a P marks h m s.aligned s.inside).1 p,
 )
+
+-- a list of rising numbers rises whatever stands beyond its end
+pub rises : (xs : List ℕ) → ((i j : ℕ) → i < j → j < length xs → get_or xs i 0 < get_or xs j 0) → (i j d : ℕ) → i ≤ j → j < length xs
+    → get_or xs i d ≤ get_or xs j d
+rises xs rising i j d l m = elim (cases_order i j) [
+  | inl e ↦ rw e (omega arith)
+  | inr (inl k) ↦ (
+      let r = rising i j k m in
+      let e = get_or_default xs i d 0 (omega arith) in
+      let f = get_or_default xs j d 0 m in
+      omega arith)
+  | inr (inr k) ↦ absurd (omega arith)
+]
 
 -- where one fact is known to hold, the test of another says whether both do
 pub and_known : {P Q : Type 0} {b c : Bool} → IsTrue b ↔ Q → b ≡ true → IsTrue c ↔ P → IsTrue c ↔ (P × Q)

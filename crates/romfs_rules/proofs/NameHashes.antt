@@ -1,11 +1,9 @@
 -- What names are mixed to, number by number (no_hashes, one_hash), and which names stand once: one
 -- name is mixed to one hash, so a hash that was seen once is that of a name which one number alone
--- has (told_alone), and names are apart whose hashes are (apart_more, hashes_apart).
-use Rattle.std.proofs.Common.{◌≡◌, ◌∙◌, sym, ap, subst, ℕ, ◌+◌, ◌<◌, take, inl, inr, List, [], ◌∷◌, ◌++◌, length, Bool, Option, Some, None, arith, length-append}
+-- has (told_alone), and names are apart whose hashes are (hashes_apart, apart_more).
+use Rattle.std.proofs.Common.{◌≡◌, ◌≢◌, ◌∙◌, sym, ap, ℕ, ◌+◌, ◌<◌, inl, inr, List, [], ◌∷◌, ◌++◌, length, Bool, Option, Some, None, arith, length-append}
 use Rattle.std.specs.Prelude.{slice_index}
-use Rattle.std.proofs.lemmas.List.{get_or_at, get_or_append_left, get_or-take, length-take}
-use Rattle.std.specs.List.{Contains}
-use Rattle.std.proofs.lemmas.List.Elements.{Contains-get_or}
+use Rattle.std.proofs.lemmas.List.{get_or_at, get_or_append_left}
 use Rattle.equal_keys.specs.Once.{AreSeenOnce}
 use Rattle.equal_keys.specs.Names.{name_hash, AreNamesApart}
 use Rattle.equal_keys.proofs.Keyed.{below_or_at}
@@ -35,25 +33,23 @@ one_hash name i h hashes hashes' own push w = record {
   ];
 }
 
+-- the first n numbers stand apart
+abbrev pub AreApartTo : List ℕ → ℕ → Type 0
+AreApartTo hashes n = (i j : ℕ) → i < n → j < n → slice_index hashes i ≡ slice_index hashes j → i ≡ j
+
 -- numbers that stand apart, and one more that is not among them, stand apart
-pub apart_more : (hashes : List ℕ) (n : ℕ) → n < length hashes → ¬ Contains (take n hashes) (slice_index hashes n)
-    → ((i j : ℕ) → i < n → j < n → slice_index hashes i ≡ slice_index hashes j → i ≡ j)
-    → (i j : ℕ) → i < n + 1 → j < n + 1 → slice_index hashes i ≡ slice_index hashes j → i ≡ j
-apart_more hashes n l new old i j p q e = elim (below_or_at i n p) [
+pub apart_more : (hashes : List ℕ) (n : ℕ) → ((k : ℕ) → k < n → slice_index hashes k ≢ slice_index hashes n)
+    → AreApartTo hashes n → AreApartTo hashes (n + 1)
+apart_more hashes n new old = λ i j p q e. elim (below_or_at i n p) [
   | inl x ↦ elim (below_or_at j n q) [
     | inl y ↦ old i j x y e
-    | inr y ↦ absurd (again i x (e ∙ ap (λ k. slice_index hashes k) y))
+    | inr y ↦ absurd (new i x (e ∙ ap (λ k. slice_index hashes k) y))
   ]
   | inr x ↦ elim (below_or_at j n q) [
-    | inl y ↦ absurd (again j y (sym e ∙ ap (λ k. slice_index hashes k) x))
+    | inl y ↦ absurd (new j y (sym e ∙ ap (λ k. slice_index hashes k) x))
     | inr y ↦ x ∙ sym y
   ]
 ]
-  where
-    again : (k : ℕ) → k < n → slice_index hashes k ≡ slice_index hashes n → ⊥
-    again k m f =
-        let t : k < length (take n hashes) = omega (arith, length-take n hashes) in
-        new (subst (Contains (take n hashes)) (get_or-take n hashes k 0 m ∙ f) (Contains-get_or (take n hashes) k 0 t))
 
 -- a number whose hash was seen once has its name alone
 pub told_alone : (name : ℕ → Option (List ℕ)) (n : ℕ) (hashes : List ℕ) (once : List Bool)
@@ -64,8 +60,7 @@ told_alone name n hashes once w seen k q l t e j m f =
 
 -- names whose hashes are apart are apart
 pub hashes_apart : (name : ℕ → Option (List ℕ)) (n : ℕ) (hashes : List ℕ) → AreNameHashes name n hashes
-    → ((i j : ℕ) → i < length hashes → j < length hashes → slice_index hashes i ≡ slice_index hashes j → i ≡ j)
-    → AreNamesApart name n
+    → AreApartTo hashes (length hashes) → AreNamesApart name n
 hashes_apart name n hashes w apart = record {
   each = λ i j q l m e f. (let s = w.level in
       apart i j (omega arith) (omega arith) (w.each i q l e ∙ sym (w.each j q m f)));

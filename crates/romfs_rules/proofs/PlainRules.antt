@@ -175,22 +175,22 @@ module _ (a : List ℕ) (v : IsVolumeImage a) (marks : List Bool) (d : Descends 
 
   -- no rule of file headers is broken
   kept : (r : Rule) (h : ℕ) → IsHeaderRule r → ¬ BreaksHeaderAs Usual a r h
-  kept r h = by_rule (λ s. ¬ BreaksHeaderAs Usual a s h)
-      (λ x. elim (reached h x.0) [ inl e ↦ x.1 (subst (IsInside a) (sym e) (inside_root a v)) | inr y ↦ x.1 y.0 ])
-      (λ x. elim (reached h x.0) [
-        | inl e ↦ x.2 e
-        | inr y ↦ true≢false (let n : IsNone (Some y.1.0) = subst (λ o. IsNone o) y.1.1 x.3 in n)
-      ])
-      (λ x. let p = (member x.0.0 h x.0.1).1 in p.2.good (subst (λ o. IsSomeAnd o IsBadName) p.1 x.2))
-      (λ x. let p = used h x.0 in p.2.within (x.1, subst (λ o. IsSomeAnd o (EndsOutside a h)) p.1 x.2))
-      (λ x. (used h x.0).2.target x.1)
-      (linked_once h)
-      (λ x. no_namesake x.0 h x.1)
-      (no_loop h)
-      (no_directory h)
-      (λ x. (used h x.0).2.major x.1)
-      (λ x. x)
-      r
+  kept r h = by_rule (λ s. ¬ BreaksHeaderAs Usual a s h) (record {
+    outside = λ x. elim (reached h x.0) [ inl e ↦ x.1 (subst (IsInside a) (sym e) (inside_root a v)) | inr y ↦ x.1 y.0 ];
+    name_open = λ x. elim (reached h x.0) [
+      | inl e ↦ x.2 e
+      | inr y ↦ true≢false (let n : IsNone (Some y.1.0) = subst (λ o. IsNone o) y.1.1 x.3 in n)
+    ];
+    name_bad = λ x. (let p = (member x.0.0 h x.0.1).1 in p.2.good (subst (λ o. IsSomeAnd o IsBadName) p.1 x.2));
+    data_outside = λ x. (let p = used h x.0 in p.2.within (x.1, subst (λ o. IsSomeAnd o (EndsOutside a h)) p.1 x.2));
+    target_long = λ x. (used h x.0).2.target x.1;
+    linked_twice = linked_once h;
+    same_name = λ x. no_namesake x.0 h x.1;
+    link_loop = no_loop h;
+    link_directory = no_directory h;
+    major_large = λ x. (used h x.0).2.major x.1;
+    header_sum = λ x. x;
+  }) r
 
   -- a path from a directory that was gone along is short
   short : (x : List ℕ) (path : List (List ℕ)) (c n h : ℕ) → Contains d.done (folder c n) → Leads a c (x ∷ path) h

@@ -1,17 +1,16 @@
 -- The least headers outside the image that are reached. Each reached header but the root's is named
 -- by one inside (reached_named), so a scan over slots notes what each names (noted, scans), but for
 -- those that name nothing (scanned_to). After the last slot the least is found (all_scanned).
-use Rattle.std.proofs.Common.{◌≡◌, ◌≢◌, sym, ap, subst, ℕ, ◌+◌, ◌*◌, ◌/◌, ◌<◌, ◌≤◌, ◌⊎◌, inl, inr, List, length, Bool, false, Option, Some, None, refl, arith, leb}
+use Rattle.std.proofs.Common.{◌≡◌, ◌≢◌, sym, ap, subst, ℕ, ◌+◌, ◌*◌, ◌/◌, ◌<◌, ◌≤◌, ◌⊎◌, inl, inr, List, length, false, Option, Some, None, refl, arith, leb}
 use Rattle.std.proofs.lemmas.Bool.{cases_eq, cases_lt, le-leb}
 use Rattle.romfs_format.specs.Fields.{root, word, IsInside, cleared}
 use Rattle.romfs_format.specs.Chains.{IsSomeMember}
 use Rattle.romfs_format.specs.Links.{Field, first_of, next_of, IsLink, IsHardLink, destination, IsDestination, here, there, IsTarget, IsReached}
-use Rattle.romfs_rules.specs.Marks.{IsVolumeImage, AreMarks}
+use Rattle.romfs_rules.specs.Marks.{IsVolumeImage}
 use Rattle.romfs_rules.specs.Leads.{IsTheOne}
 use Rattle.romfs_rules.specs.Outside.{NamesDestination, NamesBySpec, Names, IsLeast, IsBelow, IsPastEnd, lesser, Notes, NotesOnBoth}
 use Rattle.romfs_rules.specs.declared.outside.Outside.{Outside}
-use Rattle.romfs_rules.proofs.Slots.{cleared_root, cleared_in_chain, inside_opened, cleared_opened, cleared_destination, outside_set}
-use Rattle.slot_sets.specs.Sets.{IsClear}
+use Rattle.romfs_rules.proofs.Slots.{cleared_root, cleared_in_chain, inside_opened, cleared_opened, cleared_destination, IsGap}
 use Rattle.romfs_rules.specs.Leads.{IsInSomeChain}
 use Rattle.slot_sets.proofs.Unions.{over_to}
 use Rattle.romfs_rules.proofs.Standing.{opened, in_some_chain, member_in_chain}
@@ -173,10 +172,10 @@ module _ (a : List ℕ) (at : ℕ) where
   )
 
   -- noting the first header, and then the destination, notes what spec.info names
-  pub noted_spec : (first hard : Option ℕ) (before with_first after : Outside) → IsTheOne (IsLink a (first_of at)) first
+  pub noted_spec : {first hard : Option ℕ} (before with_first after : Outside) → IsTheOne (IsLink a (first_of at)) first
       → IsTheOne (NamesDestination a at) hard → NotesOnBoth a (λ h. first ≡ Some h) before with_first
       → NotesOnBoth a (λ h. hard ≡ Some h) with_first after → NotesOnBoth a (NamesBySpec a at) before after
-  noted_spec first hard before with_first after y z m n = one_and (IsLink a (first_of at)) (NamesDestination a at) first _ _ _ y m
+  noted_spec {first} {hard} before with_first after y z m n = one_and (IsLink a (first_of at)) (NamesDestination a at) first _ _ _ y m
       (of_one _ (IsBelow a) _ hard _ z n.0, of_one _ (IsPastEnd a) _ hard _ z n.1)
 
   -- noting the header after one, and then what its spec.info names, notes all that it names
@@ -264,15 +263,13 @@ module _ (a : List ℕ) (Q : ℕ → Type 0) where
       l
 
   -- a run of slots behind the root's whose headers are not reached is scanned with nothing noted
-  pub scanned_to : (headers targets : List Bool) → AreMarks a (IsInSomeChain a) headers
-      → AreMarks a (IsTarget a) targets → (low high : ℕ) (found : Option ℕ) → root a < low * 16 → low ≤ high
-      → IsClear headers low high → IsClear targets low high → IsFoundBefore low found
-      → IsFoundBefore high found
-  scanned_to headers targets m t low high found r l c d f = over_to (λ k. IsFoundBefore k found) low high l f
+  pub scanned_to : {low high : ℕ} (found : Option ℕ) → root a < low * 16 → IsGap a (IsInSomeChain a) low high
+      → IsGap a (IsTarget a) low high → IsFoundBefore low found → IsFoundBefore high found
+  scanned_to {low} {high} found r chains targets f = over_to (λ k. IsFoundBefore k found) low high chains.rising f
       (λ k n o x. scan_over k found (λ g i y. elim (names_from (k * 16) g y) [
         | inl e ↦ omega arith
-        | inr (inl z) ↦ outside_set a (IsInSomeChain a) headers m low high c k n o i z
-        | inr (inr z) ↦ outside_set a (IsTarget a) targets t low high d k n o i z
+        | inr (inl z) ↦ chains.none k n o i z
+        | inr (inr z) ↦ targets.none k n o i z
       ]) x)
 
   -- after the last slot what was found is the least reached header of those looked for

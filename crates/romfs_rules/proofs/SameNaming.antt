@@ -9,8 +9,8 @@ use Rattle.romfs_format.specs.Fields.{root, IsInside, name, next, is_dot_name}
 use Rattle.romfs_format.specs.Chains.{IsNext, IsAt, IsInChain, IsPassedOver, IsDotted, IsOpened, IsMember}
 use Rattle.romfs_rules.specs.Marks.{IsElsewhere, HasSameName, AreMarks}
 use Rattle.successor_graph.specs.Climb.{After, one, more, AreNoted}
-use Rattle.equal_keys.specs.Names.{AreClasses, AreNamesApart}
-use Rattle.romfs_rules.specs.Names.{unless_dotted, kept_name}
+use Rattle.equal_keys.specs.Names.{AreNamesApart}
+use Rattle.romfs_rules.specs.Names.{unless_dotted, kept_name, AreClassesOf}
 use Rattle.slot_sets.specs.Listed.{AreCollected}
 use Rattle.romfs_rules.specs.SameNames.{IsLinked, AreNumbered, IsNextNumber, AreNextNumbers, AreChosen, HaveSameNames}
 use Rattle.romfs_rules.specs.Leads.{IsInSomeChain}
@@ -93,9 +93,9 @@ module _ (a : List ℕ) where
 
   -- the number of the header after one, where it lies inside, is how many of the set stand before
   -- it
-  pub next_number : (heads : List ℕ) (set : List Bool) (h after : ℕ) → AreNumbered a heads set → IsLinked a h
+  pub next_number : {heads : List ℕ} {set : List Bool} {h : ℕ} → AreNumbered a heads set → IsLinked a h → (after : ℕ)
       → after ≡ next a h → after ≢ 0 → IsInside a after → IsNextNumber a heads h (rank set (after / 16))
-  next_number heads set h after n l e z i =
+  next_number {heads} {set} {h} n l after e z i =
       let p = n.place after (next_linked h after l (l.inside, e, z) i) in
       let b = p.0 in
       record {
@@ -180,12 +180,17 @@ keeps a h q n i d e =
 some_name : (o : Option (List ℕ)) (q : List ℕ) → o ≡ Some q → IsSome o
 some_name o q e = rw e refl
 
-module _ (a heads : List ℕ) (set : List Bool) (n : AreNumbered a heads set) (only : ¬ IsElsewhere a (root a)) where
+-- what is known of the headers in chains, where the root's is in none but its own: all of them, each at its number
+pub record IsOrdered (a heads : List ℕ) (set : List Bool) : Type 0 where
+  pub numbered : AreNumbered a heads set
+  pub alone : ¬ IsElsewhere a (root a)
+
+module _ (a heads : List ℕ) (set : List Bool) (o : IsOrdered a heads set) where
   one_number : (i j : ℕ) → i < length heads → j < length heads → get_or heads i 0 ≡ get_or heads j 0 → i ≡ j
   one_number i j l k e = elim (cases_order i j) [
     | inl f ↦ f
-    | inr (inl f) ↦ absurd (let r = n.rising i j f k in omega arith)
-    | inr (inr f) ↦ absurd (let r = n.rising j i f l in omega arith)
+    | inr (inl f) ↦ absurd (let r = o.numbered.rising i j f k in omega arith)
+    | inr (inr f) ↦ absurd (let r = o.numbered.rising j i f l in omega arith)
   ]
 
   member_linked : (d h : ℕ) → IsMember a d h → IsInside a h → IsLinked a h
@@ -194,23 +199,27 @@ module _ (a heads : List ℕ) (set : List Bool) (n : AreNumbered a heads set) (o
   not_root : (d h : ℕ) → IsMember a d h → h ≢ root a
   not_root d h k e = elim (cases_eq d (root a)) [
     | inl f ↦ k.kept (inl (f, e))
-    | inr f ↦ only (record { dir = d; other = f; opened = k.opened; in_chain = subst (λ z. IsInChain a d z) e k.in_chain })
+    | inr f ↦ o.alone (record { dir = d; other = f; opened = k.opened; in_chain = subst (λ z. IsInChain a d z) e k.in_chain })
   ]
 
   its_name : (d h : ℕ) (q : List ℕ) → IsMember a d h → IsInside a h → name a h ≡ Some q → kept_name a h ≡ Some q
   its_name d h q k i e = keeps a h q (not_root d h k) i (λ x. k.kept (inr x)) e
 
-  -- the numbers of a header and of one of its name at a lower place, which one chain leads on to
-  record Namesakes (h : ℕ) : Type 0 where
-    upper : ℕ
-    lower : ℕ
+  -- the numbers of a header and of one at a lower place, and the name that both have
+  record AreNamesakes (upper lower : ℕ) : Type 0 where
     upper_within : upper < length heads
     lower_within : lower < length heads
-    upper_is : get_or heads upper 0 ≡ h
     below : lower < upper
     called : List ℕ
     upper_named : kept_name a (get_or heads upper 0) ≡ Some called
     lower_named : kept_name a (get_or heads lower 0) ≡ Some called
+
+  -- those of a header and of one of its name, which one chain leads on to
+  record Namesakes (h : ℕ) : Type 0 where
+    upper : ℕ
+    lower : ℕ
+    alike : AreNamesakes upper lower
+    upper_is : get_or heads upper 0 ≡ h
     upper_inside : IsInside a h
     lower_inside : IsInside a (get_or heads lower 0)
     along : Follows a h (get_or heads lower 0) ⊎ Follows a (get_or heads lower 0) h
@@ -218,27 +227,29 @@ module _ (a heads : List ℕ) (set : List Bool) (n : AreNumbered a heads set) (o
   namesakes : (h : ℕ) → HasSameName a h → Namesakes h
   namesakes h (g, (b, (d, x, y), u, v, s)) = go (name a h) refl v.1
     where
-      go : (o : Option (List ℕ)) → name a h ≡ o → IsSome o → Namesakes h
+      go : (text : Option (List ℕ)) → name a h ≡ text → IsSome text → Namesakes h
       go None e f = absurd (false≢true f)
       go (Some q) e f =
-          let p = n.place h (member_linked d h y v.0) in
-          let r = n.place g (member_linked d g x u.0) in
+          let p = o.numbered.place h (member_linked d h y v.0) in
+          let r = o.numbered.place g (member_linked d g x u.0) in
           let i = rank set (h / 16) in
           let j = rank set (g / 16) in
           record {
             upper = i;
             lower = j;
-            upper_within = p.0;
-            lower_within = r.0;
+            alike = record {
+              upper_within = p.0;
+              lower_within = r.0;
+              below = elim (cases_order i j) [
+                | inl z ↦ absurd (let w = sym p.1 ∙ ap (λ k. get_or heads k 0) z ∙ r.1 in omega arith)
+                | inr (inl z) ↦ absurd (let w = o.numbered.rising i j z r.0 in let e = p.1 in let f = r.1 in omega arith)
+                | inr (inr z) ↦ z
+              ];
+              called = q;
+              upper_named = ap (λ z. kept_name a z) p.1 ∙ its_name d h q y v.0 e;
+              lower_named = ap (λ z. kept_name a z) r.1 ∙ its_name d g q x u.0 (s ∙ e);
+            };
             upper_is = p.1;
-            below = elim (cases_order i j) [
-              | inl z ↦ absurd (let w = sym p.1 ∙ ap (λ k. get_or heads k 0) z ∙ r.1 in omega arith)
-              | inr (inl z) ↦ absurd (let w = n.rising i j z r.0 in let e = p.1 in let f = r.1 in omega arith)
-              | inr (inr z) ↦ z
-            ];
-            called = q;
-            upper_named = ap (λ z. kept_name a z) p.1 ∙ its_name d h q y v.0 e;
-            lower_named = ap (λ z. kept_name a z) r.1 ∙ its_name d g q x u.0 (s ∙ e);
             upper_inside = v.0;
             lower_inside = subst (IsInside a) (sym r.1) u.0;
             along = subst (λ k. Follows a h k ⊎ Follows a k h) (sym r.1)
@@ -251,39 +262,47 @@ module _ (a heads : List ℕ) (set : List Bool) (n : AreNumbered a heads set) (o
     each = λ h x. absurd (let l = x.1 in omega arith);
     all = λ h x. (
         let p = namesakes h x in
-        let e = w.each p.lower p.upper p.called p.lower_within p.upper_within p.lower_named p.upper_named in
-        let b = p.below in
+        let n = p.alike in
+        let e = w.each p.lower p.upper n.called n.lower_within n.upper_within n.lower_named n.upper_named in
+        let b = n.below in
         absurd (omega arith));
     rising = λ i j l k. absurd (omega arith);
   }
 
-module _ (a heads : List ℕ) (set : List Bool) (next class : List ℕ) (noted : List Bool) (n : AreNumbered a heads set)
-    (t : AreNextNumbers a heads next)
-    (c : AreClasses (λ i. kept_name a (get_or heads i 0)) (length heads) class) (m : AreNoted next class noted)
-    (only : ¬ IsElsewhere a (root a)) where
-  at_last : {y : ℕ} {x : ℕ} → x ≡ length heads → After next x y → y ≡ length heads
-  at_last e (one f) = sym f ∙ ap (λ z. get_or next z 0) e ∙ t.last
-  at_last e (more f b) = at_last (sym f ∙ ap (λ z. get_or next z 0) e ∙ t.last) b
+-- the headers in chains by their numbers: which leads on to which, their classes by name, and those noted that one of the same class
+-- stands before or behind
+pub record AreClimbed (a heads : List ℕ) (set : List Bool) (noted : List Bool) : Type 0 where
+  pub order : IsOrdered a heads set
+  pub next : List ℕ
+  pub class : List ℕ
+  pub leads : AreNextNumbers a heads next
+  pub classes : AreClassesOf a heads class
+  pub notes : AreNoted next class noted
+
+module _ (a heads : List ℕ) (set noted : List Bool) (w : AreClimbed a heads set noted) where
+  at_last : {y : ℕ} {x : ℕ} → x ≡ length heads → After w.next x y → y ≡ length heads
+  at_last e (one f) = sym f ∙ ap (λ z. get_or w.next z 0) e ∙ w.leads.last
+  at_last e (more f b) = at_last (sym f ∙ ap (λ z. get_or w.next z 0) e ∙ w.leads.last) b
 
   -- one number comes after another
-  forth : {x y : ℕ} → x < length heads → y < length heads → After next x y → Follows a (get_or heads x 0) (get_or heads y 0)
+  forth : {x y : ℕ} → x < length heads → y < length heads → After w.next x y → Follows a (get_or heads x 0) (get_or heads y 0)
   forth {x = x} {y = y} l k (one e) = next_one (subst (λ z. IsNext a (get_or heads x 0) (get_or heads z 0)) e
-      ((t.each x l).only (let f = e in omega arith)))
-  forth {x = x} {y = y} l k (more {y = w} e b) = elim (cases_order w (length heads)) [
+      ((w.leads.each x l).only (let f = e in omega arith)))
+  forth {x = x} {y = y} l k (more {y = v} e b) = elim (cases_order v (length heads)) [
     | inl f ↦ absurd (let g = at_last f b in omega arith)
-    | inr (inl f) ↦ later (subst (λ z. IsNext a (get_or heads x 0) (get_or heads z 0)) e ((t.each x l).only (let g = e in omega arith)))
-        (forth f k b)
-    | inr (inr f) ↦ absurd (let g = (t.each x l).below in let h = e in omega arith)
+    | inr (inl f) ↦ later (subst (λ z. IsNext a (get_or heads x 0) (get_or heads z 0)) e
+        ((w.leads.each x l).only (let g = e in omega arith))) (forth f k b)
+    | inr (inr f) ↦ absurd (let g = (w.leads.each x l).below in let h = e in omega arith)
   ]
 
   back : {h g : ℕ} → Follows a h g → (x : ℕ) → x < length heads → get_or heads x 0 ≡ h → IsInside a g
-      → (y : ℕ) × (y < length heads) × (get_or heads y 0 ≡ g) × After next x y
+      → (y : ℕ) × (y < length heads) × (get_or heads y 0 ≡ g) × After w.next x y
   back {h = h} {g = g} (next_one k) x l e i =
-      let p = (t.each x l).all g (subst (λ z. IsNext a z g) (sym e) k) i in
-      (get_or next x 0, p.0, p.1, one refl)
-  back {h = h} {g = g} (later {g = w} k f) x l e i =
-      let p = (t.each x l).all w (subst (λ z. IsNext a z w) (sym e) k) (starts_inside a f) in
-      let r = back f (get_or next x 0) p.0 p.1 i in
+      let p = (w.leads.each x l).all g (subst (λ z. IsNext a z g) (sym e) k) i in
+      (get_or w.next x 0, p.0, p.1, one refl)
+  back {h = h} {g = g} (later {g = v} k f) x l e i =
+      let p = (w.leads.each x l).all v (subst (λ z. IsNext a z v) (sym e) k) (starts_inside a f) in
+      let r = back f (get_or w.next x 0) p.0 p.1 i in
       (r.0, r.1, r.2, more refl r.3)
 
   over : (d h : ℕ) (q : List ℕ) → kept_name a h ≡ Some q → ¬ IsPassedOver a d h
@@ -291,18 +310,22 @@ module _ (a heads : List ℕ) (set : List Bool) (next class : List ℕ) (noted :
   over d h q e (inr x) = (kept a h q e).2 x
 
   -- in the chain of one directory, with one name
-  share_name : (i y : ℕ) (q : List ℕ) → i < length heads → y < length heads → y < i
-      → kept_name a (get_or heads i 0) ≡ Some q → kept_name a (get_or heads y 0) ≡ Some q
-      → (d : ℕ) → IsOpened a d → IsInChain a d (get_or heads i 0) → IsInChain a d (get_or heads y 0) → HasSameName a (get_or heads i 0)
-  share_name i y q l k b e f d o x z =
-      let g = (kept a (get_or heads i 0) q e).1 in
-      let h = (kept a (get_or heads y 0) q f).1 in (
+  share_name : (i y : ℕ) → AreNamesakes a heads set w.order i y → (d : ℕ) → IsOpened a d → IsInChain a d (get_or heads i 0)
+      → IsInChain a d (get_or heads y 0) → HasSameName a (get_or heads i 0)
+  share_name i y n d opened x z =
+      let g = (kept a (get_or heads i 0) n.called n.upper_named).1 in
+      let h = (kept a (get_or heads y 0) n.called n.lower_named).1 in
+      let order = w.order.numbered in (
         get_or heads y 0,
         (
-          n.rising y i b l,
-          (d, record { opened = o; in_chain = z; kept = over d _ q f }, record { opened = o; in_chain = x; kept = over d _ q e }),
-          ((n.each y k).inside, some_name _ q h),
-          ((n.each i l).inside, some_name _ q g),
+          order.rising y i n.below n.upper_within,
+          (
+            d,
+            record { opened = opened; in_chain = z; kept = over d _ n.called n.lower_named },
+            record { opened = opened; in_chain = x; kept = over d _ n.called n.upper_named },
+          ),
+          ((order.each y n.lower_within).inside, some_name _ n.called h),
+          ((order.each i n.upper_within).inside, some_name _ n.called g),
           h ∙ sym g,
         ),
       )
@@ -310,42 +333,52 @@ module _ (a heads : List ℕ) (set : List Bool) (next class : List ℕ) (noted :
   -- a header that is noted has the name of a member of its directory at a lower place
   pub noted_right : (i : ℕ) → i < length heads → get_or noted i false ≡ true → HasSameName a (get_or heads i 0)
   noted_right i l k =
-      let h = m.each i k in
+      let h = w.notes.each i k in
       let y = h.0 in
-      let w = h.1 in
-      let b = w.below in
-      let s = c.only y i (omega arith) (omega arith) (omega arith) w.same in
-      elim w.along [
-        | inl r ↦ (let p = (n.each i l).stands in share_name i y s.2.0 l s.0 b s.2.2 s.2.1 (n.each i l).dir
-            p.opened p.in_chain (in_chain_too a _ p.in_chain (forth l s.0 r)))
-        | inr r ↦ (let p = (n.each y s.0).stands in share_name i y s.2.0 l s.0 b s.2.2 s.2.1
-            (n.each y s.0).dir p.opened (in_chain_too a _ p.in_chain (forth s.0 l r)) p.in_chain)
+      let v = h.1 in
+      let b = v.below in
+      let s = w.classes.only y i (omega arith) (omega arith) (omega arith) v.same in
+      let n : AreNamesakes a heads set w.order i y = record {
+        upper_within = l;
+        lower_within = s.0;
+        below = b;
+        called = s.2.0;
+        upper_named = s.2.2;
+        lower_named = s.2.1;
+      } in
+      let each = w.order.numbered.each in
+      elim v.along [
+        | inl r ↦ (let p = (each i l).stands in share_name i y n (each i l).dir p.opened p.in_chain
+            (in_chain_too a _ p.in_chain (forth l s.0 r)))
+        | inr r ↦ (let p = (each y s.0).stands in share_name i y n (each y s.0).dir p.opened
+            (in_chain_too a _ p.in_chain (forth s.0 l r)) p.in_chain)
       ]
 
   -- a header with the name of a member of its directory at a lower place is noted
   pub noted_whole : (h : ℕ) → HasSameName a h → (i : ℕ) × (i < length heads) × (get_or heads i 0 ≡ h) × (get_or noted i false ≡ true)
   noted_whole h x =
-      let p = namesakes a heads set n only h x in
-      let same = c.all p.lower p.upper p.called p.lower_within p.upper_within p.lower_named p.upper_named in
-      let along : After next p.upper p.lower ⊎ After next p.lower p.upper = elim p.along [
-        | inl z ↦ (let w = back z p.upper p.upper_within p.upper_is p.lower_inside in
-            inl (subst (λ k. After next p.upper k) (one_number a heads set n only w.0 p.lower w.1 p.lower_within w.2) w.3))
-        | inr z ↦ (let w = back z p.lower p.lower_within refl p.upper_inside in
-            inr (subst (λ k. After next p.lower k) (one_number a heads set n only w.0 p.upper w.1 p.upper_within (w.2 ∙ sym p.upper_is))
-            w.3))
+      let p = namesakes a heads set w.order h x in
+      let n = p.alike in
+      let same = w.classes.all p.lower p.upper n.called n.lower_within n.upper_within n.lower_named n.upper_named in
+      let along : After w.next p.upper p.lower ⊎ After w.next p.lower p.upper = elim p.along [
+        | inl z ↦ (let v = back z p.upper n.upper_within p.upper_is p.lower_inside in
+            inl (subst (λ k. After w.next p.upper k) (one_number a heads set w.order v.0 p.lower v.1 n.lower_within v.2) v.3))
+        | inr z ↦ (let v = back z p.lower n.lower_within refl p.upper_inside in
+            inr (subst (λ k. After w.next p.lower k) (one_number a heads set w.order v.0 p.upper v.1 n.upper_within (v.2 ∙ sym p.upper_is))
+            v.3))
       ] in (
         p.upper,
-        p.upper_within,
+        n.upper_within,
         p.upper_is,
-        m.all p.upper (let z = t.sized in let l = p.upper_within in omega arith)
-            (p.lower, record { below = p.below; same = same; along = along }),
+        w.notes.all p.upper (let z = w.leads.sized in let l = n.upper_within in omega arith)
+            (p.lower, record { below = n.below; same = same; along = along }),
       )
 
   -- the noted headers are exactly those with the name of a member of their directory at a lower
   -- place
   pub same_names : (found : List ℕ) → AreChosen heads noted (length heads) found → HaveSameNames a found
-  same_names found w = record {
-    each = λ h x. (let r = w.each h x in subst (λ y. HasSameName a y) r.3 (noted_right r.0 r.1 r.2));
-    all = λ h k. (let r = noted_whole h k in subst (λ y. Contains found y) r.2 (w.all r.0 r.1 r.3));
-    rising = w.rising;
+  same_names found c = record {
+    each = λ h x. (let r = c.each h x in subst (λ y. HasSameName a y) r.3 (noted_right r.0 r.1 r.2));
+    all = λ h k. (let r = noted_whole h k in subst (λ y. Contains found y) r.2 (c.all r.0 r.1 r.3));
+    rising = c.rising;
   }

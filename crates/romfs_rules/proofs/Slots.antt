@@ -1,6 +1,6 @@
 -- Headers and their slots. All that a field or a hard link names stands at a multiple of 16
 -- (cleared_root and those like it), so a set by slots loses nothing: a mark says what its set is of
--- (marked, outside_set), also of two joined (united_marks) and with one more (one_more).
+-- (marked, clear_gap), also of two joined (united_marks) and with one more (one_more).
 use Rattle.std.proofs.Common.{◌≡◌, ◌∙◌, sym, ap, get_or, set, true, false, IsTrue, subst, ℕ, zero, suc, ◌*◌, ◌/◌, ◌<◌, ◌≤◌, ◌↔◌, ◌⊎◌, inl, inr, List, Bool, length, Some, None, refl, arith}
 use Rattle.std.proofs.lemmas.Bool.{true≢false}
 use Rattle.std.specs.Option.{option_map_or}
@@ -76,24 +76,31 @@ pub marked : (a : List ℕ) (P : ℕ → Type 0) (marks : List Bool) (h : ℕ) �
 marked a P marks h m c i = (λ x. subst P c (m.each (h / 16) x).0, λ p. m.all h p i)
 
 -- the mark of the root's header says whether it is one of those that the marks are of
-pub root_marked : (a : List ℕ) → IsVolumeImage a → (P : ℕ → Type 0) (marks : List Bool) (flag : Bool) (h : ℕ)
-    → AreMarks a P marks → h ≡ root a → flag ≡ get_or marks (h / 16) false → IsTrue flag ↔ P (root a)
-root_marked a v P marks flag h m e f =
+pub root_marked : {a : List ℕ} {P : ℕ → Type 0} {marks : List Bool} → IsVolumeImage a → AreMarks a P marks → (flag : Bool) (h : ℕ)
+    → h ≡ root a → flag ≡ get_or marks (h / 16) false → IsTrue flag ↔ P (root a)
+root_marked {a} {P} {marks} v m flag h e f =
     let t = marked a P marks (root a) m (cleared_root a) (inside_root a v) in
     let g : flag ≡ get_or marks (root a / 16) false = f ∙ ap (λ x. get_or marks (x / 16) false) e in
     (λ x. t.0 (sym g ∙ x), λ p. g ∙ t.1 p)
 
--- where no slot is in the set of P, no header is of P
-pub outside_set : (a : List ℕ) (P : ℕ → Type 0) (marks : List Bool) → AreMarks a P marks → (low high : ℕ)
-    → IsClear marks low high → (k : ℕ) → low ≤ k → k < high → IsInside a (k * 16) → ¬ P (k * 16)
-outside_set a P marks m low high c k l h i p =
-    let e : k * 16 / 16 ≡ k = omega arith in
-    true≢false (sym (subst (λ x. get_or marks x false ≡ true) e (m.all (k * 16) p i)) ∙ c.each k l h)
+-- a run of slots at which no header is of P
+pub record IsGap (a : List ℕ) (P : ℕ → Type 0) (low high : ℕ) : Type 0 where
+  pub rising : low ≤ high
+  pub none : (k : ℕ) → low ≤ k → k < high → IsInside a (k * 16) → ¬ P (k * 16)
+
+-- slots that are not in the set of P are such a run
+pub clear_gap : {a : List ℕ} {P : ℕ → Type 0} {marks : List Bool} {low high : ℕ} → AreMarks a P marks → low ≤ high
+    → IsClear marks low high → IsGap a P low high
+clear_gap {marks = marks} m l c = record {
+  rising = l;
+  none = λ k n o i p. (let e : k * 16 / 16 ≡ k = omega arith in
+      true≢false (sym (subst (λ x. get_or marks x false ≡ true) e (m.all (k * 16) p i)) ∙ c.each k n o));
+}
 
 -- a set joined with another is the set of what is of either
-pub united_marks : (a : List ℕ) (P Q : ℕ → Type 0) (one other both : List Bool) → AreMarks a P one
+pub united_marks : {a : List ℕ} {P Q : ℕ → Type 0} {one other both : List Bool} → AreMarks a P one
     → AreMarks a Q other → IsUnion one other both → AreMarks a (λ h. Q h ⊎ P h) both
-united_marks a P Q one other both m n u = record {
+united_marks m n u = record {
   sized = u.sized ∙ m.sized;
   each = λ k x. elim (u.each k x) [ inl y ↦ (let z = m.each k y in (inr z.0, z.1)) | inr y ↦ (let z = n.each k y in (inl z.0, z.1)) ];
   all = λ h p i. elim p [ inl q ↦ u.new (h / 16) (n.all h q i) | inr q ↦ u.old (h / 16) (m.all h q i) ];

@@ -15,10 +15,10 @@ use Rattle.romfs_format.specs.Rules.{IsVolume, BreaksHeader, BreaksHeaderAs, Bre
 use Rattle.romfs_format.proofs.Faults.{one_rule}
 use Rattle.romfs_rules.specs.Marks.{HasSlot, IsVolumeImage, AreMarks, IsElsewhere}
 use Rattle.romfs_rules.specs.Leads.{IsInSomeChain}
-use Rattle.slot_sets.specs.Sets.{IsClear, IsNextInEither}
+use Rattle.slot_sets.specs.Sets.{IsNextInEither}
 use Rattle.romfs_rules.specs.Headers.{IsAsked}
 use Rattle.slot_sets.proofs.Unions.{over_to}
-use Rattle.romfs_rules.proofs.Slots.{outside_set, root_slot, cleared_root, cleared_in_chain, cleared_destination, slot_inside}
+use Rattle.romfs_rules.proofs.Slots.{IsGap, clear_gap, root_slot, cleared_root, cleared_in_chain, cleared_destination, slot_inside}
 use Rattle.romfs_format.specs.declared.rule.ImageFault.{ImageFault}
 use Rattle.romfs_rules.specs.Outside.{IsLeast, IsBelow, IsPastEnd}
 use Rattle.romfs_rules.specs.Judge.{IsHeaderRule, KeepsBefore, KeepsHeaderRules, IsFirstRule, IsFirstAt, KeepsBelow, IsFirstInside, KeepsAllHeaderRules, IsFirstBreach}
@@ -46,40 +46,75 @@ by_part Q v h d MajorLarge = h MajorLarge (lit≤ tt, lit< tt)
 by_part Q v h d HeaderSum = h HeaderSum (lit≤ tt, lit< tt)
 by_part Q v h d TooDeep = d
 
--- a fact of every rule of file headers, of each as an argument of its own: so a proof that leaves
--- out a rule does not pass
-pub by_rule : (Q : Rule → Type 0) → Q Outside → Q NameOpen → Q NameBad → Q DataOutside → Q TargetLong → Q LinkedTwice
-    → Q SameName → Q LinkLoop → Q LinkDirectory → Q MajorLarge → Q HeaderSum → (r : Rule) → IsHeaderRule r
-    → Q r
-by_rule Q a b c d e f g h i j k Short x = absurd (omega arith)
-by_rule Q a b c d e f g h i j k Magic x = absurd (omega arith)
-by_rule Q a b c d e f g h i j k FullSize x = absurd (omega arith)
-by_rule Q a b c d e f g h i j k BadSum x = absurd (omega arith)
-by_rule Q a b c d e f g h i j k VolumeName x = absurd (omega arith)
-by_rule Q a b c d e f g h i j k NoRoot x = absurd (omega arith)
-by_rule Q a b c d e f g h i j k Outside x = a
-by_rule Q a b c d e f g h i j k NameOpen x = b
-by_rule Q a b c d e f g h i j k NameBad x = c
-by_rule Q a b c d e f g h i j k DataOutside x = d
-by_rule Q a b c d e f g h i j k TargetLong x = e
-by_rule Q a b c d e f g h i j k LinkedTwice x = f
-by_rule Q a b c d e f g h i j k SameName x = g
-by_rule Q a b c d e f g h i j k LinkLoop x = h
-by_rule Q a b c d e f g h i j k LinkDirectory x = i
-by_rule Q a b c d e f g h i j k MajorLarge x = j
-by_rule Q a b c d e f g h i j k HeaderSum x = k
-by_rule Q a b c d e f g h i j k TooDeep x = absurd (omega arith)
+-- a fact of every rule of file headers, a field for each: so a proof that leaves out a rule does not
+-- pass
+pub record OfEach (Q : Rule → Type 0) : Type 0 where
+  pub outside : Q Outside
+  pub name_open : Q NameOpen
+  pub name_bad : Q NameBad
+  pub data_outside : Q DataOutside
+  pub target_long : Q TargetLong
+  pub linked_twice : Q LinkedTwice
+  pub same_name : Q SameName
+  pub link_loop : Q LinkLoop
+  pub link_directory : Q LinkDirectory
+  pub major_large : Q MajorLarge
+  pub header_sum : Q HeaderSum
+
+-- it is a fact of any rule of file headers
+pub by_rule : (Q : Rule → Type 0) → OfEach Q → (r : Rule) → IsHeaderRule r → Q r
+by_rule Q of Short x = absurd (omega arith)
+by_rule Q of Magic x = absurd (omega arith)
+by_rule Q of FullSize x = absurd (omega arith)
+by_rule Q of BadSum x = absurd (omega arith)
+by_rule Q of VolumeName x = absurd (omega arith)
+by_rule Q of NoRoot x = absurd (omega arith)
+by_rule Q of Outside x = of.outside
+by_rule Q of NameOpen x = of.name_open
+by_rule Q of NameBad x = of.name_bad
+by_rule Q of DataOutside x = of.data_outside
+by_rule Q of TargetLong x = of.target_long
+by_rule Q of LinkedTwice x = of.linked_twice
+by_rule Q of SameName x = of.same_name
+by_rule Q of LinkLoop x = of.link_loop
+by_rule Q of LinkDirectory x = of.link_directory
+by_rule Q of MajorLarge x = of.major_large
+by_rule Q of HeaderSum x = of.header_sum
+by_rule Q of TooDeep x = absurd (omega arith)
 
 header_stage : (r : Rule) → IsHeaderRule r → stage r ≡ 6
-header_stage = by_rule (λ r. stage r ≡ 6) refl refl refl refl refl refl refl refl refl refl refl
+header_stage = by_rule (λ r. stage r ≡ 6) (record {
+  outside = refl;
+  name_open = refl;
+  name_bad = refl;
+  data_outside = refl;
+  target_long = refl;
+  linked_twice = refl;
+  same_name = refl;
+  link_loop = refl;
+  link_directory = refl;
+  major_large = refl;
+  header_sum = refl;
+})
 
 same : {P : Type 0} → P ↔ P
 same = (λ x. x, λ x. x)
 
 to_breaks : (profile : Profile) (b : List ℕ) (p : ℕ) (r : Rule) → IsHeaderRule r
     → BreaksHeaderAs profile (image b) r p ↔ BreaksAs profile b r p
-to_breaks profile b p = by_rule (λ r. BreaksHeaderAs profile (image b) r p ↔ BreaksAs profile b r p) same same same same same same same same
-    same same same
+to_breaks profile b p = by_rule (λ r. BreaksHeaderAs profile (image b) r p ↔ BreaksAs profile b r p) (record {
+  outside = same;
+  name_open = same;
+  name_bad = same;
+  data_outside = same;
+  target_long = same;
+  linked_twice = same;
+  same_name = same;
+  link_loop = same;
+  link_directory = same;
+  major_large = same;
+  header_sum = same;
+})
 
 -- the rules of the volume header and the depth are the same in every profile
 volume_kept : (profile : Profile) (b : List ℕ) → IsVolume b → (r : Rule) → rule_number r < 6 → (q : ℕ) → ¬ BreaksAs profile b r q
@@ -134,18 +169,19 @@ module _ (a : List ℕ) where
 
   -- a header that breaks one of these rules is reached
   pub breach_reached : (profile : Profile) (h : ℕ) (r : Rule) → IsHeaderRule r → BreaksHeaderAs profile a r h → IsReached a h
-  breach_reached profile h = by_rule (λ r. BreaksHeaderAs profile a r h → IsReached a h)
-      (λ x. x.0)
-      (λ x. x.0)
-      (λ x. member_reached h x.0)
-      (λ x. used_reached h x.0)
-      (λ x. used_reached h x.0)
-      (twice_reached h)
-      (λ x. member_reached h (x.1.1.0, x.1.1.2))
-      (λ x. member_reached h x.0)
-      (λ x. member_reached h x.0)
-      (λ x. used_reached h x.0)
-      (sum_reached profile h)
+  breach_reached profile h = by_rule (λ r. BreaksHeaderAs profile a r h → IsReached a h) (record {
+    outside = λ x. x.0;
+    name_open = λ x. x.0;
+    name_bad = λ x. member_reached h x.0;
+    data_outside = λ x. used_reached h x.0;
+    target_long = λ x. used_reached h x.0;
+    linked_twice = twice_reached h;
+    same_name = λ x. member_reached h (x.1.1.0, x.1.1.2);
+    link_loop = λ x. member_reached h x.0;
+    link_directory = λ x. member_reached h x.0;
+    major_large = λ x. used_reached h x.0;
+    header_sum = sum_reached profile h;
+  })
 
 -- the rules tried on a header one after the other
 module _ (profile : Profile) (a : List ℕ) (h : ℕ) where
@@ -200,18 +236,16 @@ module _ (profile : Profile) (a : List ℕ) (v : IsVolumeImage a) where
   }
 
   -- the headers of a run of slots behind the root's that are not reached keep these rules
-  pub scanned_to : (headers targets : List Bool) → AreMarks a (IsInSomeChain a) headers
-      → AreMarks a (IsTarget a) targets → (low high : ℕ) → root a < low * 16 → low ≤ high
-      → high ≤ length a / 16 → IsClear headers low high → IsClear targets low high
-      → KeepsBelow profile a (low * 16) → KeepsBelow profile a (high * 16)
-  scanned_to headers targets m t low high r l h c d k = over_to (λ n. KeepsBelow profile a (n * 16)) low high
-      l k (λ n o p x. scan_more n x (unreached profile a (n * 16) (λ y.
+  pub scanned_to : {low high : ℕ} → root a < low * 16 → high ≤ length a / 16 → IsGap a (IsInSomeChain a) low high
+      → IsGap a (IsTarget a) low high → KeepsBelow profile a (low * 16) → KeepsBelow profile a (high * 16)
+  scanned_to {low} {high} r h chains targets k = over_to (λ n. KeepsBelow profile a (n * 16)) low high
+      chains.rising k (λ n o p x. scan_more n x (unreached profile a (n * 16) (λ y.
       let i = slot_inside a n (omega arith) (omega arith) in
       elim ((reached a (n * 16)).0 y) [
         | inl e ↦ omega arith
-        | inr (inl z) ↦ outside_set a (IsInSomeChain a) headers m low high c n o p i (inl z)
-        | inr (inr (inl z)) ↦ outside_set a (IsInSomeChain a) headers m low high c n o p i (inr z)
-        | inr (inr (inr z)) ↦ outside_set a (IsTarget a) targets t low high d n o p i z
+        | inr (inl z) ↦ chains.none n o p i (inl z)
+        | inr (inr (inl z)) ↦ chains.none n o p i (inr z)
+        | inr (inr (inr z)) ↦ targets.none n o p i z
       ])))
 
   -- a slot of either set
@@ -230,16 +264,15 @@ module _ (profile : Profile) (a : List ℕ) (v : IsVolumeImage a) where
   asked_root h e = record { slot = root_slot a v h e; reached = inl e; alone = λ x. e }
 
   -- the scan may ask for the next header of either set, and those below it keep these rules
-  pub asked_next : (headers targets : List Bool) → AreMarks a (IsInSomeChain a) headers
-      → AreMarks a (IsTarget a) targets → (from slot : ℕ) → root a < from * 16
-      → KeepsBelow profile a (from * 16) → IsNextInEither headers targets from slot
-      → IsAsked a (slot * 16) × KeepsBelow profile a (slot * 16)
-  asked_next headers targets m t from slot b x n =
+  pub asked_next : {headers targets : List Bool} {from slot : ℕ} → AreMarks a (IsInSomeChain a) headers
+      → AreMarks a (IsTarget a) targets → root a < from * 16 → KeepsBelow profile a (from * 16)
+      → IsNextInEither headers targets from slot → IsAsked a (slot * 16) × KeepsBelow profile a (slot * 16)
+  asked_next {headers} {targets} {from} {slot} m t b x n =
       let s = m.sized in
       let l = n.low in
       let h = n.high in
       let r = slot_reached headers targets m t slot n.is in
-      let k = scanned_to headers targets m t from slot b l (omega arith) n.one_clear n.other_clear x in
+      let k = scanned_to b (omega arith) (clear_gap m l n.one_clear) (clear_gap t l n.other_clear) x in
       (record { slot = r.0; reached = r.1; alone = root_first (slot * 16) k (omega arith) }, k)
 
   none_below : KeepsBelow profile a (root a)

@@ -84,6 +84,15 @@ fn follow<A: Allocator>(
     Ok(())
 }
 
+// A walk over chains.
+#[derive(Drop)]
+struct Walk<A: Allocator> {
+    /// The headers that it has come to.
+    marks: SlotSet<A>,
+    /// Those that are still to come.
+    todo: Vec<u32, A>,
+}
+
 // Marks the headers of the chains of all opened directories but the root.
 fn mark_elsewhere<A: Allocator + Copy>(
     alloc: A,
@@ -93,17 +102,19 @@ fn mark_elsewhere<A: Allocator + Copy>(
     requires root_chain { AreInRootChain volume.now.bytes.now root_chain.now }
     ensures { IfOk result (AreElsewhere volume.now.bytes.now) }
 {
-    let mut marks = SlotSet::new(alloc, volume.bytes.len() / 16)?;
-    let mut todo = seeds(alloc, volume, root_chain)?;
-    while let Some(word) = todo.pop() {
+    let mut walk = Walk {
+        marks: SlotSet::new(alloc, volume.bytes.len() / 16)?,
+        todo: seeds(alloc, volume, root_chain)?,
+    };
+    while let Some(word) = walk.todo.pop() {
         let at = word as usize;
-        if !is_fresh(volume, at, &marks) {
+        if !is_fresh(volume, at, &walk.marks) {
             continue;
         }
-        marks.insert(at / 16);
-        follow(volume, at, &mut todo)?;
+        walk.marks.insert(at / 16);
+        follow(volume, at, &mut walk.todo)?;
     }
-    Ok(marks)
+    Ok(walk.marks)
 }
 
 /// Finds the headers in the chains of all opened directories.

@@ -28,6 +28,15 @@ struct Waiting {
     names: u32,
 }
 
+// A walk down from the root.
+#[derive(Drop)]
+struct Descent<A: Allocator> {
+    /// The headers that it has come to.
+    marks: SlotSet<A>,
+    /// Those that are still to come.
+    todo: Vec<Waiting, A>,
+}
+
 // Adds a header, if there is one.
 fn push_some<A: Allocator>(
     todo: &mut Vec<Waiting, A>,
@@ -92,16 +101,18 @@ pub(crate) fn find_deep<A: Allocator + Copy>(
     requires keeps { KeepsAllHeaderRules Usual volume.now.bytes.now }
     ensures { IfOk result (λ deep. IsLeast (BreaksHeader volume.now.bytes.now Rule.TooDeep) deep) }
 {
-    let mut marks = SlotSet::new(alloc, volume.bytes.len() / 16)?;
-    let mut todo = Vec::new(alloc);
-    push_some(&mut todo, first_of(volume, volume.root), 0)?;
+    let mut walk = Descent {
+        marks: SlotSet::new(alloc, volume.bytes.len() / 16)?,
+        todo: Vec::new(alloc),
+    };
+    push_some(&mut walk.todo, first_of(volume, volume.root), 0)?;
     let mut deep = None;
-    while let Some(next) = todo.pop() {
+    while let Some(next) = walk.todo.pop() {
         let at = next.header as usize;
-        if is_fresh(volume, at, &marks) {
-            marks.insert(at / 16);
+        if is_fresh(volume, at, &walk.marks) {
+            walk.marks.insert(at / 16);
             deep = note(volume, deep, next);
-            follow(volume, next, &mut todo)?;
+            follow(volume, next, &mut walk.todo)?;
         }
     }
     Ok(deep)

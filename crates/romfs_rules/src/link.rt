@@ -13,7 +13,6 @@ use crate::volume::Volume;
 use std::alloc::Allocator;
 
 /// The header that next names, of a header in a chain.
-#[tactic(auto, using(crate::proofs::Links::no_next))]
 #[inline(always)]
 pub(crate) fn next_link<A: Allocator>(volume: &Volume, at: usize, chains: &Chains<A>) -> Option<u32>
     requires slot { HasSlot volume.now.bytes.now at }
@@ -28,7 +27,6 @@ pub(crate) fn next_link<A: Allocator>(volume: &Volume, at: usize, chains: &Chain
 }
 
 /// The first header of an opened directory.
-#[tactic(auto, using(crate::proofs::Links::first_named, crate::proofs::Links::no_first))]
 #[inline(always)]
 pub(crate) fn first_link<A: Allocator>(
     volume: &Volume,

@@ -51,41 +51,6 @@ fn push_below<A: Allocator>(
     Ok(())
 }
 
-// Goes along the chain of a directory, and tells whether each header there is new and plain. Both
-// lists get them all, where they stand and what their names are mixed to.
-fn is_plain_chain<A: Allocator>(
-    volume: &Volume,
-    folder: Folder,
-    marks: &mut SlotSet<A>,
-    todo: &mut Vec<Folder, A>,
-    heads: &mut Vec<u32, A>,
-    hashes: &mut Vec<u64, A>,
-) -> Result<bool, AllocError>
-    requires inside { IsInside volume.now.bytes.now folder.header }
-    requires sized { length marks.old ≡ length volume.now.bytes.now / 16 }
-    requires no_heads { heads.old.items ≡ [] }
-    requires no_hashes { hashes.old.items ≡ [] }
-    ensures { IfOk result (λ plain. IsTrue plain → PassesChain volume.now.bytes.now folder
-        marks.old marks.new todo.old.items todo.new.items heads.new.items hashes.new.items) }
-{
-    let mut next = first_of(volume, folder.header as usize);
-    while let Some(head) = next {
-        let at = head as usize;
-        if !is_fresh(volume, at, marks) {
-            return Ok(false);
-        }
-        let Some(hash) = plain_hash(volume, folder, at) else {
-            return Ok(false);
-        };
-        marks.insert(at / 16);
-        heads.push(head)?;
-        hashes.push(hash)?;
-        push_below(volume, folder, at, todo)?;
-        next = next_of(volume, at);
-    }
-    Ok(true)
-}
-
 // Whether no two of these headers have one name.
 fn have_names_apart<A: Allocator + Copy>(
     alloc: A,
@@ -109,28 +74,65 @@ fn have_names_apart<A: Allocator + Copy>(
     }
 }
 
-// Whether each header in the chain of a directory is new and plain, and no two members have one
-// name.
-fn is_plain_folder<A: Allocator + Copy>(
-    alloc: A,
-    volume: &Volume,
-    folder: Folder,
-    marks: &mut SlotSet<A>,
-    todo: &mut Vec<Folder, A>,
-    heads: &mut Vec<u32, A>,
-    hashes: &mut Vec<u64, A>,
-) -> Result<bool, AllocError>
-    requires inside { IsInside volume.now.bytes.now folder.header }
-    requires sized { length marks.old ≡ length volume.now.bytes.now / 16 }
-    ensures { IfOk result (λ plain. IsTrue plain → PassesFolder volume.now.bytes.now folder
-        marks.old marks.new todo.old.items todo.new.items) }
-{
-    heads.clear();
-    hashes.clear();
-    if !is_plain_chain(volume, folder, marks, todo, heads, hashes)? {
-        return Ok(false);
+// A walk down from the root.
+#[derive(Drop)]
+struct Walk<A: Allocator> {
+    /// The headers that it has come to.
+    marks: SlotSet<A>,
+    /// The directories that are still to come.
+    todo: Vec<Folder, A>,
+    /// The headers of the chain that it goes along.
+    heads: Vec<u32, A>,
+    /// What their names are mixed to.
+    hashes: Vec<u64, A>,
+}
+
+impl<A: Allocator + Copy> Walk<A> {
+    // Goes along the chain of a directory, and tells whether each header there is new and plain.
+    fn is_plain_chain(&mut self, volume: &Volume, folder: Folder) -> Result<bool, AllocError>
+        requires inside { IsInside volume.now.bytes.now folder.header }
+        requires sized { length self.old.marks ≡ length volume.now.bytes.now / 16 }
+        ensures { IfOk result (λ plain. IsTrue plain → PassesChain volume.now.bytes.now folder
+            self.old.marks self.new.marks self.old.todo.items self.new.todo.items
+            self.new.heads.items self.new.hashes.items) }
+    {
+        self.heads.clear();
+        self.hashes.clear();
+        let mut next = first_of(volume, folder.header as usize);
+        while let Some(head) = next {
+            let at = head as usize;
+            if !is_fresh(volume, at, &self.marks) {
+                return Ok(false);
+            }
+            let Some(hash) = plain_hash(volume, folder, at) else {
+                return Ok(false);
+            };
+            self.marks.insert(at / 16);
+            self.heads.push(head)?;
+            self.hashes.push(hash)?;
+            push_below(volume, folder, at, &mut self.todo)?;
+            next = next_of(volume, at);
+        }
+        Ok(true)
     }
-    have_names_apart(alloc, volume, heads, hashes)
+
+    // The same, and whether no two members have one name.
+    fn is_plain_folder(
+        &mut self,
+        alloc: A,
+        volume: &Volume,
+        folder: Folder,
+    ) -> Result<bool, AllocError>
+        requires inside { IsInside volume.now.bytes.now folder.header }
+        requires sized { length self.old.marks ≡ length volume.now.bytes.now / 16 }
+        ensures { IfOk result (λ plain. IsTrue plain → PassesFolder volume.now.bytes.now folder
+            self.old.marks self.new.marks self.old.todo.items self.new.todo.items) }
+    {
+        if !self.is_plain_chain(volume, folder)? {
+            return Ok(false);
+        }
+        have_names_apart(alloc, volume, &self.heads, &self.hashes)
+    }
 }
 
 /// Whether an image keeps all rules behind the volume header, as far as one walk tells.
@@ -140,24 +142,18 @@ pub(crate) fn is_plain_image<A: Allocator + Copy>(
 ) -> Result<bool, AllocError>
     ensures { IfOk result (λ plain. IsTrue plain → KeepsPlainly volume.now.bytes.now) }
 {
-    let mut marks = SlotSet::new(alloc, volume.bytes.len() / 16)?;
-    let mut todo = Vec::new(alloc);
-    let mut heads = Vec::new(alloc);
-    let mut hashes = Vec::new(alloc);
-    todo.push(Folder {
+    let mut walk = Walk {
+        marks: SlotSet::new(alloc, volume.bytes.len() / 16)?,
+        todo: Vec::new(alloc),
+        heads: Vec::new(alloc),
+        hashes: Vec::new(alloc),
+    };
+    walk.todo.push(Folder {
         header: volume.root as u32,
         names: 0,
     })?;
-    while let Some(folder) = todo.pop() {
-        if !is_plain_folder(
-            alloc,
-            volume,
-            folder,
-            &mut marks,
-            &mut todo,
-            &mut heads,
-            &mut hashes,
-        )? {
+    while let Some(folder) = walk.todo.pop() {
+        if !walk.is_plain_folder(alloc, volume, folder)? {
             return Ok(false);
         }
     }

@@ -3,8 +3,8 @@ use Rattle.romfs_rules.proofs.chains.mark_elsewhere.Given as goal
 
 -- the walk over the other chains has these words to come, and these marks
 abbrev pub invariant-loop-word : goal.invariant-loop-word
-invariant-loop-word g l = Walked l.volume.bytes.now l.todo.items l.marks
+invariant-loop-word g l = Walked l.volume.bytes.now l.walk.todo.items l.walk.marks
 
 -- what the walk has left
 abbrev pub decreases-loop-word : goal.decreases-loop-word
-decreases-loop-word g l = left l.todo.items l.marks
+decreases-loop-word g l = left l.walk.todo.items l.walk.marks

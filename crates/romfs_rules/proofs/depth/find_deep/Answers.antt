@@ -8,50 +8,50 @@ use Rattle.romfs_rules.proofs.depth.find_deep.Goals as goal
 pub loop-next-init : goal.loop-next-init
 loop-next-init g c =
     let image = c.args.volume.now.bytes.now in
-    let marks : c.in_ok-marks.marks ≡ replicate (length image / 16) false = c.in_ok-marks.ensures in
-    begun image c.requires.keeps c.push_some.new.todo.items c.in_ok-marks.marks c.first_of.result
+    let marks : c.in_ok-new.field-0 ≡ replicate (length image / 16) false = c.in_ok-new.ensures in
+    begun image c.requires.keeps c.push_some.new.todo.items c.in_ok-new.field-0 c.first_of.result
     (rw marks (length-replicate (length image / 16) false))
-    (no_marks c.in_ok-marks.marks (length image / 16) marks)
+    (no_marks c.in_ok-new.field-0 (length image / 16) marks)
     (rw c.args.volume.now.rooted at c.first_of.ensures)
-    (rw c.new-todo.ensures.items at c.in_ok-push_some.ensures)
+    (rw c.new-2.ensures.items at c.in_ok-push_some.ensures)
 
 pub follow-requires-clause-names : goal.follow-requires-clause-names
 follow-requires-clause-names g c =
     let f = c.if-is_fresh.ensures.fresh refl in
-    let n = names_fit c.args.volume.now.bytes.now c.requires.keeps c.loop-next.todo.items c.pop.new.self.items
-    c.loop-next.marks c.loop-next.deep c.in-Some.next c.in-Some.ensures.items c.loop-next.invariant f.1
+    let n = names_fit c.args.volume.now.bytes.now c.requires.keeps c.loop-next.walk.todo.items c.pop.new.self.items
+    c.loop-next.walk.marks c.loop-next.deep c.in-Some.next c.in-Some.ensures.items c.loop-next.invariant f.1
     f.2 in
     let s = c.loop-next.invariant.sized in
     omega arith
 
-pub loop-next-smaller-in-Continue-branch-3 : goal.loop-next-smaller-in-Continue-branch-3
-loop-next-smaller-in-Continue-branch-3 g c =
+pub loop-next-smaller-in_ok-follow : goal.loop-next-smaller-in_ok-follow
+loop-next-smaller-in_ok-follow g c =
     let f = c.if-is_fresh.ensures.fresh refl in
-    rw c.insert.ensures (less_fresh c.args.volume.now.bytes.now c.requires.keeps c.loop-next.todo.items
-    c.pop.new.self.items c.loop-next.marks c.loop-next.deep c.in-Some.next c.in-Some.ensures.items
+    rw c.insert.ensures (less_fresh c.args.volume.now.bytes.now c.requires.keeps c.loop-next.walk.todo.items
+    c.pop.new.self.items c.loop-next.walk.marks c.loop-next.deep c.in-Some.next c.in-Some.ensures.items
     c.loop-next.invariant f.1 f.2 c.follow.new.todo.items c.in_ok-follow.ensures)
 
-pub loop-next-preserved-in-Continue-branch-3 : goal.loop-next-preserved-in-Continue-branch-3
-loop-next-preserved-in-Continue-branch-3 g c =
+pub loop-next-preserved-in_ok-follow : goal.loop-next-preserved-in_ok-follow
+loop-next-preserved-in_ok-follow g c =
     let f = c.if-is_fresh.ensures.fresh refl in
-    rw c.insert.ensures (step_fresh c.args.volume.now.bytes.now c.requires.keeps c.loop-next.todo.items
-    c.pop.new.self.items c.loop-next.marks c.loop-next.deep c.in-Some.next c.in-Some.ensures.items
+    rw c.insert.ensures (step_fresh c.args.volume.now.bytes.now c.requires.keeps c.loop-next.walk.todo.items
+    c.pop.new.self.items c.loop-next.walk.marks c.loop-next.deep c.in-Some.next c.in-Some.ensures.items
     c.loop-next.invariant f.1 f.2 c.follow.new.todo.items c.in_ok-follow.ensures c.note-deep.result
     c.note-deep.ensures)
 
 pub loop-next-smaller : goal.loop-next-smaller
-loop-next-smaller g c = less_stale c.args.volume.now.bytes.now c.requires.keeps c.loop-next.todo.items
-    c.pop.new.self.items c.loop-next.marks c.loop-next.deep c.in-Some.next c.in-Some.ensures.items
+loop-next-smaller g c = less_stale c.args.volume.now.bytes.now c.requires.keeps c.loop-next.walk.todo.items
+    c.pop.new.self.items c.loop-next.walk.marks c.loop-next.deep c.in-Some.next c.in-Some.ensures.items
     c.loop-next.invariant
 
 pub loop-next-preserved : goal.loop-next-preserved
-loop-next-preserved g c = step_stale c.args.volume.now.bytes.now c.requires.keeps c.loop-next.todo.items
-    c.pop.new.self.items c.loop-next.marks c.loop-next.deep c.in-Some.next c.in-Some.ensures.items
+loop-next-preserved g c = step_stale c.args.volume.now.bytes.now c.requires.keeps c.loop-next.walk.todo.items
+    c.pop.new.self.items c.loop-next.walk.marks c.loop-next.deep c.in-Some.next c.in-Some.ensures.items
     c.loop-next.invariant (c.if-is_fresh.ensures.stale refl)
 
 pub returns : goal.returns
 returns g c =
-    found c.args.volume.now.bytes.now c.requires.keeps c.loop-next.marks c.loop-next.deep
-    (subst (λ x. Descends c.args.volume.now.bytes.now x c.loop-next.marks c.loop-next.deep)
-    (none_left c.loop-next.todo.items c.pop.new.self.items _ c.in_default.ensures.items
+    found c.args.volume.now.bytes.now c.requires.keeps c.loop-next.walk.marks c.loop-next.deep
+    (subst (λ x. Descends c.args.volume.now.bytes.now x c.loop-next.walk.marks c.loop-next.deep)
+    (none_left c.loop-next.walk.todo.items c.pop.new.self.items _ c.in_default.ensures.items
     c.in_default.ensures.rest c.in_default.ensures.cases.0) c.loop-next.invariant)

@@ -3,8 +3,8 @@ use Rattle.romfs_rules.proofs.depth.find_deep.Given as goal
 
 -- the walk down has these headers to come, these marks, and found this
 abbrev pub invariant-loop-next : goal.invariant-loop-next
-invariant-loop-next g l = Descends l.volume.bytes.now l.todo.items l.marks l.deep
+invariant-loop-next g l = Descends l.volume.bytes.now l.walk.todo.items l.walk.marks l.deep
 
 -- what the walk has left
 abbrev pub decreases-loop-next : goal.decreases-loop-next
-decreases-loop-next g l = left l.todo.items l.marks
+decreases-loop-next g l = left l.walk.todo.items l.walk.marks

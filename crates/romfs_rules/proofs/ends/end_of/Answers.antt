@@ -32,14 +32,14 @@ returns-then-walk-mine-clause-passes g c = passed_at c.args.from c.loop-walks.at
 
 pub returns-then-walk-ne0-clause-end : goal.returns-then-walk-ne0-clause-end
 returns-then-walk-ne0-clause-end g c = c.loop-walks.invariant.going.start _
-    (meets c.args.volume.now.bytes.now c.args.ends.now c.args.from c.loop-walks.at _ _ c.loop-walks.walks.by_slot
-    c.loop-walks.invariant.going (sym c.at-walk.ensures) c.if-walk-ne0.true c.if-walk-mine.false refl)
+    (meets c.args.volume.now.bytes.now c.args.ends.now c.loop-walks.invariant.going _ (sym c.at-walk.ensures) c.if-walk-ne0.true
+    c.if-walk-mine.false)
 
 pub returns-then-walk-ne0-clause-known : goal.returns-then-walk-ne0-clause-known
 returns-then-walk-ne0-clause-known g c = arrives c.args.volume.now.bytes.now c.args.ends.now c.args.from c.loop-walks.at
     c.loop-walks.walks.by_slot _ c.loop-walks.invariant.going
-    (meets c.args.volume.now.bytes.now c.args.ends.now c.args.from c.loop-walks.at _ _ c.loop-walks.walks.by_slot
-    c.loop-walks.invariant.going (sym c.at-walk.ensures) c.if-walk-ne0.true c.if-walk-mine.false refl)
+    (meets c.args.volume.now.bytes.now c.args.ends.now c.loop-walks.invariant.going _ (sym c.at-walk.ensures) c.if-walk-ne0.true
+    c.if-walk-mine.false)
 
 pub returns-then-walk-ne0-clause-passes : goal.returns-then-walk-ne0-clause-passes
 returns-then-walk-ne0-clause-passes g c = passed_at c.args.from c.loop-walks.at c.args.walks.now.by_slot

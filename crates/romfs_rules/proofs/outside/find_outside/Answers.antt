@@ -1,6 +1,6 @@
 use Rattle.std.proofs.Common.{◌≡◌, ◌*◌, ◌/◌, ℕ, Option, None, subst, arith, length}
 use Rattle.romfs_rules.specs.Outside.{IsBelow, IsPastEnd, Names, Notes}
-use Rattle.romfs_rules.proofs.Slots.{slot_inside, slot_behind, root_slot, cleared_root, inside_root}
+use Rattle.romfs_rules.proofs.Slots.{clear_gap, slot_inside, slot_behind, root_slot, cleared_root, inside_root}
 use Rattle.romfs_rules.proofs.Reach.{IsFoundBefore, nothing, scans, scanned_to, all_scanned}
 use Rattle.romfs_rules.proofs.outside.find_outside.Goals as goal
 
@@ -48,18 +48,16 @@ loop-slot-preserved g c =
     let inside = (slot_behind a c.args.chains.now.headers c.loop-slot.from slot s b l h).inside in
     let before = c.loop-slot.found in
     let after = c.note_named-found-in-Some in
-    let headers = c.args.chains.now.headers in
-    let targets = c.args.targets.now in
+    let chains = clear_gap c.requires.chains.headers l n.one_clear in
+    let targets = clear_gap c.requires.targets l n.other_clear in
     record {
       behind = omega arith;
       low = omega arith;
       below = scans a (IsBelow a) slot before.below after.result.below inside
-          (scanned_to a (IsBelow a) headers targets c.requires.chains.headers c.requires.targets
-          c.loop-slot.from slot before.below b l n.one_clear n.other_clear c.loop-slot.invariant.below)
+          (scanned_to a (IsBelow a) before.below b chains targets c.loop-slot.invariant.below)
           after.ensures.0;
       above = scans a (IsPastEnd a) slot before.above after.result.above inside
-          (scanned_to a (IsPastEnd a) headers targets c.requires.chains.headers c.requires.targets
-          c.loop-slot.from slot before.above b l n.one_clear n.other_clear c.loop-slot.invariant.above)
+          (scanned_to a (IsPastEnd a) before.above b chains targets c.loop-slot.invariant.above)
           after.ensures.1;
     }
 
@@ -67,14 +65,13 @@ pub returns : goal.returns
 returns g c =
     let a = c.args.volume.now.bytes.now in
     let headers = c.args.chains.now.headers in
-    let targets = c.args.targets.now in
     let s = c.requires.chains.headers.sized in
     let b = c.loop-slot.invariant.behind in
-    let d = c.in_default.ensures in
+    let l = c.loop-slot.invariant.low in
+    let chains = clear_gap c.requires.chains.headers l c.in_default.ensures.0 in
+    let targets = clear_gap c.requires.targets l c.in_default.ensures.1 in
     let all : (Q : ℕ → Type 0) → (found : Option ℕ) → IsFoundBefore a Q c.loop-slot.from found
-    → IsFoundBefore a Q (length headers) found = λ Q found f. scanned_to a Q headers targets
-    c.requires.chains.headers c.requires.targets c.loop-slot.from (length headers) found b
-    c.loop-slot.invariant.low d.0 d.1 f in
+    → IsFoundBefore a Q (length headers) found = λ Q found f. scanned_to a Q found b chains targets f in
     record {
       below = all_scanned a (IsBelow a) c.args.volume.now.keeps (length headers) c.loop-slot.found.below
           (omega arith) (λ g q e. omega arith) (all (IsBelow a) c.loop-slot.found.below

@@ -14,4 +14,4 @@ returns-in-None g c =
     let n = numbered a _ heads c.requires.chains.headers c.in_ok-heads.ensures in
     let apart : HaveNamesApart a heads =
     rw (c.in-None.is, c.deref.ensures.value) at c.in_ok-name_classes_of.ensures in
-    rw c.new.ensures.items (none_alike a _ _ n c.requires.alone apart)
+    rw c.new.ensures.items (none_alike a _ _ (record { numbered = n; alone = c.requires.alone }) apart)

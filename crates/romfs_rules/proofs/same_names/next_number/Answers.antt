@@ -5,6 +5,5 @@ use Rattle.romfs_rules.proofs.same_names.next_number.Goals as goal
 
 pub returns-then-is_inside : goal.returns-then-is_inside
 returns-then-is_inside g c =
-    rw c.number.ensures (next_number c.args.volume.now.bytes.now c.args.heads.now c.args.numbers.now c.args.at c.cleared-after.result
-    c.requires.numbered c.requires.at
+    rw c.number.ensures (next_number c.args.volume.now.bytes.now c.requires.numbered c.requires.at c.cleared-after.result
     (c.cleared-after.ensures ∙ ap cleared c.word.ensures) c.if-after-ne0.true (c.if-is_inside.ensures.0 refl))

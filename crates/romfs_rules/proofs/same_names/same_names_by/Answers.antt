@@ -2,7 +2,7 @@ use Rattle.std.proofs.Common.{arith, length}
 use Rattle.std.proofs.lemmas.Result.{IfOk-weaker}
 use Rattle.romfs_rules.specs.SameNames.{AreChosen, HaveSameNames}
 use Rattle.romfs_rules.proofs.HeadNumbers.{class_below, next_below}
-use Rattle.romfs_rules.proofs.SameNaming.{numbered, same_names}
+use Rattle.romfs_rules.proofs.SameNaming.{AreClimbed, numbered, same_names}
 use Rattle.romfs_rules.proofs.same_names.same_names_by.Goals as goal
 
 pub next_numbers-requires-clause-numbered : goal.next_numbers-requires-clause-numbered
@@ -15,12 +15,17 @@ pub returns : goal.returns
 returns g c =
     let a = c.args.volume.now.bytes.now in
     let heads = c.args.heads.now in
-    let n = numbered a _ heads c.requires.chains.headers c.requires.heads in
+    let climbed : AreClimbed a heads c.args.chains.now.headers c.in_ok-noted.noted.items = record {
+      order = record { numbered = numbered a _ heads c.requires.chains.headers c.requires.heads; alone = c.requires.alone };
+      next = c.in_ok-next.next.items;
+      class = c.args.class.items;
+      leads = c.in_ok-next.ensures;
+      classes = c.requires.class;
+      notes = c.in_ok-noted.ensures;
+    } in
     IfOk-weaker c.chosen.result (λ found. AreChosen heads c.in_ok-noted.noted.items (length heads) found.items)
     (λ found. HaveSameNames a found.items)
-    (λ found w. same_names a heads c.args.chains.now.headers c.in_ok-next.next.items c.args.class.items
-    c.in_ok-noted.noted.items n c.in_ok-next.ensures c.requires.class
-    c.in_ok-noted.ensures c.requires.alone found.items w)
+    (λ found chosen. same_names a heads c.args.chains.now.headers c.in_ok-noted.noted.items climbed found.items chosen)
     (rw c.deref.ensures.value at c.chosen.ensures)
 
 pub note_repeats-requires-clause-few : goal.note_repeats-requires-clause-few

@@ -1,6 +1,7 @@
-use Rattle.std.proofs.Common.{◌≡◌, ◌*◌, ◌/◌, subst, arith, length}
+use Rattle.std.proofs.Common.{◌≡◌, ◌∙◌, ◌*◌, ◌/◌, ap, subst, arith, length, false}
+use Rattle.std.proofs.lemmas.List.{length-replicate}
 use Rattle.romfs_rules.specs.Twice.{CountsBoth}
-use Rattle.romfs_rules.proofs.Slots.{cleared_root, slot_behind, root_slot}
+use Rattle.romfs_rules.proofs.Slots.{clear_gap, cleared_root, slot_behind, root_slot}
 use Rattle.romfs_rules.proofs.Counted.{Tallied, Below, none_tallied, passes, skipped_to, all_twice}
 use Rattle.romfs_rules.proofs.twice.mark_twice.Goals as goal
 
@@ -44,16 +45,29 @@ loop-slot-preserved g c =
       low = omega arith;
       tallied = passes a c.in-Some.slot c.loop-slot.once c.loop-slot.twice c.count_links-in-Some.new.once
           c.count_links-in-Some.new.twice c.count_links-in-Some.ensures
-          (skipped_to a c.args.volume.now.keeps c.args.chains.now.headers c.requires.chains.headers c.loop-slot.from
-          c.in-Some.slot c.loop-slot.once c.loop-slot.twice b l n.clear c.loop-slot.invariant.tallied);
+          (skipped_to a c.args.volume.now.keeps c.loop-slot.once c.loop-slot.twice b
+          (clear_gap c.requires.chains.headers l n.clear) c.loop-slot.invariant.tallied);
     }
 
 pub returns : goal.returns
 returns g c =
     let a = c.args.volume.now.bytes.now in
-    let headers = c.args.chains.now.headers in
     all_twice a c.args.volume.now.keeps c.loop-slot.once c.loop-slot.twice
     (subst (λ n. Tallied a (Below a n) c.loop-slot.once c.loop-slot.twice) c.requires.chains.headers.sized
-    (skipped_to a c.args.volume.now.keeps headers c.requires.chains.headers c.loop-slot.from (length headers)
-    c.loop-slot.once c.loop-slot.twice c.loop-slot.invariant.behind c.loop-slot.invariant.low
-    c.in_default.ensures.next c.loop-slot.invariant.tallied))
+    (skipped_to a c.args.volume.now.keeps c.loop-slot.once c.loop-slot.twice c.loop-slot.invariant.behind
+    (clear_gap c.requires.chains.headers c.loop-slot.invariant.low c.in_default.ensures.next) c.loop-slot.invariant.tallied))
+
+pub loop-slot-smaller : goal.loop-slot-smaller
+loop-slot-smaller g c = let n = c.in-Some.ensures.next in let l = n.low in let h = n.high in omega arith
+
+pub count_links-requires-clause-once : goal.count_links-requires-clause-once
+count_links-requires-clause-once g c = ap length c.in_ok-once.ensures ∙ length-replicate _ false
+
+pub count_links-requires-clause-twice : goal.count_links-requires-clause-twice
+count_links-requires-clause-twice g c = ap length c.in_ok-twice.ensures ∙ length-replicate _ false
+
+pub count_links-requires-in-Some-clause-once : goal.count_links-requires-in-Some-clause-once
+count_links-requires-in-Some-clause-once g c = c.loop-slot.invariant.tallied.once_sized
+
+pub count_links-requires-in-Some-clause-twice : goal.count_links-requires-in-Some-clause-twice
+count_links-requires-in-Some-clause-twice g c = c.loop-slot.invariant.tallied.twice_sized

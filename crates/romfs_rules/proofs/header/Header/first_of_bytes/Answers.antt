@@ -23,6 +23,19 @@ module _ (profile : Profile) (a : List ℕ) (h : ℕ) (i : IsInside a h) where
       → ¬ BreaksHeader a TargetLong h → KeepsBefore profile a h 11
   target_short x y z w = one_tried profile a h TargetLong 10 refl (data_inside x y z) w
 
+pub returns-then-breaks_name_open : goal.returns-then-breaks_name_open
+returns-then-breaks_name_open c = λ profile.
+    first_broken profile _ _ NameOpen 7 refl (lit≤ tt, lit< tt)
+    (none_tried profile _ _ (rw (← c.self.view_is) c.self.invariant.asked.slot.inside))
+    (c.breaks_name_open.ensures.0 c.if-breaks_name_open.true)
+
+pub returns-then-breaks_name_bad : goal.returns-then-breaks_name_bad
+returns-then-breaks_name_bad c = λ profile.
+    first_broken profile _ _ NameBad 8 refl (lit≤ tt, lit< tt)
+    (name_ended profile _ _ (rw (← c.self.view_is) c.self.invariant.asked.slot.inside)
+    (fails c.breaks_name_open.ensures c.if-breaks_name_open.false))
+    (c.breaks_name_bad.ensures.0 c.if-breaks_name_bad.true)
+
 pub returns-then-breaks_data_outside : goal.returns-then-breaks_data_outside
 returns-then-breaks_data_outside c = λ profile.
     first_broken profile _ _ DataOutside 9 refl (lit≤ tt, lit< tt)

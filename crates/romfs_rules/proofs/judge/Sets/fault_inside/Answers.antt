@@ -1,7 +1,7 @@
 use Rattle.std.proofs.Common.{◌*◌, arith, length, refl}
 use Rattle.romfs_rules.specs.Headers.{IsAsked}
 use Rattle.romfs_rules.specs.Judge.{KeepsBelow}
-use Rattle.romfs_rules.proofs.Slots.{cleared_root}
+use Rattle.romfs_rules.proofs.Slots.{clear_gap, cleared_root}
 use Rattle.romfs_rules.proofs.Verdict.{asked_root, asked_next, scan_more, scanned_to, scan_all, at_root, at_slot, root_kept}
 use Rattle.romfs_rules.proofs.judge.Sets.fault_inside.Given.{Over}
 use Rattle.romfs_rules.proofs.judge.Sets.fault_inside.Goals.{In-Some-next_of_either}
@@ -36,8 +36,8 @@ next : (g : Over) (c : In-Some-next_of_either g)
     (c.in-Some-next_of_either.slot * 16)
 next g c =
     let l = rw (← c.self.view_is) at c.loop-slot.invariant in
-    rw (← c.self.view_is) (asked_next c.args.profile _ c.self.inside.volume.now.keeps _ _ c.self.invariant.chains.headers
-    c.self.invariant.targets _ _ l.behind l.keeps c.in-Some-next_of_either.ensures)
+    rw (← c.self.view_is) (asked_next c.args.profile _ c.self.inside.volume.now.keeps c.self.invariant.chains.headers
+    c.self.invariant.targets l.behind l.keeps c.in-Some-next_of_either.ensures)
 
 pub header-requires-in-Some-next_of_either : goal.header-requires-in-Some-next_of_either
 header-requires-in-Some-next_of_either g c = (next g c).0
@@ -71,5 +71,5 @@ returns g c =
     let s = c.self.invariant.chains.headers.sized in
     let v = c.self.inside.volume.now.keeps in
     rw (← c.self.view_is) (scan_all c.args.profile _ v (length headers) (omega arith)
-    (scanned_to c.args.profile _ v headers _ c.self.invariant.chains.headers c.self.invariant.targets c.loop-slot.from
-    (length headers) l.behind l.low (omega arith) d.0 d.1 l.keeps))
+    (scanned_to c.args.profile _ v l.behind (omega arith) (clear_gap c.self.invariant.chains.headers l.low d.0)
+    (clear_gap c.self.invariant.targets l.low d.1) l.keeps))

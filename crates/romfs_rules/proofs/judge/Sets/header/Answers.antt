@@ -1,6 +1,6 @@
-use Rattle.std.proofs.Common.{subst}
+use Rattle.std.proofs.Common.{subst, arith}
 use Rattle.romfs_rules.specs.Sets.{AreSets}
-use Rattle.romfs_rules.proofs.Judging.{listed_says}
+use Rattle.romfs_rules.proofs.Judging.{listed_says, rises}
 use Rattle.romfs_rules.proofs.judge.Sets.header.Goals as goal
 
 pub invariant_of-result : goal.invariant_of-result
@@ -22,3 +22,21 @@ is_used-requires-clause-member g c = rw c.self.view_is at c.is_member_by-member.
 
 pub end_of-requires-clause-member : goal.end_of-requires-clause-member
 end_of-requires-clause-member g c = rw c.self.view_is at c.is_member_by-member.ensures
+
+pub is_used-requires-clause-slot : goal.is_used-requires-clause-slot
+is_used-requires-clause-slot g c = c.requires.slot
+
+pub is_twice-requires : goal.is_twice-requires
+is_twice-requires g c = c.requires.slot
+
+pub end_of-requires-clause-slot : goal.end_of-requires-clause-slot
+end_of-requires-clause-slot g c = c.requires.slot
+
+pub is_listed-requires-clause-rising : goal.is_listed-requires-clause-rising
+is_listed-requires-clause-rising g c = rises _ c.self.invariant.same_names.rising
+
+pub is_listed-requires-clause-at : goal.is_listed-requires-clause-at
+is_listed-requires-clause-at g c =
+    let small = rw c.self.view_is at c.self.inside.volume.now.keeps.small in
+    let inside = c.requires.slot.inside.1 in
+    omega arith

@@ -8,6 +8,6 @@ returns-then-is_inside g c =
     rw (← c.self.view_is) (noted_inside _ c.args.at c.args.found (search (rules, inside)))
 
 pub returns : goal.returns
-returns g c = noted_spec c.args.self.now c.args.at c.first_link-first.result c.destination-destination.result c.args.found
-    c.note-with_first.result c.note.result (rw c.self.view_is at c.first_link-first.ensures) c.destination-destination.ensures
+returns g c = noted_spec c.args.self.now c.args.at c.args.found c.note-with_first.result c.note.result
+    (rw c.self.view_is at c.first_link-first.ensures) c.destination-destination.ensures
     (rw c.self.view_is at c.note-with_first.ensures) (rw c.self.view_is at c.note.ensures)
