@@ -16,7 +16,7 @@ use std::io::Read;
 const ROOM: usize = 65_536;
 
 /// Why there are no bytes.
-#[derive(Clone, Copy, Debug, PartialEq, Eq)]
+#[derive(Clone, Copy)]
 pub enum ReadFault {
     /// A read failed, or none was the last.
     Failed,
