@@ -5,6 +5,7 @@
 //! - `failing`: readers and writers that fail.
 //! - `memory`: each request for memory is refused in turn.
 //! - `mounted`: devices like those of an open `/dev/fuse`, and refused memory.
+//! - `plans`: how many workers and how large batches a line asks for.
 //! - `serving`: `serve` by itself, with refused memory and too few turns.
 //!
 //! What they share: `program`, which names files of the test's own.
@@ -18,6 +19,8 @@ mod failing;
 mod memory;
 #[cfg(test)]
 mod mounted;
+#[cfg(test)]
+mod plans;
 #[cfg(test)]
 mod program;
 #[cfg(test)]

@@ -12,9 +12,14 @@ pub fn file_path(rt: &HostRuntime, test: &str, ending: &str) -> Result<String, F
     Ok(format!(in rt.alloc(); "{parent}/strata-{test}-{process}.{ending}")?)
 }
 
+/// Writes an image into a file, and gives its path.
+pub fn written(rt: &HostRuntime, test: &str, image: &[u8]) -> Result<String, Fail> {
+    let path = file_path(rt, test, "img")?;
+    fs::write(rt, path.as_str(), image)?;
+    Ok(path)
+}
+
 /// Writes the empty image into a file, and gives its path.
 pub fn image_file(rt: &HostRuntime, test: &str) -> Result<String, Fail> {
-    let path = file_path(rt, test, "img")?;
-    fs::write(rt, path.as_str(), &empty(rt.alloc())?)?;
-    Ok(path)
+    written(rt, test, &empty(rt.alloc())?)
 }

@@ -1,0 +1,64 @@
+//! The plan of a line: how many workers answer, and how many requests a batch has.
+
+use crate::program::written;
+use devices::{Spout, Tap};
+use std::alloc::Global;
+use std::fs::{self, Files};
+use std::net::Net;
+use std::test::Fail;
+use std::thread::Threads;
+use strata::command;
+use test_kit::long::{Long, image, stream};
+use test_kit::refusing::Refusing;
+
+/// How many requests for memory the program makes to answer a stream over the image at a path, by
+/// so many workers, in batches of so many; none where it fails.
+fn requests_by<R: Files + Net + Threads + Sync>(
+    rt: &R,
+    global: Global,
+    path: &str,
+    stream: &[u8],
+    plan: (&str, &str),
+) -> Option<u64>
+where
+    R::File: Send,
+    R::Dir: Send,
+{
+    let memory = Refusing::new(global, 0);
+    let (workers, batch) = plan;
+    let words = ["serve", "--workers", workers, "--batch", batch, path];
+    let mut faults = Vec::new(global);
+    let status = command(
+        rt,
+        &memory,
+        global,
+        &words,
+        &mut Tap::new(stream),
+        &mut Spout::new(Vec::new(global)),
+        &mut faults,
+    );
+    (status == 0).then_some(memory.requests())
+}
+
+/// Of 17 long lists workers have a board and pieces, and each batch asks for memory of its own: of
+/// the two batches that two workers share evenly, or of 17.
+#[test]
+fn a_line_has_its_plan(rt: HostRuntime) -> Result<(), Fail> {
+    let global = rt.alloc();
+    let image = image(global)?;
+    let path = written(&rt, "plans", &image)?;
+    let stream = stream(global, Long::All, 17)?;
+    let [alone, even, small] = [("1", "1"), ("2", "256"), ("2", "1")].map(|plan| requests_by(
+        &rt,
+        global,
+        path.as_str(),
+        &stream,
+        plan,
+    ).unwrap_or(0));
+    assert!(rt;
+        0 < alone && alone < even && even.saturating_add(8) < small,
+        "{alone}, {even}, {small}"
+    );
+    fs::remove_file(&rt, path.as_str())?;
+    Ok(())
+}
