@@ -1,20 +1,27 @@
 -- How a command ends, by how its last step ended. `whole` and `begun` put what was done over the
 -- images beside the words that asked for it; `unread` is the end before that, and no fault has the
 -- status 0.
-use Rattle.std.proofs.Common.{◌≡◌, ◌≢◌, ◌<◌, ◌≤◌, ◌∙◌, sym, ap, subst, refl, ℕ, ◌⊎◌, inl, inr, List, None, Result, Ok, Err, IfErr, IsErrAnd, arith, length, map, vec_len, Vec}
+use Rattle.std.proofs.Common.{◌≡◌, ◌≢◌, ◌<◌, ◌≤◌, ◌∙◌, sym, ap, subst, refl, ℕ, ◌⊎◌, inl, inr, List, None, Result, Ok, Err, IfOk, IfErr, IsErrAnd, arith, length, map, vec_len, Vec}
 use Rattle.std.proofs.lemmas.List.{length-map}
 use Rattle.serve_loop.specs.declared.stop.Stop.{Stop}
 use Rattle.serve_loop.specs.declared.stop.Stop.TheVariants as stops
 use Rattle.command_line.specs.declared.options.Line.{Line}
+use Rattle.command_line.specs.declared.options.LineFault.{LineFault}
 use Rattle.command_line.specs.declared.options.Verb.{Verb}
-use Rattle.command_line.specs.CommandLine.{IsLineOf}
+use Rattle.command_line.specs.CommandLine.{IsLineOf, IsLineFault}
 use Rattle.devices.specs.States.{Devices}
 use Rattle.image_files.specs.declared.images.FilesFault.{FilesFault}
 use Rattle.image_files.specs.declared.images.FilesFault.TheVariants as files
 use Rattle.strata.specs.declared.faults.Fault.{Fault}
 use Rattle.strata.specs.declared.faults.Fault.TheVariants.{Usage, ImageFile, RequestsFile, RepliesFile, BalancesFile, Bind, Accept, Broken, InSession, Stopped}
 use Rattle.strata.specs.Faults.{status_of, stop_status, files_told_of}
-use Rattle.strata.specs.Ending.{NamesAsMany, IsDoneOver, IsStoppedOver, IsDone, EndsInFault, IsOverWith}
+use Rattle.strata.specs.Ending.{NamesAsMany, IsDoneOver, IsStoppedOver, IsReadAs, IsDone, EndsInFault, IsOverWith}
+
+-- words that were read are told by a line of theirs or a fault of theirs
+pub read_as : (words : List (List ℕ)) (line : Result Line LineFault) → IfOk line (IsLineOf words) → IfErr line (IsLineFault words)
+    → IsReadAs words line
+read_as words (Ok line) is fault = is
+read_as words (Err told) is fault = fault
 
 -- as many images as paths
 pub all_named : {X Y Z : Type 0} (line : Line) (bytes : X → List ℕ) (images : Vec X Z) (paths : List Y) → vec_len images ≡ length paths
@@ -56,20 +63,19 @@ module _ (A : Type 0) (words : List (List ℕ)) (line : Line) (images : List (Li
   broke_off (Err told) fault e p = subst (λ f. EndsInFault A words f old new) (sym e) (begun fault p)
 
 -- an image that was not read, or memory that ran out before all were
-pub unread : {X : Type 0} (A : Type 0) (words : List (List ℕ)) (line : Line) (count : ℕ) (old : Devices) (r : Result X Fault)
-    → IsLineOf words line → count ≡ vec_len line.images → (fault : FilesFault) → (fault ≡ files.Memory)
-    ⊎ ((image : ℕ) × (image < count) × (fault ≡ files.Unread image)) → IsErrAnd r (λ told. told ≡ files_told_of fault)
-    → IfErr r (λ told. EndsInFault A words told old old)
-unread A words line count old (Ok u) l n fault f e = absurd e
-unread A words line count old (Err told) l n fault (inl f) e = inl (record { kept = refl; which = inr (inr (e ∙ ap files_told_of f)) })
-unread A words line count old (Err told) l n fault (inr f) e =
+pub unread : {X : Type 0} {words : List (List ℕ)} {line : Line} (A : Type 0) (old : Devices) → IsLineOf words line → (fault : FilesFault)
+    → (fault ≡ files.Memory) ⊎ ((image : ℕ) × (image < vec_len line.images) × (fault ≡ files.Unread image))
+    → (r : Result X Fault) → IsErrAnd r (λ told. told ≡ files_told_of fault) → IfErr r (λ told. EndsInFault A words told old old)
+unread A old l fault f (Ok u) e = absurd e
+unread A old l fault (inl f) (Err told) e = inl (record { kept = refl; which = inr (inr (e ∙ ap files_told_of f)) })
+unread {line = line} A old l fault (inr f) (Err told) e =
     inl (record {
       kept = refl;
       which = inr (inl (record {
         line = line;
         image = f.0;
         line_is = l;
-        named = subst (λ k. f.0 < k) n f.1;
+        named = f.1;
         told = e ∙ ap files_told_of f.2;
       }));
     })

@@ -37,10 +37,10 @@ module _ {X : Type 0} (line : ℕ → X → List ℕ) (first : ℕ) (xs : List X
       record { whole = ap (λ t. t ++ numbered_lines line (0 + first) xs) e ∙ ap (λ n. numbered_lines line n xs) same }
 
   -- the next line behind the text makes it that of one more
-  pub one_more_printed : (text more : List ℕ) (place n : ℕ) (none : X) → n ≡ place + first → place < length xs → IsPrinted place text
-      → more ≡ text ++ line n (slice_index_or xs place none) → IsPrinted (place + 1) more
+  pub one_more_printed : {text : List ℕ} {place : ℕ} → IsPrinted place text → (more : List ℕ) (n : ℕ) (none : X) → n ≡ place + first
+      → place < length xs → more ≡ text ++ line n (slice_index_or xs place none) → IsPrinted (place + 1) more
   unfolding numbered_lines
-  one_more_printed text more place n none is b p e =
+  one_more_printed {text} {place} p more n none is b e =
       let next : place + 1 + first ≡ place + first + 1 = omega arith in
       let x = slice_index_or xs place none in
       record {

@@ -1,6 +1,6 @@
 -- Images that are checked one after another. `one_more` is the step of the loop: the next image is
 -- good, and its size is put behind the others.
-use Rattle.std.proofs.Common.{◌≡◌, ◌∙◌, sym, ap, ℕ, List, [], ◌∷◌, ◌++◌, append_assoc, length, map}
+use Rattle.std.proofs.Common.{◌≡◌, ◌∙◌, sym, ap, refl, arith, ℕ, List, [], ◌∷◌, ◌++◌, append_assoc, length, map}
 use Rattle.std.proofs.lemmas.List.{map-append}
 use Rattle.std.proofs.lemmas.List.Elements.{All-push}
 use Rattle.romfs_format.specs.declared.rule.Profile.{Profile}
@@ -8,17 +8,30 @@ use Rattle.romfs_format.specs.Fields.{image}
 use Rattle.romfs_format.specs.Rules.{IsSoundAs}
 use Rattle.strata.specs.Faults.{AreSizes}
 
+-- the images before those that are left are good, and these are their sizes
+pub record AreSized {X : Type 0} (v : X → List ℕ) (profile : Profile) (all : List (List ℕ)) (left : List X) (sizes : List ℕ) : Type 0 where
+  pub before : List (List ℕ)
+  pub split : all ≡ before ++ map v left
+  pub good : AreSizes profile before sizes
+
+-- before the first image none is checked
+pub none_sized : {X : Type 0} (v : X → List ℕ) (profile : Profile) (all : List X) → AreSized v profile (map v all) all []
+none_sized v profile all = record {
+  before = [];
+  split = refl;
+  good = record { sound = λ k d l. absurd (omega arith); sizes_are = refl };
+}
+
 -- a good image goes from what is left to what is checked
-pub one_more : {X : Type 0} (profile : Profile) (v : X → List ℕ) (all before : List (List ℕ)) (left rest : List X) (x : X)
-    (sizes more : List ℕ) (full : ℕ) → all ≡ before ++ map v left → left ≡ x ∷ rest → AreSizes profile before sizes
-    → full ≡ length (image (v x)) → IsSoundAs profile (v x) → more ≡ sizes ++ full ∷ [] → (after : List (List ℕ))
-    × (all ≡ after ++ map v rest) × AreSizes profile after more
-one_more profile v all before left rest x sizes more full e l s f d m = (
-  before ++ v x ∷ [],
-  e ∙ ap (λ xs. before ++ map v xs) l ∙ sym (append_assoc before (v x ∷ []) (map v rest)),
-  record {
-    sound = All-push (IsSoundAs profile) before (v x) s.sound d;
-    sizes_are = m ∙ ap (λ xs. xs ++ full ∷ []) s.sizes_are ∙ ap (λ n. map (λ b. length (image b)) before ++ n ∷ []) f
-        ∙ sym (map-append (λ b. length (image b)) before (v x ∷ []));
-  },
-)
+pub one_more : {X : Type 0} {v : X → List ℕ} {profile : Profile} {all : List (List ℕ)} {left : List X} {sizes : List ℕ}
+    → AreSized v profile all left sizes → (x : X) (rest : List X) → left ≡ x ∷ rest → (full : ℕ) → full ≡ length (image (v x))
+    → IsSoundAs profile (v x) → AreSized v profile all rest (sizes ++ full ∷ [])
+one_more {v = v} {profile} {sizes = sizes} s x rest l full f d = record {
+  before = s.before ++ v x ∷ [];
+  split = s.split ∙ ap (λ xs. s.before ++ map v xs) l ∙ sym (append_assoc s.before (v x ∷ []) (map v rest));
+  good = record {
+    sound = All-push (IsSoundAs profile) s.before (v x) s.good.sound d;
+    sizes_are = ap (λ xs. xs ++ full ∷ []) s.good.sizes_are ∙ ap (λ n. map (λ b. length (image b)) s.before ++ n ∷ []) f
+        ∙ sym (map-append (λ b. length (image b)) s.before (v x ∷ []));
+  };
+}

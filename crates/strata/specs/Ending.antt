@@ -1,5 +1,5 @@
 -- What a command leaves behind: its status, and what its output gained.
-use Rattle.std.specs.Prelude.{◌≡◌, ◌≢◌, ◌<◌, ◌+◌, ◌⊎◌, ◌||◌, ℕ, List, true, Option, Some, None, is_some, length, vec_len, Result, Ok, Err, OnOk, if◌then◌else◌}
+use Rattle.std.specs.Prelude.{◌≡◌, ◌≢◌, ◌<◌, ◌+◌, ◌⊎◌, ◌||◌, ℕ, List, true, Option, Some, None, is_some, length, vec_len, Result, Ok, Err, OnOk, MatchResult, if◌then◌else◌}
 use Rattle.std.specs.Io.KnownBytes.{Appends, Consumes, IsAtEnd}
 use Rattle.romfs_format.specs.declared.rule.Profile.{Profile}
 use Rattle.romfs_format.specs.declared.rule.Profile.TheVariants.{Usual, Strict}
@@ -262,6 +262,10 @@ pub record AreNotTaken (words : List (List ℕ)) (fault : Fault) : Type 0 where
 pub record IsEarly (words : List (List ℕ)) (fault : Fault) (old new : Devices) : Type 0 where
   pub kept : new ≡ old
   pub which : AreNotTaken words fault ⊎ (IsUnread words fault ⊎ (fault ≡ out_of_memory))
+
+-- these words were read: their line, or the fault of them
+abbrev pub IsReadAs : List (List ℕ) → Result Line LineFault → Type 0
+IsReadAs words line = MatchResult line (IsLineOf words) (IsLineFault words)
 
 -- the program stopped with a fault, before its work or in it
 abbrev pub EndsInFault : (A : Type 0) → List (List ℕ) → Fault → Devices → Devices → Type 0

@@ -2,12 +2,14 @@
 
 ghost use Rattle.std.specs.Prelude.{◌<◌, ◌^◌, OnOk, IfErr};
 ghost use Rattle.layer_check.specs.Layers.{contents_of};
-ghost use Rattle.strata.specs.Ending.{IsStackListed, IsNotListed};
+ghost use Rattle.strata.specs.Ending.{profile_of, IsStackListed, IsNotListed};
 
 use crate::faults::Fault;
+use crate::settings::profile_of;
+use command_line::Line;
 use devices::Sink;
 use path_list::write_list;
-use serve_core::{FreePass, Profile, prepare_as};
+use serve_core::{FreePass, prepare_as};
 use std::alloc::Allocator;
 use std::thread::Threads;
 
@@ -16,17 +18,18 @@ use std::thread::Threads;
 pub fn list<R: Threads + Sync, A: Allocator + Copy + Send + Sync, K: Sink>(
     rt: &R,
     alloc: A,
+    line: &Line<'_>,
     images: Vec<Vec<u8, A>, A>,
-    profile: Profile,
     output: &mut K,
 ) -> Result<(), Fault>
     requires { (K.state output.old).counts.failures < 2 ^ 63 }
-    ensures done { OnOk result (IsStackListed profile (contents_of images)
+    ensures done { OnOk result (IsStackListed (profile_of line.now) (contents_of images)
         (K.state output.old) (K.state output.new)) }
-    ensures stopped { IfErr result (λ fault. IsNotListed profile (contents_of images) fault
+    ensures stopped { IfErr result (λ fault.
+        IsNotListed (profile_of line.now) (contents_of images) fault
         (K.state output.old) (K.state output.new)) }
 {
-    let table = prepare_as(rt, alloc, images, profile, &FreePass)?;
+    let table = prepare_as(rt, alloc, images, profile_of(line), &FreePass)?;
     write_list(alloc, &table, output)?;
     Ok(())
 }

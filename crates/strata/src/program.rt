@@ -6,11 +6,12 @@
 //!
 //! Its functions write the same bounds out: no trait can stand for those on `R::File` and `R::Dir`.
 
-ghost use Rattle.std.specs.Prelude.{◌≡◌, map, IfOk, IfErr};
+ghost use Rattle.std.specs.Prelude.{◌≡◌, ℕ, List, map, IfOk, IfErr};
+ghost use Rattle.command_line.specs.CommandLine.{IsInLimits, NamesSocket};
 ghost use Rattle.devices.specs.States.{devices};
 ghost use Rattle.fuse_device.specs.Spouts.{spout_gone};
 ghost use Rattle.fuse_device.specs.Taps.{tap_gone};
-ghost use Rattle.strata.specs.Ending.{AreNew, EndsInFault, IsOverWith, IsRunOf};
+ghost use Rattle.strata.specs.Ending.{AreNew, EndsInFault, IsOverWith, IsReadAs, IsRunOf};
 ghost use Rattle.strata.specs.Mounts.{status_on_device, IsRunOnDevice};
 
 use crate::checking::check;
@@ -19,7 +20,7 @@ use crate::listening::listen;
 use crate::listing::list;
 use crate::serving::serve;
 use crate::settings::profile_of;
-use command_line::{Verb, line};
+use command_line::{Line, LineFault, Verb, line};
 use devices::{Sink, Source};
 use fuse_device::{MessageTap, ReplySpout};
 use image_files::read_images;
@@ -67,7 +68,7 @@ where
         (devices (T.state input.old) (K.state output.old))
         (devices (T.state input.new) (K.state output.new)) }
 {
-    match run(rt, alloc, global, words, input, output, faults) {
+    match run(rt, alloc, line(global, words), input, output, faults) {
         Ok(status) => status,
         Err(fault) => fault.end(faults),
     }
@@ -106,26 +107,24 @@ where
         (devices (⟦<MessageTap<I, A> as Source>⟧.state input.new)
         (⟦<ReplySpout<O> as Sink>⟧.state output.new)) }
 {
-    match run(rt, alloc, global, words, input, output, faults) {
+    match run(rt, alloc, line(global, words), input, output, faults) {
         Ok(status) => status,
         Err(fault) => end_on_device(&fault, input.is_gone(), output.is_gone(), faults),
     }
 }
 
-// Does all the steps, and gives the exit status, which sessions at a socket may make another than
-// 0: what they stop for is told as it comes.
+// Does all the steps after the line was read, and gives the exit status, which sessions at a socket
+// may make another than 0: what they stop for is told as it comes.
 fn run<
     R: Files + Net + Threads + Sync,
     A: Allocator + Copy + Send + Sync,
-    S: AsStr,
     T: Source,
     K: Sink,
     E: Write,
 >(
     rt: &R,
     alloc: A,
-    global: Global,
-    words: &[S],
+    line: Result<Line<'_>, LineFault>,
     input: &mut T,
     output: &mut K,
     faults: &mut E,
@@ -133,15 +132,19 @@ fn run<
 where
     R::File: Send,
     R::Dir: Send,
-    requires { AreNew (devices (T.state input.old) (K.state output.old)) }
-    ensures over { IfOk result (λ status. IsOverWith A (map S.text words.now) status
+    requires new { AreNew (devices (T.state input.old) (K.state output.old)) }
+    requires limits { IfOk line (λ line. IsInLimits line) }
+    requires socket { IfOk line (λ line. NamesSocket line) }
+    ensures over { (words : List (List ℕ)) → IsReadAs words line.entry →
+        IfOk result (λ status. IsOverWith A words status
         (devices (T.state input.old) (K.state output.old))
         (devices (T.state input.new) (K.state output.new))) }
-    ensures stopped { IfErr result (λ fault. EndsInFault A (map S.text words.now) fault
+    ensures stopped { (words : List (List ℕ)) → IsReadAs words line.entry →
+        IfErr result (λ fault. EndsInFault A words fault
         (devices (T.state input.old) (K.state output.old))
         (devices (T.state input.new) (K.state output.new))) }
 {
-    let line = line(global, words)?;
+    let line = line?;
     let images = read_images(rt, alloc, line.images.as_slice())?;
     match line.verb {
         Verb::Serve => {
@@ -154,7 +157,7 @@ where
             Ok(0)
         }
         Verb::List => {
-            list(rt, alloc, images, profile_of(&line), output)?;
+            list(rt, alloc, &line, images, output)?;
             Ok(0)
         }
     }
