@@ -165,7 +165,8 @@ module _ {A : Type 0} (stack : Stacked) (l : Listing A) (whole : IsWhole stack l
       }
 
   -- no row is set behind the listing's size
-  pub set_few : (index : ℕ) (before now : List ℕ) (at : ℕ) → index ≤ l.until → AreSet stack l before now at index → at ≤ length before + l.size
+  pub set_few : (index : ℕ) (before now : List ℕ) (at : ℕ) → index ≤ l.until → AreSet stack l before now at index
+      → at ≤ length before + l.size
   set_few index before now at until set = let few = written_few index until in let place = set.place in omega arith
 
   -- where a row is appended after those before it, those before the next one are written

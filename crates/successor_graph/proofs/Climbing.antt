@@ -137,7 +137,9 @@ module _ (next class path : List ℕ) (u v : ℕ) (noted more : List Bool) (put 
       here : (x : ℕ) → x < length class → On path x → get_or class x 0 ≡ get_or class u 0 → u < x → v ≤ x
           → On path v → get_or class v 0 ≡ get_or class u 0 → get_or more x false ≡ true
       here x i q c l k o f = elim (cases_order v x) [
-        | inl e ↦ (let m : max v u ≡ x = omega arith in subst (λ z. get_or more z false ≡ true) m (put.made.made (omega arith) (omega arith)))
+        | inl e ↦
+            let m : max v u ≡ x = omega arith in
+            subst (λ z. get_or more z false ≡ true) m (put.made.made (omega arith) (omega arith))
         | inr (inl m) ↦ put.made.kept x (s.each x v q o (c ∙ sym f) m)
         | inr (inr m) ↦ absurd (omega arith)
       ]

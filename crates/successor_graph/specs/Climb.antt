@@ -85,7 +85,8 @@ pub record IsNoted (before after : List Bool) (n old at : ℕ) : Type 0 where
   pub only : (x : ℕ) → get_or after x false ≡ true
       → (get_or before x false ≡ true) ⊎ ((x ≡ max old at) × (old < n) × (old ≢ at))
 
--- points: where each leads, its class, the first of those that lead to it, and what follows it there
+-- points: where each leads, its class, the first of those that lead to it, and what follows it
+-- there
 pub record Points : Type 0 where
   pub next : List ℕ
   pub class : List ℕ

@@ -38,7 +38,8 @@ returns-clause-small g c = c.loop-index.invariant.small
 pub returns-clause-moves : goal.returns-clause-moves
 returns-clause-moves g c =
     let last : c.loop-index.index ≡ c.args.rows.now.until = omega arith in (
-      c.loop-index.invariant.so_far ∙ ap (λ (ms : List Move). c.args.into.now.items ++ ms) (all_given c.args.rows.now c.loop-index.index last),
+      c.loop-index.invariant.so_far
+          ∙ ap (λ (ms : List Move). c.args.into.now.items ++ ms) (all_given c.args.rows.now c.loop-index.index last),
       tt,
       tt,
       c.loop-index.invariant.room,

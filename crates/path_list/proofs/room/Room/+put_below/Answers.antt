@@ -11,8 +11,9 @@ put_below-requires g t c κs within =
     let same : record { number = c.row.inside.number; name = c.name.result.now } ≡ c.row-item.result =
     ap (λ (n : ℕ). record { number = n; name = c.name.result.now }) number_is
     ∙ ap (λ (x : List ℕ). record { number = c.row-item.result.number; name = x }) c.name.ensures in
-    let w = goes_on c.args.table.now c.args.shown.number (way c.args.shown.trail) c.requires.visited c.rows-row-items.result.now c.loop-row.row-index
-    c.row-item.result c.row.inside.number c.name.result.now c.rows-row-items.ensures c.loop-row-test.true c.row-item.is same in
+    let w = goes_on c.args.table.now c.args.shown.number (way c.args.shown.trail) c.requires.visited c.rows-row-items.result.now
+    c.loop-row.row-index c.row-item.result c.row.inside.number c.name.result.now c.rows-row-items.ensures c.loop-row-test.true
+    c.row-item.is same in
     let visit = w.0 in
     let less = w.1 in
     let same_failures = c.in_ok-put_line.ensures.counted.0 ∙ c.loop-row.invariant.counted.0 in
