@@ -14,53 +14,64 @@ use Rattle.serve_loop.specs.declared.stop.Stop.TheVariants.{Layer, Layers, BadLe
 use Rattle.layer_check.specs.Layers.{AreLayers, IsFew, IsLowestBroken, AreRefused}
 use Rattle.layer_check.specs.Checking.{AreChecked, IsBroken, Checks, IsFirstStop, Joins}
 
--- an image that keeps the rules goes from what is left to what is checked
-pub one_more : {X : Type 0} (v : X → List ℕ) (profile : Profile) (all below : List (List ℕ)) (left rest : List X) (x : X)
-    (layers more : List (List ℕ)) (checked : List ℕ)
-    → all ≡ below ++ map v left → left ≡ x ∷ rest → AreChecked profile below layers → checked ≡ image (v x) → IsSoundAs profile (v x)
-    → more ≡ layers ++ checked ∷ []
-    → (after : List (List ℕ)) × (all ≡ after ++ map v rest) × AreChecked profile after more
-one_more v profile all below left rest x layers more checked e l s f d m = (
-  below ++ v x ∷ [],
-  e ∙ ap (λ xs. below ++ map v xs) l ∙ sym (append_assoc below (v x ∷ []) (map v rest)),
-  record {
-    sound = All-push (IsSoundAs profile) below (v x) s.sound d;
-    are = m ∙ ap (λ xs. xs ++ checked ∷ []) s.are ∙ ap (λ n. map image below ++ n ∷ []) f ∙ sym (map-append image below (v x ∷ []));
-  },
-)
+-- the images before those that are left keep the rules, and these are their accessible bytes
+pub record AreTaken {X : Type 0} (v : X → List ℕ) (profile : Profile) (all : List (List ℕ)) (left : List X)
+    (layers : List (List ℕ)) : Type 0 where
+  pub below : List (List ℕ)
+  pub split : all ≡ below ++ map v left
+  pub checked : AreChecked profile below layers
 
--- where the next image breaks a rule, it is the lowest that does
-pub next_breaks : {X : Type 0} (v : X → List ℕ) (profile : Profile) (all below : List (List ℕ)) (left rest : List X) (x : X)
-    (layers : List (List ℕ)) (first n : ℕ) (fault : ImageFault)
-    → all ≡ below ++ map v left → left ≡ x ∷ rest → AreChecked profile below layers → n ≡ length layers
-    → IsFaultAs profile (v x) fault.rule fault.place → IsBroken first profile all (Layer (first + n) fault)
-next_breaks v profile all below left rest x layers first n fault e l s h f = (
-  n,
-  refl,
-  record {
-    below = below;
-    above = map v rest;
-    bytes = v x;
-    images_are = e ∙ ap (λ xs. below ++ map v xs) l;
-    layer_is = h ∙ ap length s.are ∙ length-map below image;
-    sound = s.sound;
-    broken = f;
-  },
-)
+-- before the first image none is taken
+pub none_taken : {X : Type 0} (v : X → List ℕ) (profile : Profile) (all : List X) → AreTaken v profile (map v all) all []
+none_taken v profile all = record {
+  below = [];
+  split = refl;
+  checked = record { sound = λ k d l. absurd (omega arith); are = refl };
+}
+
+module _ {X : Type 0} {v : X → List ℕ} {profile : Profile} {all : List (List ℕ)} {left : List X} {layers : List (List ℕ)}
+    (t : AreTaken v profile all left layers) (x : X) (rest : List X) (next : left ≡ x ∷ rest) where
+  -- an image that keeps the rules goes from what is left to what is taken
+  pub one_more : (checked : List ℕ) → checked ≡ image (v x) → IsSoundAs profile (v x) → AreTaken v profile all rest (layers ++ checked ∷ [])
+  one_more checked f d = record {
+    below = t.below ++ v x ∷ [];
+    split = t.split ∙ ap (λ xs. t.below ++ map v xs) next ∙ sym (append_assoc t.below (v x ∷ []) (map v rest));
+    checked = record {
+      sound = All-push (IsSoundAs profile) t.below (v x) t.checked.sound d;
+      are = ap (λ xs. xs ++ checked ∷ []) t.checked.are ∙ ap (λ n. map image t.below ++ n ∷ []) f
+          ∙ sym (map-append image t.below (v x ∷ []));
+    };
+  }
+
+  -- where the next image breaks a rule, it is the lowest that does
+  pub next_breaks : (first n : ℕ) (fault : ImageFault) → n ≡ length layers → IsFaultAs profile (v x) fault.rule fault.place
+      → IsBroken first profile all (Layer (first + n) fault)
+  next_breaks first n fault h f = (
+    n,
+    refl,
+    record {
+      below = t.below;
+      above = map v rest;
+      bytes = v x;
+      images_are = t.split ∙ ap (λ xs. t.below ++ map v xs) next;
+      layer_is = h ∙ ap length t.checked.are ∙ length-map t.below image;
+      sound = t.checked.sound;
+      broken = f;
+    },
+  )
 
 nothing : {X : Type 0} (xs : List X) → length xs ≡ 0 → xs ≡ []
 nothing [] none = refl
 nothing (x ∷ xs) none = absurd (omega (arith, none))
 
 -- where none is left, all are checked
-pub all_checked : {X : Type 0} (v : X → List ℕ) (profile : Profile) (all : List X) (below : List (List ℕ)) (left : List X)
-    (layers : List (List ℕ))
-    → map v all ≡ below ++ map v left → length left ≡ 0 → AreChecked profile below layers → AreChecked profile (map v all) layers
-all_checked v profile all below left layers e none checked =
-    let same : map v all ≡ below = e ∙ ap (λ xs. below ++ map v xs) (nothing left none) ∙ append-nil below in
+pub all_checked : {X : Type 0} {v : X → List ℕ} {profile : Profile} {all : List (List ℕ)} {left : List X} {layers : List (List ℕ)}
+    → AreTaken v profile all left layers → length left ≡ 0 → AreChecked profile all layers
+all_checked {v = v} {profile} {all} {left} t none =
+    let same : all ≡ t.below = t.split ∙ ap (λ xs. t.below ++ map v xs) (nothing left none) ∙ append-nil t.below in
     record {
-      sound = subst (All (IsSoundAs profile)) (sym same) checked.sound;
-      are = checked.are ∙ ap (map image) (sym same);
+      sound = subst (All (IsSoundAs profile)) (sym same) t.checked.sound;
+      are = t.checked.are ∙ ap (map image) (sym same);
     }
 
 -- two halves that keep the rules
@@ -96,9 +107,9 @@ broken_low first profile lows highs Write b = absurd b
 broken_low first profile lows highs Turns b = absurd b
 
 -- the upper half's is, where the lower half keeps the rules
-pub broken_high : (first next : ℕ) (profile : Profile) (lows highs xs : List (List ℕ)) (stop : Stop) → next ≡ first + length lows
-    → AreChecked profile lows xs → IsBroken next profile highs stop → IsBroken first profile (lows ++ highs) stop
-broken_high first next profile lows highs xs (Layer layer fault) up low (n, at, broken) = (
+pub broken_high : (first : ℕ) {profile : Profile} {lows xs : List (List ℕ)} → AreChecked profile lows xs → (highs : List (List ℕ))
+    (stop : Stop) → IsBroken (first + length lows) profile highs stop → IsBroken first profile (lows ++ highs) stop
+broken_high first {profile} {lows} low highs (Layer layer fault) (n, at, broken) = (
   length lows + n,
   omega arith,
   record {
@@ -111,38 +122,39 @@ broken_high first next profile lows highs xs (Layer layer fault) up low (n, at, 
     broken = broken.broken;
   },
 )
-broken_high first next profile lows highs xs Memory up low b = tt
-broken_high first next profile lows highs xs (Layers count) up low b = absurd b
-broken_high first next profile lows highs xs (BadLength at len) up low b = absurd b
-broken_high first next profile lows highs xs (CutOff at) up low b = absurd b
-broken_high first next profile lows highs xs Read up low b = absurd b
-broken_high first next profile lows highs xs Write up low b = absurd b
-broken_high first next profile lows highs xs Turns up low b = absurd b
+broken_high first low highs Memory b = tt
+broken_high first low highs (Layers count) b = absurd b
+broken_high first low highs (BadLength at len) b = absurd b
+broken_high first low highs (CutOff at) b = absurd b
+broken_high first low highs Read b = absurd b
+broken_high first low highs Write b = absurd b
+broken_high first low highs Turns b = absurd b
 
--- why the first of two halves stopped is why the run did
-stopped_first : {A : Type 0} (first next : ℕ) (profile : Profile) (lows highs : List (List ℕ))
-    (low high : Result (Vec (List ℕ) A) Stop) (stop : Stop) → next ≡ first + length lows
-    → Checks first profile lows low → Checks next profile highs high → IsFirstStop low high stop
-    → IsBroken first profile (lows ++ highs) stop
-stopped_first first next profile lows highs (Err s) high stop up a b is =
-    subst (IsBroken first profile (lows ++ highs)) (sym is) (broken_low first profile lows highs s a.1)
-stopped_first first next profile lows highs (Ok xs) (Err s) stop up a b is =
-    subst (IsBroken first profile (lows ++ highs)) (sym is) (broken_high first next profile lows highs _ s up a.0 b.1)
-stopped_first first next profile lows highs (Ok xs) (Ok ys) stop up a b is = absurd is
+-- what two halves of a run come to, the upper one numbered on from where the lower one ends
+pub record AreHalves {A : Type 0} (first : ℕ) (profile : Profile) (lows highs : List (List ℕ))
+    (low high : Result (Vec (List ℕ) A) Stop) : Type 0 where
+  pub lower : Checks first profile lows low
+  pub upper : Checks (first + length lows) profile highs high
 
--- what two halves come to is what the run does
-pub joined : {A : Type 0} (first next : ℕ) (profile : Profile) (lows highs : List (List ℕ))
-    (low high result : Result (Vec (List ℕ) A) Stop) → next ≡ first + length lows
-    → Checks first profile lows low → Checks next profile highs high → Joins low high result
-    → Checks first profile (lows ++ highs) result
-joined first next profile lows highs (Ok xs) (Ok ys) (Ok all) up a b is =
-    (subst (AreChecked profile (lows ++ highs)) (sym is) (whole profile lows highs _ _ a.0 b.0), tt)
-joined first next profile lows highs (Ok xs) (Err s) (Ok all) up a b is = absurd is
-joined first next profile lows highs (Err s) high (Ok all) up a b is = absurd is
-joined first next profile lows highs low high (Err stop) up a b (inl memory) =
-    (tt, subst (IsBroken first profile (lows ++ highs)) (sym memory) tt)
-joined first next profile lows highs low high (Err stop) up a b (inr is) =
-    (tt, stopped_first first next profile lows highs low high stop up a b is)
+module _ {A : Type 0} (first : ℕ) (profile : Profile) (lows highs : List (List ℕ)) where
+  -- why the first of two halves stopped is why the run did
+  stopped_first : (low high : Result (Vec (List ℕ) A) Stop) (stop : Stop) → AreHalves first profile lows highs low high
+      → IsFirstStop low high stop → IsBroken first profile (lows ++ highs) stop
+  stopped_first (Err s) high stop h is =
+      subst (IsBroken first profile (lows ++ highs)) (sym is) (broken_low first profile lows highs s h.lower.1)
+  stopped_first (Ok xs) (Err s) stop h is =
+      subst (IsBroken first profile (lows ++ highs)) (sym is) (broken_high first h.lower.0 highs s h.upper.1)
+  stopped_first (Ok xs) (Ok ys) stop h is = absurd is
+
+  -- what two halves come to is what the run does
+  pub joined : (low high result : Result (Vec (List ℕ) A) Stop) → AreHalves first profile lows highs low high → Joins low high result
+      → Checks first profile (lows ++ highs) result
+  joined (Ok xs) (Ok ys) (Ok all) h is =
+      (subst (AreChecked profile (lows ++ highs)) (sym is) (whole profile lows highs _ _ h.lower.0 h.upper.0), tt)
+  joined (Ok xs) (Err s) (Ok all) h is = absurd is
+  joined (Err s) high (Ok all) h is = absurd is
+  joined low high (Err stop) h (inl memory) = (tt, subst (IsBroken first profile (lows ++ highs)) (sym memory) tt)
+  joined low high (Err stop) h (inr is) = (tt, stopped_first low high stop h is)
 
 -- a few images that are checked are layers
 pub as_layers : {X : Type 0} (v : X → List ℕ) (profile : Profile) (all : List X) (layers : List (List ℕ)) → IsFew (length all)

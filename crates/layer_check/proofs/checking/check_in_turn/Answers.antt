@@ -9,32 +9,26 @@ use Rattle.layer_check.proofs.checking.check_in_turn.Goals as goal
 
 pub loop-bytes-preserved : goal.loop-bytes-preserved
 loop-bytes-preserved g c =
-    let done = c.loop-bytes.invariant.done in
     record {
       can_next = tt;
       is_finite = tt;
-      done = one_more (λ image. image.items) c.args.profile _ done.0 _ _ c.in-Some.bytes c.loop-bytes.checked.items c.push.new.self.items
-          c.in-Ok.image
-          done.1 c.in-Some.ensures.steps.0 done.2 c.in-Ok.ensures.ok.0 c.in-Ok.ensures.ok.1 c.in_ok-push-in-Ok.ensures.items;
+      done = rw c.in_ok-push-in-Ok.ensures.items (one_more c.loop-bytes.invariant.done c.in-Some.bytes _ c.in-Some.ensures.steps.0
+          c.in-Ok.image c.in-Ok.ensures.ok.0 c.in-Ok.ensures.ok.1);
     }
 
 pub returns : goal.returns
 returns g c =
-    let done = c.loop-bytes.invariant.done in
     let none : length (into_iter_items c.loop-bytes.bytes-iterator) ≡ 0 = omega (
       arith,
       c.in-None.ensures.steps.0,
       c.loop-bytes.bytes-iterator.rest.ok,
     ) in (
-      all_checked (λ image. image.items) c.args.profile c.args.images.items done.0 (into_iter_items c.loop-bytes.bytes-iterator)
-          c.loop-bytes.checked.items
-          done.1 none done.2,
+      all_checked c.loop-bytes.invariant.done none,
       tt,
     )
 
 pub returns-in-Err-Broken : goal.returns-in-Err-Broken
 returns-in-Err-Broken g c =
-    let done = c.loop-bytes.invariant.done in
     let bytes = c.in-Some.bytes in
     let number : c.len-in-loop-bytes.result ≡ length c.loop-bytes.checked.items = omega (
       arith,
@@ -42,8 +36,8 @@ returns-in-Err-Broken g c =
       c.loop-bytes.checked.ok,
     ) in
     let broken = subst (λ fault. IsRefusalAs c.args.profile bytes.items fault) c.in-Err-Broken.field-0-is c.in-Err-Broken.ensures.err in
-    let why = next_breaks (λ image. image.items) c.args.profile _ done.0 _ _ bytes c.loop-bytes.checked.items c.args.first
-    c.len-in-loop-bytes.result c.in-Err-Broken.fault done.1 c.in-Some.ensures.steps.0 done.2 number broken in (
+    let why = next_breaks c.loop-bytes.invariant.done bytes _ c.in-Some.ensures.steps.0 c.args.first c.len-in-loop-bytes.result
+    c.in-Err-Broken.fault number broken in (
       tt,
       subst (λ fault. IsBroken c.args.first c.args.profile (contents_of c.args.images)
           (Layer (c.args.first + c.len-in-loop-bytes.result) fault)) (sym c.in-Err-Broken.fault-is) why,
