@@ -18,18 +18,4 @@
 #![tactic(auto)]
 
 #[cfg(test)]
-mod gates;
-#[cfg(test)]
-mod memory;
-#[cfg(test)]
-mod readers;
-#[cfg(test)]
-mod refusing;
-#[cfg(test)]
-mod sample_layouts;
-#[cfg(test)]
-mod stacks;
-#[cfg(test)]
-mod tables;
-#[cfg(test)]
-mod told;
+mod tests;

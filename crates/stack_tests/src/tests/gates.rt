@@ -1,11 +1,9 @@
 //! Trees of layers are made at the same time, but of no more than 16 parts, each after its gate.
 
-use crate::stacks::wrong_of;
+use super::stacks::wrong_of;
 use stack_core::{Gate, Work, stack};
-use std::alloc::Global;
-use std::sync::atomic::{AtomicU64, Ordering};
 use std::test::Fail;
-use test_kit::gates::{Crowd, Holding, MANY, Recording};
+use test_kit::gates::{Crowd, Holding, MANY, Noting, Recording};
 use test_kit::refusing::Refusing;
 use test_kit::sample_images::layers;
 
@@ -24,18 +22,16 @@ impl Gate for Both {
 }
 
 #[test]
-fn the_lowest_tree_waits_for_the_next(rt: HostRuntime) -> Result<(), Fail> {
+fn the_lowest_tree_waits_for_the_next(rt: HostRuntime) {
     let gate = Both {
         holding: Holding::new(Work::Tree, 0b1, 0b10, MANY),
         recording: Recording::new(),
     };
     // The sample image on the empty one.
     let stack = (" + 1#big 1*d 2-x 1@l 1$null", "", "1f!/big 1f!/d/x");
-    let wrong = wrong_of(&rt, rt.alloc(), stack, &gate)?;
-    assert_eq!(rt; wrong, None);
-    assert!(rt; !gate.holding.is_given_up());
+    let wrong = wrong_of(&rt, rt.alloc(), stack, &gate);
+    assert!(rt; wrong == Ok(None) && !gate.holding.is_given_up());
     assert_eq!(rt; gate.recording.seen(), (0, 0x11, 0));
-    Ok(())
 }
 
 /// 128 layers of nothing.
@@ -44,25 +40,10 @@ const LAYERS: &str = "\
 +++++++++++++++++++++++++++++++++++++++++++++++++++++++++++++++";
 
 #[test]
-fn sixteen_parts_are_stacked_at_a_time(rt: HostRuntime) -> Result<(), Fail> {
+fn sixteen_parts_are_stacked_at_a_time(rt: HostRuntime) {
     let gate = Crowd::new(Work::Tree);
-    let wrong = wrong_of(&rt, rt.alloc(), (LAYERS, "", "7d."), &gate)?;
-    assert_eq!(rt; wrong, None);
-    assert_eq!(rt; gate.seen(), (128, 16));
-    Ok(())
-}
-
-/// Notes how many requests for memory came before a tree is begun.
-#[derive(Drop)]
-struct Noting<'a> {
-    memory: &'a Refusing<Global>,
-    before: AtomicU64,
-}
-
-impl Gate for Noting<'_> {
-    fn pass(&self, _work: Work, _number: u32) {
-        self.before.store(self.memory.requests(), Ordering::SeqCst);
-    }
+    let wrong = wrong_of(&rt, rt.alloc(), (LAYERS, "", "7d."), &gate);
+    assert!(rt; wrong == Ok(None) && gate.seen() == (128, 16));
 }
 
 #[test]
@@ -73,12 +54,8 @@ fn a_tree_is_made_behind_its_gate(rt: HostRuntime) -> Result<(), Fail> {
         return Err(Fail::new("one layer"));
     }
     let begun = memory.requests();
-    let gate = Noting {
-        memory: &memory,
-        before: AtomicU64::new(0),
-    };
-    let tree = stack(&rt, &memory, &images, &gate)?;
-    assert!(rt; !tree.children(&[]).is_empty() && begun < memory.requests());
-    assert_eq!(rt; gate.before.load(Ordering::SeqCst), begun);
+    let gate = Noting::new(&memory);
+    let is_made = stack(&rt, &memory, &images, &gate).is_ok_and(|it| !it.children(&[]).is_empty());
+    assert!(rt; is_made && begun < memory.requests() && gate.before() == begun);
     Ok(())
 }

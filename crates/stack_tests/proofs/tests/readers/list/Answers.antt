@@ -1,6 +1,6 @@
 use Rattle.std.proofs.lemmas.List.Elements.{All-head, All-rest}
 use Rattle.romfs_reader.specs.Readers.{IsGiven}
-use Rattle.stack_tests.proofs.readers.list.Goals as goal
+use Rattle.stack_tests.proofs.tests.readers.list.Goals as goal
 
 pub loop-head-init : goal.loop-head-init
 loop-head-init g c = rw c.into_iter-head-iterator.ensures.into_iter_gives c.members-head-items.ensures.given

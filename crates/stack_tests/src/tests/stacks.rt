@@ -1,6 +1,6 @@
 //! What trees say, and stacks, in whatever order they are laid.
 
-use crate::told::first_wrong;
+use super::told::first_wrong;
 use layer_tree::{OfLayer, Tree, lay};
 use romfs_image::Image;
 use romfs_image::sample::BuildFault;

@@ -1,7 +1,7 @@
 //! Each request for memory of a call is refused in turn, in whichever thread.
 
-use crate::stacks::wrong_of;
-use crate::tables::table_of;
+use super::stacks::wrong_of;
+use super::tables::table_of;
 use layer_tree::{OfLayer, Tree, lay};
 use romfs_image::sample::BuildFault;
 use romfs_image::{Check, CheckFault, Image, Profile};
@@ -9,10 +9,10 @@ use stack_core::FreePass;
 use std::alloc::{Allocator, Global};
 use std::test::Fail;
 use std::thread::Threads;
-use test_kit::refusing::refuse_each;
+use test_kit::refusing::refuse_in_turn;
 use test_kit::sample_images::{SAMPLE, checked, layers, sample};
 
-#[derive(Clone, Copy, Debug)]
+#[derive(Clone, Copy)]
 enum Call {
     Build,
     Check,
@@ -68,30 +68,26 @@ fn is_right<R: Threads + Sync, A: Allocator + Copy + Send + Sync>(
 }
 
 /// How many requests a call makes, each of which is refused once.
-fn requests_of<R: Threads + Sync>(rt: &R, alloc: Global, call: Call) -> Result<u64, Fail> {
-    refuse_each(alloc, |refusing, refuse_at| {
+fn requests_of<R: Threads + Sync>(rt: &R, alloc: Global, call: Call) -> Result<u64, u64> {
+    refuse_in_turn(alloc, |refusing, _| {
         let came_to = is_right(rt, refusing, call);
-        let wanted = if refusing.refused() {
-            Err(BuildFault::Memory)
+        if refusing.refused() {
+            came_to == Err(BuildFault::Memory)
         } else {
-            Ok(true)
-        };
-        if came_to == wanted {
-            Ok(())
-        } else {
-            Err(Fail::new(format_args!("{call:?} at {refuse_at}")))
+            came_to == Ok(true)
         }
     })
 }
 
 #[test]
 fn each_request_is_refused_in_turn(rt: HostRuntime) -> Result<(), Fail> {
-    let building = requests_of(&rt, rt.alloc(), Call::Build)?;
-    assert!(rt; building < requests_of(&rt, rt.alloc(), Call::Check)?);
-    assert!(rt; building < requests_of(&rt, rt.alloc(), Call::CheckAs)?);
-    let reading = requests_of(&rt, rt.alloc(), Call::TreeOf)?;
-    assert!(rt; reading < requests_of(&rt, rt.alloc(), Call::Lay)?);
-    assert!(rt; 50 < requests_of(&rt, rt.alloc(), Call::Stack)?);
-    assert!(rt; 10 < requests_of(&rt, rt.alloc(), Call::Table)?);
+    let alloc = rt.alloc();
+    let building = requests_of(&rt, alloc, Call::Build)?;
+    assert!(rt; building < requests_of(&rt, alloc, Call::Check)?);
+    assert!(rt; building < requests_of(&rt, alloc, Call::CheckAs)?);
+    let reading = requests_of(&rt, alloc, Call::TreeOf)?;
+    assert!(rt; reading < requests_of(&rt, alloc, Call::Lay)?);
+    assert!(rt; 50 < requests_of(&rt, alloc, Call::Stack)?);
+    assert!(rt; 10 < requests_of(&rt, alloc, Call::Table)?);
     Ok(())
 }
