@@ -8,20 +8,8 @@
 //! - `plans`: how many workers and how large batches a line asks for.
 //! - `serving`: `serve` by itself, with refused memory and too few turns.
 //!
-//! What they share: `program`, which names files of the test's own.
+//! What they share: `program`, runs of the program and files of the test's own.
 #![tactic(auto)]
 
 #[cfg(test)]
-mod clients;
-#[cfg(test)]
-mod failing;
-#[cfg(test)]
-mod memory;
-#[cfg(test)]
-mod mounted;
-#[cfg(test)]
-mod plans;
-#[cfg(test)]
-mod program;
-#[cfg(test)]
-mod serving;
+mod tests;

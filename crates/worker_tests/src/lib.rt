@@ -16,18 +16,4 @@
 #![tactic(auto)]
 
 #[cfg(test)]
-mod answers;
-#[cfg(test)]
-mod batches;
-#[cfg(test)]
-mod gates;
-#[cfg(test)]
-mod jobs;
-#[cfg(test)]
-mod memory;
-#[cfg(test)]
-mod plans;
-#[cfg(test)]
-mod tables;
-#[cfg(test)]
-mod threads;
+mod tests;

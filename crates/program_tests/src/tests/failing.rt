@@ -1,14 +1,9 @@
 //! Readers and writers that fail.
 
-use crate::program::image_file;
-use devices::{Spout, Tap};
-use std::alloc::Global;
-use std::fs::{self, Files};
+use super::program::{image_file, status_of};
+use std::fs;
 use std::io::{self, Error, ErrorKind, Read, Write};
-use std::net::Net;
 use std::test::Fail;
-use std::thread::Threads;
-use strata::command;
 use test_kit::messages::{REPLIES, REQUESTS};
 
 /// A reader that gives its bytes, then fails once, and is then at its end.
@@ -57,42 +52,16 @@ impl Write for Full {
     }
 }
 
-/// Whether the program over these streams ends with status 1 and this line.
-fn is_told<R: Files + Net + Threads + Sync, I: Read + Drop, O: Write + Drop>(
-    rt: &R,
-    alloc: Global,
-    words: &[&str],
-    input: I,
-    output: O,
-    line: &[u8],
-) -> bool
-where
-    R::File: Send,
-    R::Dir: Send,
-{
-    let mut faults = Vec::new(alloc);
-    let status = command(
-        rt,
-        alloc,
-        alloc,
-        words,
-        &mut Tap::new(input),
-        &mut Spout::new(output),
-        &mut faults,
-    );
-    status == 1 && faults.as_slice() == line
-}
-
 #[test]
 fn writers_that_fail_are_told(rt: HostRuntime) -> Result<(), Fail> {
     let image = image_file(&rt, "writers")?;
     let path = image.as_str();
+    let (global, line) = (rt.alloc(), b"write fault\n");
     for words in [["check", path], ["list", path], ["serve", path]] {
         for (room, flushes) in [(10, true), (1000, false)] {
             let full = Full { room, flushes };
-            let input = REQUESTS.as_slice();
-            let told = is_told(&rt, rt.alloc(), &words, input, full, b"write fault\n");
-            assert!(rt; told, "room {room}");
+            let status = status_of(&rt, global, global, &words, REQUESTS.as_slice(), full, line);
+            assert!(rt; status == Some(1), "room {room}");
         }
     }
     fs::remove_file(&rt, path)?;
@@ -103,19 +72,14 @@ fn writers_that_fail_are_told(rt: HostRuntime) -> Result<(), Fail> {
 fn a_reader_that_fails_is_told(rt: HostRuntime) -> Result<(), Fail> {
     let image = image_file(&rt, "reader")?;
     let words = ["serve", image.as_str()];
-    let mut output = Vec::new(rt.alloc());
-    let told = is_told(
-        &rt,
-        rt.alloc(),
-        &words,
-        Broken {
-            bytes: &REQUESTS,
-            has_failed: false,
-        },
-        &mut output,
-        b"read fault\n",
-    );
-    assert!(rt; told && output.as_slice() == REPLIES.as_slice());
+    let broken = Broken {
+        bytes: &REQUESTS,
+        has_failed: false,
+    };
+    let (global, line) = (rt.alloc(), b"read fault\n");
+    let mut output = Vec::new(global);
+    let status = status_of(&rt, global, global, &words, broken, &mut output, line);
+    assert!(rt; status == Some(1) && output.as_slice() == REPLIES.as_slice());
     fs::remove_file(&rt, image.as_str())?;
     Ok(())
 }

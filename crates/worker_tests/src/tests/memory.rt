@@ -1,15 +1,15 @@
 //! Each request for memory of a call is refused in turn, in whichever thread.
 
-use crate::answers::{Left, appended};
-use crate::batches::{Jobs, round_of};
-use crate::threads::pieces_of;
+use super::answers::{Left, appended};
+use super::batches::{Jobs, round_of};
+use super::threads::pieces_of;
 use stack_core::FreePass;
 use std::alloc::{AllocError, Global};
 use std::test::Fail;
 use std::thread::Threads;
-use test_kit::refusing::{Refusing, refuse_each};
+use test_kit::refusing::{Refusing, refuse_in_turn};
 
-#[derive(Clone, Copy, Debug)]
+#[derive(Clone, Copy)]
 enum Call {
     /// A round by so many workers, in batches of so many.
     Round(u32, u32),
@@ -66,24 +66,24 @@ fn is_told<'a, R: Threads + Sync>(
 }
 
 /// How many requests a call makes, each of which is refused once.
-fn requests_of<R: Threads + Sync>(rt: &R, global: Global, call: Call) -> Result<u64, Fail> {
+fn requests_of<R: Threads + Sync>(rt: &R, global: Global, call: Call) -> Result<u64, u64> {
     let plain = Refusing::new(global, 0);
-    refuse_each(global, |refusing, refuse_at| {
-        if is_told(rt, global, &plain, refusing, refuse_at, call) {
-            Ok(())
-        } else {
-            Err(Fail::new(format_args!("{call:?} at {refuse_at}")))
-        }
+    refuse_in_turn(global, |refusing, refuse_at| {
+        is_told(rt, global, &plain, refusing, refuse_at, call)
     })
 }
 
 #[test]
-fn rounds_and_workers_are_refused(rt: HostRuntime) -> Result<(), Fail> {
+fn rounds_and_workers_are_refused(rt: HostRuntime) {
     for (workers, batch) in [(1, 1), (2, 3), (5, 1)] {
-        assert!(rt; 8 < requests_of(&rt, rt.alloc(), Call::Round(workers, batch))?);
+        let requests = requests_of(&rt, rt.alloc(), Call::Round(workers, batch));
+        assert!(rt;
+            matches!(requests, Ok(9..)),
+            "{workers}, {batch}: {requests:?}"
+        );
     }
-    assert!(rt; 4 < requests_of(&rt, rt.alloc(), Call::Work)?);
-    Ok(())
+    let requests = requests_of(&rt, rt.alloc(), Call::Work);
+    assert!(rt; matches!(requests, Ok(5..)), "{requests:?}");
 }
 
 #[test]

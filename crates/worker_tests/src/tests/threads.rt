@@ -5,8 +5,8 @@ ghost use Rattle.std.specs.Thread.{IsSync};
 ghost use Rattle.draw_board.specs.Hands.{GivesBack, IsHandOf, KeepsShare, share, total_of};
 ghost use Rattle.reply_pool.specs.Batches.{batches};
 
-use crate::jobs::jobs_of;
-use crate::tables::sample_table;
+use super::jobs::jobs_of;
+use super::tables::sample_table;
 use draw_board::{Board, Hand};
 use node_table::Table;
 use reply_pool::{Piece, work};

@@ -1,8 +1,8 @@
 //! A batch is held until others have come, and workers are counted.
 
-use crate::jobs::jobs_of;
-use crate::tables::sample_table;
-use crate::threads::pieces_of;
+use super::jobs::jobs_of;
+use super::tables::sample_table;
+use super::threads::pieces_of;
 use reply_model::Session;
 use reply_pool::{Plan, round, spread_out};
 use stack_core::Work;
@@ -66,11 +66,12 @@ fn a_batch_is_answered_behind_its_gate(rt: HostRuntime) {
 fn sixteen_workers_answer_a_stream(rt: HostRuntime) -> Result<(), Fail> {
     let global = rt.alloc();
     let plan = Plan::new(16, 1).ok_or("a plan")?;
-    let table = sample_table(&rt, global).ok_or("a table")?;
     let mut stream = script(global)?;
     let again = script(global)?;
     stream.extend_from_slice(&again)?;
+    drop(again);
     assert!(rt; stream.len() < 4096);
+    let table = sample_table(&rt, global).ok_or("a table")?;
     let gate = Crowd::new(Work::Batch);
     let spread = spread_out(
         &rt,

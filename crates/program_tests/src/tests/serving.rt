@@ -3,10 +3,9 @@
 use devices::{Spout, Tap};
 use serve_core::{FreePass, Plan, Stop, serve};
 use std::alloc::Global;
-use std::test::Fail;
 use std::thread::Threads;
-use test_kit::refusing::{Refusing, refuse_each};
-use test_kit::sample_images::{alone, sample};
+use test_kit::refusing::{Refusing, refuse_in_turn};
+use test_kit::sample_images::samples;
 use test_kit::script::{script, script_replies};
 
 /// How many messages and bytes of replies there were, or why it stopped; and how many bytes were
@@ -22,7 +21,7 @@ fn end_of<'a, R: Threads + Sync>(
     alloc: &'a Refusing<Global>,
     turns: u32,
 ) -> Option<Ended> {
-    let images = alone(plain, sample(plain).ok()?).ok()?;
+    let images = samples(plain, 1)?;
     let stream = script(global).ok()?;
     let replies = script_replies(global).ok()?;
     let mut output = Vec::new(global);
@@ -44,23 +43,17 @@ fn end_of<'a, R: Threads + Sync>(
 }
 
 #[test]
-fn a_script_is_served_over_an_image(rt: HostRuntime) -> Result<(), Fail> {
+fn a_script_is_served_over_an_image(rt: HostRuntime) {
     let plain = Refusing::new(rt.alloc(), 0);
-    let requests = refuse_each(rt.alloc(), |refusing, refuse_at| {
+    let requests = refuse_in_turn(rt.alloc(), |refusing, _| {
         let seen = end_of(&rt, rt.alloc(), &plain, refusing, 2);
-        let is_right = match seen {
-            Some((Err(Stop::Memory), _)) => refusing.refused(),
-            Some(seen) => !refusing.refused() && seen == (Ok((12, 1531)), 1531),
-            None => false,
-        };
-        if is_right {
-            Ok(())
+        if refusing.refused() {
+            matches!(seen, Some((Err(Stop::Memory), _)))
         } else {
-            Err(Fail::new(format_args!("at {refuse_at}")))
+            seen == Some((Ok((12, 1531)), 1531))
         }
-    })?;
-    assert!(rt; 20 < requests);
-    Ok(())
+    });
+    assert!(rt; matches!(requests, Ok(21..)), "{requests:?}");
 }
 
 #[test]

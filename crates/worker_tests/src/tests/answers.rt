@@ -1,7 +1,7 @@
 //! An answer, and what it moves: what stood before is as it was.
 
-use crate::jobs::{Job, jobs_of};
-use crate::tables::sample_table;
+use super::jobs::{Job, jobs_of};
+use super::tables::sample_table;
 use fuse_answer::{answer, moves};
 use node_table::Table;
 use reply_model::Move;

@@ -1,6 +1,6 @@
 //! The program over devices like those of an open `/dev/fuse`.
 
-use crate::program::image_file;
+use super::program::image_file;
 use fuse_device::{MessageTap, ReplySpout};
 use std::alloc::{Allocator, Global};
 use std::fs::{self, Files};
@@ -10,7 +10,7 @@ use std::test::Fail;
 use std::thread::Threads;
 use strata::command_on_device;
 use test_kit::messages::REQUESTS;
-use test_kit::refusing::refuse_each;
+use test_kit::refusing::{Refusing, refuse_in_turn};
 
 /// The error number of a read or a write of a device that was taken away.
 const ENODEV: i32 = 19;
@@ -53,20 +53,24 @@ impl Write for Replies {
     }
 }
 
-/// The status of the program over two requests, in memory of `alloc`, and what it wrote to standard
-/// error. There is none where memory for the device itself is refused.
-fn run_in<R: Files + Net + Threads + Sync, A: Allocator + Copy + Send + Sync>(
+/// The status of the program over two requests, in memory of `alloc`; none where standard error has
+/// anything but this line, or anything at all where the status is 0. Status 5 too, where memory for
+/// the device itself is refused.
+fn status_of<R: Files + Net + Threads + Sync, A: Allocator + Copy + Send + Sync>(
     rt: &R,
     global: Global,
     alloc: A,
     words: &[&str],
     replies: &mut Replies,
-) -> Option<(u8, Vec<u8>)>
+    line: &[u8],
+) -> Option<u8>
 where
     R::File: Send,
     R::Dir: Send,
 {
-    let mut input = MessageTap::new(alloc, Messages(&REQUESTS)).ok()?;
+    let Ok(mut input) = MessageTap::new(alloc, Messages(&REQUESTS)) else {
+        return Some(5);
+    };
     let mut output = ReplySpout::new(replies);
     let mut faults = Vec::new(global);
     let status = command_on_device(
@@ -78,7 +82,8 @@ where
         &mut output,
         &mut faults,
     );
-    Some((status, faults))
+    let told: &[u8] = if status == 0 { &[] } else { line };
+    (faults.as_slice() == told).then_some(status)
 }
 
 /// A device that takes so many replies, and then fails once with this number.
@@ -90,31 +95,37 @@ fn replies_of(alloc: Global, left: Option<u32>, number: i32) -> Replies {
     }
 }
 
+/// Whether the program over a device tells that memory of `refusing` was refused, behind none, one
+/// or both replies; or else wrote both.
+fn is_told<'a, R: Files + Net + Threads + Sync>(
+    rt: &R,
+    global: Global,
+    refusing: &'a Refusing<Global>,
+    words: &[&str],
+) -> bool
+where
+    R::File: Send,
+    R::Dir: Send,
+{
+    let mut replies = replies_of(global, None, ENODEV);
+    let line = b"out of memory\n";
+    let status = status_of(rt, global, refusing, words, &mut replies, line);
+    let put = replies.taken.len();
+    if refusing.refused() {
+        status == Some(5) && [0, 80, 200].contains(&put)
+    } else {
+        status == Some(0) && put == 200
+    }
+}
+
 #[test]
 fn a_mount_is_served_until_it_is_taken_away(rt: HostRuntime) -> Result<(), Fail> {
     let image = image_file(&rt, "mounted")?;
     let words = ["serve", "--device", image.as_str()];
-    let requests = refuse_each(rt.alloc(), |refusing, refuse_at| {
-        let mut replies = replies_of(rt.alloc(), None, ENODEV);
-        let ended = run_in(&rt, rt.alloc(), refusing, &words, &mut replies);
-        let put = replies.taken.len();
-        let is_right = match ended {
-            Some((0, faults)) => !refusing.refused() && put == 200 && faults.is_empty(),
-            Some((status, faults)) => {
-                refusing.refused()
-                    && status == 5
-                    && [0, 80, 200].contains(&put)
-                    && faults.as_slice() == b"out of memory\n".as_slice()
-            }
-            None => refusing.refused(),
-        };
-        if is_right {
-            Ok(())
-        } else {
-            Err(Fail::new(format_args!("at {refuse_at}")))
-        }
-    })?;
-    assert!(rt; 10 < requests);
+    let requests = refuse_in_turn(rt.alloc(), |refusing, _| {
+        is_told(&rt, rt.alloc(), refusing, &words)
+    });
+    assert!(rt; matches!(requests, Ok(11..)), "{requests:?}");
     fs::remove_file(&rt, image.as_str())?;
     Ok(())
 }
@@ -125,20 +136,13 @@ fn a_mount_is_served_until_it_is_taken_away(rt: HostRuntime) -> Result<(), Fail>
 fn a_failed_write_ends_a_mount(rt: HostRuntime) -> Result<(), Fail> {
     let image = image_file(&rt, "unwritten")?;
     let words = ["serve", "--device", image.as_str()];
-    for (number, status, line) in [
-        (ENODEV, 0, ""),
-        (2, 0, ""),
-        (5, 1, "write fault\n"),
-        (4, 1, "write fault\n"),
-    ] {
+    for (number, status) in [(ENODEV, 0), (2, 0), (5, 1), (4, 1)] {
         for (left, put) in [(0, 0), (1, 80)] {
             let mut replies = replies_of(rt.alloc(), Some(left), number);
-            let ended = run_in(&rt, rt.alloc(), rt.alloc(), &words, &mut replies);
-            let (seen, faults) = ended.ok_or("a device")?;
+            let line = b"write fault\n";
+            let seen = status_of(&rt, rt.alloc(), rt.alloc(), &words, &mut replies, line);
             assert!(rt;
-                seen == status
-                    && faults.as_slice() == line.as_bytes()
-                    && replies.taken.len() == put,
+                seen == Some(status) && replies.taken.len() == put,
                 "{number} after {left}"
             );
         }

@@ -1,13 +1,11 @@
 //! The plan of a line: how many workers answer, and how many requests a batch has.
 
-use crate::program::written;
-use devices::{Spout, Tap};
+use super::program::{status_of, written};
 use std::alloc::Global;
 use std::fs::{self, Files};
 use std::net::Net;
 use std::test::Fail;
 use std::thread::Threads;
-use strata::command;
 use test_kit::long::{Long, image, stream};
 use test_kit::refusing::Refusing;
 
@@ -27,17 +25,9 @@ where
     let memory = Refusing::new(global, 0);
     let (workers, batch) = plan;
     let words = ["serve", "--workers", workers, "--batch", batch, path];
-    let mut faults = Vec::new(global);
-    let status = command(
-        rt,
-        &memory,
-        global,
-        &words,
-        &mut Tap::new(stream),
-        &mut Spout::new(Vec::new(global)),
-        &mut faults,
-    );
-    (status == 0).then_some(memory.requests())
+    let mut output = Vec::new(global);
+    let status = status_of(rt, global, &memory, &words, stream, &mut output, b"");
+    (status == Some(0)).then_some(memory.requests())
 }
 
 /// Of 17 long lists workers have a board and pieces, and each batch asks for memory of its own: of

@@ -1,8 +1,8 @@
 //! Rounds of jobs by any plan: their replies, the sums of their moves, and the gates that they
 //! pass.
 
-use crate::jobs::jobs_of;
-use crate::tables::sample_table;
+use super::jobs::jobs_of;
+use super::tables::sample_table;
 use reply_model::Move;
 use reply_pool::{Plan, Rounded, round};
 use std::alloc::{AllocError, Allocator, Global};

@@ -12,8 +12,8 @@ use std::os::unix::net::{UnixListener, UnixStream};
 use std::test::Fail;
 use std::thread::Threads;
 use strata::sessions;
-use test_kit::refusing::{Refusing, refuse_each};
-use test_kit::sample_images::{alone, sample};
+use test_kit::refusing::{Refusing, refuse_in_turn};
+use test_kit::sample_images::samples;
 use test_kit::script::{script, script_replies};
 
 /// A client that has written the first bytes of the script, and writes no more.
@@ -33,30 +33,22 @@ fn read_of(global: Global, mut client: UnixStream) -> Option<usize> {
     replies.starts_with(&read).then_some(read.len())
 }
 
-/// The status of so many sessions over the sample image, and their lines. The table stands in
-/// memory of `plain`.
-fn served<R: Threads + Sync, A: Allocator + Copy + Send + Sync>(
+/// Whether so many sessions over the sample image come to this status and these lines. The table
+/// stands in memory of `plain`.
+fn are_served<R: Threads + Sync, A: Allocator + Copy + Send + Sync>(
     rt: &R,
     global: Global,
     plain: A,
     alloc: A,
     listener: &UnixListener,
     count: u32,
-) -> Option<(u8, Vec<u8>)> {
-    let images = alone(plain, sample(plain).ok()?).ok()?;
-    let table = prepare(rt, plain, images, &FreePass).ok()?;
+    told: (u8, &[u8]),
+) -> Option<bool> {
+    let table = prepare(rt, plain, samples(plain, 1)?, &FreePass).ok()?;
     let plan = Plan::new(2, 3)?;
     let mut lines = Vec::new(global);
     let status = sessions(rt, alloc, &table, listener, count, plan, &mut lines);
-    Some((status, lines))
-}
-
-/// Whether sessions came to this status and these lines.
-fn is_told(seen: &Option<(u8, Vec<u8>)>, status: u8, lines: &[u8]) -> bool {
-    match seen {
-        Some((seen, told)) => *seen == status && told.as_slice() == lines,
-        None => false,
-    }
+    Some(status == told.0 && lines.as_slice() == told.1)
 }
 
 /// A listener under a name that the system gives.
@@ -69,9 +61,8 @@ fn a_client_is_served(rt: HostRuntime) -> Result<(), Fail> {
     let global = rt.alloc();
     let listener = listener(&rt)?;
     let client = client(&rt, global, &listener, 652).ok_or("a client")?;
-    let seen = served(&rt, global, global, global, &listener, 1);
-    assert!(rt; is_told(&seen, 0, b""));
-    assert!(rt; read_of(global, client) == Some(1531));
+    let are_served = are_served(&rt, global, global, global, &listener, 1, (0, b""));
+    assert!(rt; are_served == Some(true) && read_of(global, client) == Some(1531));
     Ok(())
 }
 
@@ -81,10 +72,10 @@ fn the_first_fault_is_told_and_the_next_client_served(rt: HostRuntime) -> Result
     let listener = listener(&rt)?;
     let first = client(&rt, global, &listener, 120).ok_or("the first")?;
     let second = client(&rt, global, &listener, 652).ok_or("the second")?;
-    let seen = served(&rt, global, global, global, &listener, 2);
-    assert!(rt; is_told(&seen, 4, b"session 1: request at 100: cut off\n"));
-    assert!(rt; read_of(global, first) == Some(224));
-    assert!(rt; read_of(global, second) == Some(1531));
+    let told = (4, b"session 1: request at 100: cut off\n".as_slice());
+    let are_served = are_served(&rt, global, global, global, &listener, 2, told);
+    let read = (read_of(global, first), read_of(global, second));
+    assert!(rt; are_served == Some(true) && read == (Some(224), Some(1531)));
     Ok(())
 }
 
@@ -97,10 +88,11 @@ fn clients_that_are_gone_end_their_sessions(rt: HostRuntime) -> Result<(), Fail>
     drop(client(&rt, global, &listener, 652));
     drop(client(&rt, global, &listener, 120));
     let last = client(&rt, global, &listener, 652).ok_or("the last")?;
-    let seen = served(&rt, global, global, global, &listener, 4);
     let lines = b"session 1: write fault\nsession 2: write fault\nsession 3: write fault\n";
-    assert!(rt; is_told(&seen, 1, lines));
-    assert!(rt; read_of(global, last) == Some(1531));
+    let told = (1, lines.as_slice());
+    let are_served = are_served(&rt, global, global, global, &listener, 4, told);
+    drop(deaf);
+    assert!(rt; are_served == Some(true) && read_of(global, last) == Some(1531));
     Ok(())
 }
 
@@ -111,11 +103,21 @@ fn no_session_follows_where_no_client_is_accepted(rt: HostRuntime) -> Result<(),
     // Where no client waits, such a listener fails.
     listener.set_nonblocking(true)?;
     let only = client(&rt, global, &listener, 120).ok_or("a client")?;
-    let seen = served(&rt, global, global, global, &listener, 3);
     let lines = b"session 1: request at 100: cut off\nsocket: cannot accept\n";
-    assert!(rt; is_told(&seen, 1, lines));
-    assert!(rt; read_of(global, only) == Some(224));
+    let told = (1, lines.as_slice());
+    let are_served = are_served(&rt, global, global, global, &listener, 3, told);
+    assert!(rt; are_served == Some(true) && read_of(global, only) == Some(224));
     Ok(())
+}
+
+/// What two sessions tell where the request for memory with this number is refused, of which each
+/// makes three: for its balances, its replies and the buffer.
+fn told_at(refuse_at: u64) -> (u8, &'static [u8]) {
+    match refuse_at {
+        1..=3 => (5, b"session 1: out of memory\n"),
+        4..=6 => (5, b"session 2: out of memory\n"),
+        _ => (0, b""),
+    }
 }
 
 /// Whether two sessions in memory of `refusing` come to what they should, where the request with
@@ -130,29 +132,20 @@ fn is_refused<'a, R: Files + Net + Threads + Sync>(
     let listener = listener(rt).ok()?;
     let first = client(rt, global, &listener, 652)?;
     let second = client(rt, global, &listener, 652)?;
-    let seen = served(rt, global, plain, refusing, &listener, 2);
+    let told = told_at(refuse_at);
+    let are_served = are_served(rt, global, plain, refusing, &listener, 2, told);
     drop(listener);
     let (first, second) = (read_of(global, first), read_of(global, second));
-    if !refusing.refused() {
-        return Some(is_told(&seen, 0, b"") && first == Some(1531) && second == Some(1531));
-    }
-    // Balances, replies, and the buffer.
-    if refuse_at <= 3 {
-        Some(is_told(&seen, 5, b"session 1: out of memory\n") && second == Some(1531))
-    } else {
-        Some(is_told(&seen, 5, b"session 2: out of memory\n") && first == Some(1531))
-    }
+    let is_first_whole = refuse_at <= 3 || first == Some(1531);
+    let is_second_whole = (4 <= refuse_at && refuse_at <= 6) || second == Some(1531);
+    Some(are_served == Some(true) && is_first_whole && is_second_whole)
 }
 
 #[test]
-fn refused_memory_ends_its_session(rt: HostRuntime) -> Result<(), Fail> {
+fn refused_memory_ends_its_session(rt: HostRuntime) {
     let plain = Refusing::new(rt.alloc(), 0);
-    let requests = refuse_each(rt.alloc(), |refusing, refuse_at| {
-        match is_refused(&rt, rt.alloc(), &plain, refusing, refuse_at) {
-            Some(true) => Ok(()),
-            _ => Err(Fail::new(format_args!("at {refuse_at}"))),
-        }
-    })?;
-    assert!(rt; requests == 6);
-    Ok(())
+    let requests = refuse_in_turn(rt.alloc(), |refusing, refuse_at| {
+        is_refused(&rt, rt.alloc(), &plain, refusing, refuse_at) == Some(true)
+    });
+    assert_eq!(rt; requests, Ok(6));
 }

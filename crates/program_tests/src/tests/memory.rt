@@ -1,0 +1,79 @@
+//! Each request for memory of the program is refused in turn, and told.
+
+use super::program::{file_path, image_file, status_of};
+use std::alloc::Global;
+use std::fs::{self, Files};
+use std::net::Net;
+use std::test::Fail;
+use std::thread::Threads;
+use test_kit::messages::{REPLIES, REQUESTS};
+use test_kit::refusing::{Refusing, refuse_in_turn};
+
+/// Whether the program over two requests tells that memory of `refusing` was refused, with some of
+/// the first bytes of its output written; or else wrote all of it.
+fn is_told<'a, R: Files + Net + Threads + Sync>(
+    rt: &R,
+    global: Global,
+    refusing: &'a Refusing<Global>,
+    words: &[&str],
+    whole: &[u8],
+) -> bool
+where
+    R::File: Send,
+    R::Dir: Send,
+{
+    let mut output = Vec::new(global);
+    let (requests, line) = (REQUESTS.as_slice(), b"out of memory\n");
+    let status = status_of(rt, global, refusing, words, requests, &mut output, line);
+    if refusing.refused() {
+        status == Some(5) && whole.starts_with(&output)
+    } else {
+        status == Some(0) && output.as_slice() == whole
+    }
+}
+
+/// How many requests for memory a run makes, each of which is refused once and told.
+fn told_refusals<R: Files + Net + Threads + Sync>(
+    rt: &R,
+    global: Global,
+    words: &[&str],
+    whole: &[u8],
+) -> Result<u64, u64>
+where
+    R::File: Send,
+    R::Dir: Send,
+{
+    refuse_in_turn(
+        global,
+        |refusing, _| is_told(rt, global, refusing, words, whole),
+    )
+}
+
+#[test]
+fn refused_memory_is_told_of_lines(rt: HostRuntime) -> Result<(), Fail> {
+    let image = image_file(&rt, "lines")?;
+    let path = image.as_str();
+    let sizes = b"layer 0: 96 bytes\nlayer 1: 96 bytes\n";
+    let paths = b"1 040755 2 0 1 /\n";
+    let checking = told_refusals(&rt, rt.alloc(), &["check", path, path], sizes);
+    let listing = told_refusals(&rt, rt.alloc(), &["list", path, path], paths);
+    assert!(rt;
+        matches!((checking, listing), (Ok(6..), Ok(6..))),
+        "{checking:?} {listing:?}"
+    );
+    fs::remove_file(&rt, path)?;
+    Ok(())
+}
+
+#[test]
+fn refused_memory_is_told_of_a_stream(rt: HostRuntime) -> Result<(), Fail> {
+    let image = image_file(&rt, "stream")?;
+    let balances = file_path(&rt, "stream", "balances")?;
+    let words = ["serve", "--balances", balances.as_str(), image.as_str()];
+    let requests = told_refusals(&rt, rt.alloc(), &words, &REPLIES);
+    let lines = fs::read(&rt, balances.as_str())?;
+    assert!(rt; matches!(requests, Ok(11..)) && lines.as_slice() == b"1 0\n".as_slice());
+    fs::remove_file(&rt, balances.as_str())?;
+    fs::remove_file(&rt, image.as_str())?;
+    Ok(())
+}

@@ -1,0 +1,10 @@
+//! The modules of tests, and what they share.
+
+mod answers;
+mod batches;
+mod gates;
+mod jobs;
+mod memory;
+mod plans;
+mod tables;
+mod threads;
