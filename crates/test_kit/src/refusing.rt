@@ -11,7 +11,6 @@ ghost use Rattle.std.specs.Prelude.{◌≡◌, ◌≤◌, IfSome, IsTrue, IsFals
 
 use std::alloc::{AllocError, Allocator, Global};
 use std::sync::atomic::{AtomicU64, Ordering};
-use std::test::Fail;
 
 /// An allocator that passes each request for memory on to an inner one, except for one, which it
 /// refuses.
@@ -143,26 +142,9 @@ impl Tally {
 }
 
 /// Makes a call with the first request for memory refused, then with the second, and so on, until
-/// it makes fewer requests than that. Gives how many it makes. The call is told which one is
-/// refused.
-pub fn refuse_each<F: FnMut(&Refusing<Global>, u64) -> Result<(), Fail>>(
-    alloc: Global,
-    mut call: F,
-) -> Result<u64, Fail>
-    requires { F.IsAlwaysCallable call }
-{
-    for refuse_at in 1..1000 {
-        let refusing = Refusing::new(alloc, refuse_at);
-        call(&refusing, refuse_at)?;
-        if !refusing.refused() {
-            return Ok(refuse_at - 1);
-        }
-    }
-    Err(Fail::new("no end of requests"))
-}
-
-/// The same of a call that says whether it came to what it should. Gives how many requests it
-/// makes, or else the number of the first request at whose refusal it came to something else.
+/// it makes fewer requests than that. The call is told which one is refused, and says whether it
+/// came to what it should. Gives how many requests it makes, or else the number of the first
+/// request at whose refusal it came to something else.
 pub fn refuse_in_turn<F: FnMut(&Refusing<Global>, u64) -> bool>(
     alloc: Global,
     mut call: F,
