@@ -1,5 +1,5 @@
 -- Texts that are put one after another: nothing is put by no call (`puts_none`), and by two calls,
--- of which the second may fail, what each puts (`puts_more`). A text, a name or a way grows by its
+-- of which the second may fail, what each puts (`puts_more`). A text, a name or a path grows by its
 -- next part.
 use Rattle.std.proofs.Common.{◌≡◌, ◌∙◌, sym, ap, ℕ, zero, suc, ◌+◌, ◌<◌, List, [], ◌∷◌, ◌++◌, length, take, get_or, refl, arith, add-one, append-nil, append_assoc}
 use Rattle.std.specs.Prelude.{flat_map, Result, Ok, Err}
@@ -7,7 +7,7 @@ use Rattle.std.specs.Io.KnownBytes.{append_known}
 use Rattle.std.proofs.KnownBytes.{Appends-nil, Appends-trans}
 use Rattle.std.proofs.lemmas.List.Concat.{flat_map-append}
 use Rattle.stack_model.specs.Stack.{Path}
-use Rattle.path_list.specs.Lines.{escaped, name_text, names_text, path_text}
+use Rattle.path_list.specs.Lines.{escaped, name_text, names_text}
 use Rattle.devices.specs.States.{SinkState}
 use Rattle.path_list.specs.Walks.{Gains, Puts}
 
@@ -15,7 +15,8 @@ use Rattle.path_list.specs.Walks.{Gains, Puts}
 pub puts_none : {X E : Type 0} (x : X) (w : SinkState) (r : List ℕ) → Puts {E = E} (Ok x) w r w r []
 puts_none x w r = record { gained = record { gained = Appends-nil (append_known w.held r) }; counted = (refl, omega arith) }
 
-gains_more : {u v w : SinkState} {r s t xs ys : List ℕ} → Gains u r v s xs → Gains v s w t ys → Gains u r w t (xs ++ ys)
+-- what is gained twice is gained together
+pub gains_more : {u v w : SinkState} {r s t xs ys : List ℕ} → Gains u r v s xs → Gains v s w t ys → Gains u r w t (xs ++ ys)
 gains_more {u} {v} {w} {r} {s} {t} {xs} {ys} x y =
     record { gained = Appends-trans (append_known u.held r) (append_known v.held s) (append_known w.held t) xs ys x.gained y.gained }
 
@@ -27,6 +28,10 @@ puts_more {q = Ok y} f g = record {
   counted = (g.counted.0 ∙ f.counted.0, (let some = f.counted.1 in let more = g.counted.1 in omega arith));
 }
 puts_more {q = Err e} f g = record { gained = tt; counted = g.counted ∙ ap (λ n. n + 1) f.counted.0 }
+
+-- what is gained may be told by any equal text
+pub gains_same : {u w : SinkState} {r t xs ys : List ℕ} → xs ≡ ys → Gains u r w t xs → Gains u r w t ys
+gains_same e x = rw (sym e) x
 
 -- what is put may be told by any equal text
 pub puts_same : {Y F : Type 0} {q : Result Y F} {u w : SinkState} {r t xs ys : List ℕ} → xs ≡ ys → Puts q u r w t xs → Puts q u r w t ys
@@ -46,12 +51,7 @@ pub name_more : (name : List ℕ) (i : ℕ) → i < length name → name_text (t
 unfolding name_text
 name_more name i l = sym (one_more escaped name i 0 l)
 
--- a way with a name more
+-- the text of a path with a name more
 pub way_more : (path : Path) (n : List ℕ) → names_text path ++ 47 ∷ name_text n ≡ names_text (path ++ n ∷ [])
 way_more path n = ap (λ r. names_text path ++ r) (sym (append-nil (47 ∷ name_text n)))
     ∙ sym (flat_map-append (λ name. 47 ∷ name_text name) path (n ∷ []))
-
--- a path with a last name is printed as its names are
-pub path_is : (path : Path) (n : List ℕ) → names_text (path ++ n ∷ []) ≡ path_text (path ++ n ∷ [])
-path_is [] n = refl
-path_is (m ∷ path) n = refl

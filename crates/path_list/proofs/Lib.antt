@@ -3,8 +3,10 @@ pub mod Runs
 pub mod Branching
 pub mod OnePath
 pub mod Trees
+pub mod Lengths
 pub mod Gaining
 pub mod Lining
 pub mod Visits
+pub mod Turns
 pub mod Whole
 pub mod Soundness

@@ -1,15 +1,12 @@
--- The text of a name by runs of bytes that are printed as themselves. `run_none` to `run_all` say
--- how a run grows; `byte_then` is the main lemma: a run, an escaped byte and the rest are the text
--- of the name. `all_left` to `none_left` put a name run by run, until none of it is left.
-use Rattle.std.proofs.Common.{◌≡◌, ◌∙◌, sym, ap, ℕ, ◌+◌, ◌<◌, ◌≤◌, List, [], ◌∷◌, ◌++◌, length, take, drop, get_or, Ok, true, arith, refl, append-nil, append_assoc, take_all, take-append-drop}
+-- The text of a name, whose first bytes are a run that is printed as itself. `run_none` to `run_all`
+-- say how a run grows. `name_put` is the main lemma: where a run and the text of what is behind it were
+-- put, the name was; and each had room (`run_fits`, `byte_fits`), since the whole name has.
+use Rattle.std.proofs.Common.{◌≡◌, ◌∙◌, sym, ap, ℕ, ◌+◌, ◌<◌, ◌≤◌, List, [], ◌∷◌, ◌++◌, length, take, drop, get_or, true, arith, refl, append-nil, append_assoc, length-append, take_all, take-append-drop}
 use Rattle.std.proofs.lemmas.List.{take_more}
-use Rattle.std.specs.List.{IsFirstAndRest}
 use Rattle.std.proofs.lemmas.List.Concat.{flat_map-append}
+use Rattle.path_list.specs.declared.path_text.TheConstants.{LONGEST}
 use Rattle.path_list.specs.Lines.{is_unescaped, escaped, name_text}
-use Rattle.devices.specs.declared.failed.Failed.{Failed}
-use Rattle.devices.specs.States.{SinkState}
-use Rattle.path_list.specs.Walks.{Puts, PutsAllBut}
-use Rattle.path_list.proofs.Gaining.{puts_none, puts_more, puts_same, name_more}
+use Rattle.path_list.proofs.Gaining.{name_more}
 
 -- the bytes so far are printed as themselves
 abbrev pub IsRun : List ℕ → ℕ → Type 0
@@ -42,10 +39,6 @@ text_joined : (xs ys : List ℕ) → name_text xs ++ name_text ys ≡ name_text 
 unfolding name_text
 text_joined xs ys = sym (flat_map-append escaped xs ys)
 
-text_first : (byte : ℕ) (rest : List ℕ) → name_text (byte ∷ rest) ≡ escaped byte ++ name_text rest
-unfolding name_text
-text_first byte rest = refl
-
 -- a name is cut behind i bytes, a run
 pub record IsCut (name run others : List ℕ) (i : ℕ) : Type 0 where
   pub plain : IsRun name i
@@ -58,32 +51,64 @@ run_then {name} {run} {others} {i} c =
     ap (λ t. t ++ name_text others) (c.front ∙ sym c.plain) ∙ ap (λ t. name_text (take i name) ++ name_text t) c.back
     ∙ text_joined (take i name) (drop i name) ∙ ap name_text (take-append-drop i name)
 
--- a run, the next byte escaped and the text of what is behind it are the text of the name
-pub byte_then : {name run others : List ℕ} {i : ℕ} → IsCut name run others i → (byte : ℕ) (rest : List ℕ)
-    → IsFirstAndRest others byte rest → (run ++ escaped byte) ++ name_text rest ≡ name_text name
-byte_then {run = run} c byte rest f =
-    append_assoc run (escaped byte) (name_text rest) ∙ ap (λ t. run ++ t) (sym (text_first byte rest) ∙ ap name_text (sym f.0))
-    ∙ run_then c
+-- as long as a run and the text of the other bytes is the text of the name
+cut_length : {name run others : List ℕ} {i : ℕ} → IsCut name run others i → length run + length (name_text others)
+    ≡ length (name_text name)
+cut_length {run = run} {others = others} c = sym (length-append run (name_text others)) ∙ ap length (run_then c)
 
--- before a step nothing is put, and the whole name is left
-pub all_left : (w : SinkState) (r name : List ℕ) → PutsAllBut w r w r name name
-all_left w r name = record { text = []; puts = puts_none tt w r; whole = refl }
+-- the text of some bytes and that of the next are no longer than the text of the name
+next_fits : (name : List ℕ) (i : ℕ) → i < length name
+    → length (name_text (take i name)) + length (escaped (get_or name i 0)) ≤ length (name_text name)
+next_fits name i l =
+    let e = sym (length-append (name_text (take i name)) (escaped (get_or name i 0))) ∙ ap length (name_more name i l) in
+    let f = sym (length-append (name_text (take (i + 1) name)) (name_text (drop (i + 1) name)))
+    ∙ ap length (text_joined (take (i + 1) name) (drop (i + 1) name)) ∙ ap (λ t. length (name_text t)) (take-append-drop (i + 1) name) in
+    omega (arith, e, f)
 
--- where a step left some of the name and the next left less of that, both left the less of the name
-pub less_left : {u v w : SinkState} {r s t name rest others : List ℕ}
-    → PutsAllBut u r v s name rest → PutsAllBut v s w t rest others → PutsAllBut u r w t name others
-less_left {others = others} g h = record {
-  text = g.text ++ h.text;
-  puts = puts_more g.puts h.puts;
-  whole = append_assoc g.text h.text (name_text others) ∙ ap (λ t. g.text ++ t) h.whole ∙ g.whole;
-}
+-- a text went on with a slash, the run of a name and the text of k bytes behind it
+pub record GoesOn (text slash front here run others : List ℕ) (k : ℕ) : Type 0 where
+  pub slash_is : slash ≡ text ++ 47 ∷ []
+  pub front_is : front ≡ slash ++ run
+  pub here_is : here ≡ front ++ name_text (take k others)
 
-none_text : (rest : List ℕ) → length rest ≡ 0 → name_text rest ≡ []
+-- behind the run stands the text of no bytes
+pub put_none : (front others : List ℕ) → front ≡ front ++ name_text (take 0 others)
 unfolding name_text
-none_text [] z = refl
-none_text (byte ∷ rest) z = absurd (omega (arith, z))
+put_none front others = sym (append-nil front)
 
--- where no byte of the name is left, its text was put
-pub none_left : {u w : SinkState} {r t name rest : List ℕ} → length rest ≡ 0 → PutsAllBut u r w t name rest
-    → Puts {X = Unit {0}} {E = Failed} (Ok tt) u r w t (name_text name)
-none_left {rest = rest} z g = puts_same (sym (append-nil g.text) ∙ ap (λ t. g.text ++ t) (sym (none_text rest z)) ∙ g.whole) g.puts
+-- behind the run stands the text of one byte more
+pub put_more : (front others : List ℕ) {here next : List ℕ} (k : ℕ) → here ≡ front ++ name_text (take k others) → k < length others
+    → next ≡ here ++ escaped (get_or others k 0) → next ≡ front ++ name_text (take (k + 1) others)
+put_more front others k e l f =
+    f ∙ ap (λ q. q ++ escaped (get_or others k 0)) e ∙ append_assoc front (name_text (take k others)) (escaped (get_or others k 0))
+    ∙ ap (λ q. front ++ q) (name_more others k l)
+
+module _ (name text : List ℕ) (room : length text + length (name_text name) < LONGEST) where
+  -- the run has room
+  pub run_fits : {run others slash : List ℕ} {i : ℕ} → IsCut name run others i → slash ≡ text ++ 47 ∷ [] → length slash + length run
+      ≤ LONGEST
+  run_fits c e =
+      let l = ap length e ∙ length-append text (47 ∷ []) in
+      let k = cut_length c in
+      omega (arith, l, k, room)
+
+  -- the next byte has room
+  pub byte_fits : {run others slash front here : List ℕ} {i k : ℕ} → IsCut name run others i → GoesOn text slash front here run others k
+      → k < length others → length here + length (escaped (get_or others k 0)) ≤ LONGEST
+  byte_fits {run} {others} {slash} {front} {here} {i} {k} c g l =
+      let a = ap length g.slash_is ∙ length-append text (47 ∷ []) in
+      let b = ap length g.front_is ∙ length-append slash run in
+      let d = ap length g.here_is ∙ length-append front (name_text (take k others)) in
+      let e = cut_length c in
+      let f = next_fits others k l in
+      omega (arith, a, b, d, e, f, room)
+
+-- where all bytes behind the run are put, the name is
+pub name_put : {name text run others slash front here : List ℕ} {i k : ℕ} → IsCut name run others i
+    → GoesOn text slash front here run others k → length others ≤ k → here ≡ text ++ 47 ∷ name_text name
+name_put {name} {text} {run} {others} {slash} {front} {here} {i} {k} c g l =
+    g.here_is
+    ∙ ap (λ q. q ++ name_text (take k others)) (g.front_is ∙ ap (λ q. q ++ run) g.slash_is)
+    ∙ ap (λ t. ((text ++ 47 ∷ []) ++ run) ++ name_text t) (take_all k others l)
+    ∙ append_assoc (text ++ 47 ∷ []) run (name_text others) ∙ append_assoc text (47 ∷ []) (run ++ name_text others)
+    ∙ ap (λ t. text ++ 47 ∷ t) (run_then c)

@@ -55,7 +55,7 @@ indexed (b ∷ layers) zero a e = cc
 indexed (b ∷ layers) (suc i) a e = indexed layers i a e
 
 -- what shows a path has it
-top_has : (layers : List (List ℕ)) (path : Path) (i h : ℕ) → IsTop layers path i h → (a : List ℕ) × (slice_get layers i ≡ Some a)
+pub top_has : (layers : List (List ℕ)) (path : Path) (i h : ℕ) → IsTop layers path i h → (a : List ℕ) × (slice_get layers i ≡ Some a)
     × Has a path h
 top_has [] path i h t = absurd t
 top_has (a ∷ above) path zero h t = (a, refl, t.0)

@@ -1,6 +1,6 @@
 -- What a walk finds at a directory: the rows are those of the entries one name below it. `goes_on`
--- and `walked` are what the walk stands on: each row leads to a visit with fewer entries below it,
--- and the pieces of all rows are all lines below the path.
+-- and `walked` are what the walk stands on: each row leads to a visit, and the pieces of all rows
+-- are all lines below the path.
 use Rattle.std.proofs.Common.{◌≡◌, ◌∙◌, sym, ap, subst, ℕ, zero, suc, ◌<◌, ◌≤◌, inl, inr, List, [], ◌∷◌, ◌++◌, length, map, take, get_or, refl, Option, Some, None, Bool, true, false, IsSome, arith}
 use Rattle.std.specs.Prelude.{flat_map, filter_map, find, nat_eq}
 use Rattle.std.proofs.lemmas.List.{take_all}
@@ -13,10 +13,13 @@ use Rattle.stack_model.proofs.Numbering.{number_used, entries_numbered}
 use Rattle.stack_table.specs.Stacked.{Stacked}
 use Rattle.stack_table.specs.Rows.{Line}
 use Rattle.stack_table.specs.Readers.{rows_at}
+use Rattle.path_list.specs.declared.path_text.TheConstants.{LONGEST}
+use Rattle.path_list.specs.Lines.{name_text, names_text}
 use Rattle.path_list.specs.Below.{after, is_below, below}
 use Rattle.path_list.specs.Walks.{lines_below, piece_at, IsVisited}
-use Rattle.path_list.proofs.Paths.{not_itself, after_is, is_after, below_name, below_none, below_top, only_name, name_is, later}
+use Rattle.path_list.proofs.Paths.{not_itself, after_is, only_name, name_is, later}
 use Rattle.path_list.proofs.Branching.{piece, all_below}
+use Rattle.path_list.proofs.Gaining.{way_more}
 
 same_itself : (p : Place) → same_place p p ≡ true
 same_itself p = rw (eq-eqb p.0 p.0 refl, eq-eqb p.1 p.1 refl) refl
@@ -66,48 +69,16 @@ name_path top path n e = go (after top path) refl (sym (name_is top path) ∙ e)
         ∙ ap (λ k. top ++ k ∷ []) s
     go (Some (m ∷ k ∷ r)) f g = absurd (let z = rw f at g in cc)
 
--- what is below a name below a path is below the path
-less_below : (top path : Path) (x : List ℕ) (b c : Bool) → is_below (top ++ x ∷ []) path ≡ b → is_below top path ≡ c → c ≡ false → b ≡ false
-less_below top path x b c e f g = go (after top path) refl
-  where
-    go : (o : Option Path) → after top path ≡ o → b ≡ false
-    go None h = sym e ∙ below_none top path x h
-    go (Some []) h = sym e ∙ below_top top path x h
-    go (Some (n ∷ r)) h = absurd (let z : is_below top path ≡ true = rw h refl in let w = sym z ∙ f ∙ g in cc)
+-- it is the turn of the row at i, which has this number and this name
+pub record IsTurn (stack : Stacked) (n : ℕ) (rows : List Line) (i m : ℕ) (name : List ℕ) : Type 0 where
+  pub row : Line
+  pub rows_are : rows ≡ rows_at stack n
+  pub within : i < length rows
+  pub row_is : row ≡ get_or rows i row
+  pub number_is : m ≡ row.number
+  pub name_is : name ≡ row.name
 
-fewer : (top : Path) (x : List ℕ) (es : List Entry) → length (below es (top ++ x ∷ [])) ≤ length (below es top)
-unfolding below
-fewer top x [] = omega arith
-fewer top x (e ∷ es) = go (is_below (top ++ x ∷ []) e.path) (is_below top e.path) refl refl (fewer top x es)
-  where
-    go : (b c : Bool) → is_below (top ++ x ∷ []) e.path ≡ b → is_below top e.path ≡ c → length (below es (top ++ x ∷ []))
-        ≤ length (below es top) → length (below (e ∷ es) (top ++ x ∷ [])) ≤ length (below (e ∷ es) top)
-    go true true f g l = rw (f, g) (omega arith)
-    go false true f g l = rw (f, g) (omega arith)
-    go false false f g l = rw (f, g) l
-    go true false f g l = absurd (let z = less_below top e.path x true false f g refl in cc)
-
-fewer_by : (top : Path) (x : List ℕ) (es : List Entry) (d : Entry) → IsAmong d es → d.path ≡ top ++ x ∷ []
-    → length (below es (top ++ x ∷ [])) < length (below es top)
-unfolding below
-fewer_by top x [] d a p = elim a [ ]
-fewer_by top x (e ∷ es) d (inl i) p =
-    let q : e.path ≡ top ++ x ∷ [] = ap (λ (k : Entry). k.path) (sym i) ∙ p in
-    let s : after top e.path ≡ Some (x ∷ []) = rw q (is_after top (x ∷ [])) in
-    let f : is_below (top ++ x ∷ []) e.path ≡ false = (below_name top e.path [] x x s).0 refl in
-    let g : is_below top e.path ≡ true = rw s refl in
-    let l = fewer top x es in
-    rw (f, g) (omega arith)
-fewer_by top x (e ∷ es) d (inr a) p = go (is_below (top ++ x ∷ []) e.path) (is_below top e.path) refl refl (fewer_by top x es d a p)
-  where
-    go : (b c : Bool) → is_below (top ++ x ∷ []) e.path ≡ b → is_below top e.path ≡ c → length (below es (top ++ x ∷ []))
-        < length (below es top) → length (below (e ∷ es) (top ++ x ∷ [])) < length (below (e ∷ es) top)
-    go true true f g l = rw (f, g) (omega arith)
-    go false true f g l = rw (f, g) (omega arith)
-    go false false f g l = rw (f, g) l
-    go true false f g l = absurd (let z = less_below top e.path x true false f g refl in cc)
-
-module _ (stack : Stacked) (n : ℕ) (path : Path) (v : IsVisited stack n path) where
+module _ (stack : Stacked) (n : ℕ) (text : List ℕ) (path : Path) (v : IsVisited stack n text path) where
   abbrev layers : List (List ℕ)
   layers = stack.layers
 
@@ -182,7 +153,7 @@ module _ (stack : Stacked) (n : ℕ) (path : Path) (v : IsVisited stack n path) 
       go (e ∷ es) s = rw (not_below e (s e (inl refl)) (after path e.path) refl) (go es (λ f a. s f (inr a)))
 
   -- each row of the directory is that of a shown path one name below
-  pub row_at : (i : ℕ) (d : Line) → i < length (rows_at stack n) → IsRow (get_or (rows_at stack n) i d)
+  row_at : (i : ℕ) (d : Line) → i < length (rows_at stack n) → IsRow (get_or (rows_at stack n) i d)
   row_at i d l = go (is_directory_at layers (place v.entry)) refl
     where
       go : (b : Bool) → is_directory_at layers (place v.entry) ≡ b → IsRow (get_or (rows_at stack n) i d)
@@ -198,28 +169,30 @@ module _ (stack : Stacked) (n : ℕ) (path : Path) (v : IsVisited stack n path) 
       go true k = rw (rows_there k) (pieces_in entries (λ e a. a) ∙ sym (all_below layers entries path v.tree))
       go false k = rw (none_there k, empty_there k) refl
 
-  -- the walk goes on to a row
-  pub visit_row : (row : Line) → IsRow row → IsVisited stack row.number (path ++ row.name ∷ [])
-  visit_row row r = record { tree = v.tree; entry = r.entry; among = r.among; path_is = r.path_is; number_is = r.number_is }
+  -- the text of the path has room
+  pub fits : length text ≤ LONGEST
+  fits = subst (λ t. length t ≤ LONGEST) (ap names_text v.path_is ∙ sym v.text_is) (v.short.each v.entry v.among)
 
-  -- below a row's path there are fewer entries than below the directory
-  pub fewer_below : (row : Line) → IsRow row → length (below entries (path ++ row.name ∷ [])) < length (below entries path)
-  fewer_below row r = fewer_by path row.name entries r.entry r.among r.path_is
+  visit_row : (row : Line) → IsRow row → IsVisited stack row.number (text ++ 47 ∷ name_text row.name) (path ++ row.name ∷ [])
+  visit_row row r = record {
+    tree = v.tree;
+    short = v.short;
+    entry = r.entry;
+    among = r.among;
+    path_is = r.path_is;
+    number_is = r.number_is;
+    text_is = ap (λ t. t ++ 47 ∷ name_text row.name) v.text_is ∙ way_more path row.name;
+  }
 
-  -- the walk goes on to the row at i, and less is below that
-  pub goes_on : (rows : List Line) (i : ℕ) (d : Line) (m : ℕ) (name : List ℕ) → rows ≡ rows_at stack n → i < length rows
-      → d ≡ get_or rows i d → record { number = m; name = name } ≡ d →
-      IsVisited stack m (path ++ name ∷ []) × (length (below entries (path ++ name ∷ [])) < length (below entries path))
-  goes_on rows i d m name e l f s =
-      let k : i < length (rows_at stack n) = subst (λ r. i < length r) e l in
-      let same : get_or (rows_at stack n) i d ≡ d = ap (λ r. get_or r i d) (sym e) ∙ sym f in
-      let r : IsRow d = subst (λ x. IsRow x) same (row_at i d k) in
-      let number_same : d.number ≡ m = ap (λ (x : Line). x.number) (sym s) in
-      let name_same : d.name ≡ name = ap (λ (x : Line). x.name) (sym s) in (
-        subst (λ x. IsVisited stack m (path ++ x ∷ [])) name_same (subst (λ x. IsVisited stack x (path ++ d.name ∷ [])) number_same
-            (visit_row d r)),
-        subst (λ x. length (below entries (path ++ x ∷ [])) < length (below entries path)) name_same (fewer_below d r),
-      )
+  -- the walk goes on to the row whose turn it is
+  pub goes_on : {rows : List Line} {i m : ℕ} {name : List ℕ} → IsTurn stack n rows i m name
+      → IsVisited stack m (text ++ 47 ∷ name_text name) (path ++ name ∷ [])
+  goes_on {rows} {i} {m} {name} t =
+      let k : i < length (rows_at stack n) = subst (λ r. i < length r) t.rows_are t.within in
+      let same : get_or (rows_at stack n) i t.row ≡ t.row = ap (λ r. get_or r i t.row) (sym t.rows_are) ∙ sym t.row_is in
+      let v = visit_row t.row (subst (λ x. IsRow x) same (row_at i t.row k)) in
+      subst (λ x. IsVisited stack x (text ++ 47 ∷ name_text name) (path ++ name ∷ [])) (sym t.number_is)
+      (subst (λ x. IsVisited stack t.row.number (text ++ 47 ∷ name_text x) (path ++ x ∷ [])) (sym t.name_is) v)
 
   -- all rows are walked
   pub walked : (rows : List Line) (i : ℕ) → rows ≡ rows_at stack n → length rows ≤ i → flat_map (piece_at stack path) (take i rows)

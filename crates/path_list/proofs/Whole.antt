@@ -11,10 +11,11 @@ use Rattle.stack_model.specs.Numbers.{place, nodes, number, number_of, node_of}
 use Rattle.stack_model.proofs.Numbering.{numbers_all, root_first}
 use Rattle.stack_table.specs.Stacked.{Stacked}
 use Rattle.path_list.specs.Lines.{line_of, line, lines}
-use Rattle.path_list.specs.Below.{is_below, below, AreImages, AreTree}
+use Rattle.path_list.specs.Below.{is_below, below, AreImages, AreTree, AreShort}
 use Rattle.path_list.specs.Walks.{line_at, lines_below, IsVisited}
 use Rattle.path_list.proofs.Paths.{later}
 use Rattle.path_list.proofs.Trees.{are_tree}
+use Rattle.path_list.proofs.Lengths.{are_short}
 use Rattle.path_list.proofs.Visits.{numbered}
 
 all_after : (es : List Entry) → AllByRecursion (λ f. path_cmp [] f.path ≡ Less) es → below es [] ≡ es
@@ -44,14 +45,14 @@ none stack n e z = no_lines stack.layers stack.entries (sym e ∙ z)
 
 -- the walk begins at the root, and that is all
 pub record IsBegun (stack : Stacked) : Type 0 where
-  pub visit : IsVisited stack 1 []
+  pub visit : IsVisited stack 1 [] []
   pub all : line_at stack 1 [] ++ lines_below stack [] ≡ lines stack.layers stack.entries
 
-begins : (layers : List (List ℕ)) (entries : List Entry) → AreTree layers entries → IsListing layers entries
+begins : (layers : List (List ℕ)) (entries : List Entry) → AreTree layers entries → AreShort entries → IsListing layers entries
     → (length (nodes entries) ≡ 0 → ⊥) → IsBegun (record { layers = layers; entries = entries })
 unfolding below nodes
-begins layers [] t l z = absurd (z refl)
-begins layers (e ∷ es) t l z =
+begins layers [] t s l z = absurd (z refl)
+begins layers (e ∷ es) t s l z =
     let p = root e.path refl in
     let one : number_of (e ∷ es) (place e) ≡ Some 1 = root_first layers (e ∷ es) e l (inl refl) p in
     let n : 1 ≡ number (e ∷ es) (place e) = sym (ap (λ o. unwrap_or o 0) one) in
@@ -62,7 +63,7 @@ begins layers (e ∷ es) t l z =
     let second : below (e ∷ es) [] ≡ es =
     rw (root_out e.path p) (all_after es (subst (λ q. AllByRecursion (λ f. path_cmp q f.path ≡ Less) es) p l.rising.0)) in
     record {
-      visit = record { tree = t; entry = e; among = inl refl; path_is = p; number_is = n };
+      visit = record { tree = t; short = s; entry = e; among = inl refl; path_is = p; number_is = n; text_is = refl };
       all = ap (λ x. x ++ flat_map text (below (e ∷ es) [])) first ∙ ap (λ y. text e ++ flat_map text y) second;
     }
   where
@@ -79,4 +80,5 @@ begins layers (e ∷ es) t l z =
 -- lines
 pub begun : (stack : Stacked) (n : ℕ) → AreImages stack.layers → IsListing stack.layers stack.entries → n ≡ length (nodes stack.entries)
     → (n ≡ 0 → ⊥) → IsBegun stack
-begun stack n i l e z = begins stack.layers stack.entries (are_tree stack.layers stack.entries i l) l (λ f. z (e ∙ f))
+begun stack n i l e z = begins stack.layers stack.entries (are_tree stack.layers stack.entries i l)
+    (are_short stack.layers stack.entries i l) l (λ f. z (e ∙ f))

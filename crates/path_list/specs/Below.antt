@@ -1,10 +1,12 @@
 -- The entries below a path.
-use Rattle.std.specs.Prelude.{◌≡◌, ℕ, List, [], ◌∷◌, ◌++◌, Bool, true, false, Option, Some, None, slice_get, filter, if◌then◌else◌}
+use Rattle.std.specs.Prelude.{◌≡◌, ◌≤◌, ℕ, List, [], ◌∷◌, ◌++◌, Bool, true, false, Option, Some, None, length, slice_get, filter, if◌then◌else◌}
 use Rattle.romfs_reader.specs.Images.{IsImage}
 use Rattle.stack_model.specs.Stack.{Path}
 use Rattle.stack_model.specs.Listing.{Entry, Rises, IsAmong}
 use Rattle.stack_model.specs.Numbers.{place, same_name}
 use Rattle.stack_model.specs.Attributes.{is_directory_at}
+use Rattle.path_list.specs.declared.path_text.TheConstants.{LONGEST}
+use Rattle.path_list.specs.Lines.{names_text}
 
 -- the names of the path after those of top, if it begins with them
 abbrev pub after : Path → Path → Option Path
@@ -41,3 +43,7 @@ pub record AreTree (layers : List (List ℕ)) (entries : List Entry) : Type 0 wh
       → e.path ≡ top ++ n ∷ path → IsShownDirectory layers entries top
   pub once : (d e : Entry) → IsAmong d entries → IsAmong e entries → place d ≡ place e
       → is_directory_at layers (place d) ≡ true → d.path ≡ e.path
+
+-- the text of no path is too long
+pub record AreShort (entries : List Entry) : Type 0 where
+  pub each : (e : Entry) → IsAmong e entries → length (names_text e.path) ≤ LONGEST

@@ -27,10 +27,14 @@ name_text name = flat_map escaped name
 abbrev pub names_text : Path → List ℕ
 names_text path = flat_map (λ name. 47 ∷ name_text name) path
 
--- a path as it is printed; the root is `/`
+-- what is printed of a path, by the text of its names; the root, which has none, is `/`
+abbrev pub printed : List ℕ → List ℕ
+printed [] = 47 ∷ []
+printed (byte ∷ text) = byte ∷ text
+
+-- a path as it is printed
 abbrev pub path_text : Path → List ℕ
-path_text [] = 47 ∷ []
-path_text (n ∷ path) = names_text (n ∷ path)
+path_text path = printed (names_text path)
 
 -- the last octal digit
 abbrev pub octal_digit : ℕ → ℕ
@@ -46,13 +50,22 @@ mode_text n =
 abbrev pub spaced : List ℕ → List ℕ
 spaced text = text ++ 32 ∷ []
 
+-- number, mode, nlink, size and layer, each with a space behind it
+abbrev pub fields_text : ℕ → ℕ → ℕ → ℕ → ℕ → List ℕ
+fields_text number mode nlink size layer =
+    spaced (decimal number) ++ spaced (mode_text mode) ++ spaced (decimal nlink)
+    ++ spaced (decimal size) ++ spaced (decimal layer)
+
 module _ (layers : List (List ℕ)) (entries : List Entry) where
-  -- number, mode, nlink, size and layer of the place, and the path
-  unfoldable pub line_of : Place → Path → List ℕ
-  line_of p path =
-      spaced (decimal (number entries p)) ++ spaced (mode_text (mode layers p))
-      ++ spaced (decimal (nlink layers entries p))
-      ++ spaced (decimal (size_at layers p)) ++ spaced (decimal p.0) ++ path_text path ++ 10 ∷ []
+  -- the fields of the place, and the text of a path
+  unfoldable pub line_with : Place → List ℕ → List ℕ
+  line_with p text =
+      fields_text (number entries p) (mode layers p) (nlink layers entries p) (size_at layers p) p.0
+      ++ text ++ 10 ∷ []
+
+  -- the line of a place and a path
+  abbrev pub line_of : Place → Path → List ℕ
+  line_of p path = line_with p (path_text path)
 
   -- the line of a shown path
   abbrev pub line : Entry → List ℕ

@@ -8,19 +8,20 @@
 //! 3 100644 1 1 0 /a/y
 //! ```
 //!
-//! It goes down from the root by the rows of directories, and the lines go out in pieces, so the
-//! memory that it takes does not grow with their number. That these are all shown paths, each once,
-//! stands on what the layers are: nothing is shown below what is no directory, and a directory has
-//! one path (`laws`).
+//! It goes down from the root by the rows of directories, and keeps the text of the path that it
+//! stands at, so each name is escaped once, and a line's path is one copy. The lines go out in
+//! pieces. The room for a piece and for the longest path is taken first, so the memory does not
+//! grow with the lines. That these are all shown paths, each once, stands on what the layers are:
+//! nothing is shown below what is no directory, and a directory has one path (`laws`).
 //!
 //! The crate stands on `stack_table`, and on `devices` for its sink.
 #![tactic(auto)]
 
 pub mod examples;
+mod fields;
 pub mod laws;
+mod path_text;
 mod room;
-mod text;
-mod trail;
 mod walk;
 
 pub use walk::{ListFault, write_list};

@@ -1,14 +1,14 @@
 //! The walk over all paths of a table.
 
-ghost use Rattle.std.specs.Prelude.{◌≡◌, ◌<◌, ◌≤◌, ◌^◌, OnOk, IfErr};
+ghost use Rattle.std.specs.Prelude.{◌≡◌, ◌<◌, ◌≤◌, ◌^◌, [], OnOk, IfErr};
 ghost use Rattle.path_list.specs.Below.{AreImages};
 ghost use Rattle.path_list.specs.Lines.{lines};
 ghost use Rattle.path_list.specs.Faults.{Lists, IsBrokenOff};
-ghost use Rattle.path_list.specs.Walks.{Puts, IsVisited, way, line_at, lines_below};
+ghost use Rattle.path_list.specs.Walks.{Puts, PutsAt, IsOnWay, line_as, lines_below};
 
+use crate::fields::{FIELDS_SIZE, write_fields};
+use crate::path_text::PathText;
 use crate::room::Room;
-use crate::text::spaced_mode;
-use crate::trail::{Trail, Way};
 use devices::{Failed, Sink};
 use romfs_reader::Image;
 use stack_table::Table;
@@ -16,13 +16,6 @@ use std::alloc::{AllocError, Allocator};
 
 // How many bytes of lines wait before they are written.
 const PIECE: usize = 65_536;
-
-// A shown path: its number, and the way to it.
-#[derive(Clone, Copy)]
-struct Shown<'a> {
-    number: u64,
-    trail: Way<'a>,
-}
 
 /// Why a list was not written to its end.
 #[derive(Clone, Copy, Debug, PartialEq, Eq)]
@@ -64,30 +57,28 @@ fn are_images<A: Allocator>(images: &[Image<A>])
 }
 
 impl<A: Allocator> Room<A> {
-    // Puts the line of a number at a path; none where the number is not in use.
+    // Puts the line of a number with a path; none where the number is not in use.
     fn put_line<K: Sink, B: Allocator>(
         &mut self,
         sink: &mut K,
         table: &Table<B>,
-        shown: Shown<'_>,
+        number: u64,
+        path: &[u8],
     ) -> Result<(), Failed>
         requires { (K.state sink.old).counts.failures < 2 ^ 63 }
         ensures { Puts result (K.state sink.old) self.old.waiting.items
-            (K.state sink.new) self.new.waiting.items
-            (line_at table.now shown.entry.number (way shown.entry.trail)) }
+            (K.state sink.new) self.new.waiting.items (line_as table.now number path.now) }
     {
-        let Some(node) = table.node(shown.number) else {
+        let Some(node) = table.node(number) else {
             return Ok(());
         };
-        let Some(attr) = table.attr(shown.number) else {
+        let Some(attr) = table.attr(number) else {
             return Ok(());
         };
-        self.put_number(sink, attr.ino)?;
-        self.put(sink, &spaced_mode(attr.mode))?;
-        self.put_number(sink, u64::from(attr.nlink))?;
-        self.put_number(sink, attr.size)?;
-        self.put_number(sink, u64::from(node.place.layer))?;
-        self.put_path(sink, shown.trail)?;
+        let mut fields = [0; FIELDS_SIZE];
+        let start = write_fields(&attr, node.place.layer, &mut fields);
+        self.put(sink, &fields[start..])?;
+        self.put(sink, path)?;
         self.put_byte(sink, b'\n')
     }
 
@@ -96,25 +87,22 @@ impl<A: Allocator> Room<A> {
         &mut self,
         sink: &mut K,
         table: &Table<B>,
-        shown: Shown<'_>,
+        number: u64,
+        path: &mut PathText<A>,
     ) -> Result<(), Failed>
-        requires visited { IsVisited table.now shown.number (way shown.trail) }
+        requires on { IsOnWay table.now number path.old }
         requires counts { (K.state sink.old).counts.failures < 2 ^ 63 }
-        ensures { Puts result (K.state sink.old) self.old.waiting.items
-            (K.state sink.new) self.new.waiting.items
-            (lines_below table.now (way shown.entry.trail)) }
+        ensures put { PutsAt table.now number path.old result (K.state sink.old)
+            self.old.waiting.items (K.state sink.new) self.new.waiting.items
+            (lines_below table.now) }
+        ensures back { OnOk result (path.new ≡ path.old) }
     {
-        for row in table.rows(shown.number) {
-            let trail = Trail {
-                above: shown.trail,
-                name: row.name(),
-            };
-            let below = Shown {
-                number: row.number,
-                trail: Some(&trail),
-            };
-            self.put_line(sink, table, below)?;
-            self.put_below(sink, table, below)?;
+        let above = path.len();
+        for row in table.rows(number) {
+            path.go_down(row.name());
+            self.put_line(sink, table, row.number, path.printed())?;
+            self.put_below(sink, table, row.number, path)?;
+            path.go_up(above);
         }
         Ok(())
     }
@@ -124,8 +112,10 @@ impl<A: Allocator> Room<A> {
         &mut self,
         sink: &mut K,
         table: &Table<B>,
+        path: &mut PathText<A>,
     ) -> Result<(), Failed>
-        requires { (K.state sink.old).counts.failures < 2 ^ 63 }
+        requires root { path.old ≡ [] }
+        requires counts { (K.state sink.old).counts.failures < 2 ^ 63 }
         ensures { Puts result (K.state sink.old) self.old.waiting.items
             (K.state sink.new) self.new.waiting.items (lines table.now.layers table.now.entries) }
     {
@@ -133,12 +123,8 @@ impl<A: Allocator> Room<A> {
         if table.len() == 0 {
             return Ok(());
         }
-        let root = Shown {
-            number: 1,
-            trail: None,
-        };
-        self.put_line(sink, table, root)?;
-        self.put_below(sink, table, root)
+        self.put_line(sink, table, 1, path.printed())?;
+        self.put_below(sink, table, 1, path)
     }
 }
 
@@ -148,11 +134,12 @@ impl<A: Allocator> Room<A> {
 /// layer that of the node's place, and the path after `/`, which alone is the root. A byte of a
 /// name outside 0x21 to 0x7e, and that of `\`, is printed as `\` and two lower hexadecimal digits.
 ///
-/// The lines go out in pieces of about 64 KiB, each of which is flushed. Memory for one is taken
-/// first: at `Memory` the sink is as before. `Write` comes only where the sink failed in this call,
-/// once; nothing is said of what it then holds. Besides, it takes as much of the stack as the
-/// deepest path has names, and a time that grows with the length of the lines.
-pub fn write_list<A: Allocator, B: Allocator, K: Sink>(
+/// The lines go out in pieces of about 64 KiB, each of which is flushed. Memory is taken first, 64
+/// KiB for a piece and 383 KiB for the longest path that there can be: at `Memory` the sink is as
+/// before. `Write` comes only where the sink failed in this call, once; nothing is said of what it
+/// then holds. Besides, it takes as much of the stack as the deepest path has names, and a time
+/// that grows with the length of the lines.
+pub fn write_list<A: Allocator + Copy, B: Allocator, K: Sink>(
     alloc: A,
     table: &Table<B>,
     sink: &mut K,
@@ -162,7 +149,8 @@ pub fn write_list<A: Allocator, B: Allocator, K: Sink>(
     ensures err { IfErr result (IsBrokenOff (K.state sink.old) (K.state sink.new)) }
 {
     let mut room = Room::new(alloc, PIECE)?;
-    room.put_all(sink, table)?;
+    let mut path = PathText::new(alloc)?;
+    room.put_all(sink, table, &mut path)?;
     room.drain(sink)?;
     Ok(())
 }

@@ -1,25 +1,75 @@
-use Rattle.std.proofs.Common.{rules, ◌≡◌, ◌<◌, ◌^◌, ◌∙◌, ap, subst, sym, ℕ, List}
+use Rattle.std.proofs.Common.{rules, ◌≡◌, ◌<◌, ◌-◌, ◌^◌, ◌++◌, ◌∷◌, ◌∙◌, ap, subst, sym, length, length-append, arith}
 use Rattle.stack_table.specs.Rows.{Line}
-use Rattle.path_list.specs.Walks.{way}
+use Rattle.path_list.specs.declared.path_text.TheConstants.{LONGEST}
+use Rattle.path_list.specs.Lines.{name_text, printed}
+use Rattle.path_list.specs.Walks.{IsOnWay, line_as}
 use Rattle.path_list.proofs.Gaining.{puts_same}
-use Rattle.path_list.proofs.Visits.{goes_on, walked}
+use Rattle.path_list.proofs.Visits.{IsTurn}
+use Rattle.path_list.proofs.Turns.{name_fits, on_way, cut_back, turn_more, all_turns}
 use Rattle.path_list.proofs.room.Room.+put_below.Goals as goal
+
+pub go_down-requires : goal.go_down-requires
+go_down-requires g t c =
+    let turn : IsTurn c.args.table.now c.args.number c.rows-row-items.result.now c.loop-row.row-index c.row.inside.number
+    c.name.result.now =
+    record {
+      row = c.row-item.result;
+      rows_are = c.rows-row-items.ensures;
+      within = c.loop-row-test.true;
+      row_is = c.row-item.is;
+      number_is = ap (λ (l : Line). l.number) c.row.view_is;
+      name_is = c.name.ensures;
+    } in
+    let room = name_fits c.args.table.now c.args.number c.args.path.now c.requires.on turn in
+    let same = ap length c.loop-row.invariant.back in
+    omega (arith, room, same)
 
 pub put_below-requires : goal.put_below-requires
 put_below-requires g t c κs within =
-    let number_is : c.row.inside.number ≡ c.row-item.result.number = ap (λ (l : Line). l.number) c.row.view_is in
-    let same : record { number = c.row.inside.number; name = c.name.result.now } ≡ c.row-item.result =
-    ap (λ (n : ℕ). record { number = n; name = c.name.result.now }) number_is
-    ∙ ap (λ (x : List ℕ). record { number = c.row-item.result.number; name = x }) c.name.ensures in
-    let w = goes_on c.args.table.now c.args.shown.number (way c.args.shown.trail) c.requires.visited c.rows-row-items.result.now
-    c.loop-row.row-index c.row-item.result c.row.inside.number c.name.result.now c.rows-row-items.ensures c.loop-row-test.true
-    c.row-item.is same in
-    let visit = w.0 in
-    let less = w.1 in
-    let same_failures = c.in_ok-put_line.ensures.counted.0 ∙ c.loop-row.invariant.counted.0 in
+    let turn : IsTurn c.args.table.now c.args.number c.rows-row-items.result.now c.loop-row.row-index c.row.inside.number
+    c.name.result.now =
+    record {
+      row = c.row-item.result;
+      rows_are = c.rows-row-items.ensures;
+      within = c.loop-row-test.true;
+      row_is = c.row-item.is;
+      number_is = ap (λ (l : Line). l.number) c.row.view_is;
+      name_is = c.name.ensures;
+    } in
+    let text = c.args.path.now in
+    let name = name_text c.name.result.now in
+    let down : c.go_down.new.self ≡ text ++ 47 ∷ name = c.go_down.ensures ∙ ap (λ q. q ++ 47 ∷ name) c.loop-row.invariant.back in
+    let room = name_fits c.args.table.now c.args.number text c.requires.on turn in
+    let long = ap length down ∙ length-append text (47 ∷ name) in
+    let less : LONGEST - length c.go_down.new.self < LONGEST - length text = omega (arith, room, long) in
+    let on : IsOnWay c.args.table.now c.row.inside.number c.go_down.new.self = subst (λ q. IsOnWay c.args.table.now c.row.inside.number q)
+    (sym down) (on_way c.args.table.now c.args.number text c.requires.on turn) in
+    let same_failures = c.in_ok-put_line.ensures.counted.0 ∙ c.loop-row.invariant.put.counted.0 in
     let few = subst (λ n. n < 2 ^ 63) (sym same_failures) c.requires.counts in
-    search (rules, visit, less, few)
+    search (rules, on, less, few)
 
-pub returns : goal.returns
-returns g t c = puts_same (walked c.args.table.now c.args.shown.number (way c.args.shown.trail) c.requires.visited
-    c.rows-row-items.result.now c.loop-row.row-index c.rows-row-items.ensures c.loop-row-test.false) c.loop-row.invariant
+pub loop-row-preserved : goal.loop-row-preserved
+loop-row-preserved g t c =
+    let turn : IsTurn c.args.table.now c.args.number c.rows-row-items.result.now c.loop-row.row-index c.row.inside.number
+    c.name.result.now =
+    record {
+      row = c.row-item.result;
+      rows_are = c.rows-row-items.ensures;
+      within = c.loop-row-test.true;
+      row_is = c.row-item.is;
+      number_is = ap (λ (l : Line). l.number) c.row.view_is;
+      name_is = c.name.ensures;
+    } in
+    let text = c.args.path.now in
+    let name = name_text c.name.result.now in
+    let down : c.go_down.new.self ≡ text ++ 47 ∷ name = c.go_down.ensures ∙ ap (λ q. q ++ 47 ∷ name) c.loop-row.invariant.back in
+    let line = puts_same (ap (λ q. line_as c.args.table.now c.row.inside.number q) (c.printed.ensures ∙ ap printed down))
+    c.in_ok-put_line.ensures in
+    record {
+      back = c.go_up.ensures ∙ cut_back text _ (c.in_ok-put_below.ensures.back ∙ down) c.len-above.ensures;
+      put = turn_more c.args.table.now c.args.number text turn c.loop-row.invariant.put line (rw down at c.in_ok-put_below.ensures.put);
+    }
+
+pub returns-clause-put : goal.returns-clause-put
+returns-clause-put g t c = all_turns c.args.table.now c.args.number c.args.path.now c.rows-row-items.result.now c.loop-row.row-index
+    c.rows-row-items.ensures c.loop-row-test.false c.loop-row.invariant.put

@@ -1,5 +1,5 @@
 use Rattle.path_list.proofs.Runs.{IsRun}
-use Rattle.path_list.proofs.text.count_unescaped.Given as goal
+use Rattle.path_list.proofs.path_text.count_unescaped.Given as goal
 
 -- the bytes so far need no escape
 abbrev pub invariant-loop-at : goal.invariant-loop-at

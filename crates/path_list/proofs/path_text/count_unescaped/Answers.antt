@@ -1,6 +1,6 @@
 use Rattle.std.proofs.Common.{rules, arith}
 use Rattle.path_list.proofs.Runs.{run_none, run_more, run_all}
-use Rattle.path_list.proofs.text.count_unescaped.Goals as goal
+use Rattle.path_list.proofs.path_text.count_unescaped.Goals as goal
 
 pub loop-at-init : goal.loop-at-init
 loop-at-init c = run_none c.args.name.now
