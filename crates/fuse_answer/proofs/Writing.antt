@@ -1,19 +1,23 @@
 -- The bytes of a directory's rows, row by row: `IsSoFar` is what holds as they are appended, from
--- the header and the rows set behind it (`set_behind`) by each row (`row_next`) to the whole reply (`all_rows`). Where there
--- is room for all, no row lacks it (`row_has_room`).
-use Rattle.std.proofs.Common.{◌≡◌, ◌∙◌, sym, ap, ℕ, zero, suc, ◌+◌, ◌-◌, ◌^◌, ◌<◌, ◌≤◌, List, [], ◌∷◌, ◌++◌, length, take, get_or, Bool, true, false, cond, Option, Some, None, subst, arith, append-nil, append_assoc, length-append}
+-- the header (`head_alone`) by rows that are set (`rows_on`) and each that is appended (`row_next`)
+-- to the whole reply (`all_rows`). Where there is room for all, no row lacks it (`row_has_room`).
+-- Rows are set one after another (`sets_next`), over zeros that are cut behind them (`rows_cut`).
+use Rattle.std.proofs.Common.{◌≡◌, ◌∙◌, sym, ap, ℕ, zero, suc, ◌+◌, ◌-◌, ◌/◌, ◌^◌, ◌<◌, ◌≤◌, List, [], ◌∷◌, ◌++◌, length, take, get_or, Bool, true, false, cond, Option, Some, None, refl, subst, arith, append-nil, append_assoc, length-append}
 use Rattle.std.specs.Prelude.{nat_lt, slice_get, replicate, MatchOption, IfSome}
 use Rattle.std.specs.List.{enumerate_from, flat_map}
 use Rattle.std.specs.Option.{option_map_or}
+use Rattle.std.proofs.lemmas.Bool.{lt-ltb}
 use Rattle.std.proofs.lemmas.List.Concat.{flat_map-append}
 use Rattle.fuse_wire.specs.Replies.{reply_head, reply_with}
-use Rattle.fuse_wire.specs.Structures.{dirent_size, zeros}
+use Rattle.fuse_wire.specs.Structures.{direntplus, dirent_size, zeros}
 use Rattle.fuse_wire.proofs.Sizes.{length-dirent, length-direntplus, length-head}
+use Rattle.node_attr.specs.declared.attr.Attr.{Attr}
 use Rattle.stack_table.specs.Rows.{Line}
 use Rattle.stack_table.specs.Stacked.{Stacked}
 use Rattle.stack_table.specs.Readers.{attr_at}
 use Rattle.fuse_answer.specs.declared.listing.Listing.{Listing}
-use Rattle.fuse_answer.specs.Listings.{IsPaddedAt, IsWhole, NumberedLine, line_bytes, lines_of, listed_data, row_bytes_at, row_size, type_at}
+use Rattle.fuse_answer.specs.Listings.{IsPaddedAt, IsLineAt, IsWhole, NumberedLine, bytes_before, line_bytes, lines_of, listed_data, row_bytes_at, row_size, type_at}
+use Rattle.fuse_answer.specs.Setting.{AddsRows, AreSet, SetsRows}
 use Rattle.fuse_answer.proofs.Lines.{before_later, lines_before, next_line, none_before}
 
 -- the row with an index is that of the child two places before it, and says the place after it
@@ -45,11 +49,6 @@ length-line_bytes stack true r =
 abbrev pub written : {A : Type 0} → Stacked → Listing A → ℕ → List ℕ
 written stack l index = flat_map (line_bytes stack l.with_entries) (lines_before l index)
 
--- up to a place the rows before an index are set, behind what stood
-pub record AreSet {A : Type 0} (stack : Stacked) (l : Listing A) (before now : List ℕ) (at index : ℕ) : Type 0 where
-  pub so_far : take at now ≡ before ++ written stack l index
-  pub place : at ≡ length before + length (written stack l index)
-
 -- a row of READDIRPLUS is as long as its name says
 pub row_length : {A : Type 0} (stack : Stacked) (l : Listing A) (index : ℕ) (r : NumberedLine) → slice_get (lines_of l) index ≡ Some r
     → l.with_entries ≡ true → length (row_bytes_at stack l index) ≡ 128 + dirent_size (length r.1.name)
@@ -66,6 +65,12 @@ unfolding zeros
 padded_there l index r padded is there =
     (subst (λ o. IfSome o (λ r. (length r.1.name ≤ 22) × (padded ≡ r.1.name ++ replicate (22 - length r.1.name) 0))) is there).1
 
+-- such a name is short
+pub padded_short : {A : Type 0} (l : Listing A) (index : ℕ) (r : NumberedLine) (padded : List ℕ) → slice_get (lines_of l) index ≡ Some r
+    → IsPaddedAt l index padded → length r.1.name ≤ 22
+padded_short l index r padded is there =
+    (subst (λ o. IfSome o (λ r. (length r.1.name ≤ 22) × (padded ≡ r.1.name ++ replicate (22 - length r.1.name) 0))) is there).0
+
 -- a name that may stand with zeros behind it, of the row with an index
 pub padded_line : {A X : Type 0} (o : Option X) (now : X → List ℕ) (l : Listing A) (index : ℕ) (r : NumberedLine)
     → slice_get (lines_of l) index ≡ Some r
@@ -75,6 +80,42 @@ pub padded_line : {A X : Type 0} (o : Option X) (now : X → List ℕ) (l : List
 padded_line None now l index r is given = tt
 padded_line (Some p) now l index r is given =
     subst (λ o. IfSome o (λ r. (length r.1.name ≤ 22) × (now p ≡ r.1.name ++ replicate (22 - length r.1.name) 0))) (sym is) given
+
+-- a row with a short name ends within the bytes that it may set
+pub short_end : (at end n : ℕ) → n ≤ 22 → end ≡ at + (128 + dirent_size n) → end ≤ at + 176
+short_end at end n short is = omega arith
+
+-- the bytes of a child's row
+pub child_bytes : {A : Type 0} (stack : Stacked) (l : Listing A) (index number : ℕ) (name : List ℕ) (a : Attr)
+    → IsLineAt l index number name → l.with_entries ≡ true → 2 ≤ index → attr_at stack number ≡ Some a
+    → direntplus (Some a) number (index + 1) (a.mode / 2 ^ 12) name ≡ row_bytes_at stack l index
+child_bytes stack l index number name a is plus big has =
+    let row : NumberedLine = (index + 1, record { number = number; name = name }) in
+    let child : nat_lt 2 (index + 1) ≡ true = lt-ltb 2 (index + 1) (omega arith) in
+    let form = λ (b : Bool) (o : Option Attr). direntplus (cond b o None) number (index + 1)
+    (option_map_or (λ (a : Attr). a.mode / 2 ^ 12) o 0) name in
+    sym (ap (λ o. option_map_or (line_bytes stack l.with_entries) o []) is
+    ∙ ap (λ b. line_bytes stack b row) plus
+    ∙ ap (λ b. form b (attr_at stack number)) child
+    ∙ ap (form true) has)
+
+-- no rows
+pub sets_none : {A : Type 0} (stack : Stacked) (l : Listing A) (from start : ℕ) (now : List ℕ) → start ≤ length now
+    → SetsRows stack l from from start start now now
+sets_none stack l from start now within = record { rows = λ before set. set; within = within; size = refl }
+
+-- rows that were set over zeros, which are cut behind them
+pub rows_cut : {A : Type 0} (stack : Stacked) (l : Listing A) (from until start end : ℕ) (old zeroed now new : List ℕ)
+    → start ≡ length old → take start zeroed ≡ old → SetsRows stack l from until start end zeroed now → new ≡ take end now
+    → AddsRows stack l from until old new
+rows_cut stack l from until start end old zeroed now new at kept sets cut = record {
+  rows = λ first is.
+      let set = sets.rows first (record {
+        so_far = kept ∙ is;
+        place = at ∙ ap length is ∙ length-append first (bytes_before stack l from);
+      }) in
+      cut ∙ set.so_far;
+}
 
 module _ {A : Type 0} (stack : Stacked) (l : Listing A) (whole : IsWhole stack l) where
   abbrev bytes_of : NumberedLine → List ℕ
@@ -132,21 +173,22 @@ module _ {A : Type 0} (stack : Stacked) (l : Listing A) (whole : IsWhole stack l
   abbrev pub IsSoFar : ℕ → List ℕ → ℕ → List ℕ → Type 0
   IsSoFar unique before index now = now ≡ before ++ (reply_head unique l.size ++ written stack l index)
 
-  -- behind the header those before an index are set
-  pub set_behind : (unique index : ℕ) (before head now : List ℕ) → head ≡ before ++ reply_head unique l.size
-      → now ≡ head ++ written stack l index → IsSoFar unique before index now
-  set_behind unique index before head now h is =
-      is ∙ ap (λ b. b ++ written stack l index) h ∙ append_assoc before (reply_head unique l.size) (written stack l index)
-
   -- before the first row nothing is written
   pub none_written : (before : List ℕ) → before ≡ before ++ written stack l l.from
   none_written before = sym (append-nil before) ∙ ap (λ ls. before ++ flat_map bytes_of ls) (sym (none_before l))
 
-  -- at first none is
-  pub set_first : (before now : List ℕ) (at : ℕ) → at ≡ length before → take at now ≡ before → AreSet stack l before now at l.from
-  set_first before now at place is =
-      let none = ap (λ ls. length (flat_map bytes_of ls)) (none_before l) in
-      record { so_far = is ∙ none_written before; place = omega arith }
+  -- behind the header alone none is
+  pub head_alone : (unique : ℕ) (before now : List ℕ) → now ≡ before ++ reply_head unique l.size → IsSoFar unique before l.from now
+  head_alone unique before now is =
+      let h = reply_head unique l.size in
+      is ∙ none_written (before ++ h) ∙ append_assoc before h (written stack l l.from)
+
+  -- where rows are appended to those before an index, those before another one are
+  pub rows_on : (unique from until : ℕ) (before now next : List ℕ) → IsSoFar unique before from now
+      → AddsRows stack l from until now next → IsSoFar unique before until next
+  rows_on unique from until before now next so_far adds =
+      let h = reply_head unique l.size in
+      adds.rows (before ++ h) (so_far ∙ sym (append_assoc before h (written stack l from))) ∙ append_assoc before h (written stack l until)
 
   -- where the row with the index is set next, those before the next index are
   pub set_next : (index : ℕ) (before now next : List ℕ) (at end : ℕ) → l.from ≤ index → index < l.until → AreSet stack l before now at index
@@ -164,10 +206,16 @@ module _ {A : Type 0} (stack : Stacked) (l : Listing A) (whole : IsWhole stack l
         place = omega arith;
       }
 
-  -- no row is set behind the listing's size
-  pub set_few : (index : ℕ) (before now : List ℕ) (at : ℕ) → index ≤ l.until → AreSet stack l before now at index
-      → at ≤ length before + l.size
-  set_few index before now at until set = let few = written_few index until in let place = set.place in omega arith
+  -- where some rows were set, and the one with the next index is, these are
+  pub sets_next : (from index : ℕ) (old now next : List ℕ) (start at end : ℕ) → l.from ≤ index → index < l.until
+      → SetsRows stack l from index start at old now → take end next ≡ take at now ++ row_bytes_at stack l index
+      → end ≡ at + length (row_bytes_at stack l index) → end ≤ length next → length next ≡ length now
+      → SetsRows stack l from (index + 1) start end old next
+  sets_next from index old now next start at end first until sets is place within size = record {
+    rows = λ before set. set_next index before now next at end first until (sets.rows before set) is place;
+    within = within;
+    size = size ∙ sets.size;
+  }
 
   -- where a row is appended after those before it, those before the next one are written
   pub row_next : (unique index : ℕ) (before now next : List ℕ) → l.from ≤ index → index < l.until

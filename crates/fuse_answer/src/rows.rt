@@ -7,6 +7,7 @@ ghost use Rattle.fuse_wire.specs.declared.put.TheConstants.{SHORT_ROW_SIZE};
 ghost use Rattle.stack_table.specs.Readers.{attr_at};
 ghost use Rattle.fuse_answer.specs.Listings.{IsWhole, IsLineAt, IsPaddedAt, bytes_before, listed_data, row_bytes_at, type_at};
 ghost use Rattle.fuse_answer.specs.Puts.{Puts};
+ghost use Rattle.fuse_answer.specs.Setting.{AddsRows, SetsRow, SetsRows};
 
 use crate::listing::Listing;
 use fuse_wire::limits::OUT_HEADER_SIZE;
@@ -18,6 +19,10 @@ use std::alloc::{AllocError, Allocator};
 
 /// Zeros over which rows are set.
 const ZEROS: [u8; 1024] = [0; 1024];
+
+/// Over how many zeros rows are set at once: few enough to be in the processor's cache still when
+/// the rows are.
+const ZEROS_AT_ONCE: usize = 8_192;
 
 /// The names of the first two rows, with zeros behind them.
 const DOT: &[u8; 22] = b".\0\0\0\0\0\0\0\0\0\0\0\0\0\0\0\0\0\0\0\0\0";
@@ -38,44 +43,77 @@ pub(crate) fn put_rows<A: Allocator, O: Allocator>(
 {
     out.reserve(OUT_HEADER_SIZE + rows.size)?;
     put_data_head(out, unique, rows.size)?;
-    let set = set_rows(table, rows, out);
-    for index in set..rows.until {
-        put_row(table, rows, index, out)?;
+    let end = out.len() + rows.size;
+    let mut index = rows.from;
+    while index < rows.until {
+        index = set_rows(table, rows, index, out, end);
+        if index < rows.until {
+            put_row(table, rows, index, out)?;
+            index += 1;
+        }
     }
     Ok(())
 }
 
-// Sets the first rows of READDIRPLUS over zeros, up to one with a long name, and returns the index
-// of the next one; none where there is no room for more zeros than all rows take.
+// Sets rows of READDIRPLUS from an index on, over zeros for those up to a place, and returns the
+// index of the next one: of one with a long name, or of one that has no room before the zeros' end.
 #[inline(always)]
 fn set_rows<A: Allocator, O: Allocator>(
     table: &Table<A>,
     rows: &Listing<'_, A>,
+    from: usize,
     out: &mut Vec<u8, O>,
+    end: usize,
 ) -> usize
-    requires { IsWhole table.now rows.now }
-    ensures from { rows.now.from ≤ result }
+    requires whole { IsWhole table.now rows.now }
+    requires first { rows.now.from ≤ from }
+    requires last { from ≤ rows.now.until }
+    ensures from { from ≤ result }
     ensures until { result ≤ rows.now.until }
-    ensures items { out.new.items ≡ out.old.items ++ bytes_before table.now rows.now result }
+    ensures items { AddsRows table.now rows.now from result out.old.items out.new.items }
     ensures capacity { vec_capacity out.old ≤ vec_capacity out.new }
 {
-    let zeros = rows.size + SHORT_ROW_SIZE;
-    if !rows.with_entries || out.capacity() - out.len() < zeros {
-        return rows.from;
+    if !rows.with_entries {
+        return from;
     }
-    let mut at = out.len();
-    put_zeros(out, zeros);
-    for index in rows.from..rows.until {
-        match set_row(table, rows, index, out, at) {
+    let start = out.len();
+    let wanted = end.saturating_sub(start).min(ZEROS_AT_ONCE) + SHORT_ROW_SIZE;
+    put_zeros(out, wanted.min(out.capacity() - start));
+    let (next, at) = set_over(table, rows, from, out.as_mut_slice(), start);
+    out.truncate(at);
+    next
+}
+
+// Sets rows of READDIRPLUS from an index on over bytes from a place on, up to one with a long name
+// or to the bytes' end, and returns the index of the next one and its place.
+#[inline(always)]
+fn set_over<A: Allocator>(
+    table: &Table<A>,
+    rows: &Listing<'_, A>,
+    from: usize,
+    bytes: &mut [u8],
+    start: usize,
+) -> (usize, usize)
+    requires whole { IsWhole table.now rows.now }
+    requires entries { rows.now.with_entries ≡ true }
+    requires first { rows.now.from ≤ from }
+    requires last { from ≤ rows.now.until }
+    requires start { start ≤ length bytes.old }
+    ensures from { from ≤ result.0 }
+    ensures until { result.0 ≤ rows.now.until }
+    ensures set { SetsRows table.now rows.now from result.0 start result.1 bytes.old bytes.new }
+{
+    let mut at = start;
+    for index in from..rows.until {
+        if bytes.len() - at < SHORT_ROW_SIZE {
+            return (index, at);
+        }
+        match set_row(table, rows, index, bytes, at) {
             Some(end) => at = end,
-            None => {
-                out.truncate(at);
-                return index;
-            }
+            None => return (index, at),
         }
     }
-    out.truncate(at);
-    rows.until
+    (rows.until, at)
 }
 
 // Appends so many bytes, where there is room for them.
@@ -96,28 +134,73 @@ fn put_zeros<O: Allocator>(out: &mut Vec<u8, O>, count: usize)
 // Sets the row of READDIRPLUS with this index at a place, and returns its end; none where its name
 // is long.
 #[inline(always)]
-fn set_row<A: Allocator, O: Allocator>(
+fn set_row<A: Allocator>(
     table: &Table<A>,
     rows: &Listing<'_, A>,
     index: usize,
-    out: &mut Vec<u8, O>,
+    bytes: &mut [u8],
     at: usize,
 ) -> Option<usize>
     requires until { index < rows.now.until }
     requires there { rows.now.until ≤ 2 + length rows.now.children.now }
     requires entries { rows.now.with_entries ≡ true }
-    requires room { at + SHORT_ROW_SIZE ≤ vec_len out.old }
-    ensures row { MatchOption result (out.new.items ≡ out.old.items)
-        (λ end. take end out.new.items
-        ≡ take at out.old.items ++ row_bytes_at table.now rows.now index) }
-    ensures end { IfSome result (λ end.
-        end ≡ at + length (row_bytes_at table.now rows.now index)) }
-    ensures size { vec_len out.new ≡ vec_len out.old }
-    ensures capacity { vec_capacity out.old ≤ vec_capacity out.new }
+    requires room { at + SHORT_ROW_SIZE ≤ length bytes.old }
+    ensures { SetsRow table.now rows.now index at result bytes.old bytes.new }
+{
+    if index < 2 {
+        set_first(table, rows, index, bytes, at)
+    } else {
+        set_child(table, rows, index, bytes, at)
+    }
+}
+
+// The same of `.` or `..`.
+#[inline(always)]
+fn set_first<A: Allocator>(
+    table: &Table<A>,
+    rows: &Listing<'_, A>,
+    index: usize,
+    bytes: &mut [u8],
+    at: usize,
+) -> Option<usize>
+    requires until { index < rows.now.until }
+    requires there { rows.now.until ≤ 2 + length rows.now.children.now }
+    requires entries { rows.now.with_entries ≡ true }
+    requires room { at + SHORT_ROW_SIZE ≤ length bytes.old }
+    ensures { SetsRow table.now rows.now index at result bytes.old bytes.new }
 {
     let padded = padded_at(rows, index)?;
     let (row, entry) = row_at(table, rows, index);
-    Some(set_direntplus(out.as_mut_slice(), at, entry.as_ref(), &row, padded))
+    Some(set_direntplus(bytes, at, entry.as_ref(), &row, padded))
+}
+
+// The same of a child.
+#[inline(always)]
+fn set_child<A: Allocator>(
+    table: &Table<A>,
+    rows: &Listing<'_, A>,
+    index: usize,
+    bytes: &mut [u8],
+    at: usize,
+) -> Option<usize>
+    requires from { 2 ≤ index }
+    requires until { index < rows.now.until }
+    requires there { rows.now.until ≤ 2 + length rows.now.children.now }
+    requires entries { rows.now.with_entries ≡ true }
+    requires room { at + SHORT_ROW_SIZE ≤ length bytes.old }
+    ensures { SetsRow table.now rows.now index at result bytes.old bytes.new }
+{
+    let padded = padded_at(rows, index)?;
+    let (ino, name) = line_at(rows, index);
+    let attr = table.attr(ino)?;
+    let off = index as u64 + 1;
+    let row = Dirent {
+        ino,
+        off,
+        file_type: attr.mode / 4096,
+        name,
+    };
+    Some(set_direntplus(bytes, at, Some(&attr), &row, padded))
 }
 
 // Appends the row with this index.

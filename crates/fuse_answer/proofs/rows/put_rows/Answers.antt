@@ -3,7 +3,7 @@ use Rattle.std.proofs.lemmas.Result.{err_from_is_err_and}
 use Rattle.fuse_wire.proofs.Sizes.{length-head, length-reply_with}
 use Rattle.fuse_wire.specs.Replies.{reply_head}
 use Rattle.fuse_answer.specs.Listings.{listed_data}
-use Rattle.fuse_answer.proofs.Writing.{all_rows, row_has_room, row_next, set_behind}
+use Rattle.fuse_answer.proofs.Writing.{all_rows, head_alone, row_has_room, row_next, rows_on}
 use Rattle.fuse_answer.proofs.rows.put_rows.Goals as goal
 
 pub returns-in_err-reserve : goal.returns-in_err-reserve
@@ -28,12 +28,11 @@ loop-index-init g c =
     let same = c.in_ok-reserve.ensures.len in
     let more = c.in_ok-reserve.ensures.capacity in
     let grown = c.in_ok-put_data_head.ensures.3 in
-    let wide = c.set_rows-set.ensures.capacity in
     record {
-      so_far = set_behind c.args.table.now c.args.rows.now c.requires c.args.unique c.set_rows-set.result c.args.out.now.items
-          c.put_data_head.new.out.items c.set_rows-set.new.out.items
-          (c.in_ok-put_data_head.ensures.0 ∙ ap (λ b. b ++ reply_head c.args.unique c.args.rows.now.size) c.reserve.ensures.items)
-          c.set_rows-set.ensures.items;
+      first = omega arith;
+      last = c.requires.in_order;
+      so_far = head_alone c.args.table.now c.args.rows.now c.requires c.args.unique c.args.out.now.items c.put_data_head.new.out.items
+          (c.in_ok-put_data_head.ensures.0 ∙ ap (λ b. b ++ reply_head c.args.unique c.args.rows.now.size) c.reserve.ensures.items);
       room = omega arith;
       grown = omega arith;
     }
@@ -42,33 +41,62 @@ pub loop-index-preserved : goal.loop-index-preserved
 loop-index-preserved g c =
     let room = c.loop-index.invariant.room in
     let more = c.loop-index.invariant.grown in
-    let grown = c.in_ok-put_row.ensures.3 in
-    let first = c.set_rows-set.ensures.from in
-    let from = c.loop-index.auto.index in
+    let grown = c.set_rows-index.ensures.capacity in
+    let first = c.loop-index.invariant.first in
+    let from = c.set_rows-index.ensures.from in
     record {
-      so_far = row_next c.args.table.now c.args.rows.now c.requires c.args.unique c.loop-index.index c.args.out.now.items
-          c.loop-index.out.items c.put_row.new.out.items
-          (omega arith) c.loop-index-test.true c.loop-index.invariant.so_far c.in_ok-put_row.ensures.0;
+      first = omega arith;
+      last = c.set_rows-index.ensures.until;
+      so_far = rows_on c.args.table.now c.args.rows.now c.requires c.args.unique c.loop-index.index c.set_rows-index.result
+          c.args.out.now.items c.loop-index.out.items c.set_rows-index.new.out.items c.loop-index.invariant.so_far
+          c.set_rows-index.ensures.items;
+      room = omega arith;
+      grown = omega arith;
+    }
+
+pub loop-index-preserved-then-index-rows : goal.loop-index-preserved-then-index-rows
+loop-index-preserved-then-index-rows g c =
+    let room = c.loop-index.invariant.room in
+    let more = c.loop-index.invariant.grown in
+    let wide = c.set_rows-index.ensures.capacity in
+    let grown = c.in_ok-put_row.ensures.3 in
+    let first = c.loop-index.invariant.first in
+    let from = c.set_rows-index.ensures.from in
+    let there = c.if-index-rows.true in
+    let set = rows_on c.args.table.now c.args.rows.now c.requires c.args.unique c.loop-index.index c.set_rows-index.result
+    c.args.out.now.items c.loop-index.out.items c.set_rows-index.new.out.items c.loop-index.invariant.so_far
+    c.set_rows-index.ensures.items in
+    record {
+      first = omega arith;
+      last = omega arith;
+      so_far = row_next c.args.table.now c.args.rows.now c.requires c.args.unique c.set_rows-index.result c.args.out.now.items
+          c.set_rows-index.new.out.items c.put_row.new.out.items
+          (omega arith) there set c.in_ok-put_row.ensures.0;
       room = omega arith;
       grown = omega arith;
     }
 
 pub returns-in_err-put_row : goal.returns-in_err-put_row
 returns-in_err-put_row g c =
-    let first = c.set_rows-set.ensures.from in
-    let from = c.loop-index.auto.index in
-    let fits = row_has_room c.args.table.now c.args.rows.now c.requires c.args.unique c.loop-index.index c.args.out.now.items
-    c.loop-index.out.items
-    (omega arith) c.loop-index-test.true c.loop-index.invariant.so_far in
+    let first = c.loop-index.invariant.first in
+    let from = c.set_rows-index.ensures.from in
+    let set = rows_on c.args.table.now c.args.rows.now c.requires c.args.unique c.loop-index.index c.set_rows-index.result
+    c.args.out.now.items c.loop-index.out.items c.set_rows-index.new.out.items c.loop-index.invariant.so_far
+    c.set_rows-index.ensures.items in
+    let fits = row_has_room c.args.table.now c.args.rows.now c.requires c.args.unique c.set_rows-index.result c.args.out.now.items
+    c.set_rows-index.new.out.items
+    (omega arith) c.if-index-rows.true set in
     let room = c.loop-index.invariant.room in
+    let wide = c.set_rows-index.ensures.capacity in
     let full = c.in_err-put_row.ensures.2 in
     let before = c.args.out.now.ok.0 in
-    let now = c.loop-index.out.ok.0 in
+    let now = c.set_rows-index.new.out.ok.0 in
     absurd (omega arith)
 
 pub returns : goal.returns
 returns g c =
-    let last = c.loop-index.auto.index-end c.set_rows-set.ensures.until in (
+    let last = c.loop-index.invariant.last in
+    let past = c.loop-index-test.false in (
       all_rows c.args.table.now c.args.rows.now c.requires c.args.unique c.loop-index.index c.args.out.now.items c.loop-index.out.items
           (omega arith) c.loop-index.invariant.so_far,
       tt,

@@ -1,0 +1,6 @@
+use Rattle.fuse_answer.specs.Setting.{SetsRows}
+use Rattle.fuse_answer.proofs.rows.set_over.Given as goal
+
+-- the rows before the index are set up to a place
+abbrev pub invariant-loop-index : goal.invariant-loop-index
+invariant-loop-index g l = SetsRows l.table l.rows l.from l.index l.start l.at l.initial.bytes l.bytes
