@@ -52,9 +52,9 @@ impl<A: Allocator> Guesses<A> {
             return;
         }
         let hash = hashed(directory, name);
-        let noted = (hash.tag & !self.place_mask) | at as u32;
+        let noted = (tag(hash) & !self.place_mask) | at as u32;
         for step in 0..PROBES {
-            let place = self.slot(hash.first, step);
+            let place = self.slot(hash, step);
             match self.slots.get_mut(place) {
                 Some(slot) if *slot == NOWHERE => {
                     *slot = noted;
@@ -79,11 +79,11 @@ impl<A: Allocator> Guesses<A> {
     {
         let hash = hashed(directory, name);
         for step in 0..PROBES {
-            let slot = *self.slots.get(self.slot(hash.first, step))?;
+            let slot = *self.slots.get(self.slot(hash, step))?;
             if slot == NOWHERE {
                 return None;
             }
-            if let Some(place) = self.place_in(slot, hash.tag) {
+            if let Some(place) = self.place_in(slot, hash) {
                 let at = place.wrapping_sub(start);
                 if at < rows.len() && rows[at].name() == name {
                     return Some(at);
@@ -93,16 +93,24 @@ impl<A: Allocator> Guesses<A> {
         None
     }
 
-    /// The first place that is looked at for this name of a directory, among all rows; none where
-    /// no row was noted for it.
-    pub fn first(&self, directory: u64, name: &[u8]) -> Option<usize> {
-        let hash = hashed(directory, name);
+    /// Reads the first slots for these hashes ahead. What comes of it says nothing.
+    pub fn read_ahead(&self, hashes: &[u64]) -> u32 {
+        let mut sum = 0;
+        for hash in hashes {
+            sum ^= *self.slots.get(self.slot(*hash, 0)).unwrap_or(&NOWHERE);
+        }
+        sum
+    }
+
+    /// The first place that is looked at for a directory and a name with this [`hash`](hashed),
+    /// among all rows; none where no row was noted for it.
+    pub fn first(&self, hash: u64) -> Option<usize> {
         for step in 0..PROBES {
-            let slot = *self.slots.get(self.slot(hash.first, step))?;
+            let slot = *self.slots.get(self.slot(hash, step))?;
             if slot == NOWHERE {
                 return None;
             }
-            let place = self.place_in(slot, hash.tag);
+            let place = self.place_in(slot, hash);
             if place.is_some() {
                 return place;
             }
@@ -111,16 +119,17 @@ impl<A: Allocator> Guesses<A> {
     }
 
     // The place that a slot tells, unless it is another name's by what stands beside it.
-    fn place_in(&self, slot: u32, tag: u32) -> Option<usize> {
-        if (slot ^ tag) & !self.place_mask == 0 {
+    fn place_in(&self, slot: u32, hash: u64) -> Option<usize> {
+        if (slot ^ tag(hash)) & !self.place_mask == 0 {
             Some((slot & self.place_mask) as usize)
         } else {
             None
         }
     }
 
-    // Where a slot stands: their number is a power of two.
-    fn slot(&self, first: usize, step: usize) -> usize {
+    // Where a slot stands, by the upper half of a hash: their number is a power of two.
+    fn slot(&self, hash: u64, step: usize) -> usize {
+        let first = (hash >> 32) as usize;
         first.wrapping_add(step) & self.slots.len().wrapping_sub(1)
     }
 }
@@ -148,17 +157,15 @@ const FOR_MIDDLE: u64 = 0xc4ce_b9fe_1a85_ec53;
 
 const FOR_LAST: u64 = 0xd6e8_feb8_6659_fd93;
 
-/// A hash of a directory and a name: where their first slot stands, before the number of slots is
-/// known, and the bits that may stand in it beside a place.
-#[derive(Clone, Copy)]
-struct Hash {
-    first: usize,
-    tag: u32,
+// The bits of a hash that may stand in a slot beside a place.
+fn tag(hash: u64) -> u32 {
+    (hash & 0xffff_ffff) as u32
 }
 
-/// The hash of a directory and a name. Of names of up to 24 bytes all are hashed, of others the
-/// first, the middle and the last eight bytes.
-fn hashed(directory: u64, name: &[u8]) -> Hash {
+/// The hash of a directory and a name: its upper half says where their first slot stands, before
+/// the number of slots is known, the lower one what stands in it beside a place. Of names of up to
+/// 24 bytes all are hashed, of others the first, the middle and the last eight bytes.
+pub fn hashed(directory: u64, name: &[u8]) -> u64 {
     let len = name.len();
     let begun = directory.wrapping_mul(GOLDEN).wrapping_add(len as u64);
     let words = if len < 8 {
@@ -170,11 +177,7 @@ fn hashed(directory: u64, name: &[u8]) -> Hash {
         first.wrapping_add(middle).wrapping_add(last)
     };
     let all = begun.wrapping_add(words);
-    let folded = (all ^ (all >> 32)).wrapping_mul(GOLDEN);
-    Hash {
-        first: (folded >> 32) as usize,
-        tag: (folded & 0xffff_ffff) as u32,
-    }
+    (all ^ (all >> 32)).wrapping_mul(GOLDEN)
 }
 
 /// The eight bytes of a name from this one on.

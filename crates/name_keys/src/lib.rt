@@ -48,7 +48,7 @@ mod run;
 mod search;
 
 pub use adding::add_keys;
-pub use guesses::Guesses;
+pub use guesses::{Guesses, hashed};
 pub use has_name::HasName;
 pub use key::key_of;
 pub use search::find;

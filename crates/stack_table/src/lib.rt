@@ -31,6 +31,7 @@ mod row;
 mod table;
 
 pub use directory::{Directories, Directory};
+pub use name_keys::hashed;
 pub use node::Node;
 pub use node_attr::Attr;
 pub use romfs_reader::Kind;

@@ -128,16 +128,17 @@ impl<A: Allocator> Table<A> {
         Some(row.number)
     }
 
-    /// Where the row of a directory's child may stand among all rows. It is a guess, for whoever
-    /// reads ahead: no answer follows from it.
-    pub fn guess(&self, number: u64, name: &[u8]) -> Option<usize> {
-        let place = self.guesses.first(number, name)?;
-        let directory = directory_at(&self.nodes, &self.directories.all, number)?;
-        if place < directory.rows_end {
-            Some(place)
-        } else {
-            None
-        }
+    /// Reads ahead what [`guess`](Table::guess) reads for these hashes. What comes of it says
+    /// nothing.
+    pub fn read_guesses(&self, hashes: &[u64]) -> u32 {
+        self.guesses.read_ahead(hashes)
+    }
+
+    /// Where the row of a directory's child may stand among all rows, by the
+    /// [`hash`](crate::hashed) of the directory's number and the child's name. It is a guess, for
+    /// whoever reads ahead: no answer follows from it.
+    pub fn guess(&self, hash: u64) -> Option<usize> {
+        self.guesses.first(hash)
     }
 
     /// The row that stands at a guessed place among all rows.
