@@ -5,6 +5,7 @@ process and a mount namespace of its own and says in a line what it saw, or what
 mounts in a user namespace. A check is a function of a room (tools/mounting.py) that gives its line back, or raises Failed.
 """
 import os
+import signal
 import sys
 import tempfile
 
@@ -24,6 +25,8 @@ def told_of(check, program, scratch):
 
 def main(program, wanted):
     adopt()
+    # mount.py leaves SIGHUP ignored where it was, as under nohup, and is sent one here
+    signal.signal(signal.SIGHUP, signal.SIG_DFL)
     passed = failed = 0
     with tempfile.TemporaryDirectory(prefix="mounted-") as scratch:
         os.chmod(scratch, 0o755)
