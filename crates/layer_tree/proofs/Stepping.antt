@@ -1,7 +1,7 @@
 -- Branches and marks in step, in the order of names. IsPassed is the loop that seeks a name,
 -- Keeping the loop over branches and their marks, Keeps what it makes of each, and are_kept what
 -- that is for all. all_cut, alone and inside say what a mark leaves of one branch.
-use Rattle.std.proofs.Common.{◌≡◌, ◌≢◌, ◌∙◌, sym, ap, subst, ℕ, ◌+◌, ◌≤◌, inl, inr, List, [], ◌∷◌, ◌++◌, length, refl, arith, append_assoc, Option, Some, None, Bool, true, false}
+use Rattle.std.proofs.Common.{◌≡◌, ◌≢◌, ◌∙◌, sym, ap, subst, ℕ, ◌+◌, ◌<◌, ◌≤◌, inl, inr, List, [], ◌∷◌, ◌++◌, length, refl, arith, append_assoc, Option, Some, None, Bool, true, false}
 use Rattle.std.specs.Prelude.{option_to_list}
 use Rattle.std.proofs.lemmas.List.{append-nil}
 use Rattle.std.proofs.lemmas.Cmp.{nat_list_cmp_total}
@@ -220,6 +220,14 @@ pub keeping_ended : {T : Type 0} (lows ls out : List (Subtree T)) (marks rest : 
     → AreKept lows marks out
 keeping_ended lows ls out marks rest inv e f r = are_kept marks (subst (Keeps marks lows) (append-nil out) (inv.kept [] (rw e None_left))) f
     r
+
+-- a list without its first element is shorter
+pub shorter : {X : Type 0} (x : X) (all rest : List X) → all ≡ x ∷ rest → length rest < length all
+shorter x all rest e = rw e (omega arith)
+
+-- a list with a first element is not empty
+pub some_first : {X : Type 0} (x : X) (all rest : List X) → all ≡ x ∷ rest → 0 < length all
+some_first x all rest e = rw e (omega arith)
 
 -- a mark that cuts its branch leaves nothing
 pub all_cut : (mark : Subtree Mark) → mark.value.cut ≡ true → IsLeftOut mark

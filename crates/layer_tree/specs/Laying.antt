@@ -8,7 +8,7 @@ use Rattle.tree_merge.specs.Laying.{laid_at, IsLaid}
 use Rattle.stack_model.specs.Stack.{Path}
 use Rattle.shown_tree.specs.declared.place.Entry.{Entry}
 use Rattle.shown_tree.specs.declared.place.Mark.{Mark}
-use Rattle.shown_tree.specs.Marks.{upper, united, cuts_itself, cut_by, marked}
+use Rattle.shown_tree.specs.Marks.{upper, united, cuts_itself, cut_by, mark_of, marked}
 use Rattle.shown_tree.specs.Trees.{TreeRows, entry_at, removes}
 
 -- the value, unless it is cut
@@ -131,6 +131,15 @@ pub record AreRootClashes {T : Type 0} (m : T → Mark) (file other : Subtree T)
     (mark : Subtree Mark) : Type 0 where
   pub uncut : mark.value.cut ≡ false
   pub at : Clash (marked m (whole file)) (marked m (whole other)) (at_path (whole mark))
+
+-- the entries of a tree laid on those of another one, by the marks of the upper tree and by those
+-- of what it hides, and the marks of what it replaces
+pub record AreEntriesLaid (low high : Subtree Entry) (marks : Subtree Mark) (out : Subtree Entry)
+    (replaced : Subtree Mark) : Type 0 where
+  pub hidden : Subtree Mark
+  pub hidden_is : AreRootClashes mark_of high low hidden
+  pub replaced_is : AreRootClashes mark_of low high replaced
+  pub covers : CoverTheKept low high marks hidden out
 
 -- the branches of two directories clash nowhere, whichever of them are the files
 pub record AreApart {T : Type 0} (m : T → Mark) (lows highs : List (Subtree T)) : Type 0 where

@@ -9,8 +9,9 @@
 
 ghost use Rattle.std.specs.Prelude.{◌≡◌, ◌<◌, ◌+◌, [], ◌∷◌, ◌++◌, ℕ, List, length, IfOk, OnOk, false};
 ghost use Rattle.path_tree.specs.Rows.{NamesRise, IsForest, IsFirstNamed};
+ghost use Rattle.shown_tree.specs.Marks.{mark_of};
 ghost use Rattle.shown_tree.specs.Trees.{IsTreeOf};
-ghost use Rattle.layer_tree.specs.Laying.{AreKept, AreChildrenLeft, AreUnited, CoverTheKept, IsKept, KeepsFirst, IsFrom, Lays};
+ghost use Rattle.layer_tree.specs.Laying.{AreKept, AreChildrenLeft, AreUnited, AreEntriesLaid, CoverTheKept, IsKept, KeepsFirst, IsFrom, Lays};
 
 use crate::clashes::clashes_both_ways;
 use path_tree::{Branch, place};
@@ -189,7 +190,7 @@ fn kept_inside<T: Copy + Drop, A: Allocator + Copy>(
 }
 
 /// What two marks leave of the lower entries, covered by the upper ones.
-fn entries_laid<A: Allocator + Copy>(
+fn entries_covered<A: Allocator + Copy>(
     alloc: A,
     low: Child<A>,
     high: Child<A>,
@@ -205,6 +206,24 @@ fn entries_laid<A: Allocator + Copy>(
     // named for the proof, as in `children_left`
     let entries = cover(alloc, kept, high)?;
     Ok(entries)
+}
+
+/// The entries of a tree laid on those of another one, and marks where the lower tree has a file
+/// and the upper one a directory or something below. `marks` are those of the upper tree.
+fn entries_laid<A: Allocator + Copy>(
+    alloc: A,
+    low: Child<A>,
+    high: Child<A>,
+    marks: &Branch<Mark, A>,
+) -> Result<(Child<A>, Branch<Mark, A>), AllocError>
+    requires low { (mark_of low.value).cut ≡ false }
+    requires high { (mark_of high.value).cut ≡ false }
+    requires marks { marks.now.value.cut ≡ false }
+    ensures { IfOk result (λ laid. AreEntriesLaid low high marks.now laid.0 laid.1) }
+{
+    let (hidden, replaced) = clashes_both_ways(alloc, &low, &high)?;
+    let entries = entries_covered(alloc, low, high, marks, &hidden)?;
+    Ok((entries, replaced))
 }
 
 /// The marks of both trees, and those of what was replaced.
@@ -223,13 +242,11 @@ fn marks_laid<A: Allocator + Copy>(
 }
 
 /// One tree laid on another, as `lay` has it, but said of trees alone: what that says of runs of
-/// layers follows from this. `hidden` are marks where the upper tree has a file and the lower one a
-/// directory or something below, `replaced` where the lower tree has the file.
+/// layers follows from this.
 fn laid<A: Allocator + Copy>(alloc: A, low: Tree<A>, high: Tree<A>) -> Result<Tree<A>, AllocError>
     ensures { IfOk result (λ tree. Lays low high tree) }
 {
-    let (hidden, replaced) = clashes_both_ways(alloc, &low.entries, &high.entries)?;
-    let entries = entries_laid(alloc, low.entries, high.entries, &high.marks, &hidden)?;
+    let (entries, replaced) = entries_laid(alloc, low.entries, high.entries, &high.marks)?;
     let marks = marks_laid(alloc, low.marks, replaced, high.marks)?;
     Ok(Tree { entries, marks })
 }

@@ -6,11 +6,11 @@ use Rattle.std.proofs.lemmas.Bool.{cases_order, false≢true}
 use Rattle.std.proofs.lemmas.List.{get_or_default}
 use Rattle.romfs_format.specs.declared.head.End.{End}
 use Rattle.romfs_format.specs.declared.head.End.TheVariants.{AtDirectory, AtOther, Nowhere}
-use Rattle.romfs_format.specs.declared.rule.Rule.TheVariants.{DataOutside, LinkedTwice, SameName}
-use Rattle.romfs_format.specs.Fields.{root, name}
+use Rattle.romfs_format.specs.declared.rule.Rule.TheVariants.{NameBad, DataOutside, LinkedTwice, SameName}
+use Rattle.romfs_format.specs.Fields.{root, name, IsInside}
 use Rattle.romfs_format.specs.Chains.{IsSomeMember}
 use Rattle.romfs_format.specs.Links.{IsHardLink, IsDirectory, IsFinal, stays, follows, EndsAs}
-use Rattle.romfs_format.specs.Rules.{IsRootElsewhere, IsUsed, HasData, EndsOutside, BreaksHeader}
+use Rattle.romfs_format.specs.Rules.{IsRootElsewhere, IsUsed, HasData, IsBadName, EndsOutside, BreaksHeader}
 use Rattle.romfs_rules.specs.Marks.{HasSlot, AreMarks, IsListOf, IsElsewhere}
 use Rattle.romfs_rules.specs.SameNames.{HaveSameNamesIfAlone}
 use Rattle.romfs_rules.proofs.Slots.{marked}
@@ -94,6 +94,14 @@ pub data_says : (a : List ℕ) (h : ℕ) (n : List ℕ) (b : Bool) → Some n �
 data_says a h n b e l t = (
   λ y. let x = t.0 y in (x.0, x.1, subst (λ o. IsSomeAnd o (EndsOutside a h)) e l),
   λ x. t.1 (x.0, x.1),
+)
+
+-- where a header inside with a bad name is known, being a member is breaking that rule
+pub bad_says : (a : List ℕ) (h : ℕ) (n : List ℕ) (b : Bool) → IsInside a h → Some n ≡ name a h
+    → IsBadName n → IsTrue b ↔ IsSomeMember a h → IsTrue b ↔ BreaksHeader a NameBad h
+bad_says a h n b i e l t = (
+  λ y. (t.0 y, i, subst (λ o. IsSomeAnd o IsBadName) e l),
+  λ x. t.1 x.0,
 )
 
 -- equal names are known of a header that no two links name

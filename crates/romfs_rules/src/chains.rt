@@ -4,7 +4,7 @@
 //! headers to come serves all other directories together. A header that comes without a mark gets
 //! one, and adds the header after it and, as a directory, its first. So each is passed once.
 
-ghost use Rattle.std.specs.Prelude.{◌≡◌, ◌+◌, ◌/◌, ◌<◌, ◌++◌, IfOk};
+ghost use Rattle.std.specs.Prelude.{◌≡◌, ◌+◌, ◌/◌, ◌<◌, ◌++◌, false, length, replicate, IfOk};
 ghost use Rattle.std.specs.Option.{option_to_list};
 ghost use Rattle.romfs_format.specs.Fields.{IsInside};
 ghost use Rattle.romfs_rules.specs.Marks.{AreInRootChain, AreElsewhere};
@@ -93,6 +93,25 @@ struct Walk<A: Allocator> {
     todo: Vec<u32, A>,
 }
 
+impl<A: Allocator> Walk<A> {
+    // Goes on until no header is to come.
+    fn finish(&mut self, volume: &Volume) -> Result<(), AllocError>
+        requires starts { AreStarts volume.now.bytes.now self.old.todo.items }
+        requires unmarked { self.old.marks ≡ replicate (length volume.now.bytes.now / 16) false }
+        ensures { IfOk result (λ _. AreElsewhere volume.now.bytes.now self.new.marks) }
+    {
+        while let Some(word) = self.todo.pop() {
+            let at = word as usize;
+            if !is_fresh(volume, at, &self.marks) {
+                continue;
+            }
+            self.marks.insert(at / 16);
+            follow(volume, at, &mut self.todo)?;
+        }
+        Ok(())
+    }
+}
+
 // Marks the headers of the chains of all opened directories but the root.
 fn mark_elsewhere<A: Allocator + Copy>(
     alloc: A,
@@ -106,14 +125,7 @@ fn mark_elsewhere<A: Allocator + Copy>(
         marks: SlotSet::new(alloc, volume.bytes.len() / 16)?,
         todo: seeds(alloc, volume, root_chain)?,
     };
-    while let Some(word) = walk.todo.pop() {
-        let at = word as usize;
-        if !is_fresh(volume, at, &walk.marks) {
-            continue;
-        }
-        walk.marks.insert(at / 16);
-        follow(volume, at, &mut walk.todo)?;
-    }
+    walk.finish(volume)?;
     Ok(walk.marks)
 }
 

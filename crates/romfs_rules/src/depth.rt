@@ -3,7 +3,7 @@
 //! It is asked only where an image breaks no other rule. Then one number of names leads to each
 //! header, so a walk down from the root carries that number with it and passes each header once.
 
-ghost use Rattle.std.specs.Prelude.{◌≡◌, ◌+◌, ◌<◌, ◌↔◌, ◌^◌, ◌++◌, IsTrue, IfOk};
+ghost use Rattle.std.specs.Prelude.{◌≡◌, [], ◌+◌, ◌/◌, ◌<◌, ◌↔◌, ◌^◌, ◌++◌, false, length, replicate, IsTrue, IfOk};
 ghost use Rattle.romfs_format.specs.Fields.{IsInside};
 ghost use Rattle.romfs_format.specs.Rules.{BreaksHeader};
 ghost use Rattle.romfs_format.specs.declared.rule.Profile.TheVariants.{Usual};
@@ -92,6 +92,30 @@ fn note(volume: &Volume, deep: Option<u32>, at: Waiting) -> Option<u32>
     }
 }
 
+impl<A: Allocator> Descent<A> {
+    // The least header that is too deep, of all that the root leads to.
+    fn find_deep(&mut self, volume: &Volume) -> Result<Option<u32>, AllocError>
+        requires keeps { KeepsAllHeaderRules Usual volume.now.bytes.now }
+        requires unmarked { self.old.marks ≡ replicate (length volume.now.bytes.now / 16) false }
+        requires empty { self.old.todo.items ≡ [] }
+        ensures { IfOk result
+            (λ deep. IsLeast (BreaksHeader volume.now.bytes.now Rule.TooDeep) deep) }
+    {
+        push_some(&mut self.todo, first_of(volume, volume.root), 0)?;
+        let mut deep = None;
+        while let Some(next) = self.todo.pop() {
+            let at = next.header as usize;
+            if !is_fresh(volume, at, &self.marks) {
+                continue;
+            }
+            self.marks.insert(at / 16);
+            deep = note(volume, deep, next);
+            follow(volume, next, &mut self.todo)?;
+        }
+        Ok(deep)
+    }
+}
+
 /// The least header whose path has more than [`MAX_NAMES`] names, in an image that breaks no other
 /// rule.
 pub(crate) fn find_deep<A: Allocator + Copy>(
@@ -105,15 +129,5 @@ pub(crate) fn find_deep<A: Allocator + Copy>(
         marks: SlotSet::new(alloc, volume.bytes.len() / 16)?,
         todo: Vec::new(alloc),
     };
-    push_some(&mut walk.todo, first_of(volume, volume.root), 0)?;
-    let mut deep = None;
-    while let Some(next) = walk.todo.pop() {
-        let at = next.header as usize;
-        if is_fresh(volume, at, &walk.marks) {
-            walk.marks.insert(at / 16);
-            deep = note(volume, deep, next);
-            follow(volume, next, &mut walk.todo)?;
-        }
-    }
-    Ok(deep)
+    walk.find_deep(volume)
 }

@@ -8,7 +8,7 @@
 //!
 //! A walk that comes to its own number goes round, and ends nowhere. Each header is passed once.
 
-ghost use Rattle.std.specs.Prelude.{◌≡◌, ℕ, List, ◌+◌, ◌*◌, ◌++◌, [], ◌∷◌, ◌<◌, ◌↔◌, ◌^◌, ◌/◌, length, get_or, true, false, IsTrue, IfOk};
+ghost use Rattle.std.specs.Prelude.{◌≡◌, ℕ, List, ◌+◌, ◌*◌, ◌++◌, [], ◌∷◌, ◌<◌, ◌↔◌, ◌^◌, ◌/◌, length, get_or, replicate, true, false, IsTrue, IfOk};
 ghost use Rattle.romfs_format.specs.Fields.{cleared};
 ghost use Rattle.romfs_format.specs.Chains.{IsSomeMember};
 ghost use Rattle.romfs_format.specs.Links.{IsHardLink, IsDirectory, IsTarget, EndsAs};
@@ -119,6 +119,29 @@ fn is_left<A: Allocator>(volume: &Volume, slot: usize, walks: &SlotWords<A>) -> 
     walks.at(slot) == 0 && is_hard_link(volume, slot * 16)
 }
 
+impl<'s, A: Allocator> Ends<'s, A> {
+    // Follows each hard link of the set that no walk has passed.
+    fn follow_all(&mut self, volume: &Volume, targets: &SlotSet<A>) -> Result<(), AllocError>
+        requires targets { AreTargets volume.now.bytes.now targets.now }
+        requires same { self.old.walks.slots ≡ targets.now }
+        requires unpassed { self.old.walks.by_slot ≡ replicate (length targets.now) 0 }
+        requires empty { self.old.ends.items ≡ [] }
+        ensures { IfOk result
+            (λ _. AreWalkedEnds volume.now.bytes.now self.new.walks self.new.ends.items) }
+    {
+        let mut from = 0;
+        while let Some(slot) = targets.next_from(from) {
+            from = slot + 1;
+            if !is_left(volume, slot, &self.walks) {
+                continue;
+            }
+            let end = end_of(volume, slot * 16, &mut self.walks, &self.ends);
+            self.ends.push(end)?;
+        }
+        Ok(())
+    }
+}
+
 /// Follows each hard link that members' hard links lead over to where it ends.
 pub(crate) fn find_ends<'s, A: Allocator + Copy>(
     alloc: A,
@@ -129,15 +152,10 @@ pub(crate) fn find_ends<'s, A: Allocator + Copy>(
     ensures { IfOk result (λ found.
         AreWalkedEnds volume.now.bytes.now found.walks found.ends.items) }
 {
-    let mut walks = SlotWords::new(alloc, targets)?;
-    let mut ends = Vec::new(alloc);
-    let mut from = 0;
-    while let Some(slot) = targets.next_from(from) {
-        if is_left(volume, slot, &walks) {
-            let end = end_of(volume, slot * 16, &mut walks, &ends);
-            ends.push(end)?;
-        }
-        from = slot + 1;
-    }
-    Ok(Ends { walks, ends })
+    let mut found = Ends {
+        walks: SlotWords::new(alloc, targets)?,
+        ends: Vec::new(alloc),
+    };
+    found.follow_all(volume, targets)?;
+    Ok(found)
 }

@@ -95,6 +95,14 @@ module _ {T : Type 0} (f : T → T → T) where
         at = λ n p. rw (at_spread out names n p, at_spread hs s.names n p, at_spread ls r.names n p) (found m r.names s.names n p);
       }
 
+  -- over no lower branches there are the upper ones alone
+  pub no_lows : (ls hs : List (Subtree T)) → ls ≡ [] → IsForest ls → IsForest hs → AreLaid f ls hs hs
+  no_lows ls hs e r s = let m : Merges f ls hs hs = rw e (Highs_left hs) in are_laid m r s
+
+  -- with no upper branches there are the lower ones alone
+  pub no_highs : (ls hs : List (Subtree T)) → hs ≡ [] → IsForest ls → IsForest hs → AreLaid f ls hs ls
+  no_highs ls hs e r s = let m : Merges f ls hs ls = rw e (Lows_left ls) in are_laid m r s
+
   -- a branch over children that are laid is the upper branch laid on the lower one
   pub branch_laid : (low high : Subtree T) (ls hs out : List (Subtree T)) → low.below ≡ spread ls
       → high.below ≡ spread hs → AreLaid f ls hs out
@@ -115,6 +123,23 @@ module _ {T : Type 0} (f : T → T → T) where
 pub record Merging {T : Type 0} (f : T → T → T) (ls0 hs0 ls hs out : List (Subtree T)) : Type 0 where
   pub merged : (more : List (Subtree T)) → Merges f ls hs more → Merges f ls0 hs0 (out ++ more)
   pub smaller : length (spread ls) + length (spread hs) ≤ length (spread ls0) + length (spread hs0)
+
+-- at first all branches are left of both directories
+pub merging_begun : {T : Type 0} (f : T → T → T) (ls hs : List (Subtree T)) → Merging f ls hs ls hs []
+merging_begun f ls hs = record { merged = λ more m. m; smaller = omega arith }
+
+-- a turn that takes a lower branch leaves less
+pub low_less : {X : Type 0} (l : X) (ls ls' hs : List X) → ls ≡ l ∷ ls' → length ls' + length hs < length ls + length hs
+low_less l ls ls' hs e = rw e (omega arith)
+
+-- and one that takes an upper branch
+pub high_less : {X : Type 0} (h : X) (ls hs hs' : List X) → hs ≡ h ∷ hs' → length ls + length hs' < length ls + length hs
+high_less h ls hs hs' e = rw e (omega arith)
+
+-- and one that takes one of both
+pub both_less : {X : Type 0} (l h : X) (ls ls' hs hs' : List X) → ls ≡ l ∷ ls' → hs ≡ h ∷ hs'
+    → length ls' + length hs' < length ls + length hs
+both_less l h ls ls' hs hs' e f = rw (e, f) (omega arith)
 
 -- a branch adds one row to a directory, and those below it
 pub grown : {T : Type 0} (s : Subtree T) (ss : List (Subtree T)) → length (spread (s ∷ ss)) ≡ length s.below + length (spread ss) + 1

@@ -2,6 +2,7 @@ use Rattle.std.proofs.Common.{rules, ◌≡◌, refl, [], false}
 use Rattle.std.proofs.lemmas.List.{nil_from_length}
 use Rattle.layer_tree.proofs.Clashing.{file_alone, unmarked_folder}
 use Rattle.layer_tree.proofs.Meeting.{alone, apart, deeper_measure, meeting_ended}
+use Rattle.layer_tree.proofs.Stepping.{shorter}
 use Rattle.layer_tree.proofs.apart.+meeting.Goals as goal
 
 pub few_are_apart-is_apart-requires : goal.few_are_apart-is_apart-requires
@@ -52,3 +53,12 @@ is_apart-returns g t c e =
       high_file = unmarked_folder g.T.Cuts.removed c.args.high.now c.args.low.now c.children-2.result.now c.children.result.now [] refl
           c.children-2.ensures.below c.children.ensures.below high apart.high_files;
     }
+
+pub few_are_apart-seek-requires : goal.few_are_apart-seek-requires
+few_are_apart-seek-requires g t c = c.loop-one.invariant.rest_names
+
+pub few_are_apart-loop-one-smaller-else-not-is_apart : goal.few_are_apart-loop-one-smaller-else-not-is_apart
+few_are_apart-loop-one-smaller-else-not-is_apart g t c = shorter _ _ _ c.in-Some.ensures.cases.0
+
+pub few_are_apart-loop-one-smaller : goal.few_are_apart-loop-one-smaller
+few_are_apart-loop-one-smaller g t c = shorter _ _ _ c.in-Some.ensures.cases.0

@@ -3,6 +3,7 @@ use Rattle.std.proofs.lemmas.Bool.{eqb-true}
 use Rattle.std.proofs.lemmas.List.{nil_from_length}
 use Rattle.tree_merge.proofs.Rising.{branch_rises}
 use Rattle.layer_tree.proofs.Clashing.{folders, unmarked_folder, nothing_there, no_clash, one_clash, deeper_measure, clashing_ended}
+use Rattle.layer_tree.proofs.Stepping.{shorter}
 use Rattle.layer_tree.proofs.clashes.+clashing.Goals as goal
 
 pub clash_of-returns-then-is_empty : goal.clash_of-returns-then-is_empty
@@ -55,3 +56,15 @@ pub clashes_below-returns : goal.clashes_below-returns
 clashes_below-returns g t c =
     let ended = nil_from_length c.loop-file.left.now (search rules) in
     clashing_ended _ _ _ _ _ _ c.loop-file.invariant ended c.requires.files.names c.requires.others.names
+
+pub clashes_below-seek-requires : goal.clashes_below-seek-requires
+clashes_below-seek-requires g t c = c.loop-file.invariant.rest_names
+
+pub clashes_below-loop-file-smaller-in_ok-push : goal.clashes_below-loop-file-smaller-in_ok-push
+clashes_below-loop-file-smaller-in_ok-push g t c = shorter _ _ _ c.in-Some.ensures.cases.0
+
+pub clashes_below-loop-file-smaller-in_default-2 : goal.clashes_below-loop-file-smaller-in_default-2
+clashes_below-loop-file-smaller-in_default-2 g t c = shorter _ _ _ c.in-Some.ensures.cases.0
+
+pub clashes_below-loop-file-smaller : goal.clashes_below-loop-file-smaller
+clashes_below-loop-file-smaller g t c = shorter _ _ _ c.in-Some.ensures.cases.0

@@ -1,9 +1,9 @@
 use Rattle.std.proofs.Common.{rules, ◌≡◌, sym, refl, None}
-use Rattle.std.proofs.lemmas.List.{append-nil}
+use Rattle.std.proofs.lemmas.List.{append-nil, nil_from_length}
 use Rattle.path_tree.specs.Rows.{spread}
 use Rattle.tree_merge.proofs.Merging.{shown, some_shown, nothing_shown}
-use Rattle.layer_tree.proofs.Stepping.{keeping_begun, keeping_ended, untouched, kept_or_not, mark_measure, all_cut, alone, inside, kept_first, with_children}
-use Rattle.layer_tree.proofs.Picking.{picking_begun, one_more, next_measure, in_gap, cut_at, at_place_if}
+use Rattle.layer_tree.proofs.Stepping.{keeping_begun, keeping_ended, untouched, kept_or_not, mark_measure, shorter, some_first, all_cut, alone, inside, kept_first, with_children}
+use Rattle.layer_tree.proofs.Picking.{picking_begun, picking_ended, one_more, next_measure, in_gap, cut_at, at_place_if}
 use Rattle.layer_tree.proofs.laying.+keeping.Goals as goal
 
 pub kept_below-loop-low-init : goal.kept_below-loop-low-init
@@ -104,3 +104,39 @@ pub keep_inside-returns : goal.keep_inside-returns
 keep_inside-returns g t c =
     rw (c.set_children.ensures, c.take_children-children.ensures.left)
     (with_children c.args.low.now c.args.mark.now _ _ c.take_children-children.ensures.below c.in_ok-left.ensures)
+
+pub kept_below-seek-requires : goal.kept_below-seek-requires
+kept_below-seek-requires g t c = c.loop-low.invariant.rest_names
+
+pub kept_below-pass_first-requires : goal.kept_below-pass_first-requires
+kept_below-pass_first-requires g t c = some_shown c.loop-low.lows.items c.in-Some.low c.in-Some.ensures.item
+
+pub kept_below-loop-low-smaller : goal.kept_below-loop-low-smaller
+kept_below-loop-low-smaller g t c =
+    shorter _ _ _ c.in_ok-keep_first-in-Some-found.ensures.first
+
+pub kept_below-loop-low-smaller-in-Continue-branch-2 : goal.kept_below-loop-low-smaller-in-Continue-branch-2
+kept_below-loop-low-smaller-in-Continue-branch-2 g t c =
+    shorter _ _ _ c.in_ok-pass_first-in-None.ensures.left
+
+pub keep_first-drop_first-requires : goal.keep_first-drop_first-requires
+keep_first-drop_first-requires g t c = c.requires
+
+pub keep_first-take_children-children-requires : goal.keep_first-take_children-children-requires
+keep_first-take_children-children-requires g t c = c.requires
+
+pub keep_first-pass_with-requires : goal.keep_first-pass_with-requires
+keep_first-pass_with-requires g t c = record {
+  some = some_first _ _ _ c.take_children-children.ensures.left;
+  forest = c.in_ok-left.ensures.forest;
+}
+
+pub kept_by_few-returns : goal.kept_by_few-returns
+kept_by_few-returns g t c =
+    picking_ended _ _ _ _ (nil_from_length c.loop-mark.left.now (search rules)) c.loop-mark.invariant
+
+pub keep_by_one-place-requires : goal.keep_by_one-place-requires
+keep_by_one-place-requires g t c = rw c.deref.ensures.value c.requires.names
+
+pub keep_inside-set_children-requires : goal.keep_inside-set_children-requires
+keep_inside-set_children-requires g t c = c.in_ok-left.ensures.forest

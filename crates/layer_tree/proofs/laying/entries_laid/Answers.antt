@@ -1,20 +1,25 @@
 use Rattle.std.proofs.Common.{refl}
 use Rattle.layer_tree.proofs.laying.entries_laid.Goals as goal
 
-pub kept_inside-requires : goal.kept_inside-requires
-kept_inside-requires g c = c.requires.marks
+pub clashes_both_ways-requires : goal.clashes_both_ways-requires
+clashes_both_ways-requires g c = record { low = c.requires.low; high = c.requires.high }
 
-pub kept_inside-requires-2 : goal.kept_inside-requires-2
-kept_inside-requires-2 g c = c.requires.hidden
+pub same-low : goal.same-low
+same-low g c = refl
 
 pub same-high : goal.same-high
 same-high g c = refl
 
+pub same-replaced : goal.same-replaced
+same-replaced g c = refl
+
+pub entries_covered-requires : goal.entries_covered-requires
+entries_covered-requires g c = record { marks = c.requires.marks; hidden = c.in_ok-hidden.ensures.hidden.uncut }
+
 pub returns : goal.returns
 returns g c = record {
-  unmarked = c.in_ok-unmarked.unmarked;
-  kept = c.in_ok-kept.kept;
-  unmarked_is = c.in_ok-unmarked.ensures;
-  kept_is = c.in_ok-kept.ensures;
-  covered = c.in_ok-entries.ensures;
+  hidden = c.in_ok-hidden.hidden;
+  hidden_is = c.in_ok-hidden.ensures.hidden;
+  replaced_is = c.in_ok-hidden.ensures.replaced;
+  covers = c.in_ok-entries.ensures;
 }

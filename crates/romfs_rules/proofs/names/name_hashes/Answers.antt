@@ -1,3 +1,4 @@
+use borrow.Author.Count.{falls}
 use Rattle.std.proofs.Common.{◌≡◌, ◌∙◌, sym, ap, ℕ, List, Some}
 use Rattle.equal_keys.specs.Names.{name_hash}
 use Rattle.romfs_rules.specs.Names.{kept_names}
@@ -14,3 +15,6 @@ loop-at-preserved g c =
       | in-None w ↦ absurd (some_none q (sym e ∙ sym w.in-None.ensures))
     ] in
     one_hash name i c.match-kept_name.hash c.loop-at.hashes.items c.push.new.self.items own c.in_ok-push.ensures.items c.loop-at.invariant
+
+pub loop-at-smaller : goal.loop-at-smaller
+loop-at-smaller g c = falls _ _ c.loop-at-test.true

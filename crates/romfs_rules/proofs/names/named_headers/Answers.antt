@@ -1,3 +1,4 @@
+use borrow.Author.Count.{falls}
 use Rattle.std.proofs.Common.{◌<◌, ◌∙◌, sym, refl, length, arith}
 use Rattle.equal_keys.proofs.Keyed.{none_some, one_named, one_without, all_held}
 use Rattle.romfs_rules.specs.Names.{kept_names}
@@ -30,3 +31,9 @@ pub returns : goal.returns
 returns g c =
     all_held (kept_names c.args.volume.now.bytes.now c.args.heads.now) (length c.args.heads.now) c.loop-number.number
     c.loop-number.named.items (omega arith) c.loop-number.invariant
+
+pub loop-number-smaller-then-once-number : goal.loop-number-smaller-then-once-number
+loop-number-smaller-then-once-number g c = falls _ _ c.loop-number-test.true
+
+pub loop-number-smaller : goal.loop-number-smaller
+loop-number-smaller g c = falls _ _ c.loop-number-test.true

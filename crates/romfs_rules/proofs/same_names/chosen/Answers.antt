@@ -1,3 +1,4 @@
+use borrow.Author.Count.{falls}
 use Rattle.romfs_rules.proofs.HeadNumbers.{chooses_plain, chooses_noted}
 use Rattle.romfs_rules.proofs.same_names.chosen.Goals as goal
 use Rattle.romfs_rules.proofs.same_names.chosen.Goals.{then-noted-number+in_ok-push, else-noted-number}
@@ -12,3 +13,6 @@ loop-number-preserved g c =
       | else-noted-number w ↦ rw w.found-is (chooses_plain _ _ at _ c.loop-number-test.true c.requires.rising c.loop-number.invariant
           w.if-noted-number.false)
     ]
+
+pub loop-number-smaller : goal.loop-number-smaller
+loop-number-smaller g c = falls _ _ c.loop-number-test.true

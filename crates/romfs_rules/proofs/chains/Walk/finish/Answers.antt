@@ -1,11 +1,11 @@
 use Rattle.std.proofs.Common.{refl, subst}
 use Rattle.romfs_rules.proofs.Lists.{none_left}
 use Rattle.romfs_rules.proofs.Closure.{Walked, begun, all_marked, step_stale, less_stale, step_fresh, less_fresh}
-use Rattle.romfs_rules.proofs.chains.mark_elsewhere.Goals as goal
+use Rattle.romfs_rules.proofs.chains.Walk.finish.Goals as goal
 
 pub loop-word-init : goal.loop-word-init
 loop-word-init g c =
-    begun c.args.volume.now.bytes.now c.in_ok-seeds.field-0.items c.in_ok-new.field-0 c.in_ok-seeds.ensures c.in_ok-new.ensures
+    begun c.args.volume.now.bytes.now c.args.self.now.todo.items c.args.self.now.marks c.requires.starts c.requires.unmarked
 
 pub loop-word-preserved-then-not-is_fresh : goal.loop-word-preserved-then-not-is_fresh
 loop-word-preserved-then-not-is_fresh g c =
@@ -26,6 +26,7 @@ loop-word-smaller g c =
 
 pub returns : goal.returns
 returns g c =
-    all_marked c.args.volume.now.bytes.now c.loop-word.walk.marks (subst (λ x. Walked c.args.volume.now.bytes.now x c.loop-word.walk.marks)
-    (none_left c.loop-word.walk.todo.items c.pop.new.self.items _ c.in_default.ensures.items
+    all_marked c.args.volume.now.bytes.now c.loop-word.self.marks
+    (subst (λ x. Walked c.args.volume.now.bytes.now x c.loop-word.self.marks)
+    (none_left c.loop-word.self.todo.items c.pop.new.self.items _ c.in_default.ensures.items
     c.in_default.ensures.rest c.in_default.ensures.cases.0) c.loop-word.invariant)

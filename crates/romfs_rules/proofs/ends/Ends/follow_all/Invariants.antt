@@ -1,13 +1,13 @@
 use Rattle.std.proofs.Common.{◌≡◌, ◌-◌, ◌≤◌, length}
 use Rattle.romfs_rules.proofs.EndWalk.{Found}
-use Rattle.romfs_rules.proofs.ends.find_ends.Given as goal
+use Rattle.romfs_rules.proofs.ends.Ends.follow_all.Given as goal
 
 -- the walks of all slots before the next one are found, by the set of targets
 abbrev pub invariant-loop-slot : goal.invariant-loop-slot
 invariant-loop-slot g l = record {
   low : l.from ≤ length l.targets;
-  same : l.walks.slots ≡ l.targets;
-  found : Found l.volume.bytes.now l.walks.by_slot l.ends.items l.from;
+  same : l.self.walks.slots ≡ l.targets;
+  found : Found l.volume.bytes.now l.self.walks.by_slot l.self.ends.items l.from;
 }
 
 -- how many slots are left
