@@ -2,17 +2,22 @@
 //!
 //! A LOOKUP follows numbers through a table that is larger than the processor's caches: from the
 //! directory to a guess, to the row, to the node and to its balance. One after another each of
-//! these reads would be waited for, request by request. Here the guesses of all LOOKUPs of a round
-//! are read first, then the rows that these point to, and then the nodes and balances of these
-//! rows. None of these reads waits for that of another request, so they overlap.
+//! these reads would be waited for, request by request. Here the names of all LOOKUPs of a round
+//! are hashed first; then their guesses are read, then the rows that these point to, and then the
+//! nodes and balances of these rows, each in a loop that does little else. None of these reads
+//! waits for that of another request, so they overlap: as many of them as a processor has begun
+//! before it needs the first.
 //!
 //! No answer follows from what is read here: the answer to a LOOKUP is given the place that was
 //! guessed for it, and looks whether the row there has the name. It takes a few steps for each
 //! message of the round, as long as every fourth is a LOOKUP, and no memory.
 
+ghost use Rattle.std.specs.Prelude.{◌≤◌};
+ghost use Rattle.fuse_wire.specs.declared.limits.TheConstants.{MAX_ROUND_MESSAGES};
+
 use fuse_wire::limits::MAX_ROUND_MESSAGES;
 use fuse_wire::{Framed, frame, glance};
-use stack_table::Table;
+use stack_table::{Row, Table, hashed};
 use std::alloc::Allocator;
 
 /// What was read ahead.
@@ -46,11 +51,28 @@ impl LookupsAhead {
     /// Reads what the answers to the LOOKUPs at the front of a stream will read.
     #[inline(never)]
     pub fn read<A: Allocator>(&mut self, table: &Table<A>, stream: &[u8], balances: &[i128]) {
-        let seen = self.guess_all(table, stream);
-        let mut numbers = [0; MAX_ROUND_MESSAGES];
-        let rows = self.read_rows(table, seen, &mut numbers);
-        for number in numbers.iter().take(rows) {
-            self.sum ^= read_node(table, *number, balances).unwrap_or(0);
+        let mut words = [0; MAX_ROUND_MESSAGES];
+        let seen = hash_all(stream, &mut words);
+        let hashes = &words[..seen];
+        self.sum ^= u64::from(table.read_guesses(hashes));
+        self.guess_all(table, hashes);
+        let rows = self.read_rows(table, seen, &mut words);
+        let mut sum = 0;
+        for number in words.iter().take(rows) {
+            sum ^= read_node(table, *number, balances).unwrap_or(0);
+        }
+        self.sum ^= sum;
+    }
+
+    // Guesses where the rows of the LOOKUPs with these hashes stand; a hash of 0 is of none.
+    fn guess_all<A: Allocator>(&mut self, table: &Table<A>, hashes: &[u64]) {
+        for (place, hash) in self.places.iter_mut().zip(hashes) {
+            if *hash != 0 {
+                *place = match table.guess(*hash) {
+                    Some(guessed) => noted(guessed),
+                    None => 0,
+                };
+            }
         }
     }
 
@@ -63,38 +85,52 @@ impl LookupsAhead {
         numbers: &mut [u64],
     ) -> usize {
         let mut rows = 0usize;
+        let mut sum = 0;
         for noted in self.places.iter().take(seen) {
             match place_noted(*noted).and_then(|place| table.guessed(place)) {
                 Some(row) if rows < numbers.len() => {
                     numbers[rows] = row.number;
                     rows += 1;
-                    self.sum ^= u64::from(*row.name().last().unwrap_or(&0));
+                    sum ^= end_of(row);
                 }
                 _ => {}
             }
         }
+        self.sum ^= u64::from(sum);
         rows
     }
+}
 
-    // Guesses where the rows of these LOOKUPs stand, and says how many messages it looked at.
-    fn guess_all<A: Allocator>(&mut self, table: &Table<A>, stream: &[u8]) -> usize {
-        let mut rest = stream;
-        let mut guessed = 0usize;
-        for message in 0..MAX_ROUND_MESSAGES {
-            let Framed::Whole(len) = frame(rest) else {
-                return message;
-            };
-            match guess(table, &rest[..len]) {
-                Some(place) if place < u32::MAX as usize => {
-                    self.places[message] = place as u32 + 1;
-                    guessed = guessed.wrapping_add(1);
-                }
-                _ if guessed < message / 4 => return message,
-                _ => {}
+// The hashes of the LOOKUPs at the front of a stream, each at its message's place, and how many
+// messages were looked at.
+fn hash_all(stream: &[u8], hashes: &mut [u64; MAX_ROUND_MESSAGES]) -> usize
+    ensures { result ≤ MAX_ROUND_MESSAGES }
+{
+    let mut rest = stream;
+    let mut lookups = 0usize;
+    for message in 0..MAX_ROUND_MESSAGES {
+        let Framed::Whole(len) = frame(rest) else {
+            return message;
+        };
+        match glance(&rest[..len]) {
+            Some((node, name)) => {
+                hashes[message] = hashed(node, name);
+                lookups = lookups.wrapping_add(1);
             }
-            rest = &rest[len..];
+            None if lookups < message / 4 => return message,
+            None => {}
         }
-        MAX_ROUND_MESSAGES
+        rest = &rest[len..];
+    }
+    MAX_ROUND_MESSAGES
+}
+
+// The number that tells a place.
+fn noted(place: usize) -> u32 {
+    if place < u32::MAX as usize {
+        place as u32 + 1
+    } else {
+        0
     }
 }
 
@@ -107,10 +143,13 @@ fn place_noted(noted: u32) -> Option<usize> {
     }
 }
 
-// Where the row may stand that the answer to a message reads, if it is a LOOKUP.
-fn guess<A: Allocator>(table: &Table<A>, message: &[u8]) -> Option<usize> {
-    let (node, name) = glance(message)?;
-    table.guess(node, name)
+// The last byte of a row, or of a long name that stands beside it. That of the row does not wait
+// for the name's length.
+fn end_of<A: Allocator>(row: &Row<A>) -> u8 {
+    match row.padded_name() {
+        Some(name) => name[21],
+        None => *row.name().last().unwrap_or(&0),
+    }
 }
 
 // Reads a node and its balance.

@@ -85,6 +85,10 @@ one_first stream n b =
       size = sym (ap length (append-nil (take n stream)) ∙ ap length t ∙ b.sized);
     }
 
+-- and has the length that is said
+pub as_long : (stream : List ℕ) (n : ℕ) → BeginsMessage stream n → n ≡ length (take n stream)
+as_long stream n b = sym (ap length (ap (take n) b.is ∙ take_at b.message b.after n b.sized) ∙ b.sized)
+
 module _ (by : Answering) (s : Session) where
   -- no messages are answered with no bytes, and leave the session and the balances
   pub none_answered : (b : List ℤ) → AreAnswered by s [] s [] (record { old = b; new = b })

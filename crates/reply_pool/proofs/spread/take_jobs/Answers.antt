@@ -1,8 +1,10 @@
-use Rattle.std.proofs.Common.{◌∙◌, [], ◌∷◌, ap, arith, inl, inr, length, length-append, refl, subst}
+use Rattle.std.proofs.Common.{◌∙◌, [], ◌∷◌, ap, append-nil, arith, inl, inr, length, length-append, refl, subst}
 use Rattle.std.proofs.lemmas.List.{take_rest}
+use Rattle.std.proofs.lemmas.Result.{IfOk-from_err}
 use Rattle.fuse_wire.specs.Requests.{Asked}
 use Rattle.fuse_wire.specs.Stream.{IsRest}
 use Rattle.reply_model.specs.Sessions.{session_after}
+use Rattle.serve_loop.proofs.Walking.{first_within, one_first}
 use Rattle.reply_pieces.specs.Jobs.{Job}
 use Rattle.reply_pieces.proofs.Spreading.{none_taken, one_taken}
 use Rattle.reply_pool.proofs.spread.take_jobs.Goals as goal
@@ -53,3 +55,57 @@ returns-clause-jobs g c = c.loop-round.invariant.first
 
 pub returns-clause-few : goal.returns-clause-few
 returns-clause-few g c = omega arith
+
+pub slice_bounds-rest-count : goal.slice_bounds-rest-count
+slice_bounds-rest-count g c =
+    let first = c.loop-round.invariant.first in
+    let used = first_within c.args.stream.now first.messages c.loop-round.round.used first.first in
+    omega arith
+
+pub slice_bounds-rest-start : goal.slice_bounds-rest-start
+slice_bounds-rest-start g c =
+    let first = c.loop-round.invariant.first in
+    let used = first_within c.args.stream.now first.messages c.loop-round.round.used first.first in
+    omega arith
+
+pub slice_bounds-rest-end : goal.slice_bounds-rest-end
+slice_bounds-rest-end g c =
+    let first = c.loop-round.invariant.first in
+    let used = first_within c.args.stream.now first.messages c.loop-round.round.used first.first in
+    omega arith
+
+pub slice_bounds-read-end : goal.slice_bounds-read-end
+slice_bounds-read-end g c = (one_first _ c.in-Whole.len c.in-Whole.ensures).size ∙ ap length (append-nil _)
+
+pub read-request-requires : goal.read-request-requires
+read-request-requires g c = (one_first _ c.in-Whole.len c.in-Whole.ensures).each.0.good
+
+pub overflow_add-round : goal.overflow_add-round
+overflow_add-round g c =
+    let first = c.loop-round.invariant.first in
+    let used = first_within c.args.stream.now first.messages c.loop-round.round.used first.first in
+    let good = c.in-Whole.ensures.whole.good in
+    let sized = c.in-Whole.ensures.sized in
+    let short = c.requires.short in
+    omega arith
+
+pub returns-in_err-jobs-clause-jobs : goal.returns-in_err-jobs-clause-jobs
+returns-in_err-jobs-clause-jobs g c = IfOk-from_err c.from_residual.result _ c.from_residual.ensures.0
+
+pub returns-in_err-jobs-clause-few : goal.returns-in_err-jobs-clause-few
+returns-in_err-jobs-clause-few g c = IfOk-from_err c.from_residual.result _ c.from_residual.ensures.0
+
+pub returns-in_err-jobs-clause-some : goal.returns-in_err-jobs-clause-some
+returns-in_err-jobs-clause-some g c = IfOk-from_err c.from_residual.result _ c.from_residual.ensures.0
+
+pub returns-in_err-push-in-Whole-clause-jobs : goal.returns-in_err-push-in-Whole-clause-jobs
+returns-in_err-push-in-Whole-clause-jobs g c =
+    IfOk-from_err c.from_residual-in_err-push-in-Whole.result _ c.from_residual-in_err-push-in-Whole.ensures.0
+
+pub returns-in_err-push-in-Whole-clause-few : goal.returns-in_err-push-in-Whole-clause-few
+returns-in_err-push-in-Whole-clause-few g c =
+    IfOk-from_err c.from_residual-in_err-push-in-Whole.result _ c.from_residual-in_err-push-in-Whole.ensures.0
+
+pub returns-in_err-push-in-Whole-clause-some : goal.returns-in_err-push-in-Whole-clause-some
+returns-in_err-push-in-Whole-clause-some g c =
+    IfOk-from_err c.from_residual-in_err-push-in-Whole.result _ c.from_residual-in_err-push-in-Whole.ensures.0

@@ -3,6 +3,7 @@ use mathlib.Core.Logic.{dite}
 use native.Mathlib.Decide.{ℕ_discrete}
 use Rattle.std.specs.List.{All}
 use Rattle.std.proofs.lemmas.List.Elements.{All-nil, All-push}
+use Rattle.std.proofs.lemmas.Result.{IfOk-from_err}
 use Rattle.draw_board.specs.declared.board.Board.{Board}
 use Rattle.draw_board.specs.declared.hand.Hand.{Hand}
 use Rattle.draw_board.specs.Hands.{KeepsShare, left, positions, seen_below, total_of}
@@ -112,3 +113,21 @@ returns-clause-pieces g c =
       answered = inv.answered;
       every = every;
     })
+
+pub draw-requires : goal.draw-requires
+draw-requires g c = c.loop-number.invariant.share.0
+
+pub returns-in_err-bytes-clause-pieces : goal.returns-in_err-bytes-clause-pieces
+returns-in_err-bytes-clause-pieces g c = IfOk-from_err c.from_residual.result _ c.from_residual.ensures.0
+
+pub returns-in_err-bytes-clause-light : goal.returns-in_err-bytes-clause-light
+returns-in_err-bytes-clause-light g c = IfOk-from_err c.from_residual.result _ c.from_residual.ensures.0
+
+pub returns-in_err-push-clause-pieces : goal.returns-in_err-push-clause-pieces
+returns-in_err-push-clause-pieces g c = IfOk-from_err c.from_residual-in_err-push.result _ c.from_residual-in_err-push.ensures.0
+
+pub returns-in_err-push-clause-light : goal.returns-in_err-push-clause-light
+returns-in_err-push-clause-light g c = IfOk-from_err c.from_residual-in_err-push.result _ c.from_residual-in_err-push.ensures.0
+
+pub returns-clause-light : goal.returns-clause-light
+returns-clause-light g c = c.loop-number.invariant.light

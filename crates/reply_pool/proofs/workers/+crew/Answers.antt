@@ -1,3 +1,4 @@
+use Rattle.std.proofs.Common.{arith}
 use Rattle.std.proofs.lemmas.Result.{IfOk-weaker}
 use Rattle.reply_pieces.proofs.Hands.{both_all, fresh_all, light_both}
 use Rattle.reply_pool.proofs.workers.+crew.Goals as goal
@@ -18,3 +19,27 @@ returns-then-workers-le1-clause-pieces g t c =
     IfOk-weaker c.work-pieces.result _ _
     (λ pieces worked. fresh_all c.args.table.now c.args.jobs.now c.args.size c.args.board.now c.args.hand c.work-pieces.new.hand
     pieces.items c.requires.fresh worked) c.work-pieces.ensures.pieces
+
+pub work-pieces-requires-clause-few : goal.work-pieces-requires-clause-few
+work-pieces-requires-clause-few g t c κs within = c.requires.few
+
+pub work-pieces-requires-clause-size : goal.work-pieces-requires-clause-size
+work-pieces-requires-clause-size g t c κs within = c.requires.sized
+
+pub work-pieces-requires-clause-total : goal.work-pieces-requires-clause-total
+work-pieces-requires-clause-total g t c κs within = c.requires.total
+
+pub work-pieces-requires-clause-hand : goal.work-pieces-requires-clause-hand
+work-pieces-requires-clause-hand g t c κs within = c.requires.of_board
+
+pub returns-then-workers-le1-clause-light : goal.returns-then-workers-le1-clause-light
+returns-then-workers-le1-clause-light g t c = c.work-pieces.ensures.light
+
+pub overflow_sub-high : goal.overflow_sub-high
+overflow_sub-high g t c = omega arith
+
+pub split-requires : goal.split-requires
+split-requires g t c = c.requires.of_board
+
+pub rejoin-requires : goal.rejoin-requires
+rejoin-requires g t c = (c.join-mine.ensures.first.0.0, c.join-mine.ensures.second.0.0)

@@ -1,6 +1,6 @@
-use Rattle.std.proofs.Common.{◌++◌, append-nil, sym, []}
+use Rattle.std.proofs.Common.{◌++◌, ◌∙◌, append-nil, ap, arith, length, length-append, sym, []}
 use Rattle.std.proofs.lemmas.List.{take_rest}
-use Rattle.serve_loop.proofs.Walking.{appended, nothing_so_far, one_more, so_far_within}
+use Rattle.serve_loop.proofs.Walking.{appended, as_long, first_within, nothing_so_far, one_first, one_more, so_far_within}
 use Rattle.serve_loop.proofs.one_thread.walk.Goals as goal
 
 pub loop-round-init : goal.loop-round-init
@@ -28,3 +28,55 @@ loop-round-preserved g c =
           c.args.balances.now c.loop-round.balances c.answer.new.balances _ c.in-Whole.len
           c.in_ok-round-in-Whole.field-0 f (take_rest stream c.loop-round.round.used) c.in-Whole.ensures x,
     )
+
+pub overflow_sub-len : goal.overflow_sub-len
+overflow_sub-len g c =
+    let (put, e, f) = c.loop-round.invariant in
+    let l = ap length e in
+    let a = length-append c.args.replies.now.items put in
+    omega arith
+
+pub slice_bounds-rest-count : goal.slice_bounds-rest-count
+slice_bounds-rest-count g c =
+    let (put, e, f) = c.loop-round.invariant in
+    let used = first_within c.args.stream.now f.messages c.loop-round.round.used f.first in
+    omega arith
+
+pub slice_bounds-rest-start : goal.slice_bounds-rest-start
+slice_bounds-rest-start g c =
+    let (put, e, f) = c.loop-round.invariant in
+    let used = first_within c.args.stream.now f.messages c.loop-round.round.used f.first in
+    omega arith
+
+pub slice_bounds-rest-end : goal.slice_bounds-rest-end
+slice_bounds-rest-end g c =
+    let (put, e, f) = c.loop-round.invariant in
+    let used = first_within c.args.stream.now f.messages c.loop-round.round.used f.first in
+    omega arith
+
+pub overflow_cast-round : goal.overflow_cast-round
+overflow_cast-round g c = omega arith
+
+pub slice_bounds-answer-end : goal.slice_bounds-answer-end
+slice_bounds-answer-end g c = as_long _ c.in-Whole.len c.in-Whole.ensures
+
+pub answer-requires-clause-message : goal.answer-requires-clause-message
+answer-requires-clause-message g c = (one_first _ c.in-Whole.len c.in-Whole.ensures).each.0
+
+pub answer-requires-clause-nodes : goal.answer-requires-clause-nodes
+answer-requires-clause-nodes g c = c.loop-round.auto.balances ∙ c.requires.nodes
+
+pub overflow_add-round : goal.overflow_add-round
+overflow_add-round g c =
+    let (put, e, f) = c.loop-round.invariant in
+    let used = first_within c.args.stream.now f.messages c.loop-round.round.used f.first in
+    let good = c.in-Whole.ensures.whole.good in
+    let sized = c.in-Whole.ensures.sized in
+    let short = c.requires.short in
+    omega arith
+
+pub overflow_add-round-in-Whole : goal.overflow_add-round-in-Whole
+overflow_add-round-in-Whole g c = omega arith
+
+pub loop-round-smaller : goal.loop-round-smaller
+loop-round-smaller g c = omega arith

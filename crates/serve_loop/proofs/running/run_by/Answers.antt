@@ -1,4 +1,4 @@
-use Rattle.std.proofs.Common.{◌≡◌, ◌∙◌, ap, subst, sym, [], arith}
+use Rattle.std.proofs.Common.{◌≡◌, ◌∙◌, ap, refl, subst, sym, [], arith}
 use Rattle.devices.specs.States.{devices}
 use Rattle.fuse_wire.specs.Stream.{IsBad, IsOpen, IsRest}
 use Rattle.serve_loop.specs.Buffers.{held_in}
@@ -93,3 +93,69 @@ pub returns-clause-run : goal.returns-clause-run
 returns-clause-run g c =
     let last : c.loop-turn._turn ≡ c.args.turns = omega (arith, c.loop-turn-test.false, c.loop-turn.auto._turn-end) in
     over_for_turns _ _ _ _ _ _ _ c.loop-turn.invariant.0 last
+
+pub returns-then-turns-eq0-clause-end : goal.returns-then-turns-eq0-clause-end
+returns-then-turns-eq0-clause-end g c = tt
+
+pub returns-then-turns-eq0-clause-at_once : goal.returns-then-turns-eq0-clause-at_once
+returns-then-turns-eq0-clause-at_once g c = λ _. refl
+
+pub returns-in_err-progress-clause-at_once : goal.returns-in_err-progress-clause-at_once
+returns-in_err-progress-clause-at_once g c = λ none. absurd (c.if-turns-eq0.false none)
+
+pub make_room-requires : goal.make_room-requires
+make_room-requires g c = c.loop-turn.invariant.1.range
+
+pub returns-in_err-make_room-clause-at_once : goal.returns-in_err-make_room-clause-at_once
+returns-in_err-make_room-clause-at_once g c = λ none. absurd (c.if-turns-eq0.false none)
+
+pub pull-requires-clause-range : goal.pull-requires-clause-range
+pull-requires-clause-range g c = c.in_ok-make_room.ensures.range
+
+pub pull-requires-clause-room : goal.pull-requires-clause-room
+pull-requires-clause-room g c = c.in_ok-make_room.ensures.room
+
+pub returns-in-Err-clause-end : goal.returns-in-Err-clause-end
+returns-in-Err-clause-end g c = tt
+
+pub returns-in-Err-clause-at_once : goal.returns-in-Err-clause-at_once
+returns-in-Err-clause-at_once g c = λ none. absurd (c.if-turns-eq0.false none)
+
+pub rest-requires : goal.rest-requires
+rest-requires g c = c.pull.ensures.range
+
+pub returns-then-is_empty-clause-end : goal.returns-then-is_empty-clause-end
+returns-then-is_empty-clause-end g c = c.in-Ok.ensures.end c.if-got-eq0.true
+
+pub returns-then-is_empty-clause-at_once : goal.returns-then-is_empty-clause-at_once
+returns-then-is_empty-clause-at_once g c = λ none. absurd (c.if-turns-eq0.false none)
+
+pub returns-then-got-eq0-clause-end : goal.returns-then-got-eq0-clause-end
+returns-then-got-eq0-clause-end g c = tt
+
+pub returns-then-got-eq0-clause-at_once : goal.returns-then-got-eq0-clause-at_once
+returns-then-got-eq0-clause-at_once g c = λ none. absurd (c.if-turns-eq0.false none)
+
+pub answer_all-requires-clause-ready : goal.answer_all-requires-clause-ready
+answer_all-requires-clause-ready g c κs within = c.requires.ready
+
+pub returns-in-Err-answer_all-clause-end : goal.returns-in-Err-answer_all-clause-end
+returns-in-Err-answer_all-clause-end g c = tt
+
+pub returns-in-Err-answer_all-clause-at_once : goal.returns-in-Err-answer_all-clause-at_once
+returns-in-Err-answer_all-clause-at_once g c = λ none. absurd (c.if-turns-eq0.false none)
+
+pub rest-requires-in-loop-turn : goal.rest-requires-in-loop-turn
+rest-requires-in-loop-turn g c = c.in-Ok-answer_all.ensures.in_order.range
+
+pub returns-in-Some-clause-end : goal.returns-in-Some-clause-end
+returns-in-Some-clause-end g c = tt
+
+pub returns-in-Some-clause-at_once : goal.returns-in-Some-clause-at_once
+returns-in-Some-clause-at_once g c = λ none. absurd (c.if-turns-eq0.false none)
+
+pub returns-clause-end : goal.returns-clause-end
+returns-clause-end g c = tt
+
+pub returns-clause-at_once : goal.returns-clause-at_once
+returns-clause-at_once g c = λ none. absurd (c.if-turns-eq0.false none)
