@@ -1,6 +1,6 @@
--- What an argument or a command that is added makes of a command: `added_rule`, `added_command`
--- and `added_made` say it of the app that the command builds, by which the whole program is then known.
-use Rattle.std.proofs.Common.{◌≡◌, ◌∙◌, true, false, ap, ap₂, Result, Ok, Err, IfOk, IsOkAnd}
+-- What an argument or a command that is added makes of a command: `added_rule` and `added_command`
+-- say it of the app that the command builds, by which the whole program is then known.
+use Rattle.std.proofs.Common.{◌≡◌, ◌∙◌, true, false, ap, ap₂}
 use Rattle.clap.specs.Built.{AddsArg, AddsSubcommand}
 use Rattle.clap.specs.Simple.{App, app_of, with_rule, with_subcommand}
 use Rattle.clap.specs.Walk.{Rule, rule_of}
@@ -21,10 +21,3 @@ pub added_command : (old sub new : Command) (a s : App) → AddsSubcommand old s
 added_command old sub new a s added old_is sub_is plain =
     let local = plain_fields sub (ap (λ (x : App). x.top.is_plain) sub_is ∙ plain) in
     added.shape local.globals ∙ ap₂ with_subcommand old_is (ap (λ (x : App). x.top) sub_is)
-
--- a command that there was memory for, as `added_command` has it
-pub added_made : {E : Type 0} (old : Command) (made : Result Command E) (new : Command) (a s : App)
-    → IsOkAnd made (λ sub. AddsSubcommand old sub new) → IfOk made (λ sub. app_of sub ≡ s) → app_of old ≡ a → s.top.is_plain ≡ true
-    → app_of new ≡ with_subcommand a s.top
-added_made old (Ok sub) new a s added sub_is old_is plain = added_command old sub new a s added old_is sub_is plain
-added_made old (Err e) new a s added sub_is old_is plain = absurd added

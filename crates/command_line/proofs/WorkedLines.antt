@@ -1,12 +1,13 @@
--- The worked command lines, by computation. A line is read off the command that its words name and
--- the rows of it (`reads`), and the numbers of a line are tested by a function that computes
--- (`is_numbered`).
-use Rattle.std.proofs.Common.{◌≡◌, ◌∙◌, ◌&&◌, ℕ, Bool, refl, sym, subst, codes, true, false, true≢false, nat_lt, nat_le, length, unwrap_or, option_map, List, [], ◌∷◌, Option, Some, None, IfSome}
+-- The worked command lines, by computation. What words come to is one value (`told`), so that each
+-- example computes once: what is wrong with them, the command that they name, and what is seen of its
+-- rows. The numbers of a line are tested by a function that computes (`is_numbered`).
+use Rattle.std.proofs.Common.{◌≡◌, ◌∙◌, ◌&&◌, ℕ, Bool, refl, ap, sym, subst, codes, true, false, true≢false, nat_lt, nat_le, length, unwrap_or, option_map, List, [], ◌∷◌, Option, Some, None, IfSome}
 use Rattle.std.specs.Char.{digit_value}
 use Rattle.std.specs.Str.Parse.{AllDigits, digits_value}
 use Rattle.std.proofs.lemmas.Bool.{le-leb, leb-true, lt-ltb, ltb-true}
 use Rattle.work_gate.specs.declared.limits.TheConstants.{MAX_BATCH, MAX_WORKERS}
 use Rattle.command_line.specs.declared.options.TheConstants.{MAX_SESSIONS}
+use Rattle.clap.specs.Kinds.{Kinds}
 use Rattle.clap.specs.Walk.{Row, Text, first_of}
 use Rattle.clap.proofs.OnLiterals.{clap_on_literals}
 use Rattle.clap.proofs.WalkLemmas.{both}
@@ -73,101 +74,122 @@ abbrev is_numbered : List Row → Bool
 is_numbered rows = passes MAX_WORKERS (first_of (codes "workers") rows)
     && (passes MAX_BATCH (first_of (codes "batch") rows) && passes MAX_SESSIONS (first_of (codes "sessions") rows))
 
--- ---- what a text says, by the command that its words name and what its rows give
+-- ---- what words come to
 
-reads : (text : Text) (verb : Verb) (rows : List Row) (parts : LineParts) → IsTaken (words_of text) → command_in (words_of text)
-    ≡ Some (verb_word verb, rows)
-    → is_numbered rows ≡ true → names_both_of rows ≡ false → parts_of verb rows ≡ parts → ReadsAs text parts
-reads text verb rows parts taken command numbers apart are = record {
-  taken = taken;
-  numbered = λ bad.
-      let tests = both (passes MAX_WORKERS (first_of (codes "workers") rows)) _ numbers in
-      let others = both (passes MAX_BATCH (first_of (codes "batch") rows)) _ tests.1 in
-      let numbered : HaveNumbersInRange rows = record {
-        workers = given_passed MAX_WORKERS _ tests.0;
-        batch = given_passed MAX_BATCH _ others.0;
-        sessions = given_passed MAX_SESSIONS _ others.1;
-      } in
-      bad.wrong (subst HaveNumbersInRange (same_rows (command_in (words_of text)) _ _ rows bad.rows command bad.command) numbered);
-  apart = λ bad. true≢false (sym (subst AreCrossed (same_rows (command_in (words_of text)) _ _ bad.rows rows bad.command command)
-      bad.crossed) ∙ apart);
-  says = λ line is.
-      let verb_is = one_word line.verb verb (one_name (command_in (words_of text)) _ _ is.rows rows is.command command) in
-      let rows_are = same_rows (command_in (words_of text)) _ _ is.rows rows is.command command in
-      subst (Says line) are (subst (λ v. Says line (parts_of v rows)) verb_is (subst (λ rows. Says line (parts_of line.verb rows)) rows_are
-      is.holds.says));
-}
+-- what is wrong with the words, and the command that they name, with what is seen of its rows
+told : {X : Type 0} → (List Row → X) → List Text → Kinds × Option (Text × X)
+told see words = (faults_in words, option_map (λ p. let rows = p.1 in (p.0, see rows)) (command_in words))
 
-crosses : (text : Text) (verb : Verb) (rows : List Row) → IsTaken (words_of text) → command_in (words_of text) ≡ Some (verb_word verb, rows)
-    → names_both_of rows ≡ true → IsCrossed (words_of text)
-crosses text verb rows taken command crossed = record {
-  taken = taken;
-  name = verb_word verb;
-  rows = rows;
-  command = command;
-  crossed = crossed;
-}
+-- the words are a command of the program, of whose rows this is seen
+record Shows {X : Type 0} (see : List Row → X) (words : List Text) (name : Text) (x : X) : Type 0 where
+  taken : IsTaken words
+  rows : List Row
+  command : command_in words ≡ Some (name, rows)
+  seen : see rows ≡ x
 
-misnumbers : (text : Text) (verb : Verb) (rows : List Row) → IsTaken (words_of text) → command_in (words_of text) ≡ Some (
-  verb_word verb,
-  rows,
-)
-    → is_numbered rows ≡ false → IsMisnumbered (words_of text)
-misnumbers text verb rows taken command numbers = record {
-  taken = taken;
-  name = verb_word verb;
-  rows = rows;
-  command = command;
-  wrong = λ numbered.
-      let workers = given_passes MAX_WORKERS _ numbered.workers in
-      let batch = given_passes MAX_BATCH _ numbered.batch in
-      let sessions = given_passes MAX_SESSIONS _ numbered.sessions in
-      let good : is_numbered rows ≡ true = rw (workers, batch, sessions) refl in
-      true≢false (sym good ∙ numbers);
-}
+shows : {X : Type 0} (see : List Row → X) (words : List Text) (name : Text) (x : X) → told see words ≡ ([], Some (name, x))
+    → Shows see words name x
+unfolding told
+shows {X} see words name x e = go (command_in words) refl (ap (λ t. t.1) e)
+  where
+    go : (o : Option (Text × List Row)) → command_in words ≡ o → option_map {U = Text × X} (λ p. (p.0, see p.1)) o ≡ Some (name, x)
+        → Shows see words name x
+    go None is same = absurd (cc)
+    go (Some p) is same =
+        let both = ap (λ o. unwrap_or o (name, x)) same in
+        record {
+          taken = ap (λ t. t.0) e;
+          rows = p.1;
+          command = is ∙ ap (λ n. Some (n, p.1)) (ap (λ b. b.0) both);
+          seen = ap (λ b. b.1) both;
+        }
 
--- the rows of the command that the words name
-rows_in : Text → List Row
-rows_in text = unwrap_or (option_map (λ p. p.1) (command_in (words_of text))) []
+-- whether the rows have numbers in their ranges, whether they name a file beside the device, and
+-- what a line of them says
+abbrev line_seen : Verb → List Row → Bool × Bool × LineParts
+line_seen verb rows = (is_numbered rows, names_both_of rows, parts_of verb rows)
+
+reads : {text : Text} {parts : LineParts} → told (line_seen parts.verb) (words_of text)
+    ≡ ([], Some (verb_word parts.verb, (true, false, parts)))
+    → ReadsAs text parts
+reads {text} {parts} e =
+    let words = words_of text in
+    let verb = parts.verb in
+    let shown = shows (line_seen verb) words (verb_word verb) (true, false, parts) e in
+    let rows = shown.rows in
+    let numbers : is_numbered rows ≡ true = ap (λ s. s.0) shown.seen in
+    let apart : names_both_of rows ≡ false = ap (λ s. s.1) shown.seen in
+    let are : parts_of verb rows ≡ parts = ap (λ s. s.2) shown.seen in
+    record {
+      taken = shown.taken;
+      numbered = λ bad.
+          let tests = both (passes MAX_WORKERS (first_of (codes "workers") rows)) _ numbers in
+          let others = both (passes MAX_BATCH (first_of (codes "batch") rows)) _ tests.1 in
+          let numbered : HaveNumbersInRange rows = record {
+            workers = given_passed MAX_WORKERS _ tests.0;
+            batch = given_passed MAX_BATCH _ others.0;
+            sessions = given_passed MAX_SESSIONS _ others.1;
+          } in
+          bad.wrong (subst HaveNumbersInRange (same_rows (command_in words) _ _ rows bad.rows shown.command bad.command) numbered);
+      apart = λ bad. true≢false (sym (subst AreCrossed (same_rows (command_in words) _ _ bad.rows rows bad.command shown.command)
+          bad.crossed) ∙ apart);
+      says = λ line is.
+          let verb_is = one_word line.verb verb (one_name (command_in words) _ _ is.rows rows is.command shown.command) in
+          let rows_are = same_rows (command_in words) _ _ is.rows rows is.command shown.command in
+          subst (Says line) are (subst (λ v. Says line (parts_of v rows)) verb_is
+          (subst (λ rows. Says line (parts_of line.verb rows)) rows_are is.holds.says));
+    }
+
+crosses : {words : List Text} (verb : Verb) → told names_both_of words ≡ ([], Some (verb_word verb, true)) → IsCrossed words
+crosses {words} verb e =
+    let shown = shows names_both_of words (verb_word verb) true e in
+    record { taken = shown.taken; name = verb_word verb; rows = shown.rows; command = shown.command; crossed = shown.seen }
+
+misnumbers : {words : List Text} (verb : Verb) → told is_numbered words ≡ ([], Some (verb_word verb, false)) → IsMisnumbered words
+misnumbers {words} verb e =
+    let shown = shows is_numbered words (verb_word verb) false e in
+    record {
+      taken = shown.taken;
+      name = verb_word verb;
+      rows = shown.rows;
+      command = shown.command;
+      wrong = λ numbered.
+          let workers = given_passes MAX_WORKERS _ numbered.workers in
+          let batch = given_passes MAX_BATCH _ numbered.batch in
+          let sessions = given_passes MAX_SESSIONS _ numbered.sessions in
+          let good : is_numbered shown.rows ≡ true = rw (workers, batch, sessions) refl in
+          true≢false (sym good ∙ shown.seen);
+    }
 
 -- the lines that are commands say what the examples state
 pub taken_lines : TakenLines
-unfolding clap_on_literals faults_in command_in rows_in
+unfolding clap_on_literals faults_in command_in told
 taken_lines = record {
-  check_one = reads (codes "check e.img") verbs.Check (rows_in (codes "check e.img")) _ refl refl refl refl refl;
-  check_two = reads (codes "check b a") verbs.Check (rows_in (codes "check b a")) _ refl refl refl refl refl;
-  check_strict = reads (codes "check --strict a") verbs.Check (rows_in (codes "check --strict a")) _ refl refl refl refl refl;
-  list_one = reads (codes "list f.img") verbs.List (rows_in (codes "list f.img")) _ refl refl refl refl refl;
-  list_strict = reads (codes "list a b --strict") verbs.List (rows_in (codes "list a b --strict")) _ refl refl refl refl refl;
-  serve_one = reads (codes "serve f.img") verbs.Serve (rows_in (codes "serve f.img")) _ refl refl refl refl refl;
-  serve_device = reads (codes "serve --device --workers 2 f") verbs.Serve (rows_in (codes "serve --device --workers 2 f")) _ refl refl refl
-      refl refl;
-  serve_layers = reads (codes "serve --replies r f g e") verbs.Serve (rows_in (codes "serve --replies r f g e")) _ refl refl refl refl refl;
-  all_options = reads (codes "serve --workers 2 --batch 3 --requests q --replies r --balances b --strict --lasting f") verbs.Serve
-      (rows_in (codes "serve --workers 2 --batch 3 --requests q --replies r --balances b --strict --lasting f")) _ refl refl refl refl refl;
-  attached = reads (codes "serve --workers=5 --requests=q f") verbs.Serve (rows_in (codes "serve --workers=5 --requests=q f")) _ refl refl
-      refl refl refl;
-  least_numbers = reads (codes "serve --workers 1 --batch 1 f") verbs.Serve (rows_in (codes "serve --workers 1 --batch 1 f")) _ refl refl
-      refl refl refl;
-  most_numbers = reads (codes "serve --workers 64 --batch 256 f") verbs.Serve (rows_in (codes "serve --workers 64 --batch 256 f")) _ refl
-      refl refl refl refl;
-  leading_zeros = reads (codes "serve --workers 0008 --batch 00000000000000000000256 f") verbs.Serve
-      (rows_in (codes "serve --workers 0008 --batch 00000000000000000000256 f")) _ refl refl refl refl refl;
-  options_last = reads (codes "serve f g --balances b") verbs.Serve (rows_in (codes "serve f g --balances b")) _ refl refl refl refl refl;
-  option_between = reads (codes "serve f --batch 7 g") verbs.Serve (rows_in (codes "serve f --batch 7 g")) _ refl refl refl refl refl;
-  after_dashes = reads (codes "check -- --help --strict") verbs.Check
-      (rows_in (codes "check -- --help --strict")) _ refl refl refl refl refl;
-  image_like_a_verb = reads (codes "list check") verbs.List (rows_in (codes "list check")) _ refl refl refl refl refl;
-  socket_one = reads (codes "socket --listen s f") verbs.Socket (rows_in (codes "socket --listen s f")) _ refl refl refl refl refl;
-  socket_options = reads (codes "socket --workers 2 --batch 3 --listen s --sessions 5 --lasting --strict f g") verbs.Socket
-      (rows_in (codes "socket --workers 2 --batch 3 --listen s --sessions 5 --lasting --strict f g")) _ refl refl refl refl refl;
-  most_sessions = reads (codes "socket f --sessions 65535 --listen=s") verbs.Socket (rows_in (codes "socket f --sessions 65535 --listen=s"))
-      _ refl refl refl refl refl;
+  check_one = reads refl;
+  check_two = reads refl;
+  check_strict = reads refl;
+  list_one = reads refl;
+  list_strict = reads refl;
+  serve_one = reads refl;
+  serve_device = reads refl;
+  serve_layers = reads refl;
+  all_options = reads refl;
+  attached = reads refl;
+  least_numbers = reads refl;
+  most_numbers = reads refl;
+  leading_zeros = reads refl;
+  options_last = reads refl;
+  option_between = reads refl;
+  after_dashes = reads refl;
+  image_like_a_verb = reads refl;
+  socket_one = reads refl;
+  socket_options = reads refl;
+  most_sessions = reads refl;
 }
 
 -- the lines that are none are refused for what the examples state
 pub refused_lines : RefusedLines
-unfolding clap_on_literals faults_in command_in rows_in
+unfolding clap_on_literals faults_in command_in told
 refused_lines = record {
   no_words = refl;
   asks_help = refl;
@@ -186,12 +208,9 @@ refused_lines = record {
   option_without_file = refl;
   device_of_check = refl;
   lasting_list = refl;
-  requests_and_device = crosses (codes "serve --requests q --device a") verbs.Serve (rows_in (codes "serve --requests q --device a")) refl
-      refl refl;
-  replies_and_device = crosses (codes "serve --device --replies r a") verbs.Serve (rows_in (codes "serve --device --replies r a")) refl refl
-      refl;
-  balances_and_device = crosses (codes "serve a --device --balances b") verbs.Serve (rows_in (codes "serve a --device --balances b")) refl
-      refl refl;
+  requests_and_device = crosses verbs.Serve refl;
+  replies_and_device = crosses verbs.Serve refl;
+  balances_and_device = crosses verbs.Serve refl;
   no_socket = refl;
   no_image_at_socket = refl;
   requests_of_socket = refl;
@@ -203,23 +222,19 @@ refused_lines = record {
 
 -- the lines with a number out of its range are refused for it
 pub misnumbered_lines : MisnumberedLines
-unfolding clap_on_literals faults_in command_in rows_in
+unfolding clap_on_literals faults_in command_in told
 misnumbered_lines = record {
-  no_workers = misnumbers (codes "serve --workers 0 a") verbs.Serve (rows_in (codes "serve --workers 0 a")) refl refl refl;
-  many_workers = misnumbers (codes "serve --workers 65 a") verbs.Serve (rows_in (codes "serve --workers 65 a")) refl refl refl;
-  no_batch = misnumbers (codes "serve --batch 0 a") verbs.Serve (rows_in (codes "serve --batch 0 a")) refl refl refl;
-  large_batch = misnumbers (codes "serve --batch 257 a") verbs.Serve (rows_in (codes "serve --batch 257 a")) refl refl refl;
-  no_sessions = misnumbers (codes "socket --listen s --sessions 0 a") verbs.Socket (rows_in (codes "socket --listen s --sessions 0 a")) refl
-      refl refl;
-  many_sessions = misnumbers (codes "socket --listen s --sessions 65536 a") verbs.Socket
-      (rows_in (codes "socket --listen s --sessions 65536 a")) refl refl refl;
-  plus = misnumbers (codes "serve --workers +4 a") verbs.Serve (rows_in (codes "serve --workers +4 a")) refl refl refl;
-  minus = misnumbers (codes "serve --workers=-4 a") verbs.Serve (rows_in (codes "serve --workers=-4 a")) refl refl refl;
-  no_digits = misnumbers (codes "serve --batch= a") verbs.Serve (rows_in (codes "serve --batch= a")) refl refl refl;
-  another_digit = misnumbers (codes "serve --batch 0x10 a") verbs.Serve (rows_in (codes "serve --batch 0x10 a")) refl refl refl;
-  fraction = misnumbers (codes "serve --batch 16.0 a") verbs.Serve (rows_in (codes "serve --batch 16.0 a")) refl refl refl;
-  past_32_bits = misnumbers (codes "serve --workers 4294967300 a") verbs.Serve (rows_in (codes "serve --workers 4294967300 a")) refl refl
-      refl;
-  past_64_bits = misnumbers (codes "serve --batch 18446744073709551632 a") verbs.Serve
-      (rows_in (codes "serve --batch 18446744073709551632 a")) refl refl refl;
+  no_workers = misnumbers verbs.Serve refl;
+  many_workers = misnumbers verbs.Serve refl;
+  no_batch = misnumbers verbs.Serve refl;
+  large_batch = misnumbers verbs.Serve refl;
+  no_sessions = misnumbers verbs.Socket refl;
+  many_sessions = misnumbers verbs.Socket refl;
+  plus = misnumbers verbs.Serve refl;
+  minus = misnumbers verbs.Serve refl;
+  no_digits = misnumbers verbs.Serve refl;
+  another_digit = misnumbers verbs.Serve refl;
+  fraction = misnumbers verbs.Serve refl;
+  past_32_bits = misnumbers verbs.Serve refl;
+  past_64_bits = misnumbers verbs.Serve refl;
 }

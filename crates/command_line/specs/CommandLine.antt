@@ -1,6 +1,7 @@
 -- The command line: the program as `clap` sees it, and what the words after its name say.
 use Rattle.std.specs.Prelude.{◌≡◌, ◌⊎◌, ℕ, Bool, true, false, List, [], ◌∷◌, ◌++◌, codes, is_some, ◌&&◌, ◌||◌}
 use Rattle.std.specs.Prelude.{Option, Some, IfSome, MatchOption, option_map, unwrap_or}
+use Rattle.std.specs.Prelude.{Result, IfOk}
 use Rattle.std.specs.Int.{IsInRange}
 use Rattle.std.specs.List.{fold}
 use Rattle.std.specs.Option.{option_map_or}
@@ -10,11 +11,12 @@ use Rattle.command_line.specs.declared.options.TheConstants.{MAX_SESSIONS}
 use Rattle.clap.specs.Lexer.{usize_max}
 use Rattle.clap.specs.Values.{bool_text}
 use Rattle.clap.specs.Walk.{Row, Rule, Text, all_of, first_of, one_of, texts}
-use Rattle.clap.specs.Simple.{App, new_app, new_rule, on_top, subcommand_of, with_rule, with_subcommand}
+use Rattle.clap.specs.Simple.{App, app_of, new_app, new_rule, on_top, subcommand_of, with_rule, with_subcommand}
 use Rattle.clap.specs.Takes.{is_given}
 use Rattle.clap.specs.Kinds.{Kinds}
 use Rattle.clap.specs.Faults.{fault_of}
 use Rattle.clap.specs.declared.builder.action.ArgAction.TheVariants.{Append, SetTrue}
+use Rattle.clap.specs.declared.builder.command.Command.{Command}
 use Rattle.command_line.specs.declared.options.Line.{Line}
 use Rattle.command_line.specs.declared.options.LineFault.{LineFault}
 use Rattle.command_line.specs.declared.options.LineFault.TheVariants.{Usage, Memory}
@@ -74,6 +76,10 @@ socket_command = command_with (codes "socket") (plan_options ++ (
 -- a command over images, as `check` and `list`
 abbrev pub images_command : Text → App
 images_command name = command_with name (flag (codes "strict") ∷ image_words ∷ [])
+
+-- the command that was made, where there was memory for it, is this one
+abbrev pub IsApp : {E : Type 0} → Result Command E → App → Type 0
+IsApp made app = IfOk made (λ command. app_of command ≡ app)
 
 -- the program's name, which is no word of the line; it wants a command
 abbrev pub top_command : App

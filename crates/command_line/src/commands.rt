@@ -1,31 +1,35 @@
 //! The commands of the program, their options and words, as `clap` takes them.
+//!
+//! What adds to a command takes it with what its making came to, and gives it back so: memory that
+//! was refused on the way is told once, at the end.
 
-ghost use Rattle.std.specs.Prelude.{◌≡◌, codes, false, IfOk, IsOkAnd};
-ghost use Rattle.clap.specs.Built.{AddsSubcommand};
-ghost use Rattle.clap.specs.Words.{app_of, rule_of};
+ghost use Rattle.std.specs.Prelude.{◌≡◌, codes, false, true};
+ghost use Rattle.clap.specs.Simple.{App, with_rule, with_subcommand};
+ghost use Rattle.clap.specs.Walk.{Rule};
+ghost use Rattle.clap.specs.Words.{rule_of};
 ghost use Rattle.command_line.specs.CommandLine.{images_command, program, serve_command};
 ghost use Rattle.command_line.specs.CommandLine.{socket_command, plan_options, served_images};
 ghost use Rattle.command_line.specs.CommandLine.{flag, image_words, listen_option, value_option};
-ghost use Rattle.command_line.specs.CommandLine.{with_rules};
+ghost use Rattle.command_line.specs.CommandLine.{IsApp, with_rules};
 
 use clap::{Arg, ArgAction, Command};
 use std::alloc::{AllocError, Global};
 
 /// The program, with its commands.
 pub(crate) fn program<'a>(alloc: Global) -> Result<Command<'a>, AllocError>
-    ensures { IfOk result (λ command. app_of command ≡ program) }
+    ensures { IsApp result program }
 {
     let program = Command::new(alloc, "strata")
         .no_binary_name(true)
         .bin_name("strata")?
         .about("Serves stacked romfs images by the FUSE protocol")
         .subcommand_required(true);
-    let program = with_command(program, serve(alloc))?;
-    let program = with_command(program, socket(alloc))?;
+    let program = with_command(Ok(program), serve(alloc));
+    let program = with_command(program, socket(alloc));
     let program = with_command(
         program,
         over_images(alloc, "check", "Checks images, and prints their sizes"),
-    )?;
+    );
     with_command(
         program,
         over_images(
@@ -36,106 +40,131 @@ pub(crate) fn program<'a>(alloc: Global) -> Result<Command<'a>, AllocError>
     )
 }
 
-// The program with one more command, where there was memory for that.
+// The program with one more command.
 fn with_command<'a>(
-    program: Command<'a>,
+    program: Result<Command<'a>, AllocError>,
     command: Result<Command<'a>, AllocError>,
 ) -> Result<Command<'a>, AllocError>
-    ensures { IfOk result (λ more. IsOkAnd command.entry (λ added.
-        AddsSubcommand program.entry added more)) }
+    ensures { (a s : App) → IsApp program.entry a → IsApp command.entry s → s.top.is_plain ≡ true
+        → IsApp result (with_subcommand a s.top) }
 {
-    program.subcommand(command?)
+    program?.subcommand(command?)
+}
+
+// The command with one more option or word.
+fn with_arg<'a>(
+    command: Result<Command<'a>, AllocError>,
+    arg: Arg<'a>,
+) -> Result<Command<'a>, AllocError>
+    requires { arg.global ≡ false }
+    ensures { (a : App) (r : Rule) → IsApp command.entry a → rule_of arg.entry ≡ r
+        → IsApp result (with_rule a r) }
+{
+    command?.arg(arg)
 }
 
 fn serve<'a>(alloc: Global) -> Result<Command<'a>, AllocError>
-    ensures { IfOk result (λ command. app_of command ≡ serve_command) }
+    ensures { IsApp result serve_command }
 {
     let command = Command::new(alloc, "serve").about(
         "Answers FUSE requests over the stacked images",
     );
-    let command = with_plan(alloc, command)?
-        .arg(option(
-            alloc,
-            "requests",
-            "FILE",
-            "Where requests come from, in place of standard input",
-        ))?
-        .arg(option(
-            alloc,
-            "replies",
-            "FILE",
-            "Where replies go, in place of standard output",
-        ))?
-        .arg(option(
-            alloc,
-            "balances",
-            "FILE",
-            "Where the nodes' balances of look-ups go",
-        ))?
-        .arg(flag(
-            alloc,
-            "device",
-            "Standard input and output are one open /dev/fuse",
-        ))?;
+    let command = with_plan(alloc, Ok(command));
+    let requests = option(
+        alloc,
+        "requests",
+        "FILE",
+        "Where requests come from, in place of standard input",
+    );
+    let replies = option(
+        alloc,
+        "replies",
+        "FILE",
+        "Where replies go, in place of standard output",
+    );
+    let balances = option(
+        alloc,
+        "balances",
+        "FILE",
+        "Where the nodes' balances of look-ups go",
+    );
+    let device = flag(
+        alloc,
+        "device",
+        "Standard input and output are one open /dev/fuse",
+    );
+    let command = with_arg(command, requests);
+    let command = with_arg(command, replies);
+    let command = with_arg(command, balances);
+    let command = with_arg(command, device);
     with_served_images(alloc, command)
 }
 
 fn socket<'a>(alloc: Global) -> Result<Command<'a>, AllocError>
-    ensures { IfOk result (λ command. app_of command ≡ socket_command) }
+    ensures { IsApp result socket_command }
 {
     let command = Command::new(alloc, "socket").about(
         "Answers FUSE requests of one client after another at a Unix socket",
     );
-    let command = with_plan(alloc, command)?.arg(listen(alloc))?.arg(option(
+    let command = with_plan(alloc, Ok(command));
+    let sessions = option(
         alloc,
         "sessions",
         "N",
         "How many sessions are served, one after another, from 1 to 65535 [default: 1]",
-    ))?;
+    );
+    let command = with_arg(command, listen(alloc));
+    let command = with_arg(command, sessions);
     with_served_images(alloc, command)
 }
 
 // The command with the options that say how requests are shared out.
-fn with_plan<'a>(alloc: Global, command: Command<'a>) -> Result<Command<'a>, AllocError>
-    ensures { IfOk result (λ more. app_of more ≡ with_rules (app_of command.entry) plan_options) }
+fn with_plan<'a>(
+    alloc: Global,
+    command: Result<Command<'a>, AllocError>,
+) -> Result<Command<'a>, AllocError>
+    ensures { (a : App) → IsApp command.entry a → IsApp result (with_rules a plan_options) }
 {
-    command
-        .arg(option(
-            alloc,
-            "workers",
-            "N",
-            "At most N workers, from 1 to 64 [default: 4]",
-        ))?
-        .arg(option(
-            alloc,
-            "batch",
-            "N",
-            "At most N requests a batch, from 1 to 256 [default: 16]",
-        ))
+    let workers = option(
+        alloc,
+        "workers",
+        "N",
+        "At most N workers, from 1 to 64 [default: 4]",
+    );
+    let batch = option(
+        alloc,
+        "batch",
+        "N",
+        "At most N requests a batch, from 1 to 256 [default: 16]",
+    );
+    let command = with_arg(command, workers);
+    with_arg(command, batch)
 }
 
 // The command with the images that are served, and what the client is told of them.
-fn with_served_images<'a>(alloc: Global, command: Command<'a>) -> Result<Command<'a>, AllocError>
-    ensures { IfOk result (λ more. app_of more ≡ with_rules (app_of command.entry) served_images) }
+fn with_served_images<'a>(
+    alloc: Global,
+    command: Result<Command<'a>, AllocError>,
+) -> Result<Command<'a>, AllocError>
+    ensures { (a : App) → IsApp command.entry a → IsApp result (with_rules a served_images) }
 {
-    command
-        .arg(flag(
-            alloc,
-            "lasting",
-            "Tells the client that nothing changes, so that it asks for each thing once",
-        ))?
-        .arg(strict(alloc))?
-        .arg(images(alloc))
+    let lasting = flag(
+        alloc,
+        "lasting",
+        "Tells the client that nothing changes, so that it asks for each thing once",
+    );
+    let command = with_arg(command, lasting);
+    let command = with_arg(command, strict(alloc));
+    with_arg(command, images(alloc))
 }
 
 // A command over images alone.
 fn over_images<'a>(alloc: Global, name: &'a str, about: &'a str) -> Result<Command<'a>, AllocError>
-    ensures { IfOk result (λ command. app_of command ≡ images_command name.entry.now) }
+    ensures { IsApp result (images_command name.entry.now) }
 {
-    Command::new(alloc, name)
-        .about(about)
-        .arg(strict(alloc))?
-        .arg(images(alloc))
+    let command = Command::new(alloc, name).about(about);
+    let command = with_arg(Ok(command), strict(alloc));
+    with_arg(command, images(alloc))
 }
 
 // An option with one value.

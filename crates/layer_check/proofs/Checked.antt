@@ -60,6 +60,14 @@ module _ {X : Type 0} {v : X → List ℕ} {profile : Profile} {all : List (List
     },
   )
 
+-- no more images are taken than there are
+pub taken_within : {X : Type 0} {v : X → List ℕ} {profile : Profile} {all : List (List ℕ)} {left : List X} {layers : List (List ℕ)}
+    → AreTaken v profile all left layers → length layers ≤ length all
+taken_within {v = v} {left = left} t =
+    let same = ap length t.checked.are ∙ length-map t.below image in
+    let whole = ap length t.split ∙ length-append t.below (map v left) in
+    omega arith
+
 nothing : {X : Type 0} (xs : List X) → length xs ≡ 0 → xs ≡ []
 nothing [] none = refl
 nothing (x ∷ xs) none = absurd (omega (arith, none))

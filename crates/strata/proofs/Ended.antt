@@ -1,7 +1,7 @@
 -- How a command ends, by how its last step ended. `whole` and `begun` put what was done over the
 -- images beside the words that asked for it; `unread` is the end before that, and no fault has the
 -- status 0.
-use Rattle.std.proofs.Common.{◌≡◌, ◌≢◌, ◌<◌, ◌≤◌, ◌∙◌, sym, ap, subst, refl, ℕ, ◌⊎◌, inl, inr, List, None, Result, Ok, Err, IfOk, IfErr, IsErrAnd, arith, length, map, vec_len, Vec}
+use Rattle.std.proofs.Common.{◌≡◌, ◌≢◌, ◌<◌, ◌≤◌, ◌∙◌, sym, ap, subst, refl, ℕ, ◌⊎◌, inl, inr, List, None, Result, Ok, Err, IfOk, IfErr, OnOk, MatchResult, IsErrAnd, arith, length, map, vec_len, Vec}
 use Rattle.std.proofs.lemmas.List.{length-map}
 use Rattle.serve_loop.specs.declared.stop.Stop.{Stop}
 use Rattle.serve_loop.specs.declared.stop.Stop.TheVariants as stops
@@ -55,12 +55,17 @@ module _ (A : Type 0) (words : List (List ℕ)) (line : Line) (images : List (Li
     stopped = subst (λ v. IsStoppedOver A v line images fault old new) (sym verb_is) p;
   })
 
-  -- a command whose work stopped ended in the fault that it tells
-  pub broke_off : {X : Type 0} (r : Result X Fault) (fault : Fault) → IsErrAnd r (λ told. told ≡ fault)
-      → IsStoppedOver A verb line images fault old new
-      → IfErr r (λ told. EndsInFault A words told old new)
-  broke_off (Ok x) fault e p = absurd e
-  broke_off (Err told) fault e p = subst (λ f. EndsInFault A words f old new) (sym e) (begun fault p)
+  -- a command whose work came to this has ended so, with the status 0 where it was done
+  pub ended : {Done : Type 0} {Stopped : Fault → Type 0} (work : Result (Unit {0}) Fault) (r : Result ℕ Fault)
+      → MatchResult work (λ _. r ≡ Ok 0) (λ fault. r ≡ Err fault) → OnOk work Done → IfErr work Stopped
+      → (Done → IsDoneOver A verb line images old new) → ((fault : Fault) → Stopped fault → IsStoppedOver A verb line images fault old new)
+      → IfOk r (λ status. IsOverWith A words status old new) × IfErr r (λ fault. EndsInFault A words fault old new)
+  ended (Ok u) r same done stopped d s =
+      subst (λ r. IfOk r (λ status. IsOverWith A words status old new) × IfErr r (λ fault. EndsInFault A words fault old new)) (sym same)
+      (did (d done), tt)
+  ended (Err fault) r same done stopped d s =
+      subst (λ r. IfOk r (λ status. IsOverWith A words status old new) × IfErr r (λ fault. EndsInFault A words fault old new)) (sym same)
+      (tt, begun fault (s fault stopped))
 
 -- an image that was not read, or memory that ran out before all were
 pub unread : {X : Type 0} {words : List (List ℕ)} {line : Line} (A : Type 0) (old : Devices) → IsLineOf words line → (fault : FilesFault)

@@ -6,7 +6,7 @@
 //!
 //! Its functions write the same bounds out: no trait can stand for those on `R::File` and `R::Dir`.
 
-ghost use Rattle.std.specs.Prelude.{◌≡◌, ℕ, List, map, IfOk, IfErr};
+ghost use Rattle.std.specs.Prelude.{◌≡◌, ℕ, List, map, Ok, Err, IfOk, IfErr, MatchResult};
 ghost use Rattle.command_line.specs.CommandLine.{IsInLimits, NamesSocket};
 ghost use Rattle.devices.specs.States.{devices};
 ghost use Rattle.fuse_device.specs.Spouts.{spout_gone};
@@ -147,19 +147,20 @@ where
     let line = line?;
     let images = read_images(rt, alloc, line.images.as_slice())?;
     match line.verb {
-        Verb::Serve => {
-            serve(rt, alloc, &line, images, input, output)?;
-            Ok(0)
-        }
+        Verb::Serve => as_status(serve(rt, alloc, &line, images, input, output)),
         Verb::Socket => listen(rt, alloc, &line, images, faults),
-        Verb::Check => {
-            check(alloc, images, profile_of(&line), output)?;
-            Ok(0)
-        }
-        Verb::List => {
-            list(rt, alloc, &line, images, output)?;
-            Ok(0)
-        }
+        Verb::Check => as_status(check(alloc, images, profile_of(&line), output)),
+        Verb::List => as_status(list(rt, alloc, &line, images, output)),
+    }
+}
+
+// The status of work that is done, where it was.
+fn as_status(done: Result<(), Fault>) -> Result<u8, Fault>
+    ensures { MatchResult done (λ _. result ≡ Ok 0) (λ fault. result ≡ Err fault) }
+{
+    match done {
+        Ok(()) => Ok(0),
+        Err(fault) => Err(fault),
     }
 }
 

@@ -14,3 +14,21 @@ returns g t c =
     _ _ c.together.result (record { lower = c.join-low.ensures.first; upper = rw up at c.join-low.ensures.second }) c.together.ensures in
     subst (λ xs. Checks c.args.first c.args.profile xs c.together.result) (halved (λ image. image.items) c.args.images.items lows highs half
     c.in_ok-highs.ensures.items c.in_ok-highs.ensures.tail) all
+
+pub check_in_turn-requires : goal.check_in_turn-requires
+check_in_turn-requires g t c = c.requires
+
+pub overflow_sub-less : goal.overflow_sub-less
+overflow_sub-less g t c = omega arith
+
+pub split_off-requires : goal.split_off-requires
+split_off-requires g t c = omega arith
+
+pub overflow_add-next : goal.overflow_add-next
+overflow_add-next g t c = omega arith
+
+pub overflow_cast-next : goal.overflow_cast-next
+overflow_cast-next g t c = omega arith
+
+pub returns-then-forks-eq0 : goal.returns-then-forks-eq0
+returns-then-forks-eq0 g t c = c.check_in_turn.ensures

@@ -1,10 +1,11 @@
 use Rattle.std.proofs.Common.{◌≡◌, ◌+◌, length, subst, sym, arith}
+use Rattle.std.proofs.lemmas.List.{length-map}
 use Rattle.std.specs.Vec.Iter.{into_iter_items}
 use Rattle.romfs_check.specs.Refusals.{IsRefusalAs}
 use Rattle.serve_loop.specs.declared.stop.Stop.TheVariants.{Layer}
 use Rattle.layer_check.specs.Checking.{IsBroken}
 use Rattle.layer_check.specs.Layers.{contents_of}
-use Rattle.layer_check.proofs.Checked.{all_checked, next_breaks, one_more}
+use Rattle.layer_check.proofs.Checked.{all_checked, next_breaks, one_more, taken_within}
 use Rattle.layer_check.proofs.checking.check_in_turn.Goals as goal
 
 pub loop-bytes-preserved : goal.loop-bytes-preserved
@@ -42,3 +43,18 @@ returns-in-Err-Broken g c =
       subst (λ fault. IsBroken c.args.first c.args.profile (contents_of c.args.images)
           (Layer (c.args.first + c.len-in-loop-bytes.result) fault)) (sym c.in-Err-Broken.fault-is) why,
     )
+
+pub overflow_cast-layer : goal.overflow_cast-layer
+overflow_cast-layer g c =
+    let taken = taken_within c.loop-bytes.invariant.done in
+    let all = length-map c.args.images.items (λ image. image.items) in
+    omega (arith, c.len-in-loop-bytes.ensures, c.loop-bytes.checked.ok, c.requires)
+
+pub overflow_add-layer : goal.overflow_add-layer
+overflow_add-layer g c =
+    let taken = taken_within c.loop-bytes.invariant.done in
+    let all = length-map c.args.images.items (λ image. image.items) in
+    omega (arith, c.len-in-loop-bytes.ensures, c.loop-bytes.checked.ok, c.requires)
+
+pub returns-in-Err-Memory : goal.returns-in-Err-Memory
+returns-in-Err-Memory g c = (tt, tt)

@@ -1,3 +1,4 @@
+use Rattle.std.proofs.lemmas.Result.{IfOk-from_err}
 use Rattle.strata.proofs.Sizes.{one_more}
 use Rattle.strata.proofs.checking.checked_sizes.Goals as goal
 
@@ -10,3 +11,16 @@ loop-bytes-preserved g c =
       done = rw c.in_ok-push.ensures.items
           (one_more c.loop-bytes.invariant.done c.in-Some.bytes _ c.in-Some.ensures.steps.0 _ good.0 good.1);
     }
+
+pub returns-in_err-sizes-clause-ok : goal.returns-in_err-sizes-clause-ok
+returns-in_err-sizes-clause-ok g c = IfOk-from_err c.from_residual.result _ c.from_residual.ensures.0
+
+pub returns-in_err-checked_size-clause-ok : goal.returns-in_err-checked_size-clause-ok
+returns-in_err-checked_size-clause-ok g c =
+    IfOk-from_err c.from_residual-in_err-checked_size.result _ c.from_residual-in_err-checked_size.ensures.0
+
+pub returns-in_err-push-clause-ok : goal.returns-in_err-push-clause-ok
+returns-in_err-push-clause-ok g c = IfOk-from_err c.from_residual-in_err-push.result _ c.from_residual-in_err-push.ensures.0
+
+pub returns-clause-err : goal.returns-clause-err
+returns-clause-err g c = tt

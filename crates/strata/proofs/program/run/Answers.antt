@@ -1,10 +1,11 @@
-use Rattle.std.proofs.Common.{refl, subst}
+use Rattle.std.proofs.Common.{List, ℕ, refl, subst}
+use Rattle.std.proofs.lemmas.Result.{IfOk-from_err}
 use Rattle.layer_check.specs.Layers.{contents_of}
-use Rattle.strata.specs.Ending.{AreGood, AreNotGood}
+use Rattle.strata.specs.Ending.{AreGood, AreNotGood, IsReadAs}
 use Rattle.command_line.specs.CommandLine.{IsLineOf}
-use Rattle.strata.proofs.Ended.{all_named, did, broke_off, unread}
+use Rattle.strata.proofs.Ended.{all_named, ended, unread}
 use Rattle.strata.proofs.AtSocket.{over_there, stopped_there}
-use Rattle.command_line.specs.declared.options.Verb.TheVariants.{Serve, Check, List}
+use Rattle.command_line.specs.declared.options.Verb.TheVariants as verbs
 use Rattle.strata.proofs.program.run.Goals as goal
 
 pub returns-in_err-images-clause-stopped : goal.returns-in_err-images-clause-stopped
@@ -13,21 +14,15 @@ returns-in_err-images-clause-stopped g c = λ words read.
     unread g.row.A.Denot _ is c.in_err-images.field-0.0 (rw c.as_slice.ensures.len at c.in_err-images.ensures.err)
     c.from_residual-in_err-images.result c.from_residual-in_err-images.ensures.1
 
-pub returns-in-Serve-clause-over : goal.returns-in-Serve-clause-over
-returns-in-Serve-clause-over g c = λ words read.
+pub returns-in-Serve : goal.returns-in-Serve
+returns-in-Serve g c =
     let line = c.in_ok-line.line in
+    let both = λ (words : List (List ℕ)) (read : IsReadAs words c.args.line).
     let is : IsLineOf words line = rw c.in_ok-line.was at read in
     let named = all_named line _ c.in_ok-images.images _ c.in_ok-images.ensures.ok c.as_slice.ensures.len in
-    did g.row.A.Denot _ line _ Serve _ _ is named c.in-Serve.is c.in_ok-serve-in-Serve.ensures.done
-
-pub returns-in_err-serve-in-Serve-clause-stopped : goal.returns-in_err-serve-in-Serve-clause-stopped
-returns-in_err-serve-in-Serve-clause-stopped g c = λ words read.
-    let line = c.in_ok-line.line in
-    let is : IsLineOf words line = rw c.in_ok-line.was at read in
-    let named = all_named line _ c.in_ok-images.images _ c.in_ok-images.ensures.ok c.as_slice.ensures.len in
-    broke_off g.row.A.Denot _ line _ Serve _ _ is named c.in-Serve.is c.from_residual-in_err-serve-in-Serve.result
-    c.in_err-serve-in-Serve.field-0.0
-    c.from_residual-in_err-serve-in-Serve.ensures.1 c.in_err-serve-in-Serve.ensures.stopped
+    ended g.row.A.Denot words line _ verbs.Serve _ _ is named c.in-Serve.is c.serve.result c.as_status.result c.as_status.ensures
+    c.serve.ensures.done c.serve.ensures.stopped (λ d. d) (λ fault s. s) in
+    record { over = λ words read. (both words read).0; stopped = λ words read. (both words read).1 }
 
 pub returns-in-Socket-clause-over : goal.returns-in-Socket-clause-over
 returns-in-Socket-clause-over g c = λ words read.
@@ -43,43 +38,51 @@ returns-in-Socket-clause-stopped g c = λ words read.
     let named = all_named line _ c.in_ok-images.images _ c.in_ok-images.ensures.ok c.as_slice.ensures.len in
     stopped_there g.row.A.Denot _ line _ _ is named c.in-Socket.is c.listen.result c.listen.ensures.stopped
 
-pub returns-in-Check-clause-over : goal.returns-in-Check-clause-over
-returns-in-Check-clause-over g c = λ words read.
+pub returns-in-Check : goal.returns-in-Check
+returns-in-Check g c =
     let line = c.in_ok-line.line in
+    let both = λ (words : List (List ℕ)) (read : IsReadAs words c.args.line).
     let is : IsLineOf words line = rw c.in_ok-line.was at read in
     let named = all_named line _ c.in_ok-images.images _ c.in_ok-images.ensures.ok c.as_slice.ensures.len in
-    did g.row.A.Denot _ line _ Check _ _ is named c.in-Check.is (
+    ended g.row.A.Denot words line _ verbs.Check _ _ is named c.in-Check.is c.check.result
+    c.as_status-in-Check.result c.as_status-in-Check.ensures
+    c.check.ensures.done c.check.ensures.stopped (λ d. (
       refl,
       subst (λ p. AreGood p (contents_of c.in_ok-images.images) (g.K.Sink.state c.args.output.now) (g.K.Sink.state c.check.new.output))
-          c.profile_of.ensures c.in_ok-check-in-Check.ensures.done,
-    )
-
-pub returns-in_err-check-in-Check-clause-stopped : goal.returns-in_err-check-in-Check-clause-stopped
-returns-in_err-check-in-Check-clause-stopped g c = λ words read.
-    let line = c.in_ok-line.line in
-    let is : IsLineOf words line = rw c.in_ok-line.was at read in
-    let named = all_named line _ c.in_ok-images.images _ c.in_ok-images.ensures.ok c.as_slice.ensures.len in
-    let fault = c.in_err-check-in-Check.field-0.0 in
-    broke_off g.row.A.Denot _ line _ Check _ _ is named c.in-Check.is c.from_residual-in_err-check-in-Check.result
-    fault
-    c.from_residual-in_err-check-in-Check.ensures.1 (
+          c.profile_of.ensures d,
+    )) (λ fault s. (
       refl,
       subst (λ p. AreNotGood p (contents_of c.in_ok-images.images) fault (g.K.Sink.state c.args.output.now)
-          (g.K.Sink.state c.check.new.output)) c.profile_of.ensures c.in_err-check-in-Check.ensures.stopped,
-    )
+          (g.K.Sink.state c.check.new.output)) c.profile_of.ensures s,
+    )) in
+    record { over = λ words read. (both words read).0; stopped = λ words read. (both words read).1 }
 
-pub returns-clause-over : goal.returns-clause-over
-returns-clause-over g c = λ words read.
+pub returns : goal.returns
+returns g c =
     let line = c.in_ok-line.line in
+    let both = λ (words : List (List ℕ)) (read : IsReadAs words c.args.line).
     let is : IsLineOf words line = rw c.in_ok-line.was at read in
     let named = all_named line _ c.in_ok-images.images _ c.in_ok-images.ensures.ok c.as_slice.ensures.len in
-    did g.row.A.Denot _ line _ List _ _ is named c.in-List.is (refl, c.in_ok-list-in-List.ensures.done)
+    ended g.row.A.Denot words line _ verbs.List _ _ is named c.in-List.is c.list.result
+    c.as_status-in-List.result c.as_status-in-List.ensures
+    c.list.ensures.done c.list.ensures.stopped (λ d. (refl, d)) (λ fault s. (refl, s)) in
+    record { over = λ words read. (both words read).0; stopped = λ words read. (both words read).1 }
 
-pub returns-in_err-list-in-List-clause-stopped : goal.returns-in_err-list-in-List-clause-stopped
-returns-in_err-list-in-List-clause-stopped g c = λ words read.
-    let line = c.in_ok-line.line in
-    let is : IsLineOf words line = rw c.in_ok-line.was at read in
-    let named = all_named line _ c.in_ok-images.images _ c.in_ok-images.ensures.ok c.as_slice.ensures.len in
-    let fault = c.in_err-list-in-List.field-0.0 in
-    broke_off g.row.A.Denot _ line _ List _ _ is named c.in-List.is c.from_residual-in_err-list-in-List.result fault
-    c.from_residual-in_err-list-in-List.ensures.1 (refl, c.in_err-list-in-List.ensures.stopped)
+pub returns-in_err-line-clause-over : goal.returns-in_err-line-clause-over
+returns-in_err-line-clause-over g c = λ words read. IfOk-from_err c.from_residual.result _ c.from_residual.ensures.0
+
+pub returns-in_err-images-clause-over : goal.returns-in_err-images-clause-over
+returns-in_err-images-clause-over g c =
+    λ words read. IfOk-from_err c.from_residual-in_err-images.result _ c.from_residual-in_err-images.ensures.0
+
+pub serve-requires-clause-limits : goal.serve-requires-clause-limits
+serve-requires-clause-limits g c κs within = rw c.in_ok-line.was at c.requires.limits
+
+pub serve-requires-clause-new : goal.serve-requires-clause-new
+serve-requires-clause-new g c κs within = c.requires.new
+
+pub listen-requires-clause-limits : goal.listen-requires-clause-limits
+listen-requires-clause-limits g c κs within = rw c.in_ok-line.was at c.requires.limits
+
+pub listen-requires-clause-socket : goal.listen-requires-clause-socket
+listen-requires-clause-socket g c κs within = (rw c.in_ok-line.was at c.requires.socket) c.in-Socket.is
