@@ -1,3 +1,4 @@
+use borrow.Author.Count.{falls}
 use Rattle.std.proofs.Common.{◌≡◌, ◌∙◌, subst, length, refl, arith}
 use Rattle.std.proofs.lemmas.List.{get_or_read, length-set}
 use Rattle.successor_graph.proofs.Ascent.{on_turn}
@@ -48,3 +49,6 @@ returns g c = record {
   entered = c.loop-at.invariant.entered;
   noted = c.loop-at.invariant.noted;
 }
+
+pub loop-at-smaller : goal.loop-at-smaller
+loop-at-smaller g c = falls _ _ c.loop-at-test.true

@@ -1,3 +1,4 @@
+use borrow.Author.Count.{falls}
 use Rattle.std.proofs.Common.{◌≡◌, subst, inl, inr, ◌≤◌, length, reverse, get_or, true, false, arith}
 use Rattle.successor_graph.specs.Climb.{IsFound, findings}
 use Rattle.successor_graph.proofs.Rounds.{closed, left, drop_past, leads_in, marked_inside, unmarked}
@@ -61,3 +62,6 @@ returns-clause-entered g c =
       | inl e ↦ subst (λ x. get_or c.clear.new.found.entered.items x false ≡ true) e (start_entered g c)
       | inr a ↦ leads_in _ _ c.args.graph.now.leads (closed (returns-clause-found g c)) c.requires.from a (start_entered g c)
     ]
+
+pub loop-turn-smaller : goal.loop-turn-smaller
+loop-turn-smaller g c = falls _ _ c.loop-turn-test.true

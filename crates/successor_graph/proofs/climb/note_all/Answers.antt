@@ -1,3 +1,4 @@
+use borrow.Author.Count.{falls}
 use Rattle.std.proofs.Common.{◌≡◌, ◌∙◌, sym, ap, length, get_or, false, arith, below_more}
 use Rattle.std.proofs.lemmas.List.{get_or-replicate, length-replicate}
 use Rattle.successor_graph.proofs.Marks.{no_marks}
@@ -41,3 +42,6 @@ loop-from-preserved g c =
       entered = e.found.compared.sized;
       each = below_more _ _ (λ x l. e.kept.each x (c.loop-from.invariant.each x l)) e.entered;
     }
+
+pub loop-from-smaller : goal.loop-from-smaller
+loop-from-smaller g c = falls _ _ c.loop-from-test.true
