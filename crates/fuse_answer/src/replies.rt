@@ -16,6 +16,14 @@ use reply_model::Session;
 use stack_table::Table;
 use std::alloc::{AllocError, Allocator};
 
+// A request, the session before it, and a guess of the row that it finds.
+#[derive(Clone, Copy)]
+struct InSession<'r, 'b> {
+    session: Session,
+    request: &'r Request<'b>,
+    guess: Option<usize>,
+}
+
 /// Appends the reply to a request: nothing for FORGET, BATCH_FORGET and INTERRUPT, else a header
 /// with the data of the answer, or with the error that refuses the request.
 ///
@@ -60,16 +68,21 @@ pub fn answer_and_move<A: Allocator, O: Allocator>(
     ensures moves { AddsMoves table.now session (asked_of request.now) result
         balances.old balances.new }
 {
+    let asked = InSession {
+        session,
+        request,
+        guess,
+    };
     match request.op {
-        Op::Lookup { .. } => settle(table, session, request, guess, out, balances),
-        Op::Getattr => settle(table, session, request, guess, out, balances),
-        Op::Open { .. } => settle(table, session, request, guess, out, balances),
-        Op::Read { .. } => settle(table, session, request, guess, out, balances),
-        Op::Flush => settle(table, session, request, guess, out, balances),
-        Op::Release => settle(table, session, request, guess, out, balances),
-        Op::Forget { .. } => settle(table, session, request, guess, out, balances),
-        Op::Readdirplus { .. } => settle(table, session, request, guess, out, balances),
-        _ => settle(table, session, request, guess, out, balances),
+        Op::Lookup { .. } => settle(table, asked, out, balances),
+        Op::Getattr => settle(table, asked, out, balances),
+        Op::Open { .. } => settle(table, asked, out, balances),
+        Op::Read { .. } => settle(table, asked, out, balances),
+        Op::Flush => settle(table, asked, out, balances),
+        Op::Release => settle(table, asked, out, balances),
+        Op::Forget { .. } => settle(table, asked, out, balances),
+        Op::Readdirplus { .. } => settle(table, asked, out, balances),
+        _ => settle(table, asked, out, balances),
     }
 }
 
@@ -78,17 +91,21 @@ pub fn answer_and_move<A: Allocator, O: Allocator>(
 #[inline(always)]
 fn settle<A: Allocator, O: Allocator>(
     table: &Table<A>,
-    session: Session,
-    request: &Request<'_>,
-    guess: Option<usize>,
+    asked: InSession<'_, '_>,
     out: &mut Vec<u8, O>,
     balances: &mut [i128],
 ) -> Result<(), AllocError>
     requires { AreWithin (2 ^ 123) balances.old }
-    ensures reply { PutsReply table.now session (asked_of request.now) result out.old out.new }
-    ensures moves { AddsMoves table.now session (asked_of request.now) result
-        balances.old balances.new }
+    ensures reply { PutsReply table.now asked.entry.session (asked_of asked.entry.request.now)
+        result out.old out.new }
+    ensures moves { AddsMoves table.now asked.entry.session (asked_of asked.entry.request.now)
+        result balances.old balances.new }
 {
+    let InSession {
+        session,
+        request,
+        guess,
+    } = asked;
     let decided = decide(table, session, request, guess);
     tell(table, session, request, &decided, out)?;
     if let Ok(answer) = decided {

@@ -147,28 +147,9 @@ fn set_row<A: Allocator>(
     requires room { at + SHORT_ROW_SIZE ≤ length bytes.old }
     ensures { SetsRow table.now rows.now index at result bytes.old bytes.new }
 {
-    if index < 2 {
-        set_first(table, rows, index, bytes, at)
-    } else {
-        set_child(table, rows, index, bytes, at)
+    if 2 <= index {
+        return set_child(table, rows, index, bytes, at);
     }
-}
-
-// The same of `.` or `..`.
-#[inline(always)]
-fn set_first<A: Allocator>(
-    table: &Table<A>,
-    rows: &Listing<'_, A>,
-    index: usize,
-    bytes: &mut [u8],
-    at: usize,
-) -> Option<usize>
-    requires until { index < rows.now.until }
-    requires there { rows.now.until ≤ 2 + length rows.now.children.now }
-    requires entries { rows.now.with_entries ≡ true }
-    requires room { at + SHORT_ROW_SIZE ≤ length bytes.old }
-    ensures { SetsRow table.now rows.now index at result bytes.old bytes.new }
-{
     let padded = padded_at(rows, index)?;
     let (row, entry) = row_at(table, rows, index);
     Some(set_direntplus(bytes, at, entry.as_ref(), &row, padded))

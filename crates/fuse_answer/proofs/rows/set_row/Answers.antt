@@ -2,7 +2,7 @@ use Rattle.std.proofs.Common.{◌∙◌, sym, ap, ◌+◌, length, subst, rules}
 use Rattle.std.specs.Prelude.{IfSome}
 use Rattle.fuse_answer.specs.Listings.{IsPaddedAt}
 use Rattle.fuse_answer.proofs.Writing.{padded_short, padded_there, row_length, short_end}
-use Rattle.fuse_answer.proofs.rows.set_first.Goals as goal
+use Rattle.fuse_answer.proofs.rows.set_row.Goals as goal
 
 pub set_direntplus-requires-clause-padded : goal.set_direntplus-requires-clause-padded
 set_direntplus-requires-clause-padded g c =
