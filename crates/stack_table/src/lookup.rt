@@ -89,9 +89,12 @@ pub(crate) fn place_of<A: Allocator>(
     requires { AreKeyed directory.now.shared keys.now (names rows.now) }
     ensures { result ≡ place_of name.now (names rows.now) }
 {
-    match confirmed(rows, directory, name, guess) {
+    if let Some(at) = confirmed(rows, directory, name, guess) {
+        return Some(at);
+    }
+    match guesses.find(number, directory.rows_start, rows, name) {
         Some(at) => Some(at),
-        None => sought(rows, keys, guesses, number, directory, name),
+        None => find(rows, keys, directory.shared, name),
     }
 }
 
@@ -111,24 +114,6 @@ fn confirmed<A: Allocator>(
         Some(at)
     } else {
         None
-    }
-}
-
-// The place of this name, by what is guessed or by the keys of the rows.
-fn sought<A: Allocator>(
-    rows: &[Row<A>],
-    keys: &[u64],
-    guesses: &Guesses<A>,
-    number: u64,
-    directory: &Directory,
-    name: &[u8],
-) -> Option<usize>
-    requires { AreKeyed directory.now.shared keys.now (names rows.now) }
-    ensures { result ≡ place_of name.now (names rows.now) }
-{
-    match guesses.find(number, directory.rows_start, rows, name) {
-        Some(at) => Some(at),
-        None => find(rows, keys, directory.shared, name),
     }
 }
 
