@@ -2,11 +2,13 @@
 use Rattle.std.specs.Prelude.{◌≡◌, ◌≢◌, ℕ, ◌+◌, ◌⊎◌, ◌↔◌, List, [], ◌∷◌, ◌++◌, length, true, false, Option, Some, None, MatchOption, option_to_list, IsSomeAnd, IsTrue, slice_get, codes}
 use Rattle.std.specs.List.{AllByRecursion}
 use Rattle.std.specs.declared.cmp.Ordering.TheVariants.{Less}
+use Rattle.romfs_format.specs.declared.head.Head.{Head}
 use Rattle.romfs_format.specs.declared.head.Kind.TheVariants.{Directory}
 use Rattle.romfs_format.specs.declared.limits.TheConstants.{MAX_NAMES}
 use Rattle.romfs_format.specs.Fields.{kind, name}
 use Rattle.romfs_format.specs.Chains.{IsMember, Leads, Has}
 use Rattle.romfs_format.specs.Links.{IsFinal}
+use Rattle.romfs_reader.specs.Images.{IsImage}
 use Rattle.romfs_reader.specs.Readers.{IsGiven}
 use Rattle.stack_model.specs.Stack.{Path, IsPlain, IsMarker, marker, opaque}
 use Rattle.path_tree.specs.Rows.{Subtree, name_cmp, whole, at_path, IsRising}
@@ -36,6 +38,13 @@ pub record AreByName (a : List ℕ) (d : ℕ) (ms : List NamedMember) : Type 0 w
   pub each : AllByRecursion (IsNamedMember a d) ms
   pub whole : (h : ℕ) → IsMember a d h
       → (k : ℕ) × (m : NamedMember) × (slice_get ms k ≡ Some m) × (m.head.offset ≡ h)
+
+-- a header can be read in a layer: the image is sound, the ends kept so far are the image's, and the
+-- image gives this header
+pub record IsReadable (a kept : List ℕ) (head : Head) : Type 0 where
+  pub sound : IsImage a
+  pub ends : kept ≡ a
+  pub given : IsGiven a head
 
 -- a path leads to h that has as many names less than a path may have as are left
 abbrev pub IsAtDepth : List ℕ → ℕ → ℕ → Type 0
@@ -151,3 +160,13 @@ pub data AreWhiteouts : List NamedMember → List (Subtree Mark) → Type 0 wher
 -- members of a directory, and how many names are left below a path to it
 abbrev pub AreMembersAt : List ℕ → ℕ → List NamedMember → Type 0
 AreMembersAt a left ms = (d : ℕ) × AllByRecursion (IsNamedMember a d) ms × IsAtDepth a d left
+
+-- a directory whose members have become branches: a sound image gives its header, and these are the
+-- members in the order of their names
+pub record IsFolder (a : List ℕ) (layer : ℕ) (head : Head) (ms : List NamedMember)
+    (es : List (Subtree Entry)) (ks : List (Subtree Mark)) : Type 0 where
+  pub sound : IsImage a
+  pub given : IsGiven a head
+  pub directory : head.kind ≡ Directory
+  pub members : AreByName a head.offset ms
+  pub below : AreBuilt a layer ms es ks

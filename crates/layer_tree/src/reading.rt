@@ -10,10 +10,9 @@
 
 ghost use Rattle.std.specs.Prelude.{◌≡◌, ◌≢◌, [], ◌∷◌, ◌++◌, ◌↔◌, length, IfOk, OnOk, IsTrue, MatchOption, is_some};
 ghost use Rattle.romfs_reader.specs.Images.{IsImage};
-ghost use Rattle.romfs_reader.specs.Readers.{IsGiven};
 ghost use Rattle.shown_tree.specs.Trees.{IsTreeOf};
 ghost use Rattle.path_tree.specs.Rows.{NamesRise, named};
-ghost use Rattle.layer_tree.specs.Reading.{IsAtDepth, AddsMade, AreByName, AreMadeOf, IsBlank, AreBuilt, AreWhiteouts, AreMembersAt, rest_of_opaque};
+ghost use Rattle.layer_tree.specs.Reading.{IsReadable, IsAtDepth, AddsMade, AreMadeOf, IsBlank, AreBuilt, AreWhiteouts, AreMembersAt, IsFolder, rest_of_opaque};
 
 use crate::ahead::NamesAhead;
 use crate::members::{NamedMember, sorted_members, whiteout_of};
@@ -104,9 +103,7 @@ fn add_branches<A: Allocator + Copy>(
     left: u16,
     to: &mut Branches<A>,
 ) -> Result<(), AllocError>
-    requires sound { IsImage layer.now.image.now }
-    requires ends { ends.old ≡ layer.now.image.now }
-    requires given { IsGiven layer.now.image.now head.now }
+    requires read { IsReadable layer.now.image.now ends.old head.now }
     requires depth { IsAtDepth layer.now.image.now head.now.offset left }
     ensures made { OnOk result (AddsMade layer.now.image.now layer.now.number
         head.now.offset name.now to.old.entries.items to.old.marks.items
@@ -131,9 +128,7 @@ fn directory<A: Allocator + Copy>(
     head: &Head,
     left: u16,
 ) -> Result<(Child<A>, Branch<Mark, A>), AllocError>
-    requires sound { IsImage layer.now.image.now }
-    requires ends { ends.old ≡ layer.now.image.now }
-    requires given { IsGiven layer.now.image.now head.now }
+    requires read { IsReadable layer.now.image.now ends.old head.now }
     requires directory { head.now.kind ≡ Kind.Directory }
     requires depth { IsAtDepth layer.now.image.now head.now.offset left }
     ensures made { IfOk result
@@ -216,9 +211,7 @@ fn add_file<A: Allocator + Copy>(
     head: &Head,
     to: &mut Branches<A>,
 ) -> Result<(), AllocError>
-    requires sound { IsImage layer.now.image.now }
-    requires ends { ends.old ≡ layer.now.image.now }
-    requires given { IsGiven layer.now.image.now head.now }
+    requires read { IsReadable layer.now.image.now ends.old head.now }
     requires other { head.now.kind ≢ Kind.Directory }
     ensures made { OnOk result (AddsMade layer.now.image.now layer.now.number
         head.now.offset name.now to.old.entries.items to.old.marks.items
@@ -240,12 +233,8 @@ fn folder<A: Allocator + Copy>(
     members: &[NamedMember<'_>],
     below: Branches<A>,
 ) -> Result<(Child<A>, Branch<Mark, A>), AllocError>
-    requires sound { IsImage layer.now.image.now }
-    requires given { IsGiven layer.now.image.now head.now }
-    requires directory { head.now.kind ≡ Kind.Directory }
-    requires members { AreByName layer.now.image.now head.now.offset members.now }
-    requires below { AreBuilt layer.now.image.now layer.now.number
-        members.now below.entries.items below.marks.items }
+    requires { IsFolder layer.now.image.now layer.now.number head.now members.now
+        below.entries.items below.marks.items }
     ensures { IfOk result
         (AreMadeOf layer.now.image.now layer.now.number head.now.offset name.now) }
 {
@@ -272,12 +261,8 @@ fn add_folder<A: Allocator + Copy>(
     below: Branches<A>,
     to: &mut Branches<A>,
 ) -> Result<(), AllocError>
-    requires sound { IsImage layer.now.image.now }
-    requires given { IsGiven layer.now.image.now head.now }
-    requires directory { head.now.kind ≡ Kind.Directory }
-    requires members { AreByName layer.now.image.now head.now.offset members.now }
-    requires below { AreBuilt layer.now.image.now layer.now.number
-        members.now below.entries.items below.marks.items }
+    requires { IsFolder layer.now.image.now layer.now.number head.now members.now
+        below.entries.items below.marks.items }
     ensures { OnOk result (AddsMade layer.now.image.now layer.now.number
         head.now.offset name.now to.old.entries.items to.old.marks.items
         to.new.entries.items to.new.marks.items) }

@@ -1,11 +1,12 @@
 -- No path of a sound image is printed longer than `LONGEST`: it has at most `MAX_NAMES` names, none
 -- of them is as long as the field that it is read from (`name_length`), and of each byte at most
 -- three are printed (`text_length`). `are_short` says that of all shown paths.
-use Rattle.std.proofs.Common.{◌≡◌, ℕ, zero, suc, ◌+◌, ◌*◌, ◌<◌, ◌≤◌, List, [], ◌∷◌, length, drop, Option, Some, None, Bool, true, false, cond, leb, arith, refl, length-append, length-take}
+use Rattle.std.proofs.Common.{◌≡◌, ℕ, zero, suc, ◌+◌, ◌*◌, ◌<◌, ◌≤◌, List, [], ◌∷◌, length, drop, Option, Some, None, Bool, true, false, arith, refl, length-append, length-take}
 use Rattle.std.specs.Option.{option_map}
 use Rattle.romfs_format.specs.declared.limits.TheConstants.{HEAD_SIZE, NAME_FIELD_SIZE, MAX_NAMES}
-use Rattle.romfs_format.specs.Fields.{text_at, text_end, if_within, ended, name_field}
+use Rattle.romfs_format.specs.Fields.{text_at, ended, name_field}
 use Rattle.romfs_format.specs.Chains.{Leads}
+use Rattle.romfs_format.proofs.Text.{name_ended}
 use Rattle.romfs_reader.proofs.Paths.{short}
 use Rattle.stack_model.specs.Stack.{Path}
 use Rattle.stack_model.specs.Listing.{Entry, IsListing}
@@ -40,18 +41,10 @@ ended_shorter (suc n ∷ xs) t e = pick (λ u q. ended_shorter xs u q) (ended xs
     pick f None q e = absurd (cc)
     pick f (Some u) q e = let l = f u q in let k : suc n ∷ u ≡ t = cc in rw (← k) (omega arith)
 
-within : (n p : ℕ) (o : Option (List ℕ)) (t : List ℕ) → if_within n p o ≡ Some t → o ≡ Some t
-within n p None t e = absurd (cc)
-within n p (Some u) t e = test (leb (text_end p u) n) e
-  where
-    test : (b : Bool) → cond b (Some u) None ≡ Some t → Some u ≡ Some t
-    test true e = e
-    test false e = absurd (cc)
-
 name_length : (a t : List ℕ) (p : ℕ) → text_at a p ≡ Some t → length t < NAME_FIELD_SIZE
 unfolding name_field
 name_length a t p e =
-    let l = ended_shorter (name_field a p) t (within (length a) p (ended (name_field a p)) t e) in
+    let l = ended_shorter (name_field a p) t (name_ended a t p e).0 in
     let k = length-take NAME_FIELD_SIZE (drop p a) in
     omega (arith, l, k)
 

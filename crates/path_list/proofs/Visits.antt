@@ -78,6 +78,19 @@ pub record IsTurn (stack : Stacked) (n : ℕ) (rows : List Line) (i m : ℕ) (na
   pub number_is : m ≡ row.number
   pub name_is : name ≡ row.name
 
+-- a row that is read at i by its number and its name is the one whose turn it is
+pub turn_of : {stack : Stacked} {n : ℕ} {rows : List Line} {i m : ℕ} {row : Line} {own name : List ℕ} → rows ≡ rows_at stack n
+    → i < length rows → row ≡ get_or rows i row → ◌≡◌ {A = Line} (record { number = m; name = own }) row → name ≡ row.name
+    → IsTurn stack n rows i m name
+turn_of {row = row} rows_are within row_is view_is name_is = record {
+  row = row;
+  rows_are = rows_are;
+  within = within;
+  row_is = row_is;
+  number_is = ap (λ (l : Line). l.number) view_is;
+  name_is = name_is;
+}
+
 module _ (stack : Stacked) (n : ℕ) (text : List ℕ) (path : Path) (v : IsVisited stack n text path) where
   abbrev layers : List (List ℕ)
   layers = stack.layers

@@ -1,14 +1,14 @@
 -- The text before the first zero byte, as a search finds it: of all bytes (ended_first), or of a
--- front of them that has one (ended_near). The last three say from it which name begins at a place:
--- it counts where its padding ends within the image.
-use Rattle.std.proofs.Common.{◌≡◌, ◌≢◌, ◌∙◌, sym, ℕ, zero, suc, ◌<◌, false, leb, List, [], ◌∷◌, length, take, get_or, Option, Some, None, IsSome, refl, arith, ◌≤◌}
+-- front of them that has one (ended_near). Three lemmas say from it which name begins at a place:
+-- it counts where its padding ends within the image. The last goes back from a name to its field.
+use Rattle.std.proofs.Common.{◌≡◌, ◌≢◌, ◌∙◌, sym, ℕ, zero, suc, ◌<◌, Bool, true, false, leb, cond, List, [], ◌∷◌, length, take, get_or, Option, Some, None, IsSome, refl, arith, ◌≤◌}
 use Rattle.std.specs.Prelude.{IfSome}
 use Rattle.std.specs.Option.{option_map}
 use Rattle.std.proofs.lemmas.Bool.{eqb-true, le-leb, false≢true}
 use Rattle.std.proofs.lemmas.List.{get_or-take, length-take-le}
 use Rattle.std.proofs.lemmas.Bool.Decides.{nat_tests}
 use Rattle.memchr.specs.Find.{IsFirstByte, is_byte}
-use Rattle.romfs_format.specs.Fields.{ended, name_field, text_at, text_end}
+use Rattle.romfs_format.specs.Fields.{ended, name_field, text_at, text_end, if_within}
 
 ended_none : (xs : List ℕ) → ((k : ℕ) → k < length xs → get_or xs k 0 ≢ 0) → ended xs ≡ None
 unfolding ended
@@ -57,3 +57,17 @@ module _ (a field : List ℕ) (p : ℕ) (is : field ≡ name_field a p) where
   -- a place whose text has padding that ends beyond the image has no name
   pub within_else : (text : List ℕ) → Some text ≡ ended field → length a < text_end p text → ◌≡◌ {A = Option (List ℕ)} None (text_at a p)
   within_else text f h = rw (← is, ← f) (rw (past (length a) (text_end p text) h) refl)
+
+-- a name is the text that is ended in its field, and its padding ends within the image
+pub name_ended : (a text : List ℕ) (p : ℕ) → text_at a p ≡ Some text
+    → (ended (name_field a p) ≡ Some text) × (text_end p text ≤ length a)
+name_ended a text p = within (ended (name_field a p))
+  where
+    test : (u : List ℕ) (b : Bool) → leb (text_end p u) (length a) ≡ b → cond b (Some u) None ≡ Some text
+        → (Some u ≡ Some text) × (text_end p text ≤ length a)
+    test u true q e = let k : u ≡ text = cc in (e, rw (← k) (grind (arith, nat_tests)))
+    test u false q e = absurd (cc)
+
+    within : (o : Option (List ℕ)) → if_within (length a) p o ≡ Some text → (o ≡ Some text) × (text_end p text ≤ length a)
+    within None e = absurd (cc)
+    within (Some u) e = test u (leb (text_end p u) (length a)) refl e

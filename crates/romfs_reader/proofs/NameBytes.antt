@@ -1,13 +1,13 @@
 -- A name that is ended stands in the image's bytes: it is the front part of the field that it is
--- read from (`front`), and lies in the image with its padding (`within`); `text_bytes` says both.
-use Rattle.std.proofs.Common.{◌≡◌, ◌∙◌, sym, ap, ℕ, zero, suc, ◌≤◌, Bool, List, [], ◌∷◌, ◌++◌, length, take, drop, Option, Some, None, true, false, arith, refl, leb, cond}
+-- read from (`front`), and lies in the image with its padding; `text_bytes` says both.
+use Rattle.std.proofs.Common.{◌≡◌, ◌∙◌, sym, ap, ℕ, zero, suc, ◌≤◌, List, [], ◌∷◌, ◌++◌, length, take, drop, Option, Some, None, refl}
 use Rattle.std.specs.Option.{option_map}
 use Rattle.std.proofs.Common.{append_assoc}
 use Rattle.std.proofs.Math.Seq.{take-append_seam}
 use Rattle.std.proofs.lemmas.List.{take-append-drop}
-use Rattle.std.proofs.lemmas.Bool.Decides.{nat_tests}
 use Rattle.romfs_format.specs.declared.limits.TheConstants.{NAME_FIELD_SIZE}
-use Rattle.romfs_format.specs.Fields.{text_at, text_end, if_within, ended, name_field}
+use Rattle.romfs_format.specs.Fields.{text_at, text_end, ended, name_field}
+use Rattle.romfs_format.proofs.Text.{name_ended}
 
 -- the text before the first zero byte is a front part
 front : (xs t : List ℕ) → ended xs ≡ Some t → (rest : List ℕ) × (xs ≡ t ++ rest)
@@ -22,19 +22,11 @@ front (suc n ∷ xs) t e = pick (λ u q. front xs u q) (ended xs) refl e
     pick f None q e = absurd (cc)
     pick f (Some u) q e = let r = f u (sym q) in let k : suc n ∷ u ≡ t = cc in (r.0, rw (← k) (ap (λ l. suc n ∷ l) r.1))
 
-within : (n p : ℕ) (o : Option (List ℕ)) (t : List ℕ) → if_within n p o ≡ Some t → (o ≡ Some t) × (text_end p t ≤ n)
-within n p None t e = absurd (cc)
-within n p (Some u) t e = test (leb (text_end p u) n) refl e
-  where
-    test : (b : Bool) → b ≡ leb (text_end p u) n → cond b (Some u) None ≡ Some t → (Some u ≡ Some t) × (text_end p t ≤ n)
-    test true q e = let k : u ≡ t = cc in (e, rw (← k) (grind (arith, nat_tests)))
-    test false q e = absurd (cc)
-
 -- an ended text lies in the image with its padding, and its bytes are those from its place on
 pub text_bytes : (a t : List ℕ) (p : ℕ) → p ≤ length a → text_at a p ≡ Some t → (text_end p t ≤ length a) × (take (length t) (drop p a) ≡ t)
 unfolding name_field
 text_bytes a t p l e =
-    let w = within (length a) p (ended (name_field a p)) t e in
+    let w = name_ended a t p e in
     let f = front (take NAME_FIELD_SIZE (drop p a)) t w.0 in
     let g : drop p a ≡ t ++ (f.0 ++ drop NAME_FIELD_SIZE (drop p a)) = sym (take-append-drop NAME_FIELD_SIZE (drop p a))
     ∙ ap (λ x. x ++ drop NAME_FIELD_SIZE (drop p a)) f.1 ∙ append_assoc t f.0 (drop NAME_FIELD_SIZE (drop p a)) in

@@ -1,12 +1,13 @@
 -- A header that is named . or .. has a dot as the first byte of its name (dot_first): a text begins
 -- as the bytes do that it stands in (first), so its first byte is where its field begins
 -- (first_byte).
-use Rattle.std.proofs.Common.{◌≡◌, ◌∙◌, sym, ap, ℕ, zero, suc, ◌+◌, ◌<◌, inl, inr, List, [], ◌∷◌, length, take, drop, get_or, Bool, true, false, Option, Some, None, arith, leb, cond}
+use Rattle.std.proofs.Common.{◌≡◌, ◌∙◌, sym, ap, ℕ, zero, suc, ◌+◌, ◌<◌, inl, inr, List, [], ◌∷◌, length, take, drop, get_or, Option, Some, None, arith}
 use Rattle.std.specs.Option.{option_map}
 use Rattle.std.proofs.lemmas.List.{get_or-take, get_or-drop, length-take, length-drop}
 use Rattle.romfs_format.specs.declared.limits.TheConstants.{NAME_FIELD_SIZE}
-use Rattle.romfs_format.specs.Fields.{text_at, text_end, if_within, ended, name_field}
+use Rattle.romfs_format.specs.Fields.{text_at, ended, name_field}
 use Rattle.romfs_format.specs.Chains.{IsDotted}
+use Rattle.romfs_format.proofs.Text.{name_ended}
 
 -- a text begins as the bytes do that it stands in
 first : (xs t : List ℕ) (c : ℕ) → ended xs ≡ Some (c ∷ t) → (0 < length xs) × (get_or xs 0 0 ≡ c)
@@ -19,19 +20,11 @@ first (suc n ∷ xs) t c e = (omega arith, pick (ended xs) e)
     pick None e = absurd (cc)
     pick (Some u) e = cc
 
-within : (n p : ℕ) (o : Option (List ℕ)) (t : List ℕ) → if_within n p o ≡ Some t → o ≡ Some t
-within n p None t e = absurd (cc)
-within n p (Some u) t e = test (leb (text_end p u) n) e
-  where
-    test : (b : Bool) → cond b (Some u) None ≡ Some t → Some u ≡ Some t
-    test true e = e
-    test false e = absurd (cc)
-
 -- the first byte of a text stands where its field begins
 first_byte : (a t : List ℕ) (p c : ℕ) → text_at a p ≡ Some (c ∷ t) → (p < length a) × (get_or a p 0 ≡ c)
 unfolding name_field
 first_byte a t p c e =
-    let f = first (take NAME_FIELD_SIZE (drop p a)) t c (within (length a) p (ended (name_field a p)) (c ∷ t) e) in
+    let f = first (take NAME_FIELD_SIZE (drop p a)) t c (name_ended a (c ∷ t) p e).0 in
     let l : 0 < length (drop p a) = omega (arith, length-take NAME_FIELD_SIZE (drop p a), f.0) in
     let z : p ≡ p + 0 = omega arith in (
       omega (arith, length-drop p a, l),

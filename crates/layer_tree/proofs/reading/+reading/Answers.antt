@@ -69,15 +69,15 @@ branches_below-loop-member-smaller-then-is_marker g t c =
 
 pub add_branches-sorted_members-requires : goal.add_branches-sorted_members-requires
 add_branches-sorted_members-requires g t c = record {
-  sound = c.requires.sound;
-  given = c.requires.given;
+  sound = c.requires.read.sound;
+  given = c.requires.read.given;
   directory = c.in-Directory.is;
 }
 
 pub add_branches-add_folder-requires : goal.add_branches-add_folder-requires
 add_branches-add_folder-requires g t c = record {
-  sound = c.requires.sound;
-  given = c.requires.given;
+  sound = c.requires.read.sound;
+  given = c.requires.read.given;
   directory = c.in-Directory.is;
   members = rw c.deref-in-Directory.ensures.value c.in_ok-members-in-Directory.ensures;
   below = rw c.deref-in-Directory.ensures.value (rw c.deref.ensures.value at c.in_ok-below-in-Directory.ensures.built);

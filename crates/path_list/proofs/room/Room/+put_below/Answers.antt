@@ -1,41 +1,22 @@
 use Rattle.std.proofs.Common.{rules, ◌≡◌, ◌<◌, ◌-◌, ◌^◌, ◌++◌, ◌∷◌, ◌∙◌, ap, subst, sym, length, length-append, arith}
-use Rattle.stack_table.specs.Rows.{Line}
 use Rattle.path_list.specs.declared.path_text.TheConstants.{LONGEST}
 use Rattle.path_list.specs.Lines.{name_text, printed}
 use Rattle.path_list.specs.Walks.{IsOnWay, line_as}
 use Rattle.path_list.proofs.Gaining.{puts_same}
-use Rattle.path_list.proofs.Visits.{IsTurn}
+use Rattle.path_list.proofs.Visits.{turn_of}
 use Rattle.path_list.proofs.Turns.{name_fits, on_way, cut_back, turn_more, all_turns}
 use Rattle.path_list.proofs.room.Room.+put_below.Goals as goal
 
 pub go_down-requires : goal.go_down-requires
 go_down-requires g t c =
-    let turn : IsTurn c.args.table.now c.args.number c.rows-row-items.result.now c.loop-row.row-index c.row.inside.number
-    c.name.result.now =
-    record {
-      row = c.row-item.result;
-      rows_are = c.rows-row-items.ensures;
-      within = c.loop-row-test.true;
-      row_is = c.row-item.is;
-      number_is = ap (λ (l : Line). l.number) c.row.view_is;
-      name_is = c.name.ensures;
-    } in
+    let turn = turn_of c.rows-row-items.ensures c.loop-row-test.true c.row-item.is c.row.view_is c.name.ensures in
     let room = name_fits c.args.table.now c.args.number c.args.path.now c.requires.on turn in
     let same = ap length c.loop-row.invariant.back in
     omega (arith, room, same)
 
 pub put_below-requires : goal.put_below-requires
 put_below-requires g t c κs within =
-    let turn : IsTurn c.args.table.now c.args.number c.rows-row-items.result.now c.loop-row.row-index c.row.inside.number
-    c.name.result.now =
-    record {
-      row = c.row-item.result;
-      rows_are = c.rows-row-items.ensures;
-      within = c.loop-row-test.true;
-      row_is = c.row-item.is;
-      number_is = ap (λ (l : Line). l.number) c.row.view_is;
-      name_is = c.name.ensures;
-    } in
+    let turn = turn_of c.rows-row-items.ensures c.loop-row-test.true c.row-item.is c.row.view_is c.name.ensures in
     let text = c.args.path.now in
     let name = name_text c.name.result.now in
     let down : c.go_down.new.self ≡ text ++ 47 ∷ name = c.go_down.ensures ∙ ap (λ q. q ++ 47 ∷ name) c.loop-row.invariant.back in
@@ -50,16 +31,7 @@ put_below-requires g t c κs within =
 
 pub loop-row-preserved : goal.loop-row-preserved
 loop-row-preserved g t c =
-    let turn : IsTurn c.args.table.now c.args.number c.rows-row-items.result.now c.loop-row.row-index c.row.inside.number
-    c.name.result.now =
-    record {
-      row = c.row-item.result;
-      rows_are = c.rows-row-items.ensures;
-      within = c.loop-row-test.true;
-      row_is = c.row-item.is;
-      number_is = ap (λ (l : Line). l.number) c.row.view_is;
-      name_is = c.name.ensures;
-    } in
+    let turn = turn_of c.rows-row-items.ensures c.loop-row-test.true c.row-item.is c.row.view_is c.name.ensures in
     let text = c.args.path.now in
     let name = name_text c.name.result.now in
     let down : c.go_down.new.self ≡ text ++ 47 ∷ name = c.go_down.ensures ∙ ap (λ q. q ++ 47 ∷ name) c.loop-row.invariant.back in
