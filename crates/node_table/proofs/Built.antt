@@ -20,7 +20,6 @@ use Rattle.shown_tree.specs.declared.place.Place.{Place}
 use Rattle.shown_tree.specs.declared.place.Entry.{Entry}
 use Rattle.name_keys.specs.Names.{Rise}
 use Rattle.stack_table.specs.Rows.{Line, names}
-use Rattle.node_table.specs.Walks.{Visit}
 use Rattle.node_table.specs.Building.{line_in, directories, HasNumberAndSize, AreFollowing, AddsRows, AddsLinked, AddsNothing, AddsByKind, IsReadFrom, AddsNode}
 use Rattle.shown_tree.proofs.NoDirectory.{not_directory}
 use Rattle.node_table.proofs.Lists.{take_one_more}
@@ -116,20 +115,20 @@ names_rise tell (c ∷ cs) r (suc i) zero d l m = absurd (omega arith)
 names_rise tell (c ∷ cs) r (suc i) (suc j) d l m = names_rise tell cs r.1 i j d (omega arith) (omega arith)
 
 -- what the code reads of a branch: its entry, the header at its place, and where its data lie
-pub record ReadsBranch (layers : List (List ℕ)) (visit : Visit Entry) : Type 0 where
+pub record ReadsBranch (layers : List (List ℕ)) (branch : Subtree Entry) : Type 0 where
   pub entry : Entry
   pub head : Head
   pub part : Part
   pub image : List ℕ
-  pub entry_is : entry ≡ visit.0.now.value
+  pub entry_is : entry ≡ branch.value
   pub image_is : image ≡ get_or layers entry.place.layer image
   pub head_is : head ≡ head_of image entry.place.header
   pub data_is : IsDataPart image head.offset part
 
 -- it is known of what the calls give that read it
-abbrev pub reads_branch : {layers : List (List ℕ)} {visit : Visit Entry} {entry : Entry} {head : Head} {part : Part} {image : List ℕ}
-    → entry ≡ visit.0.now.value → image ≡ get_or layers entry.place.layer image → head ≡ head_of image entry.place.header
-    → IsDataPart image head.offset part → ReadsBranch layers visit
+abbrev pub reads_branch : {layers : List (List ℕ)} {branch : Subtree Entry} {entry : Entry} {head : Head} {part : Part} {image : List ℕ}
+    → entry ≡ branch.value → image ≡ get_or layers entry.place.layer image → head ≡ head_of image entry.place.header
+    → IsDataPart image head.offset part → ReadsBranch layers branch
 reads_branch entry_is image_is head_is data_is = record {
   entry = _;
   head = _;
@@ -142,7 +141,7 @@ reads_branch entry_is image_is head_is data_is = record {
 }
 
 -- the node of a branch, how often it is linked, and where its directory stands
-module _ {layers : List (List ℕ)} {visit : Visit Entry} (reads : ReadsBranch layers visit) (nlink at : ℕ) where
+module _ {layers : List (List ℕ)} {branch : Subtree Entry} (reads : ReadsBranch layers branch) (nlink at : ℕ) where
   abbrev node : Node
   node = record {
     kind = reads.entry.kind;
@@ -163,9 +162,9 @@ module _ {layers : List (List ℕ)} {visit : Visit Entry} (reads : ReadsBranch l
   }
 
   -- what a header says, with what the branch's kind adds, is the node of the branch
-  pub made : {tell : Place → ℕ} {paths : ℕ} (old new : Folders) → at ≡ length old.all
-      → AddsByKind tell visit paths (is_directory reads.entry.kind) nlink old.all new.all old.rows new.rows old.keys new.keys
-      → AddsNode layers tell visit paths old.all new.all old.rows new.rows old.keys new.keys node
+  pub made : {tell : Place → ℕ} {above paths : ℕ} (old new : Folders) → at ≡ length old.all
+      → AddsByKind tell branch above paths (is_directory reads.entry.kind) nlink old.all new.all old.rows new.rows old.keys new.keys
+      → AddsNode layers tell branch above paths old.all new.all old.rows new.rows old.keys new.keys node
   made old new stands adds = record {
     kind_is = ap (λ (e : Entry). e.kind) reads.entry_is;
     place_is = ap (λ (e : Entry). e.place) reads.entry_is;
@@ -176,15 +175,15 @@ module _ {layers : List (List ℕ)} {visit : Visit Entry} (reads : ReadsBranch l
   }
 
 -- what a directory adds, and what any other branch does
-module _ (tell : Place → ℕ) (visit : Visit Entry) (paths : ℕ) (kind : Kind) (nlink : ℕ) (old new : Folders) where
+module _ (tell : Place → ℕ) (branch : Subtree Entry) (above paths : ℕ) (kind : Kind) (nlink : ℕ) (old new : Folders) where
   -- where the kind is a directory, a linked directory is what is to be added
-  pub added_directory : kind ≡ Directory → AddsLinked tell visit nlink old.all new.all old.rows new.rows old.keys new.keys
-      → AddsByKind tell visit paths (is_directory kind) nlink old.all new.all old.rows new.rows old.keys new.keys
+  pub added_directory : kind ≡ Directory → AddsLinked tell branch above nlink old.all new.all old.rows new.rows old.keys new.keys
+      → AddsByKind tell branch above paths (is_directory kind) nlink old.all new.all old.rows new.rows old.keys new.keys
   added_directory is_one linked = rw (ap is_directory is_one) linked
 
   -- where it is none, nothing is to be added
   pub added_other : (kind ≡ Directory → ⊥) → AddsNothing paths nlink old.all new.all old.rows new.rows old.keys new.keys
-      → AddsByKind tell visit paths (is_directory kind) nlink old.all new.all old.rows new.rows old.keys new.keys
+      → AddsByKind tell branch above paths (is_directory kind) nlink old.all new.all old.rows new.rows old.keys new.keys
   added_other is_none nothing = rw (not_directory kind is_none) nothing
 
 -- the rows from where the old ones end, as the code cuts them

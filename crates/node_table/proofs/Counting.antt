@@ -164,11 +164,11 @@ seen_last visits i visit l e = ap (map bare) (take_one_more visits i visit l e) 
 
 -- one more key
 pub keys_more : (visits : List (Visit Entry)) (i : ℕ) (visit : Visit Entry) (keys keys' : List ℕ) (k : ℕ) → i < length visits
-    → visit ≡ get_or visits i visit → AreKeys (take i visits) keys → k ≡ key_of visit → visit.0.now.value.place.header < 2 ^ 32
+    → visit ≡ get_or visits i visit → AreKeys (take i visits) keys → k ≡ key_of visit → visit.now.value.place.header < 2 ^ 32
     → keys' ≡ keys ++ k ∷ [] → AreKeys (take (i + 1) visits) keys'
 keys_more visits i visit keys keys' k l e a k_is small p = subst (λ x. AreKeys x keys') (sym (take_one_more visits i visit l e)) (record {
   are = p ∙ ap (λ x. x ++ k ∷ []) a.are ∙ ap (λ n. map key_of (take i visits) ++ n ∷ []) k_is ∙ sym (map_push key_of (take i visits) visit);
-  small = All-push (λ (s : Visit Entry). s.0.now.value.place.header < 2 ^ 32) (take i visits) visit a.small small;
+  small = All-push (λ (s : Visit Entry). s.now.value.place.header < 2 ^ 32) (take i visits) visit a.small small;
 })
 
 -- two places with one key are one
@@ -186,7 +186,6 @@ numbers_begun visits first starts paths numbers e d f n = record {
   places = ap (map visit_place) e ∙ empty;
   each = λ k x g. absurd (let h = rw e at g in cc);
   starts_level = ap length d ∙ sym (ap length e);
-  starts_are = λ k x g. absurd (let h = rw e at g in cc);
   level = ap length f ∙ sym (ap length e);
   counted = λ k x g. absurd (let h = rw e at g in cc);
   numbers_level = ap length n;
@@ -254,7 +253,6 @@ module _ (visits : List (Visit Entry)) (i : ℕ) (visit : Visit Entry) (held : N
     places = inv.places ∙ sym same;
     each = inv.each;
     starts_level = inv.starts_level;
-    starts_are = inv.starts_are;
     level = ap length paths_is ∙ simp length-set inv.level;
     counted = counts;
     numbers_level = ap length numbers_is ∙ length_push held.numbers n ∙ ap (λ k. k + 1) inv.numbers_level;
@@ -311,14 +309,10 @@ module _ (visits : List (Visit Entry)) (i : ℕ) (visit : Visit Entry) (held : N
   is_new n later unnumbered next first_is starts_is paths_is numbers_is = record {
     places = ap (map visit_place) first_is ∙ map_push visit_place held.first visit
         ∙ ap (λ ps. ps ++ visit_place visit ∷ []) inv.places ∙ sym grown;
-    each = λ k x f. elim (get_push held.first visit k x (subst (λ xs. slice_get xs k ≡ Some x) first_is f)) [
-      | inl g ↦ inv.each k x g
-      | inr (a, b) ↦ subst (IsFirstVisit visits) b (record { at = i; is = slice_get_read visits _ i visit refl lt here; new = unnumbered })
-    ];
+    each = λ k x f. subst (λ xs. IsFirstVisit visits x (slice_index xs k)) (sym starts_is)
+        (starting k x (get_push held.first visit k x (subst (λ xs. slice_get xs k ≡ Some x) first_is f)));
     starts_level = ap length starts_is ∙ length_push held.starts i ∙ ap (λ k. k + 1) inv.starts_level
         ∙ sym (ap length first_is ∙ length_push held.first visit);
-    starts_are = λ k x f. subst (λ xs. slice_get visits (slice_index xs k) ≡ Some x) (sym starts_is)
-        (starting k x (get_push held.first visit k x (subst (λ xs. slice_get xs k ≡ Some x) first_is f)));
     level = ap length paths_is ∙ length_push held.paths 1 ∙ ap (λ k. k + 1) inv.level
         ∙ sym (ap length first_is ∙ length_push held.first visit);
     counted = λ k x f. counts k x (get_push held.first visit k x (subst (λ xs. slice_get xs k ≡ Some x) first_is f));
@@ -347,14 +341,17 @@ module _ (visits : List (Visit Entry)) (i : ℕ) (visit : Visit Entry) (held : N
       ]
 
       starting : (k : ℕ) (x : Visit Entry) → (slice_get held.first k ≡ Some x) ⊎ ((k ≡ length held.first) × (visit ≡ x))
-          → slice_get visits (slice_index (held.starts ++ i ∷ []) k) ≡ Some x
+          → IsFirstVisit visits x (slice_index (held.starts ++ i ∷ []) k)
       starting k x (inl f) =
           let b = slice_get_within held.first k x f in
           let v = inv.starts_level in
-          ap (slice_get visits) (get_or_append_left held.starts (i ∷ []) 0 k (omega arith)) ∙ inv.starts_are k x f
-      starting k x (inr (a, b)) = ap (slice_get visits) (ap (slice_index (held.starts ++ i ∷ [])) (a ∙ sym inv.starts_level)
-          ∙ get_or_push held.starts i 0 (length held.starts) refl)
-          ∙ slice_get_read visits _ i visit refl lt here ∙ ap Some b
+          subst (IsFirstVisit visits x) (sym (get_or_append_left held.starts (i ∷ []) 0 k (omega arith))) (inv.each k x f)
+      starting k x (inr (a, b)) = subst (IsFirstVisit visits x) (sym (ap (slice_index (held.starts ++ i ∷ [])) (a ∙ sym inv.starts_level)
+          ∙ get_or_push held.starts i 0 (length held.starts) refl))
+          (subst (λ (y : Visit Entry). IsFirstVisit visits y i) b (record {
+            is = slice_get_read visits _ i visit refl lt here;
+            new = unnumbered;
+          }))
 
       counts : (k : ℕ) (x : Visit Entry) → (slice_get held.first k ≡ Some x) ⊎ ((k ≡ length held.first) × (visit ≡ x))
           → slice_index later.paths k ≡ min (paths_of (seen visits (i + 1)) (visit_place x)) (2 ^ 32 - 1)
@@ -417,14 +414,14 @@ module _ (visits : List (Visit Entry)) (keys firsts : List ℕ) (are : AreKeys v
   key_is : (k : ℕ) (s : Visit Entry) → slice_get visits k ≡ Some s → slice_index keys k ≡ key_of s
   key_is k s e = ap (λ xs. slice_index xs k) are.are ∙ index_map key_of visits k s e
 
-  small : (k : ℕ) (s : Visit Entry) → slice_get visits k ≡ Some s → s.0.now.value.place.header < 2 ^ 32
-  small k s e = subst (λ (x : Visit Entry). x.0.now.value.place.header < 2 ^ 32) (get_or_from_slice_get visits k s s e)
+  small : (k : ℕ) (s : Visit Entry) → slice_get visits k ≡ Some s → s.now.value.place.header < 2 ^ 32
+  small k s e = subst (λ (x : Visit Entry). x.now.value.place.header < 2 ^ 32) (get_or_from_slice_get visits k s s e)
       (are.small k s (slice_get_within visits k s e))
 
   -- visits with one key have one place
   one_place : (j k : ℕ) (s t : Visit Entry) → slice_get visits j ≡ Some s → slice_get visits k ≡ Some t
       → slice_index keys j ≡ slice_index keys k → visit_place s ≡ visit_place t
-  one_place j k s t d e q = key_tells s.0.now.value.place t.0.now.value.place (small j s d) (small k t e) (sym (key_is j s d) ∙ q
+  one_place j k s t d e q = key_tells s.now.value.place t.now.value.place (small j s d) (small k t e) (sym (key_is j s d) ∙ q
       ∙ key_is k t e)
 
   module _ (i : ℕ) (visit : Visit Entry) (lt : i < length visits) (here : visit ≡ get_or visits i visit) where

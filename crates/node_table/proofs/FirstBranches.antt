@@ -10,16 +10,16 @@ use Rattle.romfs_reader.specs.Images.{IsImage}
 use Rattle.romfs_reader.specs.Readers.{data_of_header as data_in}
 use Rattle.stack_model.specs.Stack.{Path}
 use Rattle.stack_model.specs.Listing.{Entry as Listed}
-use Rattle.stack_model.specs.Numbers.{Place as ModelPlace, Child, place, same_place, number, children}
+use Rattle.stack_model.specs.Numbers.{Place as ModelPlace, Child, place, same_place, number, parent, children}
 use Rattle.stack_model.specs.Attributes.{is_directory, is_directory_at, data_of}
 use Rattle.path_tree.specs.Rows.{Subtree, Rows, prefixed, spread, whole, NamesRise, IsForest, length_prefixed}
 use Rattle.shown_tree.specs.declared.place.Entry.{Entry}
 use Rattle.shown_tree.specs.Trees.{TreeRows, IsTreeOf, listed}
 use Rattle.shown_tree.proofs.Listed.{is_listing}
 use Rattle.stack_table.specs.Readers.{placed}
-use Rattle.node_table.specs.Walks.{Visit, under, IsLocated, AreWalked, visit_size, AreAbove, AddsWalk}
+use Rattle.node_table.specs.Walks.{Visit, under, IsLocated, visit_size, StandsAt, IsBelow, AreWalked, AddsWalk}
 use Rattle.node_table.specs.Numbering.{visit_place, bare, seen, paths_of, number_among, IsFirstVisit, IsNumbered}
-use Rattle.node_table.specs.Building.{line_in, HasNumberAndSize, AreFollowing, StandAtStarts}
+use Rattle.node_table.specs.Building.{line_in, HasNumberAndSize, AreFollowing, number_above, StandAtStarts}
 use Rattle.node_table.specs.Agreement.{shown_line, AgreeBelow, AgreesAtPlace, AgreeWithSomeListing}
 use Rattle.path_tree.proofs.Lists.{all_get}
 use Rattle.node_table.proofs.Lists.{element_below, index_map}
@@ -66,27 +66,30 @@ paths_by es fs p e =
 
 -- the visits are a walk over the whole tree of a stack of sound images, and their places are numbered
 pub record WalksTree (layers : List (List ℕ)) (t : TreeRows) (root : Subtree Entry) (visits : List (Visit Entry))
-    (held : Numbers) : Type 0 where
+    (places : List ℕ) (held : Numbers) : Type 0 where
   pub tree : IsTreeOf 0 layers t
   pub sound : AllByRecursion IsImage layers
   pub whole : t.entries ≡ whole root
-  pub walked : AreWalked root root.value visits
+  pub first : StandsAt visits 0 root.value
+  pub walked : AreWalked root 0 visits visits places
   pub numbered : IsNumbered visits (length visits) held.first held.starts held.paths held.numbers
 
-module _ (layers : List (List ℕ)) (t : TreeRows) (root : Subtree Entry) (visits : List (Visit Entry)) (held : Numbers)
-    (walk : WalksTree layers t root visits held) where
+module _ (layers : List (List ℕ)) (t : TreeRows) (root : Subtree Entry) (visits : List (Visit Entry)) (places : List ℕ)
+    (held : Numbers) (walk : WalksTree layers t root visits places held) where
   level : length visits ≡ length t.entries
   level = walk.walked.level ∙ ap length (sym walk.whole)
 
-  at : (k : ℕ) (visit : Visit Entry) → slice_get visits k ≡ Some visit → IsLocated t.entries k visit.0.now visit.1
-  at k visit e = subst (λ rows. IsLocated rows k visit.0.now visit.1) (sym walk.whole) (let n : 0 + k ≡ k = omega arith in
-      subst (λ n. IsLocated (whole root) n visit.0.now visit.1) n (walk.walked.each (whole root) 0 (root_located root) k visit e))
+  at : (k : ℕ) (visit : Visit Entry) → slice_get visits k ≡ Some visit
+      → IsBelow t.entries k visit.now visits (slice_index places k)
+  at k visit e = subst (λ rows. IsBelow rows k visit.now visits (slice_index places k)) (sym walk.whole) (let n : 0 + k ≡ k = omega arith in
+      subst (λ n. IsBelow (whole root) n visit.now visits (slice_index places k)) n
+      (walk.walked.each (whole root) 0 (record { above = root.value; located = root_located root; stands = walk.first }) k visit e))
 
   abbrev entries : List Listed
   entries = map listed t.entries
 
   places_are : map place (map listed t.entries) ≡ map place (seen visits (length visits))
-  places_are = places_same t.entries visits level at
+  places_are = places_same t.entries visits places level at
       ∙ sym (ap (λ x. map place (map bare x)) (take_all (length visits) visits (omega arith)) ∙ bare_places visits)
 
   all_placed : AllByRecursion (λ (r : Path × Entry). IsPlaced layers r.1) t.entries
@@ -96,20 +99,21 @@ module _ (layers : List (List ℕ)) (t : TreeRows) (root : Subtree Entry) (visit
   unfolding number_among
   numbered e = ap (λ o. unwrap_or o 0) (number_of_by (seen visits (length visits)) (map listed t.entries) (placed e.place) (sym places_are))
 
-  visit_placed : (k : ℕ) (visit : Visit Entry) → slice_get visits k ≡ Some visit → IsPlaced layers visit.0.now.value
-  visit_placed k visit e = let l = at k visit e in all_get (λ (r : Path × Entry). IsPlaced layers r.1) t.entries k (
+  visit_placed : (k : ℕ) (visit : Visit Entry) → slice_get visits k ≡ Some visit → IsPlaced layers visit.now.value
+  visit_placed k visit e = let b = at k visit e in let l = b.located in all_get (λ (r : Path × Entry). IsPlaced layers r.1) t.entries k (
     l.top ++ [],
-    visit.0.now.value,
-  ) all_placed (row_at t.entries k visit.0.now visit.1 l)
+    visit.now.value,
+  ) all_placed (row_at t.entries k visit.now b.above l)
 
   children_placed : (k : ℕ) (visit : Visit Entry) → slice_get visits k ≡ Some visit → (cs : List (Subtree Entry))
-      → visit.0.now.below ≡ spread cs
+      → visit.now.below ≡ spread cs
       → AllByRecursion (λ (c : Subtree Entry). IsPlaced layers c.value) cs
   children_placed k visit e cs below =
-      let l = at k visit e in
+      let b = at k visit e in
+      let l = b.located in
       let P : Path × Entry → Type 0 = λ (r : Path × Entry). IsPlaced layers r.1 in
-      let row : Path × Entry = (l.top ++ [], visit.0.now.value) in
-      let s = by_listing.split t.entries visits level at k visit.0.now visit.1 l
+      let row : Path × Entry = (l.top ++ [], visit.now.value) in
+      let s = by_listing.split t.entries visits places level at k visit.now b.above l
       ∙ ap (λ b. l.before ++ row ∷ (under l.top b ++ l.after)) below in
       let tail = all_back P l.before (row ∷ (under l.top (spread cs) ++ l.after)) (subst (AllByRecursion P) s all_placed) in
       go l.top cs (all_front P (under l.top (spread cs)) l.after tail.1)
@@ -124,11 +128,11 @@ module _ (layers : List (List ℕ)) (t : TreeRows) (root : Subtree Entry) (visit
             (under_append top (prefixed c.name c.below) (spread cs)) a.1)),
       )
 
-  children_agree : (k : ℕ) (visit : Visit Entry) (f : IsFirstVisit visits visit) (cs : List (Subtree Entry)) → visit.0.now.below ≡ spread cs
+  children_agree : (visit : Visit Entry) (j : ℕ) (f : IsFirstVisit visits visit j) (cs : List (Subtree Entry)) → visit.now.below ≡ spread cs
       → IsForest cs → AgreeBelow layers (map listed t.entries) (number_among visits) (visit_place visit) cs
-  children_agree k visit f cs below forest =
-      let c = by_listing.children_are t.entries visits level at visit f cs below forest in
-      let p = children_placed f.at visit f.is cs below in
+  children_agree visit j f cs below forest =
+      let c = by_listing.children_are t.entries visits places level at visit j f cs below forest in
+      let p = children_placed j visit f.is cs below in
       record {
         rows_are = lines cs p ∙ ap (map (shown_line (map listed t.entries))) (sym c);
         count_is = sym (counted (λ (c : Subtree Entry). is_directory c.value.kind) cs) ∙ kinds cs p
@@ -150,20 +154,36 @@ module _ (layers : List (List ℕ)) (t : TreeRows) (root : Subtree Entry) (visit
           (count (λ (c : Subtree Entry). is_directory c.value.kind) cs)) (ap is_directory (kind_placed layers c.value a.0))
           ∙ ap (λ n. cond (is_directory_at layers (placed c.value.place)) (1 + n) n) (kinds cs a.1)
 
+  tells : (k : ℕ) (visit : Visit Entry) → slice_get visits k ≡ Some visit → slice_index held.numbers k
+      ≡ number_among visits visit.now.value.place
+  unfolding number_among
+  tells k visit e = ap (λ o. unwrap_or o 0) (sym (walk.numbered.known k visit (slice_get_within visits k visit e) e))
+
+  -- the number of the branch above a first branch is its parent's
+  above_is : (visit : Visit Entry) (j : ℕ) (f : IsFirstVisit visits visit j) → number_above held.numbers places j
+      ≡ number (map listed t.entries) (parent (map listed t.entries) (visit_place visit))
+  above_is visit j f =
+      let b = at j visit f.is in
+      tells (slice_index places j) b.stands.visit b.stands.is
+      ∙ ap (λ (e : Entry). number_among visits e.place) b.stands.value_is
+      ∙ numbered b.above
+      ∙ ap (number (map listed t.entries)) (sym (by_listing.parent_is t.entries visits places level at visit j f))
+
   agrees : (k : ℕ) (visit : Visit Entry) → slice_get held.first k ≡ Some visit
-      → AgreesAtPlace layers (map listed t.entries) (number_among visits)
+      → AgreesAtPlace layers (map listed t.entries) (number_among visits) (number_above held.numbers places (slice_index held.starts k))
       (slice_index held.paths k) visit
   agrees k visit e =
+      let j = slice_index held.starts k in
       let f = walk.numbered.each k visit e in
-      let v = visit.0.now.value in
-      let p = visit_placed f.at visit f.is in
+      let v = visit.now.value in
+      let p = visit_placed j visit f.is in
       record {
         header = record { image = p.image; is = p.is; given = p.given };
         data_is = λ image s. let z : Some p.image ≡ Some image = sym p.is ∙ s in let q : p.image ≡ image = cc in
             subst (λ x. data_in x v.place.header ≡ data_of layers (visit_place visit)) q (data_placed layers v p);
         kind_is = kind_placed layers v p;
-        parent_is = numbered visit.1 ∙ ap (number (map listed t.entries)) (sym (by_listing.parent_is t.entries visits level at visit f));
-        below = children_agree k visit f;
+        parent_is = above_is visit j f;
+        below = children_agree visit j f;
         paths_are = λ other. walk.numbered.counted k visit e
             ∙ ap (λ c. min c (2 ^ 32 - 1)) (paths_by (seen visits (length visits)) (map listed t.entries) (visit_place visit)
             (sym places_are))
@@ -173,7 +193,7 @@ module _ (layers : List (List ℕ)) (t : TreeRows) (root : Subtree Entry) (visit
       }
 
   -- the first branches of all places, by number, agree with the listing of the layers
-  pub firsts_agree : AgreeWithSomeListing layers (number_among visits) held.first held.paths
+  pub firsts_agree : AgreeWithSomeListing layers (number_among visits) (number_above held.numbers places) held.first held.starts held.paths
   firsts_agree = (
     map listed t.entries,
     record {
@@ -185,14 +205,9 @@ module _ (layers : List (List ℕ)) (t : TreeRows) (root : Subtree Entry) (visit
   )
 
   -- where the numbers and sizes of visits stand
-  module _ (places sizes : List ℕ) (stand : AreAbove visits visits places) (sized : sizes ≡ map visit_size visits) where
+  module _ (sizes : List ℕ) (sized : sizes ≡ map visit_size visits) where
     numbers_level : length held.numbers ≡ length visits
     numbers_level = walk.numbered.numbers_level
-
-    tells : (k : ℕ) (visit : Visit Entry) → slice_get visits k ≡ Some visit → slice_index held.numbers k
-        ≡ number_among visits visit.0.now.value.place
-    unfolding number_among
-    tells k visit e = ap (λ o. unwrap_or o 0) (sym (walk.numbered.known k visit (slice_get_within visits k visit e) e))
 
     size_at : (k : ℕ) (visit : Visit Entry) → slice_get visits k ≡ Some visit → (k < length sizes)
         × (slice_index sizes k ≡ visit_size visit)
@@ -209,14 +224,14 @@ module _ (layers : List (List ℕ)) (t : TreeRows) (root : Subtree Entry) (visit
         let nl = numbers_level in
         let sl = level in
         let x = element_below visits j (omega arith) in
-        let l' = at j x.0 x.1 in
+        let b = at j x.0 x.1 in
         let size = size_at j x.0 x.1 in
         record {
           within = omega arith;
           sized = size.0;
           number_is = tells j x.0 x.1 ∙ ap (λ (e : Entry). number_among visits e.place)
-              (same_value t.entries j x.0.0.now c x.0.1 above l' l);
-          size_is = size.1 ∙ same_size t.entries j x.0.0.now c x.0.1 above l' l;
+              (same_value t.entries j x.0.now c b.above above b.located l);
+          size_is = size.1 ∙ same_size t.entries j x.0.now c b.above above b.located l;
           ends = omega arith;
         }
 
@@ -245,38 +260,36 @@ module _ (layers : List (List ℕ)) (t : TreeRows) (root : Subtree Entry) (visit
     pub firsts_stand : StandAtStarts (number_among visits) visits held.numbers places sizes held.first held.starts
     firsts_stand = record {
       level = walk.numbered.starts_level;
-      there = walk.numbered.starts_are;
+      there = λ k visit e. (walk.numbered.each k visit e).is;
       above = λ k visit e.
           let p = slice_index held.starts k in
-          let s = stand.each p visit (walk.numbered.starts_are k visit e) in
-          let l = slice_get_within visits p visit (walk.numbered.starts_are k visit e) in
-          let pl = stand.level in
+          let f = walk.numbered.each k visit e in
+          let s = (at p visit f.is).stands in
+          let l = slice_get_within visits p visit f.is in
+          let pl = walk.walked.placed in
           let nl = numbers_level in
           let m = slice_get_within visits (slice_index places p) s.visit s.is in
-          record {
-            placed = omega arith;
-            within = omega arith;
-            number_is = tells (slice_index places p) s.visit s.is ∙ ap (λ (e : Entry). number_among visits e.place) s.value_is;
-          };
+          record { placed = omega arith; within = omega arith };
       children = λ k visit e.
           let p = slice_index held.starts k in
-          let l = slice_get_within visits p visit (walk.numbered.starts_are k visit e) in
+          let f = walk.numbered.each k visit e in
+          let b = at p visit f.is in
+          let l = slice_get_within visits p visit f.is in
           let nl = numbers_level in
           record {
             within = omega arith;
-            each = λ cs under forest. following p visit.0.now visit.1 (at p visit (walk.numbered.starts_are k visit e)) [] cs under
-                forest.names;
+            each = λ cs under forest. following p visit.now b.above b.located [] cs under forest.names;
           };
     }
 
 -- a walk that began with nothing
-pub walked_all : (root : Subtree Entry) (above : Entry) (old out : List (Visit Entry)) (places places' sizes sizes' : List ℕ) → old ≡ []
-    → places ≡ [] → sizes ≡ [] → above ≡ root.value → AddsWalk root above old out places places' sizes sizes'
-    → AreWalked root root.value out × AreAbove out out places' × (sizes' ≡ map visit_size out)
-walked_all root above old out places places' sizes sizes' none no_places no_sizes same a =
+pub walked_all : (root : Subtree Entry) (old out : List (Visit Entry)) (places places' sizes sizes' : List ℕ) → old ≡ []
+    → places ≡ [] → sizes ≡ [] → AddsWalk root 0 old out places places' sizes sizes'
+    → StandsAt out 0 root.value × AreWalked root 0 out out places' × (sizes' ≡ map visit_size out)
+walked_all root old out places places' sizes sizes' none no_places no_sizes a =
     let is : out ≡ a.visits = a.is ∙ ap (λ x. x ++ a.visits) none in (
-      subst (λ v. AreWalked root v out) same (subst (AreWalked root above) (sym is) a.walked),
-      subst (λ (x : List (Visit Entry)). AreAbove out x places') (sym is)
-          (subst (AreAbove out a.visits) (sym (a.places_are ∙ ap (λ x. x ++ a.more) no_places)) a.stand),
+      subst (λ n. StandsAt out n root.value) (ap length none) a.first,
+      subst (λ (x : List (Visit Entry)). AreWalked root 0 out x places') (sym is)
+          (subst (AreWalked root 0 out a.visits) (sym (a.places_are ∙ ap (λ x. x ++ a.more) no_places)) a.walked),
       a.sizes_are ∙ ap (λ x. x ++ map visit_size a.visits) no_sizes ∙ ap (map visit_size) (sym is),
     )

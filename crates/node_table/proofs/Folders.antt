@@ -16,7 +16,6 @@ use Rattle.stack_table.specs.declared.node.Node.{Node}
 use Rattle.stack_table.specs.declared.directory.Directory.{Directory}
 use Rattle.stack_table.specs.Rows.{Line, names}
 use Rattle.stack_table.specs.Held.{IsHeldDirectory, IsNode}
-use Rattle.node_table.specs.Walks.{Visit}
 use Rattle.node_table.specs.Building.{line_in, IsMade}
 use Rattle.node_table.specs.Agreement.{AgreeBelow}
 use Rattle.node_table.proofs.Lists.{get_front}
@@ -80,9 +79,9 @@ still_node layers entries old d more more_keys node p level held = record {
 }
 
 -- a directory that was added last is the place's
-module _ (layers : List (List ℕ)) (entries : List Listed) (tell : Place → ℕ) (visit : Visit Entry) (old new : Folders)
+module _ (layers : List (List ℕ)) (entries : List Listed) (tell : Place → ℕ) (above : ℕ) (old new : Folders)
     (level : length old.keys ≡ length old.rows) (cs : List (Subtree Entry)) (d : Directory)
-    (made : IsMade tell visit cs old.rows new.rows old.keys new.keys d) where
+    (made : IsMade tell above cs old.rows new.rows old.keys new.keys d) where
   -- a key was added for each row
   pub level_made : length new.keys ≡ length new.rows
   level_made =
@@ -108,10 +107,10 @@ module _ (layers : List (List ℕ)) (entries : List Listed) (tell : Place → �
       ∙ range_last old.keys made.keys_are.keys
 
   -- a directory that was made of a place's branch holds the rows and the parent of the place
-  pub is_made : (p : ModelPlace) → is_directory_at layers p ≡ true → tell visit.1.place ≡ number entries (parent entries p)
+  pub is_made : (p : ModelPlace) → is_directory_at layers p ≡ true → above ≡ number entries (parent entries p)
       → AgreeBelow layers entries tell p cs → IsHeldDirectory layers entries new.rows new.keys d p
-  is_made p is_one above below = record {
-    parent_is = made.parent_is ∙ above;
+  is_made p is_one parent_is below = record {
+    parent_is = made.parent_is ∙ parent_is;
     start = (let start = made.start_is in let end = made.end_is in let rows = ap length made.rows_are in
         omega (arith, length-append old.rows (map (line_in tell) cs)));
     end = (let end = made.end_is in omega arith);

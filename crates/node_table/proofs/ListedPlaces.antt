@@ -2,7 +2,7 @@
 -- places in the same order (places_same); where a place's first branch stands among the rows gives
 -- what the listing says of the place: path_is, parent_is and children_are.
 use Rattle.std.proofs.Common.{◌≡◌, ◌∙◌, sym, ap, subst, ℕ, zero, suc, ◌-◌, inl, inr, List, [], ◌∷◌, ◌++◌, length, take, map, refl, arith, append_assoc, Bool, true, false, Option, Some, None}
-use Rattle.std.specs.Prelude.{slice_get, find, fold}
+use Rattle.std.specs.Prelude.{slice_get, slice_index, find, fold}
 use Rattle.std.specs.List.{AllByRecursion, filter_map, position_from}
 use Rattle.std.specs.List.{cons_option}
 use Rattle.std.specs.Option.{option_map, option_map_or}
@@ -17,7 +17,7 @@ use Rattle.path_tree.specs.Rows.{Subtree, Rows, prefixed, spread, whole, IsFores
 use Rattle.shown_tree.specs.declared.place.Entry.{Entry}
 use Rattle.shown_tree.specs.Trees.{listed}
 use Rattle.stack_table.specs.Readers.{placed}
-use Rattle.node_table.specs.Walks.{Visit, under, extends, IsApart, IsLocated}
+use Rattle.node_table.specs.Walks.{Visit, under, extends, IsApart, IsLocated, IsBelow}
 use Rattle.node_table.specs.Numbering.{visit_place, bare, seen, IsFirstVisit}
 use Rattle.path_tree.proofs.Lists.{get_of_map}
 use Rattle.node_table.proofs.Lists.{get_end, get_map}
@@ -51,18 +51,19 @@ row_at rows j s above l = subst (λ n. slice_get rows n ≡ Some (l.top ++ [], s
     (get_end l.before (under l.top s.below ++ l.after) (l.top ++ [], s.value)))
 
 -- the rows of a walk have the places of its visits
-pub places_same : (rows : Rows Entry) (visits : List (Visit Entry)) → length visits ≡ length rows
-    → ((k : ℕ) (visit : Visit Entry) → slice_get visits k ≡ Some visit → IsLocated rows k visit.0.now visit.1) → map place (map listed rows)
-    ≡ map visit_place visits
-places_same rows visits level at = ext (map place (map listed rows)) (map visit_place visits) (length-map (map listed rows) place
+pub places_same : (rows : Rows Entry) (visits : List (Visit Entry)) (places : List ℕ) → length visits ≡ length rows
+    → ((k : ℕ) (visit : Visit Entry) → slice_get visits k ≡ Some visit → IsBelow rows k visit.now visits (slice_index places k))
+    → map place (map listed rows) ≡ map visit_place visits
+places_same rows visits places level at = ext (map place (map listed rows)) (map visit_place visits) (length-map (map listed rows) place
     ∙ length-map rows listed ∙ sym level ∙ sym (length-map visits visit_place)) one
   where
     one : (k : ℕ) (y : ModelPlace) → slice_get (map visit_place visits) k ≡ Some y → slice_get (map place (map listed rows)) k ≡ Some y
     one k y e =
         let x = get_of_map visit_place visits k y e in
-        let l = at k x.0 x.1 in
-        get_map place (map listed rows) k (listed (l.top ++ [], x.0.0.now.value)) (get_map listed rows k (l.top ++ [], x.0.0.now.value)
-        (row_at rows k x.0.0.now x.0.1 l)) ∙ ap Some x.2
+        let b = at k x.0 x.1 in
+        let l = b.located in
+        get_map place (map listed rows) k (listed (l.top ++ [], x.0.now.value)) (get_map listed rows k (l.top ++ [], x.0.now.value)
+        (row_at rows k x.0.now b.above l)) ∙ ap Some x.2
 
 -- entries made of visits have the visits' places
 pub bare_places : (visits : List (Visit Entry)) → map place (map bare visits) ≡ map visit_place visits
@@ -154,8 +155,8 @@ children_under top (c ∷ cs) a =
     ∙ ap (λ x. x ++ filter_map (child_in top) (map listed (under top (spread cs)))) (none_long top c.name c.below a.0.rises.0)
     ∙ children_under top cs a.1)
 
-module _ (rows : Rows Entry) (visits : List (Visit Entry)) (level : length visits ≡ length rows) (at : (k : ℕ) (visit : Visit Entry)
-    → slice_get visits k ≡ Some visit → IsLocated rows k visit.0.now visit.1) where
+module _ (rows : Rows Entry) (visits : List (Visit Entry)) (places : List ℕ) (level : length visits ≡ length rows)
+    (at : (k : ℕ) (visit : Visit Entry) → slice_get visits k ≡ Some visit → IsBelow rows k visit.now visits (slice_index places k)) where
   -- the entries of the rows, as a listing has them
   pub entries : List Listed
   entries = map listed rows
@@ -171,58 +172,60 @@ module _ (rows : Rows Entry) (visits : List (Visit Entry)) (level : length visit
   places_before j s above l =
       sym (ap (λ x. map place (map listed x)) front)
       ∙ sym (ap (map place) (take-map listed j rows)) ∙ sym (take-map place j (map listed rows))
-      ∙ ap (take j) (places_same rows visits level at)
+      ∙ ap (take j) (places_same rows visits places level at)
       ∙ take-map visit_place j visits ∙ sym (bare_places (take j visits))
     where
       front : take j rows ≡ l.before
       front = ap (take j) (split j s above l) ∙ take_at l.before ((l.top ++ [], s.value) ∷ (under l.top s.below ++ l.after)) j l.at
 
   -- the path of a place is that of the first branch with the place
-  pub path_is : (visit : Visit Entry) (f : IsFirstVisit visits visit) → path_of (map listed rows) (visit_place visit)
-      ≡ (at f.at visit f.is).top
-  path_is visit f =
-      let l = at f.at visit f.is in
-      let s = visit.0.now in
+  pub path_is : (visit : Visit Entry) (j : ℕ) (f : IsFirstVisit visits visit j) → path_of (map listed rows) (visit_place visit)
+      ≡ (at j visit f.is).located.top
+  path_is visit j f =
+      let b = at j visit f.is in
+      let l = b.located in
+      let s = visit.now in
       let p = visit_place visit in
       let e : Listed = listed (l.top ++ [], s.value) in
-      let none : number_of (map listed l.before) p ≡ None = number_of_by (map listed l.before) (seen visits f.at) p
-      (places_before f.at s visit.1 l) ∙ f.new in
+      let none : number_of (map listed l.before) p ≡ None = number_of_by (map listed l.before) (seen visits j) p
+      (places_before j s b.above l) ∙ f.new in
       let found : find (λ (e : Listed). same_place p (place e)) (map listed rows) ≡ Some e =
-      ap (λ x. find (λ (e : Listed). same_place p (place e)) x) (ap (map listed) (split f.at s visit.1 l)
+      ap (λ x. find (λ (e : Listed). same_place p (place e)) x) (ap (map listed) (split j s b.above l)
       ∙ map-append listed l.before ((l.top ++ [], s.value) ∷ (under l.top s.below ++ l.after)))
       ∙ find_past p (map listed l.before) (map listed (under l.top s.below ++ l.after)) e
       (λ g a. not_among (map listed l.before) p none g a) (place_itself p) in
       ap (λ o. option_map_or (λ (e : Listed). e.path) o []) found ∙ append-nil l.top
 
   -- the parent of a place is the place of the branch above its first branch
-  pub parent_is : (visit : Visit Entry) (f : IsFirstVisit visits visit)
-      → parent (map listed rows) (visit_place visit) ≡ placed visit.1.place
+  pub parent_is : (visit : Visit Entry) (j : ℕ) (f : IsFirstVisit visits visit j)
+      → parent (map listed rows) (visit_place visit) ≡ placed (at j visit f.is).above.place
   unfolding parent
-  parent_is visit f =
-      let l = at f.at visit f.is in
+  parent_is visit j f =
+      let b = at j visit f.is in
+      let l = b.located in
       ap (λ (q : Path). option_map_or place (find (λ (e : Listed). same_path (take (length q - 1) q) e.path) (map listed rows))
-      (visit_place visit)) (path_is visit f)
+      (visit_place visit)) (path_is visit j f)
       ∙ ap (λ o. option_map_or place o (visit_place visit)) (find_map (same_path (take (length l.top - 1) l.top)) rows)
-      ∙ above (find (λ (r : Path × Entry). same_path (take (length l.top - 1) l.top) r.0) rows) l.above_is
+      ∙ up b.above (find (λ (r : Path × Entry). same_path (take (length l.top - 1) l.top) r.0) rows) l.above_is
     where
-      above : (o : Option (Path × Entry)) → option_map (λ r. r.1) o ≡ Some visit.1 → option_map_or place (option_map listed o)
-          (visit_place visit) ≡ placed visit.1.place
-      above None e = absurd (cc)
-      above (Some r) e = let g : r.1 ≡ visit.1 = cc in ap (λ (v : Entry). placed v.place) g
+      up : (above : Entry) (o : Option (Path × Entry)) → option_map (λ r. r.1) o ≡ Some above → option_map_or place (option_map listed o)
+          (visit_place visit) ≡ placed above.place
+      up above None e = absurd (cc)
+      up above (Some r) e = let g : r.1 ≡ above = cc in ap (λ (v : Entry). placed v.place) g
 
   -- the children of a place are those of its first branch
-  pub children_are : (visit : Visit Entry) (f : IsFirstVisit visits visit) (cs : List (Subtree Entry)) → visit.0.now.below ≡ spread cs
-      → IsForest cs
-      → children (map listed rows) (visit_place visit) ≡ map child_of cs
+  pub children_are : (visit : Visit Entry) (j : ℕ) (f : IsFirstVisit visits visit j) (cs : List (Subtree Entry))
+      → visit.now.below ≡ spread cs → IsForest cs → children (map listed rows) (visit_place visit) ≡ map child_of cs
   unfolding children
-  children_are visit f cs below forest =
-      let l = at f.at visit f.is in
-      let s = visit.0.now in
+  children_are visit j f cs below forest =
+      let b = at j visit f.is in
+      let l = b.located in
+      let s = visit.now in
       let top = l.top in
       let row : Path × Entry = (l.top ++ [], s.value) in
       let mine = under l.top (spread cs) in
-      ap (λ (q : Path). filter_map (child_in q) (map listed rows)) (path_is visit f)
-      ∙ ap (λ x. filter_map (child_in top) (map listed x)) (split f.at s visit.1 l
+      ap (λ (q : Path). filter_map (child_in q) (map listed rows)) (path_is visit j f)
+      ∙ ap (λ x. filter_map (child_in top) (map listed x)) (split j s b.above l
       ∙ ap (λ b. l.before ++ row ∷ (under l.top b ++ l.after)) below)
       ∙ ap (filter_map (child_in top)) (map-append listed l.before (row ∷ (mine ++ l.after)))
       ∙ filter_map-append (child_in top) (map listed l.before) (map listed (row ∷ (mine ++ l.after)))

@@ -23,7 +23,7 @@ use Rattle.stack_table.specs.Readers.{placed}
 use Rattle.stack_table.specs.Held.{HoldsDirectory, IsNode, AreNodes, IsSomeTable}
 use Rattle.node_table.specs.Walks.{Visit}
 use Rattle.node_table.specs.Numbering.{visit_place}
-use Rattle.node_table.specs.Building.{line_in, HasChildrenAfter, IsAbove, StandAtStarts, IsReadFrom, AddsLinked, AddsByKind, AddsNode, completed}
+use Rattle.node_table.specs.Building.{line_in, HasChildrenAfter, HasAbove, number_above, StandAtStarts, IsReadFrom, AddsLinked, AddsByKind, AddsNode, completed}
 use Rattle.node_table.specs.Agreement.{AgreeBelow, AgreesAtPlace, AgreeWithListing, AreMade}
 use Rattle.path_tree.proofs.Lists.{get_of_map}
 use Rattle.node_table.proofs.Lists.{element_below, get_end, get_push, get_map}
@@ -39,11 +39,11 @@ pub record Making (layers : List (List ℕ)) (entries : List Listed) (made : Lis
 
 -- a node was made of a visit that agrees with the listing, and its directory was added to what was
 -- kept before
-pub record IsMadeOfVisit (layers : List (List ℕ)) (entries : List Listed) (tell : Place → ℕ) (paths : ℕ) (visit : Visit Entry)
+pub record IsMadeOfVisit (layers : List (List ℕ)) (entries : List Listed) (tell : Place → ℕ) (above paths : ℕ) (visit : Visit Entry)
     (old new : Folders) (node : Node) : Type 0 where
-  pub agrees : AgreesAtPlace layers entries tell paths visit
+  pub agrees : AgreesAtPlace layers entries tell above paths visit
   pub level : length old.keys ≡ length old.rows
-  pub adds : AddsNode layers tell visit paths old.all new.all old.rows new.rows old.keys new.keys node
+  pub adds : AddsNode layers tell visit.now above paths old.all new.all old.rows new.rows old.keys new.keys node
 
 sizes_agree : (k : Kind) (n : ℕ) → data_size k n ≡ size_of k n
 sizes_agree HardLink n = refl
@@ -55,22 +55,22 @@ sizes_agree Character n = refl
 sizes_agree Socket n = refl
 sizes_agree Fifo n = refl
 
-module _ {layers : List (List ℕ)} {entries : List Listed} {tell : Place → ℕ} {paths : ℕ} {visit : Visit Entry} {old new : Folders}
-    {node : Node} (made : IsMadeOfVisit layers entries tell paths visit old new node) where
-  agrees : AgreesAtPlace layers entries tell paths visit
+module _ {layers : List (List ℕ)} {entries : List Listed} {tell : Place → ℕ} {above paths : ℕ} {visit : Visit Entry} {old new : Folders}
+    {node : Node} (made : IsMadeOfVisit layers entries tell above paths visit old new node) where
+  agrees : AgreesAtPlace layers entries tell above paths visit
   agrees = made.agrees
 
-  adds : AddsNode layers tell visit paths old.all new.all old.rows new.rows old.keys new.keys node
+  adds : AddsNode layers tell visit.now above paths old.all new.all old.rows new.rows old.keys new.keys node
   adds = made.adds
 
   here : slice_get layers node.place.layer ≡ Some agrees.header.image
   here = ap (λ (x : Place). slice_get layers x.layer) adds.place_is ∙ agrees.header.is
 
-  read : IsReadFrom agrees.header.image visit.0.now.value.place.header node
+  read : IsReadFrom agrees.header.image visit.now.value.place.header node
   read = subst (λ (x : Place). IsReadFrom agrees.header.image x.header node) adds.place_is (adds.read agrees.header.image here)
 
-  layer : slice_index_or layers visit.0.now.value.place.layer [] ≡ agrees.header.image
-  layer = get_or_from_slice_get layers visit.0.now.value.place.layer agrees.header.image [] agrees.header.is
+  layer : slice_index_or layers visit.now.value.place.layer [] ≡ agrees.header.image
+  layer = get_or_from_slice_get layers visit.now.value.place.layer agrees.header.image [] agrees.header.is
 
   kind_is : node.kind ≡ kind_at layers (visit_place visit)
   kind_is = adds.kind_is ∙ agrees.kind_is
@@ -79,20 +79,20 @@ module _ {layers : List (List ℕ)} {entries : List Listed} {tell : Place → �
   directory_is = ap is_directory kind_is
 
   size_is : node.part.len ≡ size_at layers (visit_place visit)
-  size_is = read.data_is.size_is ∙ sizes_agree (kind agrees.header.image visit.0.now.value.place.header) _
-      ∙ ap (λ x. size_of (kind x visit.0.now.value.place.header) (size x visit.0.now.value.place.header)) (sym layer)
+  size_is = read.data_is.size_is ∙ sizes_agree (kind agrees.header.image visit.now.value.place.header) _
+      ∙ ap (λ x. size_of (kind x visit.now.value.place.header) (size x visit.now.value.place.header)) (sym layer)
 
   mode_is : mode_of node.kind node.exec ≡ mode layers (visit_place visit)
   mode_is = ap (λ k. mode_of k node.exec) kind_is ∙ ap (mode_of (kind_at layers (visit_place visit))) read.exec_is
-      ∙ ap (λ x. mode_of (kind_at layers (visit_place visit)) (exec x visit.0.now.value.place.header)) (sym layer)
+      ∙ ap (λ x. mode_of (kind_at layers (visit_place visit)) (exec x visit.now.value.place.header)) (sym layer)
 
   rdev_is : rdev_of node.kind node.rdev ≡ rdev layers (visit_place visit)
   rdev_is = ap (λ k. rdev_of k node.rdev) kind_is ∙ ap (rdev_of (kind_at layers (visit_place visit))) read.spec_is
-      ∙ ap (λ x. rdev_of (kind_at layers (visit_place visit)) (spec x visit.0.now.value.place.header)) (sym layer)
+      ∙ ap (λ x. rdev_of (kind_at layers (visit_place visit)) (spec x visit.now.value.place.header)) (sym layer)
 
   -- what a directory adds
   module _ (is_one : is_directory_at layers (visit_place visit) ≡ true)
-      (linked : AddsLinked tell visit node.nlink old.all new.all old.rows new.rows old.keys new.keys) where
+      (linked : AddsLinked tell visit.now above node.nlink old.all new.all old.rows new.rows old.keys new.keys) where
     below : AgreeBelow layers entries tell (visit_place visit) linked.added.children
     below = agrees.below linked.added.children linked.added.below linked.added.forest
 
@@ -107,13 +107,13 @@ module _ {layers : List (List ℕ)} {entries : List Listed} {tell : Place → �
       directory = linked.added.directory;
       is = ap (λ (x : List Folder). slice_get x node.directory) linked.added.is
           ∙ ap (slice_get (old.all ++ linked.added.directory ∷ [])) adds.directory_is ∙ get_end old.all [] linked.added.directory;
-      holds = is_made layers entries tell visit old new made.level linked.added.children linked.added.directory linked.added.made
+      holds = is_made layers entries tell above old new made.level linked.added.children linked.added.directory linked.added.made
           (visit_place visit) is_one agrees.parent_is below;
     }
 
   -- how often it is linked, and its directory
   held_by : (b : Bool) → is_directory_at layers (visit_place visit) ≡ b
-      → AddsByKind tell visit paths b node.nlink old.all new.all old.rows new.rows old.keys new.keys
+      → AddsByKind tell visit.now above paths b node.nlink old.all new.all old.rows new.rows old.keys new.keys
       → (node.nlink ≡ nlink layers entries (visit_place visit)) × (is_directory_at layers (visit_place visit) ≡ true
       → HoldsDirectory layers entries new.all new.rows new.keys (completed node) (visit_place visit))
   held_by true is_one linked = (nlink_directory is_one linked, λ again. has_directory is_one linked)
@@ -126,11 +126,12 @@ module _ {layers : List (List ℕ)} {entries : List Listed} {tell : Place → �
   holds_both : (node.nlink ≡ nlink layers entries (visit_place visit)) × (is_directory_at layers (visit_place visit) ≡ true
       → HoldsDirectory layers entries new.all new.rows new.keys (completed node) (visit_place visit))
   holds_both = held_by (is_directory_at layers (visit_place visit)) refl
-      (subst (λ b. AddsByKind tell visit paths b node.nlink old.all new.all old.rows new.rows old.keys new.keys) directory_is adds.adds)
+      (subst (λ b. AddsByKind tell visit.now above paths b node.nlink old.all new.all old.rows new.rows old.keys new.keys) directory_is
+      adds.adds)
 
-  level_by : (b : Bool) → AddsByKind tell visit paths b node.nlink old.all new.all old.rows new.rows old.keys new.keys
+  level_by : (b : Bool) → AddsByKind tell visit.now above paths b node.nlink old.all new.all old.rows new.rows old.keys new.keys
       → length new.keys ≡ length new.rows
-  level_by true linked = level_made layers entries tell visit old new made.level linked.added.children linked.added.directory
+  level_by true linked = level_made layers entries tell above old new made.level linked.added.children linked.added.directory
       linked.added.made
   level_by false nothing = ap length nothing.keys_are ∙ made.level ∙ sym (ap length nothing.rows_are)
 
@@ -138,7 +139,7 @@ module _ {layers : List (List ℕ)} {entries : List Listed} {tell : Place → �
   pub level_still : length new.keys ≡ length new.rows
   level_still = level_by (is_directory node.kind) adds.adds
 
-  stays_by : (b : Bool) → AddsByKind tell visit paths b node.nlink old.all new.all old.rows new.rows old.keys new.keys
+  stays_by : (b : Bool) → AddsByKind tell visit.now above paths b node.nlink old.all new.all old.rows new.rows old.keys new.keys
       → (n : Node) (p : ModelPlace) → IsNode layers entries old.all old.rows old.keys n p
       → IsNode layers entries new.all new.rows new.keys n p
   stays_by true linked n p is =
@@ -188,7 +189,7 @@ pub record FirstBranches (layers : List (List ℕ)) (entries : List Listed) (tel
   pub first : List (Visit Entry)
   pub starts : List ℕ
   pub paths : List ℕ
-  pub agree : AgreeWithListing layers entries tell first paths
+  pub agree : AgreeWithListing layers entries tell (number_above numbers above) first starts paths
   pub stand : StandAtStarts tell visits numbers above sizes first starts
 
 -- there is a first branch of this number, and it stands here among the visits
@@ -206,9 +207,9 @@ pub record IsNextFirst (layers : List (List ℕ)) (entries : List Listed) (tell 
     (i start : ℕ) (visit : Visit Entry) : Type 0 where
   pub within : i < length all.paths
   pub placed : slice_get (nodes entries) i ≡ Some (visit_place visit)
-  pub agrees : AgreesAtPlace layers entries tell (slice_index all.paths i) visit
-  pub above : IsAbove tell all.numbers all.above start visit
-  pub children : HasChildrenAfter tell all.numbers all.sizes start visit
+  pub agrees : AgreesAtPlace layers entries tell (number_above all.numbers all.above start) (slice_index all.paths i) visit
+  pub above : HasAbove all.numbers all.above start
+  pub children : HasChildrenAfter tell all.numbers all.sizes start visit.now
 
 module _ {layers : List (List ℕ)} {entries : List Listed} {tell : Place → ℕ} (all : FirstBranches layers entries tell) {i start : ℕ}
     (stands : HasStart all.starts i start) where
@@ -229,9 +230,10 @@ module _ {layers : List (List ℕ)} {entries : List Listed} {tell : Place → �
         within = (let level = all.stand.level in let counts = all.agree.level in let more = stands.more in omega arith);
         placed = subst (λ ps. slice_get ps i ≡ Some (visit_place branch.0)) all.agree.places
             (get_map visit_place all.first i branch.0 branch.1);
-        agrees = all.agree.each i branch.0 branch.1;
-        above = subst (λ n. IsAbove tell all.numbers all.above n branch.0) (sym stands.held) (all.stand.above i branch.0 branch.1);
-        children = subst (λ n. HasChildrenAfter tell all.numbers all.sizes n branch.0) (sym stands.held)
+        agrees = subst (λ n. AgreesAtPlace layers entries tell (number_above all.numbers all.above n) (slice_index all.paths i) branch.0)
+            (sym stands.held) (all.agree.each i branch.0 branch.1);
+        above = subst (HasAbove all.numbers all.above) (sym stands.held) (all.stand.above i branch.0 branch.1);
+        children = subst (λ n. HasChildrenAfter tell all.numbers all.sizes n branch.0.now) (sym stands.held)
             (all.stand.children i branch.0 branch.1);
       })
 
@@ -245,11 +247,11 @@ nodes_begun layers entries made kept none no_rows no_keys = record {
 }
 
 -- with the node of the next first branch one node more is made
-pub node_made : {layers : List (List ℕ)} {entries : List Listed} {tell : Place → ℕ} {paths : ℕ} {visit : Visit Entry} {old new : Folders}
-    {node : Node} {before after : List Node} (i : ℕ) → IsMadeOfVisit layers entries tell paths visit old new node
+pub node_made : {layers : List (List ℕ)} {entries : List Listed} {tell : Place → ℕ} {above paths : ℕ} {visit : Visit Entry}
+    {old new : Folders} {node : Node} {before after : List Node} (i : ℕ) → IsMadeOfVisit layers entries tell above paths visit old new node
     → slice_get (nodes entries) i ≡ Some (visit_place visit) → Making layers entries before old i → after ≡ before ++ node ∷ []
     → Making layers entries after new (i + 1)
-node_made {layers} {entries} {tell} {paths} {visit} {old} {new} {node} {before} i made place_is making pushed = record {
+node_made {layers} {entries} {tell} {above} {paths} {visit} {old} {new} {node} {before} i made place_is making pushed = record {
   level = (let longer = ap length pushed in let level = making.level in omega (arith, length-append before (node ∷ [])));
   keys_level = level_still made;
   each = λ k n p at there. elim (get_push before node k n (subst (λ x. slice_get x k ≡ Some n) pushed at)) [
@@ -264,9 +266,9 @@ node_made {layers} {entries} {tell} {paths} {visit} {old} {new} {node} {before} 
 }
 
 -- past the last first branch all nodes are made
-pub nodes_ended : {layers : List (List ℕ)} {entries : List Listed} {tell : Place → ℕ} {first : List (Visit Entry)} {paths : List ℕ}
-    {made : List Node} {kept : Folders} {i : ℕ} → AgreeWithListing layers entries tell first paths → i ≡ length first
-    → Making layers entries made kept i → AreMade layers made kept.all kept.rows kept.keys
+pub nodes_ended : {layers : List (List ℕ)} {entries : List Listed} {tell : Place → ℕ} {above : ℕ → ℕ} {first : List (Visit Entry)}
+    {starts paths : List ℕ} {made : List Node} {kept : Folders} {i : ℕ} → AgreeWithListing layers entries tell above first starts paths
+    → i ≡ length first → Making layers entries made kept i → AreMade layers made kept.all kept.rows kept.keys
 nodes_ended {layers} {entries} {first = first} {made = made} {kept = kept} agree all making = (
   entries,
   agree.listing,

@@ -1,13 +1,13 @@
 -- A walk over a branch and all below it. Walking is the loop over the children: it begins when the
 -- branch is put down, goes on by the walk over one child, which child_located places among the
--- rows, and ends when the branch's size is written.
-use Rattle.std.proofs.Common.{◌≡◌, ◌∙◌, sym, ap, subst, ℕ, zero, suc, ◌+◌, ◌-◌, ◌<◌, ◌≤◌, ◌⊎◌, inl, inr, List, [], ◌∷◌, ◌++◌, length, take, drop, get_or, refl, arith, append_assoc, length-append, Some}
+-- rows, and ends when the branch's size is written. Where the branches above stand is said among all
+-- visits, of which there are more and more (below_more).
+use Rattle.std.proofs.Common.{◌≡◌, ◌∙◌, sym, ap, subst, ℕ, zero, suc, ◌+◌, ◌-◌, ◌<◌, ◌≤◌, inl, inr, List, [], ◌∷◌, ◌++◌, length, take, drop, get_or, refl, arith, append_assoc, length-append, Some}
 use Rattle.std.specs.Prelude.{slice_get, slice_index, slice_set, map}
-use Rattle.std.specs.Borrow.{Bor}
 use Rattle.std.proofs.lemmas.List.{get_or_append_left, get_or-append-add, length-map, map-append, set_at, take_all}
 use Rattle.std.proofs.lemmas.Option.{slice_get_within}
 use Rattle.path_tree.specs.Rows.{Subtree, Rows, prefixed, spread, NamesRise, IsForest, length_prefixed}
-use Rattle.node_table.specs.Walks.{Visit, IsLocated, visit_size, StandsAt, AreAbove, AddsWalk}
+use Rattle.node_table.specs.Walks.{Visit, visit_size, StandsAt, IsBelow, AddsWalk}
 use Rattle.node_table.proofs.Lists.{get_front, get_end, get_append, take_one_more}
 use Rattle.node_table.proofs.Paths.{spread_append, child_located}
 
@@ -44,145 +44,149 @@ module _ {T : Type 0} where
   stands_more : (all more : List (Visit T)) (place : ℕ) (value : T) → StandsAt all place value → StandsAt (all ++ more) place value
   stands_more all more place value s = record { visit = s.visit; is = get_front all more place s.visit s.is; value_is = s.value_is }
 
-  above_more : (all more visits : List (Visit T)) (places : List ℕ) → AreAbove all visits places → AreAbove (all ++ more) visits places
-  above_more all more visits places a = record {
-    level = a.level;
-    each = λ k visit e. stands_more all more (slice_index places k) visit.1
-        (a.each k visit e);
+  stands_before : (all more : List (Visit T)) (place : ℕ) (value : T) → place < length all → StandsAt (all ++ more) place value
+      → StandsAt all place value
+  stands_before all more place value l s = record {
+    visit = s.visit;
+    is = elim (get_append all more place s.visit s.is) [ inl e ↦ e | inr (m, e, f) ↦ absurd (omega arith) ];
+    value_is = s.value_is;
   }
 
-  above_joined : (all xs ys : List (Visit T)) (ps qs : List ℕ) → AreAbove all xs ps → AreAbove all ys qs
-      → AreAbove all (xs ++ ys) (ps ++ qs)
-  above_joined all xs ys ps qs a b = record {
-    level = length-append ps qs ∙ ap (λ n. n + length qs) a.level ∙ ap (λ n. length xs + n) b.level ∙ sym (length-append xs ys);
-    each = λ k visit e. elim (get_append xs ys k visit e) [
-      | inl f ↦ subst (λ n. StandsAt all n visit.1) (sym (get_or_append_left ps qs 0 k
-          (let l = slice_get_within xs k visit f in let level = a.level in omega arith))) (a.each k visit f)
-      | inr (m, f, g) ↦ subst (λ n. StandsAt all n visit.1) (sym (ap (slice_index (ps ++ qs)) (f ∙ ap (λ n. n + m) (sym a.level))
-          ∙ get_or-append-add ps qs m 0)) (b.each m visit g)
-    ];
-  }
+  below_more : (rows : Rows T) (j : ℕ) (branch : Subtree T) (all more : List (Visit T)) (place : ℕ) → IsBelow rows j branch all place
+      → IsBelow rows j branch (all ++ more) place
+  below_more rows j branch all more place b =
+      record { above = b.above; located = b.located; stands = stands_more all more place b.above b.stands }
+
+  below_before : (rows : Rows T) (j : ℕ) (branch : Subtree T) (all more : List (Visit T)) (place : ℕ) → place < length all
+      → IsBelow rows j branch (all ++ more) place → IsBelow rows j branch all place
+  below_before rows j branch all more place l b =
+      record { above = b.above; located = b.located; stands = stands_before all more place b.above l b.stands }
 
   -- how far a walk has come: the branch, whose size is still to be written, and the children below
   -- the place i with all below them
-  pub record Walking (branch : Subtree T) (above : T) (cs : List (Subtree T)) (old now : Visited T) (i : ℕ) : Type 0 where
-    pub first : Bor (Subtree T)
+  pub record Walking (branch : Subtree T) (place : ℕ) (cs : List (Subtree T)) (old now : Visited T) (i : ℕ) : Type 0 where
+    pub first : Visit T
     pub first_is : first.now ≡ branch
     pub rest : List (Visit T)
-    pub is : now.visits ≡ old.visits ++ (first, above) ∷ rest
+    pub is : now.visits ≡ old.visits ++ first ∷ rest
     pub level : length rest ≡ length (spread (take i cs))
-    pub each : (rows : Rows T) (j : ℕ) → IsLocated rows j branch above → (k : ℕ) (visit : Visit T) → slice_get ((first, above) ∷ rest) k
-        ≡ Some visit → IsLocated rows (j + k) visit.0.now visit.1
+    pub above : place ≤ length old.visits
     pub more : List ℕ
     pub places_are : now.above ≡ old.above ++ more
-    pub stand : AreAbove now.visits ((first, above) ∷ rest) more
+    pub placed : length more ≡ suc (length rest)
+    pub each : (rows : Rows T) (j : ℕ) → IsBelow rows j branch now.visits place → (k : ℕ) (visit : Visit T) → slice_get (first ∷ rest) k
+        ≡ Some visit → IsBelow rows (j + k) visit.now now.visits (slice_index more k)
     pub sizes_are : now.sizes ≡ old.sizes ++ 0 ∷ map visit_size rest
     pub sizes_level : length old.sizes ≡ length old.visits
 
   -- with the branch put down, and a size of 0 for it, no child is walked over
-  pub walk_begun : (branch : Bor (Subtree T)) (above : T) (place : ℕ) (cs : List (Subtree T)) (old now : Visited T)
-      → StandsAt old.visits place above ⊎ ((place ≡ length old.visits) × (branch.now.value ≡ above)) → length old.sizes ≡ length old.visits
-      → now.visits ≡ old.visits ++ (branch, above) ∷ [] → now.above ≡ old.above ++ place ∷ [] → now.sizes ≡ old.sizes ++ 0 ∷ []
-      → Walking branch.now above cs old now 0
-  walk_begun branch above place cs old now up level visits_are places_are sizes_are = record {
+  pub walk_begun : (branch : Visit T) (place : ℕ) (cs : List (Subtree T)) (old now : Visited T) → place ≤ length old.visits
+      → length old.sizes ≡ length old.visits → now.visits ≡ old.visits ++ branch ∷ [] → now.above ≡ old.above ++ place ∷ []
+      → now.sizes ≡ old.sizes ++ 0 ∷ [] → Walking branch.now place cs old now 0
+  walk_begun branch place cs old now above level visits_are places_are sizes_are = record {
     first = branch;
     first_is = refl;
     rest = [];
     is = visits_are;
     level = omega arith;
-    each = λ rows j l k visit f. first rows j l k visit f;
+    above = above;
     more = place ∷ [];
     places_are = places_are;
-    stand = record { level = refl; each = λ k visit f. one k visit f };
+    placed = refl;
+    each = one;
     sizes_are = sizes_are;
     sizes_level = level;
   }
     where
-      first : (rows : Rows T) (j : ℕ) → IsLocated rows j branch.now above → (k : ℕ) (visit : Visit T) → slice_get ((branch, above) ∷ []) k
-          ≡ Some visit → IsLocated rows (j + k) visit.0.now visit.1
-      first rows j l zero visit f =
-          let s : (branch, above) ≡ visit = cc in
-          subst (λ (x : Visit T). IsLocated rows (j + 0) x.0.now x.1) s (subst (λ n. IsLocated rows n branch.now above) (omega arith) l)
-      first rows j l (suc k) visit f = absurd (cc)
-
-      here : StandsAt old.visits place above ⊎ ((place ≡ length old.visits) × (branch.now.value ≡ above))
-          → StandsAt (old.visits ++ (branch, above) ∷ []) place above
-      here (inl s) = stands_more old.visits ((branch, above) ∷ []) place above s
-      here (inr (a, b)) = record {
-        visit = (branch, above);
-        is = ap (slice_get (old.visits ++ (branch, above) ∷ [])) a
-            ∙ get_end old.visits [] (branch, above);
-        value_is = b;
-      }
-
-      one : (k : ℕ) (visit : Visit T) → slice_get ((branch, above) ∷ []) k ≡ Some visit
-          → StandsAt now.visits (slice_index (place ∷ []) k) visit.1
-      one zero visit f =
-          let s : (branch, above) ≡ visit = cc in
-          subst (λ (x : Visit T). StandsAt now.visits place x.1) s
-          (subst (λ (x : List (Visit T)). StandsAt x place above) (sym visits_are) (here up))
-      one (suc k) visit f = absurd (cc)
+      one : (rows : Rows T) (j : ℕ) → IsBelow rows j branch.now now.visits place → (k : ℕ) (visit : Visit T) → slice_get (branch ∷ []) k
+          ≡ Some visit → IsBelow rows (j + k) visit.now now.visits (slice_index (place ∷ []) k)
+      one rows j b zero visit f =
+          let s : branch ≡ visit = cc in
+          subst (λ (x : Visit T). IsBelow rows (j + 0) x.now now.visits place) s
+          (subst (λ n. IsBelow rows n branch.now now.visits place) (omega arith) b)
+      one rows j b (suc k) visit f = absurd (cc)
 
   -- the branch stands where it was put
-  pub stands : (branch : Subtree T) (above : T) (cs : List (Subtree T)) (old now : Visited T) (i : ℕ) (value : T) → value ≡ branch.value
-      → Walking branch above cs old now i → StandsAt now.visits (length old.visits) value
-  stands branch above cs old now i value same w = record {
-    visit = (w.first, above);
-    is = ap (λ (x : List (Visit T)). slice_get x (length old.visits)) w.is ∙ get_end old.visits w.rest (w.first, above);
-    value_is = ap (λ (s : Subtree T). s.value) w.first_is ∙ sym same;
+  pub stands : (branch : Subtree T) (place : ℕ) (cs : List (Subtree T)) (old now : Visited T) (i : ℕ) → Walking branch place cs old now i
+      → StandsAt now.visits (length old.visits) branch.value
+  stands branch place cs old now i w = record {
+    visit = w.first;
+    is = ap (λ (x : List (Visit T)). slice_get x (length old.visits)) w.is ∙ get_end old.visits w.rest w.first;
+    value_is = ap (λ (s : Subtree T). s.value) w.first_is;
   }
 
-  -- there is a size for each visit
-  pub levels : (branch : Subtree T) (above : T) (cs : List (Subtree T)) (old now : Visited T) (i : ℕ) → Walking branch above cs old now i
-      → length now.sizes ≡ length now.visits
-  levels branch above cs old now i w =
+  -- there is a size for each visit, and more visits than there were
+  pub levels : (branch : Subtree T) (place : ℕ) (cs : List (Subtree T)) (old now : Visited T) (i : ℕ) → Walking branch place cs old now i
+      → (length now.sizes ≡ length now.visits) × (length old.visits < length now.visits)
+  levels branch place cs old now i w =
       let a = ap length w.sizes_are in
       let b = ap length w.is in
       let level = w.sizes_level in
       let n = length-map w.rest visit_size in
-      omega (arith, length-append old.sizes (0 ∷ map visit_size w.rest), length-append old.visits ((w.first, above) ∷ w.rest))
+      let v = length-append old.visits (w.first ∷ w.rest) in
+      (omega (arith, length-append old.sizes (0 ∷ map visit_size w.rest)), omega arith)
 
   -- a walk over the next child is one child more
-  pub child_walked : (branch : Subtree T) (above : T) (cs : List (Subtree T)) (old now later : Visited T) (i : ℕ) (c : Subtree T)
-      → branch.below ≡ spread cs → IsForest cs → i < length cs → c ≡ get_or cs i c → Walking branch above cs old now i
-      → AddsWalk c branch.value now.visits later.visits now.above later.above now.sizes later.sizes
-      → Walking branch above cs old later (i + 1)
-  child_walked branch above cs old now later i c below forest lt at w adds = record {
+  pub child_walked : (branch : Subtree T) (place : ℕ) (cs : List (Subtree T)) (old now later : Visited T) (i at : ℕ) (c : Subtree T)
+      → branch.below ≡ spread cs → IsForest cs → i < length cs → c ≡ get_or cs i c → at ≡ length old.visits
+      → Walking branch place cs old now i
+      → AddsWalk c at now.visits later.visits now.above later.above now.sizes later.sizes
+      → Walking branch place cs old later (i + 1)
+  child_walked branch place cs old now later i at c below forest lt here at_is w adds = record {
     first = w.first;
     first_is = w.first_is;
     rest = w.rest ++ adds.visits;
-    is = adds.is ∙ ap (λ x. x ++ adds.visits) w.is ∙ append_assoc old.visits ((w.first, above) ∷ w.rest) adds.visits;
+    is = adds.is ∙ ap (λ x. x ++ adds.visits) w.is ∙ append_assoc old.visits (w.first ∷ w.rest) adds.visits;
     level = longer_now;
-    each = λ rows j l k visit f. elim (get_append ((w.first, above) ∷ w.rest) adds.visits k visit f) [
-      | inl g ↦ w.each rows j l k visit g
-      | inr (m, e, g) ↦ subst (λ n. IsLocated rows n visit.0.now visit.1) (omega (arith, w.level))
-          (adds.walked.each rows (j + suc (length (spread (take i cs)))) (child rows j l) m visit g)
-    ];
+    above = w.above;
     more = w.more ++ adds.more;
     places_are = adds.places_are ∙ ap (λ x. x ++ adds.more) w.places_are ∙ append_assoc old.above w.more adds.more;
-    stand = above_joined later.visits ((w.first, above) ∷ w.rest) adds.visits w.more adds.more
-        (subst (λ (x : List (Visit T)). AreAbove x ((w.first, above) ∷ w.rest) w.more) (sym adds.is)
-        (above_more now.visits adds.visits ((w.first, above) ∷ w.rest) w.more w.stand)) adds.stand;
+    placed = (let a = w.placed in let b = adds.walked.placed in
+        omega (arith, length-append w.more adds.more, length-append w.rest adds.visits));
+    each = λ rows j b k visit f. elim (get_append (w.first ∷ w.rest) adds.visits k visit f) [
+      | inl g ↦ subst (IsBelow rows (j + k) visit.now later.visits) (sym (get_or_append_left w.more adds.more 0 k
+          (let l = slice_get_within (w.first ∷ w.rest) k visit g in let n = w.placed in omega arith)))
+          (still rows (j + k) visit.now (slice_index w.more k) (w.each rows j (earlier rows j b) k visit g))
+      | inr (m, e, g) ↦ subst (IsBelow rows (j + k) visit.now later.visits) (sym (ap (slice_index (w.more ++ adds.more))
+          (e ∙ ap (λ n. n + m) (sym w.placed)) ∙ get_or-append-add w.more adds.more m 0))
+          (subst (λ n. IsBelow rows n visit.now later.visits (slice_index adds.more m)) (omega (arith, w.level))
+          (adds.walked.each rows (j + suc (length (spread (take i cs)))) (child rows j b) m visit g))
+    ];
     sizes_are = adds.sizes_are ∙ ap (λ x. x ++ map visit_size adds.visits) w.sizes_are
         ∙ append_assoc old.sizes (0 ∷ map visit_size w.rest) (map visit_size adds.visits)
         ∙ ap (λ x. old.sizes ++ 0 ∷ x) (sym (map-append visit_size w.rest adds.visits));
     sizes_level = w.sizes_level;
   }
     where
-      split : cs ≡ take i cs ++ c ∷ drop (suc i) cs
-      split = parted cs i c lt at
+      still : (rows : Rows T) (j : ℕ) (s : Subtree T) (place : ℕ) → IsBelow rows j s now.visits place → IsBelow rows j s later.visits place
+      still rows j s place b = subst (λ (x : List (Visit T)). IsBelow rows j s x place) (sym adds.is)
+          (below_more rows j s now.visits adds.visits place b)
 
-      child : (rows : Rows T) (j : ℕ) → IsLocated rows j branch above
-          → IsLocated rows (j + suc (length (spread (take i cs)))) c branch.value
-      child rows j l = child_located rows j branch above l (take i cs) c (drop (suc i) cs) (below ∙ ap spread split)
-          (subst NamesRise split forest.names)
+      earlier : (rows : Rows T) (j : ℕ) → IsBelow rows j branch later.visits place → IsBelow rows j branch now.visits place
+      earlier rows j b = below_before rows j branch now.visits adds.visits place
+          (let l = (levels branch place cs old now i w).1 in let a = w.above in omega arith)
+          (subst (λ (x : List (Visit T)). IsBelow rows j branch x place) adds.is b)
+
+      split : cs ≡ take i cs ++ c ∷ drop (suc i) cs
+      split = parted cs i c lt here
+
+      child : (rows : Rows T) (j : ℕ) → IsBelow rows j branch later.visits place
+          → IsBelow rows (j + suc (length (spread (take i cs)))) c later.visits at
+      child rows j b = record {
+        above = branch.value;
+        located = child_located rows j branch b.above b.located (take i cs) c (drop (suc i) cs) (below ∙ ap spread split)
+            (subst NamesRise split forest.names);
+        stands = subst (λ n. StandsAt later.visits n branch.value) (sym at_is)
+            (subst (λ (x : List (Visit T)). StandsAt x (length old.visits) branch.value) (sym adds.is)
+            (stands_more now.visits adds.visits (length old.visits) branch.value (stands branch place cs old now i w)));
+      }
 
       longer_now : length (w.rest ++ adds.visits) ≡ length (spread (take (i + 1) cs))
       longer_now =
           let wl = w.level in
           let al = adds.walked.level in
           let n = length-append w.rest adds.visits in
-          let t = ap (λ x. length (spread x)) (take_one_more cs i c lt at) in
+          let t = ap (λ x. length (spread x)) (take_one_more cs i c lt here) in
           let u = ap length (spread_append (take i cs) (c ∷ [])) in
           let v = length-append (spread (take i cs)) (spread (c ∷ [])) in
           let p = length_prefixed c.name c.below in
@@ -190,17 +194,17 @@ module _ {T : Type 0} where
           omega arith
 
   -- past the last child, and with its size written, all of the branch is walked over
-  pub walk_ended : (branch : Subtree T) (above : T) (cs : List (Subtree T)) (old now : Visited T) (sizes : List ℕ) (i at size : ℕ)
+  pub walk_ended : (branch : Subtree T) (place : ℕ) (cs : List (Subtree T)) (old now : Visited T) (sizes : List ℕ) (i at size : ℕ)
       → branch.below ≡ spread cs → length cs ≤ i → at ≡ length old.visits → size ≡ length now.visits - at
-      → sizes ≡ slice_set now.sizes at size → Walking branch above cs old now i
-      → AddsWalk branch above old.visits now.visits old.above now.above old.sizes sizes
-  walk_ended branch above cs old now sizes i at size below le at_is size_is set w = record {
-    visits = (w.first, above) ∷ w.rest;
+      → sizes ≡ slice_set now.sizes at size → Walking branch place cs old now i
+      → AddsWalk branch place old.visits now.visits old.above now.above old.sizes sizes
+  walk_ended branch place cs old now sizes i at size below le at_is size_is set w = record {
+    visits = w.first ∷ w.rest;
     is = w.is;
-    walked = record { level = level; each = w.each };
+    first = stands branch place cs old now i w;
     more = w.more;
     places_are = w.places_are;
-    stand = w.stand;
+    walked = record { level = level; placed = w.placed; each = w.each };
     sizes_are =
         set ∙ ap (λ x. slice_set x at size) w.sizes_are
         ∙ ap (λ n. slice_set (old.sizes ++ 0 ∷ map visit_size w.rest) n size) (at_is ∙ sym w.sizes_level)
@@ -219,4 +223,4 @@ module _ {T : Type 0} where
           let b = ap length w.is in
           let n = ap (λ (x : Subtree T). length x.below) w.first_is in
           let r = rest_level in
-          omega (arith, size_is, at_is, length-append old.visits ((w.first, above) ∷ w.rest))
+          omega (arith, size_is, at_is, length-append old.visits (w.first ∷ w.rest))

@@ -12,7 +12,7 @@ use Rattle.stack_table.specs.declared.directory.Directory.{Directory}
 use Rattle.stack_table.specs.Rows.{Line}
 use Rattle.node_table.specs.Walks.{Visit}
 use Rattle.node_table.specs.Numbering.{visit_place, number_among}
-use Rattle.node_table.specs.Building.{line_in, directories, HasGivenHeader, StandAtStarts, completed}
+use Rattle.node_table.specs.Building.{line_in, directories, number_above, HasGivenHeader, StandAtStarts, completed}
 use Rattle.stack_table.specs.Held.{AreNodes}
 
 -- the row of a shown child
@@ -28,37 +28,40 @@ pub record AgreeBelow (layers : List (List ℕ)) (entries : List Listed) (tell :
 
 -- the branch agrees with the listing at its place
 pub record AgreesAtPlace (layers : List (List ℕ)) (entries : List Listed) (tell : TreePlace → ℕ)
-    (paths : ℕ) (visit : Visit Entry) : Type 0 where
-  pub header : HasGivenHeader layers visit.0.now
-  pub data_is : (image : List ℕ) → slice_get layers visit.0.now.value.place.layer ≡ Some image
-      → data_in image visit.0.now.value.place.header ≡ data_of layers (visit_place visit)
-  pub kind_is : visit.0.now.value.kind ≡ kind_at layers (visit_place visit)
-  pub parent_is : tell visit.1.place ≡ number entries (parent entries (visit_place visit))
-  pub below : (cs : List (Subtree Entry)) → visit.0.now.below ≡ spread cs → IsForest cs
+    (above paths : ℕ) (visit : Visit Entry) : Type 0 where
+  pub header : HasGivenHeader layers visit.now
+  pub data_is : (image : List ℕ) → slice_get layers visit.now.value.place.layer ≡ Some image
+      → data_in image visit.now.value.place.header ≡ data_of layers (visit_place visit)
+  pub kind_is : visit.now.value.kind ≡ kind_at layers (visit_place visit)
+  pub parent_is : above ≡ number entries (parent entries (visit_place visit))
+  pub below : (cs : List (Subtree Entry)) → visit.now.below ≡ spread cs → IsForest cs
       → AgreeBelow layers entries tell (visit_place visit) cs
   pub paths_are : is_directory_at layers (visit_place visit) ≡ false
       → paths ≡ nlink layers entries (visit_place visit)
 
--- the first branches of all places, in the order of numbers, agree with the listing
+-- the first branches of all places, in the order of numbers, agree with the listing: where each one
+-- stands, and what the number above is there
 pub record AgreeWithListing (layers : List (List ℕ)) (entries : List Listed) (tell : TreePlace
-    → ℕ) (first : List (Visit Entry)) (paths : List ℕ) : Type 0 where
+    → ℕ) (above : ℕ → ℕ) (first : List (Visit Entry)) (starts paths : List ℕ) : Type 0 where
   pub listing : IsListing layers entries
   pub level : length paths ≡ length first
   pub places : map visit_place first ≡ nodes entries
   pub each : (k : ℕ) (visit : Visit Entry) → slice_get first k ≡ Some visit
-      → AgreesAtPlace layers entries tell (slice_index paths k) visit
+      → AgreesAtPlace layers entries tell (above (slice_index starts k)) (slice_index paths k) visit
 
 -- they do so with some listing of the layers
-abbrev pub AgreeWithSomeListing : List (List ℕ) → (TreePlace → ℕ) → List (Visit Entry) → List ℕ
-    → Type 0
-AgreeWithSomeListing layers tell first paths =
-    (entries : List Listed) × AgreeWithListing layers entries tell first paths
+abbrev pub AgreeWithSomeListing : List (List ℕ) → (TreePlace → ℕ) → (ℕ → ℕ) → List (Visit Entry)
+    → List ℕ → List ℕ → Type 0
+AgreeWithSomeListing layers tell above first starts paths =
+    (entries : List Listed) × AgreeWithListing layers entries tell above first starts paths
 
 -- the first branches of all places agree with a listing, and stand where starts say
 abbrev pub StandAndAgree : List (List ℕ) → List (Visit Entry) → List ℕ → List ℕ → List ℕ → List ℕ
     → List ℕ → Type 0
 StandAndAgree layers visits places sizes starts paths numbers =
-    (first : List (Visit Entry)) × AgreeWithSomeListing layers (number_among visits) first paths
+    (first : List (Visit Entry))
+    × AgreeWithSomeListing layers (number_among visits) (number_above numbers places)
+    first starts paths
     × StandAtStarts (number_among visits) visits numbers places sizes first starts
 
 -- nodes, rows and keys make a table of the layers, once the nodes are completed

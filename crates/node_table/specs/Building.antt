@@ -43,31 +43,32 @@ AreFollowing tell numbers sizes at (c ∷ cs) =
     HasNumberAndSize tell numbers sizes at c
     × AreFollowing tell numbers sizes (at + length (whole c)) cs
 
--- the children of a visit stand after it
+-- the children of a branch stand after it
 pub record HasChildrenAfter (tell : Place → ℕ) (numbers sizes : List ℕ) (at : ℕ)
-    (visit : Visit Entry) : Type 0 where
+    (branch : Subtree Entry) : Type 0 where
   pub within : at < length numbers
-  pub each : (cs : List (Subtree Entry)) → visit.0.now.below ≡ spread cs → IsForest cs
+  pub each : (cs : List (Subtree Entry)) → branch.below ≡ spread cs → IsForest cs
       → AreFollowing tell numbers sizes (at + 1) cs
 
--- the number of the branch above a visit stands at the place that is held for it
-pub record IsAbove (tell : Place → ℕ) (numbers places : List ℕ) (at : ℕ)
-    (visit : Visit Entry) : Type 0 where
+-- the number of the branch above the one at this place
+abbrev pub number_above : List ℕ → List ℕ → ℕ → ℕ
+number_above numbers places at = slice_index numbers (slice_index places at)
+
+-- there is such a number
+pub record HasAbove (numbers places : List ℕ) (at : ℕ) : Type 0 where
   pub placed : at < length places
   pub within : slice_index places at < length numbers
-  pub number_is : slice_index numbers (slice_index places at) ≡ tell visit.1.place
 
--- the first branches stand where starts say, with the numbers of their parents and children at
--- hand
+-- the first branches stand where starts say, with numbers of their parents and children at hand
 pub record StandAtStarts (tell : Place → ℕ) (visits : List (Visit Entry))
     (numbers places sizes : List ℕ) (first : List (Visit Entry)) (starts : List ℕ) : Type 0 where
   pub level : length starts ≡ length first
   pub there : (k : ℕ) (visit : Visit Entry) → slice_get first k ≡ Some visit
       → slice_get visits (slice_index starts k) ≡ Some visit
   pub above : (k : ℕ) (visit : Visit Entry) → slice_get first k ≡ Some visit
-      → IsAbove tell numbers places (slice_index starts k) visit
+      → HasAbove numbers places (slice_index starts k)
   pub children : (k : ℕ) (visit : Visit Entry) → slice_get first k ≡ Some visit
-      → HasChildrenAfter tell numbers sizes (slice_index starts k) visit
+      → HasChildrenAfter tell numbers sizes (slice_index starts k) visit.now
 
 -- the header at a branch's place is one that the place's image gives
 pub record HasGivenHeader (layers : List (List ℕ)) (branch : Subtree Entry) : Type 0 where
@@ -82,31 +83,30 @@ pub record IsReadFrom (image : List ℕ) (header : ℕ) (node : Node) : Type 0 w
   pub spec_is : node.rdev ≡ spec image header
 
 -- the directory that a branch with these children is: its rows are added at the end, and their keys
-pub record IsMade (tell : Place → ℕ) (visit : Visit Entry) (cs : List (Subtree Entry))
-    (old new : List Line) (keys keys' : List ℕ) (directory : Directory) : Type 0 where
-  pub parent_is : directory.parent ≡ tell visit.1.place
+pub record IsMade (tell : Place → ℕ) (above : ℕ) (cs : List (Subtree Entry)) (old new : List Line)
+    (keys keys' : List ℕ) (directory : Directory) : Type 0 where
+  pub parent_is : directory.parent ≡ above
   pub start_is : directory.rows_start ≡ length old
   pub end_is : directory.rows_end ≡ length new
   pub rows_are : new ≡ old ++ map (line_in tell) cs
   pub keys_are : AddsKeys directory.shared (names (map (line_in tell) cs)) keys keys'
 
 -- a branch's directory is added, and the directories in it are counted
-pub record AddsDirectory (tell : Place → ℕ) (visit : Visit Entry) (held held' : List Directory)
-    (old new : List Line) (keys keys' : List ℕ) (n : ℕ) : Type 0 where
+pub record AddsDirectory (tell : Place → ℕ) (branch : Subtree Entry) (above : ℕ)
+    (held held' : List Directory) (old new : List Line) (keys keys' : List ℕ) (n : ℕ) : Type 0 where
   pub children : List (Subtree Entry)
-  pub below : visit.0.now.below ≡ spread children
+  pub below : branch.below ≡ spread children
   pub forest : IsForest children
   pub directory : Directory
   pub is : held' ≡ held ++ directory ∷ []
-  pub made : IsMade tell visit children old new keys keys' directory
+  pub made : IsMade tell above children old new keys keys' directory
   pub count_is : n ≡ directories children
 
 -- a directory is added, which is linked by its name, its own dot and the directories in it
-pub record AddsLinked (tell : Place → ℕ) (visit : Visit Entry) (nlink : ℕ)
-    (held held' : List Directory)
-    (old new : List Line) (keys keys' : List ℕ) : Type 0 where
+pub record AddsLinked (tell : Place → ℕ) (branch : Subtree Entry) (above nlink : ℕ)
+    (held held' : List Directory) (old new : List Line) (keys keys' : List ℕ) : Type 0 where
   pub count : ℕ
-  pub added : AddsDirectory tell visit held held' old new keys keys' count
+  pub added : AddsDirectory tell branch above held held' old new keys keys' count
   pub nlink_is : nlink ≡ min (2 + count) (2 ^ 32 - 1)
 
 -- nothing is added, and the node is linked by its paths
@@ -118,23 +118,23 @@ pub record AddsNothing (paths nlink : ℕ) (held held' : List Directory) (old ne
   pub nlink_is : nlink ≡ paths
 
 -- what is added for a node that is a directory, or is none
-abbrev pub AddsByKind : (Place → ℕ) → Visit Entry → ℕ → Bool → ℕ → List Directory → List Directory
-    → List Line → List Line → List ℕ → List ℕ → Type 0
-AddsByKind tell visit paths true nlink held held' old new keys keys' =
-    AddsLinked tell visit nlink held held' old new keys keys'
-AddsByKind tell visit paths false nlink held held' old new keys keys' =
+abbrev pub AddsByKind : (Place → ℕ) → Subtree Entry → ℕ → ℕ → Bool → ℕ → List Directory
+    → List Directory → List Line → List Line → List ℕ → List ℕ → Type 0
+AddsByKind tell branch above paths true nlink held held' old new keys keys' =
+    AddsLinked tell branch above nlink held held' old new keys keys'
+AddsByKind tell branch above paths false nlink held held' old new keys keys' =
     AddsNothing paths nlink held held' old new keys keys'
 
 -- the node of a branch, before it is completed
-pub record AddsNode (layers : List (List ℕ)) (tell : Place → ℕ) (visit : Visit Entry) (paths : ℕ)
-    (held held' : List Directory) (old new : List Line) (keys keys' : List ℕ)
+pub record AddsNode (layers : List (List ℕ)) (tell : Place → ℕ) (branch : Subtree Entry)
+    (above paths : ℕ) (held held' : List Directory) (old new : List Line) (keys keys' : List ℕ)
     (node : Node) : Type 0 where
-  pub kind_is : node.kind ≡ visit.0.now.value.kind
-  pub place_is : node.place ≡ visit.0.now.value.place
+  pub kind_is : node.kind ≡ branch.value.kind
+  pub place_is : node.place ≡ branch.value.place
   pub read : (image : List ℕ) → slice_get layers node.place.layer ≡ Some image
       → IsReadFrom image node.place.header node
   pub directory_is : node.directory ≡ length held
-  pub adds : AddsByKind tell visit paths
+  pub adds : AddsByKind tell branch above paths
       (is_directory node.kind) node.nlink held held' old new keys keys'
 
 -- the node with what its kind makes of that

@@ -13,7 +13,7 @@ place_key q = q.layer * 0x100000000 + q.header
 
 -- that of a visit
 abbrev pub key_of : Visit Entry → ℕ
-key_of visit = place_key visit.0.now.value.place
+key_of visit = place_key visit.now.value.place
 
 -- a number of paths and one more, held at the greatest 32-bit number
 abbrev pub one_more : ℕ → ℕ
@@ -21,16 +21,16 @@ one_more n = min (n + 1) (2 ^ 32 - 1)
 
 -- the place of a branch's value
 abbrev pub visit_place : Visit Entry → ModelPlace
-visit_place visit = placed visit.0.now.value.place
+visit_place visit = placed visit.now.value.place
 
 -- an entry with the branch's place
 abbrev pub bare : Visit Entry → Listed
 bare visit =
     record {
       path = [];
-      layer = visit.0.now.value.place.layer;
+      layer = visit.now.value.place.layer;
       header =
-          visit.0.now.value.place.header;
+          visit.now.value.place.header;
     }
 
 -- as many of the first visits as entries
@@ -41,26 +41,23 @@ seen visits i = map bare (take i visits)
 abbrev pub paths_of : List Listed → ModelPlace → ℕ
 paths_of entries p = count_by (λ e. same_place p (place e)) entries
 
--- the visit is the first with its place
-pub record IsFirstVisit (visits : List (Visit Entry)) (visit : Visit Entry) : Type 0 where
-  pub at : ℕ
+-- the visit is the first with its place, and stands here
+pub record IsFirstVisit (visits : List (Visit Entry)) (visit : Visit Entry) (at : ℕ) : Type 0 where
   pub is : slice_get visits at ≡ Some visit
   pub new : number_of (seen visits at) (visit_place visit) ≡ None
 
 -- the places of visits, each as one number
 pub record AreKeys (visits : List (Visit Entry)) (keys : List ℕ) : Type 0 where
   pub are : keys ≡ map key_of visits
-  pub small : All (λ (visit : Visit Entry). visit.0.now.value.place.header < 2 ^ 32) visits
+  pub small : All (λ (visit : Visit Entry). visit.now.value.place.header < 2 ^ 32) visits
 
 -- the places of the first i visits are numbered
 pub record IsNumbered (visits : List (Visit Entry)) (i : ℕ) (first : List (Visit Entry))
     (starts paths numbers : List ℕ) : Type 0 where
   pub places : map visit_place first ≡ nodes (seen visits i)
   pub each : (k : ℕ) (visit : Visit Entry) → slice_get first k ≡ Some visit
-      → IsFirstVisit visits visit
+      → IsFirstVisit visits visit (slice_index starts k)
   pub starts_level : length starts ≡ length first
-  pub starts_are : (k : ℕ) (visit : Visit Entry) → slice_get first k ≡ Some visit
-      → slice_get visits (slice_index starts k) ≡ Some visit
   pub level : length paths ≡ length first
   pub counted : (k : ℕ) (visit : Visit Entry) → slice_get first k ≡ Some visit
       → slice_index paths k ≡ min (paths_of (seen visits i) (visit_place visit)) (2 ^ 32 - 1)

@@ -7,9 +7,9 @@ use Rattle.stack_model.specs.Stack.{Path}
 use Rattle.stack_model.specs.Numbers.{same_name, same_path}
 use Rattle.path_tree.specs.Rows.{Subtree, Rows, whole}
 
--- a branch, and the value of the branch above it
+-- a branch, as it is lent
 abbrev pub Visit : Type 0 → Type 0
-Visit T = Bor (Subtree T) × T
+Visit T = Bor (Subtree T)
 
 -- the rows, each path beginning with the path top
 abbrev pub under : {T : Type 0} → Path → Rows T → Rows T
@@ -39,36 +39,39 @@ pub record IsLocated {T : Type 0} (rows : Rows T) (j : ℕ) (branch : Subtree T)
   pub above_is : option_map (λ row. row.1)
       (find (λ row. same_path (take (length top - 1) top) row.0) rows) ≡ Some above
 
--- the visits are the branch and all below it, in the order of their rows
-pub record AreWalked {T : Type 0} (branch : Subtree T) (above : T)
-    (visits : List (Visit T)) : Type 0 where
-  pub level : length visits ≡ length (whole branch)
-  pub each : (rows : Rows T) (j : ℕ) → IsLocated rows j branch above → (k : ℕ) (visit : Visit T)
-      → slice_get visits k ≡ Some visit → IsLocated rows (j + k) visit.0.now visit.1
-
 -- how many rows the branch has with all below it
 abbrev pub visit_size : {T : Type 0} → Visit T → ℕ
-visit_size visit = length (whole visit.0.now)
+visit_size visit = length (whole visit.now)
 
 -- a branch with this value stands at this place
 pub record StandsAt {T : Type 0} (visits : List (Visit T)) (place : ℕ) (value : T) : Type 0 where
   pub visit : Visit T
   pub is : slice_get visits place ≡ Some visit
-  pub value_is : visit.0.now.value ≡ value
+  pub value_is : visit.now.value ≡ value
 
--- the branch above each visit stands at its place
-pub record AreAbove {T : Type 0} (all visits : List (Visit T)) (places : List ℕ) : Type 0 where
-  pub level : length places ≡ length visits
-  pub each : (k : ℕ) (visit : Visit T) → slice_get visits k ≡ Some visit
-      → StandsAt all (slice_index places k) visit.1
+-- the rows of a branch stand among the rows from j on, and the branch above it at this place
+pub record IsBelow {T : Type 0} (rows : Rows T) (j : ℕ) (branch : Subtree T)
+    (visits : List (Visit T)) (place : ℕ) : Type 0 where
+  pub above : T
+  pub located : IsLocated rows j branch above
+  pub stands : StandsAt visits place above
 
--- these are added at the end, with the places of those above them and their sizes
-pub record AddsWalk {T : Type 0} (branch : Subtree T) (above : T) (old new : List (Visit T))
+-- the visits are the branch and all below it, in the order of their rows, and the branch above each
+-- one stands at its place among all
+pub record AreWalked {T : Type 0} (branch : Subtree T) (place : ℕ) (all visits : List (Visit T))
+    (places : List ℕ) : Type 0 where
+  pub level : length visits ≡ length (whole branch)
+  pub placed : length places ≡ length visits
+  pub each : (rows : Rows T) (j : ℕ) → IsBelow rows j branch all place → (k : ℕ) (visit : Visit T)
+      → slice_get visits k ≡ Some visit → IsBelow rows (j + k) visit.now all (slice_index places k)
+
+-- these are added at the end, the branch first, with the places of those above them and their sizes
+pub record AddsWalk {T : Type 0} (branch : Subtree T) (place : ℕ) (old new : List (Visit T))
     (places places' sizes sizes' : List ℕ) : Type 0 where
   pub visits : List (Visit T)
   pub is : new ≡ old ++ visits
-  pub walked : AreWalked branch above visits
+  pub first : StandsAt new (length old) branch.value
   pub more : List ℕ
   pub places_are : places' ≡ places ++ more
-  pub stand : AreAbove new visits more
+  pub walked : AreWalked branch place new visits more
   pub sizes_are : sizes' ≡ sizes ++ map visit_size visits

@@ -64,7 +64,7 @@ fn byte_at<A: Allocator>(
     start: usize,
 ) -> Option<u8> {
     let visit = walk.visits.get(start)?;
-    let place = visit.0.value().place;
+    let place = visit.value().place;
     let image = images.get(place.layer as usize)?;
     let end = image.glance(place.header.wrapping_add(31))?;
     Some(image.glance(place.header)? ^ end)

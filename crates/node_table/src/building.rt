@@ -4,14 +4,15 @@ ghost use Rattle.std.specs.Prelude.{◌≡◌, ◌+◌, ◌<◌, length, slice_i
 ghost use Rattle.romfs_format.specs.Heads.{head_of};
 ghost use Rattle.romfs_reader.specs.Readers.{IsGiven};
 ghost use Rattle.node_table.specs.Numbering.{number_among};
-ghost use Rattle.node_table.specs.Building.{IsAbove, AreFollowing, HasChildrenAfter};
+ghost use Rattle.node_table.specs.Building.{HasAbove, AreFollowing, HasChildrenAfter, number_above};
 ghost use Rattle.node_table.specs.Building.{AddsRows, AddsDirectory, AddsNode, HasGivenHeader};
 ghost use Rattle.node_table.specs.Agreement.{StandAndAgree, AreMade};
 
 use crate::ahead::HeadersAhead;
 use crate::numbering::Numbered;
-use crate::walk::{Visit, Walked};
+use crate::walk::Walked;
 use name_keys::add_keys;
+use path_tree::Branch;
 use romfs_reader::{Head, Image, Kind};
 use shown_tree::{Child, Entry};
 use stack_table::{Directories, Directory, Node, Row};
@@ -75,18 +76,18 @@ fn add_directory<A: Allocator + Copy>(
     walk: &Walked<'_, Entry, A>,
     numbers: &[u64],
     start: usize,
-    visit: &Visit<'_, Entry, A>,
+    branch: &Branch<Entry, A>,
     into: &mut Directories<A>,
 ) -> Result<u64, AllocError>
-    requires above { IsAbove (number_among walk.now.visits.items)
-        numbers.now walk.now.above.items start visit.now }
+    requires above { HasAbove numbers.now walk.now.above.items start }
     requires children { HasChildrenAfter (number_among walk.now.visits.items)
-        numbers.now walk.now.sizes.items start visit.now }
-    ensures { IfOk result (λ n. AddsDirectory (number_among walk.now.visits.items) visit.now
+        numbers.now walk.now.sizes.items start branch.now }
+    ensures { IfOk result (λ n. AddsDirectory (number_among walk.now.visits.items) branch.now
+        (number_above numbers.now walk.now.above.items start)
         into.old.all.items into.new.all.items into.old.rows.items into.new.rows.items
         into.old.keys.items into.new.keys.items n) }
 {
-    let children = visit.0.children();
+    let children = branch.children();
     let above = walk.above[start];
     let parent = numbers[above];
     let rows_start = into.rows.len();
@@ -109,27 +110,27 @@ pub(crate) fn add_node<A: Allocator + Copy>(
     walk: &Walked<'_, Entry, A>,
     numbers: &[u64],
     start: usize,
-    visit: &Visit<'_, Entry, A>,
+    branch: &Branch<Entry, A>,
     paths: u32,
     into: &mut Directories<A>,
 ) -> Result<Node, AllocError>
-    requires header { HasGivenHeader images.now visit.now.0.now }
-    requires above { IsAbove (number_among walk.now.visits.items)
-        numbers.now walk.now.above.items start visit.now }
+    requires header { HasGivenHeader images.now branch.now }
+    requires above { HasAbove numbers.now walk.now.above.items start }
     requires children { HasChildrenAfter (number_among walk.now.visits.items)
-        numbers.now walk.now.sizes.items start visit.now }
+        numbers.now walk.now.sizes.items start branch.now }
     ensures { IfOk result (λ node. AddsNode images.now (number_among walk.now.visits.items)
-        visit.now paths into.old.all.items into.new.all.items
+        branch.now (number_above numbers.now walk.now.above.items start) paths
+        into.old.all.items into.new.all.items
         into.old.rows.items into.new.rows.items into.old.keys.items into.new.keys.items node) }
 {
-    let Entry { kind, place } = visit.0.value();
+    let Entry { kind, place } = branch.value();
     let image = &images[place.layer as usize];
     let head = header_in(image, place.header);
     let part = image.data_part(&head);
     let directory = into.all.len();
     let nlink = match kind {
         Kind::Directory => {
-            let directories = add_directory(alloc, walk, numbers, start, visit, into)?;
+            let directories = add_directory(alloc, walk, numbers, start, branch, into)?;
             directories.saturating_add(2).min(u64::from(u32::MAX)) as u32
         }
         _ => paths,
@@ -168,7 +169,7 @@ pub(crate) fn make<A: Allocator + Copy>(
     let mut ahead = HeadersAhead::new();
     for (at, start) in numbered.starts.iter().enumerate() {
         ahead.pass(images, walk, &numbered.starts);
-        let visit = &walk.visits[*start];
+        let branch = walk.visits[*start];
         let paths = numbered.paths[at];
         let node = add_node(
             alloc,
@@ -176,7 +177,7 @@ pub(crate) fn make<A: Allocator + Copy>(
             walk,
             &numbered.numbers,
             *start,
-            visit,
+            branch,
             paths,
             &mut directories,
         )?;

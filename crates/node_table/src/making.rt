@@ -98,7 +98,7 @@ fn parts_of<A: Allocator + Copy>(
 {
     let root = tree.root();
     let mut all = Walked::with_room(alloc, count_branches(root))?;
-    walk(root, root.value(), 0, &mut all)?;
+    walk(root, 0, &mut all)?;
     let numbered = number_places(alloc, &all.visits)?;
     make(alloc, images, &all, &numbered)
 }

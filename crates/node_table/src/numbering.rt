@@ -4,7 +4,7 @@ ghost use Rattle.std.specs.Prelude.{◌≡◌, ◌<◌, ◌^◌, length, slice_i
 ghost use Rattle.node_table.specs.Numbering.{place_key, one_more, AreKeys, AreNumbered};
 
 use crate::firsts::firsts_of;
-use crate::walk::Visit;
+use path_tree::Branch;
 use shown_tree::{Entry, Place};
 use std::alloc::{AllocError, Allocator};
 
@@ -28,15 +28,15 @@ fn place_key(place: Place) -> u64
 }
 
 // The places of branches, each as one number.
-fn keys_of<'t, A: Allocator + Copy>(
+fn keys_of<A: Allocator + Copy>(
     alloc: A,
-    visits: &[Visit<'t, Entry, A>],
+    visits: &[&Branch<Entry, A>],
 ) -> Result<Vec<u64, A>, AllocError>
     ensures { IfOk result (λ keys. AreKeys visits.now keys.items) }
 {
     let mut keys = Vec::with_capacity(alloc, visits.len())?;
     for visit in visits {
-        keys.push(place_key(visit.0.value().place))?;
+        keys.push(place_key(visit.value().place))?;
     }
     Ok(keys)
 }
@@ -54,7 +54,7 @@ fn count_one<A: Allocator>(paths: &mut Vec<u32, A>, at: usize)
 // Numbers the places of these branches. It takes n log n steps.
 pub(crate) fn number_places<A: Allocator + Copy>(
     alloc: A,
-    visits: &[Visit<'_, Entry, A>],
+    visits: &[&Branch<Entry, A>],
 ) -> Result<Numbered<A>, AllocError>
     ensures { IfOk result
         (λ n. AreNumbered visits.now n.starts.items n.paths.items n.numbers.items) }

@@ -1,18 +1,15 @@
 //! The branches of a tree in the order of their paths.
 
-ghost use Rattle.std.specs.Prelude.{◌≡◌, ◌⊎◌, [], length, IfOk, OnOk};
-ghost use Rattle.node_table.specs.Walks.{AddsWalk, StandsAt};
+ghost use Rattle.std.specs.Prelude.{◌≡◌, ◌≤◌, [], length, IfOk, OnOk};
+ghost use Rattle.node_table.specs.Walks.{AddsWalk};
 
 use path_tree::Branch;
 use std::alloc::{AllocError, Allocator};
 
-/// A branch of a tree, and the value of the branch above it.
-pub(crate) type Visit<'t, T, A> = (&'t Branch<T, A>, T);
-
 /// Branches in the order of their paths.
 #[derive(Drop)]
 pub(crate) struct Walked<'t, T: Copy + Drop, A: Allocator> {
-    pub(crate) visits: Vec<Visit<'t, T, A>, A>,
+    pub(crate) visits: Vec<&'t Branch<T, A>, A>,
     /// Where the branch above each one stands; the root is above itself.
     pub(crate) above: Vec<usize, A>,
     /// How many branches each one is with all below it.
@@ -46,23 +43,20 @@ pub(crate) fn count_branches<T: Copy + Drop, A: Allocator>(branch: &Branch<T, A>
 // `place`, or is this one.
 pub(crate) fn walk<'t, T: Copy + Drop, A: Allocator>(
     branch: &'t Branch<T, A>,
-    above: T,
     place: usize,
     out: &mut Walked<'t, T, A>,
 ) -> Result<(), AllocError>
     requires level { length out.old.sizes.items ≡ length out.old.visits.items }
-    requires above { StandsAt out.old.visits.items place above
-        ⊎ ((place ≡ length out.old.visits.items) × (branch.now.value ≡ above)) }
-    ensures { OnOk result (AddsWalk branch.now above out.old.visits.items out.new.visits.items
+    requires above { place ≤ length out.old.visits.items }
+    ensures { OnOk result (AddsWalk branch.now place out.old.visits.items out.new.visits.items
         out.old.above.items out.new.above.items out.old.sizes.items out.new.sizes.items) }
 {
     let at = out.visits.len();
-    out.visits.push((branch, above))?;
+    out.visits.push(branch)?;
     out.above.push(place)?;
     out.sizes.push(0)?;
-    let value = branch.value();
     for child in branch.children() {
-        walk(child, value, at, out)?;
+        walk(child, at, out)?;
     }
     out.sizes[at] = out.visits.len() - at;
     Ok(())

@@ -1,5 +1,6 @@
 use Rattle.std.proofs.Common.{refl, arith}
 use Rattle.node_table.specs.Numbering.{number_among}
+use Rattle.node_table.specs.Building.{number_above}
 use Rattle.node_table.proofs.Folders.{Folders}
 use Rattle.node_table.proofs.Built.{ReadsBranch, reads_branch, added_directory, added_other, made}
 use Rattle.node_table.proofs.building.add_node.Goals as goal
@@ -7,13 +8,13 @@ use Rattle.node_table.proofs.building.add_node.Goals as goal
 pub returns-in_ok-directories-in-Directory : goal.returns-in_ok-directories-in-Directory
 returns-in_ok-directories-in-Directory g c =
     let tell = number_among c.args.walk.now.visits.items in
-    let reads : ReadsBranch c.args.images.now c.args.visit.now =
+    let reads : ReadsBranch c.args.images.now c.args.branch.now =
     reads_branch c.value-kind.ensures c.index-images-place.is c.header_in-head.ensures.value c.data_part-part.ensures in
     let old : Folders = record { all = c.args.into.now.all.items; rows = _; keys = _ } in
     let new : Folders = record { all = _; rows = _; keys = _ } in
     let n = c.in_ok-directories-in-Directory in
     made reads _ c.len-directory.result old new (omega (arith, c.len-directory.ensures, c.args.into.now.all.ok.0))
-    (added_directory tell c.args.visit.now c.args.paths c.value-kind.result.kind _ old new c.in-Directory.is
+    (added_directory tell c.args.branch.now _ c.args.paths c.value-kind.result.kind _ old new c.in-Directory.is
     (record {
       count = n.directories;
       added = n.ensures;
@@ -23,7 +24,8 @@ returns-in_ok-directories-in-Directory g c =
 pub returns-in_default : goal.returns-in_default
 returns-in_default g c =
     let tell = number_among c.args.walk.now.visits.items in
-    let reads : ReadsBranch c.args.images.now c.args.visit.now =
+    let above = number_above c.args.numbers.now c.args.walk.now.above.items c.args.start in
+    let reads : ReadsBranch c.args.images.now c.args.branch.now =
     reads_branch c.value-kind.ensures c.index-images-place.is c.header_in-head.ensures.value c.data_part-part.ensures in
     let kept : Folders = record {
       all = c.args.into.now.all.items;
@@ -31,5 +33,5 @@ returns-in_default g c =
       keys = c.args.into.now.keys.items;
     } in
     made reads _ c.len-directory.result kept kept (omega (arith, c.len-directory.ensures, c.args.into.now.all.ok.0))
-    (added_other tell c.args.visit.now c.args.paths c.value-kind.result.kind _ kept kept c.in_default.not-Directory
+    (added_other tell c.args.branch.now above c.args.paths c.value-kind.result.kind _ kept kept c.in_default.not-Directory
     (record { held_are = refl; rows_are = refl; keys_are = refl; nlink_is = refl }))

@@ -31,39 +31,43 @@ loop-at-init g c = (
   nodes_begun _ _ _ _ c.in_ok-nodes.ensures.items c.in_ok-with_capacity.ensures.items c.in_ok-with_capacity-2.ensures.items,
 )
 
-pub index-visit-requires : goal.index-visit-requires
-index-visit-requires g c =
-    let all = branches g (goal.at.index-visit-requires g c).In-loop-at in
+pub index-branch-requires : goal.index-branch-requires
+index-branch-requires g c =
+    let all = branches g (goal.at.index-branch-requires g c).In-loop-at in
     let within = start_within all (has_start c.loop-at.at c.deref-start-items.ensures.value (omega arith)) in
     omega (arith, within, c.args.walk.now.visits.ok.0)
 
 pub add_node-requires-clause-header : goal.add_node-requires-clause-header
 add_node-requires-clause-header g c =
     let all = branches g (goal.at.add_node-requires-clause-header g c).In-loop-at in
-    let next = next_first all (has_start c.loop-at.at c.deref-start-items.ensures.value (omega arith)) _ c.index-visit.ensures in
+    let next = next_first all (has_start c.loop-at.at c.deref-start-items.ensures.value (omega arith)) _ c.index-branch.ensures in
     next.agrees.header
 
 pub add_node-requires-clause-above : goal.add_node-requires-clause-above
 add_node-requires-clause-above g c =
     let all = branches g (goal.at.add_node-requires-clause-above g c).In-loop-at in
-    let next = next_first all (has_start c.loop-at.at c.deref-start-items.ensures.value (omega arith)) _ c.index-visit.ensures in
+    let next = next_first all (has_start c.loop-at.at c.deref-start-items.ensures.value (omega arith)) _ c.index-branch.ensures in
     rw c.deref-in-loop-at.ensures.value next.above
 
 pub add_node-requires-clause-children : goal.add_node-requires-clause-children
 add_node-requires-clause-children g c =
     let all = branches g (goal.at.add_node-requires-clause-children g c).In-loop-at in
-    let next = next_first all (has_start c.loop-at.at c.deref-start-items.ensures.value (omega arith)) _ c.index-visit.ensures in
+    let next = next_first all (has_start c.loop-at.at c.deref-start-items.ensures.value (omega arith)) _ c.index-branch.ensures in
     rw c.deref-in-loop-at.ensures.value next.children
 
 pub loop-at-preserved : goal.loop-at-preserved
 loop-at-preserved g c =
     let inv = c.loop-at.invariant in
     let all = branches g (goal.at.loop-at-preserved g c).In-loop-at in
-    let next = next_first all (has_start c.loop-at.at c.deref-start-items.ensures.value (omega arith)) _ c.index-visit.ensures in
+    let next = next_first all (has_start c.loop-at.at c.deref-start-items.ensures.value (omega arith)) _ c.index-branch.ensures in
     let paths : c.index-paths.result.now ≡ slice_index c.args.numbered.now.paths.items c.loop-at.at = c.index-paths.ensures
     ∙ get_or_default c.args.numbered.now.paths.items c.loop-at.at c.index-paths.result.now 0 next.within in
-    let made : IsMadeOfVisit c.args.images.now inv.1 (number_among c.args.walk.now.visits.items) _ c.index-visit.result.now _ _
-    c.in_ok-node.node = record { agrees = next.agrees; level = inv.4.keys_level; adds = rw paths at c.in_ok-node.ensures } in (
+    let made : IsMadeOfVisit c.args.images.now inv.1 (number_among c.args.walk.now.visits.items) _ _ c.index-branch.result.now _ _
+    c.in_ok-node.node = record {
+      agrees = next.agrees;
+      level = inv.4.keys_level;
+      adds = rw (paths, c.deref-in-loop-at.ensures.value) at c.in_ok-node.ensures;
+    } in (
       inv.0,
       inv.1,
       inv.2,

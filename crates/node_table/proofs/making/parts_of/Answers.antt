@@ -6,18 +6,18 @@ pub make-requires : goal.make-requires
 make-requires g c =
     let root = c.root-root.result.now in
     let visits = c.walk.new.out.visits.items in
-    let all = walked_all root c.value.result _ _ _ _ _ _ c.in_ok-all.ensures.0 c.in_ok-all.ensures.1 c.in_ok-all.ensures.2
-    c.value.ensures c.in_ok-walk.ensures in
+    let all = walked_all root _ _ _ _ _ _ c.in_ok-all.ensures.0 c.in_ok-all.ensures.1 c.in_ok-all.ensures.2 c.in_ok-walk.ensures in
     let numbered = rw c.deref.ensures.value at c.in_ok-numbered.ensures in
     let held : Numbers = record { first = numbered.0; starts = _; paths = _; numbers = _ } in
-    let walk : WalksTree c.args.images.now c.args.tree.now root visits held = record {
+    let walk : WalksTree c.args.images.now c.args.tree.now root visits c.walk.new.out.above.items held = record {
       tree = c.requires.tree;
       sound = c.requires.sound;
       whole = c.root-root.ensures;
-      walked = all.0;
+      first = all.0;
+      walked = all.1;
       numbered = numbered.1;
     } in (
       held.first,
-      firsts_agree _ _ _ _ held walk,
-      firsts_stand _ _ _ _ held walk _ _ all.1 all.2,
+      firsts_agree _ _ _ _ _ held walk,
+      firsts_stand _ _ _ _ _ held walk _ all.2,
     )

@@ -1,18 +1,18 @@
-use Rattle.std.proofs.Common.{rules, ap, sym, subst, ◌≡◌, ◌-◌, ◌<◌, length, arith, refl}
-use Rattle.node_table.specs.Walks.{StandsAt}
-use Rattle.node_table.proofs.Walking.{child_walked, walk_begun, stands, levels, walk_ended, falls}
+use Rattle.std.proofs.Common.{rules, ap, ◌≡◌, ◌-◌, ◌<◌, ◌≤◌, length, arith, refl}
+use Rattle.node_table.proofs.Walking.{child_walked, walk_begun, levels, walk_ended, falls}
 use Rattle.node_table.proofs.walk.+walk.Goals as goal
 
 pub loop-child-init : goal.loop-child-init
-loop-child-init g t c = walk_begun _ _ _ _ _ _ c.requires.above c.requires.level c.in_ok-push.ensures.items
+loop-child-init g t c = walk_begun _ _ _ _ _ c.requires.above c.requires.level c.in_ok-push.ensures.items
     c.in_ok-push-2.ensures.items c.in_ok-push-3.ensures.items
 
 pub loop-child-preserved : goal.loop-child-preserved
 loop-child-preserved g t c =
     let l : c.loop-child.child-index < length c.children-child-items.result.now = omega arith in
-    child_walked c.args.branch.now c.args.above c.children-child-items.result.now _ _ _ c.loop-child.child-index c.child-item.result
-    c.children-child-items.ensures.below c.children-child-items.ensures.forest l c.child-item.is c.loop-child.invariant
-    (rw c.value-value.ensures at c.in_ok-walk.ensures)
+    let at : c.len-at.result ≡ length c.args.out.now.visits.items = omega (arith, c.len-at.ensures, c.args.out.now.visits.ok.0) in
+    child_walked c.args.branch.now c.args.place c.children-child-items.result.now _ _ _ c.loop-child.child-index _ c.child-item.result
+    c.children-child-items.ensures.below c.children-child-items.ensures.forest l c.child-item.is at c.loop-child.invariant
+    c.in_ok-walk.ensures
 
 pub walk-requires : goal.walk-requires
 walk-requires g t c κs within =
@@ -20,10 +20,9 @@ walk-requires g t c κs within =
     let f = falls c.children-child-items.result.now c.args.branch.now.below c.loop-child.child-index c.child-item.result
     c.children-child-items.ensures.below l c.child-item.is in
     let at : c.len-at.result ≡ length c.args.out.now.visits.items = omega (arith, c.len-at.ensures, c.args.out.now.visits.ok.0) in
-    let above = subst (λ n. StandsAt c.loop-child.out.visits.items n c.value-value.result) (sym at)
-    (stands _ _ _ _ _ _ c.value-value.result c.value-value.ensures c.loop-child.invariant) in
     let level = levels _ _ _ _ _ _ c.loop-child.invariant in
-    search (rules, f, above, level)
+    let above : c.len-at.result ≤ length c.loop-child.out.visits.items = omega (arith, at, level.1) in
+    search (rules, f, above, level.0)
 
 pub returns : goal.returns
 returns g t c =

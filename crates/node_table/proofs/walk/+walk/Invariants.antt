@@ -8,6 +8,6 @@ decreases-walk g l = length l.branch.now.below
 
 -- the branch and its children so far are walked over
 abbrev pub invariant-loop-child : goal.invariant-loop-child
-invariant-loop-child g l = Walking l.branch l.fn.above l.child-items
+invariant-loop-child g l = Walking l.branch l.fn.place l.child-items
     (record { visits = l.fn.out.visits.items; above = l.fn.out.above.items; sizes = l.fn.out.sizes.items })
     (record { visits = l.out.visits.items; above = l.out.above.items; sizes = l.out.sizes.items }) l.child-index
