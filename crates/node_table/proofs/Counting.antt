@@ -5,7 +5,7 @@ use Rattle.std.proofs.Common.{◌≡◌, ◌≢◌, ◌∙◌, sym, ap, subst, �
 use Rattle.std.specs.Prelude.{slice_get, slice_index, slice_set, fold, nat_eq, min, count_by}
 use Rattle.std.specs.List.{list_any, position_from}
 use Rattle.std.proofs.lemmas.Bool.{cases_order, eqb-true, eq-eqb, and_parts}
-use Rattle.std.proofs.lemmas.List.{get_or_append_left, get_or_default, get_or_push, length-map, length_push, map_push}
+use Rattle.std.proofs.lemmas.List.{get_or-take, get_or_append_left, get_or_default, get_or_push, length-map, length_push, map_push}
 use Rattle.std.proofs.lemmas.List.Elements.{All-push}
 use Rattle.std.proofs.lemmas.List.Recursion.{is_count_by}
 use Rattle.std.proofs.lemmas.List.Sums.{fold-append, sum_by-append}
@@ -399,7 +399,7 @@ pub record HasNumber (visits : List (Visit Entry)) (visit : Visit Entry) (paths 
   pub counted : n - 1 < length paths
 
 -- the visit at i has a new place where the first place of its key is i; where that is another one,
--- the number that is read there is the visit's
+-- the number that is read there, among those so far, is the visit's
 pub record TakesNumber (visits : List (Visit Entry)) (paths numbers : List ℕ) (i before : ℕ) : Type 0 where
   pub visit : Visit Entry
   pub here : visit ≡ get_or visits i visit
@@ -467,15 +467,17 @@ module _ (visits : List (Visit Entry)) (keys firsts : List ℕ) (are : AreKeys v
             ∙ sym (key_is i visit (slice_get_read visits _ i visit refl lt here))))
 
   -- a visit, as the code reads it, takes its number from the first place of its key
-  pub taken_from_first : (i before : ℕ) (held : Numbers) → i < length visits → before ≡ get_or firsts i before
-      → IsNumbered visits i held.first held.starts held.paths held.numbers → TakesNumber visits held.paths held.numbers i before
-  taken_from_first i before held lt read inv = record {
+  pub taken_from_first : (i before : ℕ) (held : Numbers) (room : List ℕ) → i < length visits → before ≡ get_or firsts i before
+      → length room ≡ length visits → held.numbers ≡ take i room
+      → IsNumbered visits i held.first held.starts held.paths held.numbers → TakesNumber visits held.paths room i before
+  taken_from_first i before held room lt read room_level front inv = record {
     visit = visit.0;
     here = visit.1;
     new = λ same. has_none i visit.0 lt visit.1 (sym before_is ∙ same);
     within = below;
     known = λ other n e. has n ((numbered other).1 ∙ ap Some (ap (slice_index held.numbers) (sym before_is)
-        ∙ sym (get_or_default held.numbers before n 0 (below other)) ∙ sym e));
+        ∙ ap (λ xs. slice_index xs before) front ∙ get_or-take i room before 0 (earlier other)
+        ∙ sym (get_or_default room before n 0 (below other)) ∙ sym e));
   }
     where
       visit : (s : Visit Entry) × (s ≡ get_or visits i s)
@@ -488,8 +490,11 @@ module _ (visits : List (Visit Entry)) (keys firsts : List ℕ) (are : AreKeys v
           × (number_of (seen visits i) (visit_place visit.0) ≡ Some (slice_index held.numbers (slice_index firsts i)))
       numbered other = has_number i visit.0 lt visit.1 held inv (λ e. other (before_is ∙ e))
 
-      below : before ≢ i → before < length held.numbers
-      below other = let earlier = (numbered other).0 in let level = inv.numbers_level in omega (arith, before_is)
+      earlier : before ≢ i → before < i
+      earlier other = let l = (numbered other).0 in omega (arith, before_is)
+
+      below : before ≢ i → before < length room
+      below other = let l = earlier other in omega arith
 
       has : (n : ℕ) → number_of (seen visits i) (visit_place visit.0) ≡ Some n → HasNumber visits visit.0 held.paths i n
       has n is = let b = number_positive visits i visit.0 held lt visit.1 inv n is in

@@ -59,21 +59,23 @@ pub(crate) fn number_places<A: Allocator + Copy>(
     ensures { IfOk result
         (λ n. AreNumbered visits.now n.starts.items n.paths.items n.numbers.items) }
 {
-    let keys = keys_of(alloc, visits)?;
-    let firsts = firsts_of(alloc, &keys)?;
+    // what stays comes first, so that what is let go lies last, where the nodes will be
     let mut starts = Vec::with_capacity(alloc, visits.len())?;
     let mut paths = Vec::with_capacity(alloc, visits.len())?;
-    let mut numbers = Vec::with_capacity(alloc, visits.len())?;
+    let keys = keys_of(alloc, visits)?;
+    let firsts = firsts_of(alloc, &keys)?;
+    // each key gives way to the number of its place
+    let mut numbers = keys;
     for at in 0..visits.len() {
         let before = firsts[at];
         if before == at {
             starts.push(at)?;
             paths.push(1)?;
-            numbers.push(starts.len() as u64)?;
+            numbers[at] = starts.len() as u64;
         } else {
             let number = numbers[before];
             count_one(&mut paths, (number - 1) as usize);
-            numbers.push(number)?;
+            numbers[at] = number;
         }
     }
     Ok(Numbered {
