@@ -147,37 +147,16 @@ fn set_row<A: Allocator>(
     requires room { at + SHORT_ROW_SIZE ≤ length bytes.old }
     ensures { SetsRow table.now rows.now index at result bytes.old bytes.new }
 {
-    if 2 <= index {
-        return set_child(table, rows, index, bytes, at);
+    let padded = padded_at(rows, index)?;
+    if index < 2 {
+        let (row, entry) = row_at(table, rows, index);
+        return Some(set_direntplus(bytes, at, entry.as_ref(), &row, padded));
     }
-    let padded = padded_at(rows, index)?;
-    let (row, entry) = row_at(table, rows, index);
-    Some(set_direntplus(bytes, at, entry.as_ref(), &row, padded))
-}
-
-// The same of a child.
-#[inline(always)]
-fn set_child<A: Allocator>(
-    table: &Table<A>,
-    rows: &Listing<'_, A>,
-    index: usize,
-    bytes: &mut [u8],
-    at: usize,
-) -> Option<usize>
-    requires from { 2 ≤ index }
-    requires until { index < rows.now.until }
-    requires there { rows.now.until ≤ 2 + length rows.now.children.now }
-    requires entries { rows.now.with_entries ≡ true }
-    requires room { at + SHORT_ROW_SIZE ≤ length bytes.old }
-    ensures { SetsRow table.now rows.now index at result bytes.old bytes.new }
-{
-    let padded = padded_at(rows, index)?;
     let (ino, name) = line_at(rows, index);
     let attr = table.attr(ino)?;
-    let off = index as u64 + 1;
     let row = Dirent {
         ino,
-        off,
+        off: index as u64 + 1,
         file_type: attr.mode / 4096,
         name,
     };
