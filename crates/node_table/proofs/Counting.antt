@@ -467,19 +467,21 @@ module _ (visits : List (Visit Entry)) (keys firsts : List ℕ) (are : AreKeys v
             ∙ sym (key_is i visit (slice_get_read visits _ i visit refl lt here))))
 
   -- a visit, as the code reads it, takes its number from the first place of its key
-  pub taken_from_first : (i before : ℕ) (held : Numbers) (room : List ℕ) → i < length visits → before ≡ get_or firsts i before
-      → length room ≡ length visits → held.numbers ≡ take i room
-      → IsNumbered visits i held.first held.starts held.paths held.numbers → TakesNumber visits held.paths room i before
-  taken_from_first i before held room lt read room_level front inv = record {
+  pub taken_from_first : {first : List (Visit Entry)} {starts paths numbers : List ℕ} (i before : ℕ) → i < length visits
+      → before ≡ get_or firsts i before → length numbers ≡ length visits → IsNumbered visits i first starts paths (take i numbers)
+      → TakesNumber visits paths numbers i before
+  taken_from_first {first} {starts} {paths} {numbers} i before lt read room inv = record {
     visit = visit.0;
     here = visit.1;
     new = λ same. has_none i visit.0 lt visit.1 (sym before_is ∙ same);
     within = below;
-    known = λ other n e. has n ((numbered other).1 ∙ ap Some (ap (slice_index held.numbers) (sym before_is)
-        ∙ ap (λ xs. slice_index xs before) front ∙ get_or-take i room before 0 (earlier other)
-        ∙ sym (get_or_default room before n 0 (below other)) ∙ sym e));
+    known = λ other n e. has n ((numbered other).1 ∙ ap Some (ap (slice_index (take i numbers)) (sym before_is)
+        ∙ get_or-take i numbers before 0 (earlier other) ∙ sym (get_or_default numbers before n 0 (below other)) ∙ sym e));
   }
     where
+      held : Numbers
+      held = record { first = first; starts = starts; paths = paths; numbers = take i numbers }
+
       visit : (s : Visit Entry) × (s ≡ get_or visits i s)
       visit = let x = element_below visits i lt in (x.0, sym (get_or_from_slice_get visits i x.0 x.0 x.1))
 
@@ -487,15 +489,15 @@ module _ (visits : List (Visit Entry)) (keys firsts : List ℕ) (are : AreKeys v
       before_is = read ∙ get_or_default firsts i before 0 (let level = keys_level in let same = f.level in omega arith)
 
       numbered : before ≢ i → (slice_index firsts i < i)
-          × (number_of (seen visits i) (visit_place visit.0) ≡ Some (slice_index held.numbers (slice_index firsts i)))
+          × (number_of (seen visits i) (visit_place visit.0) ≡ Some (slice_index (take i numbers) (slice_index firsts i)))
       numbered other = has_number i visit.0 lt visit.1 held inv (λ e. other (before_is ∙ e))
 
       earlier : before ≢ i → before < i
       earlier other = let l = (numbered other).0 in omega (arith, before_is)
 
-      below : before ≢ i → before < length room
+      below : before ≢ i → before < length numbers
       below other = let l = earlier other in omega arith
 
-      has : (n : ℕ) → number_of (seen visits i) (visit_place visit.0) ≡ Some n → HasNumber visits visit.0 held.paths i n
+      has : (n : ℕ) → number_of (seen visits i) (visit_place visit.0) ≡ Some n → HasNumber visits visit.0 paths i n
       has n is = let b = number_positive visits i visit.0 held lt visit.1 inv n is in
           record { is = is; positive = b.0; counted = b.1 }

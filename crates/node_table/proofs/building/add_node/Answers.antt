@@ -13,8 +13,9 @@ returns-in_ok-directories-in-Directory g c =
     let old : Folders = record { all = c.args.into.now.all.items; rows = _; keys = _ } in
     let new : Folders = record { all = _; rows = _; keys = _ } in
     let n = c.in_ok-directories-in-Directory in
-    made reads _ c.len-directory.result old new (omega (arith, c.len-directory.ensures, c.args.into.now.all.ok.0))
-    (added_directory tell c.args.branch.now _ c.args.paths c.value-kind.result.kind _ old new c.in-Directory.is
+    let above = number_above c.args.numbers.now c.args.walk.now.above.items c.args.start in
+    made reads _ c.len-directory.result {above = above} old new (omega (arith, c.len-directory.ensures, c.args.into.now.all.ok.0))
+    (added_directory tell c.args.branch.now above c.args.paths c.value-kind.result.kind _ old new c.in-Directory.is
     (record {
       count = n.directories;
       added = n.ensures;
@@ -32,6 +33,6 @@ returns-in_default g c =
       rows = c.args.into.now.rows.items;
       keys = c.args.into.now.keys.items;
     } in
-    made reads _ c.len-directory.result kept kept (omega (arith, c.len-directory.ensures, c.args.into.now.all.ok.0))
+    made reads _ c.len-directory.result {above = above} kept kept (omega (arith, c.len-directory.ensures, c.args.into.now.all.ok.0))
     (added_other tell c.args.branch.now above c.args.paths c.value-kind.result.kind _ kept kept c.in_default.not-Directory
     (record { held_are = refl; rows_are = refl; keys_are = refl; nlink_is = refl }))

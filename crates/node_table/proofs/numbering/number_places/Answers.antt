@@ -14,20 +14,20 @@ loop-at-init g c = (
 
 pub index-number-requires : goal.index-number-requires
 index-number-requires g c =
-    let taken = taken_from_first _ _ _ c.in_ok-keys.ensures (rw c.deref.ensures.value at c.in_ok-firsts.ensures) c.loop-at.at _ _ c.loop-at.numbers.items
-    (omega arith) c.index-before.ensures c.loop-at.invariant.0 refl c.loop-at.invariant.2 in
+    let taken = taken_from_first _ _ _ c.in_ok-keys.ensures (rw c.deref.ensures.value at c.in_ok-firsts.ensures) c.loop-at.at _
+    (omega arith) c.index-before.ensures c.loop-at.invariant.0 c.loop-at.invariant.2 in
     omega (arith, taken.within c.if-before-at.false, c.loop-at.numbers.ok.0)
 
 pub overflow_sub-number : goal.overflow_sub-number
 overflow_sub-number g c =
-    let taken = taken_from_first _ _ _ c.in_ok-keys.ensures (rw c.deref.ensures.value at c.in_ok-firsts.ensures) c.loop-at.at _ _ c.loop-at.numbers.items
-    (omega arith) c.index-before.ensures c.loop-at.invariant.0 refl c.loop-at.invariant.2 in
+    let taken = taken_from_first _ _ _ c.in_ok-keys.ensures (rw c.deref.ensures.value at c.in_ok-firsts.ensures) c.loop-at.at _
+    (omega arith) c.index-before.ensures c.loop-at.invariant.0 c.loop-at.invariant.2 in
     (taken.known c.if-before-at.false _ c.index-number.ensures).positive
 
 pub count_one-requires : goal.count_one-requires
 count_one-requires g c =
-    let taken = taken_from_first _ _ _ c.in_ok-keys.ensures (rw c.deref.ensures.value at c.in_ok-firsts.ensures) c.loop-at.at _ _ c.loop-at.numbers.items
-    (omega arith) c.index-before.ensures c.loop-at.invariant.0 refl c.loop-at.invariant.2 in
+    let taken = taken_from_first _ _ _ c.in_ok-keys.ensures (rw c.deref.ensures.value at c.in_ok-firsts.ensures) c.loop-at.at _
+    (omega arith) c.index-before.ensures c.loop-at.invariant.0 c.loop-at.invariant.2 in
     (taken.known c.if-before-at.false _ c.index-number.ensures).counted
 
 pub loop-at-preserved : goal.loop-at-preserved
@@ -41,8 +41,8 @@ loop-at-preserved g c =
     let inv = c.loop-at.invariant.2 in
     let level = c.loop-at.invariant.0 in
     let within : c.loop-at.at < length c.loop-at.numbers.items = omega arith in
-    let taken = taken_from_first _ _ _ c.in_ok-keys.ensures (rw c.deref.ensures.value at c.in_ok-firsts.ensures) c.loop-at.at _ held
-    c.loop-at.numbers.items (omega arith) c.index-before.ensures level refl inv in
+    let taken = taken_from_first _ _ _ c.in_ok-keys.ensures (rw c.deref.ensures.value at c.in_ok-firsts.ensures) c.loop-at.at _
+    (omega arith) c.index-before.ensures level inv in
     let put = λ (n : ℕ). take_more_set c.loop-at.numbers.items c.loop-at.at n within in
     let same = λ (n : ℕ). length-set c.loop-at.numbers.items c.loop-at.at n ∙ level in
     elim c.if-before-at.branch [
