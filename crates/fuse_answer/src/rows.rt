@@ -154,9 +154,10 @@ fn set_row<A: Allocator>(
     }
     let (ino, name) = line_at(rows, index);
     let attr = table.attr(ino)?;
+    let off = index as u64 + 1;
     let row = Dirent {
         ino,
-        off: index as u64 + 1,
+        off,
         file_type: attr.mode / 4096,
         name,
     };
