@@ -2,6 +2,7 @@
 
 use draw_board::{Board, Few};
 use std::test::Fail;
+use test_kit::memories::refuse_in_turn;
 use test_kit::refusing::Refusing;
 
 /// No call but the start takes memory.
@@ -48,13 +49,9 @@ fn none_or_all_misses_are_not_given(rt: HostRuntime) -> Result<(), Fail> {
 }
 
 #[test]
-fn each_request_of_a_start_refused(rt: HostRuntime) -> Result<(), Fail> {
-    let counting = Refusing::new(rt.alloc(), 0);
-    assert!(rt; Board::start(&counting, 3, 2).is_ok());
-    assert!(rt; 0 < counting.requests());
-    for refuse_at in 1..=counting.requests() {
-        let refusing = Refusing::new(rt.alloc(), refuse_at);
-        assert!(rt; Board::start(&refusing, 3, 2).is_err(), "at {refuse_at}");
-    }
-    Ok(())
+fn each_request_of_a_start_refused(rt: HostRuntime) {
+    let requests = refuse_in_turn(rt.alloc(), |memories| {
+        Board::start(&memories.refusing, 3, 2).is_err() == memories.refusing.refused()
+    });
+    assert!(rt; matches!(requests, Ok(1..)), "{requests:?}");
 }

@@ -1,7 +1,7 @@
 //! What the crates of tests share.
 //!
-//! - `refusing`: an allocator that refuses one request for memory, and the refusing of each request
-//!   of a call in turn.
+//! - `refusing`: an allocator that refuses one request for memory.
+//! - `memories`: the memories of a call, and the refusing of each of its requests in turn.
 //! - `gates`: gates that hold pieces of work, or count them.
 //! - `bytes`: bytes as a dump prints them.
 //! - `messages`: requests, and the replies to some of them, as bytes.
@@ -13,6 +13,7 @@
 pub mod bytes;
 pub mod gates;
 pub mod long;
+pub mod memories;
 pub mod messages;
 pub mod refusing;
 pub mod sample_images;

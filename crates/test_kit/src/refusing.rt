@@ -19,18 +19,7 @@ use std::sync::atomic::{AtomicU64, Ordering};
 /// stays as it was. A `&Refusing<A>` is an allocator that is copied, and threads share it where
 /// they may share `A`.
 ///
-/// A test runs a call with each of its requests refused in turn, and looks at what the call
-/// answers:
-///
-/// ```text
-/// for refuse_at in 1..=MOST {
-///     let refusing = Refusing::new(Global, refuse_at);
-///     let result = call(&refusing);
-///     if !refusing.refused() {
-///         break;
-///     }
-/// }
-/// ```
+/// `memories::refuse_in_turn` makes a call with each of its requests refused in turn.
 #[derive(Drop)]
 pub struct Refusing<A> {
     inner: A,
@@ -139,26 +128,4 @@ impl Tally {
     {
         self.refuse_at != 0 && self.refuse_at <= count
     }
-}
-
-/// Makes a call with the first request for memory refused, then with the second, and so on, until
-/// it makes fewer requests than that. The call is told which one is refused, and says whether it
-/// came to what it should. Gives how many requests it makes, or else the number of the first
-/// request at whose refusal it came to something else.
-pub fn refuse_in_turn<F: FnMut(&Refusing<Global>, u64) -> bool>(
-    alloc: Global,
-    mut call: F,
-) -> Result<u64, u64>
-    requires { F.IsAlwaysCallable call }
-{
-    for refuse_at in 1..1000 {
-        let refusing = Refusing::new(alloc, refuse_at);
-        if !call(&refusing, refuse_at) {
-            return Err(refuse_at);
-        }
-        if !refusing.refused() {
-            return Ok(refuse_at - 1);
-        }
-    }
-    Err(1000)
 }

@@ -7,7 +7,8 @@ use stack_core::FreePass;
 use std::alloc::Global;
 use std::test::Fail;
 use std::thread::Threads;
-use test_kit::refusing::{Refusing, refuse_in_turn};
+use test_kit::memories::{Memories, refuse_in_turn};
+use test_kit::refusing::Refusing;
 use test_kit::sample_images::samples;
 
 #[derive(Clone, Copy)]
@@ -21,12 +22,9 @@ enum Call {
 }
 
 /// How many nodes the sample image has over itself.
-fn nodes_of_two<'a, R: Threads + Sync>(
-    rt: &R,
-    plain: &'a Refusing<Global>,
-    alloc: &'a Refusing<Global>,
-) -> Option<Result<u64, Stop>> {
-    match prepare(rt, alloc, samples(plain, 2)?, &FreePass) {
+fn nodes_of_two<R: Threads + Sync>(rt: &R, memories: &Memories) -> Option<Result<u64, Stop>> {
+    let images = samples(&memories.plain, 2)?;
+    match prepare(rt, &memories.refusing, images, &FreePass) {
         Ok(table) => Some(Ok(table.len())),
         Err(stop) => Some(Err(stop)),
     }
@@ -48,13 +46,13 @@ fn images_with<'a>(plain: &'a Refusing<Global>, broken: u16) -> Option<Images<'a
 }
 
 /// Which image is told to be broken, or else that memory was refused.
-fn told_of<'a, R: Threads + Sync>(
+fn told_of<R: Threads + Sync>(
     rt: &R,
-    plain: &'a Refusing<Global>,
-    alloc: &'a Refusing<Global>,
+    memories: &Memories,
     broken: u16,
 ) -> Option<Result<u16, Stop>> {
-    match prepare(rt, alloc, images_with(plain, broken)?, &FreePass) {
+    let images = images_with(&memories.plain, broken)?;
+    match prepare(rt, &memories.refusing, images, &FreePass) {
         Ok(_) => None,
         Err(Stop::Layer { layer, fault: _ }) => Some(Ok(layer)),
         Err(stop) => Some(Err(stop)),
@@ -67,34 +65,27 @@ const LONG: Run = Run {
     ..WHOLE
 };
 
-/// The stream over the sample image, in memory of `alloc`.
-fn serve_in<'a, R: Threads + Sync>(
-    rt: &R,
-    global: Global,
-    plain: &'a Refusing<Global>,
-    alloc: &'a Refusing<Global>,
-    row: Run,
-) -> Option<Seen> {
-    let images = samples(plain, 1)?;
+/// The stream over the sample image.
+fn serve_in<R: Threads + Sync>(rt: &R, memories: &Memories, row: Run) -> Option<Seen> {
+    let images = samples(&memories.plain, 1)?;
     serve_of(
         rt,
-        global,
-        alloc,
+        memories.global,
+        &memories.refusing,
         images,
         Profile::Usual,
         false,
         row,
-        Some(alloc),
+        Some(&memories.refusing),
     )
 }
 
 /// How many requests for memory it takes to prepare the sample image.
 fn requests_of_preparing<R: Threads + Sync>(rt: &R, global: Global) -> Option<u64> {
-    let plain = Refusing::new(global, 0);
-    let counting = Refusing::new(global, 0);
-    let images = samples(&plain, 1)?;
-    let table = prepare(rt, &counting, images, &FreePass);
-    let requests = counting.requests();
+    let memories = Memories::new(global, 0);
+    let images = samples(&memories.plain, 1)?;
+    let table = prepare(rt, &memories.refusing, images, &FreePass);
+    let requests = memories.refusing.requests();
     table.is_ok().then_some(requests)
 }
 
@@ -115,43 +106,34 @@ fn is_untouched(seen: &Option<Seen>, refuse_at: u64, preparing: u64) -> bool {
 }
 
 /// Whether a call tells that memory was refused, or else comes to what it should.
-fn is_told<'a, R: Threads + Sync>(
-    rt: &R,
-    global: Global,
-    plain: &'a Refusing<Global>,
-    alloc: &'a Refusing<Global>,
-    refuse_at: u64,
-    call: Call,
-) -> bool {
+fn is_told<R: Threads + Sync>(rt: &R, memories: &Memories, call: Call) -> bool {
+    let refusing = &memories.refusing;
     match call {
-        Call::Prepare => match nodes_of_two(rt, plain, alloc) {
-            Some(Ok(nodes)) => !alloc.refused() && nodes == 6,
-            Some(Err(stop)) => alloc.refused() && stop == Stop::Memory,
+        Call::Prepare => match nodes_of_two(rt, memories) {
+            Some(Ok(nodes)) => !refusing.refused() && nodes == 6,
+            Some(Err(stop)) => refusing.refused() && stop == Stop::Memory,
             None => false,
         },
-        Call::PrepareBroken(broken) => match told_of(rt, plain, alloc, broken) {
-            Some(Ok(layer)) => !alloc.refused() && layer == broken,
-            Some(Err(stop)) => alloc.refused() && stop == Stop::Memory,
+        Call::PrepareBroken(broken) => match told_of(rt, memories, broken) {
+            Some(Ok(layer)) => !refusing.refused() && layer == broken,
+            Some(Err(stop)) => refusing.refused() && stop == Stop::Memory,
             None => false,
         },
         Call::Run => {
-            let seen = run_of(rt, global, plain, alloc, LONG, Some(alloc));
-            is_run(&seen, alloc.refused())
+            let (global, plain) = (memories.global, &memories.plain);
+            let seen = run_of(rt, global, plain, refusing, LONG, Some(refusing));
+            is_run(&seen, refusing.refused())
         }
         Call::Serve(preparing, plan) => {
-            let row = Run { plan, ..LONG };
-            let seen = serve_in(rt, global, plain, alloc, row);
-            is_run(&seen, alloc.refused()) && is_untouched(&seen, refuse_at, preparing)
+            let seen = serve_in(rt, memories, Run { plan, ..LONG });
+            is_run(&seen, refusing.refused()) && is_untouched(&seen, memories.refuse_at, preparing)
         }
     }
 }
 
 /// How many requests a call makes, each of which is refused once.
 fn requests_of<R: Threads + Sync>(rt: &R, global: Global, call: Call) -> Result<u64, u64> {
-    let plain = Refusing::new(global, 0);
-    refuse_in_turn(global, |refusing, refuse_at| {
-        is_told(rt, global, &plain, refusing, refuse_at, call)
-    })
+    refuse_in_turn(global, |memories| is_told(rt, memories, call))
 }
 
 #[test]
@@ -183,11 +165,10 @@ fn serving_is_refused(rt: HostRuntime) -> Result<(), Fail> {
 /// The last request is for room behind the beginning of the WRITE: all replies before it are put.
 #[test]
 fn the_last_request_is_refused_behind_all_replies(rt: HostRuntime) -> Result<(), Fail> {
-    let plain = Refusing::new(rt.alloc(), 0);
-    let counting = Refusing::new(rt.alloc(), 0);
-    let all = serve_in(&rt, rt.alloc(), &plain, &counting, LONG);
-    let last = Refusing::new(rt.alloc(), counting.requests());
-    let seen = serve_in(&rt, rt.alloc(), &plain, &last, LONG).ok_or("a run")?;
+    let counting = Memories::new(rt.alloc(), 0);
+    let all = serve_in(&rt, &counting, LONG);
+    let last = Memories::new(rt.alloc(), counting.refusing.requests());
+    let seen = serve_in(&rt, &last, LONG).ok_or("a run")?;
     assert!(rt; is_run(&all, false) && is_run(&Some(seen), true));
     assert!(rt; seen.put == Some(1531) && seen.reads == 2 && seen.writes == 2);
     Ok(())
@@ -197,11 +178,9 @@ fn the_last_request_is_refused_behind_all_replies(rt: HostRuntime) -> Result<(),
 #[test]
 fn no_turns_take_no_memory(rt: HostRuntime) -> Result<(), Fail> {
     let preparing = requests_of_preparing(&rt, rt.alloc()).ok_or("the sample image")?;
-    let plain = Refusing::new(rt.alloc(), 0);
-    let counting = Refusing::new(rt.alloc(), 0);
-    let row = Run { turns: 0, ..LONG };
-    let seen = serve_in(&rt, rt.alloc(), &plain, &counting, row).ok_or("a run")?;
-    assert!(rt; seen.end == Err(Stop::Turns) && counting.requests() == preparing);
+    let counting = Memories::new(rt.alloc(), 0);
+    let seen = serve_in(&rt, &counting, Run { turns: 0, ..LONG }).ok_or("a run")?;
+    assert!(rt; seen.end == Err(Stop::Turns) && counting.refusing.requests() == preparing);
     Ok(())
 }
 

@@ -3,23 +3,21 @@
 use serve_core::Stop;
 use serve_kit::runs::{by, long_table, ran, run_over};
 use stack_core::FreePass;
-use std::alloc::Global;
 use std::test::Fail;
 use std::thread::Threads;
 use test_kit::long::{Long, stream};
-use test_kit::refusing::{Refusing, refuse_in_turn};
+use test_kit::memories::{Memories, refuse_in_turn};
 
 /// Whether a run of a stream tells that memory was refused, with some of the first replies put, and
-/// no device called after it; or else gives them all. The table stands in memory of `plain`.
-fn is_told<'a, R: Threads + Sync>(
+/// no device called after it; or else gives them all.
+fn is_told<R: Threads + Sync>(
     rt: &R,
-    global: Global,
-    plain: &'a Refusing<Global>,
-    alloc: &'a Refusing<Global>,
+    memories: &Memories,
     plan: (u32, u32),
     streams: (&[u8], &[u8]),
 ) -> bool {
-    let Some(table) = long_table(rt, plain) else {
+    let (global, alloc) = (memories.global, &memories.refusing);
+    let Some(table) = long_table(rt, &memories.plain) else {
         return false;
     };
     let Some(seen) = run_over(rt, global, alloc, &table, streams, by(plan), Some(alloc)) else {
@@ -30,19 +28,6 @@ fn is_told<'a, R: Threads + Sync>(
     } else {
         seen.end.is_ok() && seen.put == Some(streams.1.len())
     }
-}
-
-/// How many requests for memory a run of a stream makes, each of which is refused once.
-fn requests_of<R: Threads + Sync>(
-    rt: &R,
-    global: Global,
-    plan: (u32, u32),
-    streams: (&[u8], &[u8]),
-) -> Result<u64, u64> {
-    let plain = Refusing::new(global, 0);
-    refuse_in_turn(global, |refusing, _| {
-        is_told(rt, global, &plain, refusing, plan, streams)
-    })
 }
 
 /// One worker asks for the balances, the replies and the buffer; several for more, as they have
@@ -59,7 +44,7 @@ fn runs_by_workers_are_refused(rt: HostRuntime) -> Result<(), Fail> {
     assert!(rt; whole.put.len() as u64 == all);
     let streams = (stream.as_slice(), whole.put.as_slice());
     for (plan, least, most) in [((1, 1), 3, 3), ((2, 3), 16, 999), ((5, 1), 16, 999)] {
-        let requests = requests_of(&rt, global, plan, streams);
+        let requests = refuse_in_turn(global, |memories| is_told(&rt, memories, plan, streams));
         assert!(rt;
             requests.is_ok_and(|it| least <= it && it <= most),
             "{plan:?}: {requests:?}"

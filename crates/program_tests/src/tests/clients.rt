@@ -12,7 +12,7 @@ use std::os::unix::net::{UnixListener, UnixStream};
 use std::test::Fail;
 use std::thread::Threads;
 use strata::sessions;
-use test_kit::refusing::{Refusing, refuse_in_turn};
+use test_kit::memories::{Memories, refuse_in_turn};
 use test_kit::sample_images::samples;
 use test_kit::script::{script, script_replies};
 
@@ -120,19 +120,15 @@ fn told_at(refuse_at: u64) -> (u8, &'static [u8]) {
     }
 }
 
-/// Whether two sessions in memory of `refusing` come to what they should, where the request with
-/// this number is refused: its session's line and status, and the other is served.
-fn is_refused<'a, R: Files + Net + Threads + Sync>(
-    rt: &R,
-    global: Global,
-    plain: &'a Refusing<Global>,
-    refusing: &'a Refusing<Global>,
-    refuse_at: u64,
-) -> Option<bool> {
+/// Whether two sessions come to what they should, of which one request for memory is refused: its
+/// session's line and status, and the other is served.
+fn is_refused<R: Files + Net + Threads + Sync>(rt: &R, memories: &Memories) -> Option<bool> {
+    let (global, refuse_at) = (memories.global, memories.refuse_at);
     let listener = listener(rt).ok()?;
     let first = client(rt, global, &listener, 652)?;
     let second = client(rt, global, &listener, 652)?;
     let told = told_at(refuse_at);
+    let (plain, refusing) = (&memories.plain, &memories.refusing);
     let are_served = are_served(rt, global, plain, refusing, &listener, 2, told);
     drop(listener);
     let (first, second) = (read_of(global, first), read_of(global, second));
@@ -143,9 +139,8 @@ fn is_refused<'a, R: Files + Net + Threads + Sync>(
 
 #[test]
 fn refused_memory_ends_its_session(rt: HostRuntime) {
-    let plain = Refusing::new(rt.alloc(), 0);
-    let requests = refuse_in_turn(rt.alloc(), |refusing, refuse_at| {
-        is_refused(&rt, rt.alloc(), &plain, refusing, refuse_at) == Some(true)
+    let requests = refuse_in_turn(rt.alloc(), |memories| {
+        is_refused(&rt, memories) == Some(true)
     });
     assert_eq!(rt; requests, Ok(6));
 }

@@ -6,15 +6,14 @@ use std::fs::{self, Files};
 use std::net::Net;
 use std::test::Fail;
 use std::thread::Threads;
+use test_kit::memories::{Memories, refuse_in_turn};
 use test_kit::messages::{REPLIES, REQUESTS};
-use test_kit::refusing::{Refusing, refuse_in_turn};
 
-/// Whether the program over two requests tells that memory of `refusing` was refused, with some of
-/// the first bytes of its output written; or else wrote all of it.
-fn is_told<'a, R: Files + Net + Threads + Sync>(
+/// Whether the program over two requests tells that memory was refused, with some of the first
+/// bytes of its output written; or else wrote all of it.
+fn is_told<R: Files + Net + Threads + Sync>(
     rt: &R,
-    global: Global,
-    refusing: &'a Refusing<Global>,
+    memories: &Memories,
     words: &[&str],
     whole: &[u8],
 ) -> bool
@@ -22,6 +21,7 @@ where
     R::File: Send,
     R::Dir: Send,
 {
+    let (global, refusing) = (memories.global, &memories.refusing);
     let mut output = Vec::new(global);
     let (requests, line) = (REQUESTS.as_slice(), b"out of memory\n");
     let status = status_of(rt, global, refusing, words, requests, &mut output, line);
@@ -43,10 +43,7 @@ where
     R::File: Send,
     R::Dir: Send,
 {
-    refuse_in_turn(
-        global,
-        |refusing, _| is_told(rt, global, refusing, words, whole),
-    )
+    refuse_in_turn(global, |memories| is_told(rt, memories, words, whole))
 }
 
 #[test]

@@ -9,8 +9,8 @@ use std::net::Net;
 use std::test::Fail;
 use std::thread::Threads;
 use strata::command_on_device;
+use test_kit::memories::{Memories, refuse_in_turn};
 use test_kit::messages::REQUESTS;
-use test_kit::refusing::{Refusing, refuse_in_turn};
 
 /// The error number of a read or a write of a device that was taken away.
 const ENODEV: i32 = 19;
@@ -95,18 +95,14 @@ fn replies_of(alloc: Global, left: Option<u32>, number: i32) -> Replies {
     }
 }
 
-/// Whether the program over a device tells that memory of `refusing` was refused, behind none, one
-/// or both replies; or else wrote both.
-fn is_told<'a, R: Files + Net + Threads + Sync>(
-    rt: &R,
-    global: Global,
-    refusing: &'a Refusing<Global>,
-    words: &[&str],
-) -> bool
+/// Whether the program over a device tells that memory was refused, behind none, one or both
+/// replies; or else wrote both.
+fn is_told<R: Files + Net + Threads + Sync>(rt: &R, memories: &Memories, words: &[&str]) -> bool
 where
     R::File: Send,
     R::Dir: Send,
 {
+    let (global, refusing) = (memories.global, &memories.refusing);
     let mut replies = replies_of(global, None, ENODEV);
     let line = b"out of memory\n";
     let status = status_of(rt, global, refusing, words, &mut replies, line);
@@ -122,9 +118,7 @@ where
 fn a_mount_is_served_until_it_is_taken_away(rt: HostRuntime) -> Result<(), Fail> {
     let image = image_file(&rt, "mounted")?;
     let words = ["serve", "--device", image.as_str()];
-    let requests = refuse_in_turn(rt.alloc(), |refusing, _| {
-        is_told(&rt, rt.alloc(), refusing, &words)
-    });
+    let requests = refuse_in_turn(rt.alloc(), |memories| is_told(&rt, memories, &words));
     assert!(rt; matches!(requests, Ok(11..)), "{requests:?}");
     fs::remove_file(&rt, image.as_str())?;
     Ok(())

@@ -2,9 +2,8 @@
 
 use devices::{Spout, Tap};
 use serve_core::{FreePass, Plan, Stop, serve};
-use std::alloc::Global;
 use std::thread::Threads;
-use test_kit::refusing::{Refusing, refuse_in_turn};
+use test_kit::memories::{Memories, refuse_in_turn};
 use test_kit::sample_images::samples;
 use test_kit::script::{script, script_replies};
 
@@ -12,23 +11,16 @@ use test_kit::script::{script, script_replies};
 /// written.
 type Ended = (Result<(u64, u128), Stop>, usize);
 
-/// How the script over the sample image ends, in memory of `alloc` and in so many pulls, where what
-/// is written is the first of the replies.
-fn end_of<'a, R: Threads + Sync>(
-    rt: &R,
-    global: Global,
-    plain: &'a Refusing<Global>,
-    alloc: &'a Refusing<Global>,
-    turns: u32,
-) -> Option<Ended> {
-    let images = samples(plain, 1)?;
-    let stream = script(global).ok()?;
-    let replies = script_replies(global).ok()?;
-    let mut output = Vec::new(global);
+/// How the script over the sample image ends, in so many pulls, where what is written is the first
+/// of the replies.
+fn end_of<R: Threads + Sync>(rt: &R, memories: &Memories, turns: u32) -> Option<Ended> {
+    let stream = script(memories.global).ok()?;
+    let replies = script_replies(memories.global).ok()?;
+    let mut output = Vec::new(memories.global);
     let done = serve(
         rt,
-        alloc,
-        images,
+        &memories.refusing,
+        samples(&memories.plain, 1)?,
         &mut Tap::new(stream.as_slice()),
         &mut Spout::new(&mut output),
         Plan::new(2, 3)?,
@@ -44,10 +36,9 @@ fn end_of<'a, R: Threads + Sync>(
 
 #[test]
 fn a_script_is_served_over_an_image(rt: HostRuntime) {
-    let plain = Refusing::new(rt.alloc(), 0);
-    let requests = refuse_in_turn(rt.alloc(), |refusing, _| {
-        let seen = end_of(&rt, rt.alloc(), &plain, refusing, 2);
-        if refusing.refused() {
+    let requests = refuse_in_turn(rt.alloc(), |memories| {
+        let seen = end_of(&rt, memories, 2);
+        if memories.refusing.refused() {
             matches!(seen, Some((Err(Stop::Memory), _)))
         } else {
             seen == Some((Ok((12, 1531)), 1531))
@@ -58,9 +49,9 @@ fn a_script_is_served_over_an_image(rt: HostRuntime) {
 
 #[test]
 fn too_few_turns_are_told(rt: HostRuntime) {
-    let memory = Refusing::new(rt.alloc(), 0);
+    let memories = Memories::new(rt.alloc(), 0);
     for (turns, put) in [(0, 0), (1, 1531)] {
-        let seen = end_of(&rt, rt.alloc(), &memory, &memory, turns);
+        let seen = end_of(&rt, &memories, turns);
         assert!(rt; seen == Some((Err(Stop::Turns), put)), "{turns}");
     }
 }

@@ -9,7 +9,7 @@ use stack_core::FreePass;
 use std::alloc::{Allocator, Global};
 use std::test::Fail;
 use std::thread::Threads;
-use test_kit::refusing::refuse_in_turn;
+use test_kit::memories::refuse_in_turn;
 use test_kit::sample_images::{SAMPLE, checked, layers, sample};
 
 #[derive(Clone, Copy)]
@@ -69,9 +69,9 @@ fn is_right<R: Threads + Sync, A: Allocator + Copy + Send + Sync>(
 
 /// How many requests a call makes, each of which is refused once.
 fn requests_of<R: Threads + Sync>(rt: &R, alloc: Global, call: Call) -> Result<u64, u64> {
-    refuse_in_turn(alloc, |refusing, _| {
-        let came_to = is_right(rt, refusing, call);
-        if refusing.refused() {
+    refuse_in_turn(alloc, |memories| {
+        let came_to = is_right(rt, &memories.refusing, call);
+        if memories.refusing.refused() {
             came_to == Err(BuildFault::Memory)
         } else {
             came_to == Ok(true)

@@ -5,8 +5,9 @@ use super::tables::sample_table;
 use fuse_answer::{answer, moves};
 use node_table::Table;
 use reply_model::Move;
-use std::alloc::{Allocator, Global};
+use std::alloc::Allocator;
 use std::thread::Threads;
+use test_kit::memories::Memories;
 use test_kit::script::lookups;
 
 /// Bytes that stand before an answer.
@@ -36,22 +37,20 @@ fn moved<A: Allocator>(alloc: A, table: &Table<A>, job: &Job<'_>) -> Option<Left
     out.starts_with(&[FIRST]).then_some((told, appended))
 }
 
-/// The same of the request of the lookups with this index. The table stands in memory of `plain`.
-pub fn appended<R: Threads + Sync, A: Allocator + Copy + Send + Sync>(
+/// The same of the request of the lookups with this index.
+pub fn appended<R: Threads + Sync>(
     rt: &R,
-    global: Global,
-    plain: A,
-    alloc: A,
+    memories: &Memories,
     index: usize,
     moves: bool,
 ) -> Option<Left> {
-    let stream = lookups(global).ok()?;
-    let jobs = jobs_of(global, &stream).ok()?;
+    let stream = lookups(memories.global).ok()?;
+    let jobs = jobs_of(memories.global, &stream).ok()?;
     let job = *jobs.get(index)?;
-    let table = sample_table(rt, plain)?;
+    let table = sample_table(rt, &memories.plain)?;
     if moves {
-        moved(alloc, &table, &job)
+        moved(&memories.refusing, &table, &job)
     } else {
-        answered(alloc, &table, &job)
+        answered(&memories.refusing, &table, &job)
     }
 }

@@ -9,6 +9,7 @@ use std::alloc::{AllocError, Allocator, Global};
 use std::test::Fail;
 use std::thread::Threads;
 use test_kit::gates::Recording;
+use test_kit::memories::Memories;
 use test_kit::script::{lookups, script, script_replies};
 
 const PLANS: [(u32, u32); 6] = [(1, 1), (2, 1), (5, 1), (1, 3), (2, 3), (5, 3)];
@@ -47,22 +48,21 @@ fn is_right<A: Allocator>(rounded: &Rounded<A>, jobs: Jobs, replies: &[u8]) -> b
 }
 
 /// Whether a round of jobs comes to what it should, and the work that passes its gate; over the
-/// table of the sample image, in memory of `plain`.
-pub fn round_of<R: Threads + Sync, A: Allocator + Copy + Send + Sync>(
+/// table of the sample image.
+pub fn round_of<R: Threads + Sync>(
     rt: &R,
-    global: Global,
-    plain: A,
-    alloc: A,
+    memories: &Memories,
     jobs: Jobs,
     plan: (u32, u32),
 ) -> Option<Result<(bool, (u64, u64, u64)), AllocError>> {
     let plan = Plan::new(plan.0, plan.1)?;
     let gate = Recording::new();
-    let stream = stream_of(global, jobs).ok()?;
-    let replies = script_replies(global).ok()?;
-    let requests = jobs_of(global, &stream).ok()?;
-    let table = sample_table(rt, plain)?;
+    let stream = stream_of(memories.global, jobs).ok()?;
+    let replies = script_replies(memories.global).ok()?;
+    let requests = jobs_of(memories.global, &stream).ok()?;
+    let table = sample_table(rt, &memories.plain)?;
     let few = requests.len().min(256);
+    let alloc = &memories.refusing;
     match round(rt, alloc, &table, &requests[..few], plan, &gate) {
         Ok(rounded) => Some(Ok((is_right(&rounded, jobs, &replies), gate.seen()))),
         Err(AllocError) => Some(Err(AllocError)),
@@ -73,7 +73,7 @@ pub fn round_of<R: Threads + Sync, A: Allocator + Copy + Send + Sync>(
 fn rounds_by_any_plan(rt: HostRuntime) -> Result<(), Fail> {
     for jobs in [Jobs::None, Jobs::Script, Jobs::Lookups] {
         for plan in PLANS {
-            let came_to = round_of(&rt, rt.alloc(), rt.alloc(), rt.alloc(), jobs, plan);
+            let came_to = round_of(&rt, &Memories::new(rt.alloc(), 0), jobs, plan);
             let Some(Ok((is_right, passed))) = came_to else {
                 return Err(Fail::new("no round"));
             };

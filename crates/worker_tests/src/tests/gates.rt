@@ -10,7 +10,7 @@ use std::alloc::Global;
 use std::test::Fail;
 use std::thread::Threads;
 use test_kit::gates::{Crowd, FEW, Holding, MANY, Noting};
-use test_kit::refusing::Refusing;
+use test_kit::memories::Memories;
 use test_kit::script::script;
 
 /// Whether a batch was given up in a round of so many jobs in batches of one by two workers.
@@ -53,12 +53,11 @@ fn no_third_worker_is_there(rt: HostRuntime) {
 /// A worker asks for memory for its answers alone, and passes the gate of its only batch before.
 #[test]
 fn a_batch_is_answered_behind_its_gate(rt: HostRuntime) {
-    let plain = Refusing::new(rt.alloc(), 0);
-    let memory = Refusing::new(rt.alloc(), 0);
-    let gate = Noting::new(&memory);
-    let pieces = pieces_of(&rt, rt.alloc(), &plain, &memory, 3, &gate);
+    let memories = Memories::new(rt.alloc(), 0);
+    let gate = Noting::new(&memories.refusing);
+    let pieces = pieces_of(&rt, &memories, 3, &gate);
     assert!(rt; matches!(pieces, Some(Ok((1, 2)))));
-    assert!(rt; gate.before() == 0 && 0 < memory.requests());
+    assert!(rt; gate.before() == 0 && 0 < memories.refusing.requests());
 }
 
 /// Of 24 requests of a stream as many are under way at a time as the plan has workers.

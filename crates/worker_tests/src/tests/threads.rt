@@ -11,12 +11,13 @@ use draw_board::{Board, Hand};
 use node_table::Table;
 use reply_pool::{Piece, work};
 use stack_core::{FreePass, Gate};
-use std::alloc::{AllocError, Allocator, Global};
+use std::alloc::{AllocError, Global};
 use std::snapshot::Snapshot;
 use std::sync::Wait;
 use std::test::Fail;
 use std::thread;
 use std::thread::{Promise, Threads};
+use test_kit::memories::Memories;
 use test_kit::script::{script, script_replies};
 
 /// How many jobs a batch has.
@@ -47,21 +48,20 @@ fn batches_in(jobs: usize) -> u32
 }
 
 /// How many pieces one worker answers so many requests of the script with, and how often it draws.
-pub fn pieces_of<R: Threads + Sync, A: Allocator + Copy + Send + Sync, G: Gate>(
+pub fn pieces_of<R: Threads + Sync, G: Gate>(
     rt: &R,
-    global: Global,
-    plain: A,
-    alloc: A,
+    memories: &Memories,
     jobs: usize,
     gate: &G,
 ) -> Option<Result<(usize, u64), AllocError>> {
-    let stream = script(global).ok()?;
-    let requests = jobs_of(global, &stream).ok()?;
+    let stream = script(memories.global).ok()?;
+    let requests = jobs_of(memories.global, &stream).ok()?;
     let jobs = requests.get(..jobs.min(12))?;
-    let table = sample_table(rt, plain)?;
-    let Ok((board, mut hand)) = Board::start(global, batches_in(jobs.len()), 1) else {
+    let table = sample_table(rt, &memories.plain)?;
+    let Ok((board, mut hand)) = Board::start(memories.global, batches_in(jobs.len()), 1) else {
         return None;
     };
+    let alloc = &memories.refusing;
     let pieces = work(rt, alloc, &table, jobs, SIZE, &board, &mut hand, gate);
     let draws = board.close(hand);
     match pieces {
