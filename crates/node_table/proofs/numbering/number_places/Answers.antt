@@ -60,7 +60,7 @@ loop-at-preserved g c =
             paths = _;
             numbers = _;
           } in (
-            rw w.numbers-is (same w.len.result),
+            rw w.numbers-is (same _),
             later.first,
             rw (w.starts-is, w.paths-is, w.numbers-is) (is_new _ _ taken.visit held (omega arith) taken.here inv w.len.result later
                 (taken.new w.if-before-at.true) next refl w.in_ok-push.ensures.items w.in_ok-push-2.ensures.items
@@ -68,7 +68,7 @@ loop-at-preserved g c =
           )
       | else-before-at w ↦
           let has = taken.known w.if-before-at.false _ w.index-number.ensures in (
-            rw w.numbers-is (same w.index-number.result.now),
+            rw w.numbers-is (same _),
             held.first,
             rw (w.starts-is, w.paths-is, w.numbers-is) (was_known _ _ taken.visit held (omega arith) taken.here inv
                 w.index-number.result.now _ _ has.is w.count_one.ensures (put w.index-number.result.now)),
