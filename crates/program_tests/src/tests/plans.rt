@@ -30,14 +30,15 @@ where
     (status == Some(0)).then_some(memory.requests())
 }
 
-/// Of 17 long lists workers have a board and pieces, and each batch asks for memory of its own: of
-/// the two batches that two workers share evenly, or of 17.
+/// Of 120 pages of a directory workers have a board and pieces, and each batch asks for memory of
+/// its own: two batches, one for each of two workers, or 120. Which worker draws how many is left to
+/// chance, and moves these numbers by some ten.
 #[test]
 fn a_line_has_its_plan(rt: HostRuntime) -> Result<(), Fail> {
     let global = rt.alloc();
     let image = image(global)?;
     let path = written(&rt, "plans", &image)?;
-    let stream = stream(global, Long::All, 17)?;
+    let stream = stream(global, Long::Readdir, 120)?;
     let [alone, even, small] = [("1", "1"), ("2", "256"), ("2", "1")].map(|plan| requests_by(
         &rt,
         global,
@@ -46,7 +47,7 @@ fn a_line_has_its_plan(rt: HostRuntime) -> Result<(), Fail> {
         plan,
     ).unwrap_or(0));
     assert!(rt;
-        0 < alone && alone < even && even.saturating_add(8) < small,
+        0 < alone && alone < even && even.saturating_add(60) < small,
         "{alone}, {even}, {small}"
     );
     fs::remove_file(&rt, path.as_str())?;
