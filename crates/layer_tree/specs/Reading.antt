@@ -39,8 +39,8 @@ pub record AreByName (a : List ℕ) (d : ℕ) (ms : List NamedMember) : Type 0 w
   pub whole : (h : ℕ) → IsMember a d h
       → (k : ℕ) × (m : NamedMember) × (slice_get ms k ≡ Some m) × (m.head.offset ≡ h)
 
--- a header can be read in a layer: the image is sound, the ends kept so far are the image's, and the
--- image gives this header
+-- a header can be read in a layer: the image is sound, the ends kept so far are its own, and it
+-- gives this header
 pub record IsReadable (a kept : List ℕ) (head : Head) : Type 0 where
   pub sound : IsImage a
   pub ends : kept ≡ a

@@ -31,8 +31,8 @@ where
 }
 
 /// Of 120 pages of a directory workers have a board and pieces, and each batch asks for memory of
-/// its own: two batches, one for each of two workers, or 120. Which worker draws how many is left to
-/// chance, and moves these numbers by some ten.
+/// its own: two batches, one for each of two workers, or 120. Which worker draws how many is left
+/// to chance, and moves these numbers by some ten.
 #[test]
 fn a_line_has_its_plan(rt: HostRuntime) -> Result<(), Fail> {
     let global = rt.alloc();
