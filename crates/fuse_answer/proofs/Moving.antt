@@ -1,6 +1,6 @@
--- Balances, after one row and another (`IsAdded`), and after one item that is forgotten and another
--- (`IsTaken`): each has a lemma for the start, for a step and, of items, for the end. Then the same
--- where moves are appended to a list (`given`, `AreTaken`).
+-- Balances, after one row and another (`AddsGiven`: none, an entry, rows and then others, all), and
+-- after one item that is forgotten and another (`IsTaken`). Then the same where moves are appended to
+-- a list (`given`, `AreTaken`).
 use Rattle.std.proofs.Common.{◌≡◌, ◌∙◌, sym, ap, ℕ, ◌+◌, ◌-◌, ◌*◌, ◌^◌, ◌<◌, ◌≤◌, ℤ, pos, neg_ℤ, List, [], ◌∷◌, ◌++◌, length, map, Bool, true, false, cond, Option, Some, None, Err, Vec, vec_len, vec_capacity, refl, subst, arith, append-nil, append_assoc, length-append}
 use Rattle.std.specs.Prelude.{nat_lt, filter}
 use Rattle.std.specs.List.{cons_option}
@@ -17,7 +17,8 @@ use Rattle.lookup_balances.proofs.Sums.{moved_on, none_moved, within_less, withi
 use Rattle.fuse_answer.specs.declared.listing.Listing.{Listing}
 use Rattle.fuse_answer.specs.Answers.{taken_back}
 use Rattle.fuse_answer.specs.Puts.{Grows}
-use Rattle.fuse_answer.specs.Listings.{NumberedLine, is_child_line, lines_answered, lines_given, row_given}
+use Rattle.fuse_answer.specs.Listings.{NumberedLine, is_child_line, lines_answered, lines_given, listed_moves, moves_before, row_given}
+use Rattle.fuse_answer.specs.Setting.{AddsGiven}
 use Rattle.fuse_answer.proofs.Lines.{IsNext, before_later, lines_before, next_line, none_before}
 
 given_on : (xs ys : List NumberedLine) → lines_given (xs ++ ys) ≡ lines_given xs ++ lines_given ys
@@ -44,18 +45,6 @@ module _ {A : Type 0} (l : Listing A) where
   -- what the rows before an index give
   abbrev pub given : ℕ → List Move
   given index = lines_given (lines_before l index)
-
-  -- the rows before an index were added
-  pub record IsAdded (index : ℕ) (old new : List ℤ) : Type 0 where
-    pub moved : IsMoved (given index) old new
-    pub within : AreWithin (2 ^ 123 + (index - l.from)) new
-
-  -- before the first row balances are as they were
-  pub none_added : (old : List ℤ) → AreWithin (2 ^ 123) old → IsAdded l.from old old
-  none_added old within = record {
-    moved = subst (λ ls. IsMoved (lines_given ls) old old) (sym (none_before l)) (none_moved old);
-    within = within_less (2 ^ 123) (2 ^ 123 + (l.from - l.from)) old (omega arith) within;
-  }
 
   row_is : (index : ℕ) (next : IsNext l index) → row_given l index ≡ lines_given (next.line ∷ [])
   row_is index next = ap (λ o. option_map_or (λ r. lines_given (r ∷ [])) o []) next.there
@@ -85,25 +74,67 @@ module _ {A : Type 0} (l : Listing A) where
       let sum = length-append (given (index + 1)) (lines_given rest) in
       omega arith
 
-  -- where a row is added after those before it, the rows before the next one are
-  pub row_added : (index : ℕ) (old now next : List ℤ) → l.from ≤ index → index < 2 + length l.children.now
-      → IsAdded index old now → IsMoved (row_given l index) now next → IsAdded (index + 1) old next
-  row_added index old now next from there so_far step =
+  given_before : (index : ℕ) → l.with_entries ≡ true → moves_before l index ≡ given index
+  given_before index plus = ap (λ b. cond b (given index) []) plus
+
+  none_before_it : (index : ℕ) → l.with_entries ≡ false → moves_before l index ≡ []
+  none_before_it index plain = ap (λ b. cond b (given index) []) plain
+
+  -- so many rows leave room for one more
+  pub room_for_row : (index : ℕ) (now : List ℤ) → index - l.from ≤ 2 ^ 123 → AreWithin (2 ^ 123 + (index - l.from)) now
+      → AreWithin (2 ^ 124) now
+  room_for_row index now few within = within_less (2 ^ 123 + (index - l.from)) (2 ^ 124) now (omega arith) within
+
+  -- a row with an entry adds what it gives
+  pub entry_added : (index : ℕ) (now next : List ℤ) → l.from ≤ index → index < 2 + length l.children.now → l.with_entries ≡ true
+      → AreWithin (2 ^ 123 + (index - l.from)) now → IsMoved (row_given l index) now next → AddsGiven l index (index + 1) now next
+  entry_added index now next from there plus within step =
       let light = weight_given index from there in
       record {
-        moved = subst (λ m. IsMoved m old next) (sym (given_next index from there))
-            (moved_on (given index) (row_given l index) old now next so_far.moved step);
+        rows = λ first so_far.
+            let before = subst (λ m. IsMoved m first now) (given_before index plus) so_far in
+            subst (λ m. IsMoved m first next) (sym (given_before (index + 1) plus ∙ given_next index from there))
+            (moved_on (given index) (row_given l index) first now next before step);
         within = within_less (2 ^ 123 + (index - l.from) + weight (row_given l index)) (2 ^ 123 + (index + 1 - l.from)) next (omega arith)
-            (within_moved (2 ^ 123 + (index - l.from)) (row_given l index) now next so_far.within step);
+            (within_moved (2 ^ 123 + (index - l.from)) (row_given l index) now next within step);
       }
+
+  -- rows without entries add nothing
+  pub none_added : (index until : ℕ) (now : List ℤ) → index ≤ until → l.with_entries ≡ false → AreWithin (2 ^ 123 + (index - l.from)) now
+      → AddsGiven l index until now now
+  none_added index until now on plain within = record {
+    rows = λ first so_far. subst (λ m. IsMoved m first now) (none_before_it index plain ∙ sym (none_before_it until plain)) so_far;
+    within = within_less (2 ^ 123 + (index - l.from)) (2 ^ 123 + (until - l.from)) now (omega arith) within;
+  }
+
+  -- no row adds nothing
+  pub adds_none : (index : ℕ) (now : List ℤ) → AreWithin (2 ^ 123 + (index - l.from)) now → AddsGiven l index index now now
+  adds_none index now within = record { rows = λ first so_far. so_far; within = within }
+
+  -- rows add what they give, and then those behind them do
+  pub adds_on : (from index until : ℕ) (old now next : List ℤ) → AddsGiven l from index old now → AddsGiven l index until now next
+      → AddsGiven l from until old next
+  adds_on from index until old now next some more = record {
+    rows = λ first so_far. more.rows first (some.rows first so_far);
+    within = more.within;
+  }
+
+  -- the rows from the first to the last add what the listing gives
+  pub all_added : (index : ℕ) (old new : List ℤ) → index ≡ l.until → AddsGiven l l.from index old new → IsMoved (listed_moves l) old new
+  all_added index old new last adds =
+      subst (λ (i : ℕ). IsMoved (moves_before l i) old new) last (adds.rows old (none_yet l.with_entries))
+    where
+      none_yet : (b : Bool) → IsMoved (cond b (given l.from) []) old old
+      none_yet true = subst (λ ls. IsMoved (lines_given ls) old old) (sym (none_before l)) (none_moved old)
+      none_yet false = none_moved old
 
   -- where an index is the last one's, all that is answered gives what the rows before it do
   pub all_given : (index : ℕ) → index ≡ l.until → given index ≡ lines_given (lines_answered l)
   all_given index is = ap given is
 
-  -- so many rows leave room for one more
-  pub room_for_row : (index : ℕ) (old now : List ℤ) → index - l.from ≤ 2 ^ 123 → IsAdded index old now → AreWithin (2 ^ 124) now
-  room_for_row index old now few so_far = within_less (2 ^ 123 + (index - l.from)) (2 ^ 124) now (omega arith) so_far.within
+  -- before the first row balances have room for all
+  pub first_within : (now : List ℤ) → AreWithin (2 ^ 123) now → AreWithin (2 ^ 123 + (l.from - l.from)) now
+  first_within now within = within_less (2 ^ 123) (2 ^ 123 + (l.from - l.from)) now (omega arith) within
 
 -- what is taken back of some and then others
 taken_on : (stack : Stacked) (xs ys : List Forget) → taken_back stack (xs ++ ys) ≡ taken_back stack xs ++ taken_back stack ys

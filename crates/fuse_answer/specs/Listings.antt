@@ -82,6 +82,11 @@ listed_data stack l = flat_map (line_bytes stack l.with_entries) (lines_answered
 abbrev pub listed_moves : {A : Type 0} → Listing A → List Move
 listed_moves l = if l.with_entries then lines_given (lines_answered l) else []
 
+-- what the rows before an index give, where they come with entries
+abbrev pub moves_before : {A : Type 0} → Listing A → ℕ → List Move
+moves_before l index =
+    if l.with_entries then lines_given (take (index - l.from) (drop l.from (lines_of l))) else []
+
 -- READDIRPLUS, or READDIR
 abbrev pub listing_op : Bool → ℕ → ℕ → NodeOp
 listing_op with_entries offset size =

@@ -1,10 +1,11 @@
 //! The lookups that an answer gives and takes, added to the balances of the nodes.
 
-ghost use Rattle.std.specs.Prelude.{◌≡◌, ◌≤◌, ◌<◌, ◌+◌, ◌^◌, ◌∷◌, [], length};
+ghost use Rattle.std.specs.Prelude.{◌≡◌, ◌≤◌, ◌<◌, ◌+◌, ◌-◌, ◌^◌, ◌∷◌, [], length};
 ghost use Rattle.fuse_wire.specs.Reads.{items_of};
 ghost use Rattle.lookup_balances.specs.Balances.{AreWithin, IsMoved};
 ghost use Rattle.fuse_answer.specs.Answers.{IsSized, answer_moves, taken_back};
-ghost use Rattle.fuse_answer.specs.Listings.{lines_answered, lines_given, row_given};
+ghost use Rattle.fuse_answer.specs.Listings.{listed_moves, row_given};
+ghost use Rattle.fuse_answer.specs.Setting.{AddsGiven};
 
 use crate::listing::Listing;
 use crate::outcome::Answer;
@@ -27,29 +28,43 @@ pub(crate) fn add_answer_moves<A: Allocator>(
 {
     match answer {
         Answer::Entry(attr) => add_move(balances, attr.ino, 1),
-        Answer::Rows(rows) if rows.with_entries => add_rows(rows, balances),
+        Answer::Rows(rows) => add_rows(rows, balances),
         Answer::Forgotten(forget) => take_back(table, *forget, balances),
         Answer::AllForgotten(items) => take_all_back(table, *items, balances),
         _ => {}
     }
 }
 
-// Adds what the rows of a READDIRPLUS give.
-#[inline(always)]
+// Adds what the rows of a listing give.
 fn add_rows<A: Allocator>(rows: &Listing<'_, A>, balances: &mut [i128])
     requires in_order { rows.now.from ≤ rows.now.until }
     requires there { rows.now.until ≤ 2 + length rows.now.children.now }
     requires within { AreWithin (2 ^ 123) balances.old }
-    ensures { IsMoved (lines_given (lines_answered rows.now)) balances.old balances.new }
+    ensures { IsMoved (listed_moves rows.now) balances.old balances.new }
 {
     for index in rows.from..rows.until {
         add_row(rows, index, balances);
     }
 }
 
-// Adds what a row gives: a lookup of its node. The first two, which are `.` and `..`, give nothing.
+/// Adds what a row gives, where rows come with entries.
 #[inline(always)]
-fn add_row<A: Allocator>(rows: &Listing<'_, A>, index: usize, balances: &mut [i128])
+pub(crate) fn add_row<A: Allocator>(rows: &Listing<'_, A>, index: usize, balances: &mut [i128])
+    requires from { rows.now.from ≤ index }
+    requires until { index < rows.now.until }
+    requires there { rows.now.until ≤ 2 + length rows.now.children.now }
+    requires within { AreWithin (2 ^ 123 + (index - rows.now.from)) balances.old }
+    ensures { AddsGiven rows.now index (index + 1) balances.old balances.new }
+{
+    if rows.with_entries {
+        add_entry(rows, index, balances);
+    }
+}
+
+// Adds what a row with an entry gives: a lookup of its node. The first two, which are `.` and `..`,
+// give nothing.
+#[inline(always)]
+fn add_entry<A: Allocator>(rows: &Listing<'_, A>, index: usize, balances: &mut [i128])
     requires until { index < rows.now.until }
     requires there { rows.now.until ≤ 2 + length rows.now.children.now }
     requires within { AreWithin (2 ^ 124) balances.old }

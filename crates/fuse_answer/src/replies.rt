@@ -10,6 +10,7 @@ ghost use Rattle.fuse_answer.specs.Puts.{PutsReply, AddsMoves};
 use crate::balances::add_answer_moves;
 use crate::decide::decide;
 use crate::outcome::Answer;
+use crate::rows::put_rows;
 use crate::write::write;
 use fuse_wire::{Errno, Op, Request, opcode, put_error};
 use reply_model::Session;
@@ -107,6 +108,13 @@ fn settle<A: Allocator, O: Allocator>(
         guess,
     } = asked;
     let decided = decide(table, session, request, guess);
+    // rows are added to balances as they are put; no request without a reply has any, which nothing
+    // says here
+    if let Ok(Answer::Rows(rows)) = &decided {
+        if !is_silent(&request.op) {
+            return put_rows(table, request.unique, rows, out, balances);
+        }
+    }
     tell(table, session, request, &decided, out)?;
     if let Ok(answer) = decided {
         add_answer_moves(table, &answer, balances);

@@ -1,14 +1,16 @@
 //! Rows of a directory as bytes, one after another.
 
-ghost use Rattle.std.specs.Prelude.{◌≡◌, ◌≤◌, ◌<◌, ◌+◌, ◌/◌, ◌^◌, ◌++◌, length, take, true, None, nat_lt, if◌then◌else◌, vec_len, vec_capacity, MatchOption, IfSome};
+ghost use Rattle.std.specs.Prelude.{◌≡◌, ◌≤◌, ◌<◌, ◌+◌, ◌/◌, ◌^◌, ◌++◌, ◌-◌, length, take, true, None, OnOk, OnErr, nat_lt, if◌then◌else◌, vec_len, vec_capacity, MatchOption, IfSome};
 ghost use Rattle.std.specs.Option.{option_map_or};
 ghost use Rattle.fuse_wire.specs.Replies.{reply_with};
 ghost use Rattle.fuse_wire.specs.declared.put.TheConstants.{SHORT_ROW_SIZE};
 ghost use Rattle.stack_table.specs.Readers.{attr_at};
-ghost use Rattle.fuse_answer.specs.Listings.{IsWhole, IsLineAt, IsPaddedAt, bytes_before, listed_data, row_bytes_at, type_at};
+ghost use Rattle.fuse_answer.specs.Listings.{IsWhole, IsLineAt, IsPaddedAt, bytes_before, listed_data, listed_moves, row_bytes_at, type_at};
 ghost use Rattle.fuse_answer.specs.Puts.{Puts};
-ghost use Rattle.fuse_answer.specs.Setting.{AddsRows, SetsRow, SetsRows};
+ghost use Rattle.fuse_answer.specs.Setting.{AddsGiven, AddsRows, SetsRow, SetsRows};
+ghost use Rattle.lookup_balances.specs.Balances.{AreWithin, IsMoved};
 
+use crate::balances::add_row;
 use crate::listing::Listing;
 use fuse_wire::limits::OUT_HEADER_SIZE;
 use fuse_wire::{
@@ -30,33 +32,40 @@ const DOT: &[u8; 22] = b".\0\0\0\0\0\0\0\0\0\0\0\0\0\0\0\0\0\0\0\0\0";
 const DOTS: &[u8; 22] = b"..\0\0\0\0\0\0\0\0\0\0\0\0\0\0\0\0\0\0\0\0";
 
 /// Appends the reply with a directory's rows, in one growth: once there is room for it, nothing
-/// fails.
+/// fails. What they give is added to the balances, as each is put.
 #[inline(never)]
 pub(crate) fn put_rows<A: Allocator, O: Allocator>(
     table: &Table<A>,
     unique: u64,
     rows: &Listing<'_, A>,
     out: &mut Vec<u8, O>,
+    balances: &mut [i128],
 ) -> Result<(), AllocError>
-    requires { IsWhole table.now rows.now }
-    ensures { Puts result out.old out.new (reply_with unique (listed_data table.now rows.now)) }
+    requires whole { IsWhole table.now rows.now }
+    requires within { AreWithin (2 ^ 123) balances.old }
+    ensures reply { Puts result out.old out.new
+        (reply_with unique (listed_data table.now rows.now)) }
+    ensures moves { OnOk result (IsMoved (listed_moves rows.now) balances.old balances.new) }
+    ensures none { OnErr result (balances.new ≡ balances.old) }
 {
     out.reserve(OUT_HEADER_SIZE + rows.size)?;
     put_data_head(out, unique, rows.size)?;
     let end = out.len() + rows.size;
     let mut index = rows.from;
     while index < rows.until {
-        index = set_rows(table, rows, index, out, end);
+        index = set_rows(table, rows, index, out, end, balances);
         if index < rows.until {
             put_row(table, rows, index, out)?;
+            add_row(rows, index, balances);
             index += 1;
         }
     }
     Ok(())
 }
 
-// Sets rows of READDIRPLUS from an index on, over zeros for those up to a place, and returns the
-// index of the next one: of one with a long name, or of one that has no room before the zeros' end.
+// Sets rows of READDIRPLUS from an index on, over zeros for those up to a place, adds what they
+// give, and returns the index of the next one: of one with a long name, or of one that has no room
+// before the zeros' end.
 #[inline(always)]
 fn set_rows<A: Allocator, O: Allocator>(
     table: &Table<A>,
@@ -64,14 +73,17 @@ fn set_rows<A: Allocator, O: Allocator>(
     from: usize,
     out: &mut Vec<u8, O>,
     end: usize,
+    balances: &mut [i128],
 ) -> usize
     requires whole { IsWhole table.now rows.now }
     requires first { rows.now.from ≤ from }
     requires last { from ≤ rows.now.until }
+    requires within { AreWithin (2 ^ 123 + (from - rows.now.from)) balances.old }
     ensures from { from ≤ result }
     ensures until { result ≤ rows.now.until }
     ensures items { AddsRows table.now rows.now from result out.old.items out.new.items }
     ensures capacity { vec_capacity out.old ≤ vec_capacity out.new }
+    ensures given { AddsGiven rows.now from result balances.old balances.new }
 {
     if !rows.with_entries {
         return from;
@@ -79,13 +91,13 @@ fn set_rows<A: Allocator, O: Allocator>(
     let start = out.len();
     let wanted = end.saturating_sub(start).min(ZEROS_AT_ONCE) + SHORT_ROW_SIZE;
     put_zeros(out, wanted.min(out.capacity() - start));
-    let (next, at) = set_over(table, rows, from, out.as_mut_slice(), start);
+    let (next, at) = set_over(table, rows, from, out.as_mut_slice(), start, balances);
     out.truncate(at);
     next
 }
 
 // Sets rows of READDIRPLUS from an index on over bytes from a place on, up to one with a long name
-// or to the bytes' end, and returns the index of the next one and its place.
+// or to the bytes' end, adds what they give, and returns the index of the next one and its place.
 #[inline(always)]
 fn set_over<A: Allocator>(
     table: &Table<A>,
@@ -93,15 +105,18 @@ fn set_over<A: Allocator>(
     from: usize,
     bytes: &mut [u8],
     start: usize,
+    balances: &mut [i128],
 ) -> (usize, usize)
     requires whole { IsWhole table.now rows.now }
     requires entries { rows.now.with_entries ≡ true }
     requires first { rows.now.from ≤ from }
     requires last { from ≤ rows.now.until }
     requires start { start ≤ length bytes.old }
+    requires within { AreWithin (2 ^ 123 + (from - rows.now.from)) balances.old }
     ensures from { from ≤ result.0 }
     ensures until { result.0 ≤ rows.now.until }
     ensures set { SetsRows table.now rows.now from result.0 start result.1 bytes.old bytes.new }
+    ensures given { AddsGiven rows.now from result.0 balances.old balances.new }
 {
     let mut at = start;
     for index in from..rows.until {
@@ -112,6 +127,7 @@ fn set_over<A: Allocator>(
             Some(end) => at = end,
             None => return (index, at),
         }
+        add_row(rows, index, balances);
     }
     (rows.until, at)
 }

@@ -35,6 +35,6 @@ pub(crate) fn write<A: Allocator, O: Allocator>(
         Answer::Opened(flags) => put_open(out, unique, *flags),
         Answer::Data(bytes) => put_data(out, unique, bytes),
         Answer::Totals { blocks, nodes } => put_statfs(out, unique, *blocks, *nodes),
-        Answer::Rows(rows) => put_rows(table, unique, rows, out),
+        Answer::Rows(rows) => put_rows(table, unique, rows, out, &mut []),
     }
 }
