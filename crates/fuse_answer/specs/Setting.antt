@@ -1,5 +1,5 @@
--- What calls leave that set rows of a listing over bytes that stand already, or append them, and that
--- add what rows give to balances.
+-- What calls leave that set rows of a listing over bytes that stand already, or append them, and
+-- that add what rows give to balances.
 use Rattle.std.specs.Prelude.{◌≡◌, ℕ, ◌+◌, ◌-◌, ◌^◌, ◌≤◌, ℤ, List, ◌++◌, length, take, Option, MatchOption, IfSome}
 use Rattle.fuse_wire.specs.declared.put.TheConstants.{SHORT_ROW_SIZE}
 use Rattle.stack_table.specs.Stacked.{Stacked}
@@ -38,7 +38,8 @@ pub record AddsRows {A : Type 0} (stack : Stacked) (l : Listing A) (from until :
 
 -- where balances had risen by what the rows before one index give, they have by what those before
 -- another do; and each row moves a balance by one at most
-pub record AddsGiven {A : Type 0} (l : Listing A) (from until : ℕ) (before after : List ℤ) : Type 0 where
+pub record AddsGiven {A : Type 0} (l : Listing A) (from until : ℕ)
+    (before after : List ℤ) : Type 0 where
   pub rows : (first : List ℤ) → IsMoved (moves_before l from) first before
       → IsMoved (moves_before l until) first after
   pub within : AreWithin (2 ^ 123 + (until - l.from)) after

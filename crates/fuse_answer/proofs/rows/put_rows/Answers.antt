@@ -110,8 +110,8 @@ pub returns-clause-reply : goal.returns-clause-reply
 returns-clause-reply g c =
     let last = c.loop-index.invariant.last in
     let past = c.loop-index-test.false in (
-      all_rows c.args.table.now c.args.rows.now c.requires.whole c.args.unique c.loop-index.index c.args.out.now.items c.loop-index.out.items
-          (omega arith) c.loop-index.invariant.so_far,
+      all_rows c.args.table.now c.args.rows.now c.requires.whole c.args.unique c.loop-index.index c.args.out.now.items
+          c.loop-index.out.items (omega arith) c.loop-index.invariant.so_far,
       tt,
       tt,
       c.loop-index.invariant.grown,
