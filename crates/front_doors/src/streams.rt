@@ -2,8 +2,8 @@
 
 use node_table::Table;
 pub use serve_core::{
-    Done, Failed, FreePass, Gate, Plan, Profile, Session, Sink, Source, Spout, Stop, Tap, Work,
-    prepare, prepare_as, run, run_from, serve, serve_as, serve_from,
+    Done, Failed, FreePass, Gate, Plan, Profile, Session, Sink, Source, Spout, Stop, Tap, Terms,
+    Work, prepare, prepare_as, run, run_from, serve, serve_as, serve_from,
 };
 use std::alloc::Allocator;
 use std::io::{Read, Write};

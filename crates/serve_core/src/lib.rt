@@ -26,7 +26,7 @@ pub use preparing::{prepare, prepare_as};
 pub use reply_model::Session;
 pub use reply_pool::Plan;
 pub use romfs_format::Profile;
-pub use running::{run, run_from};
+pub use running::{Terms, run, run_from};
 pub use serve_loop::{Done, Stop};
 pub use serving::{serve, serve_as, serve_from};
 pub use work_gate::{FreePass, Gate, Work};

@@ -18,8 +18,20 @@ use std::alloc::AllocError;
 use std::thread::Threads;
 use work_gate::Gate;
 
-/// Serves the source's stream of requests over a table into the sink, in at most `turns` pulls of
-/// at most 65,536 bytes each. The bytes put are the replies to the stream, for every plan and
+/// On which terms a stream is served.
+#[derive(Drop)]
+pub struct Terms<'a, G> {
+    /// How many workers answer a round, and in which batches.
+    pub plan: Plan,
+    /// How many pulls of the source there are at most.
+    pub turns: u64,
+    /// What is passed before the first request of each batch is answered, and before each image is
+    /// checked and stacked.
+    pub gate: &'a G,
+}
+
+/// Serves the source's stream of requests over a table into the sink, in at most as many pulls as
+/// its terms allow, of at most 65,536 bytes each. The bytes put are the replies to the stream, for every plan and
 /// however it is cut into pulls.
 ///
 /// - `Ok`: the stream came to its end between two messages: nothing is left of it, and all replies
@@ -37,26 +49,14 @@ pub fn run<R: Threads + Sync, A: SharedAllocator, S: Source, K: Sink, G: Gate + 
     table: &Table<A>,
     source: &mut S,
     sink: &mut K,
-    plan: Plan,
-    turns: u64,
-    gate: &G,
+    terms: &Terms<'_, G>,
 ) -> Result<Done<A>, Stop>
-    requires { AreReady turns (devices (S.state source.old) (K.state sink.old)) }
-    ensures { RunsBetween Session.Fresh table.now turns result
+    requires { AreReady terms.now.turns (devices (S.state source.old) (K.state sink.old)) }
+    ensures { RunsBetween Session.Fresh table.now terms.now.turns result
         (devices (S.state source.old) (K.state sink.old))
         (devices (S.state source.new) (K.state sink.new)) }
 {
-    run_from(
-        rt,
-        alloc,
-        table,
-        Session::Fresh,
-        source,
-        sink,
-        plan,
-        turns,
-        gate,
-    )
+    run_from(rt, alloc, table, Session::Fresh, source, sink, terms)
 }
 
 /// The same, of a stream that begins in the session `first`: in [`Session::LastingFresh`] one whose
@@ -68,15 +68,14 @@ pub fn run_from<R: Threads + Sync, A: SharedAllocator, S: Source, K: Sink, G: Ga
     first: Session,
     source: &mut S,
     sink: &mut K,
-    plan: Plan,
-    turns: u64,
-    gate: &G,
+    terms: &Terms<'_, G>,
 ) -> Result<Done<A>, Stop>
-    requires { AreReady turns (devices (S.state source.old) (K.state sink.old)) }
-    ensures { RunsBetween first table.now turns result
+    requires { AreReady terms.now.turns (devices (S.state source.old) (K.state sink.old)) }
+    ensures { RunsBetween first table.now terms.now.turns result
         (devices (S.state source.old) (K.state sink.old))
         (devices (S.state source.new) (K.state sink.new)) }
 {
+    let (plan, gate) = (terms.plan, terms.gate);
     let workers = move |stream: &[u8], session: Session, messages: usize| -> Result<
         RoundPieces<A>,
         AllocError,
@@ -86,5 +85,5 @@ pub fn run_from<R: Threads + Sync, A: SharedAllocator, S: Source, K: Sink, G: Ga
         ensures { IfOk result (λ spread. SpreadsOut table.entry.now session stream.now spread) }
     { spread_out(rt, alloc, table, stream, session, messages, plan, gate) };
     let pool = Pool::new(table, first, plan, gate, workers);
-    run_by(rt, alloc, &pool, source, sink, turns)
+    run_by(rt, alloc, &pool, source, sink, terms.turns)
 }

@@ -7,10 +7,9 @@ ghost use Rattle.serve_core.specs.Headline.{ServesBetween};
 
 use crate::bounds::SharedAllocator;
 use crate::preparing::prepare_as;
-use crate::running::run_from;
+use crate::running::{Terms, run_from};
 use devices::{Sink, Source};
 use reply_model::Session;
-use reply_pool::Plan;
 use romfs_format::Profile;
 use serve_loop::{Done, Stop};
 use std::thread::Threads;
@@ -28,26 +27,14 @@ pub fn serve<R: Threads + Sync, A: SharedAllocator, S: Source, K: Sink, G: Gate 
     images: Vec<Vec<u8, A>, A>,
     source: &mut S,
     sink: &mut K,
-    plan: Plan,
-    turns: u64,
-    gate: &G,
+    terms: &Terms<'_, G>,
 ) -> Result<Done<A>, Stop>
-    requires { AreReady turns (devices (S.state source.old) (K.state sink.old)) }
-    ensures { ServesBetween Profile.Usual Session.Fresh (contents_of images) turns result
+    requires { AreReady terms.now.turns (devices (S.state source.old) (K.state sink.old)) }
+    ensures { ServesBetween Profile.Usual Session.Fresh (contents_of images) terms.now.turns result
         (devices (S.state source.old) (K.state sink.old))
         (devices (S.state source.new) (K.state sink.new)) }
 {
-    serve_as(
-        rt,
-        alloc,
-        images,
-        Profile::Usual,
-        source,
-        sink,
-        plan,
-        turns,
-        gate,
-    )
+    serve_as(rt, alloc, images, Profile::Usual, source, sink, terms)
 }
 
 /// The same, by the rules of a profile.
@@ -58,27 +45,15 @@ pub fn serve_as<R: Threads + Sync, A: SharedAllocator, S: Source, K: Sink, G: Ga
     profile: Profile,
     source: &mut S,
     sink: &mut K,
-    plan: Plan,
-    turns: u64,
-    gate: &G,
+    terms: &Terms<'_, G>,
 ) -> Result<Done<A>, Stop>
-    requires { AreReady turns (devices (S.state source.old) (K.state sink.old)) }
-    ensures { ServesBetween profile Session.Fresh (contents_of images) turns result
+    requires { AreReady terms.now.turns (devices (S.state source.old) (K.state sink.old)) }
+    ensures { ServesBetween profile Session.Fresh (contents_of images) terms.now.turns result
         (devices (S.state source.old) (K.state sink.old))
         (devices (S.state source.new) (K.state sink.new)) }
 {
-    serve_from(
-        rt,
-        alloc,
-        images,
-        profile,
-        Session::Fresh,
-        source,
-        sink,
-        plan,
-        turns,
-        gate,
-    )
+    let first = Session::Fresh;
+    serve_from(rt, alloc, images, profile, first, source, sink, terms)
 }
 
 /// The same, of a stream that begins in the session `first`, as [`run_from`] serves it.
@@ -90,15 +65,13 @@ pub fn serve_from<R: Threads + Sync, A: SharedAllocator, S: Source, K: Sink, G: 
     first: Session,
     source: &mut S,
     sink: &mut K,
-    plan: Plan,
-    turns: u64,
-    gate: &G,
+    terms: &Terms<'_, G>,
 ) -> Result<Done<A>, Stop>
-    requires { AreReady turns (devices (S.state source.old) (K.state sink.old)) }
-    ensures { ServesBetween profile first (contents_of images) turns result
+    requires { AreReady terms.now.turns (devices (S.state source.old) (K.state sink.old)) }
+    ensures { ServesBetween profile first (contents_of images) terms.now.turns result
         (devices (S.state source.old) (K.state sink.old))
         (devices (S.state source.new) (K.state sink.new)) }
 {
-    let table = prepare_as(rt, alloc, images, profile, gate)?;
-    run_from(rt, alloc, &table, first, source, sink, plan, turns, gate)
+    let table = prepare_as(rt, alloc, images, profile, terms.gate)?;
+    run_from(rt, alloc, &table, first, source, sink, terms)
 }

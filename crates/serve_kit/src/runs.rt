@@ -6,7 +6,7 @@ use crate::writer::Taker;
 use devices::{Spout, Tap};
 use reply_pool::Plan;
 use romfs_format::Profile;
-use serve_core::{Done, Session, Stop, prepare, run, serve_as, serve_from};
+use serve_core::{Done, Session, Stop, Terms, prepare, run, serve_as, serve_from};
 use stack_core::{FreePass, Gate};
 use stack_table::Table;
 use std::alloc::{AllocError, Allocator, Global};
@@ -238,16 +238,16 @@ pub fn ran<R: Threads + Sync, A: Allocator + Copy + Send + Sync, G: Gate + Sync>
     let plan = Plan::new(row.plan.0, row.plan.1)?;
     let mut pieces = pieces_of(stream, row, watched);
     let mut taker = taker_of(global, row, watched);
-    let done = run(
-        rt,
-        alloc,
-        table,
-        &mut Tap::new(&mut pieces),
-        &mut Spout::new(&mut taker),
+    let terms = Terms {
         plan,
-        u64::from(row.turns),
+        turns: u64::from(row.turns),
         gate,
-    );
+    };
+    let mut tap = Tap::new(&mut pieces);
+    let mut spout = Spout::new(&mut taker);
+    let done = run(rt, alloc, table, &mut tap, &mut spout, &terms);
+    drop(tap);
+    drop(spout);
     Some(Finished::of(done, pieces, taker))
 }
 
@@ -299,16 +299,18 @@ pub fn serve_of<R: Threads + Sync, A: Allocator + Copy + Send + Sync>(
     let mut taker = taker_of(global, row, watched);
     let mut tap = Tap::new(&mut pieces);
     let mut spout = Spout::new(&mut taker);
-    let turns = u64::from(row.turns);
+    let terms = Terms {
+        plan,
+        turns: u64::from(row.turns),
+        gate: &FreePass,
+    };
     let done = if lasting {
         let first = Session::LastingFresh;
         serve_from(
-            rt, alloc, images, profile, first, &mut tap, &mut spout, plan, turns, &FreePass,
+            rt, alloc, images, profile, first, &mut tap, &mut spout, &terms,
         )
     } else {
-        serve_as(
-            rt, alloc, images, profile, &mut tap, &mut spout, plan, turns, &FreePass,
-        )
+        serve_as(rt, alloc, images, profile, &mut tap, &mut spout, &terms)
     };
     drop(tap);
     drop(spout);

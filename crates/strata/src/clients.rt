@@ -9,7 +9,7 @@ ghost use Rattle.strata.specs.Sessions.{fault_of, status_at, EndWith, IsSession,
 
 use crate::faults::Fault;
 use devices::{Spout, Tap};
-use serve_core::{Done, FreePass, MAX_TURNS, Plan, Session, Stop, run_from};
+use serve_core::{Done, FreePass, MAX_TURNS, Plan, Session, Stop, Terms, run_from};
 use stack_table::Table;
 use std::alloc::Allocator;
 use std::io::Write;
@@ -119,15 +119,10 @@ fn serve_client<R: Threads + Sync, A: Allocator + Copy + Send + Sync>(
 {
     let mut source = Tap::new(&client);
     let mut sink = Spout::new(&client);
-    run_from(
-        rt,
-        alloc,
-        table,
-        first,
-        &mut source,
-        &mut sink,
+    let terms = Terms {
         plan,
-        MAX_TURNS,
-        &FreePass,
-    )
+        turns: MAX_TURNS,
+        gate: &FreePass,
+    };
+    run_from(rt, alloc, table, first, &mut source, &mut sink, &terms)
 }

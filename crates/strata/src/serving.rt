@@ -14,7 +14,7 @@ use crate::files::{create_named, open_requests};
 use crate::settings::{first_of, plan_of, profile_of};
 use command_line::Line;
 use devices::{Sink, Source, Spout, Tap};
-use serve_core::{Done, FreePass, MAX_TURNS, Stop, serve_from};
+use serve_core::{Done, FreePass, MAX_TURNS, Stop, Terms, serve_from};
 use std::alloc::Allocator;
 use std::fs::Files;
 use std::io::{Read, Write};
@@ -129,10 +129,12 @@ fn serve_between<R: Threads + Sync, A: Allocator + Copy + Send + Sync, S: Source
         (devices (S.state source.new) (K.state sink.new)) }
     ensures end { OnOk result (IsAtEnd (S.state source.new).left) }
 {
-    let plan = plan_of(line);
     let profile = profile_of(line);
     let first = first_of(line);
-    serve_from(
-        rt, alloc, images, profile, first, source, sink, plan, MAX_TURNS, &FreePass,
-    )
+    let terms = Terms {
+        plan: plan_of(line),
+        turns: MAX_TURNS,
+        gate: &FreePass,
+    };
+    serve_from(rt, alloc, images, profile, first, source, sink, &terms)
 }

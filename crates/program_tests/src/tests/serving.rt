@@ -1,7 +1,7 @@
 //! `serve` over images, by the usual rules and in a usual session.
 
 use devices::{Spout, Tap};
-use serve_core::{FreePass, Plan, Stop, serve};
+use serve_core::{FreePass, Plan, Stop, Terms, serve};
 use std::thread::Threads;
 use test_kit::memories::{Memories, refuse_in_turn};
 use test_kit::sample_images::samples;
@@ -16,17 +16,17 @@ type Ended = (Result<(u64, u128), Stop>, usize);
 fn end_of<R: Threads + Sync>(rt: &R, memories: &Memories, turns: u32) -> Option<Ended> {
     let stream = script(memories.global).ok()?;
     let replies = script_replies(memories.global).ok()?;
+    let images = samples(&memories.plain, 1)?;
     let mut output = Vec::new(memories.global);
-    let done = serve(
-        rt,
-        &memories.refusing,
-        samples(&memories.plain, 1)?,
-        &mut Tap::new(stream.as_slice()),
-        &mut Spout::new(&mut output),
-        Plan::new(2, 3)?,
-        u64::from(turns),
-        &FreePass,
-    );
+    let mut tap = Tap::new(stream.as_slice());
+    let mut spout = Spout::new(&mut output);
+    let terms = Terms {
+        plan: Plan::new(2, 3)?,
+        turns: u64::from(turns),
+        gate: &FreePass,
+    };
+    let done = serve(rt, &memories.refusing, images, &mut tap, &mut spout, &terms);
+    drop(spout);
     let end = match done {
         Ok(done) => Ok((done.messages, done.written)),
         Err(stop) => Err(stop),
