@@ -1,4 +1,11 @@
 //! The shared word, and what hands do with it.
+//!
+//! The word counts the draws that took a step. So a draw's *position* is what it found there: a
+//! number where that is below the total, and else a *miss*. A hand has a number of misses to spend,
+//! and draws no more once it has none left; the misses of all hands, set at the start, keep the
+//! word from wrapping. A hand's *share* is its misses left and spent, so the hand with all shares
+//! is the only one, and may close the board: its draws are then one history of a counter that one
+//! thread draws from (`specs/Counter.antt`).
 
 ghost use Rattle.std.specs.Prelude.{◌≡◌, ◌<◌, ◌^◌};
 
@@ -9,6 +16,18 @@ use atomic_table::Table;
 use std::alloc::{AllocError, Allocator};
 
 /// The numbers below a total, for hands to draw. Threads share it by reference.
+///
+/// ```text
+/// let (board, mut first) = Board::start(alloc, jobs, 2)?;
+/// let second = board.split(&mut first, 1)?;
+/// // in each of two threads, with a hand of its own
+/// while let Some(job) = board.draw(&mut hand) {
+///     work(job);
+/// }
+/// // the threads gave their hands back
+/// board.rejoin(&mut first, second);
+/// let draws = board.close(first);
+/// ```
 #[derive(Drop)]
 pub struct Board<A: Allocator> {
     table: Table<(), View, (u32, u32), Drawing, A>,

@@ -1,4 +1,7 @@
 //! Guesses of where names stand, which need not be right.
+//!
+//! A guess counts only where the row has the name, so a stranger who knows the hash can make a
+//! look-up no dearer than by keys.
 
 ghost use Rattle.std.specs.Prelude.{◌≡◌, ◌≤◌, ◌+◌, ⊤, length, map, Some, MatchOption};
 ghost use Rattle.name_keys.specs.Names.{Rise, place_of};

@@ -1,4 +1,9 @@
 //! The key of a name, and the front that names share.
+//!
+//! The names of a directory that come in order share the front that its first and its last name
+//! share. After it the next eight bytes are taken as a number, the name's key, the first byte
+//! highest. Keys never fall where names rise. Of names that share `file-`, `file-000017` has the
+//! key "000017" with two zeros behind it, and `file-1` the key "1" with seven.
 
 ghost use Rattle.std.specs.Prelude.{◌≡◌, slice_index};
 ghost use Rattle.name_keys.specs.Keys.{key};

@@ -1,4 +1,8 @@
 //! The place of a name in one directory.
+//!
+//! A look-up searches among keys that stand side by side, by halves and with no branch on what it
+//! compares, and reads one row, whose name is compared as a whole. Where several names have one
+//! key, these are searched by whole names.
 
 ghost use Rattle.std.specs.Prelude.{◌≡◌, map};
 ghost use Rattle.name_keys.specs.Names.{Rise, place_of};

@@ -1,20 +1,12 @@
 //! The lines of a listing: each shown path of a stack with its node's number and attributes.
 //!
-//! [`write_list`] puts them to a sink for a table of nodes, in the order of the paths:
-//!
-//! ```text
-//! 1 040755 3 0 1 /
-//! 2 040755 2 0 1 /a
-//! 3 100644 1 1 0 /a/y
-//! ```
-//!
-//! It goes down from the root by the rows of directories, and keeps the text of the path that it
-//! stands at, so each name is escaped once, and a line's path is one copy. The lines go out in
-//! pieces. The room for a piece and for the longest path is taken first, so the memory does not
-//! grow with the lines. That these are all shown paths, each once, stands on what the layers are:
-//! nothing is shown below what is no directory, and a directory has one path (`laws`).
-//!
-//! The crate stands on `stack_table`, and on `devices` for its sink.
+//! [`write_list`] puts them to a sink for a table of nodes, in the order of the paths, as `2 040755
+//! 2 0 1 /a`. It goes down from the root by the rows of directories, and keeps the text of the path
+//! that it stands at, so each name is escaped once, and a line's path is one copy. The room for a
+//! piece of lines and for the longest path is taken first, so the memory does not grow with the
+//! lines. That these are all shown paths, each once, stands on what the layers are: nothing is
+//! shown below what is no directory, and a directory has one path (`laws`). The crate stands on
+//! `stack_table`, and on `devices` for its sink.
 #![tactic(auto)]
 
 pub mod examples;

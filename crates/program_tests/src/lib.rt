@@ -1,14 +1,10 @@
-//! The tests of the program over devices that fail and memory that is refused, which no command
-//! line can bring about, and of sessions at a socket.
+//! The tests of the program over what no command line can bring about.
 //!
-//! - `clients`: clients of a socket that are served, are gone, or can't be accepted.
-//! - `failing`: readers and writers that fail.
-//! - `memory`: each request for memory is refused in turn.
-//! - `mounted`: devices like those of an open `/dev/fuse`, and refused memory.
-//! - `plans`: how many workers and how large batches a line asks for.
-//! - `serving`: `serve` by itself, with refused memory and too few turns.
-//!
-//! What they share: `program`, runs of the program and files of the test's own.
+//! Clients of a socket that are served, are gone, or can't be accepted (`clients`), readers and
+//! writers that fail (`failing`), each request for memory refused in turn (`memory`), devices like
+//! those of an open `/dev/fuse` (`mounted`), how many workers and how large batches a line asks for
+//! (`plans`), and `serve` by itself, with refused memory and too few turns (`serving`). They share
+//! runs of the program and files of the test's own (`program`).
 #![tactic(auto)]
 
 #[cfg(test)]

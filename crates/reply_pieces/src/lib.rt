@@ -2,16 +2,11 @@
 //!
 //! A job is a request, with the session before it. The jobs of a round come in batches, of which
 //! number k holds the jobs from k times the size on ([`batch`]). What a batch is answered with is a
-//! [`Piece`], whoever answers it, and the pieces of all batches come in any order:
-//!
-//! ```text
-//! pieces -> one Rounded     pieces:   sorted by number, bytes joined, moves summed (by_node)
-//! pieces -> a loop's bytes  gathered: sorted by number, bytes appended, moves added to balances
-//! ```
-//!
-//! The definitions say what requests are replied to and move (`reply_model`), over the layers and
-//! the shown paths of a stack. What answers a request this crate does not know, so it is proved
-//! beside `fuse_answer`.
+//! [`Piece`], and the pieces of all batches come in any order. They are sorted by number, and
+//! joined to one [`Rounded`] with its moves summed (`pieces`, `by_node`), or appended to a loop's
+//! bytes and balances (`gathered`). The definitions say what requests are replied to and move
+//! (`reply_model`), over the layers and the shown paths of a stack. What answers a request this
+//! crate does not know, so it is proved beside `fuse_answer`.
 #![tactic(auto)]
 
 mod batches;

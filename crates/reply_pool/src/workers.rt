@@ -1,4 +1,11 @@
 //! Rounds of jobs, answered by several workers.
+//!
+//! ```text
+//! jobs     -> batches        reply_pieces
+//! batches  -> pieces         worker:  draw a number, answer its batch (jobs), until none is left
+//!                            workers: a hand for each of the threads, rejoined after them
+//! pieces   -> one Rounded    reply_pieces
+//! ```
 
 ghost use Rattle.std.specs.Prelude.{◌≡◌, ◌≤◌, length, IfOk};
 ghost use Rattle.std.specs.Thread.{IsSync};

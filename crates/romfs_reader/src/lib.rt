@@ -1,16 +1,11 @@
-//! What is read from romfs images that keep all rules.
+//! What is read from romfs images that keep all rules. Whether bytes do, `romfs_check` says.
 //!
-//! - [`Image`] gives headers, and for these the members of a directory, where hard links end, names
-//!   and data. No reader but [`Ends`] takes memory, and names and data are borrowed from the image.
-//! - [`Ends`] finds where many hard links end, and passes none of them twice.
-//!
-//! Whether bytes keep all rules is not asked here: `romfs_image` checks that, and has the crate's
-//! names.
-//!
-//! What the calls promise is said by the definitions of `romfs_format`, and in `specs/`: what the
-//! readers give (`Readers`, step by step `Walks`, and `Ends`), and what is known of a sound image
-//! (`Images`). The readers are proved for every image that keeps all rules. [`laws`] says that each
-//! path of such an image has one header and at most 512 names, and that there are finitely many.
+//! [`Image`] gives headers, and for these the members of a directory, where hard links end, names
+//! and data, which are borrowed. [`Ends`] finds where many hard links end, and passes none of them
+//! twice; no other reader takes memory. What the calls promise is said by the definitions of
+//! `romfs_format`, and in `specs/`: what the readers give (`Readers`, step by step `Walks`, and
+//! `Ends`), and what is known of a sound image (`Images`). [`laws`] says that each path of such an
+//! image has one header and at most 512 names, and that there are finitely many.
 #![tactic(auto)]
 
 pub mod ends;

@@ -4,12 +4,10 @@
 //! chains merge, loop or lead anywhere, links to links, names that come twice. Most images keep
 //! every rule, and one walk down from the root shows it (`plain`, `plain_header`). Of all others it
 //! collects sets of headers (`chains`, `same_names`, `twice`, `targets`, `ends`), as a bit for
-//! every 16 bytes of the image or as a rising list (`slot_sets`); what is kept for a header of a
-//! set is kept by its number there. Then it goes upward once over the headers that are reached
-//! (`judge`) and asks each for the first rule that it breaks (`header`); the depth is looked at
-//! last (`depth`). Each walk is a loop, and each visits a header a constant number of times.
-//!
-//! Nothing is public but that call: its promise is `IsFaultOfAs`, of `romfs_format`.
+//! every 16 bytes of the image or as a rising list (`slot_sets`); then it goes upward once over the
+//! headers that are reached (`judge`) and asks each for the first rule that it breaks (`header`);
+//! the depth is looked at last (`depth`). Each walk is a loop, and each visits a header a constant
+//! number of times. Its promise is `IsFaultOfAs`, of `romfs_format`.
 #![tactic(auto)]
 
 mod chains;

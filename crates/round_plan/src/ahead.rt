@@ -1,16 +1,13 @@
 //! What the LOOKUPs of a round will read, read ahead.
 //!
 //! A LOOKUP follows numbers through a table that is larger than the processor's caches: from the
-//! directory to a guess, to the row, to the node and to its balance. One after another each of
-//! these reads would be waited for, request by request. Here the names of all LOOKUPs of a round
-//! are hashed first; then their guesses are read, then the rows that these point to, and then the
-//! nodes and balances of these rows, each in a loop that does little else. None of these reads
-//! waits for that of another request, so they overlap: as many of them as a processor has begun
-//! before it needs the first.
-//!
-//! No answer follows from what is read here: the answer to a LOOKUP is given the place that was
-//! guessed for it, and looks whether the row there has the name. It takes a few steps for each
-//! message of the round, as long as every fourth is a LOOKUP, and no memory.
+//! directory to a guess, to the row, to the node and to its balance. Here the names of all LOOKUPs
+//! of a round are hashed first; then their guesses are read, then the rows that these point to,
+//! then the nodes and balances of these rows, each in a loop that does little else: none of these
+//! reads waits for that of another request, so they overlap. No answer follows from what is read:
+//! the answer to a LOOKUP is given the place that was guessed for it, and looks whether the row
+//! there has the name. It takes a few steps for each message of the round, as long as every fourth
+//! is a LOOKUP, and no memory.
 
 ghost use Rattle.std.specs.Prelude.{◌≤◌};
 ghost use Rattle.fuse_wire.specs.declared.limits.TheConstants.{MAX_ROUND_MESSAGES};

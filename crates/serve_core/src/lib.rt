@@ -1,16 +1,13 @@
 //! Serving a stream of FUSE requests over romfs images, from a source to a sink.
 //!
-//! [`serve`] takes images, the lowest layer first, checks them, stacks them and serves the stream
-//! over what they show: for every list of images, request stream, cutting of its pulls and plan,
-//! the bytes that are put are the definition's replies, one after another. [`prepare`] and [`run`]
-//! are its two halves; `_as` takes a profile of rules, and `_from` the session that the stream
-//! begins in too, so whether it is served lastingly: whether its client is told that the tree never
-//! changes.
-//!
-//! The check of images is `layer_check`'s, the loop over the stream `serve_loop`'s, and what
-//! answers its rounds `reply_pool`'s. What serving promises at each end is said by `IsRun` in
-//! `serve_loop`'s `specs/Serving`, and over images by `Serves` in `specs/Headline`; [`laws`] draw
-//! from it what each end means.
+//! [`serve`] takes images, the lowest layer first, checks them (`layer_check`), stacks them and
+//! serves the stream over what they show (`serve_loop`, `reply_pool`): for every list of images,
+//! request stream, cutting of its pulls and [`Terms`], the bytes that are put are the definition's
+//! replies, one after another. [`prepare`] and [`run`] are its two halves; `_as` takes a profile of
+//! rules, and `_from` the session that the stream begins in too, so whether its client is told that
+//! the tree never changes. What serving promises at each end is said by `IsRun` in `serve_loop`'s
+//! `specs/Serving`, and over images by `Serves` in `specs/Headline`; [`laws`] draw from it what
+//! each end means.
 #![tactic(auto)]
 
 mod bounds;

@@ -1,15 +1,12 @@
-//! The tests of what `serve_core` serves over devices of their own: streams in pieces of every
-//! size, by every plan. No command shows how often a device is called. What fails is tested in
-//! `failure_tests`; what both share is in `serve_kit`.
+//! The tests of what `serve_core` serves over devices of their own, since no command shows their
+//! calls.
 //!
-//! - `streams`: one stream, however it is cut, answered and taken, and lastingly; how often each
-//!   device is called.
-//! - `balances`: what a stream of lookups leaves.
-//! - `gates`: the lowest image's check waits until the next one's was begun; each image, tree and
-//!   batch passes its gate once.
-//! - `room`: the longest round takes no more memory than a short one.
-//! - `workers`: streams whose rounds are worth workers.
-//! - `frames`: what some bytes begin with.
+//! One stream, however it is cut, answered and taken, and lastingly, and how often each device is
+//! called (`streams`); what a stream of lookups leaves (`balances`); the lowest image's check waits
+//! until the next one's was begun, and each image, tree and batch passes its gate once (`gates`);
+//! the longest round takes no more memory than a short one (`room`); streams whose rounds are worth
+//! workers (`workers`); what some bytes begin with (`frames`). What fails is tested in
+//! `failure_tests`; what both share is in `serve_kit`.
 #![tactic(auto)]
 
 #[cfg(test)]

@@ -24,6 +24,19 @@ use std::marker::Model;
 /// name of more than 22 (16 of them for guesses of where names stand), and a directory 32 more. No
 /// reader takes memory, and each answers for every number: 1 is the root, and a number that is not
 /// in use has nothing.
+///
+/// ```text
+/// if let Some(number) = table.child(1, b"etc") {
+///     for row in table.rows(number) {
+///         show(row.name(), table.attr(row.number));
+///     }
+/// }
+/// ```
+///
+/// All nodes lie in one vector by their numbers, and all rows in another, those of a directory
+/// together; beside each row lies the key by which its name is found (`name_keys`), where a guess
+/// does not tell the row. A node keeps where its data lie, so no answer parses a header, and only a
+/// directory keeps more: where its rows lie, and which directory is above.
 #[derive(Drop)]
 pub struct Table<A: Allocator> {
     images: Vec<Image<A>, A>,

@@ -1,4 +1,11 @@
 //! The climb over a graph, from each of its cycles.
+//!
+//! Ways may merge and go round, so to go along the way of each point would be quadratic. Against
+//! their direction the points are cycles with trees that grow from them; of two points one lies on
+//! the other's way where it is below it in its tree, or in the cycle that it leads to. So a cycle
+//! is put on a path, each tree is climbed from it depth first, and of each class the lowest point
+//! on the path is kept; what is entered is compared with that point alone, and the higher of both
+//! is noted. To leave a point puts back what was lowest before it.
 
 ghost use Rattle.std.specs.Prelude.{◌≡◌, ◌+◌, ◌<◌, ◌^◌, ℕ, true, false, IfOk, length, get_or, set, drop, reverse, []};
 ghost use Rattle.successor_graph.specs.Climb.{After, AreBelow, Clears, Enters, findings, IsFound, IsLow, IsCycle, IsMet, IsGathered, IsSkipped, AreMarksKept, AreNoted};
@@ -8,6 +15,13 @@ use crate::graph::Graph;
 use std::alloc::{AllocError, Allocator};
 
 // A point on the path, and what was the lowest of its class before it.
+//
+//     e   f
+//      \ /
+//   d   b         path while f is entered: the whole cycle, then b, f
+//    \ /
+// .-> a -> c -.   low: of each class on the path, its lowest point
+// '-----------'
 #[derive(Clone, Copy)]
 struct Step {
     at: u32,

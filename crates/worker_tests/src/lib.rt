@@ -1,18 +1,11 @@
-//! The tests of `reply_pool` and of single answers: rounds of jobs by any plan, workers that draw
-//! from one board, in threads of a round and in callers' own, gates that see two batches at one
-//! time, and memory that is refused. No contract can say these.
+//! The tests of `reply_pool` and of single answers that no contract can say.
 //!
-//! They stand in a crate of their own, since only they start threads that share a board, and wait
-//! for them.
-//!
-//! - `plans`: which numbers make a plan.
-//! - `batches`: rounds of jobs by any plan.
-//! - `gates`: a batch is held until others have come.
-//! - `threads`: callers' own threads share a board.
-//! - `answers`: single answers and their moves.
-//! - `memory`: each request for memory of a call is refused in turn.
-//!
-//! What they share: `tables`, the table of the sample image; `jobs`, the requests of a stream.
+//! Which numbers make a plan (`plans`), rounds of jobs by any plan (`batches`), a batch that is
+//! held until others have come (`gates`), callers' own threads that share a board (`threads`),
+//! single answers and their moves (`answers`), and each request for memory of a call refused in
+//! turn (`memory`). They share the table of the sample image (`tables`) and the requests of a
+//! stream (`jobs`), and stand in a crate of their own, since only they start threads that share a
+//! board, and wait for them.
 #![tactic(auto)]
 
 #[cfg(test)]
