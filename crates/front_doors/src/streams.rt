@@ -3,7 +3,7 @@
 use node_table::Table;
 pub use serve_core::{
     Done, Failed, FreePass, Gate, Plan, Profile, Session, Sink, Source, Spout, Stop, Tap, Terms,
-    Work, prepare, prepare_as, run, run_from, serve, serve_as, serve_from,
+    Work, prepare, prepare_as, run, serve, serve_as,
 };
 use std::alloc::Allocator;
 use std::io::{Read, Write};

@@ -4,10 +4,8 @@
 //! serves the stream over what they show (`serve_loop`, `reply_pool`): for every list of images,
 //! request stream, cutting of its pulls and [`Terms`], the bytes that are put are the definition's
 //! replies, one after another. [`prepare`] and [`run`] are its two halves; `_as` takes a profile of
-//! rules, and `_from` the session that the stream begins in too, so whether its client is told that
-//! the tree never changes. What serving promises at each end is said by `IsRun` in `serve_loop`'s
-//! `specs/Serving`, and over images by `Serves` in `specs/Headline`; [`laws`] draw from it what
-//! each end means.
+//! rules. What serving promises at each end is said by `IsRun` in `serve_loop`'s `specs/Serving`,
+//! and over images by `Serves` in `specs/Headline`; [`laws`] draw from it what each end means.
 #![tactic(auto)]
 
 mod bounds;
@@ -23,7 +21,7 @@ pub use preparing::{prepare, prepare_as};
 pub use reply_model::Session;
 pub use reply_pool::Plan;
 pub use romfs_format::Profile;
-pub use running::{Terms, run, run_from};
+pub use running::{Terms, run};
 pub use serve_loop::{Done, Stop};
-pub use serving::{serve, serve_as, serve_from};
+pub use serving::{serve, serve_as};
 pub use work_gate::{FreePass, Gate, Work};

@@ -21,6 +21,9 @@ use work_gate::Gate;
 /// On which terms a stream is served.
 #[derive(Drop)]
 pub struct Terms<'a, G> {
+    /// The session that the stream begins in: in [`Session::LastingFresh`] one whose client is told
+    /// that the tree never changes.
+    pub first: Session,
     /// How many workers answer a round, and in which batches.
     pub plan: Plan,
     /// How many pulls of the source there are at most.
@@ -52,26 +55,7 @@ pub fn run<R: Threads + Sync, A: SharedAllocator, S: Source, K: Sink, G: Gate + 
     terms: &Terms<'_, G>,
 ) -> Result<Done<A>, Stop>
     requires { AreReady terms.now.turns (devices (S.state source.old) (K.state sink.old)) }
-    ensures { RunsBetween Session.Fresh table.now terms.now.turns result
-        (devices (S.state source.old) (K.state sink.old))
-        (devices (S.state source.new) (K.state sink.new)) }
-{
-    run_from(rt, alloc, table, Session::Fresh, source, sink, terms)
-}
-
-/// The same, of a stream that begins in the session `first`: in [`Session::LastingFresh`] one whose
-/// client is told that the tree never changes.
-pub fn run_from<R: Threads + Sync, A: SharedAllocator, S: Source, K: Sink, G: Gate + Sync>(
-    rt: &R,
-    alloc: A,
-    table: &Table<A>,
-    first: Session,
-    source: &mut S,
-    sink: &mut K,
-    terms: &Terms<'_, G>,
-) -> Result<Done<A>, Stop>
-    requires { AreReady terms.now.turns (devices (S.state source.old) (K.state sink.old)) }
-    ensures { RunsBetween first table.now terms.now.turns result
+    ensures { RunsBetween terms.now.first table.now terms.now.turns result
         (devices (S.state source.old) (K.state sink.old))
         (devices (S.state source.new) (K.state sink.new)) }
 {
@@ -84,6 +68,6 @@ pub fn run_from<R: Threads + Sync, A: SharedAllocator, S: Source, K: Sink, G: Ga
             × IsSend A.row × Frees A.Allocator A.dealloc_token }
         ensures { IfOk result (λ spread. SpreadsOut table.entry.now session stream.now spread) }
     { spread_out(rt, alloc, table, stream, session, messages, plan, gate) };
-    let pool = Pool::new(table, first, plan, gate, workers);
+    let pool = Pool::new(table, terms.first, plan, gate, workers);
     run_by(rt, alloc, &pool, source, sink, terms.turns)
 }

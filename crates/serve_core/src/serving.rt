@@ -7,9 +7,8 @@ ghost use Rattle.serve_core.specs.Headline.{ServesBetween};
 
 use crate::bounds::SharedAllocator;
 use crate::preparing::prepare_as;
-use crate::running::{Terms, run_from};
+use crate::running::{Terms, run};
 use devices::{Sink, Source};
-use reply_model::Session;
 use romfs_format::Profile;
 use serve_loop::{Done, Stop};
 use std::thread::Threads;
@@ -30,7 +29,8 @@ pub fn serve<R: Threads + Sync, A: SharedAllocator, S: Source, K: Sink, G: Gate 
     terms: &Terms<'_, G>,
 ) -> Result<Done<A>, Stop>
     requires { AreReady terms.now.turns (devices (S.state source.old) (K.state sink.old)) }
-    ensures { ServesBetween Profile.Usual Session.Fresh (contents_of images) terms.now.turns result
+    ensures { ServesBetween Profile.Usual terms.now.first (contents_of images)
+        terms.now.turns result
         (devices (S.state source.old) (K.state sink.old))
         (devices (S.state source.new) (K.state sink.new)) }
 {
@@ -48,30 +48,11 @@ pub fn serve_as<R: Threads + Sync, A: SharedAllocator, S: Source, K: Sink, G: Ga
     terms: &Terms<'_, G>,
 ) -> Result<Done<A>, Stop>
     requires { AreReady terms.now.turns (devices (S.state source.old) (K.state sink.old)) }
-    ensures { ServesBetween profile Session.Fresh (contents_of images) terms.now.turns result
-        (devices (S.state source.old) (K.state sink.old))
-        (devices (S.state source.new) (K.state sink.new)) }
-{
-    let first = Session::Fresh;
-    serve_from(rt, alloc, images, profile, first, source, sink, terms)
-}
-
-/// The same, of a stream that begins in the session `first`, as [`run_from`] serves it.
-pub fn serve_from<R: Threads + Sync, A: SharedAllocator, S: Source, K: Sink, G: Gate + Sync>(
-    rt: &R,
-    alloc: A,
-    images: Vec<Vec<u8, A>, A>,
-    profile: Profile,
-    first: Session,
-    source: &mut S,
-    sink: &mut K,
-    terms: &Terms<'_, G>,
-) -> Result<Done<A>, Stop>
-    requires { AreReady terms.now.turns (devices (S.state source.old) (K.state sink.old)) }
-    ensures { ServesBetween profile first (contents_of images) terms.now.turns result
+    ensures { ServesBetween profile terms.now.first (contents_of images)
+        terms.now.turns result
         (devices (S.state source.old) (K.state sink.old))
         (devices (S.state source.new) (K.state sink.new)) }
 {
     let table = prepare_as(rt, alloc, images, profile, terms.gate)?;
-    run_from(rt, alloc, &table, first, source, sink, terms)
+    run(rt, alloc, &table, source, sink, terms)
 }

@@ -6,7 +6,7 @@ use crate::writer::Taker;
 use devices::{Spout, Tap};
 use reply_pool::Plan;
 use romfs_format::Profile;
-use serve_core::{Done, Session, Stop, Terms, prepare, run, serve_as, serve_from};
+use serve_core::{Done, Session, Stop, Terms, prepare, run, serve_as};
 use stack_core::{FreePass, Gate};
 use stack_table::Table;
 use std::alloc::{AllocError, Allocator, Global};
@@ -239,6 +239,7 @@ pub fn ran<R: Threads + Sync, A: Allocator + Copy + Send + Sync, G: Gate + Sync>
     let mut pieces = pieces_of(stream, row, watched);
     let mut taker = taker_of(global, row, watched);
     let terms = Terms {
+        first: Session::Fresh,
         plan,
         turns: u64::from(row.turns),
         gate,
@@ -281,7 +282,7 @@ pub fn run_of<R: Threads + Sync, A: Allocator + Copy + Send + Sync>(
     run_over(rt, global, alloc, &table, (&stream, &replies), row, watched)
 }
 
-/// What is seen of a run over images, of a stream that is served lastingly or by `serve_as`.
+/// What is seen of a run over images, by `serve_as`, of a stream that is served lastingly or not.
 pub fn serve_of<R: Threads + Sync, A: Allocator + Copy + Send + Sync>(
     rt: &R,
     global: Global,
@@ -299,19 +300,18 @@ pub fn serve_of<R: Threads + Sync, A: Allocator + Copy + Send + Sync>(
     let mut taker = taker_of(global, row, watched);
     let mut tap = Tap::new(&mut pieces);
     let mut spout = Spout::new(&mut taker);
+    let first = if lasting {
+        Session::LastingFresh
+    } else {
+        Session::Fresh
+    };
     let terms = Terms {
+        first,
         plan,
         turns: u64::from(row.turns),
         gate: &FreePass,
     };
-    let done = if lasting {
-        let first = Session::LastingFresh;
-        serve_from(
-            rt, alloc, images, profile, first, &mut tap, &mut spout, &terms,
-        )
-    } else {
-        serve_as(rt, alloc, images, profile, &mut tap, &mut spout, &terms)
-    };
+    let done = serve_as(rt, alloc, images, profile, &mut tap, &mut spout, &terms);
     drop(tap);
     drop(spout);
     Some(Finished::of(done, pieces, taker).seen(&replies))

@@ -9,7 +9,7 @@ ghost use Rattle.strata.specs.Sessions.{fault_of, status_at, EndWith, IsSession,
 
 use crate::faults::Fault;
 use devices::{Spout, Tap};
-use serve_core::{Done, FreePass, MAX_TURNS, Plan, Session, Stop, Terms, run_from};
+use serve_core::{Done, FreePass, MAX_TURNS, Plan, Session, Stop, Terms, run};
 use stack_table::Table;
 use std::alloc::Allocator;
 use std::io::Write;
@@ -46,7 +46,7 @@ pub fn sessions<R: Threads + Sync, A: Allocator + Copy + Send + Sync, E: Write>(
     )
 }
 
-/// The same, of streams that begin in the session `first`, as [`serve_core::run_from`] serves them.
+/// The same, of streams that begin in the session `first`, as [`serve_core::run`] serves them.
 pub fn sessions_from<R: Threads + Sync, A: Allocator + Copy + Send + Sync, E: Write>(
     rt: &R,
     alloc: A,
@@ -120,9 +120,10 @@ fn serve_client<R: Threads + Sync, A: Allocator + Copy + Send + Sync>(
     let mut source = Tap::new(&client);
     let mut sink = Spout::new(&client);
     let terms = Terms {
+        first,
         plan,
         turns: MAX_TURNS,
         gate: &FreePass,
     };
-    run_from(rt, alloc, table, first, &mut source, &mut sink, &terms)
+    run(rt, alloc, table, &mut source, &mut sink, &terms)
 }

@@ -14,7 +14,7 @@ use crate::files::{create_named, open_requests};
 use crate::settings::{first_of, plan_of, profile_of};
 use command_line::Line;
 use devices::{Sink, Source, Spout, Tap};
-use serve_core::{Done, FreePass, MAX_TURNS, Stop, Terms, serve_from};
+use serve_core::{Done, FreePass, MAX_TURNS, Stop, Terms, serve_as};
 use std::alloc::Allocator;
 use std::fs::Files;
 use std::io::{Read, Write};
@@ -130,11 +130,11 @@ fn serve_between<R: Threads + Sync, A: Allocator + Copy + Send + Sync, S: Source
     ensures end { OnOk result (IsAtEnd (S.state source.new).left) }
 {
     let profile = profile_of(line);
-    let first = first_of(line);
     let terms = Terms {
+        first: first_of(line),
         plan: plan_of(line),
         turns: MAX_TURNS,
         gate: &FreePass,
     };
-    serve_from(rt, alloc, images, profile, first, source, sink, &terms)
+    serve_as(rt, alloc, images, profile, source, sink, &terms)
 }

@@ -1,7 +1,7 @@
 //! `serve` over images, by the usual rules and in a usual session.
 
 use devices::{Spout, Tap};
-use serve_core::{FreePass, Plan, Stop, Terms, serve};
+use serve_core::{FreePass, Plan, Session, Stop, Terms, serve};
 use std::thread::Threads;
 use test_kit::memories::{Memories, refuse_in_turn};
 use test_kit::sample_images::samples;
@@ -21,6 +21,7 @@ fn end_of<R: Threads + Sync>(rt: &R, memories: &Memories, turns: u32) -> Option<
     let mut tap = Tap::new(stream.as_slice());
     let mut spout = Spout::new(&mut output);
     let terms = Terms {
+        first: Session::Fresh,
         plan: Plan::new(2, 3)?,
         turns: u64::from(turns),
         gate: &FreePass,

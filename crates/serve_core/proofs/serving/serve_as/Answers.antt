@@ -1,7 +1,7 @@
 use Rattle.std.proofs.Common.{rules, [], inl, inr, refl}
 use Rattle.std.proofs.KnownBytes.{Appends-nil, Consumes-nil}
 use Rattle.serve_core.proofs.Headline.{not_begun}
-use Rattle.serve_core.proofs.serving.serve_from.Goals as goal
+use Rattle.serve_core.proofs.serving.serve_as.Goals as goal
 
 pub returns-in_err-table : goal.returns-in_err-table
 returns-in_err-table g c =
@@ -15,9 +15,9 @@ returns-in_err-table g c =
 
 pub returns : goal.returns
 returns g c =
-    let (got, put, took, held, run) = c.run_from.ensures.run in
+    let (got, put, took, held, run) = c.run.ensures.run in
     record {
       run = (got, put, took, held, inl (record { stack = _; stacked = c.in_ok-table.ensures.ok; run = run }));
-      end = c.run_from.ensures.end;
-      at_once = λ none. inl (c.run_from.ensures.at_once none);
+      end = c.run.ensures.end;
+      at_once = λ none. inl (c.run.ensures.at_once none);
     }
