@@ -34,7 +34,7 @@ use Rattle.stack_model.specs.Stack.{marker}
 use Rattle.path_tree.specs.Rows.{name_cmp}
 use Rattle.path_tree.proofs.Lists.{get_of_map}
 use Rattle.layer_tree.specs.declared.members.NamedMember.{NamedMember}
-use Rattle.layer_tree.specs.Members.{AreNamed, IsByName}
+use Rattle.layer_tree.specs.Members.{AreNamed, AreToldApart, keyless, IsByName}
 use Rattle.layer_tree.specs.Reading.{IsBefore, NamedRise, IsNamedMember, AreByName}
 
 -- a member goes from what is left to what is named
@@ -43,6 +43,28 @@ pub found_one : (ms after : List NamedMember) (x : NamedMember) (left rest all :
 found_one ms after x left rest all l e d =
     let t : map (λ m. m.head) ms ++ (x.head ∷ rest) ≡ all = rw l at d in
     rw e (simp (map-append, append_assoc) t)
+
+heads_of : (ms : List NamedMember) → map (λ x. x.1) (map keyless ms) ≡ map (λ m. m.head) ms
+heads_of [] = refl
+heads_of (m ∷ ms) = ap (λ xs. m.head ∷ xs) (heads_of ms)
+
+-- members that are the same but for their keys are named as before
+pub still_named : (a : List ℕ) (hs : List Head) (old new : List NamedMember) → AreNamed a hs old → AreToldApart old new → AreNamed a hs new
+still_named a hs old new n t = record { names = names; heads = heads }
+  where
+    heads : map (λ m. m.head) new ≡ hs
+    heads = sym (heads_of new) ∙ ap (map (λ x. x.1)) t.same ∙ heads_of old ∙ n.heads
+
+    names : All (λ m. m.name.now ≡ name_of a m.head.offset) new
+    names k d l =
+        let level = sym (length-map new keyless) ∙ ap length t.same ∙ length-map old keyless in
+        let within : k < length old = omega arith in
+        let was : keyless (slice_index_or old k d) ≡ slice_index_or (map keyless old) k (keyless d)
+        = sym (get_or-map keyless old k d (keyless d) within) in
+        let is : keyless (slice_index_or new k d) ≡ slice_index_or (map keyless new) k (keyless d)
+        = sym (get_or-map keyless new k d (keyless d) l) in
+        let here = is ∙ ap (λ xs. slice_index_or xs k (keyless d)) t.same ∙ sym was in
+        subst (λ (x : List ℕ × Head). x.0 ≡ name_of a x.1.offset) (sym here) (n.names k d within)
 
 flips : (x y : List ℕ) → bytes_eq x y ≡ bytes_eq y x
 flips x y =

@@ -268,20 +268,31 @@ alone_without a layer h n e k w blank = record { name = w.entry_name; entries = 
         = ap (λ x. x || covered_by (at_path (whole e)) path) (nothing_cut path ∙ sym (nothing path)) in
         subst (λ x. IsTrue x ↔ CutsAt a h path) (sym same) (w.exact path p)
 
--- the branch of a directory of which all members have branches, and none a mark, needs no mark
+-- a directory of which all members have branches, and none a mark, and its entry
+pub record IsPlainFolder (a : List ℕ) (layer h : ℕ) (ms : List NamedMember) (es : List (Subtree Entry))
+    (ks : List (Subtree Mark)) (entry : Entry) : Type 0 where
+  pub sound : IsImage a
+  pub directory : kind a h ≡ Directory
+  pub members : AreByName a h ms
+  pub built : AreBuilt a layer ms es ks
+  pub whole : length es ≡ length ms
+  pub unmarked : ks ≡ []
+  pub stands : IsEntryIn a layer h entry
+
+-- its branch needs no mark
 pub plain_folder : (a : List ℕ) (layer h : ℕ) (ms : List NamedMember) (es : List (Subtree Entry)) (ks : List (Subtree Mark))
-    → IsImage a → AreByName a h ms → AreBuilt a layer ms es ks → length es ≡ length ms → ks ≡ []
-    → kind a h ≡ Directory → (entry : Entry) → IsEntryIn a layer h entry → (n : List ℕ)
+    (entry : Entry) (n : List ℕ) → IsPlainFolder a layer h ms es ks entry
     → IsBranchAlone a layer h n (record { name = n; value = entry; below = spread es })
-plain_folder a layer h ms es ks i m b l e d entry w n =
+plain_folder a layer h ms es ks entry n plain =
     let found : IsMadeOfMembers a layer h ms es [] [] [] = record {
-      sound = i;
-      members = m;
-      built = subst (λ xs. AreBuilt a layer ms es xs) e b;
-      whited = no_markers a layer b l;
+      sound = plain.sound;
+      members = plain.members;
+      built = subst (λ xs. AreBuilt a layer ms es xs) plain.unmarked plain.built;
+      whited = no_markers a layer plain.built plain.whole;
       laid = record { forest = record { names = tt; each = tt }; at = λ x p. refl };
     } in
-    let both = folder a layer h ms es [] [] [] found false (opaque_is_held a layer h ms es [] [] [] found) d entry w n in
+    let both = folder a layer h ms es [] [] [] found false (opaque_is_held a layer h ms es [] [] [] found) plain.directory entry
+    plain.stands n in
     alone_without a layer h n (record { name = n; value = entry; below = spread es })
     (record { name = n; value = record { cut = false; opaque = false }; below = [] }) both
     (record { uncut = refl; clear = refl; nothing = refl })

@@ -1,14 +1,18 @@
 //! The members of a directory in the order of their names.
+//!
+//! Names stand anywhere in an image, so a sort that reads two of them for each comparison is slow.
+//! Members are sorted by keys that stand in them, and by names only where keys are equal. A key is
+//! eight bytes of a name as a number, the first ones behind what all names of the directory begin
+//! with, since names such as `file-000017` and `file-000018` are alike before.
 
-ghost use Rattle.std.specs.Prelude.{◌≡◌, ◌∷◌, ◌++◌, map, IfOk, All, MatchOption};
+ghost use Rattle.std.specs.Prelude.{◌≡◌, ◌≤◌, [], ◌∷◌, ◌++◌, length, map, IfOk, All, MatchOption};
 ghost use Rattle.std.specs.List.Sorted.{IsPermutation};
-ghost use Rattle.romfs_format.specs.Heads.{name_of};
 ghost use Rattle.romfs_reader.specs.Images.{IsImage};
 ghost use Rattle.romfs_reader.specs.Readers.{IsGiven};
 ghost use Rattle.stack_model.specs.Stack.{marker, IsMarker};
 ghost use Rattle.name_keys.specs.Keys.{key, AreBytes};
 ghost use Rattle.path_tree.specs.Rows.{name_cmp};
-ghost use Rattle.layer_tree.specs.Members.{AreNamed, IsKeyed, IsByName};
+ghost use Rattle.layer_tree.specs.Members.{Begins, IsKeyed, AreKeyed, AreNamed, AreToldApart, keyed_past, IsByName};
 ghost use Rattle.layer_tree.specs.Reading.{AreByName};
 
 use romfs_reader::{Head, Image, Kind, Members};
@@ -22,14 +26,14 @@ const FEW: usize = 16;
 /// A member with its name.
 #[derive(Clone, Copy)]
 pub(crate) struct NamedMember<'a> {
-    /// The name's first eight bytes as a number, so that two names are mostly told apart without a
-    /// look at them.
+    /// Eight bytes of the name as a number, behind a front that all names of the directory share.
     pub key: u64,
     pub name: &'a [u8],
     pub head: Head,
 }
 
-/// The members of a directory in the order of their names. It reads each header once, and sorts.
+/// The members of a directory in the order of their names. It reads each header once, and sorts;
+/// names that begin alike are read twice more, for their front and for keys behind it.
 #[inline(never)]
 pub(crate) fn sorted_members<'a, A: Allocator + Copy>(
     alloc: A,
@@ -42,18 +46,20 @@ pub(crate) fn sorted_members<'a, A: Allocator + Copy>(
     ensures { IfOk result (λ members. AreByName image.now directory.now.offset members.items) }
 {
     let mut members = named_members(alloc, image, image.members(directory))?;
+    tell_apart(&mut members);
     sort_by_name(&mut members);
     Ok(members)
 }
 
-/// Members with their names.
+/// Members with their names, each with the key of its whole name.
 fn named_members<'a, A: Allocator + Copy>(
     alloc: A,
     image: &'a Image<A>,
     members: Members<'_>,
 ) -> Result<Vec<NamedMember<'a>, A>, AllocError>
     requires { All (λ head. IsGiven image.now head) members }
-    ensures { IfOk result (λ named. AreNamed image.now members.entry named.items) }
+    ensures named { IfOk result (λ named. AreNamed image.now members.entry named.items) }
+    ensures keyed { IfOk result (λ named. All (IsKeyed []) named.items) }
 {
     let mut named = Vec::with_capacity(alloc, FEW)?;
     for head in members {
@@ -64,9 +70,56 @@ fn named_members<'a, A: Allocator + Copy>(
     Ok(named)
 }
 
+/// Gives members whose names begin alike keys that tell them apart.
+fn tell_apart(members: &mut [NamedMember<'_>])
+    requires { All (IsKeyed []) members.old }
+    ensures { AreToldApart members.old members.new }
+{
+    let shared = front(members).len();
+    if shared > 0 {
+        set_keys(members, shared);
+    }
+}
+
+/// What the names of these members all begin with.
+fn front<'a>(members: &[NamedMember<'a>]) -> &'a [u8]
+    ensures { All (λ m. Begins result.now m.name.now) members.now }
+{
+    let Some(first) = members.first() else {
+        return &[];
+    };
+    let mut front = first.name;
+    for member in members {
+        front = shared(front, member.name);
+    }
+    front
+}
+
+/// What two names both begin with.
+fn shared<'a>(x: &'a [u8], y: &[u8]) -> &'a [u8]
+    ensures first { Begins result.now x.now }
+    ensures second { Begins result.now y.now }
+{
+    let mut len = 0;
+    while len < x.len() && len < y.len() && x[len] == y[len] {
+        len += 1;
+    }
+    &x[..len]
+}
+
+/// Gives each member the key of what stands behind the first `shared` bytes of its name.
+fn set_keys(members: &mut [NamedMember<'_>], shared: usize)
+    requires { All (λ m. shared ≤ length m.name.now) members.old }
+    ensures { members.new ≡ map (keyed_past shared) members.old }
+{
+    for member in members.iter_mut() {
+        member.key = key_of(&member.name[shared..]);
+    }
+}
+
 /// Sorts members by name, byte by byte.
 fn sort_by_name<A: Allocator>(members: &mut Vec<NamedMember<'_>, A>)
-    requires { All IsKeyed members.old.items }
+    requires { AreKeyed members.old.items }
     ensures same { IsPermutation members.old.items members.new.items }
     ensures sorted { IsByName members.new.items }
 {

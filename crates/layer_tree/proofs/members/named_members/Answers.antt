@@ -1,4 +1,4 @@
-use Rattle.std.proofs.Common.{◌≡◌}
+use Rattle.std.proofs.Common.{◌≡◌, [], refl}
 use Rattle.std.proofs.lemmas.List.Elements.{All-tail, All-push}
 use Rattle.romfs_format.specs.Heads.{name_of}
 use Rattle.romfs_reader.specs.Readers.{IsGiven}
@@ -19,10 +19,12 @@ loop-head-preserved g c =
       given = All-tail (λ head. IsGiven a head) head c.next.new.self (rw e at c.loop-head.invariant.given);
       names = rw p (All-push (λ (m : NamedMember). m.name.now ≡ name_of a m.head.offset) c.loop-head.named.items _
           c.loop-head.invariant.names c.name-name.ensures);
-      keys = rw p (All-push IsKeyed c.loop-head.named.items _ c.loop-head.invariant.keys (
-        c.key_of-key.ensures.value,
-        c.key_of-key.ensures.bytes,
-      ));
+      keys = rw p (All-push (IsKeyed []) c.loop-head.named.items _ c.loop-head.invariant.keys (record {
+        rest = c.name-name.result.now;
+        name = refl;
+        key = c.key_of-key.ensures.value;
+        bytes = c.key_of-key.ensures.bytes;
+      }));
       done = found_one c.loop-head.named.items c.push.new.self.items _ c.loop-head.head-iterator c.next.new.self _ e p
           c.loop-head.invariant.done;
     }

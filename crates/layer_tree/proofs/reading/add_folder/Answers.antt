@@ -27,8 +27,15 @@ returns-then-is_plain g c =
     record {
       made = (c.new.result, None);
       is = rw (c.new.ensures, e) (plain_folder a c.args.layer.now.number h c.args.members.now c.args.below.entries.items
-          c.args.below.marks.items c.requires.sound c.requires.members c.requires.below plain.0 plain.1 directory
-          c.entry_at-own_entry.result entry c.args.name.now);
+          c.args.below.marks.items c.entry_at-own_entry.result c.args.name.now (record {
+            sound = c.requires.sound;
+            directory = directory;
+            members = c.requires.members;
+            built = c.requires.below;
+            whole = plain.0;
+            unmarked = plain.1;
+            stands = entry;
+          }));
       entries = c.in_ok-push.ensures.items;
       marks = sym (append-nil c.args.to.now.marks.items);
     }
