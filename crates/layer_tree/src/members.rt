@@ -100,11 +100,7 @@ fn shared<'a>(x: &'a [u8], y: &[u8]) -> &'a [u8]
     ensures first { Begins result.now x.now }
     ensures second { Begins result.now y.now }
 {
-    let mut len = 0;
-    while len < x.len() && len < y.len() && x[len] == y[len] {
-        len += 1;
-    }
-    &x[..len]
+    &x[..name_keys::shared(x, y)]
 }
 
 /// Gives each member the key of what stands behind the first `shared` bytes of its name.

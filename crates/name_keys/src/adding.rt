@@ -49,8 +49,8 @@ fn shared_by_all<T: HasName>(rows: &[T]) -> usize
     }
 }
 
-/// How many bytes two lists have alike at their fronts.
-fn shared(a: &[u8], b: &[u8]) -> usize
+/// How many bytes two names have alike at their fronts.
+pub fn shared(a: &[u8], b: &[u8]) -> usize
     ensures bound_a { result ≤ length a.now }
     ensures bound_b { result ≤ length b.now }
     ensures same { take result a.now ≡ take result b.now }

@@ -15,7 +15,7 @@ mod key;
 mod run;
 mod search;
 
-pub use adding::add_keys;
+pub use adding::{add_keys, shared};
 pub use guesses::{Guesses, hashed};
 pub use has_name::HasName;
 pub use key::key_of;
