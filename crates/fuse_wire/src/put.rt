@@ -2,7 +2,7 @@
 //! for them and gets none, it is as before.
 #![tactic(auto, unfolding(crate::specs::Replies::reply_with), using(crate::proofs::Sizes::sizes))]
 
-ghost use Rattle.std.specs.Prelude.{◌≡◌, ◌++◌, ◌<◌, ◌≤◌, ◌+◌, ◌-◌, ◌^◌, [], length, take, vec_len, vec_capacity};
+ghost use Rattle.std.specs.Prelude.{◌≡◌, ◌++◌, ◌<◌, ◌≤◌, ◌+◌, ◌-◌, ◌^◌, [], length, take, drop, vec_len, vec_capacity};
 ghost use Rattle.std.specs.Option.{option_copied, option_map_or};
 ghost use Rattle.fuse_wire.specs.Structures.{zeros, init_out, entry_out, negative_entry_out, attr_out, open_out, statfs_out, dirent_size, padding, row_bytes, plus_row_bytes};
 ghost use Rattle.fuse_wire.specs.Replies.{reply_head, reply_with, error_reply};
@@ -49,6 +49,17 @@ pub fn put_data_head<A: Allocator>(
     let mut reply = [0; OUT_HEADER_SIZE];
     let end = head(&mut reply, 0, unique, size);
     out.extend_from_slice(&reply[..end])
+}
+
+/// Sets the header of a reply with `size` bytes of data over the first 16 bytes of a reply that
+/// stands already, and leaves those behind it.
+#[inline(always)]
+pub fn set_data_head(reply: &mut [u8], unique: u64, size: usize)
+    requires room { 16 ≤ length reply.old }
+    requires size { 16 + size < 2 ^ 32 }
+    ensures { reply.new ≡ reply_head unique size ++ drop 16 reply.old }
+{
+    let _ = head(&mut reply[..OUT_HEADER_SIZE], 0, unique, size);
 }
 
 /// Appends the reply of an error: a `struct fuse_out_header` of 16 bytes alone, with the negated
