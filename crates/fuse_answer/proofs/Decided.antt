@@ -1,7 +1,7 @@
 -- What READDIR and READDIRPLUS are answered, or why they are refused: `rows_decided` and
 -- `cut_decided` are the main lemmas. Both go by the node's kind to its place (`at_directory`), and
 -- there take from `Listed` that a listing has the definitions' rows.
-use Rattle.std.proofs.Common.{◌≡◌, ◌∙◌, sym, ap, ℕ, ◌≤◌, [], ◌∷◌, length, Bool, true, false, Option, Some, None, Result, Ok, Err, MatchOption, MatchResult, refl, arith}
+use Rattle.std.proofs.Common.{◌≡◌, ◌∙◌, sym, ap, ℕ, ◌≤◌, [], ◌∷◌, Bool, true, false, cond, Option, Some, None, Result, Ok, Err, MatchOption, MatchResult, refl, arith}
 use Rattle.std.specs.Prelude.{nat_lt, not, ◌||◌}
 use Rattle.std.proofs.lemmas.Bool.{le-ltb}
 use Rattle.romfs_format.specs.declared.head.Kind.{Kind}
@@ -20,8 +20,8 @@ use Rattle.fuse_answer.specs.declared.listing.Listing.{Listing}
 use Rattle.fuse_answer.specs.declared.outcome.Answer.{Answer}
 use Rattle.fuse_answer.specs.declared.outcome.Answer.TheVariants.{Rows}
 use Rattle.fuse_answer.specs.Answers.{DecidesAt, IsAnswerAt, TellsKind}
-use Rattle.fuse_answer.specs.Listings.{AreListed, IsWhole, is_cut_short, listed_data, listing_op}
-use Rattle.fuse_answer.proofs.Listed.{cut_same, data_same, moves_same, plain, size_same, with_entries}
+use Rattle.fuse_answer.specs.Listings.{AreListed, IsWhole, is_cut_short, lines_answered, lines_given, listed_moves, listing_op}
+use Rattle.fuse_answer.proofs.Listed.{cut_same, data_same, moves_same, plain, with_entries}
 
 abbrev told_kind : Kind → Result Kind Errno
 told_kind k = Ok k
@@ -39,14 +39,16 @@ cut directory large small d s = rw (d, s) (either large)
     either true = refl
     either false = refl
 
+-- what a listing gives, by whether its rows come with entries
+gives_by_entries : {A : Type 0} (l : Listing A) (b : Bool) → l.with_entries ≡ b
+    → listed_moves l ≡ cond b (lines_given (lines_answered l)) []
+gives_by_entries l b is = ap (λ b. cond b (lines_given (lines_answered l)) []) is
+
 module _ {A : Type 0} (stack : Stacked) (agreed : Agreement) (n offset size : ℕ) where
-  whole : (plus : Bool) (l : Listing A) → AreListed stack n offset size plus l → size ≤ MAX_DATA_SIZE
-      → l.size ≡ length (listed_data stack l) → IsWhole stack l
-  whole plus l listed small same = record {
-    in_order = (let e = listed.fits.until_is in omega arith);
-    within = listed.fits.within;
-    size_is = same;
-    small = (let e = listed.fits.small in omega arith);
+  whole : (plus : Bool) (l : Listing A) → AreListed stack n offset size plus l → size ≤ MAX_DATA_SIZE → IsWhole l
+  whole plus l listed few = record {
+    within = (let e = listed.from_is in omega arith);
+    small = (let e = listed.room_is in omega arith);
   }
 
   rows_at_place : (plus : Bool) (l : Listing A) (p : Place) → node_of stack.entries n ≡ Some p → is_directory_at stack.layers p ≡ true
@@ -61,8 +63,8 @@ module _ {A : Type 0} (stack : Stacked) (agreed : Agreement) (n offset size : �
             (is_too_small form size (rows_after stack.entries p offset)) directory large
             (sym (cut_same stack false form good n offset size p is directory l listed) ∙ whole_rows);
         data_is = bytes;
-        moves_are = rw listed.entries_are refl;
-        sized = whole false l listed small (size_same stack false form good n offset size p is directory l listed);
+        moves_are = gives_by_entries l false listed.entries_are;
+        sized = whole false l listed small;
       }
   rows_at_place true l p is directory large small listed whole_rows =
       let form = direntplus_of stack.layers stack.entries in
@@ -73,8 +75,9 @@ module _ {A : Type 0} (stack : Stacked) (agreed : Agreement) (n offset size : �
             (is_too_small form size (rows_after stack.entries p offset)) directory large
             (sym (cut_same stack true form good n offset size p is directory l listed) ∙ whole_rows);
         data_is = bytes;
-        moves_are = rw listed.entries_are (moves_same stack true form good n offset size p is directory l listed);
-        sized = whole true l listed small (size_same stack true form good n offset size p is directory l listed);
+        moves_are = gives_by_entries l true listed.entries_are
+            ∙ moves_same stack true form good n offset size p is directory l listed;
+        sized = whole true l listed small;
       }
 
   cut_at_place : (plus : Bool) (l : Listing A) (p : Place) → node_of stack.entries n ≡ Some p → is_directory_at stack.layers p ≡ true

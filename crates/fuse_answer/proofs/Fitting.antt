@@ -1,14 +1,15 @@
--- Rows that fit in a room, one after another. `Goes` is what holds as the code goes from row to
--- row, with a lemma for the start, for a row that fits, and for both ends. Then the same sizes off
--- the definitions' rows: `first_rows` says that the rows that fit are as many first ones.
-use Rattle.std.proofs.Common.{◌≡◌, ◌∙◌, sym, ap, ℕ, zero, suc, ◌+◌, ◌-◌, ◌<◌, ◌≤◌, List, [], ◌∷◌, length, map, drop, take, get_or, Bool, true, false, cond, refl, subst, arith}
-use Rattle.std.specs.Prelude.{nat_le}
-use Rattle.std.specs.List.{flat_map}
-use Rattle.std.proofs.lemmas.Bool.{le-leb, lt-leb, ltb-true, ltb-false}
-use Rattle.std.proofs.lemmas.List.{drop-map, drop_more, drop_all, length-map, length-append}
+-- Rows that fit in a room, one after another. `fits_among` and `fits_most` say how many do, off the
+-- bytes that the first ones take. `Goes` is what holds as the code goes from row to row, with a
+-- lemma for the start, for a row that fits, and for both ends. Then the same sizes off the
+-- definitions' rows: `first_rows` says that the rows that fit are as many first ones.
+use Rattle.std.proofs.Common.{◌≡◌, ◌∙◌, sym, ap, ℕ, zero, suc, ◌+◌, ◌-◌, ◌<◌, ◌≤◌, List, [], ◌∷◌, ◌++◌, length, map, drop, take, get_or, Bool, true, false, cond, refl, subst, arith}
+use Rattle.std.specs.Prelude.{nat_eq, nat_le, not, ◌&&◌}
+use Rattle.std.proofs.lemmas.Bool.{eq-eqb, ne_eqb, le-leb, lt-leb, leb-true, lt-ltb, ltb-true, ltb-false}
+use Rattle.std.proofs.lemmas.List.{get_or-map, drop-map, drop_more, drop_all, length-drop, length-map}
 use Rattle.stack_table.specs.Rows.{Line}
 use Rattle.reply_model.specs.Rows.{Row, fitting, is_too_small}
-use Rattle.fuse_answer.specs.Listings.{Fits, fit_count, fit_size, name_lengths, row_size, row_sizes}
+use Rattle.fuse_answer.specs.declared.listing.Listing.{Listing}
+use Rattle.fuse_answer.specs.Listings.{Fits, fit_count, fit_size, fits_at, is_cut_short, name_lengths, row_size, row_sizes, size_of, until_of}
 
 -- what fits in a room, of a first piece and others
 fits_one : (room n : ℕ) (sizes : List ℕ) → n ≤ room
@@ -17,6 +18,72 @@ fits_one room n sizes le = let e : nat_le n room ≡ true = le-leb n room le in 
 
 fits_none : (room n : ℕ) (sizes : List ℕ) → room < n → (fit_count room (n ∷ sizes) ≡ 0) × (fit_size room (n ∷ sizes) ≡ 0)
 fits_none room n sizes lt = let e : nat_le n room ≡ false = lt-leb n room lt in (rw e refl, rw e refl)
+
+-- how many bytes pieces take
+abbrev pub total : List ℕ → ℕ
+total [] = 0
+total (n ∷ sizes) = n + total sizes
+
+-- pieces take what some and then the others do
+pub total-append : (xs ys : List ℕ) → total (xs ++ ys) ≡ total xs + total ys
+total-append [] ys = omega arith
+total-append (x ∷ xs) ys = let e = total-append xs ys in omega arith
+
+-- first pieces that take no more than the room are among those that fit
+pub fits_among : (room : ℕ) (sizes : List ℕ) (k : ℕ) → total (take k sizes) ≤ room → k ≤ length sizes
+    → (k ≤ fit_count room sizes) × (total (take k sizes) ≤ fit_size room sizes)
+fits_among room [] zero le few = (omega arith, omega arith)
+fits_among room [] (suc k) le few = absurd (omega (arith, few))
+fits_among room (n ∷ sizes) zero le few = (omega arith, omega arith)
+fits_among room (n ∷ sizes) (suc k) le few =
+    let later = fits_among (room - n) sizes k (omega (arith, le)) (omega (arith, few)) in
+    let count = later.0 in
+    let bytes = later.1 in
+    let one = fits_one room n sizes (omega (arith, le)) in
+    let a = one.0 in
+    let b = one.1 in
+    (omega arith, omega arith)
+
+-- where first pieces take more than the room, fewer fit
+pub fits_most : (room : ℕ) (sizes : List ℕ) (k : ℕ) → room < total (take (suc k) sizes) → fit_count room sizes ≤ k
+fits_most room [] k more = omega arith
+fits_most room (n ∷ sizes) zero more = let e = (fits_none room n sizes (omega (arith, more))).0 in omega arith
+fits_most room (n ∷ sizes) (suc k) more = go (nat_le n room) refl (fits_most (room - n) sizes k)
+  where
+    go : (b : Bool) → nat_le n room ≡ b → (room - n < total (take (suc k) sizes) → fit_count (room - n) sizes ≤ k)
+        → cond b (1 + fit_count (room - n) sizes) 0 ≤ suc k
+    go true is later = let le = leb-true n room is in let few = later (omega (arith, more)) in omega arith
+    go false is later = omega arith
+
+-- no more fit than there are
+pub fits_few : (room : ℕ) (sizes : List ℕ) → fit_count room sizes ≤ length sizes
+fits_few room [] = omega arith
+fits_few room (n ∷ sizes) = go (nat_le n room) (fits_few (room - n) sizes)
+  where
+    go : (b : Bool) → fit_count (room - n) sizes ≤ length sizes → cond b (1 + fit_count (room - n) sizes) 0 ≤ length (n ∷ sizes)
+    go true later = omega arith
+    go false later = omega arith
+
+-- those that fit take as many bytes as is said
+pub fits_total : (room : ℕ) (sizes : List ℕ) → fit_size room sizes ≡ total (take (fit_count room sizes) sizes)
+fits_total room [] = refl
+fits_total room (n ∷ sizes) = go (nat_le n room) (fits_total (room - n) sizes)
+  where
+    go : (b : Bool) → fit_size (room - n) sizes ≡ total (take (fit_count (room - n) sizes) sizes)
+        → cond b (n + fit_size (room - n) sizes) 0 ≡ total (take (cond b (1 + fit_count (room - n) sizes) 0) (n ∷ sizes))
+    go true later =
+        let e : suc (fit_count (room - n) sizes) ≡ 1 + fit_count (room - n) sizes = omega arith in
+        ap (λ t. n + t) later ∙ ap (λ k. total (take k (n ∷ sizes))) e
+    go false later = refl
+
+-- and no more than the room
+pub fits_small : (room : ℕ) (sizes : List ℕ) → fit_size room sizes ≤ room
+fits_small room [] = omega arith
+fits_small room (n ∷ sizes) = go (nat_le n room) refl (fits_small (room - n) sizes)
+  where
+    go : (b : Bool) → nat_le n room ≡ b → fit_size (room - n) sizes ≤ room - n → cond b (n + fit_size (room - n) sizes) 0 ≤ room
+    go true is later = let le = leb-true n room is in omega arith
+    go false is later = omega arith
 
 length-names : (children : List Line) → length (name_lengths children) ≡ 2 + length children
 length-names children = let e = length-map children (λ (line : Line). length line.name) in omega arith
@@ -52,6 +119,19 @@ sizes_end plus children k le =
     let e = length-names children in
     let f = length-map (name_lengths children) (row_size plus) in
     drop_all k (row_sizes plus children) (omega arith)
+
+-- the row with an index is as long as the name with this index says
+pub size_named : (plus : Bool) (children : List Line) (k : ℕ) → k < 2 + length children
+    → get_or (row_sizes plus children) k 0 ≡ row_size plus (get_or (name_lengths children) k 0)
+size_named plus children k lt = let e = length-names children in get_or-map (row_size plus) (name_lengths children) k 0 0 (omega arith)
+
+-- how many rows there are from an index on
+pub length-sizes : (plus : Bool) (children : List Line) (k : ℕ) → length (drop k (row_sizes plus children)) ≡ 2 + length children - k
+length-sizes plus children k =
+    let e = length-names children in
+    let f = length-map (name_lengths children) (row_size plus) in
+    let g = length-drop k (row_sizes plus children) in
+    omega arith
 
 -- how far the rows from an index on were gone through: up to another index, with this room left
 pub record Goes (plus : Bool) (children : List Line) (from size until room : ℕ) : Type 0 where
@@ -116,6 +196,36 @@ all_gone plus children from size until room le g =
       small = omega arith;
     }
 
+module _ {A : Type 0} (l : Listing A) where
+  -- the rows that were found to fit are those that are answered
+  pub until_found : (until bytes : ℕ) → Fits l.with_entries l.children.now l.from l.room until bytes → until ≡ until_of l
+  unfolding until_of
+  until_found until bytes fits = fits.until_is
+
+  -- and take as many bytes
+  pub size_found : (until bytes : ℕ) → Fits l.with_entries l.children.now l.from l.room until bytes → bytes ≡ size_of l
+  unfolding size_of
+  size_found until bytes fits = fits.bytes_are
+
+  -- and no more than the room
+  pub size_few : size_of l ≤ l.room
+  unfolding size_of
+  size_few = fits_small l.room (drop l.from (row_sizes l.with_entries l.children.now))
+
+  -- where there is a row, a listing is cut short exactly where it does not fit
+  pub cut_found : l.from < 2 + length l.children.now → not (fits_at l l.from l.room) ≡ is_cut_short l
+  unfolding until_of
+  cut_found there =
+      let n = row_size l.with_entries (get_or (name_lengths l.children.now) l.from 0) in
+      let rest = drop (l.from + 1) (row_sizes l.with_entries l.children.now) in
+      rw (lt-ltb l.from (2 + length l.children.now) there, sizes_at l.with_entries l.children.now l.from there)
+      (go n rest (nat_le n l.room))
+    where
+      go : (n : ℕ) (rest : List ℕ) (b : Bool) → not b ≡ (nat_eq (l.from + cond b (1 + fit_count (l.room - n) rest) 0) l.from && true)
+      go n rest true = let e : nat_eq (l.from + (1 + fit_count (l.room - n) rest)) l.from ≡ false =
+          ne_eqb (l.from + (1 + fit_count (l.room - n) rest)) l.from (λ same. omega arith) in rw e refl
+      go n rest false = let e : nat_eq (l.from + 0) l.from ≡ true = eq-eqb (l.from + 0) l.from (omega arith) in rw e refl
+
 module _ (form : Row → List ℕ) where
   -- how many bytes each of the rows takes
   abbrev pub sizes_of : List Row → List ℕ
@@ -133,19 +243,6 @@ module _ (form : Row → List ℕ) where
           → take (cond b (1 + fit_count (room - length (form r)) (sizes_of rows)) 0) (r ∷ rows)
           ≡ cond b (r ∷ fitting form (room - length (form r)) rows) []
       go true e = one_more _ ∙ ap (λ t. r ∷ t) e
-      go false e = refl
-
-  -- the rows that fit have as many bytes as the sum of fitting sizes says
-  pub rows_size : (room : ℕ) (rows : List Row) → fit_size room (sizes_of rows) ≡ length (flat_map form (fitting form room rows))
-  rows_size room [] = refl
-  rows_size room (r ∷ rows) = go (nat_le (length (form r)) room) (rows_size (room - length (form r)) rows)
-    where
-      go : (b : Bool) → fit_size (room - length (form r)) (sizes_of rows)
-          ≡ length (flat_map form (fitting form (room - length (form r)) rows))
-          → cond b (length (form r) + fit_size (room - length (form r)) (sizes_of rows)) 0
-          ≡ length (flat_map form (cond b (r ∷ fitting form (room - length (form r)) rows) []))
-      go true e = ap (λ n. length (form r) + n) e
-          ∙ sym (length-append (form r) (flat_map form (fitting form (room - length (form r)) rows)))
       go false e = refl
 
   -- where a first row does not fit, there is one and none is counted

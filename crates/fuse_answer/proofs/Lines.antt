@@ -1,17 +1,30 @@
 -- The rows of a listing before an index, from its first on: none at first (`none_before`), one more
--- before the next index (`next_line`), and no more than before a later one (`before_later`).
-use Rattle.std.proofs.Common.{◌≡◌, ◌∙◌, sym, ap, ℕ, ◌+◌, ◌-◌, ◌<◌, ◌≤◌, List, [], ◌∷◌, ◌++◌, length, drop, take, get_or, Some, arith}
+-- before the next index (`next_line`), and no more than before a later one (`before_later`). Their
+-- sizes are those of a directory's rows (`lines_sized`).
+use Rattle.std.proofs.Common.{◌≡◌, ◌∙◌, sym, ap, ℕ, ◌+◌, ◌-◌, ◌<◌, ◌≤◌, List, [], ◌∷◌, ◌++◌, length, map, drop, take, get_or, Bool, Some, refl, arith}
 use Rattle.std.specs.Prelude.{slice_get}
+use Rattle.std.specs.List.{enumerate_from}
 use Rattle.std.proofs.lemmas.List.{get_or-drop, length-drop, take_more, take-append-drop, take-take}
 use Rattle.std.proofs.lemmas.List.FromFn.{length-enumerate_from}
 use Rattle.std.proofs.lemmas.Option.{slice_get-get_or}
+use Rattle.stack_table.specs.Rows.{Line}
 use Rattle.fuse_answer.specs.declared.listing.Listing.{Listing}
-use Rattle.fuse_answer.specs.Listings.{NumberedLine, lines_of}
+use Rattle.fuse_answer.specs.Listings.{NumberedLine, lines_of, row_size, row_sizes}
 
 nothing : NumberedLine
 nothing = (0, record { number = 0; name = [] })
 
+-- the sizes of rows, off their names
+names_of : (plus : Bool) (k : ℕ) (lines : List Line) → map (λ (r : NumberedLine). row_size plus (length r.1.name)) (enumerate_from k lines)
+    ≡ map (row_size plus) (map (λ (line : Line). length line.name) lines)
+names_of plus k [] = refl
+names_of plus k (line ∷ lines) = ap (λ t. row_size plus (length line.name) ∷ t) (names_of plus (k + 1) lines)
+
 module _ {A : Type 0} (l : Listing A) where
+  -- all rows of a listing are as long as their names say
+  pub lines_sized : (plus : Bool) → map (λ (r : NumberedLine). row_size plus (length r.1.name)) (lines_of l) ≡ row_sizes plus l.children.now
+  lines_sized plus = ap (λ t. row_size plus 1 ∷ row_size plus 2 ∷ t) (names_of plus 3 l.children.now)
+
   -- the rows before an index
   abbrev pub lines_before : ℕ → List NumberedLine
   lines_before index = take (index - l.from) (drop l.from (lines_of l))

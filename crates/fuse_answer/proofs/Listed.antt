@@ -1,6 +1,6 @@
 -- The rows that READDIR and READDIRPLUS are answered, off the rows that a table has. These are the
--- definitions' rows with numbers for places, so a listing's bytes, size and moves are theirs
--- (`data_same`, `size_same`, `moves_same`), and it is cut short as they say (`cut_same`).
+-- definitions' rows with numbers for places, so a listing's bytes and moves are theirs (`data_same`,
+-- `moves_same`), and it is cut short as they say (`cut_same`).
 use Rattle.std.proofs.Common.{◌≡◌, ◌∙◌, sym, ap, ℕ, zero, suc, ◌+◌, ◌-◌, ◌/◌, ◌^◌, List, [], ◌∷◌, ◌++◌, length, map, drop, take, min, Bool, true, false, cond, Some, None, pos, refl, arith}
 use Rattle.std.specs.Prelude.{nat_le, nat_lt, nat_eq, filter, ◌&&◌}
 use Rattle.std.specs.List.{enumerate_from, flat_map, AllByRecursion}
@@ -21,9 +21,10 @@ use Rattle.reply_model.specs.declared.moves.Move.{Move}
 use Rattle.reply_model.specs.Services.{give}
 use Rattle.reply_model.specs.Rows.{Row, fitting, is_child, is_too_small, rows, rows_after, dirent_of, direntplus_of}
 use Rattle.fuse_answer.specs.declared.listing.Listing.{Listing}
-use Rattle.fuse_answer.specs.Listings.{AreListed, NumberedLine, fit_count, fit_size, is_child_line, is_cut_short, line_bytes, lines_answered, lines_of, listed_data, row_size, row_sizes}
+use Rattle.fuse_answer.specs.Listings.{AreListed, NumberedLine, fit_count, is_child_line, is_cut_short, line_bytes, lines_answered, lines_of, listed_data, row_size, row_sizes, until_of}
 use Rattle.fuse_answer.proofs.Numbered.{IsNumbered, number_is, numbered_children, numbered_node, numbered_parent}
-use Rattle.fuse_answer.proofs.Fitting.{first_rows, not_too_small, rows_size, sizes_of, too_small}
+use Rattle.fuse_answer.proofs.Fitting.{first_rows, not_too_small, sizes_of, too_small}
+use Rattle.fuse_answer.proofs.Lines.{lines_sized}
 
 -- a row as a table gives it
 abbrev child_line : List Entry → Child → Line
@@ -158,12 +159,6 @@ module _ {A : Type 0} (stack : Stacked) (plus : Bool) (form : Row → List ℕ) 
       let d = length-lines in
       omega arith
 
-  -- the sizes of rows, off their names
-  names_of : (k : ℕ) (lines : List Line) → map (λ (r : NumberedLine). row_size plus (length r.1.name)) (enumerate_from k lines)
-      ≡ map (row_size plus) (map (λ (line : Line). length line.name) lines)
-  names_of k [] = refl
-  names_of k (line ∷ lines) = ap (λ t. row_size plus (length line.name) ∷ t) (names_of (k + 1) lines)
-
   sizes_same : (rs : List Row) → map (λ (r : NumberedLine). row_size plus (length r.1.name)) (map (line_of stack.entries) rs)
       ≡ sizes_of form rs
   sizes_same [] = refl
@@ -173,17 +168,21 @@ module _ {A : Type 0} (stack : Stacked) (plus : Bool) (form : Row → List ℕ) 
 
   sizes_rest : drop l.from (row_sizes plus l.children.now) ≡ sizes_of form rest
   sizes_rest =
-      ap (λ t. drop l.from (row_size plus 1 ∷ row_size plus 2 ∷ t)) (sym (names_of 3 l.children.now))
+      ap (drop l.from) (sym (lines_sized l plus))
       ∙ drop-map (λ (r : NumberedLine). row_size plus (length r.1.name)) l.from (lines_of l)
       ∙ ap (map (λ (r : NumberedLine). row_size plus (length r.1.name))) lines_rest
       ∙ sizes_same rest
 
-  count_same : l.until ≡ l.from + fit_count size (sizes_of form rest)
-  count_same = listed.fits.until_is ∙ ap (λ s. l.from + fit_count size s) sizes_rest
+  count_same : until_of l ≡ l.from + fit_count size (sizes_of form rest)
+  unfolding until_of
+  count_same =
+      ap (λ b. l.from + fit_count l.room (drop l.from (row_sizes b l.children.now))) listed.entries_are
+      ∙ ap (λ n. l.from + fit_count n (drop l.from (row_sizes plus l.children.now))) listed.room_is
+      ∙ ap (λ s. l.from + fit_count size s) sizes_rest
 
   answered_same : lines_answered l ≡ map (line_of stack.entries) (fitting form size rest)
   answered_same =
-      let count : l.until - l.from ≡ fit_count size (sizes_of form rest) = (let e = count_same in omega arith) in
+      let count : until_of l - l.from ≡ fit_count size (sizes_of form rest) = (let e = count_same in omega arith) in
       ap (λ k. take k (drop l.from (lines_of l))) count
       ∙ ap (take (fit_count size (sizes_of form rest))) lines_rest
       ∙ take-map (line_of stack.entries) (fit_count size (sizes_of form rest)) rest
@@ -203,14 +202,6 @@ module _ {A : Type 0} (stack : Stacked) (plus : Bool) (form : Row → List ℕ) 
       ∙ ap (flat_map (line_bytes stack plus)) answered_same
       ∙ bytes_same (fitting form size rest) (numbered_fitting stack.entries form size rest (numbered_rows stack.entries n p offset is))
 
-  -- a listing says how many bytes it has
-  pub size_same : l.size ≡ length (listed_data stack l)
-  size_same =
-      listed.fits.bytes_are
-      ∙ ap (fit_size size) sizes_rest
-      ∙ rows_size form size rest
-      ∙ ap length (sym data_same)
-
   -- a listing's rows give what the rows that fit give
   pub moves_same : map (λ (r : NumberedLine). let m : Move = record { node = r.1.number; amount = pos 1 } in
       m) (filter is_child_line (lines_answered l))
@@ -229,7 +220,7 @@ module _ {A : Type 0} (stack : Stacked) (plus : Bool) (form : Row → List ℕ) 
           let t = too_small form size rest short in
           let len = length-rest in
           let count = count_same in
-          let e : nat_eq l.until l.from ≡ true = eq-eqb l.until l.from (omega arith) in
+          let e : nat_eq (until_of l) l.from ≡ true = eq-eqb (until_of l) l.from (omega arith) in
           let f : nat_lt l.from (2 + length l.children.now) ≡ true = lt-ltb l.from (2 + length l.children.now) (omega arith) in
           rw (e, f) refl
       go false long = some (nat_lt l.from (2 + length l.children.now)) refl
@@ -238,12 +229,12 @@ module _ {A : Type 0} (stack : Stacked) (plus : Bool) (form : Row → List ℕ) 
           none true = refl
           none false = refl
 
-          some : (b : Bool) → nat_lt l.from (2 + length l.children.now) ≡ b → (nat_eq l.until l.from && b) ≡ false
-          some false past = none (nat_eq l.until l.from)
+          some : (b : Bool) → nat_lt l.from (2 + length l.children.now) ≡ b → (nat_eq (until_of l) l.from && b) ≡ false
+          some false past = none (nat_eq (until_of l) l.from)
           some true there =
               let lt = ltb-true l.from (2 + length l.children.now) there in
               let len = length-rest in
               let count = count_same in
               let more = not_too_small form size rest long (omega arith) in
-              let e : nat_eq l.until l.from ≡ false = ne_eqb l.until l.from (λ same. omega arith) in
+              let e : nat_eq (until_of l) l.from ≡ false = ne_eqb (until_of l) l.from (λ same. omega arith) in
               rw e refl

@@ -17,7 +17,7 @@ use Rattle.lookup_balances.proofs.Sums.{moved_on, none_moved, within_less, withi
 use Rattle.fuse_answer.specs.declared.listing.Listing.{Listing}
 use Rattle.fuse_answer.specs.Answers.{taken_back}
 use Rattle.fuse_answer.specs.Puts.{Grows}
-use Rattle.fuse_answer.specs.Listings.{NumberedLine, is_child_line, lines_answered, lines_given, listed_moves, moves_before, row_given}
+use Rattle.fuse_answer.specs.Listings.{NumberedLine, is_child_line, lines_answered, lines_given, listed_moves, moves_before, row_given, until_of}
 use Rattle.fuse_answer.specs.Setting.{AddsGiven}
 use Rattle.fuse_answer.proofs.Lines.{IsNext, before_later, lines_before, next_line, none_before}
 
@@ -64,12 +64,12 @@ module _ {A : Type 0} (l : Listing A) where
       omega arith
 
   -- the rows before an index and the one there give no more than all that are answered
-  pub given_less : (index : ℕ) → l.from ≤ index → index < l.until → l.until ≤ 2 + length l.children.now
-      → length (given index) + length (row_given l index) ≤ length (given l.until)
-  given_less index from until within =
-      let next = ap length (given_next index from (omega arith)) in
+  pub given_less : (index : ℕ) → l.from ≤ index → index < 2 + length l.children.now → index < until_of l
+      → length (given index) + length (row_given l index) ≤ length (given (until_of l))
+  given_less index from there until =
+      let next = ap length (given_next index from there) in
       let row = length-append (given index) (row_given l index) in
-      let (rest, is) = before_later l (index + 1) l.until (omega arith) in
+      let (rest, is) = before_later l (index + 1) (until_of l) (omega arith) in
       let all = ap length (ap lines_given is ∙ given_on (lines_before l (index + 1)) rest) in
       let sum = length-append (given (index + 1)) (lines_given rest) in
       omega arith
@@ -120,7 +120,7 @@ module _ {A : Type 0} (l : Listing A) where
   }
 
   -- the rows from the first to the last add what the listing gives
-  pub all_added : (index : ℕ) (old new : List ℤ) → index ≡ l.until → AddsGiven l l.from index old new → IsMoved (listed_moves l) old new
+  pub all_added : (index : ℕ) (old new : List ℤ) → index ≡ until_of l → AddsGiven l l.from index old new → IsMoved (listed_moves l) old new
   all_added index old new last adds =
       subst (λ (i : ℕ). IsMoved (moves_before l i) old new) last (adds.rows old (none_yet l.with_entries))
     where
@@ -129,7 +129,7 @@ module _ {A : Type 0} (l : Listing A) where
       none_yet false = none_moved old
 
   -- where an index is the last one's, all that is answered gives what the rows before it do
-  pub all_given : (index : ℕ) → index ≡ l.until → given index ≡ lines_given (lines_answered l)
+  pub all_given : (index : ℕ) → index ≡ until_of l → given index ≡ lines_given (lines_answered l)
   all_given index is = ap given is
 
   -- before the first row balances have room for all

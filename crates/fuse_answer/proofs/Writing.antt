@@ -1,12 +1,16 @@
 -- The bytes of a directory's rows, row by row: `IsSoFar` is what holds as they are appended, from
--- the header (`head_alone`) by rows that are set (`rows_on`) and each that is appended (`row_next`)
--- to the whole reply (`all_rows`). Where there is room for all, no row lacks it (`row_has_room`).
--- Rows are set one after another (`sets_next`), over zeros that are cut behind them (`rows_cut`).
-use Rattle.std.proofs.Common.{◌≡◌, ◌∙◌, sym, ap, ℕ, zero, suc, ◌+◌, ◌-◌, ◌/◌, ◌^◌, ◌<◌, ◌≤◌, List, [], ◌∷◌, ◌++◌, length, take, get_or, Bool, true, false, cond, Option, Some, None, refl, subst, arith, append-nil, append_assoc, length-append}
-use Rattle.std.specs.Prelude.{nat_lt, slice_get, replicate, MatchOption, IfSome}
+-- none (`none_written`) by rows that are set and each that is appended (`row_next`) to all
+-- (`all_rows`). Rows that take no more than a listing's room are answered, and then others are not
+-- (`answered`, `last_answered`), so these are all where no more fit (`fits_no_more`). Rows are set
+-- one after another (`sets_next`), over zeros that are cut behind them (`rows_cut`), and the
+-- header's length is set last (`header_set`).
+use Rattle.std.proofs.Common.{◌≡◌, ◌∙◌, sym, ap, ℕ, zero, suc, ◌+◌, ◌-◌, ◌/◌, ◌^◌, ◌<◌, ◌≤◌, List, [], ◌∷◌, ◌++◌, length, map, drop, take, get_or, Bool, true, false, cond, Option, Some, None, refl, subst, arith, append-nil, append_assoc, length-append, length-take-le}
+use borrow.Rule.Slice.PartMut.{post_of}
+use Rattle.std.specs.Prelude.{nat_le, nat_lt, ◌&&◌, slice_get, replicate, MatchOption, IfSome}
 use Rattle.std.specs.List.{enumerate_from, flat_map}
 use Rattle.std.specs.Option.{option_map_or}
-use Rattle.std.proofs.lemmas.Bool.{lt-ltb}
+use Rattle.std.proofs.lemmas.Bool.{le-ltb, leb-false, leb-true, lt-ltb, ltb-false, ltb-true}
+use Rattle.std.proofs.lemmas.List.{drop-map, drop_all, drop_at, get_or-drop, length-drop, take-append-le, take-map, take-take, take_all, take_at, take_more, take_rest}
 use Rattle.std.proofs.lemmas.List.Concat.{flat_map-append}
 use Rattle.fuse_wire.specs.Replies.{reply_head, reply_with}
 use Rattle.fuse_wire.specs.Structures.{direntplus, dirent_size, zeros}
@@ -16,9 +20,10 @@ use Rattle.stack_table.specs.Rows.{Line}
 use Rattle.stack_table.specs.Stacked.{Stacked}
 use Rattle.stack_table.specs.Readers.{attr_at}
 use Rattle.fuse_answer.specs.declared.listing.Listing.{Listing}
-use Rattle.fuse_answer.specs.Listings.{IsPaddedAt, IsLineAt, IsWhole, NumberedLine, bytes_before, line_bytes, lines_of, listed_data, row_bytes_at, row_size, type_at}
-use Rattle.fuse_answer.specs.Setting.{AddsRows, AreSet, SetsRows}
-use Rattle.fuse_answer.proofs.Lines.{before_later, lines_before, next_line, none_before}
+use Rattle.fuse_answer.specs.Listings.{IsPaddedAt, IsLineAt, IsWhole, NumberedLine, bytes_before, fit_count, fits_at, line_bytes, lines_of, listed_data, name_lengths, row_bytes_at, row_size, row_sizes, size_of, type_at, until_of}
+use Rattle.fuse_answer.specs.Setting.{AddsRows, AreSet, SetsRow, SetsRows}
+use Rattle.fuse_answer.proofs.Fitting.{fits_among, fits_few, fits_most, fits_total, length-sizes, size_named, total, total-append}
+use Rattle.fuse_answer.proofs.Lines.{lines_before, lines_sized, next_line, none_before}
 
 -- the row with an index is that of the child two places before it, and says the place after it
 pub line_there : (own upper : Line) (children : List Line) (k : ℕ) (line : Line) → 2 ≤ k → k < 2 + length children
@@ -104,6 +109,25 @@ pub sets_none : {A : Type 0} (stack : Stacked) (l : Listing A) (from start : ℕ
     → SetsRows stack l from from start start now now
 sets_none stack l from start now within = record { rows = λ before set. set; within = within; size = refl }
 
+-- where the next row is not, or is set behind them only, rows are set as before
+pub sets_kept : {A : Type 0} (stack : Stacked) (l : Listing A) (from index start at : ℕ) (old now next : List ℕ) (end : Option ℕ)
+    → SetsRows stack l from index start at old now → SetsRow stack l index at end now next → SetsRows stack l from index start at old next
+sets_kept stack l from index start at old now next end sets row = record {
+  rows = λ first set. (let s = sets.rows first set in record { so_far = kept end row ∙ s.so_far; place = s.place });
+  within = (let a = sets.within in let b = row.size in omega arith);
+  size = row.size ∙ sets.size;
+}
+  where
+    kept : (o : Option ℕ) → SetsRow stack l index at o now next → take at next ≡ take at now
+    kept None row = ap (take at) row.row
+    kept (Some end) row =
+        let len = length-take-le at now sets.within in
+        let bytes = row_bytes_at stack l index in
+        sym (take-take at end next (let e = row.end_is in omega arith))
+        ∙ ap (take at) row.row
+        ∙ take-append-le at (take at now) bytes (omega arith)
+        ∙ take_all at (take at now) (omega arith)
+
 -- rows that were set over zeros, which are cut behind them
 pub rows_cut : {A : Type 0} (stack : Stacked) (l : Listing A) (from until start end : ℕ) (old zeroed now new : List ℕ)
     → start ≡ length old → take start zeroed ≡ old → SetsRows stack l from until start end zeroed now → new ≡ take end now
@@ -117,87 +141,187 @@ rows_cut stack l from until start end old zeroed now new at kept sets cut = reco
       cut ∙ set.so_far;
 }
 
-module _ {A : Type 0} (stack : Stacked) (l : Listing A) (whole : IsWhole stack l) where
+-- rows have as many bytes as their sizes say
+lines_long : (stack : Stacked) (plus : Bool) (rs : List NumberedLine) → length (flat_map (line_bytes stack plus) rs)
+    ≡ total (map (λ (r : NumberedLine). row_size plus (length r.1.name)) rs)
+lines_long stack plus [] = refl
+lines_long stack plus (r ∷ rs) =
+    let sum = length-append (line_bytes stack plus r) (flat_map (line_bytes stack plus) rs) in
+    let one = length-line_bytes stack plus r in
+    let rest = lines_long stack plus rs in
+    omega arith
+
+both_true : (a b : Bool) → (a && b) ≡ true → (a ≡ true) × (b ≡ true)
+both_true true b is = (refl, is)
+both_true false b is = absurd (cc)
+
+-- rows stand behind a header
+pub rows_behind : (before made head headed rows items : List ℕ) → made ≡ before → headed ≡ made ++ head → items ≡ headed ++ rows
+    → items ≡ (before ++ head) ++ rows
+rows_behind before made head headed rows items kept put all =
+    all ∙ ap (λ b. b ++ rows) (put ∙ ap (λ b. b ++ head) kept)
+
+-- the bytes from a place on are a header and rows
+part_is : (before head rows bytes items : List ℕ) (start : ℕ) → items ≡ (before ++ head) ++ rows → bytes ≡ items → start ≡ length before
+    → take (length bytes - start) (drop start bytes) ≡ head ++ rows
+part_is before head rows bytes items start is same at =
+    take_rest bytes start ∙ ap (drop start) (same ∙ is ∙ append_assoc before head rows) ∙ drop_at before (head ++ rows) start (sym at)
+
+-- and as long as both
+pub part_long : (before head rows bytes items : List ℕ) (start : ℕ) → items ≡ (before ++ head) ++ rows → bytes ≡ items
+    → start ≡ length before → length head ≡ 16 → length (take (length bytes - start) (drop start bytes)) ≡ 16 + length rows
+part_long before head rows bytes items start is same at long =
+    let part = ap length (part_is before head rows bytes items start is same at) in
+    let both = length-append head rows in
+    omega arith
+
+-- a header is set in front of rows, over the bytes from its place on
+pub header_set : (unique : ℕ) (before head rows bytes items new : List ℕ) (start len : ℕ) → items ≡ (before ++ head) ++ rows
+    → bytes ≡ items → start ≡ length before → len ≡ length items → length head ≡ 16
+    → new ≡ reply_head unique (length (take (length bytes - start) (drop start bytes)) - 16)
+    ++ drop 16 (take (length bytes - start) (drop start bytes))
+    → take len ((take start bytes ++ (new ++ post_of start (length bytes - start) bytes))
+    ++ drop (length (take start bytes ++ (new ++ post_of start (length bytes - start) bytes))) items) ≡ before ++ reply_with unique rows
+unfolding reply_with
+header_set unique before head rows bytes items new start len is same at len_is long new_is =
+    let part = take (length bytes - start) (drop start bytes) in
+    let post = post_of start (length bytes - start) bytes in
+    let reply = reply_head unique (length rows) ++ rows in
+    let joined : bytes ≡ before ++ (head ++ rows) = same ∙ is ∙ append_assoc before head rows in
+    let there : part ≡ head ++ rows = part_is before head rows bytes items start is same at in
+    let both = length-append head rows in
+    let all = ap length joined in
+    let front_long = length-append before (head ++ rows) in
+    let size : length part - 16 ≡ length rows = (let a = ap length there in omega arith) in
+    let rest : drop 16 part ≡ rows = ap (drop 16) there ∙ drop_at head rows 16 long in
+    let set : new ≡ reply = new_is ∙ ap (λ n. reply_head unique n ++ drop 16 part) size
+    ∙ ap (λ b. reply_head unique (length rows) ++ b) rest in
+    let front : take start bytes ≡ before = ap (take start) joined ∙ take_at before (head ++ rows) start (sym at) in
+    let none : post ≡ [] = drop_all (length bytes - start) (drop start bytes) (let e = length-drop start bytes in omega arith) in
+    let whole : take start bytes ++ (new ++ post) ≡ before ++ reply = ap (λ b. b ++ (new ++ post)) front
+    ∙ ap (λ b. before ++ (b ++ post)) set ∙ ap (λ b. before ++ (reply ++ b)) none ∙ ap (λ b. before ++ b) (append-nil reply) in
+    let head_long = length-head unique (length rows) in
+    let reply_long = length-append (reply_head unique (length rows)) rows in
+    let whole_long = length-append before reply in
+    let same_long = ap length same in
+    ap (λ w. take len (w ++ drop (length w) items)) whole
+    ∙ ap (λ b. take len ((before ++ reply) ++ b)) (drop_all (length (before ++ reply)) items (omega arith))
+    ∙ ap (take len) (append-nil (before ++ reply))
+    ∙ take_all len (before ++ reply) (omega arith)
+
+module _ {A : Type 0} (stack : Stacked) (l : Listing A) where
   abbrev bytes_of : NumberedLine → List ℕ
   bytes_of r = line_bytes stack l.with_entries r
+
+  -- the sizes of the rows from the first one that is answered on
+  abbrev sizes : List ℕ
+  sizes = drop l.from (row_sizes l.with_entries l.children.now)
 
   row_is : (index : ℕ) (r : NumberedLine) → slice_get (lines_of l) index ≡ Some r → row_bytes_at stack l index ≡ bytes_of r
   row_is index r is = ap (λ o. option_map_or bytes_of o []) is
 
-  one_written : (index : ℕ) → l.from ≤ index → index < l.until → written stack l (index + 1) ≡ written stack l index
+  one_written : (index : ℕ) → l.from ≤ index → index < 2 + length l.children.now → written stack l (index + 1) ≡ written stack l index
       ++ row_bytes_at stack l index
-  one_written index from until =
-      let within = whole.within in
-      let next = next_line l index from (omega arith) in
+  one_written index from there =
+      let next = next_line l index from there in
       ap (flat_map bytes_of) next.before
       ∙ flat_map-append bytes_of (lines_before l index) (next.line ∷ [])
       ∙ ap (λ b. written stack l index ++ b) (append-nil (bytes_of next.line) ∙ sym (row_is index next.line next.there))
 
-  -- the bytes written before an index are no more than the listing's size
-  pub written_few : (index : ℕ) → index ≤ l.until → length (written stack l index) ≤ l.size
-  written_few index le =
-      let (rest, is) = before_later l index l.until le in
-      let len = ap length (ap (flat_map bytes_of) is ∙ flat_map-append bytes_of (lines_before l index) rest) in
-      let sum = length-append (written stack l index) (flat_map bytes_of rest) in
-      let all = whole.size_is in
+  -- what is written before an index has as many bytes as the sizes say
+  written_long : (index : ℕ) → length (written stack l index) ≡ total (take (index - l.from) sizes)
+  written_long index =
+      let f = λ (r : NumberedLine). row_size l.with_entries (length r.1.name) in
+      lines_long stack l.with_entries (lines_before l index)
+      ∙ ap total (sym (take-map f (index - l.from) (drop l.from (lines_of l)))
+      ∙ ap (take (index - l.from)) (sym (drop-map f l.from (lines_of l)) ∙ ap (drop l.from) (lines_sized l l.with_entries)))
+
+  -- a row is as long as its name says
+  pub row_sized : (index : ℕ) → l.from ≤ index → index < 2 + length l.children.now
+      → length (row_bytes_at stack l index) ≡ row_size l.with_entries (get_or (name_lengths l.children.now) index 0)
+  row_sized index from there =
+      let i = index - l.from in
+      let next : index + 1 - l.from ≡ i + 1 = omega arith in
+      let len = length-sizes l.with_entries l.children.now l.from in
+      let more = ap total (ap (λ k. take k sizes) next ∙ take_more sizes i 0 (omega arith)) in
+      let sum = total-append (take i sizes) (get_or sizes i 0 ∷ []) in
+      let same : l.from + i ≡ index = omega arith in
+      let at = get_or-drop l.from (row_sizes l.with_entries l.children.now) i 0
+      ∙ ap (λ k. get_or (row_sizes l.with_entries l.children.now) k 0) same
+      ∙ size_named l.with_entries l.children.now index there in
+      let a = written_long index in
+      let b = written_long (index + 1) in
+      let c = ap length (one_written index from there) in
+      let d = length-append (written stack l index) (row_bytes_at stack l index) in
       omega arith
 
-  -- a row that is written has a name of less than 2^32 bytes
-  pub short_name : (index : ℕ) (r : NumberedLine) → l.from ≤ index → index < l.until → slice_get (lines_of l) index ≡ Some r
-      → length r.1.name < 2 ^ 32
-  short_name index r from until is =
-      let next = ap length (one_written index from until) in
-      let sum = length-append (written stack l index) (row_bytes_at stack l index) in
-      let few = written_few (index + 1) (omega arith) in
+  -- a row with a name is written with a name of less than 2^32 bytes where it is short
+  pub short_name : (index : ℕ) (r : NumberedLine) → slice_get (lines_of l) index ≡ Some r
+      → length (row_bytes_at stack l index) < 2 ^ 32 → length r.1.name < 2 ^ 32
+  short_name index r is short =
       let row = ap length (row_is index r is) in
       let sized = length-line_bytes stack l.with_entries r in
-      let small = whole.small in
       omega arith
 
-  -- the row with an index has room where the whole reply has
-  pub row_has_room : (unique index : ℕ) (before now : List ℕ) → l.from ≤ index → index < l.until
-      → now ≡ before ++ (reply_head unique l.size ++ written stack l index)
-      → length now + length (row_bytes_at stack l index) ≤ length before + (16 + l.size)
-  row_has_room unique index before now from until so_far =
-      let w = written stack l index in
-      let next = ap length (one_written index from until) in
-      let next_len = length-append w (row_bytes_at stack l index) in
-      let few = written_few (index + 1) (omega arith) in
-      let head = length-head unique l.size in
-      let a = ap length so_far in
-      let b = length-append before (reply_head unique l.size ++ w) in
-      let d = length-append (reply_head unique l.size) w in
+  -- no row is answered that is not there
+  pub until_there : IsWhole l → until_of l ≤ 2 + length l.children.now
+  unfolding until_of
+  until_there whole =
+      let few = fits_few l.room sizes in
+      let len = length-sizes l.with_entries l.children.now l.from in
+      let from = whole.within in
       omega arith
+
+  -- rows that take no more than the room are answered
+  pub answered : (index : ℕ) → l.from ≤ index → index ≤ 2 + length l.children.now → length (written stack l index) ≤ l.room
+      → (index ≤ until_of l) × (length (written stack l index) ≤ size_of l)
+  unfolding until_of size_of
+  answered index from there few =
+      let long = written_long index in
+      let len = length-sizes l.with_entries l.children.now l.from in
+      let among = fits_among l.room sizes (index - l.from) (omega arith) (omega arith) in
+      let a = among.0 in
+      let b = among.1 in
+      (omega arith, omega arith)
+
+  -- and where one more takes more, no others are
+  pub last_answered : (index : ℕ) → l.from ≤ index → l.room < length (written stack l (index + 1)) → until_of l ≤ index
+  unfolding until_of
+  last_answered index from more =
+      let i = index - l.from in
+      let next : index + 1 - l.from ≡ suc i = omega arith in
+      let long = written_long (index + 1) ∙ ap (λ k. total (take k sizes)) next in
+      let most = fits_most l.room sizes i (omega arith) in
+      omega arith
+
+  -- the rows that are answered have as many bytes as is said
+  pub size_is : size_of l ≡ length (listed_data stack l)
+  unfolding until_of size_of
+  size_is =
+      let count : l.from + fit_count l.room sizes - l.from ≡ fit_count l.room sizes = omega arith in
+      fits_total l.room sizes ∙ ap (λ k. total (take k sizes)) (sym count) ∙ sym (written_long (l.from + fit_count l.room sizes))
 
   -- what was appended before an index
-  abbrev pub IsSoFar : ℕ → List ℕ → ℕ → List ℕ → Type 0
-  IsSoFar unique before index now = now ≡ before ++ (reply_head unique l.size ++ written stack l index)
+  abbrev pub IsSoFar : List ℕ → ℕ → List ℕ → Type 0
+  IsSoFar before index now = now ≡ before ++ written stack l index
+
+  pub so_far_long : (before : List ℕ) (index : ℕ) (now : List ℕ) → IsSoFar before index now
+      → length now ≡ length before + length (written stack l index)
+  so_far_long before index now so_far = ap length so_far ∙ length-append before (written stack l index)
 
   -- before the first row nothing is written
-  pub none_written : (before : List ℕ) → before ≡ before ++ written stack l l.from
+  pub none_written : (before : List ℕ) → IsSoFar before l.from before
   none_written before = sym (append-nil before) ∙ ap (λ ls. before ++ flat_map bytes_of ls) (sym (none_before l))
 
-  -- behind the header alone none is
-  pub head_alone : (unique : ℕ) (before now : List ℕ) → now ≡ before ++ reply_head unique l.size → IsSoFar unique before l.from now
-  head_alone unique before now is =
-      let h = reply_head unique l.size in
-      is ∙ none_written (before ++ h) ∙ append_assoc before h (written stack l l.from)
-
-  -- where rows are appended to those before an index, those before another one are
-  pub rows_on : (unique from until : ℕ) (before now next : List ℕ) → IsSoFar unique before from now
-      → AddsRows stack l from until now next → IsSoFar unique before until next
-  rows_on unique from until before now next so_far adds =
-      let h = reply_head unique l.size in
-      adds.rows (before ++ h) (so_far ∙ sym (append_assoc before h (written stack l from))) ∙ append_assoc before h (written stack l until)
-
   -- where the row with the index is set next, those before the next index are
-  pub set_next : (index : ℕ) (before now next : List ℕ) (at end : ℕ) → l.from ≤ index → index < l.until → AreSet stack l before now at index
+  pub set_next : (index : ℕ) (before now next : List ℕ) (at end : ℕ) → l.from ≤ index → index < 2 + length l.children.now
+      → AreSet stack l before now at index
       → take end next ≡ take at now ++ row_bytes_at stack l index → end ≡ at + length (row_bytes_at stack l index)
       → AreSet stack l before next end (index + 1)
-  set_next index before now next at end from until set is place =
+  set_next index before now next at end from there set is place =
       let w = written stack l index in
       let r = row_bytes_at stack l index in
-      let one = one_written index from until in
+      let one = one_written index from there in
       let len = ap length one in
       let sum = length-append w r in
       let old = set.place in
@@ -207,31 +331,79 @@ module _ {A : Type 0} (stack : Stacked) (l : Listing A) (whole : IsWhole stack l
       }
 
   -- where some rows were set, and the one with the next index is, these are
-  pub sets_next : (from index : ℕ) (old now next : List ℕ) (start at end : ℕ) → l.from ≤ index → index < l.until
+  pub sets_next : (from index : ℕ) (old now next : List ℕ) (start at end : ℕ) → l.from ≤ index → index < 2 + length l.children.now
       → SetsRows stack l from index start at old now → take end next ≡ take at now ++ row_bytes_at stack l index
       → end ≡ at + length (row_bytes_at stack l index) → end ≤ length next → length next ≡ length now
       → SetsRows stack l from (index + 1) start end old next
-  sets_next from index old now next start at end first until sets is place within size = record {
-    rows = λ before set. set_next index before now next at end first until (sets.rows before set) is place;
+  sets_next from index old now next start at end first there sets is place within size = record {
+    rows = λ before set. set_next index before now next at end first there (sets.rows before set) is place;
     within = within;
     size = size ∙ sets.size;
   }
 
   -- where a row is appended after those before it, those before the next one are written
-  pub row_next : (unique index : ℕ) (before now next : List ℕ) → l.from ≤ index → index < l.until
-      → IsSoFar unique before index now → next ≡ now ++ row_bytes_at stack l index → IsSoFar unique before (index + 1) next
-  row_next unique index before now next from until so_far is =
-      let h = reply_head unique l.size in
+  pub row_next : (index : ℕ) (before now next : List ℕ) → l.from ≤ index → index < 2 + length l.children.now
+      → IsSoFar before index now → next ≡ now ++ row_bytes_at stack l index → IsSoFar before (index + 1) next
+  row_next index before now next from there so_far is =
       let w = written stack l index in
       let r = row_bytes_at stack l index in
-      is ∙ ap (λ b. b ++ r) so_far ∙ append_assoc before (h ++ w) r
-      ∙ ap (λ b. before ++ b) (append_assoc h w r ∙ ap (λ b. h ++ b) (sym (one_written index from until)))
+      is ∙ ap (λ b. b ++ r) so_far ∙ append_assoc before w r ∙ ap (λ b. before ++ b) (sym (one_written index from there))
 
-  -- at the last index the whole reply is appended
-  pub all_rows : (unique index : ℕ) (before now : List ℕ) → index ≡ l.until → IsSoFar unique before index now
-      → now ≡ before ++ reply_with unique (listed_data stack l)
-  unfolding reply_with
-  all_rows unique index before now end so_far =
-      so_far
-      ∙ ap (λ i. before ++ (reply_head unique l.size ++ written stack l i)) end
-      ∙ ap (λ n. before ++ (reply_head unique n ++ listed_data stack l)) whole.size_is
+  -- at the last index all are appended
+  pub all_rows : (index : ℕ) (before now : List ℕ) → index ≡ until_of l → IsSoFar before index now → now ≡ before ++ listed_data stack l
+  all_rows index before now end so_far = so_far ∙ ap (λ i. before ++ written stack l i) end
+
+  -- where the row with the index fits in what is left of the room, all that is answered has it
+  pub record FitsNext (index left : ℕ) (before now : List ℕ) : Type 0 where
+    pub there : index < 2 + length l.children.now
+    pub ends : length (row_bytes_at stack l index) ≤ left
+    pub within : length now + length (row_bytes_at stack l index) ≤ length before + size_of l
+
+  pub fits_next : (index left : ℕ) (before now : List ℕ) → l.from ≤ index → IsSoFar before index now
+      → length now + left ≡ length before + l.room → fits_at l index left ≡ true → FitsNext index left before now
+  fits_next index left before now from so_far is fits =
+      let row = row_size l.with_entries (get_or (name_lengths l.children.now) index 0) in
+      let both = both_true (nat_lt index (2 + length l.children.now)) (nat_le row left) fits in
+      let there = ltb-true index (2 + length l.children.now) both.0 in
+      let few = leb-true row left both.1 in
+      let sized = row_sized index from there in
+      let len = so_far_long before index now so_far in
+      let next = ap length (one_written index from there) in
+      let more = length-append (written stack l index) (row_bytes_at stack l index) in
+      let among = (answered (index + 1) (omega arith) (omega arith) (omega arith)).1 in
+      record { there = there; ends = omega arith; within = omega arith }
+
+  -- where none does, the rows that were written are those that are answered
+  pub fits_no_more : (index left : ℕ) (before now : List ℕ) → IsWhole l → l.from ≤ index → index ≤ 2 + length l.children.now
+      → IsSoFar before index now → length now + left ≡ length before + l.room → fits_at l index left ≡ false → index ≡ until_of l
+  fits_no_more index left before now whole from within so_far is full = go (nat_lt index (2 + length l.children.now)) refl full
+    where
+      row : ℕ
+      row = row_size l.with_entries (get_or (name_lengths l.children.now) index 0)
+
+      go : (b : Bool) → nat_lt index (2 + length l.children.now) ≡ b → (b && nat_le row left) ≡ false → index ≡ until_of l
+      go false past full =
+          let end = ltb-false index (2 + length l.children.now) past in
+          let most = until_there whole in
+          let len = so_far_long before index now so_far in
+          let among = (answered index from within (omega arith)).0 in
+          omega arith
+      go true there full =
+          let lt = ltb-true index (2 + length l.children.now) there in
+          let large = leb-false row left full in
+          let sized = row_sized index from lt in
+          let len = so_far_long before index now so_far in
+          let next = ap length (one_written index from lt) in
+          let more = length-append (written stack l index) (row_bytes_at stack l index) in
+          let among = (answered index from within (omega arith)).0 in
+          let last = last_answered index from (omega arith) in
+          omega arith
+
+  -- behind the last row none fits
+  pub none_left : (index : ℕ) (before now : List ℕ) → IsWhole l → l.from ≤ index → index ≡ 2 + length l.children.now
+      → IsSoFar before index now → length now ≤ length before + l.room → index ≡ until_of l
+  none_left index before now whole from last so_far less =
+      let past : nat_lt index (2 + length l.children.now) ≡ false = le-ltb index (2 + length l.children.now) (omega arith) in
+      let left = length before + l.room - length now in
+      fits_no_more index left before now whole from (omega arith) so_far (omega arith)
+      (ap (λ b. b && nat_le (row_size l.with_entries (get_or (name_lengths l.children.now) index 0)) left) past)

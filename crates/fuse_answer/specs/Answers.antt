@@ -72,7 +72,7 @@ TellsEntry stack node result =
 -- its data has a length that a reply's header can say
 abbrev pub IsSized : {A : Type 0} → Stacked → Answer A → Type 0
 IsSized stack (Data bytes) = 16 + length bytes.now < 2 ^ 32
-IsSized stack (Rows listing) = IsWhole stack listing
+IsSized stack (Rows listing) = IsWhole listing
 IsSized stack _ = Unit {0}
 
 -- the answer to a request about the node at a place

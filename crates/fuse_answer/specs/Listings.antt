@@ -1,5 +1,5 @@
 -- Rows of a directory as a table gives them.
-use Rattle.std.specs.Prelude.{◌≡◌, ℕ, ◌+◌, ◌-◌, ◌/◌, ◌^◌, ◌≤◌, ◌<◌, ◌==◌, ◌&&◌, min, MatchOption, IfSome, length, List, [], ◌∷◌, ◌++◌, replicate, map, take, drop, filter, Bool, nat_lt, nat_le, slice_get, Option, Some, None, pos, codes, if◌then◌else◌}
+use Rattle.std.specs.Prelude.{◌≡◌, ℕ, ◌+◌, ◌-◌, ◌/◌, ◌^◌, ◌≤◌, ◌<◌, ◌==◌, ◌&&◌, min, MatchOption, IfSome, length, List, [], ◌∷◌, ◌++◌, replicate, map, take, drop, filter, Bool, nat_lt, nat_le, slice_get, slice_index, Option, Some, None, pos, codes, if◌then◌else◌}
 use Rattle.std.specs.List.{enumerate_from, flat_map}
 use Rattle.std.specs.Option.{option_map_or}
 use Rattle.fuse_wire.specs.declared.limits.TheConstants.{MAX_DATA_SIZE}
@@ -28,6 +28,10 @@ lines_of l =
       name = codes "..";
     } ∷ l.children.now)
 
+-- there is a row with this index, and its place is a number of 64 bits
+abbrev pub IsRow : {A : Type 0} → Listing A → ℕ → Type 0
+IsRow l index = (index < 2 + length l.children.now) × (index + 1 < 2 ^ 64)
+
 -- the row with an index has this number and this name
 abbrev pub IsLineAt : {A : Type 0} → Listing A → ℕ → ℕ → List ℕ → Type 0
 IsLineAt l index number name =
@@ -39,9 +43,40 @@ IsPaddedAt l index padded =
     IfSome (slice_get (lines_of l) index) (λ r. (length r.1.name ≤ 22)
     × (padded ≡ r.1.name ++ replicate (22 - length r.1.name) 0))
 
+-- the bytes of a row whose name has n bytes
+abbrev pub row_size : Bool → ℕ → ℕ
+row_size with_entries n = dirent_size n + (if with_entries then 128 else 0)
+
+-- how many pieces of these sizes fit whole in the room, one after another
+abbrev pub fit_count : ℕ → List ℕ → ℕ
+fit_count room [] = 0
+fit_count room (n ∷ sizes) = if nat_le n room then 1 + fit_count (room - n) sizes else 0
+
+-- how many bytes those take
+abbrev pub fit_size : ℕ → List ℕ → ℕ
+fit_size room [] = 0
+fit_size room (n ∷ sizes) = if nat_le n room then n + fit_size (room - n) sizes else 0
+
+-- the lengths of the names of a directory's rows: of . and .., and of its children
+abbrev pub name_lengths : List Line → List ℕ
+name_lengths children = 1 ∷ 2 ∷ map (λ line. length line.name) children
+
+-- the bytes of each of a directory's rows
+abbrev pub row_sizes : Bool → List Line → List ℕ
+row_sizes with_entries children = map (row_size with_entries) (name_lengths children)
+
+-- up to which index a listing answers rows: as many as fit whole in its room
+unfoldable pub until_of : {A : Type 0} → Listing A → ℕ
+until_of l =
+    l.from + fit_count l.room (drop l.from (row_sizes l.with_entries l.children.now))
+
+-- how many bytes those take
+unfoldable pub size_of : {A : Type 0} → Listing A → ℕ
+size_of l = fit_size l.room (drop l.from (row_sizes l.with_entries l.children.now))
+
 -- those that it answers
 abbrev pub lines_answered : {A : Type 0} → Listing A → List NumberedLine
-lines_answered l = take (l.until - l.from) (drop l.from (lines_of l))
+lines_answered l = take (until_of l - l.from) (drop l.from (lines_of l))
 
 -- a row that is neither . nor ..
 abbrev pub is_child_line : NumberedLine → Bool
@@ -92,28 +127,6 @@ abbrev pub listing_op : Bool → ℕ → ℕ → NodeOp
 listing_op with_entries offset size =
     if with_entries then readdirplus offset size else readdir offset size
 
--- the bytes of a row whose name has n bytes
-abbrev pub row_size : Bool → ℕ → ℕ
-row_size with_entries n = dirent_size n + (if with_entries then 128 else 0)
-
--- how many pieces of these sizes fit whole in the room, one after another
-abbrev pub fit_count : ℕ → List ℕ → ℕ
-fit_count room [] = 0
-fit_count room (n ∷ sizes) = if nat_le n room then 1 + fit_count (room - n) sizes else 0
-
--- how many bytes those take
-abbrev pub fit_size : ℕ → List ℕ → ℕ
-fit_size room [] = 0
-fit_size room (n ∷ sizes) = if nat_le n room then n + fit_size (room - n) sizes else 0
-
--- the lengths of the names of a directory's rows: of . and .., and of its children
-abbrev pub name_lengths : List Line → List ℕ
-name_lengths children = 1 ∷ 2 ∷ map (λ line. length line.name) children
-
--- the bytes of each of a directory's rows
-abbrev pub row_sizes : Bool → List Line → List ℕ
-row_sizes with_entries children = map (row_size with_entries) (name_lengths children)
-
 -- the bytes of a row, if there is room for them
 abbrev pub RowSize : Bool → ℕ → ℕ → Option ℕ → Type 0
 RowSize with_entries name room result =
@@ -128,11 +141,17 @@ pub record Fits (with_entries : Bool) (children : List Line)
   pub within : until ≤ 2 + length children
   pub small : bytes ≤ size
 
+-- there is a row with this index, and it fits in the room
+abbrev pub fits_at : {A : Type 0} → Listing A → ℕ → ℕ → Bool
+fits_at l index room =
+    nat_lt index (2 + length l.children.now)
+    && nat_le (row_size l.with_entries (slice_index (name_lengths l.children.now) index)) room
+
 -- there is a row, and not even one is answered
 abbrev pub is_cut_short : {A : Type 0} → Listing A → Bool
-is_cut_short l = l.until == l.from && nat_lt l.from (2 + length l.children.now)
+is_cut_short l = until_of l == l.from && nat_lt l.from (2 + length l.children.now)
 
--- the rows of the directory with this number after the first offset ones that fit in a size
+-- the rows of the directory with this number after the first offset ones, as many as fit in a size
 pub record AreListed {A : Type 0} (stack : Stacked) (node offset size : ℕ) (with_entries : Bool)
     (l : Listing A) : Type 0 where
   pub entries_are : l.with_entries ≡ with_entries
@@ -140,16 +159,14 @@ pub record AreListed {A : Type 0} (stack : Stacked) (node offset size : ℕ) (wi
   pub parent_is : parent_at stack node ≡ Some l.parent
   pub children_are : l.children.now ≡ rows_at stack node
   pub from_is : l.from ≡ min offset (2 + length l.children.now)
-  pub fits : Fits with_entries l.children.now l.from size l.until l.size
+  pub room_is : l.room ≡ size
 
 -- they are listed; none where the number is no directory
 abbrev pub ListsRows : {A : Type 0} → Stacked → ℕ → ℕ → ℕ → Bool → Option (Listing A) → Type 0
 ListsRows stack node offset size with_entries result =
     MatchOption result (parent_at stack node ≡ None) (AreListed stack node offset size with_entries)
 
--- the rows of a listing are in bounds, and its size is that of their bytes
-pub record IsWhole {A : Type 0} (stack : Stacked) (l : Listing A) : Type 0 where
-  pub in_order : l.from ≤ l.until
-  pub within : l.until ≤ 2 + length l.children.now
-  pub size_is : l.size ≡ length (listed_data stack l)
-  pub small : l.size ≤ MAX_DATA_SIZE
+-- a listing begins in bounds, and its room is no larger than a request's may be
+pub record IsWhole {A : Type 0} (l : Listing A) : Type 0 where
+  pub within : l.from ≤ 2 + length l.children.now
+  pub small : l.room ≤ MAX_DATA_SIZE

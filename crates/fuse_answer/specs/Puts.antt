@@ -18,6 +18,13 @@ Puts result before after appended =
     × OnErr result (vec_capacity before < vec_len before + length appended)
     × (vec_capacity before ≤ vec_capacity after)
 
+-- the call makes room for so many items more; or, where the vector has none for them, it may fail
+abbrev pub MakesRoom : {X A E : Type 0} → Result (Unit {0}) E → Vec X A → Vec X A → ℕ → Type 0
+MakesRoom result before after count =
+    (after.items ≡ before.items) × OnOk result (vec_len before + count ≤ vec_capacity after)
+    × OnErr result (vec_capacity before < vec_len before + count)
+    × (vec_capacity before ≤ vec_capacity after)
+
 -- the call appends exactly these; or, where the vector has no room for them and gets none,
 -- something
 abbrev pub Grows : {X A E : Type 0} → Result (Unit {0}) E → Vec X A → Vec X A → List X → Type 0

@@ -4,10 +4,10 @@ ghost use Rattle.std.specs.Prelude.{◌≡◌, ◌≤◌, ◌<◌, ◌+◌, ◌-
 ghost use Rattle.fuse_wire.specs.Reads.{items_of};
 ghost use Rattle.lookup_balances.specs.Balances.{AreWithin, IsMoved};
 ghost use Rattle.fuse_answer.specs.Answers.{IsSized, answer_moves, taken_back};
-ghost use Rattle.fuse_answer.specs.Listings.{listed_moves, row_given};
+ghost use Rattle.fuse_answer.specs.Listings.{IsRow, IsWhole, listed_moves, row_given};
 ghost use Rattle.fuse_answer.specs.Setting.{AddsGiven};
 
-use crate::listing::Listing;
+use crate::listing::{Listing, fit};
 use crate::outcome::Answer;
 use crate::rows::line_at;
 use fuse_wire::forget::{Forget, Forgets};
@@ -37,12 +37,12 @@ pub(crate) fn add_answer_moves<A: Allocator>(
 
 // Adds what the rows of a listing give.
 fn add_rows<A: Allocator>(rows: &Listing<'_, A>, balances: &mut [i128])
-    requires in_order { rows.now.from ≤ rows.now.until }
-    requires there { rows.now.until ≤ 2 + length rows.now.children.now }
+    requires whole { IsWhole rows.now }
     requires within { AreWithin (2 ^ 123) balances.old }
     ensures { IsMoved (listed_moves rows.now) balances.old balances.new }
 {
-    for index in rows.from..rows.until {
+    let (until, _) = fit(rows);
+    for index in rows.from..until {
         add_row(rows, index, balances);
     }
 }
@@ -51,8 +51,7 @@ fn add_rows<A: Allocator>(rows: &Listing<'_, A>, balances: &mut [i128])
 #[inline(always)]
 pub(crate) fn add_row<A: Allocator>(rows: &Listing<'_, A>, index: usize, balances: &mut [i128])
     requires from { rows.now.from ≤ index }
-    requires until { index < rows.now.until }
-    requires there { rows.now.until ≤ 2 + length rows.now.children.now }
+    requires there { IsRow rows.now index }
     requires within { AreWithin (2 ^ 123 + (index - rows.now.from)) balances.old }
     ensures { AddsGiven rows.now index (index + 1) balances.old balances.new }
 {
@@ -65,8 +64,7 @@ pub(crate) fn add_row<A: Allocator>(rows: &Listing<'_, A>, index: usize, balance
 // give nothing.
 #[inline(always)]
 fn add_entry<A: Allocator>(rows: &Listing<'_, A>, index: usize, balances: &mut [i128])
-    requires until { index < rows.now.until }
-    requires there { rows.now.until ≤ 2 + length rows.now.children.now }
+    requires there { IsRow rows.now index }
     requires within { AreWithin (2 ^ 124) balances.old }
     ensures { IsMoved (row_given rows.now index) balances.old balances.new }
 {

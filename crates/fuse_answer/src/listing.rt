@@ -1,13 +1,14 @@
 //! The rows of a directory that READDIR and READDIRPLUS are answered.
 //!
 //! Rows have indices from 0 on: `.`, `..`, and then the children. The rows that a request is
-//! answered are those from its offset on that fit whole in its size, so an answer is two indices,
-//! and no row before the offset is looked at.
+//! answered are those from its offset on that fit whole in its size. An answer says where they
+//! begin and how much room they have: up to which row they go shows as they are put, so each is
+//! looked at once, and no row before the offset is.
 
 ghost use Rattle.std.specs.Prelude.{◌≡◌, ◌≤◌, ◌<◌, ◌+◌, length, min, slice_index};
 ghost use Rattle.fuse_wire.specs.declared.limits.TheConstants.{MAX_DATA_SIZE};
 ghost use Rattle.fuse_answer.specs.Answers.{DecidesAt};
-ghost use Rattle.fuse_answer.specs.Listings.{listing_op, is_cut_short, ListsRows, Fits, RowSize, name_lengths};
+ghost use Rattle.fuse_answer.specs.Listings.{listing_op, fits_at, is_cut_short, ListsRows, IsWhole, Fits, RowSize, name_lengths};
 
 use crate::node::kind_of;
 use crate::outcome::Answer;
@@ -21,8 +22,8 @@ use std::alloc::Allocator;
 /// The bytes of a `struct fuse_entry_out`, which stands before each row of READDIRPLUS.
 const ENTRY_SIZE: usize = 128;
 
-/// Which rows of a directory a request is answered: those from the index `from` on, up to `until`,
-/// which take `size` bytes.
+/// Which rows of a directory a request is answered: those from the index `from` on, as many as fit
+/// whole in `room` bytes.
 #[derive(Drop)]
 pub(crate) struct Listing<'a, A: Allocator> {
     pub(crate) with_entries: bool,
@@ -30,8 +31,7 @@ pub(crate) struct Listing<'a, A: Allocator> {
     pub(crate) parent: u64,
     pub(crate) children: &'a [Row<A>],
     pub(crate) from: usize,
-    pub(crate) until: usize,
-    pub(crate) size: usize,
+    pub(crate) room: usize,
 }
 
 /// What READDIR is answered, or READDIRPLUS, where rows come with entries: the rows after the first
@@ -76,29 +76,28 @@ fn listed<'a, A: Allocator>(
     let parent = table.parent(number)?;
     let children = table.rows(number);
     let from = start(offset, children);
-    let (until, bytes) = fit(children, with_entries, from, size);
     Some(Listing {
         with_entries,
         number,
         parent,
         children,
         from,
-        until,
-        size: bytes,
+        room: size,
     })
 }
 
 // Whether there is a row, and not even one fits.
 #[inline(always)]
 fn is_too_small<A: Allocator>(rows: &Listing<'_, A>) -> bool
+    requires { IsWhole rows.now }
     ensures { result ≡ is_cut_short rows.now }
 {
-    rows.until == rows.from && rows.from < count(rows.children)
+    rows.from < count(rows.children) && !fits(rows, rows.from, rows.room)
 }
 
-// How many rows a directory has.
+/// How many rows a directory has.
 #[inline(always)]
-fn count<A: Allocator>(children: &[Row<A>]) -> usize
+pub(crate) fn count<A: Allocator>(children: &[Row<A>]) -> usize
     ensures { result ≡ 2 + length children.now }
 {
     2 + children.len()
@@ -147,29 +146,34 @@ fn row_size(with_entries: bool, name_length: usize, room: usize) -> Option<usize
     (bytes <= room).then_some(bytes)
 }
 
-// Up to which index the rows from another one on fit in a size, and how many bytes they take.
+/// Whether there is a row with this index, and room for it.
 #[inline(always)]
-fn fit<A: Allocator>(
-    children: &[Row<A>],
-    with_entries: bool,
-    from: usize,
-    size: usize,
-) -> (usize, usize)
-    requires from { from ≤ 2 + length children.now }
-    requires size { size ≤ MAX_DATA_SIZE }
-    ensures { Fits with_entries children.now from size result.0 result.1 }
+pub(crate) fn fits<A: Allocator>(rows: &Listing<'_, A>, index: usize, room: usize) -> bool
+    requires { room ≤ MAX_DATA_SIZE }
+    ensures { result ≡ fits_at rows.now index room }
 {
-    let rows = count(children);
-    let mut until = from;
-    let mut room = size;
-    while until < rows {
-        match row_size(with_entries, name_length(children, until), room) {
-            None => return (until, size - room),
+    index < count(rows.children)
+        && row_size(rows.with_entries, name_length(rows.children, index), room).is_some()
+}
+
+/// Up to which index the rows of a listing fit in its room, and how many bytes they take.
+#[inline(always)]
+pub(crate) fn fit<A: Allocator>(rows: &Listing<'_, A>) -> (usize, usize)
+    requires { IsWhole rows.now }
+    ensures { Fits rows.now.with_entries rows.now.children.now rows.now.from rows.now.room
+        result.0 result.1 }
+{
+    let end = count(rows.children);
+    let mut until = rows.from;
+    let mut room = rows.room;
+    while until < end {
+        match row_size(rows.with_entries, name_length(rows.children, until), room) {
+            None => return (until, rows.room - room),
             Some(bytes) => {
                 room -= bytes;
                 until += 1;
             }
         }
     }
-    (until, size - room)
+    (until, rows.room - room)
 }

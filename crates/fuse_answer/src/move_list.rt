@@ -7,11 +7,11 @@
 ghost use Rattle.std.specs.Prelude.{◌≤◌, ◌<◌, ◌+◌, ◌^◌, ◌∷◌, [], length, unsigned_abs};
 ghost use Rattle.fuse_wire.specs.Reads.{asked_of, items_of};
 ghost use Rattle.fuse_answer.specs.Answers.{IsSized, answer_moves, taken_back};
-ghost use Rattle.fuse_answer.specs.Listings.{lines_answered, lines_given, row_given};
+ghost use Rattle.fuse_answer.specs.Listings.{IsRow, IsWhole, lines_answered, lines_given, row_given};
 ghost use Rattle.fuse_answer.specs.Puts.{AreSmall, Puts, PutsMoves, Grows};
 
 use crate::decide::decide;
-use crate::listing::Listing;
+use crate::listing::{Listing, fit};
 use crate::outcome::Answer;
 use crate::rows::line_at;
 use fuse_wire::Request;
@@ -70,12 +70,12 @@ fn grow_rows<A: Allocator, M: Allocator>(
     rows: &Listing<'_, A>,
     into: &mut Vec<Move, M>,
 ) -> Result<(), AllocError>
-    requires in_order { rows.now.from ≤ rows.now.until }
-    requires there { rows.now.until ≤ 2 + length rows.now.children.now }
+    requires { IsWhole rows.now }
     ensures moves { Grows result into.old into.new (lines_given (lines_answered rows.now)) }
     ensures small { AreSmall into.old.items → AreSmall into.new.items }
 {
-    for index in rows.from..rows.until {
+    let (until, _) = fit(rows);
+    for index in rows.from..until {
         put_given(rows, index, into)?;
     }
     Ok(())
@@ -88,8 +88,7 @@ fn put_given<A: Allocator, M: Allocator>(
     index: usize,
     into: &mut Vec<Move, M>,
 ) -> Result<(), AllocError>
-    requires until { index < rows.now.until }
-    requires there { rows.now.until ≤ 2 + length rows.now.children.now }
+    requires { IsRow rows.now index }
     ensures moves { Puts result into.old into.new (row_given rows.now index) }
     ensures small { AreSmall into.old.items → AreSmall into.new.items }
 {

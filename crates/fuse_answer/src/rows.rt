@@ -5,16 +5,17 @@ ghost use Rattle.std.specs.Option.{option_map_or};
 ghost use Rattle.fuse_wire.specs.Replies.{reply_with};
 ghost use Rattle.fuse_wire.specs.declared.put.TheConstants.{SHORT_ROW_SIZE};
 ghost use Rattle.stack_table.specs.Readers.{attr_at};
-ghost use Rattle.fuse_answer.specs.Listings.{IsWhole, IsLineAt, IsPaddedAt, bytes_before, listed_data, listed_moves, row_bytes_at, type_at};
-ghost use Rattle.fuse_answer.specs.Puts.{Puts};
+ghost use Rattle.fuse_answer.specs.Listings.{IsWhole, IsLineAt, IsPaddedAt, IsRow, listed_data, listed_moves, row_bytes_at, size_of, type_at};
+ghost use Rattle.fuse_answer.specs.Puts.{MakesRoom, Puts};
 ghost use Rattle.fuse_answer.specs.Setting.{AddsGiven, AddsRows, SetsRow, SetsRows};
 ghost use Rattle.lookup_balances.specs.Balances.{AreWithin, IsMoved};
 
 use crate::balances::add_row;
-use crate::listing::Listing;
+use crate::listing::{Listing, count, fit, fits};
 use fuse_wire::limits::OUT_HEADER_SIZE;
 use fuse_wire::{
-    Attr, Dirent, SHORT_ROW_SIZE, put_data_head, put_dirent, put_direntplus, set_direntplus,
+    Attr, Dirent, SHORT_ROW_SIZE, put_data_head, put_dirent, put_direntplus, set_data_head,
+    set_direntplus,
 };
 use stack_table::Table;
 use std::alloc::{AllocError, Allocator};
@@ -22,9 +23,9 @@ use std::alloc::{AllocError, Allocator};
 /// Zeros over which rows are set.
 const ZEROS: [u8; 1024] = [0; 1024];
 
-/// Over how many zeros rows are set at once: few enough to be in the processor's cache still when
-/// the rows are.
-const ZEROS_AT_ONCE: usize = 8_192;
+/// Over zeros for how many rows rows are set at once: few enough for the zeros to be in the
+/// processor's cache still when the rows are.
+const ROWS_AT_ONCE: usize = 46;
 
 /// The names of the first two rows, with zeros behind them.
 const DOT: &[u8; 22] = b".\0\0\0\0\0\0\0\0\0\0\0\0\0\0\0\0\0\0\0\0\0";
@@ -41,47 +42,89 @@ pub(crate) fn put_rows<A: Allocator, O: Allocator>(
     out: &mut Vec<u8, O>,
     balances: &mut [i128],
 ) -> Result<(), AllocError>
-    requires whole { IsWhole table.now rows.now }
+    requires whole { IsWhole rows.now }
     requires within { AreWithin (2 ^ 123) balances.old }
     ensures reply { Puts result out.old out.new
         (reply_with unique (listed_data table.now rows.now)) }
     ensures moves { OnOk result (IsMoved (listed_moves rows.now) balances.old balances.new) }
     ensures none { OnErr result (balances.new ≡ balances.old) }
 {
-    out.reserve(OUT_HEADER_SIZE + rows.size)?;
-    put_data_head(out, unique, rows.size)?;
-    let end = out.len() + rows.size;
-    let mut index = rows.from;
-    while index < rows.until {
-        index = set_rows(table, rows, index, out, end, balances);
-        if index < rows.until {
-            put_row(table, rows, index, out)?;
-            add_row(rows, index, balances);
-            index += 1;
-        }
+    make_room(rows, out)?;
+    let start = out.len();
+    put_data_head(out, unique, 0)?;
+    put_listed(table, rows, out, balances)?;
+    let reply = &mut out.as_mut_slice()[start..];
+    let size = reply.len() - OUT_HEADER_SIZE;
+    set_data_head(reply, unique, size);
+    Ok(())
+}
+
+// Makes room for a header and the rows. Where there is room for as many bytes as rows may take,
+// which is so mostly, it is not asked how many they do.
+#[inline(always)]
+fn make_room<A: Allocator, O: Allocator>(
+    rows: &Listing<'_, A>,
+    out: &mut Vec<u8, O>,
+) -> Result<(), AllocError>
+    requires { IsWhole rows.now }
+    ensures { MakesRoom result out.old out.new (16 + size_of rows.now) }
+{
+    if out.capacity() - out.len() < OUT_HEADER_SIZE + rows.room {
+        let (_, size) = fit(rows);
+        out.reserve(OUT_HEADER_SIZE + size)?;
     }
     Ok(())
 }
 
-// Sets rows of READDIRPLUS from an index on, over zeros for those up to a place, adds what they
-// give, and returns the index of the next one: of one with a long name, or of one that has no room
-// before the zeros' end.
+// Appends the rows, where there is room for them, and adds what they give: up to the first that
+// does not fit in what the others leave of the listing's room, or to the last.
+#[inline(always)]
+fn put_listed<A: Allocator, O: Allocator>(
+    table: &Table<A>,
+    rows: &Listing<'_, A>,
+    out: &mut Vec<u8, O>,
+    balances: &mut [i128],
+) -> Result<(), AllocError>
+    requires whole { IsWhole rows.now }
+    requires room { vec_len out.old + size_of rows.now ≤ vec_capacity out.old }
+    requires within { AreWithin (2 ^ 123) balances.old }
+    ensures rows { Puts result out.old out.new (listed_data table.now rows.now) }
+    ensures moves { OnOk result (IsMoved (listed_moves rows.now) balances.old balances.new) }
+{
+    let limit = out.len() + rows.room;
+    let mut index = rows.from;
+    while index < count(rows.children) {
+        index = set_rows(table, rows, index, out, limit, balances);
+        if !fits(rows, index, limit - out.len()) {
+            return Ok(());
+        }
+        put_row(table, rows, index, out)?;
+        add_row(rows, index, balances);
+        index += 1;
+    }
+    Ok(())
+}
+
+// Sets rows of READDIRPLUS from an index on, over zeros and up to a place, adds what they give, and
+// returns the index of the next one: of one with a long name, or of one that has no room before the
+// place or the zeros' end.
 #[inline(always)]
 fn set_rows<A: Allocator, O: Allocator>(
     table: &Table<A>,
     rows: &Listing<'_, A>,
     from: usize,
     out: &mut Vec<u8, O>,
-    end: usize,
+    limit: usize,
     balances: &mut [i128],
 ) -> usize
-    requires whole { IsWhole table.now rows.now }
     requires first { rows.now.from ≤ from }
-    requires last { from ≤ rows.now.until }
+    requires there { from ≤ 2 + length rows.now.children.now }
+    requires limit { vec_len out.old ≤ limit }
     requires within { AreWithin (2 ^ 123 + (from - rows.now.from)) balances.old }
     ensures from { from ≤ result }
-    ensures until { result ≤ rows.now.until }
+    ensures there { result ≤ 2 + length rows.now.children.now }
     ensures items { AddsRows table.now rows.now from result out.old.items out.new.items }
+    ensures limit { vec_len out.new ≤ limit }
     ensures capacity { vec_capacity out.old ≤ vec_capacity out.new }
     ensures given { AddsGiven rows.now from result balances.old balances.new }
 {
@@ -89,15 +132,25 @@ fn set_rows<A: Allocator, O: Allocator>(
         return from;
     }
     let start = out.len();
-    let wanted = end.saturating_sub(start).min(ZEROS_AT_ONCE) + SHORT_ROW_SIZE;
+    let left = (count(rows.children) - from).min(ROWS_AT_ONCE);
+    let wanted = (limit - start).min(left * SHORT_ROW_SIZE) + SHORT_ROW_SIZE;
     put_zeros(out, wanted.min(out.capacity() - start));
-    let (next, at) = set_over(table, rows, from, out.as_mut_slice(), start, balances);
+    let (next, at) = set_over(
+        table,
+        rows,
+        from,
+        out.as_mut_slice(),
+        start,
+        limit,
+        balances,
+    );
     out.truncate(at);
     next
 }
 
-// Sets rows of READDIRPLUS from an index on over bytes from a place on, up to one with a long name
-// or to the bytes' end, adds what they give, and returns the index of the next one and its place.
+// Sets rows of READDIRPLUS from an index on over bytes from a place on, up to one with a long name,
+// to the bytes' end, or to one that would end behind the limit, adds what they give, and returns
+// the index of the next one and its place.
 #[inline(always)]
 fn set_over<A: Allocator>(
     table: &Table<A>,
@@ -105,31 +158,34 @@ fn set_over<A: Allocator>(
     from: usize,
     bytes: &mut [u8],
     start: usize,
+    limit: usize,
     balances: &mut [i128],
 ) -> (usize, usize)
-    requires whole { IsWhole table.now rows.now }
     requires entries { rows.now.with_entries ≡ true }
     requires first { rows.now.from ≤ from }
-    requires last { from ≤ rows.now.until }
+    requires there { from ≤ 2 + length rows.now.children.now }
     requires start { start ≤ length bytes.old }
+    requires limit { start ≤ limit }
     requires within { AreWithin (2 ^ 123 + (from - rows.now.from)) balances.old }
     ensures from { from ≤ result.0 }
-    ensures until { result.0 ≤ rows.now.until }
+    ensures there { result.0 ≤ 2 + length rows.now.children.now }
     ensures set { SetsRows table.now rows.now from result.0 start result.1 bytes.old bytes.new }
+    ensures limit { result.1 ≤ limit }
     ensures given { AddsGiven rows.now from result.0 balances.old balances.new }
 {
     let mut at = start;
-    for index in from..rows.until {
+    let rows_end = count(rows.children);
+    for index in from..rows_end {
         if bytes.len() - at < SHORT_ROW_SIZE {
             return (index, at);
         }
         match set_row(table, rows, index, bytes, at) {
-            Some(end) => at = end,
-            None => return (index, at),
+            Some(end) if end <= limit => at = end,
+            _ => return (index, at),
         }
         add_row(rows, index, balances);
     }
-    (rows.until, at)
+    (rows_end, at)
 }
 
 // Appends so many bytes, where there is room for them.
@@ -157,8 +213,7 @@ fn set_row<A: Allocator>(
     bytes: &mut [u8],
     at: usize,
 ) -> Option<usize>
-    requires until { index < rows.now.until }
-    requires there { rows.now.until ≤ 2 + length rows.now.children.now }
+    requires there { IsRow rows.now index }
     requires entries { rows.now.with_entries ≡ true }
     requires room { at + SHORT_ROW_SIZE ≤ length bytes.old }
     ensures { SetsRow table.now rows.now index at result bytes.old bytes.new }
@@ -187,9 +242,8 @@ fn put_row<A: Allocator, O: Allocator>(
     index: usize,
     out: &mut Vec<u8, O>,
 ) -> Result<(), AllocError>
-    requires whole { IsWhole table.now rows.now }
-    requires from { rows.now.from ≤ index }
-    requires until { index < rows.now.until }
+    requires there { IsRow rows.now index }
+    requires short { length (row_bytes_at table.now rows.now index) < 2 ^ 32 }
     ensures { Puts result out.old out.new (row_bytes_at table.now rows.now index) }
 {
     let (row, entry) = row_at(table, rows, index);
@@ -207,8 +261,7 @@ fn row_at<'a, A: Allocator>(
     rows: &Listing<'a, A>,
     index: usize,
 ) -> (Dirent<'a>, Option<Attr>)
-    requires until { index < rows.now.until }
-    requires there { rows.now.until ≤ 2 + length rows.now.children.now }
+    requires { IsRow rows.now index }
     ensures line { IsLineAt rows.now index result.0.ino result.0.name.now }
     ensures place { result.0.off ≡ index + 1 }
     ensures kind { result.0.file_type ≡ type_at table.now result.0.ino }

@@ -8,7 +8,7 @@ add_entry-requires-clause-within g c =
 
 pub returns-then-rows : goal.returns-then-rows
 returns-then-rows g c = entry_added c.args.rows.now c.args.index c.args.balances.now c.add_entry.new.balances c.requires.from
-    (let until = c.requires.until in let there = c.requires.there in omega arith) c.if-rows.true c.requires.within c.add_entry.ensures
+    c.requires.there.0 c.if-rows.true c.requires.within c.add_entry.ensures
 
 pub returns-else-rows : goal.returns-else-rows
 returns-else-rows g c = none_added c.args.rows.now c.args.index (c.args.index + 1) c.args.balances.now (omega arith) c.if-rows.false
