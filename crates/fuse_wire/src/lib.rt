@@ -3,12 +3,11 @@
 //! [`frame`] cuts a stream into messages, and [`Request::read`] says what one asks, for every
 //! opcode. [`put_head`] and its like append a whole reply each; a READDIR's is written row by row,
 //! [`put_data_head`] and then [`put_dirent`] or [`put_direntplus`], or [`set_data_head`] and
-//! [`set_direntplus`] over bytes that stand. Definitions in `specs/` restate the protocol, field by
-//! field; [`laws`] says that a stream is cut in one way, [`examples`] what each opcode asks.
-//! Framing and reading take no memory, and a few steps for each byte; names are borrowed. What
-//! appends asks for memory at most once, for the growth of the vector, which is as before where
-//! that is refused; where there is room nothing fails. The crate stands on `node_attr`, `byteorder`
-//! and `memchr`.
+//! [`set_direntplus`] over bytes that stand. Definitions in `specs/` restate the protocol; [`laws`]
+//! says that a stream is cut in one way, [`examples`] what each opcode asks. Framing and reading
+//! take no memory, and a few steps for each byte; names are borrowed. What appends asks for memory
+//! at most once, for the vector's growth, and leaves it as it was where that is refused; where
+//! there is room nothing fails. The crate stands on `node_attr`, `byteorder`, `memchr`.
 #![tactic(auto)]
 
 mod body;
