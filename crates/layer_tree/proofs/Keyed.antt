@@ -17,7 +17,7 @@ use Rattle.name_keys.specs.Keys.{key, AreBytes}
 use Rattle.name_keys.proofs.Order.{all_bytes, each_byte, bytes-drop, key_order, cmp-front}
 use Rattle.path_tree.specs.Rows.{name_cmp}
 use Rattle.layer_tree.specs.declared.members.NamedMember.{NamedMember}
-use Rattle.layer_tree.specs.Members.{Begins, IsKeyed, AreKeyed, AreToldApart, keyed_past, keyless, IsByName}
+use Rattle.layer_tree.specs.Members.{HasFront, IsKeyed, AreKeyedBehind, AreToldApart, keyed_past, keyless, IsByName}
 
 -- where names rise keys do not fall
 less_by_both : (front : List ℕ) (x y : NamedMember) → IsKeyed front x → IsKeyed front y → name_cmp x.name.now y.name.now ≡ Less
@@ -44,28 +44,28 @@ not_less front x y p q f = pick (name_cmp x.name.now y.name.now) refl
     pick Greater e = refl
 
 -- members that are sorted by keys, and then by names, are sorted by names
-pub by_name : (ms : List NamedMember) → AreKeyed ms → IsSorted (λ x y. name_cmp (x.key ∷ x.name.now) (y.key ∷ y.name.now)) ms
+pub by_name : (ms : List NamedMember) → AreKeyedBehind ms → IsSorted (λ x y. name_cmp (x.key ∷ x.name.now) (y.key ∷ y.name.now)) ms
     → IsByName ms
 by_name ms keyed up k d l m =
     not_less keyed.front (slice_index_or ms (k + 1) d) (slice_index_or ms k d) (keyed.each (k + 1) d m)
     (keyed.each k d (omega arith)) (up k d l m)
 
 -- lists whose first bytes are the same both begin with these
-pub begins_both : (n : ℕ) (x y : List ℕ) → take n x ≡ take n y → Begins (take n x) y
+pub begins_both : (n : ℕ) (x y : List ℕ) → take n x ≡ take n y → HasFront (take n x) y
 begins_both n x y e = record {
   rest = drop n y;
   is = sym (take-append-drop n y) ∙ ap (λ front. front ++ drop n y) (sym e);
 }
 
 -- what begins with a list begins with what that begins with
-pub begins_less : (less front name : List ℕ) → Begins less front → Begins front name → Begins less name
+pub begins_less : (less front name : List ℕ) → HasFront less front → HasFront front name → HasFront less name
 begins_less less front name p q = record {
   rest = p.rest ++ q.rest;
   is = q.is ∙ ap (λ xs. xs ++ q.rest) p.is ∙ append_assoc less p.rest q.rest;
 }
 
 -- the key behind what a name begins with
-keyed_behind : (front : List ℕ) (m : NamedMember) → IsKeyed [] m → Begins front m.name.now → IsKeyed front (keyed_past (length front) m)
+keyed_behind : (front : List ℕ) (m : NamedMember) → IsKeyed [] m → HasFront front m.name.now → IsKeyed front (keyed_past (length front) m)
 keyed_behind front m p b =
     let name = m.name.now in
     let rest = front_rest name front b.rest b.is in
@@ -92,7 +92,7 @@ same_members n [] = refl
 same_members n (m ∷ ms) = ap (λ xs. keyless m ∷ xs) (same_members n ms)
 
 -- keys behind a front that all names share are keys of the same members
-pub told_apart : (front : List ℕ) (ms : List NamedMember) → All (IsKeyed []) ms → All (λ m. Begins front m.name.now) ms
+pub told_apart : (front : List ℕ) (ms : List NamedMember) → All (IsKeyed []) ms → All (λ m. HasFront front m.name.now) ms
     → AreToldApart ms (map (keyed_past (length front)) ms)
 told_apart front ms p b = record {
   keyed = record {

@@ -8,7 +8,7 @@ use Rattle.path_tree.specs.Rows.{name_cmp}
 use Rattle.layer_tree.specs.declared.members.NamedMember.{NamedMember}
 
 -- the name begins with the front
-pub record Begins (front name : List ℕ) : Type 0 where
+pub record HasFront (front name : List ℕ) : Type 0 where
   pub rest : List ℕ
   pub is : name ≡ front ++ rest
 
@@ -20,7 +20,7 @@ pub record IsKeyed (front : List ℕ) (m : NamedMember) : Type 0 where
   pub bytes : AreBytes rest
 
 -- all names begin with one front, and the keys are made of the bytes behind it
-pub record AreKeyed (ms : List NamedMember) : Type 0 where
+pub record AreKeyedBehind (ms : List NamedMember) : Type 0 where
   pub front : List ℕ
   pub each : All (IsKeyed front) ms
 
@@ -40,7 +40,7 @@ keyless m = (m.name.now, m.head)
 -- the members are the same but for their keys, which are made of the bytes behind what all names
 -- begin with
 pub record AreToldApart (old new : List NamedMember) : Type 0 where
-  pub keyed : AreKeyed new
+  pub keyed : AreKeyedBehind new
   pub same : map keyless new ≡ map keyless old
 
 -- in the order of their names

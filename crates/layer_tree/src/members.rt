@@ -12,7 +12,7 @@ ghost use Rattle.romfs_reader.specs.Readers.{IsGiven};
 ghost use Rattle.stack_model.specs.Stack.{marker, IsMarker};
 ghost use Rattle.name_keys.specs.Keys.{key, AreBytes};
 ghost use Rattle.path_tree.specs.Rows.{name_cmp};
-ghost use Rattle.layer_tree.specs.Members.{Begins, IsKeyed, AreKeyed, AreNamed, AreToldApart, keyed_past, IsByName};
+ghost use Rattle.layer_tree.specs.Members.{HasFront, IsKeyed, AreKeyedBehind, AreNamed, AreToldApart, keyed_past, IsByName};
 ghost use Rattle.layer_tree.specs.Reading.{AreByName};
 
 use romfs_reader::{Head, Image, Kind, Members};
@@ -83,7 +83,7 @@ fn tell_apart(members: &mut [NamedMember<'_>])
 
 /// What the names of these members all begin with.
 fn front<'a>(members: &[NamedMember<'a>]) -> &'a [u8]
-    ensures { All (λ m. Begins result.now m.name.now) members.now }
+    ensures { All (λ m. HasFront result.now m.name.now) members.now }
 {
     let Some(first) = members.first() else {
         return &[];
@@ -97,8 +97,8 @@ fn front<'a>(members: &[NamedMember<'a>]) -> &'a [u8]
 
 /// What two names both begin with.
 fn shared<'a>(x: &'a [u8], y: &[u8]) -> &'a [u8]
-    ensures first { Begins result.now x.now }
-    ensures second { Begins result.now y.now }
+    ensures first { HasFront result.now x.now }
+    ensures second { HasFront result.now y.now }
 {
     &x[..name_keys::shared(x, y)]
 }
@@ -115,7 +115,7 @@ fn set_keys(members: &mut [NamedMember<'_>], shared: usize)
 
 /// Sorts members by name, byte by byte.
 fn sort_by_name<A: Allocator>(members: &mut Vec<NamedMember<'_>, A>)
-    requires { AreKeyed members.old.items }
+    requires { AreKeyedBehind members.old.items }
     ensures same { IsPermutation members.old.items members.new.items }
     ensures sorted { IsByName members.new.items }
 {

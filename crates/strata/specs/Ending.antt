@@ -244,7 +244,7 @@ pub record IsDoneInPart (A : Type 0) (words : List (List ℕ)) (fault : Fault)
   pub stopped : IsStoppedOver A line.verb line images fault old new
 
 -- one of the images that the words name could not be read
-pub record IsUnread (words : List (List ℕ)) (fault : Fault) : Type 0 where
+pub record HasUnreadImage (words : List (List ℕ)) (fault : Fault) : Type 0 where
   pub line : Line
   pub image : ℕ
   pub line_is : IsLineOf words line
@@ -261,7 +261,7 @@ pub record AreNotTaken (words : List (List ℕ)) (fault : Fault) : Type 0 where
 -- touched
 pub record IsEarly (words : List (List ℕ)) (fault : Fault) (old new : Devices) : Type 0 where
   pub kept : new ≡ old
-  pub which : AreNotTaken words fault ⊎ (IsUnread words fault ⊎ (fault ≡ out_of_memory))
+  pub which : AreNotTaken words fault ⊎ (HasUnreadImage words fault ⊎ (fault ≡ out_of_memory))
 
 -- these words were read: their line, or the fault of them
 abbrev pub IsReadAs : List (List ℕ) → Result Line LineFault → Type 0
