@@ -34,8 +34,8 @@ pub struct Terms<'a, G> {
 }
 
 /// Serves the source's stream of requests over a table into the sink, in at most as many pulls as
-/// its terms allow, of at most 65,536 bytes each. The bytes put are the replies to the stream, for every plan and
-/// however it is cut into pulls.
+/// its terms allow, of at most 65,536 bytes each. The bytes put are the replies to the stream, for
+/// every plan and however it is cut into pulls.
 ///
 /// - `Ok`: the stream came to its end between two messages: nothing is left of it, and all replies
 ///   are written and flushed.
