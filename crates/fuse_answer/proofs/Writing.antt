@@ -168,11 +168,27 @@ part_is before head rows bytes items start is same at =
     take_rest bytes start ∙ ap (drop start) (same ∙ is ∙ append_assoc before head rows) ∙ drop_at before (head ++ rows) start (sym at)
 
 -- and as long as both
-pub part_long : (before head rows bytes items : List ℕ) (start : ℕ) → items ≡ (before ++ head) ++ rows → bytes ≡ items
+part_long : (before head rows bytes items : List ℕ) (start : ℕ) → items ≡ (before ++ head) ++ rows → bytes ≡ items
     → start ≡ length before → length head ≡ 16 → length (take (length bytes - start) (drop start bytes)) ≡ 16 + length rows
 part_long before head rows bytes items start is same at long =
     let part = ap length (part_is before head rows bytes items start is same at) in
     let both = length-append head rows in
+    omega arith
+
+-- where a header and rows were appended, the bytes from their place on are as long as both
+pub reply_long : (before made head headed rows items bytes : List ℕ) (start : ℕ) → made ≡ before → headed ≡ made ++ head
+    → items ≡ headed ++ rows → bytes ≡ items → start ≡ length before → length head ≡ 16
+    → length (take (length bytes - start) (drop start bytes)) ≡ 16 + length rows
+reply_long before made head headed rows items bytes start kept put all =
+    part_long before head rows bytes items start (rows_behind before made head headed rows items kept put all)
+
+-- where there was room for a header and so many bytes, and the header was put, there is room for these
+pub room_left : (before made head headed : List ℕ) (old_len headed_len made_room headed_room size : ℕ) → made ≡ before
+    → headed ≡ made ++ head → length head ≡ 16 → old_len ≡ length before → headed_len ≡ length headed
+    → old_len + (16 + size) ≤ made_room → made_room ≤ headed_room → headed_len + size ≤ headed_room
+room_left before made head headed old_len headed_len made_room headed_room size kept put long at len room grown =
+    let same = ap length kept in
+    let both = ap length put ∙ length-append made head in
     omega arith
 
 -- a header is set in front of rows, over the bytes from its place on
