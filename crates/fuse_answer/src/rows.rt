@@ -23,9 +23,9 @@ use std::alloc::{AllocError, Allocator};
 /// Zeros over which rows are set.
 const ZEROS: [u8; 1024] = [0; 1024];
 
-/// Over zeros for how many rows rows are set at once: few enough for the zeros to be in the
-/// processor's cache still when the rows are.
-const ROWS_AT_ONCE: usize = 46;
+/// Over zeros for how many more rows than one rows are set at once: few enough for the zeros to be
+/// in the processor's cache still when the rows are.
+const MORE_AT_ONCE: usize = 46;
 
 /// The names of the first two rows, with zeros behind them.
 const DOT: &[u8; 22] = b".\0\0\0\0\0\0\0\0\0\0\0\0\0\0\0\0\0\0\0\0\0";
@@ -118,7 +118,7 @@ fn set_rows<A: Allocator, O: Allocator>(
     balances: &mut [i128],
 ) -> usize
     requires first { rows.now.from ≤ from }
-    requires there { from ≤ 2 + length rows.now.children.now }
+    requires there { from < 2 + length rows.now.children.now }
     requires limit { vec_len out.old ≤ limit }
     requires within { AreWithin (2 ^ 123 + (from - rows.now.from)) balances.old }
     ensures from { from ≤ result }
@@ -132,8 +132,8 @@ fn set_rows<A: Allocator, O: Allocator>(
         return from;
     }
     let start = out.len();
-    let left = (count(rows.children) - from).min(ROWS_AT_ONCE);
-    let wanted = (limit - start).min(left * SHORT_ROW_SIZE) + SHORT_ROW_SIZE;
+    let more = (count(rows.children) - from - 1).min(MORE_AT_ONCE);
+    let wanted = (limit - start).min(more * SHORT_ROW_SIZE) + SHORT_ROW_SIZE;
     put_zeros(out, wanted.min(out.capacity() - start));
     let (next, at) = set_over(
         table,
