@@ -31,11 +31,15 @@ impl Occupancy {
     }
 }
 
-// Where a key falls among this many slots.
+// Where a key falls among this many slots. Small multiples of 16, as places of headers are, have
+// slots of their own.
 fn slot_of(key: u64, slots: usize) -> usize
     requires { slots ≤ 2 ^ 32 }
     ensures { result ≡ slot_of key slots }
 {
+    if key / 16 < slots as u64 {
+        return (key / 16) as usize;
+    }
     let (upper, lower) = (key / 0x1_0000_0000, key % 0x1_0000_0000);
     let mixed = (lower * 0x9e37_79b1 + upper * 0x85eb) % 0x1_0000_0000;
     (mixed * slots as u64 / 0x1_0000_0000) as usize

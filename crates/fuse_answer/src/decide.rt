@@ -13,7 +13,7 @@ use crate::sessions::{agreement_of, is_spoken};
 use fuse_wire::forget::Forget;
 use fuse_wire::{Errno, InitOut, Op, Request, opcode};
 use reply_model::{Agreement, Session};
-use stack_table::Table;
+use stack_table::{Guess, Table};
 use std::alloc::Allocator;
 
 /// What is decided about a request.
@@ -22,7 +22,7 @@ pub(crate) fn decide<'a, A: Allocator>(
     table: &'a Table<A>,
     session: Session,
     request: &Request<'a>,
-    guess: Option<usize>,
+    guess: Guess,
 ) -> Result<Answer<'a, A>, Errno>
     ensures { Decides table.now session (asked_of request.now) result }
 {
@@ -77,7 +77,7 @@ fn go_on<'a, A: Allocator>(
     table: &'a Table<A>,
     agreed: Agreement,
     request: &Request<'a>,
-    guess: Option<usize>,
+    guess: Guess,
 ) -> Result<Answer<'a, A>, Errno>
     ensures { DecidesIn table.now false agreed (asked_of request.now) result }
 {

@@ -11,7 +11,7 @@ use fuse_wire::Errno;
 use fuse_wire::limits::MAX_NAME_SIZE;
 use reply_model::Agreement;
 use romfs_format::Kind;
-use stack_table::Table;
+use stack_table::{Guess, Table};
 use std::alloc::Allocator;
 
 /// What LOOKUP is answered. In a session with `FUSE_EXPORT_SUPPORT` the name `.` finds the node
@@ -23,7 +23,7 @@ pub(crate) fn look_up<'a, A: Allocator>(
     agreed: Agreement,
     number: u64,
     name: &[u8],
-    guess: Option<usize>,
+    guess: Guess,
 ) -> Result<Answer<'a, A>, Errno>
     ensures { DecidesAt table.now agreed number (lookup name.now) result }
 {
@@ -67,7 +67,7 @@ fn found<A: Allocator>(
     export: bool,
     number: u64,
     name: &[u8],
-    guess: Option<usize>,
+    guess: Guess,
 ) -> Option<u64>
     ensures { FindsBelow table.now export number name.now result }
 {

@@ -17,7 +17,7 @@ use crate::rows::line_at;
 use fuse_wire::Request;
 use fuse_wire::forget::{Forget, Forgets};
 use reply_model::{Move, Session};
-use stack_table::Table;
+use stack_table::{Guess, Table};
 use std::alloc::{AllocError, Allocator};
 
 /// Appends what a request gives and takes, in order: one lookup for the entry of a LOOKUP and for
@@ -35,7 +35,7 @@ pub fn moves<A: Allocator, M: Allocator>(
     ensures moves { PutsMoves table.now session (asked_of request.now) result into.old into.new }
     ensures small { AreSmall into.old.items → AreSmall into.new.items }
 {
-    let Ok(answer) = decide(table, session, request, None) else {
+    let Ok(answer) = decide(table, session, request, Guess::Unknown) else {
         return Ok(());
     };
     let len = into.len();

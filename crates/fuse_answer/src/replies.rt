@@ -14,7 +14,7 @@ use crate::rows::put_rows;
 use crate::write::write;
 use fuse_wire::{Errno, Op, Request, opcode, put_error};
 use reply_model::Session;
-use stack_table::Table;
+use stack_table::{Guess, Table};
 use std::alloc::{AllocError, Allocator};
 
 // A request, the session before it, and a guess of the row that it finds.
@@ -22,7 +22,7 @@ use std::alloc::{AllocError, Allocator};
 struct InSession<'r, 'b> {
     session: Session,
     request: &'r Request<'b>,
-    guess: Option<usize>,
+    guess: Guess,
 }
 
 /// Appends the reply to a request: nothing for FORGET, BATCH_FORGET and INTERRUPT, else a header
@@ -42,7 +42,7 @@ pub fn answer<A: Allocator, O: Allocator>(
         table,
         session,
         request,
-        &decide(table, session, request, None),
+        &decide(table, session, request, Guess::Unknown),
         out,
     )
 }
@@ -60,7 +60,7 @@ pub fn answer_and_move<A: Allocator, O: Allocator>(
     table: &Table<A>,
     session: Session,
     request: &Request<'_>,
-    guess: Option<usize>,
+    guess: Guess,
     out: &mut Vec<u8, O>,
     balances: &mut [i128],
 ) -> Result<(), AllocError>

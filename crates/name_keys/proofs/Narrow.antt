@@ -1,6 +1,6 @@
 -- Names whose keys differ have other bytes. So a search among keys leaves out only names that are
 -- not the one sought: `narrows`.
-use Rattle.std.proofs.Common.{◌≡◌, ◌≢◌, ◌∙◌, sym, ap, ℕ, ◌<◌, inl, inr, List, [], ◌++◌, length, take, drop, arith, All}
+use Rattle.std.proofs.Common.{◌≡◌, ◌≢◌, ◌∙◌, sym, ap, subst, ℕ, ◌<◌, Bool, inl, inr, List, [], ◌++◌, length, take, drop, arith, All}
 use Rattle.std.specs.Cmp.Lexicographic.{slice_cmp}
 use Rattle.std.specs.List.{slice_index_or}
 use Rattle.std.specs.List.Sorted.{IsNonDecreasingBy}
@@ -9,6 +9,7 @@ use Rattle.std.specs.declared.cmp.Ordering.TheVariants.{Less}
 use Rattle.std.proofs.lemmas.Bool.{cases_order}
 use Rattle.std.proofs.lemmas.List.{get_or-map, length-map, take-append-drop}
 use Rattle.name_keys.specs.Keys.{key}
+use Rattle.name_keys.specs.Noted.{IsNoted}
 use Rattle.name_keys.specs.Runs.{IsKeyRun}
 use Rattle.name_keys.specs.Keyed.{AreKeyed, Narrows, first_of}
 use Rattle.name_keys.proofs.Fronts.{long_each}
@@ -62,6 +63,13 @@ module _ (shared : ℕ) (keys : List ℕ) (names : List (List ℕ)) (is : AreKey
         before = λ k d z m. other_key name k d (omega arith) (rw (← made) (run.before k 0 z m));
         after = λ k d m s. other_key name k d s (rw (← made) (run.after k 0 m (omega arith)));
       }
+
+  -- a name whose key was not noted is none of these
+  pub not_noted : (name : List ℕ) (bits : List Bool) (directory t : ℕ) → t ≡ key 8 (drop shared name)
+      → All (IsNoted bits directory) keys → ¬ IsNoted bits directory t → All (λ its. its ≢ name) names
+  not_noted name bits directory t made noted other k d l =
+      let n = length-keys in
+      other_key name k d l (λ same. other (subst (λ (x : ℕ). IsNoted bits directory x) (same ∙ sym made) (noted k 0 (omega (arith, n)))))
 
   -- a name that is shorter than what all share is none of these
   pub too_short : (name : List ℕ) → length name < shared → All (λ its. its ≢ name) names

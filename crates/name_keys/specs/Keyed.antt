@@ -1,8 +1,12 @@
 -- What the keys of a directory's names say of them.
-use Rattle.std.specs.Prelude.{◌≡◌, ◌≢◌, ℕ, ◌≤◌, List, [], ◌++◌, length, map, take, drop, All}
+use Rattle.std.specs.Prelude.{◌≡◌, ◌≢◌, ℕ, ◌≤◌, ◌<◌, List, [], ◌++◌, length, map, take, drop, slice_index, All}
 use Rattle.std.specs.List.{slice_index_or, AllWithin}
 use Rattle.name_keys.specs.Names.{Rise}
 use Rattle.name_keys.specs.Keys.{key, AreBytes}
+
+-- two names have no more bytes alike at their fronts: where both go on, they differ
+pub record IsMost (shared : ℕ) (x y : List ℕ) : Type 0 where
+  pub differ : shared < length x → shared < length y → slice_index x shared ≢ slice_index y shared
 
 -- the first name, and no bytes where there is none
 abbrev pub first_of : List (List ℕ) → List ℕ

@@ -2,3 +2,4 @@ pub mod Names
 pub mod Keys
 pub mod Runs
 pub mod Keyed
+pub mod Noted

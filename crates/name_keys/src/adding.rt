@@ -3,7 +3,7 @@
 ghost use Rattle.std.specs.Prelude.{◌≡◌, ◌≤◌, length, map, take, drop, IfOk};
 ghost use Rattle.name_keys.specs.Names.{Rise};
 ghost use Rattle.name_keys.specs.Keys.{key, AreBytes};
-ghost use Rattle.name_keys.specs.Keyed.{ShareFront, AddsKeys};
+ghost use Rattle.name_keys.specs.Keyed.{ShareFront, AddsKeys, IsMost};
 
 use crate::has_name::HasName;
 use crate::key::key_of;
@@ -54,6 +54,7 @@ pub fn shared(a: &[u8], b: &[u8]) -> usize
     ensures bound_a { result ≤ length a.now }
     ensures bound_b { result ≤ length b.now }
     ensures same { take result a.now ≡ take result b.now }
+    ensures most { IsMost result a.now b.now }
 {
     let mut len = 0;
     while len < a.len() && len < b.len() && a[len] == b[len] {

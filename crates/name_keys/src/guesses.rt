@@ -10,8 +10,9 @@ use crate::has_name::HasName;
 use crate::key::key_of;
 use std::alloc::{AllocError, Allocator};
 
-/// How many slots are looked at for one name.
-const PROBES: usize = 4;
+/// How many slots are looked at for one name at the most: those of a line of the cache, so that of
+/// a thousand rows not one lacks a slot.
+const PROBES: usize = 16;
 
 /// What stands where no row was noted.
 const NOWHERE: u32 = u32::MAX;

@@ -2,31 +2,47 @@
 //!
 //! A look-up searches among keys that stand side by side, by halves and with no branch on what it
 //! compares, and reads one row, whose name is compared as a whole. Where several names have one
-//! key, these are searched by whole names.
+//! key, these are searched by whole names. Most names that are not there have a key that the filter
+//! has not noted, and are searched nowhere.
 
-ghost use Rattle.std.specs.Prelude.{◌≡◌, map};
+ghost use Rattle.std.specs.Prelude.{◌≡◌, map, All};
 ghost use Rattle.name_keys.specs.Names.{Rise, place_of};
 ghost use Rattle.name_keys.specs.Keyed.{AreKeyed, Narrows};
+ghost use Rattle.name_keys.specs.Noted.{IsNoted};
 
 use crate::has_name::HasName;
 use crate::key::key_of;
+use crate::key_filter::KeyFilter;
 use crate::run::run_of;
+use std::alloc::Allocator;
 use std::cmp::Ordering;
 
 /// The place of the row with this name, counted from 0: by key to the rows whose keys are equal,
 /// and among these by name; None where no row has the name, which may be any bytes, of any number.
 ///
-/// `keys` and `shared` are what [`add_keys`] made of these rows.
+/// `keys` and `shared` are what [`add_keys`] made of these rows, and the filter has noted the keys
+/// under the directory's number.
 ///
 /// [`add_keys`]: crate::add_keys
-pub fn find<T: HasName>(rows: &[T], keys: &[u64], shared: usize, name: &[u8]) -> Option<usize>
-    requires { AreKeyed shared keys.now (map T.name rows.now) }
+pub fn find<T: HasName, A: Allocator>(
+    rows: &[T],
+    keys: &[u64],
+    shared: usize,
+    filter: &KeyFilter<A>,
+    directory: u64,
+    name: &[u8],
+) -> Option<usize>
+    requires keyed { AreKeyed shared keys.now (map T.name rows.now) }
+    requires noted { All (IsNoted filter.now directory) keys.now }
     ensures { result ≡ place_of name.now (map T.name rows.now) }
 {
     if name.len() < shared {
         return None;
     }
     let key = key_of(&name[shared..]);
+    if !filter.may_have(directory, key) {
+        return None;
+    }
     let (low, high) = run_of(keys, key);
     if low + 1 != high {
         return find_by_name(rows, name, low, high);

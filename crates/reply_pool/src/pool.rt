@@ -94,7 +94,7 @@ impl<'r, A: Allocator, G: Gate> AnswersOne for OneRound<'r, A, G> {
     ) -> Result<Session, AllocError> {
         pass_batch(self.gate, self.plan, number);
         let request = Request::read(message);
-        let guess = self.ahead.place(number);
+        let guess = self.ahead.guess(number);
         answer_and_move(self.table, session, &request, guess, replies, balances)?;
         Ok(after(session, &request))
     }

@@ -7,20 +7,28 @@
 //! reads waits for that of another request, so they overlap. No answer follows from what is read:
 //! the answer to a LOOKUP is given the place that was guessed for it, and looks whether the row
 //! there has the name. It takes a few steps for each message of the round, as long as every fourth
-//! is a LOOKUP, and no memory.
+//! is a LOOKUP, and no memory. Of a small table, which stays in the caches, nothing is read ahead.
 
 ghost use Rattle.std.specs.Prelude.{◌≤◌};
 ghost use Rattle.fuse_wire.specs.declared.limits.TheConstants.{MAX_ROUND_MESSAGES};
 
 use fuse_wire::limits::MAX_ROUND_MESSAGES;
 use fuse_wire::{Framed, frame, glance};
-use stack_table::{Row, Table, hashed};
+use stack_table::{Guess, Row, Table, hashed};
 use std::alloc::Allocator;
+
+/// A table with fewer nodes than this stays in the processor's second cache, with some 80 bytes a
+/// node.
+const MANY: u64 = 8_192;
+
+/// So many LOOKUPs fewer than every fourth message may be seen before no more are looked for.
+const HEAD_START: usize = 4;
 
 /// What was read ahead.
 #[derive(Drop)]
 pub struct LookupsAhead {
-    // One more than the place where the row of each message may stand, if it is a LOOKUP, else 0.
+    // Two more than the place where the row of each message may stand, if it is a LOOKUP, or 1 where
+    // none was noted; else 0.
     places: [u32; MAX_ROUND_MESSAGES],
     // A sum of all that was read, so that no compiler leaves the reading out.
     sum: u64,
@@ -36,18 +44,26 @@ impl LookupsAhead {
     }
 
     /// Where the row may stand that the answer to the message with this number reads, if it is a
-    /// LOOKUP. It is a guess, and none says nothing.
+    /// LOOKUP.
     #[inline(always)]
-    pub fn place(&self, number: u32) -> Option<usize> {
+    pub fn guess(&self, number: u32) -> Guess {
         match self.places.get(number as usize) {
-            Some(noted) => place_noted(*noted),
-            None => None,
+            Some(noted) => guess_noted(*noted),
+            None => Guess::Unknown,
         }
     }
 
-    /// Reads what the answers to the LOOKUPs at the front of a stream will read.
-    #[inline(never)]
+    /// Reads what the answers to the LOOKUPs at the front of a stream will read, where the table is
+    /// large.
     pub fn read<A: Allocator>(&mut self, table: &Table<A>, stream: &[u8], balances: &[i128]) {
+        if MANY <= table.len() {
+            self.read_all(table, stream, balances);
+        }
+    }
+
+    // The same, of any table.
+    #[inline(never)]
+    fn read_all<A: Allocator>(&mut self, table: &Table<A>, stream: &[u8], balances: &[i128]) {
         let mut words = [0; MAX_ROUND_MESSAGES];
         let seen = hash_all(stream, &mut words);
         let hashes = &words[..seen];
@@ -65,10 +81,7 @@ impl LookupsAhead {
     fn guess_all<A: Allocator>(&mut self, table: &Table<A>, hashes: &[u64]) {
         for (place, hash) in self.places.iter_mut().zip(hashes) {
             if *hash != 0 {
-                *place = match table.guess(*hash) {
-                    Some(guessed) => noted(guessed),
-                    None => 0,
-                };
+                *place = noted(table.guess(*hash));
             }
         }
     }
@@ -84,7 +97,7 @@ impl LookupsAhead {
         let mut rows = 0usize;
         let mut sum = 0;
         for noted in self.places.iter().take(seen) {
-            match place_noted(*noted).and_then(|place| table.guessed(place)) {
+            match row_noted(table, *noted) {
                 Some(row) if rows < numbers.len() => {
                     numbers[rows] = row.number;
                     rows += 1;
@@ -114,7 +127,7 @@ fn hash_all(stream: &[u8], hashes: &mut [u64; MAX_ROUND_MESSAGES]) -> usize
                 hashes[message] = hashed(node, name);
                 lookups = lookups.wrapping_add(1);
             }
-            None if lookups < message / 4 => return message,
+            None if lookups.wrapping_add(HEAD_START) < message / 4 => return message,
             None => {}
         }
         rest = &rest[len..];
@@ -122,21 +135,31 @@ fn hash_all(stream: &[u8], hashes: &mut [u64; MAX_ROUND_MESSAGES]) -> usize
     MAX_ROUND_MESSAGES
 }
 
-// The number that tells a place.
-fn noted(place: usize) -> u32 {
-    if place < u32::MAX as usize {
-        place as u32 + 1
-    } else {
-        0
+// The number that tells a place, or that none was noted.
+fn noted(place: Option<usize>) -> u32 {
+    match place {
+        None => 1,
+        Some(place) if place < u32::MAX as usize - 1 => place as u32 + 2,
+        Some(_) => 0,
     }
 }
 
-// The place that a number tells, which is one more; 0 tells none.
-fn place_noted(noted: u32) -> Option<usize> {
-    if noted == 0 {
-        None
-    } else {
-        Some((noted - 1) as usize)
+// The guess that a number tells.
+#[inline(always)]
+fn guess_noted(noted: u32) -> Guess {
+    match noted {
+        0 => Guess::Unknown,
+        1 => Guess::Nowhere,
+        _ => Guess::At((noted - 2) as usize),
+    }
+}
+
+// The row of a guess.
+#[inline(always)]
+fn row_noted<A: Allocator>(table: &Table<A>, noted: u32) -> Option<&Row<A>> {
+    match guess_noted(noted) {
+        Guess::At(place) => table.guessed(place),
+        _ => None,
     }
 }
 

@@ -12,11 +12,12 @@ use Rattle.stack_model.specs.Numbers.{Place, Child, nodes, node_of, number_of, n
 use Rattle.stack_model.specs.Attributes.{is_directory, is_directory_at, kind_at, attr_of}
 use Rattle.stack_model.proofs.Numbering.{number_used}
 use Rattle.stack_table.specs.declared.node.Node.{Node}
+use Rattle.stack_table.specs.declared.node.Brief.{Brief}
 use Rattle.stack_table.specs.declared.directory.Directory.{Directory}
 use Rattle.stack_table.specs.Stacked.{Stacked}
 use Rattle.stack_table.specs.Rows.{Line, number_named}
 use Rattle.stack_table.specs.Readers.{TellsNode, attr_at, parent_of, parent_at, child_of, child_at, rows_of, rows_at, data_of_number}
-use Rattle.stack_table.specs.Held.{held_at, kept_of, directory_held, attr_held, IsHeldDirectory, IsNode, IsTable}
+use Rattle.stack_table.specs.Held.{held_at, kept_of, directory_held, brief_of, attr_held, HaveKeys, IsHeldDirectory, IsNode, IsTable}
 
 -- the number of a place that has one
 number_is : (entries : List Entry) (n : ℕ) (p : Place) → node_of entries n ≡ Some p → number entries p ≡ n
@@ -39,6 +40,13 @@ step f name c cs false e i = rw e i
 named_child : (f : Place → ℕ) (name : List ℕ) (cs : List Child) → IsNamedAlike f name cs
 named_child f name [] = refl
 named_child f name (c ∷ cs) = step f name c cs (same_name name c.name) refl (named_child f name cs)
+
+-- what a map holds of a number is made of what is held of it
+held_map : {A B : Type 0} (f : A → B) (all : List A) (n : ℕ) → held_at (map f all) n ≡ option_map f (held_at all n)
+held_map f all zero = refl
+held_map f [] (suc k) = refl
+held_map f (x ∷ all) (suc zero) = refl
+held_map f (x ∷ all) (suc (suc k)) = held_map f all (suc k)
 
 module _ (layers : List (List ℕ)) (entries : List Entry) (held : List Node) (directories : List Directory) (rows : List Line)
     (keys : List ℕ) (blocks : ℕ) (t : IsTable layers entries held directories rows keys blocks) where
@@ -77,7 +85,7 @@ module _ (layers : List (List ℕ)) (entries : List Entry) (held : List Node) (d
       record { place_is = h.is ∙ ap Some (sym h.holds.place); kind_is = h.holds.kind ∙ ap (kind_at layers) (sym h.holds.place) }
 
   attr_same : (n : ℕ) (node : Node) (p : Place) → IsNode layers entries directories rows keys node p → number entries p ≡ n
-      → attr_held n node ≡ attr_of layers entries p
+      → attr_held n (brief_of node) ≡ attr_of layers entries p
   attr_same n node p h i =
       let size = h.size in
       let mode_is = h.mode_is in
@@ -85,15 +93,29 @@ module _ (layers : List (List ℕ)) (entries : List Entry) (held : List Node) (d
       let rdev_is = h.rdev_is in
       cc
 
-  -- the attributes made of a held node are those of its number
-  pub attr_is : (n : ℕ) (node : Node) → held_at held n ≡ Some node → Some (attr_held n node) ≡ attr_at stack n
-  attr_is n node e =
+  attr_here : (n : ℕ) (node : Node) → held_at held n ≡ Some node → Some (attr_held n (brief_of node)) ≡ attr_at stack n
+  attr_here n node e =
       let h = here n node e in
       rw h.is (ap Some (attr_same n node h.at h.holds (number_is entries n h.at h.is)))
 
-  -- what is not held has no attributes
-  pub attr_none : (n : ℕ) → held_at held n ≡ None → None ≡ attr_at stack n
-  attr_none n e = rw (nowhere n e) refl
+  -- the attributes made of what is held in brief are those of its number
+  pub attr_is : (n : ℕ) (brief : Brief) → held_at (map brief_of held) n ≡ Some brief → Some (attr_held n brief) ≡ attr_at stack n
+  attr_is n brief e = go (held_at held n) refl
+    where
+      go : (o : Option Node) → held_at held n ≡ o → Some (attr_held n brief) ≡ attr_at stack n
+      go None f = absurd (let z = sym e ∙ held_map brief_of held n ∙ ap (option_map brief_of) f in cc)
+      go (Some node) f =
+          let same : Some brief ≡ Some (brief_of node) = sym e ∙ held_map brief_of held n ∙ ap (option_map brief_of) f in
+          let is : brief ≡ brief_of node = cc in
+          rw is (attr_here n node f)
+
+  -- what is not held in brief has no attributes
+  pub attr_none : (n : ℕ) → held_at (map brief_of held) n ≡ None → None ≡ attr_at stack n
+  attr_none n e = go (held_at held n) refl
+    where
+      go : (o : Option Node) → held_at held n ≡ o → None ≡ attr_at stack n
+      go None f = rw (nowhere n f) refl
+      go (Some node) f = absurd (let z = sym e ∙ held_map brief_of held n ∙ ap (option_map brief_of) f in cc)
 
   -- a directory that is held is of a number in use, whose place is a directory
   pub record IsFound (n : ℕ) (directory : Directory) : Type 0 where
@@ -149,6 +171,10 @@ module _ (layers : List (List ℕ)) (entries : List Entry) (held : List Node) (d
   -- the keys of its rows are there
   pub keys_end : (n : ℕ) (d : Directory) → directory_held held directories n ≡ Some d → d.rows_end ≤ length keys
   keys_end n d e = let level = t.are.keys_level in let end = (found n d e).holds.end in omega arith
+
+  -- of each directory
+  pub have_keys : HaveKeys held directories keys
+  have_keys = record { each = λ n d e. ((found n d e).holds.start, keys_end n d e) }
 
   named_of : (p : Place) (name : List ℕ) → number_named name (rows_of layers entries p) ≡ child_of layers entries p name
   named_of p name = go (is_directory_at layers p)

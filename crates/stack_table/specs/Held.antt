@@ -1,5 +1,5 @@
 -- What a table holds, and what of it agrees with the listing of its layers.
-use Rattle.std.specs.Prelude.{◌≡◌, ℕ, zero, suc, ◌≤◌, List, length, slice_get, slice_range, Option, Some, None, true, if◌then◌else◌}
+use Rattle.std.specs.Prelude.{◌≡◌, ℕ, zero, suc, ◌≤◌, List, length, map, slice_get, slice_range, All, Bool, Option, Some, None, true, if◌then◌else◌}
 use Rattle.std.specs.Option.{option_and_then}
 use Rattle.romfs_reader.specs.Readers.{bytes_at, IsPart}
 use Rattle.stack_model.specs.Listing.{Entry, IsListing}
@@ -7,13 +7,15 @@ use Rattle.stack_model.specs.Numbers.{Place, nodes, number, parent}
 use Rattle.stack_model.specs.Attributes.{is_directory, kind_at, mode, size_at, rdev, nlink, blocks_of, blocks_all, data_of}
 use Rattle.node_attr.specs.declared.attr.Attr.{Attr}
 use Rattle.stack_table.specs.declared.node.Node.{Node}
+use Rattle.stack_table.specs.declared.node.Brief.{Brief}
 use Rattle.stack_table.specs.declared.directory.Directory.{Directory}
 use Rattle.name_keys.specs.Keyed.{AreKeyed}
+use Rattle.name_keys.specs.Noted.{IsNoted}
 use Rattle.stack_table.specs.Rows.{Line, names}
 use Rattle.stack_table.specs.Readers.{placed, rows_of}
 
--- the node of a number, counted from 1
-abbrev pub held_at : List Node → ℕ → Option Node
+-- what is held of a number, counted from 1
+abbrev pub held_at : {A : Type 0} → List A → ℕ → Option A
 held_at held zero = None
 held_at held (suc k) = slice_get held k
 
@@ -26,15 +28,24 @@ kept_of directories node =
 abbrev pub directory_held : List Node → List Directory → ℕ → Option Directory
 directory_held held directories n = option_and_then (kept_of directories) (held_at held n)
 
--- the attributes that a node holds
-abbrev pub attr_held : ℕ → Node → Attr
-attr_held n node = record {
-  ino = n;
+-- the attributes of a node but for its number
+abbrev pub brief_of : Node → Brief
+brief_of node = record {
   size = node.part.len;
-  blocks = blocks_of node.part.len;
   mode = node.mode;
   nlink = node.nlink;
   rdev = node.rdev;
+}
+
+-- the attributes of the node with a number
+abbrev pub attr_held : ℕ → Brief → Attr
+attr_held n brief = record {
+  ino = n;
+  size = brief.size;
+  blocks = blocks_of brief.size;
+  mode = brief.mode;
+  nlink = brief.nlink;
+  rdev = brief.rdev;
 }
 
 -- the data that the node holds lie in the place's layer, and are the place's
@@ -91,6 +102,26 @@ pub record IsTable (layers : List (List ℕ)) (entries : List Entry) (held : Lis
   pub listing : IsListing layers entries
   pub are : AreNodes layers entries held directories rows keys
   pub blocks_are : blocks ≡ blocks_all layers
+
+-- the keys of each directory's rows are there
+pub record HaveKeys (held : List Node) (directories : List Directory) (keys : List ℕ)
+    : Type 0 where
+  pub each : (n : ℕ) (d : Directory) → directory_held held directories n ≡ Some d
+      → (d.rows_start ≤ d.rows_end) × (d.rows_end ≤ length keys)
+
+-- the keys of the directories with numbers up to one are noted, each under its directory's
+pub record AreNotedUpTo (held : List Node) (directories : List Directory) (keys : List ℕ)
+    (filter : List Bool) (last : ℕ) : Type 0 where
+  pub each : (n : ℕ) (d : Directory) → n ≤ last → directory_held held directories n ≡ Some d
+      → All (IsNoted filter n) (slice_range keys d.rows_start d.rows_end)
+
+-- what a table holds: the attributes of its nodes are held once more, and all keys are noted
+pub record IsHeld (layers : List (List ℕ)) (entries : List Entry) (held : List Node)
+    (briefs : List Brief) (directories : List Directory) (rows : List Line) (keys : List ℕ)
+    (filter : List Bool) (blocks : ℕ) : Type 0 where
+  pub table : IsTable layers entries held directories rows keys blocks
+  pub briefs_are : briefs ≡ map brief_of held
+  pub noted : AreNotedUpTo held directories keys filter (length held)
 
 -- some listing of the layers makes it a table
 abbrev pub IsSomeTable : List (List ℕ) → List Node → List Directory → List Line → List ℕ → ℕ

@@ -10,12 +10,14 @@
 #![tactic(auto)]
 
 mod directory;
+mod guess;
 mod lookup;
 mod node;
 mod row;
 mod table;
 
 pub use directory::{Directories, Directory};
+pub use guess::Guess;
 pub use name_keys::hashed;
 pub use node::Node;
 pub use node_attr::Attr;

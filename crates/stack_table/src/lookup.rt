@@ -1,15 +1,18 @@
 //! Look-ups in the parts of a table.
 
-ghost use Rattle.std.specs.Prelude.{◌≡◌, ◌≤◌, ⊤, None, Some, MatchOption, length, slice_range};
+ghost use Rattle.std.specs.Prelude.{◌≡◌, ◌≤◌, ⊤, None, Some, MatchOption, IfOk, All, length, map, slice_range};
 ghost use Rattle.name_keys.specs.Names.{Rise, place_of};
 ghost use Rattle.name_keys.specs.Keyed.{AreKeyed};
-ghost use Rattle.stack_table.specs.Held.{attr_held, held_at, directory_held};
+ghost use Rattle.name_keys.specs.Noted.{IsNoted};
+ghost use Rattle.stack_table.specs.Held.{attr_held, brief_of, held_at, directory_held};
+ghost use Rattle.stack_table.specs.Held.{HaveKeys, AreNotedUpTo};
 ghost use Rattle.stack_table.specs.Rows.{names};
 
 use crate::directory::{Directories, Directory};
-use crate::node::Node;
+use crate::guess::Guess;
+use crate::node::{Brief, Node};
 use crate::row::Row;
-use name_keys::{Guesses, find};
+use name_keys::{Guesses, KeyFilter, find};
 use node_attr::Attr;
 use romfs_reader::Kind;
 use std::alloc::{AllocError, Allocator};
@@ -19,24 +22,55 @@ pub(crate) fn node_at(nodes: &[Node], number: u64) -> Option<&Node>
     ensures { MatchOption result (held_at nodes.now number ≡ None)
         (λ node. held_at nodes.now number ≡ Some node.now) }
 {
+    numbered(nodes, number)
+}
+
+// What stands at a number, counted from 1.
+pub(crate) fn numbered<T>(all: &[T], number: u64) -> Option<&T>
+    ensures { MatchOption result (held_at all.now number ≡ None)
+        (λ it. held_at all.now number ≡ Some it.now) }
+{
     if number == 0 {
         return None;
     }
-    nodes.get((number - 1) as usize)
+    all.get((number - 1) as usize)
 }
 
-// The attributes of a node with this number.
-pub(crate) fn attr_of(number: u64, node: &Node) -> Attr
-    ensures { result ≡ attr_held number node.now }
+// The attributes of nodes in brief, in the same order.
+pub(crate) fn briefs_of<A: Allocator>(alloc: A, nodes: &[Node]) -> Result<Vec<Brief, A>, AllocError>
+    ensures { IfOk result (λ briefs. briefs.items ≡ map brief_of nodes.now) }
 {
-    let size = u64::from(node.part.len);
+    let mut briefs = Vec::with_capacity(alloc, nodes.len())?;
+    for node in nodes {
+        briefs.push(brief_of(node))?;
+    }
+    Ok(briefs)
+}
+
+// The attributes of a node in brief.
+fn brief_of(node: &Node) -> Brief
+    ensures { result ≡ brief_of node.now }
+{
+    Brief {
+        size: node.part.len,
+        mode: node.mode,
+        nlink: node.nlink,
+        rdev: node.rdev,
+    }
+}
+
+// The attributes of a node with this number, which has these in brief.
+pub(crate) fn attr_of(number: u64, brief: &Brief) -> Attr
+    ensures { result ≡ attr_held number brief.now }
+{
+    let size = u64::from(brief.size);
     Attr {
         ino: number,
         size,
         blocks: (size + 511) / 512,
-        mode: node.mode,
-        nlink: node.nlink,
-        rdev: node.rdev,
+        mode: brief.mode,
+        nlink: brief.nlink,
+        rdev: brief.rdev,
     }
 }
 
@@ -74,28 +108,44 @@ pub(crate) fn keys_of<'a>(keys: &'a [u64], directory: &Directory) -> &'a [u64]
     &keys[directory.rows_start..directory.rows_end]
 }
 
+/// What tells of a name before the rows of its directory are searched.
+#[derive(Drop)]
+pub(crate) struct Hints<A: Allocator> {
+    /// Where rows stand.
+    pub(crate) guesses: Guesses<A>,
+    /// Which keys no row has.
+    pub(crate) filter: KeyFilter<A>,
+}
+
 // The place of this name among these rows of a directory with this number: by a guess that was made
-// before, where it is right, else by what is guessed, or by their keys.
+// before, where it is right, else by what is guessed, or by their keys. Where nothing can be
+// guessed it goes by their keys at once.
 #[inline(always)]
 pub(crate) fn place_of<A: Allocator>(
     rows: &[Row<A>],
     keys: &[u64],
-    guesses: &Guesses<A>,
+    hints: &Hints<A>,
     number: u64,
     directory: &Directory,
     name: &[u8],
-    guess: Option<usize>,
+    guess: Guess,
 ) -> Option<usize>
-    requires { AreKeyed directory.now.shared keys.now (names rows.now) }
+    requires keyed { AreKeyed directory.now.shared keys.now (names rows.now) }
+    requires noted { All (IsNoted hints.now.filter number) keys.now }
     ensures { result ≡ place_of name.now (names rows.now) }
 {
-    if let Some(at) = confirmed(rows, directory, name, guess) {
-        return Some(at);
+    if let Guess::At(guessed) = guess {
+        if let Some(at) = confirmed(rows, directory, name, guessed) {
+            return Some(at);
+        }
     }
-    match guesses.find(number, directory.rows_start, rows, name) {
-        Some(at) => Some(at),
-        None => find(rows, keys, directory.shared, name),
+    if !matches!(guess, Guess::Nowhere) {
+        let start = directory.rows_start;
+        if let Some(at) = hints.guesses.find(number, start, rows, name) {
+            return Some(at);
+        }
     }
+    find(rows, keys, directory.shared, &hints.filter, number, name)
 }
 
 // The place of this name, where it is the one that was guessed among all rows. None says nothing.
@@ -104,17 +154,37 @@ fn confirmed<A: Allocator>(
     rows: &[Row<A>],
     directory: &Directory,
     name: &[u8],
-    guess: Option<usize>,
+    guessed: usize,
 ) -> Option<usize>
     requires { Rise (names rows.now) }
     ensures { MatchOption result ⊤ (λ at. place_of name.now (names rows.now) ≡ Some at) }
 {
-    let at = guess?.wrapping_sub(directory.rows_start);
+    let at = guessed.wrapping_sub(directory.rows_start);
     if at < rows.len() && rows[at].name() == name {
         Some(at)
     } else {
         None
     }
+}
+
+// The keys of the rows of all directories, noted under the directories' numbers.
+pub(crate) fn filter_of<A: Allocator>(
+    alloc: A,
+    nodes: &[Node],
+    directories: &Directories<A>,
+) -> Result<KeyFilter<A>, AllocError>
+    requires { HaveKeys nodes.now directories.now.all.items directories.now.keys.items }
+    ensures { IfOk result (λ filter. AreNotedUpTo nodes.now directories.now.all.items
+        directories.now.keys.items filter (length nodes.now)) }
+{
+    let mut filter = KeyFilter::for_rows(alloc, directories.rows.len())?;
+    for at in 0..nodes.len() {
+        let number = at as u64 + 1;
+        if let Some(directory) = directory_at(nodes, &directories.all, number) {
+            filter.note_all(number, keys_of(&directories.keys, directory));
+        }
+    }
+    Ok(filter)
 }
 
 // Guesses of where the rows of all directories stand.

@@ -9,10 +9,13 @@ ghost use Rattle.stack_table.specs.Held.{IsSomeTable};
 ghost use Rattle.stack_table.specs.Readers.{TellsNode, attr_at, parent_at, child_at, rows_at, data_of_number};
 
 use crate::directory::{Directories, Directory};
-use crate::lookup::{attr_of, directory_at, guesses_of, keys_of, node_at, place_of, rows_of};
-use crate::node::Node;
+use crate::guess::Guess;
+use crate::lookup::{
+    Hints, attr_of, briefs_of, directory_at, filter_of, guesses_of, keys_of, node_at, numbered,
+    place_of, rows_of,
+};
+use crate::node::{Brief, Node};
 use crate::row::Row;
-use name_keys::Guesses;
 use node_attr::Attr;
 use romfs_reader::Image;
 use std::alloc::{AllocError, Allocator, Global};
@@ -20,8 +23,8 @@ use std::marker::Model;
 
 /// The nodes of a stack of layers, by number: attributes, rows and data.
 ///
-/// A clause sees the layers and their listing. Each node and row takes at most 96 bytes beside a
-/// name of more than 22 (16 of them for guesses of where names stand), and a directory 32 more. No
+/// A clause sees the layers and their listing. Each node and row takes at most 113 bytes beside
+/// a name of more than 22 (16 of them for guesses of where names stand), and a directory 32 more. No
 /// reader takes memory, and each answers for every number: 1 is the root, and a number that is not
 /// in use has nothing.
 ///
@@ -36,18 +39,23 @@ use std::marker::Model;
 /// All nodes lie in one vector by their numbers, and all rows in another, those of a directory
 /// together; beside each row lies the key by which its name is found (`name_keys`), where a guess
 /// does not tell the row. A node keeps where its data lie, so no answer parses a header, and only a
-/// directory keeps more: where its rows lie, and which directory is above.
+/// directory keeps more: where its rows lie, and which directory is above. Attributes lie once more
+/// in a list of their own, since most requests ask for nothing else of a node.
 #[derive(Drop)]
 pub struct Table<A: Allocator> {
     images: Vec<Image<A>, A>,
     nodes: Vec<Node, A>,
+    // The attributes of the nodes, in the same order.
+    briefs: Vec<Brief, A>,
     directories: Directories<A>,
-    guesses: Guesses<A>,
+    hints: Hints<A>,
     blocks: u64,
     ghost listing: { Listed images.items } by { listed_once images.items },
 }
 
 const _: () = prove!(size_of::<Node>() <= 40);
+
+const _: () = prove!(size_of::<Brief>() <= 16);
 
 const _: () = prove!(size_of::<Node>() + size_of::<Row<Global>>() + size_of::<u64>() <= 80);
 
@@ -55,15 +63,15 @@ const _: () = prove!(size_of::<Directory>() <= 32);
 
 impl<A: Allocator> Model for Table<A> {
     ghost use Rattle.stack_table.specs.Stacked.{Stacked};
-    ghost use Rattle.stack_table.specs.Held.{IsTable};
+    ghost use Rattle.stack_table.specs.Held.{IsHeld};
 
     ghost Value = { Stacked };
 
     ghost view = { λ held. record { layers = held.images.items; entries = held.listing.0 } };
 
-    ghost invariant = { λ held. IsTable held.images.items held.listing.0 held.nodes.items
-        held.directories.all.items held.directories.rows.items held.directories.keys.items
-        held.blocks };
+    ghost invariant = { λ held. IsHeld held.images.items held.listing.0 held.nodes.items
+        held.briefs.items held.directories.all.items held.directories.rows.items
+        held.directories.keys.items held.hints.filter held.blocks };
 }
 
 impl<A: Allocator + Copy> Table<A> {
@@ -81,11 +89,14 @@ impl<A: Allocator + Copy> Table<A> {
         ensures { IfOk result (λ table. IsTableOf images.items table) }
     {
         let guesses = guesses_of(alloc, &nodes, &directories)?;
+        let filter = filter_of(alloc, &nodes, &directories)?;
+        let briefs = briefs_of(alloc, &nodes)?;
         Ok(Table {
             images,
             nodes,
+            briefs,
             directories,
-            guesses,
+            hints: Hints { guesses, filter },
             blocks,
         })
     }
@@ -124,19 +135,19 @@ impl<A: Allocator> Table<A> {
     pub fn child(&self, number: u64, name: &[u8]) -> Option<u64>
         ensures { result ≡ child_at self.now number name.now }
     {
-        self.child_guessed(number, name, None)
+        self.child_guessed(number, name, Guess::Unknown)
     }
 
     /// The same, where a [`guess`](Table::guess) was made before. Any guess gives the same child,
     /// and of one that is right no other row is looked at.
     #[inline(always)]
-    pub fn child_guessed(&self, number: u64, name: &[u8], guess: Option<usize>) -> Option<u64>
+    pub fn child_guessed(&self, number: u64, name: &[u8], guess: Guess) -> Option<u64>
         ensures { result ≡ child_at self.now number name.now }
     {
         let directory = directory_at(&self.nodes, &self.directories.all, number)?;
         let rows = rows_of(&self.directories.rows, directory);
         let keys = keys_of(&self.directories.keys, directory);
-        let at = place_of(rows, keys, &self.guesses, number, directory, name, guess)?;
+        let at = place_of(rows, keys, &self.hints, number, directory, name, guess)?;
         let row = &rows[at];
         Some(row.number)
     }
@@ -144,14 +155,14 @@ impl<A: Allocator> Table<A> {
     /// Reads ahead what [`guess`](Table::guess) reads for these hashes. What comes of it says
     /// nothing.
     pub fn read_guesses(&self, hashes: &[u64]) -> u32 {
-        self.guesses.read_ahead(hashes)
+        self.hints.guesses.read_ahead(hashes)
     }
 
     /// Where the row of a directory's child may stand among all rows, by the
     /// [`hash`](crate::hashed) of the directory's number and the child's name. It is a guess, for
     /// whoever reads ahead: no answer follows from it.
     pub fn guess(&self, hash: u64) -> Option<usize> {
-        self.guesses.first(hash)
+        self.hints.guesses.first(hash)
     }
 
     /// The row that stands at a guessed place among all rows.
@@ -185,8 +196,8 @@ impl<A: Allocator> Table<A> {
     pub fn attr(&self, number: u64) -> Option<Attr>
         ensures { result ≡ attr_at self.now number }
     {
-        let node = node_at(&self.nodes, number)?;
-        Some(attr_of(number, node))
+        let brief = numbered(&self.briefs, number)?;
+        Some(attr_of(number, brief))
     }
 
     /// The data of a regular file, or the target of a symbolic link; empty where the number is

@@ -2,14 +2,22 @@ use Rattle.std.proofs.Common.{refl, List, ap, subst}
 use Rattle.stack_model.specs.Listing.{Entry, IsListing}
 use Rattle.stack_table.specs.Held.{IsTable}
 use Rattle.stack_table.specs.Stacked.{Listed, listed_once}
+use Rattle.stack_table.proofs.Nodes.{have_keys}
 use Rattle.stack_table.proofs.table.Table.of_parts.Goals as goal
+
+pub filter_of-requires : goal.filter_of-requires
+filter_of-requires g c = rw c.deref-2.ensures.value (have_keys _ _ _ _ _ _ _ c.requires.1)
 
 pub invariant_of-result-2 : goal.invariant_of-result-2
 invariant_of-result-2 g c =
     let mine : Listed c.args.images.items = (c.requires.0, ∣ c.requires.1.listing ∣₁) in
-    subst (λ (e : List Entry). IsTable c.args.images.items e c.args.nodes.items c.args.directories.all.items c.args.directories.rows.items
-    c.args.directories.keys.items c.args.blocks) (ap (λ x. x.0) (listed_once c.args.images.items mine c.result-1.given.0))
-    c.requires.1
+    record {
+      table = subst (λ (e : List Entry). IsTable c.args.images.items e c.args.nodes.items c.args.directories.all.items
+          c.args.directories.rows.items c.args.directories.keys.items c.args.blocks)
+          (ap (λ x. x.0) (listed_once c.args.images.items mine c.result-1.given.0)) c.requires.1;
+      noted = rw c.deref-2.ensures.value at c.in_ok-filter.ensures;
+      briefs_are = rw c.deref-3.ensures.value at c.in_ok-briefs.ensures;
+    }
 
 pub returns : goal.returns
 returns g c =
