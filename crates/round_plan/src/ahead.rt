@@ -27,8 +27,8 @@ const HEAD_START: usize = 4;
 /// What was read ahead.
 #[derive(Drop)]
 pub struct LookupsAhead {
-    // Two more than the place where the row of each message may stand, if it is a LOOKUP, or 1 where
-    // none was noted; else 0.
+    // Two more than the place where the row of each message may stand, if it is a LOOKUP, or 1
+    // where none was noted; else 0.
     places: [u32; MAX_ROUND_MESSAGES],
     // A sum of all that was read, so that no compiler leaves the reading out.
     sum: u64,

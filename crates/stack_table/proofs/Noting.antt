@@ -1,5 +1,5 @@
 -- Keys that are noted directory by directory, in the order of their numbers.
-use Rattle.std.proofs.Common.{◌≡◌, ◌∙◌, sym, refl, subst, ℕ, zero, suc, ◌+◌, ◌<◌, ◌≤◌, inl, inr, List, Bool, Option, Some, None, All, arith, length}
+use Rattle.std.proofs.Common.{◌≡◌, ◌∙◌, sym, refl, subst, ℕ, zero, suc, ◌+◌, ◌≤◌, inl, inr, List, Bool, Option, Some, None, All, arith, length}
 use Rattle.std.specs.Prelude.{slice_get, slice_range}
 use Rattle.std.specs.Option.{option_and_then}
 use Rattle.std.proofs.lemmas.Bool.{cases_lt}
@@ -7,10 +7,11 @@ use Rattle.std.proofs.lemmas.Option.{slice_get_within}
 use Rattle.name_keys.specs.Noted.{IsNoted, Keeps}
 use Rattle.stack_table.specs.declared.node.Node.{Node}
 use Rattle.stack_table.specs.declared.directory.Directory.{Directory}
-use Rattle.stack_table.specs.Held.{held_at, kept_of, directory_held, AreNotedUpTo}
+use Rattle.stack_table.specs.Held.{kept_of, directory_held, AreNotedUpTo}
 
 -- a directory that is held has a number within those of the nodes
-pub number_within : (held : List Node) (directories : List Directory) (n : ℕ) (d : Directory) → directory_held held directories n ≡ Some d → n ≤ length held
+pub number_within : (held : List Node) (directories : List Directory) (n : ℕ) (d : Directory)
+    → directory_held held directories n ≡ Some d → n ≤ length held
 number_within held directories zero d e = omega arith
 number_within held directories (suc k) d e = go (slice_get held k) refl e
   where

@@ -24,9 +24,9 @@ use std::marker::Model;
 /// The nodes of a stack of layers, by number: attributes, rows and data.
 ///
 /// A clause sees the layers and their listing. Each node and row takes at most 113 bytes beside
-/// a name of more than 22 (16 of them for guesses of where names stand), and a directory 32 more. No
-/// reader takes memory, and each answers for every number: 1 is the root, and a number that is not
-/// in use has nothing.
+/// a name of more than 22 (16 of them for guesses of where names stand), and a directory 32 more.
+/// No reader takes memory, and each answers for every number: 1 is the root, and a number that is
+/// not in use has nothing.
 ///
 /// ```text
 /// if let Some(number) = table.child(1, b"etc") {

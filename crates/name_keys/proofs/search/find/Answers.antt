@@ -27,7 +27,8 @@ run_of-low-requires g c = keys_rise c.args.shared c.args.keys.now (map g.T.HasNa
 
 pub find_by_name-requires-clause-narrows : goal.find_by_name-requires-clause-narrows
 find_by_name-requires-clause-narrows g c =
-    narrows c.args.shared c.args.keys.now (map g.T.HasName.name c.args.rows.now) c.requires.keyed c.args.name.now _ _ _ (c.key_of-key.ensures
+    narrows c.args.shared c.args.keys.now (map g.T.HasName.name c.args.rows.now) c.requires.keyed c.args.name.now _ _ _
+    (c.key_of-key.ensures
     ∙ ap (key 8) (take_rest c.args.name.now c.args.shared)) c.run_of-low.ensures
 
 -- a row stands at the place that is left, and what was read of it is the name at that place

@@ -1,4 +1,4 @@
-use Rattle.std.proofs.Common.{◌≡◌, ℕ, ◌<◌, inl, inr, arith, ap, sym, subst, slice_index}
+use Rattle.std.proofs.Common.{◌≡◌, ℕ, inl, inr, arith, subst}
 use Rattle.std.proofs.lemmas.Bool.{cases_lt}
 use Rattle.std.proofs.lemmas.List.{get_or_default}
 use Rattle.name_keys.specs.Noted.{IsNoted}

@@ -12,7 +12,8 @@ part-requires g c = part_lies _ _ _ _ _ _ _ c.self.invariant.table c.args.number
     c.index-image.ensures
 
 pub returns-in-Some-clause-value : goal.returns-in-Some-clause-value
-returns-in-Some-clause-value g c = rw (c.part.ensures.value, ← c.self.view_is) (data_is _ _ _ _ _ _ _ c.self.invariant.table c.args.number _ _
+returns-in-Some-clause-value g c = rw (c.part.ensures.value, ← c.self.view_is)
+    (data_is _ _ _ _ _ _ _ c.self.invariant.table c.args.number _ _
     (rw c.deref.ensures.value at c.in-Some.ensures) c.index-image.ensures)
 
 pub returns-in-None-clause-value : goal.returns-in-None-clause-value

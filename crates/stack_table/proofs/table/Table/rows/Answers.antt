@@ -11,7 +11,8 @@ rows_of-requires-clause-end g c = rw c.deref-in-Some.ensures.value (found _ _ _ 
 
 pub returns-in-Some : goal.returns-in-Some
 returns-in-Some g c = rw (c.rows_of.ensures, c.deref-in-Some.ensures.value, ← c.self.view_is)
-    (rows_are _ _ _ _ _ _ _ c.self.invariant.table c.args.number _ (rw (c.deref.ensures.value, c.deref-2.ensures.value) at c.in-Some.ensures))
+    (rows_are _ _ _ _ _ _ _ c.self.invariant.table c.args.number _
+    (rw (c.deref.ensures.value, c.deref-2.ensures.value) at c.in-Some.ensures))
 
 pub returns-in-None : goal.returns-in-None
 returns-in-None g c = rw (← c.self.view_is) (rows_none _ _ _ _ _ _ _ c.self.invariant.table c.args.number
