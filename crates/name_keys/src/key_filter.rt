@@ -3,7 +3,7 @@
 //! Many of the names that are asked for are not there, as a compiler's search for a header in one
 //! folder after another shows. A search among keys costs such a name as much as any other. Here
 //! each key of a row sets a bit, one of eight for each row, and a name whose key has none is no
-//! row's: of nine names that are not there one is searched all the same, or less.
+//! row's: of eight names that are not there about one is searched all the same.
 
 ghost use Rattle.std.specs.Prelude.{◌≡◌, ◌≤◌, ◌<◌, ◌^◌, ◌↔◌, length, All, IsTrue};
 ghost use Rattle.name_keys.specs.Noted.{bit_of, IsNoted, Keeps};
