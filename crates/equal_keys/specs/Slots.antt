@@ -1,7 +1,5 @@
 -- Keys that fall into slots.
-use Rattle.std.specs.Prelude.{◌≡◌, ℕ, ◌+◌, ◌*◌, ◌/◌, ◌%◌, ◌^◌, ◌≤◌, ◌<◌, List, length, slice_get, slice_index, Some, nat_lt, if◌then◌else◌}
-use Rattle.equal_keys.specs.declared.occupancy.Occupancy.{Occupancy}
-use Rattle.equal_keys.specs.declared.occupancy.Occupancy.TheVariants.{Nothing, One, More}
+use Rattle.std.specs.Prelude.{◌≡◌, ℕ, ◌+◌, ◌*◌, ◌/◌, ◌%◌, ◌^◌, ◌<◌, List, length, get_or, set, slice_index, Bool, true, false, nat_lt, if◌then◌else◌}
 use Rattle.equal_keys.specs.Once.{IsOnce}
 
 -- where a key falls among this many slots, if not by itself
@@ -13,17 +11,16 @@ mixed_slot key slots =
 abbrev pub slot_of : ℕ → ℕ → ℕ
 slot_of key slots = if nat_lt (key / 16) slots then key / 16 else mixed_slot key slots
 
--- one key more
-abbrev pub and_one : Occupancy → Occupancy
-and_one Nothing = One
-and_one One = More
-and_one More = More
+-- a key falls into a slot: now some key fell into it, and more than one where one had before
+pub record Falls (some crowded : List Bool) (slot : ℕ) (some' crowded' : List Bool) : Type 0 where
+  pub fell : some' ≡ set some slot true
+  pub again : get_or some slot false ≡ true → crowded' ≡ set crowded slot true
+  pub first : get_or some slot false ≡ false → crowded' ≡ crowded
 
--- one key alone fell into this key's slot
-abbrev pub IsAlone : List Occupancy → ℕ → Type 0
-IsAlone occupancy key = slice_get occupancy (slot_of key (length occupancy)) ≡ Some One
+-- no more than one key fell into this key's slot
+abbrev pub IsAlone : List Bool → ℕ → Type 0
+IsAlone crowded key = get_or crowded (slot_of key (length crowded)) true ≡ false
 
--- which of these keys fell into their slots alone is known
-pub record AreOccupied (keys : List ℕ) (occupancy : List Occupancy) : Type 0 where
-  pub few : length occupancy ≤ 2 ^ 32
-  pub once : (k : ℕ) → k < length keys → IsAlone occupancy (slice_index keys k) → IsOnce keys k
+-- the slots are told into which more than one of these keys fell
+pub record AreCrowded (keys : List ℕ) (crowded : List Bool) : Type 0 where
+  pub once : (k : ℕ) → k < length keys → IsAlone crowded (slice_index keys k) → IsOnce keys k

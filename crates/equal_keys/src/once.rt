@@ -3,7 +3,7 @@
 ghost use Rattle.std.specs.Prelude.{IfOk};
 ghost use Rattle.equal_keys.specs.Once.{AreSeenOnce};
 
-use crate::occupancy::{is_alone, occupancy_of};
+use crate::crowded::{crowded, is_alone, slots_for};
 use std::alloc::{AllocError, Allocator};
 
 /// For each of these keys whether it was seen that no other place of the list has the same key.
@@ -13,10 +13,11 @@ use std::alloc::{AllocError, Allocator};
 pub fn seen_once<A: Allocator + Copy>(alloc: A, keys: &[u64]) -> Result<Vec<bool, A>, AllocError>
     ensures { IfOk result (λ once. AreSeenOnce keys.now once.items) }
 {
-    let occupancy = occupancy_of(alloc, keys)?;
+    let slots = slots_for(keys.len());
+    let crowded = crowded(alloc, keys, slots)?;
     let mut once = Vec::with_capacity(alloc, keys.len())?;
     for key in keys {
-        once.push(is_alone(&occupancy, *key))?;
+        once.push(is_alone(&crowded, slots, *key))?;
     }
     Ok(once)
 }

@@ -1,6 +1,4 @@
-use Rattle.std.proofs.Common.{subst, arith, ◌<◌, length}
-use Rattle.std.specs.Prelude.{slice_index}
-use Rattle.equal_keys.specs.Slots.{IsAlone}
+use Rattle.std.proofs.Common.{arith, ◌<◌, length}
 use Rattle.equal_keys.proofs.SeenKeys.{told_more, all_told}
 use Rattle.equal_keys.proofs.once.seen_once.Goals as goal
 
@@ -8,9 +6,7 @@ pub loop-key-preserved : goal.loop-key-preserved
 loop-key-preserved g c =
     let lt : c.loop-key.key-index < length c.args.keys.now = omega arith in
     told_more c.args.keys.now c.loop-key.once.items c.push.new.self.items c.loop-key.key-index _ c.in_ok-push.ensures.items
-    (λ t. c.in_ok-occupancy.ensures.once c.loop-key.key-index lt
-    (subst (λ xs. IsAlone xs (slice_index c.args.keys.now c.loop-key.key-index))
-    c.deref.ensures.value (c.is_alone.ensures t)))
+    (λ t. c.in_ok-crowded.ensures.told.once c.loop-key.key-index lt (c.is_alone.ensures t))
     c.loop-key.invariant
 
 pub returns : goal.returns

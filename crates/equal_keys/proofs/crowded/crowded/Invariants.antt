@@ -1,6 +1,6 @@
 use Rattle.equal_keys.proofs.FilledSlots.{Fell}
-use Rattle.equal_keys.proofs.occupancy.occupancy_of.Given as goal
+use Rattle.equal_keys.proofs.crowded.crowded.Given as goal
 
 -- the slots say what fell of the keys before this one
 abbrev pub invariant-loop-key : goal.invariant-loop-key
-invariant-loop-key g l = Fell l.keys l.slots l.occupancy.items l.key-index
+invariant-loop-key g l = Fell l.keys l.slots l.some l.crowded l.key-index
