@@ -167,41 +167,36 @@ fn confirmed<A: Allocator>(
     }
 }
 
-// The keys of the rows of all directories, noted under the directories' numbers.
-pub(crate) fn filter_of<A: Allocator>(
+// What tells of the names of all directories' rows, by one pass over the nodes.
+pub(crate) fn hints_of<A: Allocator + Copy>(
     alloc: A,
     nodes: &[Node],
     directories: &Directories<A>,
-) -> Result<KeyFilter<A>, AllocError>
+) -> Result<Hints<A>, AllocError>
     requires { HaveKeys nodes.now directories.now.all.items directories.now.keys.items }
-    ensures { IfOk result (λ filter. AreNotedUpTo nodes.now directories.now.all.items
-        directories.now.keys.items filter (length nodes.now)) }
+    ensures { IfOk result (λ hints. AreNotedUpTo nodes.now directories.now.all.items
+        directories.now.keys.items hints.filter (length nodes.now)) }
 {
+    let mut guesses = Guesses::for_rows(alloc, directories.rows.len())?;
     let mut filter = KeyFilter::for_rows(alloc, directories.rows.len())?;
     for at in 0..nodes.len() {
         let number = at as u64 + 1;
         if let Some(directory) = directory_at(nodes, &directories.all, number) {
             filter.note_all(number, keys_of(&directories.keys, directory));
+            note_rows(&mut guesses, number, directory, &directories.rows);
         }
     }
-    Ok(filter)
+    Ok(Hints { guesses, filter })
 }
 
-// Guesses of where the rows of all directories stand.
-pub(crate) fn guesses_of<A: Allocator>(
-    alloc: A,
-    nodes: &[Node],
-    directories: &Directories<A>,
-) -> Result<Guesses<A>, AllocError> {
-    let mut guesses = Guesses::for_rows(alloc, directories.rows.len())?;
-    for (at, _node) in nodes.iter().enumerate() {
-        let number = (at as u64).wrapping_add(1);
-        if let Some(directory) = directory_at(nodes, &directories.all, number) {
-            let range = directory.rows_start..directory.rows_end;
-            if let Some(rows) = directories.rows.get(range) {
-                guesses.note_all(number, directory.rows_start, rows);
-            }
-        }
+// Notes where the rows of a directory stand among all rows.
+fn note_rows<A: Allocator>(
+    guesses: &mut Guesses<A>,
+    number: u64,
+    directory: &Directory,
+    rows: &[Row<A>],
+) {
+    if let Some(own) = rows.get(directory.rows_start..directory.rows_end) {
+        guesses.note_all(number, directory.rows_start, own);
     }
-    Ok(guesses)
 }

@@ -11,8 +11,8 @@ ghost use Rattle.stack_table.specs.Readers.{TellsNode, attr_at, parent_at, child
 use crate::directory::{Directories, Directory};
 use crate::guess::Guess;
 use crate::lookup::{
-    Hints, attr_of, briefs_of, directory_at, filter_of, guesses_of, keys_of, node_at, numbered,
-    place_of, rows_of,
+    Hints, attr_of, briefs_of, directory_at, hints_of, keys_of, node_at, numbered, place_of,
+    rows_of,
 };
 use crate::node::{Brief, Node};
 use crate::row::Row;
@@ -88,15 +88,14 @@ impl<A: Allocator + Copy> Table<A> {
             directories.rows.items directories.keys.items blocks }
         ensures { IfOk result (λ table. IsTableOf images.items table) }
     {
-        let guesses = guesses_of(alloc, &nodes, &directories)?;
-        let filter = filter_of(alloc, &nodes, &directories)?;
+        let hints = hints_of(alloc, &nodes, &directories)?;
         let briefs = briefs_of(alloc, &nodes)?;
         Ok(Table {
             images,
             nodes,
             briefs,
             directories,
-            hints: Hints { guesses, filter },
+            hints,
             blocks,
         })
     }

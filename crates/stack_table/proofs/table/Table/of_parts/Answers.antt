@@ -5,8 +5,8 @@ use Rattle.stack_table.specs.Stacked.{Listed, listed_once}
 use Rattle.stack_table.proofs.Nodes.{have_keys}
 use Rattle.stack_table.proofs.table.Table.of_parts.Goals as goal
 
-pub filter_of-requires : goal.filter_of-requires
-filter_of-requires g c = rw c.deref-2.ensures.value (have_keys _ _ _ _ _ _ _ c.requires.1)
+pub hints_of-requires : goal.hints_of-requires
+hints_of-requires g c = rw c.deref.ensures.value (have_keys _ _ _ _ _ _ _ c.requires.1)
 
 pub invariant_of-result-2 : goal.invariant_of-result-2
 invariant_of-result-2 g c =
@@ -15,8 +15,8 @@ invariant_of-result-2 g c =
       table = subst (λ (e : List Entry). IsTable c.args.images.items e c.args.nodes.items c.args.directories.all.items
           c.args.directories.rows.items c.args.directories.keys.items c.args.blocks)
           (ap (λ x. x.0) (listed_once c.args.images.items mine c.result-1.given.0)) c.requires.1;
-      noted = rw c.deref-2.ensures.value at c.in_ok-filter.ensures;
-      briefs_are = rw c.deref-3.ensures.value at c.in_ok-briefs.ensures;
+      noted = rw c.deref.ensures.value at c.in_ok-hints.ensures;
+      briefs_are = rw c.deref-2.ensures.value at c.in_ok-briefs.ensures;
     }
 
 pub returns : goal.returns

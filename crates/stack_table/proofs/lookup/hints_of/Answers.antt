@@ -1,6 +1,6 @@
 use Rattle.stack_table.proofs.Noting.{one_more, no_more}
-use Rattle.stack_table.proofs.lookup.filter_of.Goals.{in-Some, in_default}
-use Rattle.stack_table.proofs.lookup.filter_of.Goals as goal
+use Rattle.stack_table.proofs.lookup.hints_of.Goals.{in-Some, in_default}
+use Rattle.stack_table.proofs.lookup.hints_of.Goals as goal
 
 pub loop-at-preserved : goal.loop-at-preserved
 loop-at-preserved g c = elim c.match-directory_at.branch [

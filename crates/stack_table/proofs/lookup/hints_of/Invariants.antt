@@ -1,5 +1,5 @@
 use Rattle.stack_table.specs.Held.{AreNotedUpTo}
-use Rattle.stack_table.proofs.lookup.filter_of.Given as goal
+use Rattle.stack_table.proofs.lookup.hints_of.Given as goal
 
 -- the keys of the directories so far are noted
 abbrev pub invariant-loop-at : goal.invariant-loop-at
