@@ -5,6 +5,11 @@
 //! those of an open `/dev/fuse` (`mounted`), how many workers and how large batches a line asks for
 //! (`plans`), and `serve` by itself, with refused memory and too few turns (`serving`). They share
 //! runs of the program and files of the test's own (`program`).
+//!
+//! The devices of `fuse_device` are tested here, too, over readers and writers that misbehave: no
+//! contract says how often these are called, nor what errors they met. `messages` is a source over
+//! a reader that gives one whole message a read, `replies` a sink over a writer that takes one
+//! whole reply a write.
 #![tactic(auto)]
 
 #[cfg(test)]

@@ -3,7 +3,9 @@
 mod clients;
 mod failing;
 mod memory;
+mod messages;
 mod mounted;
 mod plans;
 mod program;
+mod replies;
 mod serving;

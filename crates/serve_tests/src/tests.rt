@@ -1,8 +1,13 @@
 //! The modules of tests, and what they share.
 
 mod balances;
+mod failing;
 mod frames;
 mod gates;
+mod layers;
+mod memory;
+mod refused_workers;
 mod room;
 mod streams;
 mod workers;
+mod writers;
