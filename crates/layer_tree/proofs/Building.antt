@@ -6,7 +6,7 @@ use Rattle.std.specs.Prelude.{slice_get, option_to_list}
 use Rattle.std.specs.List.{AllByRecursion}
 use Rattle.std.specs.declared.cmp.Ordering.TheVariants.{Less}
 use Rattle.std.proofs.Math.Seq.{drop-cons}
-use Rattle.std.proofs.lemmas.List.{append-nil, drop_all}
+use Rattle.std.proofs.lemmas.List.{append-nil, drop_all, get_or-map, length-map}
 use Rattle.std.proofs.lemmas.List.Elements.{All-from_recursion}
 use Rattle.romfs_format.specs.declared.limits.TheConstants.{MAX_NAMES}
 use Rattle.romfs_format.specs.declared.head.Kind.TheVariants.{HardLink}
@@ -20,7 +20,8 @@ use Rattle.path_tree.proofs.Names.{same_or_not, named_below}
 use Rattle.path_tree.proofs.Spread.{through}
 use Rattle.shown_tree.specs.declared.place.Entry.{Entry}
 use Rattle.shown_tree.specs.declared.place.Mark.{Mark}
-use Rattle.layer_tree.specs.declared.members.NamedMember.{NamedMember}
+use Rattle.layer_tree.specs.declared.members.KeyedMember.{KeyedMember}
+use Rattle.layer_tree.specs.Members.{NamedMember, member_in, members_in}
 use Rattle.layer_tree.specs.Reading.{IsBefore, NamedRise, IsNamedMember, IsAtDepth, AreMembersAt, IsBranchOf, RemovesFrom, IsBranchAlone, AreBranchesOf, IsMadeOf, AreBuilt, none_built, hidden, alone, built, AreWhiteouts, none_white, other, white}
 use Rattle.layer_tree.proofs.Layered.{leads_on}
 use Rattle.layer_tree.proofs.Stepping.{leaf_rises}
@@ -46,8 +47,7 @@ whitening_begun all = record { more = λ ks b. b }
 -- what is past the end of members
 abbrev pub nothing : NamedMember
 nothing = record {
-  key = 0;
-  name = record { ref_ptr = (0, 0); now = [] };
+  name = [];
   head = record { offset = 0; next = 0; kind = HardLink; exec = false; spec = 0; size = 0; name_at = 0; name_len = 0 };
 }
 
@@ -55,21 +55,34 @@ nothing = record {
 abbrev pub at_index : List NamedMember → ℕ → NamedMember
 at_index all i = get_or all i nothing
 
+-- the place of a member past the end of members
+abbrev pub nowhere_kept : KeyedMember
+nowhere_kept = record { key = 0; offset = 0; name_len = 0 }
+
+-- the member at a place is the one whose header stands at that place of the list
+pub at_place : (a : List ℕ) (ms : List KeyedMember) (i : ℕ) → i < length ms
+    → at_index (members_in a ms) i ≡ member_in a (get_or ms i nowhere_kept)
+at_place a ms i l = get_or-map (member_in a) ms i nowhere_kept nothing l
+
+-- there are as many members as places
+pub as_many : (a : List ℕ) (ms : List KeyedMember) → length (members_in a ms) ≡ length ms
+as_many a ms = length-map ms (member_in a)
+
 next : (all : List NamedMember) (i : ℕ) → i < length all → drop i all ≡ at_index all i ∷ drop (i + 1) all
 next all i l = rw add-one (drop-cons all i nothing l)
 
 module _ (a : List ℕ) (layer : ℕ) (all : List NamedMember) (i : ℕ) (es : List (Subtree Entry))
     (ks : List (Subtree Mark)) (l : i < length all) (w : Building a layer all (drop i all) es ks) where
   -- a marker adds no branch
-  pub build_hidden : IsMarker (at_index all i).name.now → Building a layer all (drop (i + 1) all) es ks
+  pub build_hidden : IsMarker (at_index all i).name → Building a layer all (drop (i + 1) all) es ks
   build_hidden h = record {
     more = λ es' ks' b.
         w.more es' ks' (rw (next all i l) (hidden (at_index all i) (drop (i + 1) all) es' ks' h b));
   }
 
   -- a member that needs no mark adds its branch of entries
-  pub build_alone : (e : Subtree Entry) (es' : List (Subtree Entry)) → ¬ IsMarker (at_index all i).name.now
-      → IsBranchAlone a layer (at_index all i).head.offset (at_index all i).name.now e → es' ≡ es ++ e ∷ []
+  pub build_alone : (e : Subtree Entry) (es' : List (Subtree Entry)) → ¬ IsMarker (at_index all i).name
+      → IsBranchAlone a layer (at_index all i).head.offset (at_index all i).name e → es' ≡ es ++ e ∷ []
       → Building a layer all (drop (i + 1) all) es' ks
   build_alone e es' n b p = record {
     more = λ es'' ks'' c. rw p
@@ -79,8 +92,8 @@ module _ (a : List ℕ) (layer : ℕ) (all : List NamedMember) (i : ℕ) (es : L
 
   -- a member that needs a mark adds its branch of entries, and that of marks
   pub build_one : (e : Subtree Entry) (k : Subtree Mark) (es' : List (Subtree Entry)) (ks' : List (Subtree Mark))
-      → ¬ IsMarker (at_index all i).name.now
-      → AreBranchesOf a layer (at_index all i).head.offset (at_index all i).name.now e k → es' ≡ es ++ e ∷ []
+      → ¬ IsMarker (at_index all i).name
+      → AreBranchesOf a layer (at_index all i).head.offset (at_index all i).name e k → es' ≡ es ++ e ∷ []
       → ks' ≡ ks ++ k ∷ [] → Building a layer all (drop (i + 1) all) es' ks'
   build_one e k es' ks' n b p q = record {
     more = λ es'' ks'' c. rw (p, q)
@@ -90,8 +103,8 @@ module _ (a : List ℕ) (layer : ℕ) (all : List NamedMember) (i : ℕ) (es : L
 
   -- a member and what is made of it are one more built
   pub build_made : (e : Subtree Entry) (o : Option (Subtree Mark)) (es' : List (Subtree Entry)) (ks' : List (Subtree Mark))
-      → ¬ IsMarker (at_index all i).name.now
-      → IsMadeOf a layer (at_index all i).head.offset (at_index all i).name.now (e, o) → es' ≡ es ++ e ∷ []
+      → ¬ IsMarker (at_index all i).name
+      → IsMadeOf a layer (at_index all i).head.offset (at_index all i).name (e, o) → es' ≡ es ++ e ∷ []
       → ks' ≡ ks ++ option_to_list o → Building a layer all (drop (i + 1) all) es' ks'
   build_made e None es' ks' n m p q = rw (q, append-nil) (build_alone e es' n m p)
   build_made e (Some k) es' ks' n m p q = build_one e k es' ks' n m p q
@@ -105,12 +118,12 @@ building_ended a layer all i es ks l w =
 
 module _ (all : List NamedMember) (i : ℕ) (ks : List (Subtree Mark)) (l : i < length all) (w : Whitening all (drop i all) ks) where
   -- a member that is no marker adds no mark
-  pub white_none : ¬ IsMarker (at_index all i).name.now → Whitening all (drop (i + 1) all) ks
+  pub white_none : ¬ IsMarker (at_index all i).name → Whitening all (drop (i + 1) all) ks
   white_none h = record { more = λ ks' b. w.more ks' (rw (next all i l) (other (at_index all i) (drop (i + 1) all) ks' h b)) }
 
   -- a marker adds a cut mark, named as its name goes on after .wh.
   pub white_one : (n : List ℕ) (k : Subtree Mark) (ks' : List (Subtree Mark))
-      → (at_index all i).name.now ≡ marker ++ n → k ≡ record
+      → (at_index all i).name ≡ marker ++ n → k ≡ record
       { name = n; value = record { cut = true; opaque = false }; below = [] } → ks' ≡ ks ++ k ∷ []
       → Whitening all (drop (i + 1) all) ks'
   white_one n k ks' e f q = record {
@@ -133,15 +146,15 @@ module _ (a : List ℕ) (s : IsImage a) (left : ℕ) (ms : List NamedMember) (at
   member_here = All-from_recursion (IsNamedMember a at.0) ms at.1 i nothing l
 
   longer : Path
-  longer = at.2.0 ++ (at_index ms i).name.now ∷ []
+  longer = at.2.0 ++ (at_index ms i).name ∷ []
 
   has_more : Has a longer (at_index ms i).head.offset
   unfolding longer
-  has_more = leads_on a (root a) at.2.0 at.0 (at_index ms i).name.now (at_index ms i).head.offset at.2.1 member_here.member member_here.name
+  has_more = leads_on a (root a) at.2.0 at.0 (at_index ms i).name (at_index ms i).head.offset at.2.1 member_here.member member_here.name
 
   long_more : length longer + left ≡ MAX_NAMES + 1
   unfolding longer
-  long_more = omega (arith, length-append at.2.0 ((at_index ms i).name.now ∷ []), at.2.2)
+  long_more = omega (arith, length-append at.2.0 ((at_index ms i).name ∷ []), at.2.2)
 
   -- a path to the directory leaves room for a name more
   pub some_left : 1 ≤ left
@@ -154,8 +167,8 @@ module _ (a : List ℕ) (s : IsImage a) (left : ℕ) (ms : List NamedMember) (at
 -- names of what is built rise
 before_built : (a : List ℕ) (layer : ℕ) {ms : List NamedMember} {es : List (Subtree Entry)} {ks : List (Subtree Mark)}
     → AreBuilt a layer ms es ks → (m : NamedMember) → AllByRecursion (IsBefore m) ms
-    → AllByRecursion (λ t. name_cmp m.name.now t.name ≡ Less) es
-    × AllByRecursion (λ t. name_cmp m.name.now t.name ≡ Less) ks
+    → AllByRecursion (λ t. name_cmp m.name t.name ≡ Less) es
+    × AllByRecursion (λ t. name_cmp m.name t.name ≡ Less) ks
 before_built a layer none_built m r = (tt, tt)
 before_built a layer (hidden x ms es ks h b) m r = before_built a layer b m r.1
 before_built a layer (alone x ms e es ks n w b) m r = let t = before_built a layer b m r.1 in ((rw w.name r.0, t.0), t.1)
@@ -198,13 +211,13 @@ marked_before : (x y : List ℕ) → name_cmp (marker ++ x) (marker ++ y) ≡ na
 marked_before x y = refl
 
 before_white : {ms : List NamedMember} {ks : List (Subtree Mark)} → AreWhiteouts ms ks → (m : NamedMember) (n : List ℕ)
-    → m.name.now ≡ marker ++ n → AllByRecursion (IsBefore m) ms
+    → m.name ≡ marker ++ n → AllByRecursion (IsBefore m) ms
     → AllByRecursion (λ t. name_cmp n t.name ≡ Less) ks
 before_white none_white m n e r = tt
 before_white (other x ms ks h b) m n e r = before_white b m n e r.1
 before_white (white x ms k ks f c d b) m n e r = (
   let p : name_cmp (marker ++ n) (marker ++ k.name) ≡ Less = subst
-      (λ y. name_cmp y (marker ++ k.name) ≡ Less) e (subst (λ y. name_cmp m.name.now y ≡ Less) f r.0) in
+      (λ y. name_cmp y (marker ++ k.name) ≡ Less) e (subst (λ y. name_cmp m.name y ≡ Less) f r.0) in
       p,
   before_white b m n e r.1,
 )
@@ -222,21 +235,21 @@ pub data FoundBuilt (a : List ℕ) (layer d : ℕ) (n : List ℕ) (ms : List Nam
     (ks : List (Subtree Mark)) : Type 0
   where
     nowhere : named n es ≡ None → named n ks ≡ None
-        → ((j : ℕ) (m : NamedMember) → slice_get ms j ≡ Some m → m.name.now ≡ n → IsMarker n)
+        → ((j : ℕ) (m : NamedMember) → slice_get ms j ≡ Some m → m.name ≡ n → IsMarker n)
         → FoundBuilt a layer d n ms es ks
     somewhere : (m : NamedMember) (e : Subtree Entry) (k : Option (Subtree Mark)) → named n es ≡ Some e → named n ks ≡ k
-        → m.name.now ≡ n → ¬ IsMarker n → IsNamedMember a d m → IsBranchOf a layer m.head.offset e
+        → m.name ≡ n → ¬ IsMarker n → IsNamedMember a d m → IsBranchOf a layer m.head.offset e
         → RemovesFrom a m.head.offset (through k) e → FoundBuilt a layer d n ms es ks
 
 module _ (a : List ℕ) (layer d : ℕ) (n : List ℕ) where
   -- what was found among later members is found among all, if the first has another name
-  found_later : (m : NamedMember) (ms : List NamedMember) (es es' : List (Subtree Entry)) (ks ks' : List (Subtree Mark)) → m.name.now ≢ n
+  found_later : (m : NamedMember) (ms : List NamedMember) (es es' : List (Subtree Entry)) (ks ks' : List (Subtree Mark)) → m.name ≢ n
       → named n es' ≡ named n es → named n ks' ≡ named n ks
       → FoundBuilt a layer d n ms es ks → FoundBuilt a layer d n (m ∷ ms) es' ks'
   found_later m ms es es' ks ks' o u v (nowhere f g q) = nowhere (u ∙ f) (v ∙ g) rest
     where
-      rest : (j : ℕ) (x : NamedMember) → slice_get (m ∷ ms) j ≡ Some x → x.name.now ≡ n → IsMarker n
-      rest zero x s t = (let z : m ≡ x = cc in absurd (o (ap (λ (y : NamedMember). y.name.now) z ∙ t)))
+      rest : (j : ℕ) (x : NamedMember) → slice_get (m ∷ ms) j ≡ Some x → x.name ≡ n → IsMarker n
+      rest zero x s t = (let z : m ≡ x = cc in absurd (o (ap (λ (y : NamedMember). y.name) z ∙ t)))
       rest (suc j) x s t = q j x s t
   found_later m ms es es' ks ks' o u v (somewhere x y z f g q r s t w) = somewhere x y z (u ∙ f) (v ∙ g) q r s t w
 
@@ -249,11 +262,11 @@ module _ (a : List ℕ) (layer d : ℕ) (n : List ℕ) where
       more : FoundBuilt a layer d n ms es ks → FoundBuilt a layer d n (m ∷ ms) es ks
       more (nowhere f g q) = nowhere f g rest
         where
-          rest : (j : ℕ) (x : NamedMember) → slice_get (m ∷ ms) j ≡ Some x → x.name.now ≡ n → IsMarker n
-          rest zero x u v = (let z : m ≡ x = cc in subst IsMarker (ap (λ (y : NamedMember). y.name.now) z ∙ v) h)
+          rest : (j : ℕ) (x : NamedMember) → slice_get (m ∷ ms) j ≡ Some x → x.name ≡ n → IsMarker n
+          rest zero x u v = (let z : m ≡ x = cc in subst IsMarker (ap (λ (y : NamedMember). y.name) z ∙ v) h)
           rest (suc j) x u v = q j x u v
       more (somewhere x e k f g q r s t w) = somewhere x e k f g q r s t w
-  find_built (alone m ms e es ks h w b) p r = elim (same_or_not m.name.now n) [
+  find_built (alone m ms e es ks h w b) p r = elim (same_or_not m.name n) [
     | inl x ↦ (
         let f : named n (e ∷ es) ≡ Some e = rw (w.name, x.1) refl in
         let g : named n ks ≡ None = named_below n ks (subst (λ y. AllByRecursion (λ t. name_cmp y t.name ≡ Less) ks) x.0
@@ -262,7 +275,7 @@ module _ (a : List ℕ) (layer d : ℕ) (n : List ℕ) where
     | inr x ↦ found_later m ms es (e ∷ es) ks ks x.0 (let f : named n (e ∷ es) ≡ named n es = rw (w.name, x.1) refl in f) refl
         (find_built b p.1 r.1)
   ]
-  find_built (built m ms e es k ks h w b) p r = elim (same_or_not m.name.now n) [
+  find_built (built m ms e es k ks h w b) p r = elim (same_or_not m.name n) [
     | inl x ↦ (
         let f : named n (e ∷ es) ≡ Some e = rw (w.entry_name, x.1) refl in
         let g : named n (k ∷ ks) ≡ Some k = rw (w.mark_name, x.1) refl in
@@ -273,9 +286,9 @@ module _ (a : List ℕ) (layer d : ℕ) (n : List ℕ) where
 
 -- a mark of the name n, and the marker that it is of
 pub data FoundWhite (n : List ℕ) (ms : List NamedMember) (ks : List (Subtree Mark)) : Type 0 where
-  unmarked : named n ks ≡ None → ((j : ℕ) (m : NamedMember) → slice_get ms j ≡ Some m → m.name.now ≡ marker ++ n → ⊥) → FoundWhite n ms ks
+  unmarked : named n ks ≡ None → ((j : ℕ) (m : NamedMember) → slice_get ms j ≡ Some m → m.name ≡ marker ++ n → ⊥) → FoundWhite n ms ks
   marked : (j : ℕ) (m : NamedMember) (k : Subtree Mark) → named n ks ≡ Some k → k.value.cut ≡ true
-      → slice_get ms j ≡ Some m → m.name.now ≡ marker ++ n → FoundWhite n ms ks
+      → slice_get ms j ≡ Some m → m.name ≡ marker ++ n → FoundWhite n ms ks
 
 marker_is : (n : List ℕ) → IsMarker (marker ++ n)
 marker_is n = refl
@@ -291,8 +304,8 @@ find_white n (other m ms ks h b) = more (find_white n b)
     more : FoundWhite n ms ks → FoundWhite n (m ∷ ms) ks
     more (unmarked f q) = unmarked f rest
       where
-        rest : (j : ℕ) (x : NamedMember) → slice_get (m ∷ ms) j ≡ Some x → x.name.now ≡ marker ++ n → ⊥
-        rest zero x u v = (let z : m ≡ x = cc in h (subst IsMarker (sym (ap (λ (y : NamedMember). y.name.now) z ∙ v)) (marker_is n)))
+        rest : (j : ℕ) (x : NamedMember) → slice_get (m ∷ ms) j ≡ Some x → x.name ≡ marker ++ n → ⊥
+        rest zero x u v = (let z : m ≡ x = cc in h (subst IsMarker (sym (ap (λ (y : NamedMember). y.name) z ∙ v)) (marker_is n)))
         rest (suc j) x u v = q j x u v
     more (marked j x k f c u v) = marked (suc j) x k f c u v
 find_white n (white m ms k ks e c d b) = more (find_white n b)
@@ -306,7 +319,7 @@ find_white n (white m ms k ks e c d b) = more (find_white n b)
         later : k.name ≢ n → named n (k ∷ ks) ≡ named n ks → FoundWhite n ms ks → FoundWhite n (m ∷ ms) (k ∷ ks)
         later o u (unmarked f q) = unmarked (u ∙ f) rest
           where
-            rest : (j : ℕ) (x : NamedMember) → slice_get (m ∷ ms) j ≡ Some x → x.name.now ≡ marker ++ n → ⊥
-            rest zero x s t = (let z : m ≡ x = cc in o (same_rest k.name n (sym e ∙ ap (λ (y : NamedMember). y.name.now) z ∙ t)))
+            rest : (j : ℕ) (x : NamedMember) → slice_get (m ∷ ms) j ≡ Some x → x.name ≡ marker ++ n → ⊥
+            rest zero x s t = (let z : m ≡ x = cc in o (same_rest k.name n (sym e ∙ ap (λ (y : NamedMember). y.name) z ∙ t)))
             rest (suc j) x s t = q j x s t
         later o u (marked j x y f g s t) = marked (suc j) x y (u ∙ f) g s t

@@ -14,7 +14,7 @@ use Rattle.std.proofs.lemmas.Bool.{cases_order}
 use Rattle.std.proofs.lemmas.Bool.Decides.{same_from_decides}
 use Rattle.std.proofs.lemmas.Cmp.{nat_list_cmp_total}
 use Rattle.std.proofs.lemmas.List.{get_or-map, length-map, map-append, take-append-drop}
-use Rattle.std.proofs.lemmas.List.Elements.{recursion_from_All}
+use Rattle.std.proofs.lemmas.List.Elements.{recursion_from_All, All-map}
 use Rattle.std.proofs.lemmas.List.Kept.{AllPairs-filter}
 use Rattle.std.proofs.lemmas.List.Sorted.{ranks_by, sorted_far, IsPermutation-map, All-permutation, Contains-permutation}
 use Rattle.std.proofs.lemmas.Map.Keys.{IsDistinct-IsPermutation}
@@ -33,38 +33,25 @@ use Rattle.romfs_reader.proofs.Paths.{one_header}
 use Rattle.stack_model.specs.Stack.{marker}
 use Rattle.path_tree.specs.Rows.{name_cmp}
 use Rattle.path_tree.proofs.Lists.{get_of_map}
-use Rattle.layer_tree.specs.declared.members.NamedMember.{NamedMember}
-use Rattle.layer_tree.specs.Members.{AreNamed, AreToldApart, keyless, IsByName}
+use Rattle.layer_tree.specs.declared.members.KeyedMember.{KeyedMember}
+use Rattle.layer_tree.specs.Members.{NamedMember, member_in, members_in, IsByName}
 use Rattle.layer_tree.specs.Reading.{IsBefore, NamedRise, IsNamedMember, AreByName}
 
--- a member goes from what is left to what is named
-pub found_one : (ms after : List NamedMember) (x : NamedMember) (left rest all : List Head) → left ≡ x.head ∷ rest
-    → after ≡ ms ++ x ∷ [] → map (λ m. m.head) ms ++ left ≡ all → map (λ m. m.head) after ++ rest ≡ all
-found_one ms after x left rest all l e d =
-    let t : map (λ m. m.head) ms ++ (x.head ∷ rest) ≡ all = rw l at d in
+-- a member goes from what is left to what has a key
+pub found_one : (a : List ℕ) (ms after : List KeyedMember) (x : KeyedMember) (head : Head) (left rest all : List Head)
+    → left ≡ head ∷ rest → after ≡ ms ++ x ∷ [] → head ≡ head_of a x.offset
+    → map (λ m. head_of a m.offset) ms ++ left ≡ all → map (λ m. head_of a m.offset) after ++ rest ≡ all
+found_one a ms after x head left rest all l e h d =
+    let t : map (λ m. head_of a m.offset) ms ++ (head_of a x.offset ∷ rest) ≡ all = rw (l, h) at d in
     rw e (simp (map-append, append_assoc) t)
 
-heads_of : (ms : List NamedMember) → map (λ x. x.1) (map keyless ms) ≡ map (λ m. m.head) ms
-heads_of [] = refl
-heads_of (m ∷ ms) = ap (λ xs. m.head ∷ xs) (heads_of ms)
+-- the headers of members
+heads_in : (a : List ℕ) (ms : List KeyedMember) → map (λ m. m.head) (members_in a ms) ≡ map (λ m. head_of a m.offset) ms
+heads_in a [] = refl
+heads_in a (m ∷ ms) = ap (λ xs. head_of a m.offset ∷ xs) (heads_in a ms)
 
--- members that are the same but for their keys are named as before
-pub still_named : (a : List ℕ) (hs : List Head) (old new : List NamedMember) → AreNamed a hs old → AreToldApart old new → AreNamed a hs new
-still_named a hs old new n t = record { names = names; heads = heads }
-  where
-    heads : map (λ m. m.head) new ≡ hs
-    heads = sym (heads_of new) ∙ ap (map (λ x. x.1)) t.same ∙ heads_of old ∙ n.heads
-
-    names : All (λ m. m.name.now ≡ name_of a m.head.offset) new
-    names k d l =
-        let level = sym (length-map new keyless) ∙ ap length t.same ∙ length-map old keyless in
-        let within : k < length old = omega arith in
-        let was : keyless (slice_index_or old k d) ≡ slice_index_or (map keyless old) k (keyless d)
-        = sym (get_or-map keyless old k d (keyless d) within) in
-        let is : keyless (slice_index_or new k d) ≡ slice_index_or (map keyless new) k (keyless d)
-        = sym (get_or-map keyless new k d (keyless d) l) in
-        let here = is ∙ ap (λ xs. slice_index_or xs k (keyless d)) t.same ∙ sym was in
-        subst (λ (x : List ℕ × Head). x.0 ≡ name_of a x.1.offset) (sym here) (n.names k d within)
+names_in : (a : List ℕ) (ms : List KeyedMember) → All (λ m. m.name ≡ name_of a m.head.offset) (members_in a ms)
+names_in a ms = All-map (λ (m : NamedMember). m.name ≡ name_of a m.head.offset) (member_in a) ms (λ k d l. refl)
 
 flips : (x y : List ℕ) → bytes_eq x y ≡ bytes_eq y x
 flips x y =
@@ -107,13 +94,13 @@ is_name : (o : Option (List ℕ)) → IsSome o → o ≡ Some (unwrap_or o [])
 is_name None s = absurd (cc)
 is_name (Some n) s = refl
 
-abbrev name_now : NamedMember → List ℕ
-name_now m = m.name.now
+abbrev name_in : NamedMember → List ℕ
+name_in m = m.name
 
-strictly : (ms : List NamedMember) → IsByName ms → AllPairs (λ x y. name_now x ≢ name_now y) ms → AllPairs IsBefore ms
+strictly : (ms : List NamedMember) → IsByName ms → AllPairs (λ x y. name_in x ≢ name_in y) ms → AllPairs IsBefore ms
 strictly ms up apart j k d l m =
-    comes_first _ _ (sorted_far (λ x y. is_lt (name_cmp (name_now x) (name_now y)))
-    (ranks_by nat_list_cmp_total name_now) ms up j k d (omega arith) m) (apart j k d l m)
+    comes_first _ _ (sorted_far (λ x y. is_lt (name_cmp (name_in x) (name_in y)))
+    (ranks_by nat_list_cmp_total name_in) ms up j k d (omega arith) m) (apart j k d l m)
 
 rising_in : (ms : List NamedMember) → AllPairs IsBefore ms → NamedRise ms
 rising_in [] p = tt
@@ -184,14 +171,14 @@ module _ (a : List ℕ) (i : IsImage a) (d : ℕ) (o : IsOpened a d) where
       names_differ _ _ (r.members j x (omega arith)) (r.members k x m) (q j k x l m)
 
   -- names of named members
-  same_names : (ms : List NamedMember) → All (λ m. name_now m ≡ name_of a m.head.offset) ms
-      → map name_now ms ≡ map (λ (x : Head). name_of a x.offset) (map (λ m. m.head) ms)
+  same_names : (ms : List NamedMember) → All (λ m. name_in m ≡ name_of a m.head.offset) ms
+      → map name_in ms ≡ map (λ (x : Head). name_of a x.offset) (map (λ m. m.head) ms)
   same_names [] p = refl
   same_names (m ∷ ms) p = rw (p zero m (omega arith), same_names ms (λ k x l. p (suc k) x (omega arith))) refl
 
   named_member : (hs : List Head) (ms : List NamedMember) → All (IsGiven a) hs
       → All (λ (x : Head). IsMember a d x.offset) hs → map (λ m. m.head) ms ≡ hs
-      → All (λ m. name_now m ≡ name_of a m.head.offset) ms → All (IsNamedMember a d) ms
+      → All (λ m. name_in m ≡ name_of a m.head.offset) ms → All (IsNamedMember a d) ms
   named_member hs ms given members e names k x l =
       let n : k < length (map (λ (m : NamedMember). m.head) ms) = rw (length-map ms (λ (m : NamedMember). m.head)) l in
       let at : slice_index_or hs k x.head ≡ (slice_index_or ms k x).head = ap
@@ -204,22 +191,25 @@ module _ (a : List ℕ) (i : IsImage a) (d : ℕ) (o : IsOpened a d) where
         name = has_name (slice_index_or ms k x).head.offset m ∙ ap Some (sym (names k x l));
       }
 
-  -- the members of a directory, named and sorted, are all members in the order of names
-  pub are_by_name : (hs : List Head) (found ms : List NamedMember) → All (IsGiven a) hs → AreMembers a d hs
-      → AreNamed a hs found → IsPermutation found ms → IsByName ms → AreByName a d ms
-  are_by_name hs found ms given r n s up =
-      let each : All (IsNamedMember a d) found = named_member hs found given r.members n.heads n.names in
-      let differ : AllPairs (λ x y. x ≢ y) (map name_now found) = rw (same_names found n.names, n.heads)
+  -- the members of a directory, sorted, are all members in the order of names
+  pub are_by_name : (hs : List Head) (keyed : List KeyedMember) (ms : List NamedMember) → All (IsGiven a) hs → AreMembers a d hs
+      → map (λ m. head_of a m.offset) keyed ≡ hs → IsPermutation (members_in a keyed) ms → IsByName ms → AreByName a d ms
+  are_by_name hs keyed ms given r h s up =
+      let found = members_in a keyed in
+      let heads : map (λ (m : NamedMember). m.head) found ≡ hs = heads_in a keyed ∙ h in
+      let names : All (λ (m : NamedMember). m.name ≡ name_of a m.head.offset) found = names_in a keyed in
+      let each : All (IsNamedMember a d) found = named_member hs found given r.members heads names in
+      let differ : AllPairs (λ x y. x ≢ y) (map name_in found) = rw (same_names found names, heads)
       (to_names (λ (x : Head). name_of a x.offset) hs (members_differ hs r)) in
-      let apart : AllPairs (λ x y. x ≢ y) (map name_now ms) = moved (map name_now found) (map name_now ms)
-      (IsPermutation-map name_now found ms s) differ in
+      let apart : AllPairs (λ x y. x ≢ y) (map name_in ms) = moved (map name_in found) (map name_in ms)
+      (IsPermutation-map name_in found ms s) differ in
       record {
-        rising = rising_in ms (strictly ms up (from_names name_now ms apart));
+        rising = rising_in ms (strictly ms up (from_names name_in ms apart));
         each = recursion_from_All (IsNamedMember a d) ms (All-permutation (IsNamedMember a d) found ms s each);
         whole = λ h m. (
             let w = r.whole h m in
             let p : IsPermutation hs (map (λ (x : NamedMember). x.head) ms) =
-            rw (← n.heads) (IsPermutation-map (λ (x : NamedMember). x.head) found ms s) in
+            rw (← heads) (IsPermutation-map (λ (x : NamedMember). x.head) found ms s) in
             let c = Contains-permutation hs (map (λ (x : NamedMember). x.head) ms) (head_of a h) p w in
             let k = of_head ms (head_of a h) c.0 c.1 c.2 in
             (c.0, k.0, k.1, ap (λ (x : Head). x.offset) k.2));

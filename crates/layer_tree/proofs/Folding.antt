@@ -18,7 +18,7 @@ use Rattle.tree_merge.proofs.Rising.{branch_rises}
 use Rattle.path_tree.proofs.Lists.{all_get}
 use Rattle.shown_tree.specs.declared.place.Entry.{Entry}
 use Rattle.shown_tree.specs.declared.place.Mark.{Mark}
-use Rattle.layer_tree.specs.declared.members.NamedMember.{NamedMember}
+use Rattle.layer_tree.specs.Members.{NamedMember}
 use Rattle.shown_tree.specs.Marks.{cut_by, mark_of, covered_by, removed_by}
 use Rattle.shown_tree.specs.Marks.{united}
 use Rattle.layer_tree.specs.Reading.{IsNamedMember, AreByName, HasNamed, CutsFrom, CutsAt, IsEntryIn, IsBranchOf, RemovesFrom, IsBranchAlone, AreBranchesOf, IsMadeOf, IsBlank, AreBuilt, AreWhiteouts, rest_of_opaque}
@@ -77,12 +77,12 @@ module _ (a : List ℕ) (layer h : ℕ) (ms : List NamedMember) (es : List (Subt
 
   -- the member of a name is among the sorted ones
   member_at : (n : List ℕ) (c : ℕ) → IsMember a h c → name a c ≡ Some n
-      → (j : ℕ) × (m : NamedMember) × (slice_get ms j ≡ Some m) × (m.head.offset ≡ c) × (m.name.now ≡ n)
+      → (j : ℕ) × (m : NamedMember) × (slice_get ms j ≡ Some m) × (m.head.offset ≡ c) × (m.name ≡ n)
   member_at n c x f =
       let w = found.members.whole c x in
       let e = has_at w.0 w.1 w.2 in
-      let g : Some w.1.name.now ≡ Some n = sym e.name ∙ ap (name a) w.3 ∙ f in
-      (w.0, w.1, w.2, w.3, (let q : w.1.name.now ≡ n = cc in q))
+      let g : Some w.1.name ≡ Some n = sym e.name ∙ ap (name a) w.3 ∙ f in
+      (w.0, w.1, w.2, w.3, (let q : w.1.name ≡ n = cc in q))
 
   entries_forest : IsForest es
   entries_forest = (forests a layer found.built found.members.rising).0

@@ -1,48 +1,73 @@
--- How the members of a directory are brought in order.
-use Rattle.std.specs.Prelude.{◌≡◌, ℕ, List, ◌++◌, map, drop, All}
+-- The members of a directory, and how they are brought in order.
+use Rattle.std.specs.Prelude.{◌≡◌, ℕ, List, ◌++◌, length, map, drop, All}
 use Rattle.std.specs.List.Sorted.{IsSorted}
 use Rattle.romfs_format.specs.declared.head.Head.{Head}
-use Rattle.romfs_format.specs.Heads.{name_of}
+use Rattle.romfs_format.specs.Heads.{name_of, head_of}
+use Rattle.romfs_reader.specs.Readers.{IsGiven}
 use Rattle.name_keys.specs.Keys.{key, AreBytes}
 use Rattle.path_tree.specs.Rows.{name_cmp}
-use Rattle.layer_tree.specs.declared.members.NamedMember.{NamedMember}
+use Rattle.layer_tree.specs.declared.members.KeyedMember.{KeyedMember}
+
+-- a member of a directory: its name, and its header
+pub record NamedMember : Type 0 where
+  pub name : List ℕ
+  pub head : Head
+
+-- the member whose header stands at a place of the image
+abbrev pub member_in : List ℕ → KeyedMember → NamedMember
+member_in a m = record { name = name_of a m.offset; head = head_of a m.offset }
+
+-- the members whose headers stand at these places
+abbrev pub members_in : List ℕ → List KeyedMember → List NamedMember
+members_in a ms = map (member_in a) ms
+
+-- the header is one that the image gives, and its name has this length
+pub record IsRead (a : List ℕ) (m : KeyedMember) : Type 0 where
+  pub given : IsGiven a (head_of a m.offset)
+  pub length : m.name_len ≡ length (name_of a m.offset)
 
 -- the name begins with the front
 pub record HasFront (front name : List ℕ) : Type 0 where
   pub rest : List ℕ
   pub is : name ≡ front ++ rest
 
+-- the names of these members all begin with the front
+abbrev pub HaveFront : List ℕ → List ℕ → List KeyedMember → Type 0
+HaveFront a front ms = All (λ m. HasFront front (name_of a m.offset)) ms
+
+-- the names of these members all begin with so many bytes that are alike
+pub record ShareFront (a : List ℕ) (shared : ℕ) (ms : List KeyedMember) : Type 0 where
+  pub front : List ℕ
+  pub is : shared ≡ length front
+  pub each : HaveFront a front ms
+
 -- the name begins with the front, and the key is made of the eight bytes behind it
-pub record IsKeyed (front : List ℕ) (m : NamedMember) : Type 0 where
+pub record IsKeyed (a front : List ℕ) (m : KeyedMember) : Type 0 where
   pub rest : List ℕ
-  pub name : m.name.now ≡ front ++ rest
+  pub name : name_of a m.offset ≡ front ++ rest
   pub key : m.key ≡ key 8 rest
   pub bytes : AreBytes rest
 
 -- all names begin with one front, and the keys are made of the bytes behind it
-pub record AreKeyedBehind (ms : List NamedMember) : Type 0 where
+pub record AreKeyedBehind (a : List ℕ) (ms : List KeyedMember) : Type 0 where
   pub front : List ℕ
-  pub each : All (IsKeyed front) ms
-
--- these are the members, each with its name
-pub record AreNamed (a : List ℕ) (members : List Head) (ms : List NamedMember) : Type 0 where
-  pub names : All (λ m. m.name.now ≡ name_of a m.head.offset) ms
-  pub heads : map (λ m. m.head) ms ≡ members
+  pub each : All (IsKeyed a front) ms
 
 -- the member, its key made of the eight bytes behind the first n of its name
-abbrev pub keyed_past : ℕ → NamedMember → NamedMember
-keyed_past n m = record { key = key 8 (drop n m.name.now); name = m.name; head = m.head }
-
--- the member but for its key
-abbrev pub keyless : NamedMember → List ℕ × Head
-keyless m = (m.name.now, m.head)
-
--- the members are the same but for their keys, which are made of the bytes behind what all names
--- begin with
-pub record AreToldApart (old new : List NamedMember) : Type 0 where
-  pub keyed : AreKeyedBehind new
-  pub same : map keyless new ≡ map keyless old
+abbrev pub keyed_past : List ℕ → ℕ → KeyedMember → KeyedMember
+keyed_past a n m = record {
+  key = key 8 (drop n (name_of a m.offset));
+  offset = m.offset;
+  name_len = m.name_len;
+}
 
 -- in the order of their names
 abbrev pub IsByName : List NamedMember → Type 0
-IsByName = IsSorted (λ x y. name_cmp x.name.now y.name.now)
+IsByName = IsSorted (λ x y. name_cmp x.name y.name)
+
+-- the members are the same, and their keys are made of the bytes behind what all their names begin
+-- with
+pub record AreToldApart (a : List ℕ) (old new : List KeyedMember) : Type 0 where
+  pub read : All (IsRead a) new
+  pub keyed : AreKeyedBehind a new
+  pub same : members_in a new ≡ members_in a old

@@ -1,5 +1,5 @@
 -- One layer read as a tree: what stands at and below a header, and what is cut there.
-use Rattle.std.specs.Prelude.{◌≡◌, ◌≢◌, ℕ, ◌+◌, ◌⊎◌, ◌↔◌, List, [], ◌∷◌, ◌++◌, length, true, false, Option, Some, None, MatchOption, option_to_list, IsSomeAnd, IsTrue, slice_get, codes}
+use Rattle.std.specs.Prelude.{◌≡◌, ◌≢◌, ℕ, ◌+◌, ◌⊎◌, ◌↔◌, List, [], ◌∷◌, ◌++◌, length, All, true, false, Option, Some, None, MatchOption, option_to_list, IsSomeAnd, IsTrue, slice_get, codes}
 use Rattle.std.specs.List.{AllByRecursion}
 use Rattle.std.specs.declared.cmp.Ordering.TheVariants.{Less}
 use Rattle.romfs_format.specs.declared.head.Head.{Head}
@@ -14,12 +14,13 @@ use Rattle.stack_model.specs.Stack.{Path, IsPlain, IsMarker, marker, opaque}
 use Rattle.path_tree.specs.Rows.{Subtree, name_cmp, whole, at_path, IsRising}
 use Rattle.shown_tree.specs.declared.place.Entry.{Entry}
 use Rattle.shown_tree.specs.declared.place.Mark.{Mark}
-use Rattle.layer_tree.specs.declared.members.NamedMember.{NamedMember}
+use Rattle.layer_tree.specs.declared.members.KeyedMember.{KeyedMember}
+use Rattle.layer_tree.specs.Members.{NamedMember, members_in, IsRead}
 use Rattle.shown_tree.specs.Marks.{removed_by}
 
 -- the member comes before the other one by its name
 abbrev pub IsBefore : NamedMember → NamedMember → Type 0
-IsBefore m n = name_cmp m.name.now n.name.now ≡ Less
+IsBefore m n = name_cmp m.name n.name ≡ Less
 
 -- members in the order of their names, no two of one name
 abbrev pub NamedRise : List NamedMember → Type 0
@@ -30,7 +31,7 @@ NamedRise (m ∷ ms) = AllByRecursion (IsBefore m) ms × NamedRise ms
 pub record IsNamedMember (a : List ℕ) (d : ℕ) (m : NamedMember) : Type 0 where
   pub given : IsGiven a m.head
   pub member : IsMember a d m.head.offset
-  pub name : name a m.head.offset ≡ Some m.name.now
+  pub name : name a m.head.offset ≡ Some m.name
 
 -- ms are the members of the directory d, in the order of their names
 pub record AreByName (a : List ℕ) (d : ℕ) (ms : List NamedMember) : Type 0 where
@@ -38,6 +39,12 @@ pub record AreByName (a : List ℕ) (d : ℕ) (ms : List NamedMember) : Type 0 w
   pub each : AllByRecursion (IsNamedMember a d) ms
   pub whole : (h : ℕ) → IsMember a d h
       → (k : ℕ) × (m : NamedMember) × (slice_get ms k ≡ Some m) × (m.head.offset ≡ h)
+
+-- these are the members of the directory d, in the order of their names, by the places of their
+-- headers
+pub record AreSorted (a : List ℕ) (d : ℕ) (ms : List KeyedMember) : Type 0 where
+  pub by_name : AreByName a d (members_in a ms)
+  pub read : All (IsRead a) ms
 
 -- a header can be read in a layer: the image is sound, the ends kept so far are its own, and it
 -- gives this header
@@ -136,15 +143,15 @@ pub data AreBuilt (a : List ℕ) (layer : ℕ) : List NamedMember → List (Subt
   none_built : AreBuilt a layer [] [] []
   hidden : (m : NamedMember) (ms : List NamedMember) (es : List (Subtree Entry))
       (ks : List (Subtree Mark))
-      → IsMarker m.name.now → AreBuilt a layer ms es ks → AreBuilt a layer (m ∷ ms) es ks
+      → IsMarker m.name → AreBuilt a layer ms es ks → AreBuilt a layer (m ∷ ms) es ks
   alone : (m : NamedMember) (ms : List NamedMember) (e : Subtree Entry) (es : List (Subtree Entry))
       (ks : List (Subtree Mark))
-      → ¬ IsMarker m.name.now → IsBranchAlone a layer m.head.offset m.name.now e
+      → ¬ IsMarker m.name → IsBranchAlone a layer m.head.offset m.name e
       → AreBuilt a layer ms es ks
       → AreBuilt a layer (m ∷ ms) (e ∷ es) ks
   built : (m : NamedMember) (ms : List NamedMember) (e : Subtree Entry) (es : List (Subtree Entry))
       (k : Subtree Mark) (ks : List (Subtree Mark))
-      → ¬ IsMarker m.name.now → AreBranchesOf a layer m.head.offset m.name.now e k
+      → ¬ IsMarker m.name → AreBranchesOf a layer m.head.offset m.name e k
       → AreBuilt a layer ms es ks
       → AreBuilt a layer (m ∷ ms) (e ∷ es) (k ∷ ks)
 
@@ -152,9 +159,9 @@ pub data AreBuilt (a : List ℕ) (layer : ℕ) : List NamedMember → List (Subt
 pub data AreWhiteouts : List NamedMember → List (Subtree Mark) → Type 0 where
   none_white : AreWhiteouts [] []
   other : (m : NamedMember) (ms : List NamedMember) (ks : List (Subtree Mark))
-      → ¬ IsMarker m.name.now → AreWhiteouts ms ks → AreWhiteouts (m ∷ ms) ks
+      → ¬ IsMarker m.name → AreWhiteouts ms ks → AreWhiteouts (m ∷ ms) ks
   white : (m : NamedMember) (ms : List NamedMember) (k : Subtree Mark) (ks : List (Subtree Mark))
-      → m.name.now ≡ marker ++ k.name → k.value.cut ≡ true → k.below ≡ [] → AreWhiteouts ms ks
+      → m.name ≡ marker ++ k.name → k.value.cut ≡ true → k.below ≡ [] → AreWhiteouts ms ks
       → AreWhiteouts (m ∷ ms) (k ∷ ks)
 
 -- members of a directory, and how many names are left below a path to it

@@ -1,11 +1,13 @@
-//! Names that will be read, read ahead.
+//! Headers and names that will be read, read ahead.
 //!
 //! Members in the order of their names stand anywhere in the image, which is larger than the
-//! processor's caches. One after another the read of each name would be waited for. Here some
+//! processor's caches. One after another the read of each would be waited for. Here some
 //! dozens are read together, before their branches are made, and none of these reads waits for
 //! another. No branch follows from what is read here.
 
-use crate::members::NamedMember;
+use crate::members::KeyedMember;
+use romfs_reader::Image;
+use std::alloc::Allocator;
 
 /// How many names are read together.
 const TOGETHER: usize = 64;
@@ -26,25 +28,25 @@ impl NamesAhead {
 
     /// Goes over one member more of these; now and then the names of the next ones are read. Those
     /// of a small directory were all read just before.
-    pub(crate) fn pass(&mut self, members: &[NamedMember<'_>]) {
+    pub(crate) fn pass<A: Allocator>(&mut self, image: &Image<A>, members: &[KeyedMember]) {
         if members.len() > TOGETHER && self.passed % TOGETHER == 0 {
-            self.read(members);
+            self.read(image, members);
         }
         self.passed = self.passed.wrapping_add(1);
     }
 
-    // Reads the ends of the next names.
+    // Reads bytes of the next headers and names.
     #[inline(never)]
-    fn read(&mut self, members: &[NamedMember<'_>]) {
+    fn read<A: Allocator>(&mut self, image: &Image<A>, members: &[KeyedMember]) {
         if let Some(next) = members.get(self.passed..) {
             for member in next.iter().take(TOGETHER) {
-                self.sum ^= ends_of(member.name).unwrap_or(0);
+                self.sum ^= u64::from(byte_at(image, member.offset).unwrap_or(0));
             }
         }
     }
 }
 
-// The first and the last byte of a name.
-fn ends_of(name: &[u8]) -> Option<u64> {
-    Some(u64::from(name.first()? ^ name.last()?))
+// What stands in the first and the last byte of a header and of a short name.
+fn byte_at<A: Allocator>(image: &Image<A>, header: u32) -> Option<u8> {
+    Some(image.glance(header)? ^ image.glance(header.wrapping_add(31))?)
 }

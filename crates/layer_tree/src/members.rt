@@ -1,19 +1,21 @@
 //! The members of a directory in the order of their names.
 //!
 //! Names stand anywhere in an image, so a sort that reads two of them for each comparison is slow.
-//! Members are sorted by keys that stand in them, and by names only where keys are equal. A key is
-//! eight bytes of a name as a number, the first ones behind what all names of the directory begin
-//! with, since names such as `file-000017` and `file-000018` are alike before.
+//! Of each member a key, the place of its header and the length of its name are kept, 16 bytes, and
+//! these are sorted by the keys; names are read again only where keys are equal. A key is eight
+//! bytes of a name as a number, the first ones behind what all names of the directory begin with,
+//! since names such as `file-000017` and `file-000018` are alike before.
 
-ghost use Rattle.std.specs.Prelude.{◌≡◌, ◌≤◌, [], ◌∷◌, ◌++◌, length, map, IfOk, All, MatchOption};
+ghost use Rattle.std.specs.Prelude.{◌≡◌, ◌≤◌, [], ◌∷◌, ◌++◌, length, map, IfOk, IsFalse, All, MatchOption};
 ghost use Rattle.std.specs.List.Sorted.{IsPermutation};
+ghost use Rattle.romfs_format.specs.Heads.{name_of, head_of};
 ghost use Rattle.romfs_reader.specs.Images.{IsImage};
 ghost use Rattle.romfs_reader.specs.Readers.{IsGiven};
 ghost use Rattle.stack_model.specs.Stack.{marker, IsMarker};
 ghost use Rattle.name_keys.specs.Keys.{key, AreBytes};
 ghost use Rattle.path_tree.specs.Rows.{name_cmp};
-ghost use Rattle.layer_tree.specs.Members.{HasFront, IsKeyed, AreKeyedBehind, AreNamed, AreToldApart, keyed_past, IsByName};
-ghost use Rattle.layer_tree.specs.Reading.{AreByName};
+ghost use Rattle.layer_tree.specs.Members.{members_in, IsRead, HasFront, ShareFront, IsKeyed, AreKeyedBehind, AreToldApart, keyed_past, IsByName};
+ghost use Rattle.layer_tree.specs.Reading.{AreSorted};
 
 use romfs_reader::{Head, Image, Kind, Members};
 use shown_tree::is_marker;
@@ -23,76 +25,72 @@ use std::cmp::Ordering;
 /// How many members a directory gets room for at once: most have no more.
 const FEW: usize = 16;
 
-/// A member with its name.
+/// A member of a directory, by where its header stands.
 #[derive(Clone, Copy)]
-pub(crate) struct NamedMember<'a> {
+pub(crate) struct KeyedMember {
     /// Eight bytes of the name as a number, behind a front that all names of the directory share.
     pub key: u64,
-    pub name: &'a [u8],
-    pub head: Head,
+    pub offset: u32,
+    /// How many bytes its name has.
+    pub name_len: u32,
 }
 
 /// The members of a directory in the order of their names. It reads each header once, and sorts;
-/// names that begin alike are read twice more, for their front and for keys behind it.
+/// names that begin alike are read once more, for keys behind their front.
 #[inline(never)]
-pub(crate) fn sorted_members<'a, A: Allocator + Copy>(
+pub(crate) fn sorted_members<A: Allocator + Copy>(
     alloc: A,
-    image: &'a Image<A>,
+    image: &Image<A>,
     directory: &Head,
-) -> Result<Vec<NamedMember<'a>, A>, AllocError>
+) -> Result<Vec<KeyedMember, A>, AllocError>
     requires sound { IsImage image.now }
     requires given { IsGiven image.now directory.now }
     requires directory { directory.now.kind ≡ Kind.Directory }
-    ensures { IfOk result (λ members. AreByName image.now directory.now.offset members.items) }
+    ensures { IfOk result
+        (λ members. AreSorted image.now directory.now.offset members.items) }
 {
-    let mut members = named_members(alloc, image, image.members(directory))?;
-    tell_apart(&mut members);
-    sort_by_name(&mut members);
+    let (mut members, shared) = keyed_members(alloc, image, image.members(directory))?;
+    tell_apart(image, &mut members, shared);
+    sort_by_name(image, &mut members);
     Ok(members)
 }
 
-/// Members with their names, each with the key of its whole name.
-fn named_members<'a, A: Allocator + Copy>(
+/// Members, each with the key of its whole name, and how many bytes all their names share at the
+/// front.
+fn keyed_members<A: Allocator + Copy>(
     alloc: A,
-    image: &'a Image<A>,
+    image: &Image<A>,
     members: Members<'_>,
-) -> Result<Vec<NamedMember<'a>, A>, AllocError>
+) -> Result<(Vec<KeyedMember, A>, usize), AllocError>
     requires { All (λ head. IsGiven image.now head) members }
-    ensures named { IfOk result (λ named. AreNamed image.now members.entry named.items) }
-    ensures keyed { IfOk result (λ named. All (IsKeyed []) named.items) }
+    ensures heads { IfOk result
+        (λ it. map (λ m. head_of image.now m.offset) it.0.items ≡ members.entry) }
+    ensures read { IfOk result (λ it. All (IsRead image.now) it.0.items) }
+    ensures keyed { IfOk result (λ it. All (IsKeyed image.now []) it.0.items) }
+    ensures shared { IfOk result (λ it. ShareFront image.now it.1 it.0.items) }
 {
-    let mut named = Vec::with_capacity(alloc, FEW)?;
+    let mut keyed = Vec::with_capacity(alloc, FEW)?;
+    let mut front: &[u8] = &[];
     for head in members {
         let name = image.name(&head);
-        let key = key_of(name);
-        named.push(NamedMember { key, name, head })?;
+        front = front_with(front, keyed.is_empty(), name);
+        keyed.push(KeyedMember {
+            key: key_of(name),
+            offset: head.offset,
+            name_len: head.name_len,
+        })?;
     }
-    Ok(named)
+    Ok((keyed, front.len()))
 }
 
-/// Gives members whose names begin alike keys that tell them apart.
-fn tell_apart(members: &mut [NamedMember<'_>])
-    requires { All (IsKeyed []) members.old }
-    ensures { AreToldApart members.old members.new }
+/// What names begin with that all begin with this front, and this name, too; with no name before
+/// it that is the name.
+#[tactic(auto, using(crate::proofs::Keyed::begins_itself))]
+fn front_with<'a>(front: &'a [u8], is_first: bool, name: &'a [u8]) -> &'a [u8]
+    ensures name { HasFront result.now name.now }
+    ensures front { IsFalse is_first → HasFront result.now front.now }
 {
-    let shared = front(members).len();
-    if shared > 0 {
-        set_keys(members, shared);
-    }
-}
-
-/// What the names of these members all begin with.
-fn front<'a>(members: &[NamedMember<'a>]) -> &'a [u8]
-    ensures { All (λ m. HasFront result.now m.name.now) members.now }
-{
-    let Some(first) = members.first() else {
-        return &[];
-    };
-    let mut front = first.name;
-    for member in members {
-        front = shared(front, member.name);
-    }
-    front
+    if is_first { name } else { shared(front, name) }
 }
 
 /// What two names both begin with.
@@ -103,31 +101,47 @@ fn shared<'a>(x: &'a [u8], y: &[u8]) -> &'a [u8]
     &x[..name_keys::shared(x, y)]
 }
 
+/// Gives members whose names begin alike keys that tell them apart.
+fn tell_apart<A: Allocator>(image: &Image<A>, members: &mut [KeyedMember], shared: usize)
+    requires read { All (IsRead image.now) members.old }
+    requires keyed { All (IsKeyed image.now []) members.old }
+    requires shared { ShareFront image.now shared members.old }
+    ensures { AreToldApart image.now members.old members.new }
+{
+    if shared > 0 {
+        set_keys(image, members, shared);
+    }
+}
+
 /// Gives each member the key of what stands behind the first `shared` bytes of its name.
-fn set_keys(members: &mut [NamedMember<'_>], shared: usize)
-    requires { All (λ m. shared ≤ length m.name.now) members.old }
-    ensures { members.new ≡ map (keyed_past shared) members.old }
+fn set_keys<A: Allocator>(image: &Image<A>, members: &mut [KeyedMember], shared: usize)
+    requires read { All (IsRead image.now) members.old }
+    requires long { All (λ m. shared ≤ length (name_of image.now m.offset)) members.old }
+    ensures { members.new ≡ map (keyed_past image.now shared) members.old }
 {
     for member in members.iter_mut() {
-        member.key = key_of(&member.name[shared..]);
+        let head = image.given_named(member.offset, member.name_len);
+        let name = image.name(&head);
+        member.key = key_of(&name[shared..]);
     }
 }
 
 /// Sorts members by name, byte by byte.
-fn sort_by_name<A: Allocator>(members: &mut Vec<NamedMember<'_>, A>)
-    requires { AreKeyedBehind members.old.items }
+fn sort_by_name<A: Allocator>(image: &Image<A>, members: &mut Vec<KeyedMember, A>)
+    requires { AreKeyedBehind image.now members.old.items }
     ensures same { IsPermutation members.old.items members.new.items }
-    ensures sorted { IsByName members.new.items }
+    ensures sorted { IsByName (members_in image.now members.new.items) }
 {
-    members.sort_unstable_by(|x, y| order(x, y));
+    members.sort_unstable_by(|x, y| order(image, x, y));
 }
 
 /// How members stand by their keys, and by their names where these are equal.
-fn order(x: &NamedMember<'_>, y: &NamedMember<'_>) -> Ordering
-    ensures { result ≡ name_cmp (x.now.key ∷ x.now.name.now) (y.now.key ∷ y.now.name.now) }
+fn order<A: Allocator>(image: &Image<A>, x: &KeyedMember, y: &KeyedMember) -> Ordering
+    ensures { result ≡ name_cmp (x.now.key ∷ name_of image.now x.now.offset)
+        (y.now.key ∷ name_of image.now y.now.offset) }
 {
     match x.key.cmp(&y.key) {
-        Ordering::Equal => x.name.cmp(y.name),
+        Ordering::Equal => image.name_at(x.offset).cmp(image.name_at(y.offset)),
         other => other,
     }
 }

@@ -8,14 +8,15 @@
 //! It takes n log n steps in the members of the layer and the hard links that they lead to: ends of
 //! hard links that were found are kept while the tree is made.
 
-ghost use Rattle.std.specs.Prelude.{◌≡◌, ◌≢◌, [], ◌∷◌, ◌++◌, ◌↔◌, length, IfOk, OnOk, IsTrue, MatchOption, is_some};
+ghost use Rattle.std.specs.Prelude.{◌≡◌, ◌≢◌, [], ◌∷◌, ◌++◌, ◌↔◌, length, All, IfOk, OnOk, IsTrue, MatchOption, is_some};
 ghost use Rattle.romfs_reader.specs.Images.{IsImage};
 ghost use Rattle.shown_tree.specs.Trees.{IsTreeOf};
 ghost use Rattle.path_tree.specs.Rows.{NamesRise, named};
+ghost use Rattle.layer_tree.specs.Members.{members_in, IsRead};
 ghost use Rattle.layer_tree.specs.Reading.{IsReadable, IsAtDepth, AddsMade, AreMadeOf, IsBlank, AreBuilt, AreWhiteouts, AreMembersAt, IsFolder, rest_of_opaque};
 
 use crate::ahead::NamesAhead;
-use crate::members::{NamedMember, sorted_members, whiteout_of};
+use crate::members::{KeyedMember, sorted_members, whiteout_of};
 use path_tree::{Branch, Name, child};
 use romfs_format::limits::MAX_NAMES;
 use romfs_reader::{Ends, Head, Image, Kind};
@@ -159,14 +160,16 @@ fn is_blank<A: Allocator>(mark: &Branch<Mark, A>) -> bool
 fn branches_below<A: Allocator + Copy>(
     layer: &Layer<'_, A>,
     ends: &mut Ends<'_, A>,
-    members: &[NamedMember<'_>],
+    members: &[KeyedMember],
     left: u16,
 ) -> Result<Branches<A>, AllocError>
     requires sound { IsImage layer.now.image.now }
     requires ends { ends.old ≡ layer.now.image.now }
-    requires members { AreMembersAt layer.now.image.now left members.now }
+    requires members { AreMembersAt layer.now.image.now left
+        (members_in layer.now.image.now members.now) }
+    requires read { All (IsRead layer.now.image.now) members.now }
     ensures built { IfOk result (λ made. AreBuilt layer.now.image.now layer.now.number
-        members.now made.entries.items made.marks.items) }
+        (members_in layer.now.image.now members.now) made.entries.items made.marks.items) }
     ensures ends { ends.new ≡ layer.now.image.now }
 {
     let mut made = Branches {
@@ -175,11 +178,13 @@ fn branches_below<A: Allocator + Copy>(
     };
     let mut ahead = NamesAhead::new();
     for member in members {
-        ahead.pass(members);
-        if is_marker(member.name) {
+        ahead.pass(layer.image, members);
+        let head = layer.image.given_named(member.offset, member.name_len);
+        let name = layer.image.name(&head);
+        if is_marker(name) {
             continue;
         }
-        add_branches(layer, ends, member.name, &member.head, left - 1, &mut made)?;
+        add_branches(layer, ends, name, &head, left - 1, &mut made)?;
     }
     Ok(made)
 }
@@ -230,18 +235,18 @@ fn folder<A: Allocator + Copy>(
     layer: &Layer<'_, A>,
     name: &[u8],
     head: &Head,
-    members: &[NamedMember<'_>],
+    members: &[KeyedMember],
     below: Branches<A>,
 ) -> Result<(Child<A>, Branch<Mark, A>), AllocError>
-    requires { IsFolder layer.now.image.now layer.now.number head.now members.now
-        below.entries.items below.marks.items }
+    requires { IsFolder layer.now.image.now layer.now.number head.now
+        (members_in layer.now.image.now members.now) below.entries.items below.marks.items }
     ensures { IfOk result
         (AreMadeOf layer.now.image.now layer.now.number head.now.offset name.now) }
 {
     let entry = entry_at(layer.number, head);
     let entry_name = Name::of(layer.alloc, name)?;
     let mark_name = Name::of(layer.alloc, name)?;
-    let whiteouts = whiteouts_of(layer.alloc, members)?;
+    let whiteouts = markers_of(layer, members, &below)?;
     let opaque = has_opaque(&whiteouts);
     let marks = merge(layer.alloc, below.marks, whiteouts)?;
     let entries = Branch::new(entry_name, entry, below.entries);
@@ -257,12 +262,12 @@ fn add_folder<A: Allocator + Copy>(
     layer: &Layer<'_, A>,
     name: &[u8],
     head: &Head,
-    members: &[NamedMember<'_>],
+    members: &[KeyedMember],
     below: Branches<A>,
     to: &mut Branches<A>,
 ) -> Result<(), AllocError>
-    requires { IsFolder layer.now.image.now layer.now.number head.now members.now
-        below.entries.items below.marks.items }
+    requires { IsFolder layer.now.image.now layer.now.number head.now
+        (members_in layer.now.image.now members.now) below.entries.items below.marks.items }
     ensures { OnOk result (AddsMade layer.now.image.now layer.now.number
         head.now.offset name.now to.old.entries.items to.old.marks.items
         to.new.entries.items to.new.marks.items) }
@@ -283,7 +288,7 @@ fn add_folder<A: Allocator + Copy>(
 }
 
 /// Whether all members of a directory have branches of entries, and none has a mark.
-fn is_plain<A: Allocator>(members: &[NamedMember<'_>], below: &Branches<A>) -> bool
+fn is_plain<A: Allocator>(members: &[KeyedMember], below: &Branches<A>) -> bool
     ensures { IsTrue result → (length below.now.entries.items ≡ length members.now)
         × (below.now.marks.items ≡ []) }
 {
@@ -314,16 +319,37 @@ fn has_opaque<A: Allocator>(whiteouts: &[Branch<Mark, A>]) -> bool
     child(whiteouts, WHOLE).is_some()
 }
 
+/// The marks of a directory's markers. Where each member has a branch none is a marker, and no name
+/// is read again.
+fn markers_of<A: Allocator + Copy>(
+    layer: &Layer<'_, A>,
+    members: &[KeyedMember],
+    below: &Branches<A>,
+) -> Result<Vec<Branch<Mark, A>, A>, AllocError>
+    requires { AreBuilt layer.now.image.now layer.now.number
+        (members_in layer.now.image.now members.now)
+        below.now.entries.items below.now.marks.items }
+    ensures { IfOk result
+        (λ marks. AreWhiteouts (members_in layer.now.image.now members.now) marks.items) }
+{
+    if below.entries.len() == members.len() {
+        return Ok(Vec::new(layer.alloc));
+    }
+    whiteouts_of(layer.alloc, layer.image, members)
+}
+
 /// The marks of markers, in the same order.
 fn whiteouts_of<A: Allocator + Copy>(
     alloc: A,
-    members: &[NamedMember<'_>],
+    image: &Image<A>,
+    members: &[KeyedMember],
 ) -> Result<Vec<Branch<Mark, A>, A>, AllocError>
-    ensures { IfOk result (λ marks. AreWhiteouts members.now marks.items) }
+    ensures { IfOk result
+        (λ marks. AreWhiteouts (members_in image.now members.now) marks.items) }
 {
     let mut marks = Vec::new(alloc);
     for member in members {
-        let Some(name) = whiteout_of(member.name) else {
+        let Some(name) = whiteout_of(image.name_at(member.offset)) else {
             continue;
         };
         let name = Name::of(alloc, name)?;

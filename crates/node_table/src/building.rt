@@ -1,8 +1,6 @@
 //! The nodes and rows of a table, made from numbered branches.
 
 ghost use Rattle.std.specs.Prelude.{◌≡◌, ◌+◌, ◌<◌, length, slice_index, IfOk};
-ghost use Rattle.romfs_format.specs.Heads.{head_of};
-ghost use Rattle.romfs_reader.specs.Readers.{IsGiven};
 ghost use Rattle.node_table.specs.Numbering.{number_among};
 ghost use Rattle.node_table.specs.Building.{HasAbove, AreFollowing, HasChildrenAfter, number_above};
 ghost use Rattle.node_table.specs.Building.{AddsRows, AddsDirectory, AddsNode, HasGivenHeader};
@@ -13,7 +11,7 @@ use crate::numbering::Numbered;
 use crate::walk::Walked;
 use name_keys::add_keys;
 use path_tree::Branch;
-use romfs_reader::{Head, Image, Kind};
+use romfs_reader::{Image, Kind};
 use shown_tree::{Child, Entry};
 use stack_table::{Directories, Directory, Node, Row};
 use std::alloc::{AllocError, Allocator};
@@ -23,18 +21,6 @@ use std::alloc::{AllocError, Allocator};
 pub(crate) struct TableParts<A: Allocator> {
     pub(crate) nodes: Vec<Node, A>,
     pub(crate) directories: Directories<A>,
-}
-
-// The header of a place, which its image gives.
-fn header_in<A: Allocator>(image: &Image<A>, header: u32) -> Head
-    requires { IsGiven image.now (head_of image.now header) }
-    ensures value { result ≡ head_of image.now header }
-    ensures given { IsGiven image.now result }
-{
-    match image.head(header) {
-        Some(head) => head,
-        None => image.root(),
-    }
 }
 
 // Adds the rows of children, and counts the directories among them. The children stand at `start`
@@ -125,7 +111,7 @@ pub(crate) fn add_node<A: Allocator + Copy>(
 {
     let Entry { kind, place } = branch.value();
     let image = &images[place.layer as usize];
-    let head = header_in(image, place.header);
+    let head = image.given(place.header);
     let part = image.data_part(&head);
     let directory = into.all.len();
     let nlink = match kind {

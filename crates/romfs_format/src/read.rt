@@ -5,7 +5,7 @@ ghost use Rattle.std.specs.Option.{option_map};
 ghost use Rattle.romfs_format.specs.declared.limits.TheConstants.{HEAD_SIZE};
 ghost use Rattle.romfs_format.specs.Fields.{root, word, padded, cleared, text_end, kind_of, text_at};
 ghost use Rattle.romfs_format.specs.Fields.{name_field, ended, is_dot_name, word_sum, data_at, header_bytes};
-ghost use Rattle.romfs_format.specs.Heads.{head_of};
+ghost use Rattle.romfs_format.specs.Heads.{head_of, name_of};
 
 use crate::head::{Head, Kind};
 use crate::limits::{HEAD_SIZE, NAME_FIELD_SIZE};
@@ -142,10 +142,32 @@ pub fn word_sum(bytes: &[u8]) -> u32
     sum
 }
 
+/// How long the name of the header at a place is; 0 where it has no end.
+fn name_len(image: &[u8], at: u32) -> u32
+    requires inside { at + HEAD_SIZE ≤ length image.now }
+    requires small { length image.now < 2 ^ 32 }
+    ensures { result ≡ length (name_of image.now at) }
+{
+    match text_at(image, at as usize + HEAD_SIZE) {
+        Some(name) => name.len() as u32,
+        None => 0,
+    }
+}
+
 /// The header at a place.
 pub fn head_at(image: &[u8], at: u32) -> Head
     requires inside { at + HEAD_SIZE ≤ length image.now }
     requires small { length image.now < 2 ^ 32 }
+    ensures { result ≡ head_of image.now at }
+{
+    head_named(image, at, name_len(image, at))
+}
+
+/// The same, with the length of its name, which is known.
+pub fn head_named(image: &[u8], at: u32, name_len: u32) -> Head
+    requires inside { at + HEAD_SIZE ≤ length image.now }
+    requires small { length image.now < 2 ^ 32 }
+    requires name { name_len ≡ length (name_of image.now at) }
     ensures { result ≡ head_of image.now at }
 {
     let place = at as usize;
@@ -158,10 +180,7 @@ pub fn head_at(image: &[u8], at: u32) -> Head
         spec: word(image, place + 4),
         size: word(image, place + 8),
         name_at: at + HEAD_SIZE as u32,
-        name_len: match text_at(image, place + HEAD_SIZE) {
-            Some(name) => name.len() as u32,
-            None => 0,
-        },
+        name_len,
     }
 }
 

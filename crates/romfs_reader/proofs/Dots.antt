@@ -1,6 +1,6 @@
 -- Headers named `.` or `..`, told by the first bytes of their names alone: the zero byte is among
 -- these, and the padding ends in the image.
-use Rattle.std.proofs.Common.{◌≡◌, ℕ, zero, suc, ◌+◌, ◌<◌, ◌≤◌, List, [], ◌∷◌, length, drop, get_or, length-drop, true, Some, arith, refl, leb}
+use Rattle.std.proofs.Common.{◌≡◌, ℕ, ◌+◌, ◌≤◌, List, [], ◌∷◌, length, drop, get_or, length-drop, true, Some, arith, refl, leb}
 use Rattle.std.proofs.lemmas.Bool.Decides.{nat_tests}
 use Rattle.romfs_format.specs.Fields.{text_at, ended, name_field}
 use Rattle.romfs_reader.specs.Dots.{HasDotName}

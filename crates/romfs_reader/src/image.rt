@@ -11,8 +11,11 @@ ghost use Rattle.romfs_reader.specs.Readers.{data_of_header, bytes_at, IsHeadAt,
 
 use crate::ends::Ends;
 use crate::members::Members;
-use crate::parts::{Part, bytes_in, data_in, data_part, end_of, members_of, name_in, place_at};
-use romfs_format::read::{head_at, root_of, word};
+use crate::parts::{
+    Part, bytes_in, data_in, data_part, end_of, members_of, name_in, place_at, text_from,
+};
+use romfs_format::limits::HEAD_SIZE;
+use romfs_format::read::{head_at, head_named, root_of, word};
 use romfs_format::{Head, Kind};
 use std::alloc::Allocator;
 use std::marker::Model;
@@ -98,6 +101,25 @@ impl<A: Allocator> Image<A> {
         place_at(&self.bytes, self.root, offset)
     }
 
+    /// The header at an offset in bytes at which this image gave one before, that header again.
+    pub fn given(&self, offset: u32) -> Head
+        requires { IsGiven self.now (head_of self.now offset) }
+        ensures value { result ≡ head_of self.now offset }
+        ensures given { IsGiven self.now result }
+    {
+        head_at(&self.bytes, offset)
+    }
+
+    /// The same, where the length of its name in bytes is known, so that its end is not sought.
+    pub fn given_named(&self, offset: u32, name_len: u32) -> Head
+        requires head { IsGiven self.now (head_of self.now offset) }
+        requires name { name_len ≡ length (name_of self.now offset) }
+        ensures value { result ≡ head_of self.now offset }
+        ensures given { IsGiven self.now result }
+    {
+        head_named(&self.bytes, offset, name_len)
+    }
+
     /// The byte at an offset in bytes; none beyond the image. It is for whoever reads ahead what
     /// will be asked for later.
     pub fn glance(&self, offset: u32) -> Option<u8>
@@ -150,6 +172,14 @@ impl<A: Allocator> Image<A> {
         ensures { result.now ≡ name_of self.now head.now.offset }
     {
         name_in(&self.bytes, head)
+    }
+
+    /// The name of the header at an offset in bytes, without its zero byte. It is empty where none
+    /// lies there, or where its name has no end.
+    pub fn name_at(&self, offset: u32) -> &[u8]
+        ensures { result.now ≡ name_of self.now offset }
+    {
+        text_from(&self.bytes, offset as usize + HEAD_SIZE)
     }
 
     /// The data of a regular file, or the target of a symbolic link: as many bytes as its size,

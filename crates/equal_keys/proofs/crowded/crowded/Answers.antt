@@ -11,10 +11,10 @@ loop-key-init g c = fell_none c.args.keys.now c.args.slots _ _
 
 pub loop-key-preserved : goal.loop-key-preserved
 loop-key-preserved g c = elim c.if-slot-slots.branch [
-  | then-slot-slots w ↦ rw (w.some-is, w.crowded-is) (fell_within c.args.keys.now c.args.slots c.loop-key.some c.loop-key.crowded c.loop-key.key-index _
-      c.loop-key.invariant c.slot_of-slot.ensures _ _ (omega arith) w.fall.ensures)
-  | else-slot-slots w ↦ rw (w.some-is, w.crowded-is) (fell_beyond c.args.keys.now c.args.slots c.loop-key.some c.loop-key.crowded c.loop-key.key-index _
-      c.loop-key.invariant c.slot_of-slot.ensures (omega arith))
+  | then-slot-slots w ↦ rw (w.some-is, w.crowded-is) (fell_within c.args.keys.now c.args.slots c.loop-key.some c.loop-key.crowded
+      c.loop-key.key-index _ c.loop-key.invariant c.slot_of-slot.ensures _ _ (omega arith) w.fall.ensures)
+  | else-slot-slots w ↦ rw (w.some-is, w.crowded-is) (fell_beyond c.args.keys.now c.args.slots c.loop-key.some c.loop-key.crowded
+      c.loop-key.key-index _ c.loop-key.invariant c.slot_of-slot.ensures (omega arith))
 ]
 
 pub returns : goal.returns

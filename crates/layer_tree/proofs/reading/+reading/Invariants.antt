@@ -1,4 +1,5 @@
 use Rattle.std.proofs.Common.{◌≡◌, ◌+◌, ◌*◌, drop}
+use Rattle.layer_tree.specs.Members.{members_in}
 use Rattle.layer_tree.proofs.Building.{Building}
 use Rattle.layer_tree.proofs.reading.+reading.Given as goal
 
@@ -12,5 +13,7 @@ decreases-branches_below g l = 2 * l.left
 
 -- the members so far have branches, and the ends are still the image's
 abbrev pub invariant-branches_below-loop-member : goal.invariant-branches_below-loop-member
-invariant-branches_below-loop-member g l = Building l.layer.image.now l.layer.number l.members (drop l.member-index l.members)
-    l.made.entries.items l.made.marks.items × (l.ends ≡ l.layer.image.now)
+invariant-branches_below-loop-member g l =
+    let all = members_in l.layer.image.now l.members in
+    Building l.layer.image.now l.layer.number all (drop l.member-index all) l.made.entries.items l.made.marks.items
+    × (l.ends ≡ l.layer.image.now)

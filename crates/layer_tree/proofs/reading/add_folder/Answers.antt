@@ -3,7 +3,8 @@ use Rattle.std.proofs.lemmas.List.{append-nil}
 use Rattle.romfs_format.specs.declared.head.Head.{Head}
 use Rattle.romfs_format.specs.declared.head.Kind.TheVariants.{Directory}
 use Rattle.romfs_format.specs.Fields.{kind}
-use Rattle.layer_tree.proofs.Building.{forests}
+use Rattle.layer_tree.specs.Members.{members_in}
+use Rattle.layer_tree.proofs.Building.{as_many, forests}
 use Rattle.layer_tree.proofs.Entering.{directory_stays, entered}
 use Rattle.layer_tree.proofs.Folding.{made_as_needed, plain_folder}
 use Rattle.layer_tree.proofs.reading.add_folder.Goals as goal
@@ -26,13 +27,13 @@ returns-then-is_plain g c =
     c.entry_at-own_entry.ensures.kind in
     record {
       made = (c.new.result, None);
-      is = rw (c.new.ensures, e) (plain_folder a c.args.layer.now.number h c.args.members.now c.args.below.entries.items
+      is = rw (c.new.ensures, e) (plain_folder a c.args.layer.now.number h (members_in a c.args.members.now) c.args.below.entries.items
           c.args.below.marks.items c.entry_at-own_entry.result c.args.name.now (record {
             sound = c.requires.sound;
             directory = directory;
             members = c.requires.members;
             built = c.requires.below;
-            whole = plain.0;
+            whole = plain.0 ∙ sym (as_many a c.args.members.now);
             unmarked = plain.1;
             stands = entry;
           }));

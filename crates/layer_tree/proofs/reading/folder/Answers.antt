@@ -5,6 +5,7 @@ use Rattle.romfs_format.specs.declared.head.Kind.TheVariants.{Directory}
 use Rattle.romfs_format.specs.Fields.{kind}
 use Rattle.stack_model.specs.Stack.{opaque}
 use Rattle.path_tree.specs.Rows.{named}
+use Rattle.layer_tree.specs.Members.{members_in}
 use Rattle.layer_tree.specs.Reading.{HasNamed, rest_of_opaque}
 use Rattle.layer_tree.proofs.Building.{forests, white_forest}
 use Rattle.layer_tree.proofs.Entering.{directory_stays, entered}
@@ -30,7 +31,7 @@ returns g c =
     let e : c.in_ok-entry_name.entry_name ≡ c.args.name.now = c.in_ok-entry_name.ensures in
     let f : c.in_ok-mark_name.mark_name ≡ c.args.name.now = c.in_ok-mark_name.ensures in
     let directory : kind a h ≡ Directory = sym (ap (λ (x : Head). x.kind) c.requires.given.is) ∙ c.requires.directory in
-    let found : IsMadeOfMembers a c.args.layer.now.number h c.args.members.now c.args.below.entries.items
+    let found : IsMadeOfMembers a c.args.layer.now.number h (members_in a c.args.members.now) c.args.below.entries.items
     c.args.below.marks.items c.in_ok-whiteouts.whiteouts.items c.in_ok-marks.marks.items = record {
       sound = c.requires.sound;
       members = c.requires.members;

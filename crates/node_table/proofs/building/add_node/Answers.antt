@@ -9,7 +9,7 @@ pub returns-in_ok-directories-in-Directory : goal.returns-in_ok-directories-in-D
 returns-in_ok-directories-in-Directory g c =
     let tell = number_among c.args.walk.now.visits.items in
     let reads : ReadsBranch c.args.images.now c.args.branch.now =
-    reads_branch c.value-kind.ensures c.index-images-place.is c.header_in-head.ensures.value c.data_part-part.ensures in
+    reads_branch c.value-kind.ensures c.index-images-place.is c.given-head.ensures.value c.data_part-part.ensures in
     let old : Folders = record { all = c.args.into.now.all.items; rows = _; keys = _ } in
     let new : Folders = record { all = _; rows = _; keys = _ } in
     let n = c.in_ok-directories-in-Directory in
@@ -27,7 +27,7 @@ returns-in_default g c =
     let tell = number_among c.args.walk.now.visits.items in
     let above = number_above c.args.numbers.now c.args.walk.now.above.items c.args.start in
     let reads : ReadsBranch c.args.images.now c.args.branch.now =
-    reads_branch c.value-kind.ensures c.index-images-place.is c.header_in-head.ensures.value c.data_part-part.ensures in
+    reads_branch c.value-kind.ensures c.index-images-place.is c.given-head.ensures.value c.data_part-part.ensures in
     let kept : Folders = record {
       all = c.args.into.now.all.items;
       rows = c.args.into.now.rows.items;
