@@ -5,9 +5,7 @@
 //! single answers and their moves (`answers`), and each request for memory of a call refused in
 //! turn (`memory`). They share the table of the sample image (`tables`) and the requests of a
 //! stream (`jobs`), and stand in a crate of their own, since only they start threads that share a
-//! board, and wait for them. So do the tests of `draw_board` itself: what one thread draws through
-//! several hands, and memory that is refused (`draws`), and threads that draw from one board at a
-//! time (`drawing`).
+//! board, and wait for them.
 #![tactic(auto)]
 
 #[cfg(test)]

@@ -2,8 +2,6 @@
 
 mod answers;
 mod batches;
-mod drawing;
-mod draws;
 mod gates;
 mod jobs;
 mod memory;

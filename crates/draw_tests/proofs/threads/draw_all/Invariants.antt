@@ -1,5 +1,5 @@
 use Rattle.draw_board.specs.Hands.{KeepsShare}
-use Rattle.worker_tests.proofs.tests.drawing.draw_all.Given as goal
+use Rattle.draw_tests.proofs.threads.draw_all.Given as goal
 
 -- the hand stays one of the board, with the same share
 abbrev pub invariant-loop : goal.invariant-loop

@@ -1,5 +1,5 @@
 use Rattle.std.proofs.Common.{◌*◌, ◌+◌}
-use Rattle.worker_tests.proofs.tests.drawing.+crowd.Given as goal
+use Rattle.draw_tests.proofs.threads.+crowd.Given as goal
 
 -- its threads, twice over: between two calls stands a scope
 abbrev pub decreases-draw_in : goal.decreases-draw_in
