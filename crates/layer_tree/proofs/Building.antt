@@ -12,6 +12,7 @@ use Rattle.romfs_format.specs.declared.limits.TheConstants.{MAX_NAMES}
 use Rattle.romfs_format.specs.declared.head.Kind.TheVariants.{HardLink}
 use Rattle.romfs_format.specs.Fields.{root}
 use Rattle.romfs_format.specs.Chains.{Has}
+use Rattle.romfs_format.specs.Heads.{name_of}
 use Rattle.romfs_reader.specs.Images.{IsImage}
 use Rattle.romfs_reader.proofs.Paths.{short}
 use Rattle.stack_model.specs.Stack.{Path, IsMarker, marker}
@@ -63,6 +64,11 @@ nowhere_kept = record { key = 0; offset = 0; name_len = 0 }
 pub at_place : (a : List ℕ) (ms : List KeyedMember) (i : ℕ) → i < length ms
     → at_index (members_in a ms) i ≡ member_in a (get_or ms i nowhere_kept)
 at_place a ms i l = get_or-map (member_in a) ms i nowhere_kept nothing l
+
+-- and has the name that is read at its place
+pub name_at_place : (a : List ℕ) (ms : List KeyedMember) (i : ℕ) (name : List ℕ) → i < length ms
+    → name ≡ name_of a (get_or ms i nowhere_kept).offset → (at_index (members_in a ms) i).name ≡ name
+name_at_place a ms i name l e = ap (λ (m : NamedMember). m.name) (at_place a ms i l) ∙ sym e
 
 -- there are as many members as places
 pub as_many : (a : List ℕ) (ms : List KeyedMember) → length (members_in a ms) ≡ length ms

@@ -13,7 +13,8 @@ use Rattle.std.proofs.lemmas.List.{append-nil, drop_more, get_or_at, get_or_defa
 use Rattle.std.proofs.lemmas.List.Edits.{map_over_more}
 use Rattle.std.proofs.lemmas.List.Elements.{All-map, All-push}
 use Rattle.std.proofs.lemmas.List.Prefix.{front_rest}
-use Rattle.romfs_format.specs.Heads.{name_of}
+use Rattle.romfs_format.specs.declared.head.Head.{Head}
+use Rattle.romfs_format.specs.Heads.{name_of, head_of}
 use Rattle.name_keys.specs.Keys.{key, AreBytes}
 use Rattle.name_keys.proofs.Order.{all_bytes, each_byte, bytes-drop, key_order, cmp-front}
 use Rattle.path_tree.specs.Rows.{name_cmp}
@@ -119,6 +120,10 @@ one_keyed a n old now i k d l m e v =
     let with_key : ℕ → KeyedMember = λ key. record { key = key; offset = x.offset; name_len = x.name_len } in
     ap (λ key. slice_set now i (with_key key)) v ∙ map_over_more (keyed_past a n) old now i x l e (get_or_default now i d x m)
 
+-- the name of a header that was read is that of its place
+pub named : (a name : List ℕ) (head : Head) (h : ℕ) → name ≡ name_of a head.offset → head ≡ head_of a h → name ≡ name_of a h
+named a name head h e f = e ∙ ap (λ (x : Head). name_of a x.offset) f
+
 -- a member whose key is not made anew yet is as it was
 pub not_yet : (a : List ℕ) (n : ℕ) (old now : List KeyedMember) (i : ℕ) (d : KeyedMember) → i < length old
     → now ≡ map (keyed_past a n) (take i old) ++ drop i old → slice_index_or now i d ≡ slice_index_or old i d
@@ -127,6 +132,15 @@ not_yet a n old now i d l e =
     let long : length front ≡ i = length-map (take i old) (keyed_past a n) ∙ omega (arith, length-take i old) in
     let parts : now ≡ front ++ slice_index_or old i d ∷ drop (i + 1) old = e ∙ ap (λ xs. front ++ xs) (drop_more old i d l) in
     ap (λ xs. slice_index_or xs i d) parts ∙ get_or_at front _ _ d i long
+
+-- so it is still read, and its name is still as long as what all share
+module _ (a : List ℕ) (n : ℕ) (old now : List KeyedMember) (i : ℕ) (d : KeyedMember) (l : i < length old)
+    (e : now ≡ map (keyed_past a n) (take i old) ++ drop i old) where
+  pub still_read : All (IsRead a) old → IsRead a (slice_index_or now i d)
+  still_read r = subst (IsRead a) (sym (not_yet a n old now i d l e)) (r i d l)
+
+  pub still_long : All (λ m. n ≤ length (name_of a m.offset)) old → n ≤ length (name_of a (slice_index_or now i d).offset)
+  still_long r = subst (λ (m : KeyedMember). n ≤ length (name_of a m.offset)) (sym (not_yet a n old now i d l e)) (r i d l)
 
 same_members : (a : List ℕ) (n : ℕ) (ms : List KeyedMember) → members_in a (map (keyed_past a n) ms) ≡ members_in a ms
 same_members a n [] = refl

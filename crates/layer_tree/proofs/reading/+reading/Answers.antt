@@ -1,10 +1,10 @@
 use borrow.Author.Count.{falls}
 use Rattle.std.proofs.Common.{rules, ◌≡◌, ◌<◌, ◌≤◌, ◌∙◌, length, arith, sym, ap}
 use Rattle.romfs_format.specs.declared.head.Head.{Head}
-use Rattle.romfs_format.specs.Heads.{name_of}
 use Rattle.stack_model.specs.Stack.{IsMarker}
 use Rattle.layer_tree.specs.Members.{NamedMember, members_in}
-use Rattle.layer_tree.proofs.Building.{nowhere_kept, at_index, at_place, as_many, building_begun, some_left, one_less, build_hidden, build_made, building_ended}
+use Rattle.layer_tree.proofs.Building.{nowhere_kept, at_index, at_place, name_at_place, as_many, building_begun, some_left, one_less, build_hidden, build_made, building_ended}
+use Rattle.layer_tree.proofs.Keyed.{named}
 use Rattle.layer_tree.proofs.reading.+reading.Goals as goal
 
 pub branches_below-overflow_sub-left : goal.branches_below-overflow_sub-left
@@ -45,9 +45,8 @@ branches_below-loop-member-preserved-then-is_marker g t c =
     let ms = c.args.members.now in
     let at = c.loop-member.member-index in
     let lt : at < length (members_in a ms) = rw (as_many a ms) c.loop-member-test.true in
-    let name : (at_index (members_in a ms) at).name ≡ c.name-name.result.now =
-    ap (λ (m : NamedMember). m.name) (at_place a ms at c.loop-member-test.true)
-    ∙ sym (c.name-name.ensures ∙ ap (λ (x : Head). name_of a x.offset) c.given_named-head.ensures.value) in (
+    let name = name_at_place a ms at c.name-name.result.now c.loop-member-test.true
+    (named _ _ _ _ c.name-name.ensures c.given_named-head.ensures.value) in (
       build_hidden a c.args.layer.now.number (members_in a ms) at c.loop-member.made.entries.items c.loop-member.made.marks.items lt
           c.loop-member.invariant.0 (rw name (sym c.if-is_marker.ensures)),
       c.loop-member.invariant.1,
@@ -61,8 +60,7 @@ branches_below-loop-member-preserved g t c =
     let lt : at < length (members_in a ms) = rw (as_many a ms) c.loop-member-test.true in
     let here = at_place a ms at c.loop-member-test.true in
     let value = c.given_named-head.ensures.value in
-    let name : (at_index (members_in a ms) at).name ≡ c.name-name.result.now =
-    ap (λ (m : NamedMember). m.name) here ∙ sym (c.name-name.ensures ∙ ap (λ (x : Head). name_of a x.offset) value) in
+    let name = name_at_place a ms at c.name-name.result.now c.loop-member-test.true (named _ _ _ _ c.name-name.ensures value) in
     let offset : (at_index (members_in a ms) at).head.offset ≡ c.given_named-head.result.offset =
     ap (λ (m : NamedMember). m.head.offset) here ∙ sym (ap (λ (x : Head). x.offset) value) in
     let no_marker : ¬ IsMarker c.name-name.result.now = λ h. (let f = c.if-is_marker.ensures in cc) in
