@@ -37,20 +37,32 @@ fn moved<A: Allocator>(alloc: A, table: &Table<A>, job: &Job<'_>) -> Option<Left
     out.starts_with(&[FIRST]).then_some((told, appended))
 }
 
-/// The same of the request of the lookups with this index.
+/// The same of the request of the lookups with this index, over a table.
+fn appended_over<A: Allocator>(
+    memories: &Memories,
+    table: &Table<A>,
+    index: usize,
+    moves: bool,
+) -> Option<Left> {
+    let stream = lookups(memories.global).ok()?;
+    let jobs = jobs_of(memories.global, &stream).ok()?;
+    let job = jobs.get(index)?;
+    if moves {
+        moved(&memories.refusing, table, job)
+    } else {
+        answered(&memories.refusing, table, job)
+    }
+}
+
+/// The same, over the table of the sample image.
 pub fn appended<R: Threads + Sync>(
     rt: &R,
     memories: &Memories,
     index: usize,
     moves: bool,
 ) -> Option<Left> {
-    let stream = lookups(memories.global).ok()?;
-    let jobs = jobs_of(memories.global, &stream).ok()?;
-    let job = *jobs.get(index)?;
     let table = sample_table(rt, &memories.plain)?;
-    if moves {
-        moved(&memories.refusing, &table, &job)
-    } else {
-        answered(&memories.refusing, &table, &job)
-    }
+    let left = appended_over(memories, &table, index, moves);
+    drop(table);
+    left
 }

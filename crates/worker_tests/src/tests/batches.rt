@@ -3,6 +3,7 @@
 
 use super::jobs::jobs_of;
 use super::tables::sample_table;
+use node_table::Table;
 use reply_model::Move;
 use reply_pool::{Plan, Rounded, round};
 use std::alloc::{AllocError, Allocator, Global};
@@ -47,8 +48,27 @@ fn is_right<A: Allocator>(rounded: &Rounded<A>, jobs: Jobs, replies: &[u8]) -> b
     }
 }
 
-/// Whether a round of jobs comes to what it should, and the work that passes its gate; over the
-/// table of the sample image.
+/// Whether a round of jobs over a table comes to what it should, and the work that passes its gate.
+fn round_over<R: Threads + Sync, A: Allocator + Send + Sync>(
+    rt: &R,
+    memories: &Memories,
+    table: &Table<A>,
+    jobs: Jobs,
+    plan: Plan,
+) -> Option<Result<(bool, (u64, u64, u64)), AllocError>> {
+    let gate = Recording::new();
+    let stream = stream_of(memories.global, jobs).ok()?;
+    let replies = script_replies(memories.global).ok()?;
+    let requests = jobs_of(memories.global, &stream).ok()?;
+    let few = requests.len().min(256);
+    let alloc = &memories.refusing;
+    match round(rt, alloc, table, &requests[..few], plan, &gate) {
+        Ok(rounded) => Some(Ok((is_right(&rounded, jobs, &replies), gate.seen()))),
+        Err(AllocError) => Some(Err(AllocError)),
+    }
+}
+
+/// The same, over the table of the sample image.
 pub fn round_of<R: Threads + Sync>(
     rt: &R,
     memories: &Memories,
@@ -56,17 +76,10 @@ pub fn round_of<R: Threads + Sync>(
     plan: (u32, u32),
 ) -> Option<Result<(bool, (u64, u64, u64)), AllocError>> {
     let plan = Plan::new(plan.0, plan.1)?;
-    let gate = Recording::new();
-    let stream = stream_of(memories.global, jobs).ok()?;
-    let replies = script_replies(memories.global).ok()?;
-    let requests = jobs_of(memories.global, &stream).ok()?;
     let table = sample_table(rt, &memories.plain)?;
-    let few = requests.len().min(256);
-    let alloc = &memories.refusing;
-    match round(rt, alloc, &table, &requests[..few], plan, &gate) {
-        Ok(rounded) => Some(Ok((is_right(&rounded, jobs, &replies), gate.seen()))),
-        Err(AllocError) => Some(Err(AllocError)),
-    }
+    let rounded = round_over(rt, memories, &table, jobs, plan);
+    drop(table);
+    rounded
 }
 
 #[test]

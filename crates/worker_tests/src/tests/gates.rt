@@ -3,17 +3,37 @@
 use super::jobs::jobs_of;
 use super::tables::sample_table;
 use super::threads::pieces_of;
+use node_table::Table;
 use reply_model::Session;
 use reply_pool::{Plan, round, spread_out};
 use stack_core::Work;
-use std::alloc::Global;
+use std::alloc::{AllocError, Global};
 use std::test::Fail;
 use std::thread::Threads;
 use test_kit::gates::{Crowd, FEW, Holding, MANY, Noting};
 use test_kit::memories::Memories;
 use test_kit::script::script;
 
-/// Whether a batch was given up in a round of so many jobs in batches of one by two workers.
+/// Whether a batch was given up in a round of so many jobs, over a table.
+fn is_given_up_over<R: Threads + Sync>(
+    rt: &R,
+    alloc: Global,
+    table: &Table<Global>,
+    jobs: usize,
+    plan: Plan,
+    gate: &Holding,
+) -> Option<bool> {
+    let stream = script(alloc).ok()?;
+    let requests = jobs_of(alloc, &stream).ok()?;
+    let few = requests.get(..jobs)?;
+    if 256 < few.len() {
+        return None;
+    }
+    let rounded = round(rt, alloc, table, few, plan, gate).ok()?;
+    (!rounded.bytes.is_empty()).then_some(gate.is_given_up())
+}
+
+/// The same in batches of one by two workers, over the table of the sample image.
 fn is_given_up<R: Threads + Sync>(
     rt: &R,
     alloc: Global,
@@ -21,15 +41,10 @@ fn is_given_up<R: Threads + Sync>(
     gate: &Holding,
 ) -> Option<bool> {
     let plan = Plan::new(2, 1)?;
-    let stream = script(alloc).ok()?;
-    let requests = jobs_of(alloc, &stream).ok()?;
-    let few = requests.get(..jobs)?;
     let table = sample_table(rt, alloc)?;
-    if 256 < few.len() {
-        return None;
-    }
-    let rounded = round(rt, alloc, &table, few, plan, gate).ok()?;
-    (!rounded.bytes.is_empty()).then_some(gate.is_given_up())
+    let given_up = is_given_up_over(rt, alloc, &table, jobs, plan, gate);
+    drop(table);
+    given_up
 }
 
 #[test]
@@ -60,28 +75,34 @@ fn a_batch_is_answered_behind_its_gate(rt: HostRuntime) {
     assert!(rt; gate.before() == 0 && 0 < memories.refusing.requests());
 }
 
+/// Answers 24 requests of a stream over a table, by a plan; false where memory is refused.
+fn spreads<R: Threads + Sync>(
+    rt: &R,
+    alloc: Global,
+    table: &Table<Global>,
+    plan: Plan,
+    gate: &Crowd,
+) -> Result<bool, AllocError> {
+    let mut stream = script(alloc)?;
+    let again = script(alloc)?;
+    stream.extend_from_slice(&again)?;
+    drop(again);
+    if 4096 < stream.len() {
+        return Ok(false);
+    }
+    let spread = spread_out(rt, alloc, table, &stream, Session::Fresh, 24, plan, gate);
+    Ok(spread.is_ok())
+}
+
 /// Of 24 requests of a stream as many are under way at a time as the plan has workers.
 #[test]
 fn sixteen_workers_answer_a_stream(rt: HostRuntime) -> Result<(), Fail> {
     let global = rt.alloc();
     let plan = Plan::new(16, 1).ok_or("a plan")?;
-    let mut stream = script(global)?;
-    let again = script(global)?;
-    stream.extend_from_slice(&again)?;
-    drop(again);
-    assert!(rt; stream.len() < 4096);
     let table = sample_table(&rt, global).ok_or("a table")?;
     let gate = Crowd::new(Work::Batch);
-    let spread = spread_out(
-        &rt,
-        global,
-        &table,
-        &stream,
-        Session::Fresh,
-        24,
-        plan,
-        &gate,
-    );
-    assert!(rt; spread.is_ok() && gate.seen() == (24, 16));
+    let spread = spreads(&rt, global, &table, plan, &gate);
+    drop(table);
+    assert!(rt; spread? && gate.seen() == (24, 16));
     Ok(())
 }

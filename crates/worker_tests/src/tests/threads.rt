@@ -11,7 +11,7 @@ use draw_board::{Board, Hand};
 use node_table::Table;
 use reply_pool::{Piece, work};
 use stack_core::{FreePass, Gate};
-use std::alloc::{AllocError, Global};
+use std::alloc::{AllocError, Allocator, Global};
 use std::snapshot::Snapshot;
 use std::sync::Wait;
 use std::test::Fail;
@@ -47,27 +47,41 @@ fn batches_in(jobs: usize) -> u32
     ((jobs + size - 1) / size) as u32
 }
 
-/// How many pieces one worker answers so many requests of the script with, and how often it draws.
-pub fn pieces_of<R: Threads + Sync, G: Gate>(
+/// How many pieces one worker answers so many requests of the script with, and how often it draws;
+/// over a table.
+fn pieces_over<R: Threads + Sync, A: Allocator + Send + Sync, G: Gate>(
     rt: &R,
     memories: &Memories,
+    table: &Table<A>,
     jobs: usize,
     gate: &G,
 ) -> Option<Result<(usize, u64), AllocError>> {
     let stream = script(memories.global).ok()?;
     let requests = jobs_of(memories.global, &stream).ok()?;
     let jobs = requests.get(..jobs.min(12))?;
-    let table = sample_table(rt, &memories.plain)?;
     let Ok((board, mut hand)) = Board::start(memories.global, batches_in(jobs.len()), 1) else {
         return None;
     };
     let alloc = &memories.refusing;
-    let pieces = work(rt, alloc, &table, jobs, SIZE, &board, &mut hand, gate);
+    let pieces = work(rt, alloc, table, jobs, SIZE, &board, &mut hand, gate);
     let draws = board.close(hand);
     match pieces {
         Ok(pieces) => Some(Ok((pieces.len(), draws))),
         Err(AllocError) => Some(Err(AllocError)),
     }
+}
+
+/// The same, over the table of the sample image.
+pub fn pieces_of<R: Threads + Sync, G: Gate>(
+    rt: &R,
+    memories: &Memories,
+    jobs: usize,
+    gate: &G,
+) -> Option<Result<(usize, u64), AllocError>> {
+    let table = sample_table(rt, &memories.plain)?;
+    let pieces = pieces_over(rt, memories, &table, jobs, gate);
+    drop(table);
+    pieces
 }
 
 /// Answers what it draws of the script's jobs, until nothing is left to draw.
@@ -187,19 +201,31 @@ fn are_whole(
     Ok(told && bytes.as_slice() == replies)
 }
 
+/// The pieces of two threads over a table, and how often both drew.
+fn answered_by_two<R: Threads + Wait + Sync>(
+    rt: &R,
+    alloc: Global,
+    table: &Table<Global>,
+) -> Result<(Vec<Piece<Global>>, u64), Fail> {
+    let stream = script(alloc)?;
+    let (board, mut first) = Board::start(alloc, 4, 2)?;
+    let Ok(lent) = board.split(&mut first, 1) else {
+        return Err(Fail::new("the first hand has two misses"));
+    };
+    let Done { pieces, hand } = work_in_two(rt, alloc, table, &stream, &board, first, lent);
+    let draws = board.close(hand);
+    Ok((pieces?, draws))
+}
+
 #[test]
 fn two_threads_answer_each_batch_once(rt: HostRuntime) -> Result<(), Fail> {
     let alloc = rt.alloc();
-    let stream = script(alloc)?;
     let table = sample_table(&rt, alloc).ok_or("the sample image")?;
-    let (board, mut first) = Board::start(alloc, 4, 2)?;
-    let Ok(lent) = board.split(&mut first, 1) else {
-        panic!(rt; "the first hand has two misses")
-    };
-    let Done { pieces, hand } = work_in_two(&rt, alloc, &table, &stream, &board, first, lent);
-    let draws = board.close(hand);
+    let answered = answered_by_two(&rt, alloc, &table);
+    drop(table);
+    let (pieces, draws) = answered?;
     let replies = script_replies(alloc)?;
-    assert!(rt; are_whole(alloc, pieces?, 4, &replies)?);
+    assert!(rt; are_whole(alloc, pieces, 4, &replies)?);
     assert_eq!(rt; draws, 6);
     Ok(())
 }
