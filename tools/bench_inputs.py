@@ -198,9 +198,16 @@ def long_names(count=65_000):
     return [layer(names(b"q" * 249 + b"%06d", count))]
 
 
+def names_of_two_keys(count=65_000):
+    """Names of 255 bytes that begin with one of two texts of 249, in no order."""
+    numbers = list(range(count))
+    random.Random(1).shuffle(numbers)
+    return [layer(chained("regular", [(b"p", b"q")[number % 2] * 249 + b"%06d" % number for number in numbers]))]
+
+
 STACKS = {it.__name__: it for it in (
     names_and_markers, layers_of_markers, hidden_and_back, opaque_layers, same_paths, many_links, links_in_folders,
-    links_to_links, deep_folders, long_names)}
+    links_to_links, deep_folders, long_names, names_of_two_keys)}
 
 
 # --- streams of dear requests: an image, an honest stream and a hostile one of the same size ---

@@ -170,10 +170,10 @@ AreMembersAt a left ms = (d : ℕ) × AllByRecursion (IsNamedMember a d) ms × I
 
 -- a directory whose members have become branches: a sound image gives its header, and these are the
 -- members in the order of their names
-pub record IsFolder (a : List ℕ) (layer : ℕ) (head : Head) (ms : List NamedMember)
+pub record IsFolder (a : List ℕ) (layer : ℕ) (head : Head) (ms : List KeyedMember)
     (es : List (Subtree Entry)) (ks : List (Subtree Mark)) : Type 0 where
   pub sound : IsImage a
   pub given : IsGiven a head
   pub directory : head.kind ≡ Directory
-  pub members : AreByName a head.offset ms
-  pub below : AreBuilt a layer ms es ks
+  pub members : AreSorted a head.offset ms
+  pub below : AreBuilt a layer (members_in a ms) es ks

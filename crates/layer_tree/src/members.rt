@@ -6,7 +6,7 @@
 //! bytes of a name as a number, the first ones behind what all names of the directory begin with,
 //! since names such as `file-000017` and `file-000018` are alike before.
 
-ghost use Rattle.std.specs.Prelude.{◌≡◌, ◌≤◌, [], ◌∷◌, ◌++◌, length, map, IfOk, IsFalse, All, MatchOption};
+ghost use Rattle.std.specs.Prelude.{◌≡◌, ◌≤◌, [], ◌++◌, length, map, IfOk, IsFalse, All, MatchOption};
 ghost use Rattle.std.specs.List.Sorted.{IsPermutation};
 ghost use Rattle.romfs_format.specs.Heads.{name_of, head_of};
 ghost use Rattle.romfs_reader.specs.Images.{IsImage};
@@ -14,7 +14,7 @@ ghost use Rattle.romfs_reader.specs.Readers.{IsGiven};
 ghost use Rattle.stack_model.specs.Stack.{marker, IsMarker};
 ghost use Rattle.name_keys.specs.Keys.{key, AreBytes};
 ghost use Rattle.path_tree.specs.Rows.{name_cmp};
-ghost use Rattle.layer_tree.specs.Members.{members_in, IsRead, HasFront, ShareFront, IsKeyed, AreKeyedBehind, AreToldApart, keyed_past, IsByName};
+ghost use Rattle.layer_tree.specs.Members.{members_in, IsRead, HasFront, ShareFront, IsKeyed, AreKeyedBehind, AreToldApart, keyed_past, key_and_bytes, IsByName};
 ghost use Rattle.layer_tree.specs.Reading.{AreSorted};
 
 use romfs_reader::{Head, Image, Kind, Members};
@@ -128,20 +128,23 @@ fn set_keys<A: Allocator>(image: &Image<A>, members: &mut [KeyedMember], shared:
 
 /// Sorts members by name, byte by byte.
 fn sort_by_name<A: Allocator>(image: &Image<A>, members: &mut Vec<KeyedMember, A>)
-    requires { AreKeyedBehind image.now members.old.items }
+    requires read { All (IsRead image.now) members.old.items }
+    requires keyed { AreKeyedBehind image.now members.old.items }
     ensures same { IsPermutation members.old.items members.new.items }
     ensures sorted { IsByName (members_in image.now members.new.items) }
 {
     members.sort_unstable_by(|x, y| order(image, x, y));
 }
 
-/// How members stand by their keys, and by their names where these are equal.
+/// How members stand by their keys, and by their names where these are equal: by as many bytes as
+/// each says that its name has, so that no end is sought.
 fn order<A: Allocator>(image: &Image<A>, x: &KeyedMember, y: &KeyedMember) -> Ordering
-    ensures { result ≡ name_cmp (x.now.key ∷ name_of image.now x.now.offset)
-        (y.now.key ∷ name_of image.now y.now.offset) }
+    ensures { result ≡ name_cmp (key_and_bytes image.now x.now) (key_and_bytes image.now y.now) }
 {
     match x.key.cmp(&y.key) {
-        Ordering::Equal => image.name_at(x.offset).cmp(image.name_at(y.offset)),
+        Ordering::Equal => image
+            .name_bytes(x.offset, x.name_len)
+            .cmp(image.name_bytes(y.offset, y.name_len)),
         other => other,
     }
 }

@@ -238,8 +238,8 @@ fn folder<A: Allocator + Copy>(
     members: &[KeyedMember],
     below: Branches<A>,
 ) -> Result<(Child<A>, Branch<Mark, A>), AllocError>
-    requires { IsFolder layer.now.image.now layer.now.number head.now
-        (members_in layer.now.image.now members.now) below.entries.items below.marks.items }
+    requires { IsFolder layer.now.image.now layer.now.number head.now members.now
+        below.entries.items below.marks.items }
     ensures { IfOk result
         (AreMadeOf layer.now.image.now layer.now.number head.now.offset name.now) }
 {
@@ -266,8 +266,8 @@ fn add_folder<A: Allocator + Copy>(
     below: Branches<A>,
     to: &mut Branches<A>,
 ) -> Result<(), AllocError>
-    requires { IsFolder layer.now.image.now layer.now.number head.now
-        (members_in layer.now.image.now members.now) below.entries.items below.marks.items }
+    requires { IsFolder layer.now.image.now layer.now.number head.now members.now
+        below.entries.items below.marks.items }
     ensures { OnOk result (AddsMade layer.now.image.now layer.now.number
         head.now.offset name.now to.old.entries.items to.old.marks.items
         to.new.entries.items to.new.marks.items) }
@@ -326,7 +326,8 @@ fn markers_of<A: Allocator + Copy>(
     members: &[KeyedMember],
     below: &Branches<A>,
 ) -> Result<Vec<Branch<Mark, A>, A>, AllocError>
-    requires { AreBuilt layer.now.image.now layer.now.number
+    requires read { All (IsRead layer.now.image.now) members.now }
+    requires built { AreBuilt layer.now.image.now layer.now.number
         (members_in layer.now.image.now members.now)
         below.now.entries.items below.now.marks.items }
     ensures { IfOk result
@@ -344,12 +345,14 @@ fn whiteouts_of<A: Allocator + Copy>(
     image: &Image<A>,
     members: &[KeyedMember],
 ) -> Result<Vec<Branch<Mark, A>, A>, AllocError>
+    requires { All (IsRead image.now) members.now }
     ensures { IfOk result
         (λ marks. AreWhiteouts (members_in image.now members.now) marks.items) }
 {
     let mut marks = Vec::new(alloc);
     for member in members {
-        let Some(name) = whiteout_of(image.name_at(member.offset)) else {
+        let name = image.name_bytes(member.offset, member.name_len);
+        let Some(name) = whiteout_of(name) else {
             continue;
         };
         let name = Name::of(alloc, name)?;

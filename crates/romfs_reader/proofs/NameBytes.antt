@@ -23,9 +23,9 @@ front (suc n ∷ xs) t e = pick (λ u q. front xs u q) (ended xs) refl e
     pick f (Some u) q e = let r = f u (sym q) in let k : suc n ∷ u ≡ t = cc in (r.0, rw (← k) (ap (λ l. suc n ∷ l) r.1))
 
 -- an ended text lies in the image with its padding, and its bytes are those from its place on
-pub text_bytes : (a t : List ℕ) (p : ℕ) → p ≤ length a → text_at a p ≡ Some t → (text_end p t ≤ length a) × (take (length t) (drop p a) ≡ t)
+pub text_bytes : (a t : List ℕ) (p : ℕ) → text_at a p ≡ Some t → (text_end p t ≤ length a) × (take (length t) (drop p a) ≡ t)
 unfolding name_field
-text_bytes a t p l e =
+text_bytes a t p e =
     let w = name_ended a t p e in
     let f = front (take NAME_FIELD_SIZE (drop p a)) t w.0 in
     let g : drop p a ≡ t ++ (f.0 ++ drop NAME_FIELD_SIZE (drop p a)) = sym (take-append-drop NAME_FIELD_SIZE (drop p a))

@@ -1,11 +1,9 @@
 -- What the name that was read says of the one that is there, where the empty name stands for one
 -- that is not ended: a name with bytes is ended (`some_name`), and none is `.` or `..` (`dotted`).
--- Outside of the image there is none (`no_text`).
-use Rattle.std.proofs.Common.{◌≡◌, ◌≢◌, ℕ, ◌<◌, List, [], length, drop, Option, Some, None, IsSome, false, refl, arith}
+use Rattle.std.proofs.Common.{◌≡◌, ◌≢◌, ℕ, List, [], length, Option, Some, None, IsSome, false, refl}
 use Rattle.std.specs.Prelude.{unwrap_or}
 use Rattle.std.specs.Option.{option_map_or}
-use Rattle.std.proofs.lemmas.List.{drop_all}
-use Rattle.romfs_format.specs.Fields.{name, is_dot_name, name_field, ended, text_at}
+use Rattle.romfs_format.specs.Fields.{name, is_dot_name}
 use Rattle.romfs_format.specs.Heads.{name_of}
 
 some_text : (o : Option (List ℕ)) → length (unwrap_or o []) ≢ 0 → IsSome o
@@ -23,10 +21,3 @@ dotted_text (Some text) = refl
 -- the name that was read is `.` or `..` exactly where the header has such a name
 pub dotted : (a : List ℕ) (h : ℕ) → is_dot_name (name_of a h) ≡ option_map_or is_dot_name (name a h) false
 dotted a h = dotted_text (name a h)
-
--- outside of the image no name begins
-pub no_text : (a : List ℕ) (p : ℕ) → length a < p → text_at a p ≡ None
-unfolding name_field ended
-no_text a p l =
-    let e : drop p a ≡ [] = drop_all p a (omega arith) in
-    rw e refl

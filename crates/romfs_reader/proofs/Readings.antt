@@ -48,17 +48,22 @@ given_place a i r h m g y e =
     found None m q p = absurd (m p)
     found (Some x) m q p = ap Some (m.1 ∙ sym q)
 
--- the name of a header that is given
-name_bytes : (a : List ℕ) (h : ℕ) → h + 16 ≤ length a → (h + 16 + length (name_of a h) ≤ length a)
-    × (bytes_at a (h + 16) (length (name_of a h)) ≡ name_of a h)
+-- a name is the bytes behind its header, as many as it has
+pub name_bytes : (a : List ℕ) (h : ℕ) → bytes_at a (h + 16) (length (name_of a h)) ≡ name_of a h
 unfolding bytes_at
-name_bytes a h l = test (name a h) refl
+name_bytes a h = test (name a h) refl
   where
-    test : (o : Option (List ℕ)) → o ≡ name a h
-        → (h + 16 + length (unwrap_or o []) ≤ length a)
-        × (take (length (unwrap_or o [])) (drop (h + 16) a) ≡ unwrap_or o [])
-    test None e = (omega arith, refl)
-    test (Some n) e = let t = text_bytes a n (h + 16) l (sym e) in (let t0 = t.0 in omega arith, t.1)
+    test : (o : Option (List ℕ)) → o ≡ name a h → take (length (unwrap_or o [])) (drop (h + 16) a) ≡ unwrap_or o []
+    test None e = refl
+    test (Some n) e = (text_bytes a n (h + 16) (sym e)).1
+
+-- and ends in the image, where its header does
+name_within : (a : List ℕ) (h : ℕ) → h + 16 ≤ length a → h + 16 + length (name_of a h) ≤ length a
+name_within a h l = test (name a h) refl
+  where
+    test : (o : Option (List ℕ)) → o ≡ name a h → h + 16 + length (unwrap_or o []) ≤ length a
+    test None e = omega arith
+    test (Some n) e = let t = (text_bytes a n (h + 16) (sym e)).0 in omega arith
 
 -- a header that is given has the fields at its offset, and lies in the image
 pub given_head : (a : List ℕ) (i : IsImage a) (head : Head) → IsGiven a head → IsHeadIn a head
@@ -69,9 +74,10 @@ pub given_name : (a : List ℕ) (head : Head) → IsHeadIn a head
     → (head.name_at + head.name_len ≤ length a)
     × (bytes_at a head.name_at head.name_len ≡ name_of a head.offset)
 given_name a head g =
-    let n = name_bytes a head.offset g.inside.1 in
-    let e : head_of a head.offset ≡ head = sym g.is in
-    (subst (λ x. x.name_at + x.name_len ≤ length a) e n.0, subst (λ x. bytes_at a x.name_at x.name_len ≡ name_of a head.offset) e n.1)
+    let e : head_of a head.offset ≡ head = sym g.is in (
+      subst (λ x. x.name_at + x.name_len ≤ length a) e (name_within a head.offset g.inside.1),
+      subst (λ x. bytes_at a x.name_at x.name_len ≡ name_of a head.offset) e (name_bytes a head.offset),
+    )
 
 -- the data of a header that is given
 inside_data : (a : List ℕ) (i : IsImage a) (h : ℕ) → From a h → HasData a h → data_at h (name_of a h) + size a h ≤ length a

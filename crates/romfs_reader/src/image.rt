@@ -12,7 +12,7 @@ ghost use Rattle.romfs_reader.specs.Readers.{data_of_header, bytes_at, IsHeadAt,
 use crate::ends::Ends;
 use crate::members::Members;
 use crate::parts::{
-    Part, bytes_in, data_in, data_part, end_of, members_of, name_in, place_at, text_from,
+    Part, bytes_in, bytes_within, data_in, data_part, end_of, members_of, name_in, place_at,
 };
 use romfs_format::limits::HEAD_SIZE;
 use romfs_format::read::{head_at, head_named, root_of, word};
@@ -174,12 +174,16 @@ impl<A: Allocator> Image<A> {
         name_in(&self.bytes, head)
     }
 
-    /// The name of the header at an offset in bytes, without its zero byte. It is empty where none
-    /// lies there, or where its name has no end.
-    pub fn name_at(&self, offset: u32) -> &[u8]
-        ensures { result.now ≡ name_of self.now offset }
+    /// So many bytes from where the name of the header at an offset begins, without those that
+    /// would lie beyond the image. They are its name where that has this length, so that no end is
+    /// sought.
+    #[tactic(auto, using(crate::proofs::Readings::name_bytes))]
+    pub fn name_bytes(&self, offset: u32, name_len: u32) -> &[u8]
+        ensures value { result.now ≡ bytes_at self.now (offset + HEAD_SIZE) name_len }
+        ensures name { name_len ≡ length (name_of self.now offset) →
+            result.now ≡ name_of self.now offset }
     {
-        text_from(&self.bytes, offset as usize + HEAD_SIZE)
+        bytes_within(&self.bytes, offset as usize + HEAD_SIZE, name_len as usize)
     }
 
     /// The data of a regular file, or the target of a symbolic link: as many bytes as its size,

@@ -1,7 +1,7 @@
 //! What the readers of an image read, from its bytes.
 
-ghost use Rattle.std.specs.Prelude.{◌≡◌, ◌≢◌, [], ◌+◌, ◌^◌, ◌<◌, ◌≤◌, length, unwrap_or, IsTrue, IsFalse, All};
-ghost use Rattle.romfs_format.specs.Fields.{root as root_of, cleared, text_at as text_at_place};
+ghost use Rattle.std.specs.Prelude.{◌≡◌, ◌≢◌, [], ◌+◌, ◌^◌, ◌<◌, ◌≤◌, length, IsTrue, IsFalse, All};
+ghost use Rattle.romfs_format.specs.Fields.{root as root_of, cleared};
 ghost use Rattle.romfs_format.specs.Links.{IsFinal};
 ghost use Rattle.romfs_reader.specs.Images.{IsImage};
 ghost use Rattle.romfs_format.specs.Heads.{name_of, IsHeadIn};
@@ -95,28 +95,21 @@ fn bytes_at(image: &[u8], from: u32, len: u32) -> &[u8]
     &rest[..len as usize]
 }
 
+/// The same, where bytes beyond the image are left out.
+#[tactic(auto, unfolding(crate::specs::Readers::bytes_at))]
+pub(crate) fn bytes_within(image: &[u8], from: usize, len: usize) -> &[u8]
+    ensures { result.now ≡ bytes_at image.now from len }
+{
+    let rest = &image[from.min(image.len())..];
+    &rest[..len.min(rest.len())]
+}
+
 /// The name of a header.
 pub(crate) fn name_in<'a>(image: &'a [u8], head: &Head) -> &'a [u8]
     requires { IsHeadIn image.now head.now }
     ensures { result.now ≡ name_of image.now head.now.offset }
 {
     bytes_at(image, head.name_at, head.name_len)
-}
-
-/// The name whose field begins at a place; empty where the place lies outside, or the name has no
-/// end.
-#[tactic(auto, using(crate::proofs::Named::no_text))]
-pub(crate) fn text_from(image: &[u8], at: usize) -> &[u8]
-    requires { length image.now < 2 ^ 32 }
-    ensures { result.now ≡ unwrap_or (text_at_place image.now at) [] }
-{
-    if image.len() < at {
-        return &[];
-    }
-    match text_at(image, at) {
-        Some(text) => text,
-        None => &[],
-    }
 }
 
 /// Where the data of a header that is given lie.

@@ -105,6 +105,6 @@ add_branches-add_folder-requires g t c = record {
   sound = c.requires.read.sound;
   given = c.requires.read.given;
   directory = c.in-Directory.is;
-  members = rw c.deref-in-Directory.ensures.value c.in_ok-members-in-Directory.ensures.by_name;
+  members = rw c.deref-in-Directory.ensures.value c.in_ok-members-in-Directory.ensures;
   below = rw c.deref-in-Directory.ensures.value (rw c.deref.ensures.value at c.in_ok-below-in-Directory.ensures.built);
 }

@@ -10,7 +10,7 @@ use Rattle.layer_tree.proofs.Folding.{made_as_needed, plain_folder}
 use Rattle.layer_tree.proofs.reading.add_folder.Goals as goal
 
 pub new-requires : goal.new-requires
-new-requires g c = (forests c.args.layer.now.image.now c.args.layer.now.number c.requires.below c.requires.members.rising).0
+new-requires g c = (forests c.args.layer.now.image.now c.args.layer.now.number c.requires.below c.requires.members.by_name.rising).0
 
 pub same-mark : goal.same-mark
 same-mark g c = refl
@@ -31,7 +31,7 @@ returns-then-is_plain g c =
           c.args.below.marks.items c.entry_at-own_entry.result c.args.name.now (record {
             sound = c.requires.sound;
             directory = directory;
-            members = c.requires.members;
+            members = c.requires.members.by_name;
             built = c.requires.below;
             whole = plain.0 ∙ sym (as_many a c.args.members.now);
             unmarked = plain.1;

@@ -13,16 +13,16 @@ use Rattle.layer_tree.proofs.Folding.{IsMadeOfMembers, opaque_is_held, folder}
 use Rattle.layer_tree.proofs.reading.folder.Goals as goal
 
 pub has_opaque-opaque-requires : goal.has_opaque-opaque-requires
-has_opaque-opaque-requires g c = rw c.deref.ensures.value (white_forest c.in_ok-whiteouts.ensures c.requires.members.rising).names
+has_opaque-opaque-requires g c = rw c.deref.ensures.value (white_forest c.in_ok-whiteouts.ensures c.requires.members.by_name.rising).names
 
 pub merge-requires : goal.merge-requires
 merge-requires g c = record {
-  low = (forests c.args.layer.now.image.now c.args.layer.now.number c.requires.below c.requires.members.rising).1;
-  high = white_forest c.in_ok-whiteouts.ensures c.requires.members.rising;
+  low = (forests c.args.layer.now.image.now c.args.layer.now.number c.requires.below c.requires.members.by_name.rising).1;
+  high = white_forest c.in_ok-whiteouts.ensures c.requires.members.by_name.rising;
 }
 
 pub new-entries-requires : goal.new-entries-requires
-new-entries-requires g c = (forests c.args.layer.now.image.now c.args.layer.now.number c.requires.below c.requires.members.rising).0
+new-entries-requires g c = (forests c.args.layer.now.image.now c.args.layer.now.number c.requires.below c.requires.members.by_name.rising).0
 
 pub returns : goal.returns
 returns g c =
@@ -34,7 +34,7 @@ returns g c =
     let found : IsMadeOfMembers a c.args.layer.now.number h (members_in a c.args.members.now) c.args.below.entries.items
     c.args.below.marks.items c.in_ok-whiteouts.whiteouts.items c.in_ok-marks.marks.items = record {
       sound = c.requires.sound;
-      members = c.requires.members;
+      members = c.requires.members.by_name;
       built = c.requires.below;
       whited = c.in_ok-whiteouts.ensures;
       laid = c.in_ok-marks.ensures;
