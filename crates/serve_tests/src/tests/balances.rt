@@ -2,23 +2,53 @@
 
 use serve_kit::runs::{by, ran, sample_table};
 use stack_core::FreePass;
+use stack_table::Table;
+use std::alloc::Global;
 use std::test::Fail;
+use std::thread::Threads;
 use test_kit::script::lookups;
+
+/// Whether a run of the lookups over a table, by a plan, leaves their balances.
+fn are_left<R: Threads + Sync>(
+    rt: &R,
+    global: Global,
+    table: &Table<Global>,
+    plan: (u32, u32),
+) -> Option<bool> {
+    let stream = lookups(global).ok()?;
+    let ran = ran(
+        rt,
+        global,
+        global,
+        table,
+        &stream,
+        by(plan),
+        None,
+        &FreePass,
+    )?;
+    let balances = [1, 1, 2, 0, 1, -4];
+    Some(ran.end() == Ok((10, 1648)) && ran.balances() == balances.as_slice())
+}
+
+/// The first plan that does not leave them.
+fn wrong_plan<R: Threads + Sync>(
+    rt: &R,
+    global: Global,
+    table: &Table<Global>,
+) -> Option<(u32, u32)> {
+    for plan in [(1, 1), (1, 3), (2, 1), (2, 3), (5, 1), (5, 3)] {
+        if are_left(rt, global, table, plan) != Some(true) {
+            return Some(plan);
+        }
+    }
+    None
+}
 
 #[test]
 fn lookups_leave_balances(rt: HostRuntime) -> Result<(), Fail> {
-    let global = rt.alloc();
-    let table = sample_table(&rt, global).ok_or("a table")?;
-    let stream = lookups(global)?;
-    for plan in [(1, 1), (1, 3), (2, 1), (2, 3), (5, 1), (5, 3)] {
-        let run = by(plan);
-        let ran = ran(&rt, global, global, &table, &stream, run, None, &FreePass);
-        let ran = ran.ok_or("a run")?;
-        let balances = [1, 1, 2, 0, 1, -4];
-        assert!(rt;
-            ran.end() == Ok((10, 1648)) && ran.balances() == balances.as_slice(),
-            "{plan:?}"
-        );
-    }
+    let table = sample_table(&rt, rt.alloc()).ok_or("a table")?;
+    let wrong = wrong_plan(&rt, rt.alloc(), &table);
+    drop(table);
+    assert_eq!(rt; wrong, None);
     Ok(())
 }

@@ -4,7 +4,7 @@ use romfs_format::Profile;
 use serve_core::{Stop, prepare};
 use serve_kit::runs::{Run, Seen, Stream, WHOLE, run_of, serve_of};
 use stack_core::FreePass;
-use std::alloc::Global;
+use std::alloc::{Allocator, Global};
 use std::test::Fail;
 use std::thread::Threads;
 use test_kit::memories::{Memories, refuse_in_turn};
@@ -21,13 +21,22 @@ enum Call {
     Serve(u64, (u32, u32)),
 }
 
+/// How many nodes images have that are prepared.
+fn nodes_of<R: Threads + Sync, A: Allocator + Copy + Send + Sync>(
+    rt: &R,
+    alloc: A,
+    images: Vec<Vec<u8, A>, A>,
+) -> Result<u64, Stop> {
+    let table = prepare(rt, alloc, images, &FreePass)?;
+    let nodes = table.len();
+    drop(table);
+    Ok(nodes)
+}
+
 /// How many nodes the sample image has over itself.
 fn nodes_of_two<R: Threads + Sync>(rt: &R, memories: &Memories) -> Option<Result<u64, Stop>> {
     let images = samples(&memories.plain, 2)?;
-    match prepare(rt, &memories.refusing, images, &FreePass) {
-        Ok(table) => Some(Ok(table.len())),
-        Err(stop) => Some(Err(stop)),
-    }
+    Some(nodes_of(rt, &memories.refusing, images))
 }
 
 /// Images in memory that refuses one request.
@@ -52,7 +61,7 @@ fn told_of<R: Threads + Sync>(
     broken: u16,
 ) -> Option<Result<u16, Stop>> {
     let images = images_with(&memories.plain, broken)?;
-    match prepare(rt, &memories.refusing, images, &FreePass) {
+    match nodes_of(rt, &memories.refusing, images) {
         Ok(_) => None,
         Err(Stop::Layer { layer, fault: _ }) => Some(Ok(layer)),
         Err(stop) => Some(Err(stop)),
@@ -84,9 +93,8 @@ fn serve_in<R: Threads + Sync>(rt: &R, memories: &Memories, row: Run) -> Option<
 fn requests_of_preparing<R: Threads + Sync>(rt: &R, global: Global) -> Option<u64> {
     let memories = Memories::new(global, 0);
     let images = samples(&memories.plain, 1)?;
-    let table = prepare(rt, &memories.refusing, images, &FreePass);
-    let requests = memories.refusing.requests();
-    table.is_ok().then_some(requests)
+    let nodes = nodes_of(rt, &memories.refusing, images);
+    nodes.is_ok().then_some(memories.refusing.requests())
 }
 
 /// Whether a run tells that memory was refused, with some of the first replies put, and calls no

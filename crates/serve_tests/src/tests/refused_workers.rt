@@ -3,24 +3,25 @@
 use serve_core::Stop;
 use serve_kit::runs::{by, long_table, ran, run_over};
 use stack_core::FreePass;
+use stack_table::Table;
+use std::alloc::Global;
 use std::test::Fail;
 use std::thread::Threads;
 use test_kit::long::{Long, stream};
 use test_kit::memories::{Memories, refuse_in_turn};
+use test_kit::refusing::Refusing;
 
-/// Whether a run of a stream tells that memory was refused, with some of the first replies put, and
-/// no device called after it; or else gives them all.
-fn is_told<R: Threads + Sync>(
+/// Whether a run of a stream over a table tells that memory was refused, with some of the first
+/// replies put, and no device called after it; or else gives them all.
+fn is_told_over<'a, R: Threads + Sync>(
     rt: &R,
-    memories: &Memories,
+    memories: &'a Memories,
+    table: &Table<&'a Refusing<Global>>,
     plan: (u32, u32),
     streams: (&[u8], &[u8]),
 ) -> bool {
     let (global, alloc) = (memories.global, &memories.refusing);
-    let Some(table) = long_table(rt, &memories.plain) else {
-        return false;
-    };
-    let Some(seen) = run_over(rt, global, alloc, &table, streams, by(plan), Some(alloc)) else {
+    let Some(seen) = run_over(rt, global, alloc, table, streams, by(plan), Some(alloc)) else {
         return false;
     };
     if alloc.refused() {
@@ -30,19 +31,40 @@ fn is_told<R: Threads + Sync>(
     }
 }
 
+/// The same, over a table that is made for it.
+fn is_told<R: Threads + Sync>(
+    rt: &R,
+    memories: &Memories,
+    plan: (u32, u32),
+    streams: (&[u8], &[u8]),
+) -> bool {
+    let Some(table) = long_table(rt, &memories.plain) else {
+        return false;
+    };
+    let is_told = is_told_over(rt, memories, &table, plan, streams);
+    drop(table);
+    is_told
+}
+
+/// The replies that one worker gives to a stream.
+fn replies_to<R: Threads + Sync>(rt: &R, global: Global, stream: &[u8]) -> Option<Vec<u8>> {
+    let table = long_table(rt, global)?;
+    let run = by((1, 16));
+    let whole = ran(rt, global, global, &table, stream, run, None, &FreePass);
+    drop(table);
+    Some(whole?.put)
+}
+
 /// One worker asks for the balances, the replies and the buffer; several for more, as they have
 /// jobs, pieces and a board.
 #[test]
 fn runs_by_workers_are_refused(rt: HostRuntime) -> Result<(), Fail> {
     let global = rt.alloc();
-    let table = long_table(&rt, global).ok_or("a table")?;
     let stream = stream(global, Long::All, 17)?;
-    let run = by((1, 16));
-    let whole = ran(&rt, global, global, &table, &stream, run, None, &FreePass);
-    let whole = whole.ok_or("a run")?;
+    let replies = replies_to(&rt, global, &stream).ok_or("a run")?;
     let all = Long::All.reply().saturating_mul(17).saturating_add(80);
-    assert!(rt; whole.put.len() as u64 == all);
-    let streams = (stream.as_slice(), whole.put.as_slice());
+    assert!(rt; replies.len() as u64 == all);
+    let streams = (stream.as_slice(), replies.as_slice());
     for (plan, least, most) in [((1, 1), 3, 3), ((2, 3), 16, 999), ((5, 1), 16, 999)] {
         let requests = refuse_in_turn(global, |memories| is_told(&rt, memories, plan, streams));
         assert!(rt;

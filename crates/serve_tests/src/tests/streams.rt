@@ -91,7 +91,7 @@ const SINKS: [(Sink, Outcome); 7] = [
 ];
 
 #[test]
-fn devices_end_and_fail(rt: HostRuntime) -> Result<(), Fail> {
+fn sources_end_and_fail(rt: HostRuntime) {
     for ((stream, given, piece, breaks, turns), wanted) in SOURCES {
         let plan = (1, 1);
         let row = Run {
@@ -106,6 +106,10 @@ fn devices_end_and_fail(rt: HostRuntime) -> Result<(), Fail> {
         let seen = run_of(&rt, rt.alloc(), rt.alloc(), rt.alloc(), row, None);
         assert!(rt; seen == Some(Seen::of(wanted)), "{row:?} came to {seen:?}");
     }
+}
+
+#[test]
+fn sinks_fail(rt: HostRuntime) {
     for ((piece, room, most, fails, flushes), wanted) in SINKS {
         let row = Run {
             piece,
@@ -118,7 +122,6 @@ fn devices_end_and_fail(rt: HostRuntime) -> Result<(), Fail> {
         let seen = run_of(&rt, rt.alloc(), rt.alloc(), rt.alloc(), row, None);
         assert!(rt; seen == Some(Seen::of(wanted)), "{row:?} came to {seen:?}");
     }
-    Ok(())
 }
 
 /// Streams that are read in pulls of at most 65,536 bytes, and answered in rounds of at most 256

@@ -92,26 +92,49 @@ fn is_right<R: Threads + Sync, G: Gate + Sync>(
     Some(are_right && (alone.writes, many.writes) == writes)
 }
 
+/// The first kind of long reply that five workers do not give as one does.
+fn wrong_kind<R: Threads + Sync>(rt: &R, global: Global, table: &Table<Global>) -> Option<Long> {
+    for (long, writes) in [(Long::Read, (34, 34)), (Long::Readdirplus, (32, 32))] {
+        if is_right(rt, global, table, long, (5, 3), writes, &FreePass) != Some(true) {
+            return Some(long);
+        }
+    }
+    None
+}
+
 /// Rounds end with the reply with which 262,144 bytes are reached, and have one write and one flush
 /// each.
 #[test]
 fn long_replies_by_any_plan(rt: HostRuntime) -> Result<(), Fail> {
     let table = long_table(&rt, rt.alloc()).ok_or("a table")?;
-    for (long, writes) in [(Long::Read, (34, 34)), (Long::Readdirplus, (32, 32))] {
-        let is_right = is_right(&rt, rt.alloc(), &table, long, (5, 3), writes, &FreePass);
-        assert!(rt; is_right == Some(true), "{long:?}");
-    }
+    let wrong = wrong_kind(&rt, rt.alloc(), &table);
+    drop(table);
+    assert!(rt; wrong.is_none(), "{wrong:?}");
     Ok(())
+}
+
+/// The first plan whose workers do not give long lists as one does, or do not come together.
+fn wrong_plan<R: Threads + Sync>(
+    rt: &R,
+    global: Global,
+    table: &Table<Global>,
+) -> Option<(u32, u32)> {
+    for plan in [(2, 1), (2, 3), (5, 1), (5, 3), (4, 16)] {
+        let gate = Holding::new();
+        let is_right = is_right(rt, global, table, Long::Readdir, plan, (34, 6), &gate);
+        let is_given_up = gate.given_up.load(Ordering::SeqCst) != 0;
+        if is_right != Some(true) || is_given_up {
+            return Some(plan);
+        }
+    }
+    None
 }
 
 #[test]
 fn long_lists_by_workers(rt: HostRuntime) -> Result<(), Fail> {
     let table = long_table(&rt, rt.alloc()).ok_or("a table")?;
-    for plan in [(2, 1), (2, 3), (5, 1), (5, 3), (4, 16)] {
-        let gate = Holding::new();
-        let is_right = is_right(&rt, rt.alloc(), &table, Long::Readdir, plan, (34, 6), &gate);
-        let is_given_up = gate.given_up.load(Ordering::SeqCst) != 0;
-        assert!(rt; is_right == Some(true) && !is_given_up, "{plan:?}");
-    }
+    let wrong = wrong_plan(&rt, rt.alloc(), &table);
+    drop(table);
+    assert_eq!(rt; wrong, None);
     Ok(())
 }

@@ -46,17 +46,35 @@ fn has_three_files<A: Allocator>(alloc: Global, image: &Image<A>) -> Result<bool
     Ok(files(alloc, image)?.as_slice() == wanted.as_slice())
 }
 
+/// The bytes of such an image.
+fn three_files<'a>(
+    global: Global,
+    memory: &'a Refusing<Global>,
+) -> Result<Vec<u8, &'a Refusing<Global>>, AllocError> {
+    bytes_of(global, &THREE_FILES)?.to_vec(memory)
+}
+
+/// Whether an image tells its three files and its root, without memory.
+fn tells_files(
+    alloc: Global,
+    memory: &Refusing<Global>,
+    image: &Image<&Refusing<Global>>,
+) -> Result<bool, AllocError> {
+    let requests = memory.requests();
+    let has_files = has_three_files(alloc, image)?;
+    let has_root = image.head(32) == Some(image.root()) && image.head(33).is_none();
+    let is_whole = has_files && has_root && image.full() == 256;
+    Ok(is_whole && memory.requests() == requests)
+}
+
 /// What an image is asked takes no memory.
 #[test]
 fn reads_three_files(rt: HostRuntime) -> Result<(), Fail> {
     let memory = Refusing::new(rt.alloc(), 0);
-    let bytes = bytes_of(rt.alloc(), &THREE_FILES)?;
-    let image = checked(&memory, bytes.to_vec(&memory)?)?;
-    let requests = memory.requests();
-    let has_files = has_three_files(rt.alloc(), &image)?;
-    let has_root = image.head(32) == Some(image.root()) && image.head(33).is_none();
-    assert!(rt; has_files && has_root && image.full() == 256);
-    assert_eq!(rt; memory.requests(), requests);
+    let image = checked(&memory, three_files(rt.alloc(), &memory)?)?;
+    let tells_files = tells_files(rt.alloc(), &memory, &image);
+    drop(image);
+    assert!(rt; tells_files?);
     Ok(())
 }
 

@@ -62,16 +62,26 @@ fn are_used<A: Allocator>(table: &Table<A>) -> bool {
     table.bytes(2).len() == 5000 && table.rows(1).len() == 4
 }
 
+/// Whether a table of the sample image tells what it should.
+fn tells_all<A: Allocator>(table: &Table<A>) -> bool {
+    let are_unused = is_unused(table, 0) && is_unused(table, 7) && is_unused(table, u64::MAX);
+    let parents = (table.parent(1), table.parent(3), table.parent(2));
+    let is_whole = table.len() == 6 && table.blocks_all() == 11;
+    are_children(table)
+        && are_unused
+        && are_used(table)
+        && is_whole
+        && parents == (Some(1), Some(1), None)
+}
+
 /// What a table is asked takes no memory.
 #[test]
 fn names_and_numbers_that_are_nowhere(rt: HostRuntime) -> Result<(), Fail> {
     let memory = Refusing::new(rt.alloc(), 0);
     let table = table_of(&rt, &memory, SAMPLE)?;
     let requests = memory.requests();
-    let are_unused = is_unused(&table, 0) && is_unused(&table, 7) && is_unused(&table, u64::MAX);
-    let parents = (table.parent(1), table.parent(3), table.parent(2));
-    assert!(rt; are_children(&table) && are_unused && are_used(&table));
-    assert!(rt; table.len() == 6 && table.blocks_all() == 11);
-    assert!(rt; parents == (Some(1), Some(1), None) && memory.requests() == requests);
+    let tells_all = tells_all(&table);
+    drop(table);
+    assert!(rt; tells_all && memory.requests() == requests);
     Ok(())
 }

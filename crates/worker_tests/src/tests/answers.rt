@@ -5,9 +5,10 @@ use super::tables::sample_table;
 use fuse_answer::{answer, moves};
 use node_table::Table;
 use reply_model::Move;
-use std::alloc::Allocator;
+use std::alloc::{Allocator, Global};
 use std::thread::Threads;
 use test_kit::memories::Memories;
+use test_kit::refusing::Refusing;
 use test_kit::script::lookups;
 
 /// Bytes that stand before an answer.
@@ -38,9 +39,9 @@ fn moved<A: Allocator>(alloc: A, table: &Table<A>, job: &Job<'_>) -> Option<Left
 }
 
 /// The same of the request of the lookups with this index, over a table.
-fn appended_over<A: Allocator>(
-    memories: &Memories,
-    table: &Table<A>,
+fn appended_over<'a>(
+    memories: &'a Memories,
+    table: &Table<&'a Refusing<Global>>,
     index: usize,
     moves: bool,
 ) -> Option<Left> {

@@ -11,6 +11,7 @@ use std::test::Fail;
 use std::thread::Threads;
 use test_kit::gates::Recording;
 use test_kit::memories::Memories;
+use test_kit::refusing::Refusing;
 use test_kit::script::{lookups, script, script_replies};
 
 const PLANS: [(u32, u32); 6] = [(1, 1), (2, 1), (5, 1), (1, 3), (2, 3), (5, 3)];
@@ -49,10 +50,10 @@ fn is_right<A: Allocator>(rounded: &Rounded<A>, jobs: Jobs, replies: &[u8]) -> b
 }
 
 /// Whether a round of jobs over a table comes to what it should, and the work that passes its gate.
-fn round_over<R: Threads + Sync, A: Allocator + Send + Sync>(
+fn round_over<'a, R: Threads + Sync>(
     rt: &R,
-    memories: &Memories,
-    table: &Table<A>,
+    memories: &'a Memories,
+    table: &Table<&'a Refusing<Global>>,
     jobs: Jobs,
     plan: Plan,
 ) -> Option<Result<(bool, (u64, u64, u64)), AllocError>> {

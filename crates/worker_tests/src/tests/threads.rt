@@ -11,13 +11,14 @@ use draw_board::{Board, Hand};
 use node_table::Table;
 use reply_pool::{Piece, work};
 use stack_core::{FreePass, Gate};
-use std::alloc::{AllocError, Allocator, Global};
+use std::alloc::{AllocError, Global};
 use std::snapshot::Snapshot;
 use std::sync::Wait;
 use std::test::Fail;
 use std::thread;
 use std::thread::{Promise, Threads};
 use test_kit::memories::Memories;
+use test_kit::refusing::Refusing;
 use test_kit::script::{script, script_replies};
 
 /// How many jobs a batch has.
@@ -49,10 +50,10 @@ fn batches_in(jobs: usize) -> u32
 
 /// How many pieces one worker answers so many requests of the script with, and how often it draws;
 /// over a table.
-fn pieces_over<R: Threads + Sync, A: Allocator + Send + Sync, G: Gate>(
+fn pieces_over<R: Threads + Sync, G: Gate>(
     rt: &R,
     memories: &Memories,
-    table: &Table<A>,
+    table: &Table<&Refusing<Global>>,
     jobs: usize,
     gate: &G,
 ) -> Option<Result<(usize, u64), AllocError>> {

@@ -1,3 +1,4 @@
+use Rattle.std.proofs.lemmas.Grind.{common_steps}
 use Rattle.std.proofs.Common.{◌≡◌, ◌∙◌, List, length, ap, map, subst, sym, arith}
 use Rattle.std.specs.Prelude.{slice_index}
 use Rattle.std.proofs.lemmas.List.{get_or_default}
@@ -47,3 +48,36 @@ returns g c =
       };
       count_is = c.in_ok-directories.ensures.count_is;
     }
+
+pub index-above-requires : goal.index-above-requires
+index-above-requires g c = omega arith
+
+pub overflow_add-start : goal.overflow_add-start
+overflow_add-start g c = omega arith
+
+pub slice_bounds-add_keys-end : goal.slice_bounds-add_keys-end
+slice_bounds-add_keys-end g c = omega arith
+
+pub offset_bounds-numbers-above : goal.offset_bounds-numbers-above
+offset_bounds-numbers-above g c = grind (arith, common_steps)
+
+pub bounds-numbers-above : goal.bounds-numbers-above
+bounds-numbers-above g c = grind (arith, common_steps)
+
+pub returns-in_err-directories : goal.returns-in_err-directories
+returns-in_err-directories g c = grind (arith, common_steps)
+
+pub offset_bounds-deref-rows_start : goal.offset_bounds-deref-rows_start
+offset_bounds-deref-rows_start g c = grind (arith, common_steps)
+
+pub slice_bounds-add_keys-count : goal.slice_bounds-add_keys-count
+slice_bounds-add_keys-count g c = grind (arith, common_steps)
+
+pub slice_bounds-add_keys-start : goal.slice_bounds-add_keys-start
+slice_bounds-add_keys-start g c = grind (arith, common_steps)
+
+pub returns-in_err-shared : goal.returns-in_err-shared
+returns-in_err-shared g c = grind (arith, common_steps)
+
+pub returns-in_err-push : goal.returns-in_err-push
+returns-in_err-push g c = grind (arith, common_steps)

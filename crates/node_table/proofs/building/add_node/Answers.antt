@@ -1,3 +1,4 @@
+use Rattle.std.proofs.lemmas.Grind.{common_steps}
 use Rattle.std.proofs.Common.{refl, arith}
 use Rattle.node_table.specs.Numbering.{number_among}
 use Rattle.node_table.specs.Building.{number_above}
@@ -36,3 +37,27 @@ returns-in_default g c =
     made reads _ c.len-directory.result {above = above} kept kept (omega (arith, c.len-directory.ensures, c.args.into.now.all.ok.0))
     (added_other tell c.args.branch.now above c.args.paths c.value-kind.result.kind _ kept kept c.in_default.not-Directory
     (record { held_are = refl; rows_are = refl; keys_are = refl; nlink_is = refl }))
+
+pub saturating_add-requires : goal.saturating_add-requires
+saturating_add-requires g c = tt
+
+pub from-requires : goal.from-requires
+from-requires g c = tt
+
+pub min-requires : goal.min-requires
+min-requires g c = tt
+
+pub overflow_cast-image : goal.overflow_cast-image
+overflow_cast-image g c = omega arith
+
+pub add_directory-requires-clause-above : goal.add_directory-requires-clause-above
+add_directory-requires-clause-above g c = omega arith
+
+pub overflow_cast-nlink : goal.overflow_cast-nlink
+overflow_cast-nlink g c = omega arith
+
+pub data_part-part-requires : goal.data_part-part-requires
+data_part-part-requires g c = grind (arith, common_steps)
+
+pub add_directory-requires-clause-children : goal.add_directory-requires-clause-children
+add_directory-requires-clause-children g c = grind (arith, common_steps)

@@ -1,3 +1,4 @@
+use Rattle.std.proofs.lemmas.Grind.{common_steps}
 use Rattle.std.proofs.Common.{◌≡◌, ◌<◌, ◌+◌, ◌∙◌, length, List, ℕ, sym, ap, subst, drop, arith}
 use Rattle.std.specs.Prelude.{slice_index}
 use Rattle.std.proofs.lemmas.List.{get_or_default}
@@ -37,3 +38,30 @@ loop-child-preserved g c =
         rest,
       )
     ]
+
+pub offset_bounds-children-child-index : goal.offset_bounds-children-child-index
+offset_bounds-children-child-index g c = omega arith
+
+pub bounds-children-child-index : goal.bounds-children-child-index
+bounds-children-child-index g c = omega arith
+
+pub overflow_add-directories : goal.overflow_add-directories
+overflow_add-directories g c = omega arith
+
+pub loop-child-smaller : goal.loop-child-smaller
+loop-child-smaller g c = omega arith
+
+pub loop-child-init : goal.loop-child-init
+loop-child-init g c = grind (arith, common_steps)
+
+pub offset_bounds-numbers-at : goal.offset_bounds-numbers-at
+offset_bounds-numbers-at g c = grind (arith, common_steps)
+
+pub bounds-numbers-at : goal.bounds-numbers-at
+bounds-numbers-at g c = grind (arith, common_steps)
+
+pub index-size-requires : goal.index-size-requires
+index-size-requires g c = grind (arith, common_steps)
+
+pub returns : goal.returns
+returns g c = grind (arith, common_steps)
