@@ -1,4 +1,5 @@
 use Rattle.std.proofs.Common.{arith}
+use Rattle.std.proofs.lemmas.Grind.{common_steps}
 use Rattle.std.proofs.lemmas.Result.{IfOk-weaker}
 use Rattle.reply_pieces.proofs.Hands.{both_all, fresh_all, light_both}
 use Rattle.reply_pool.proofs.workers.+crew.Goals as goal
@@ -43,3 +44,27 @@ split-requires g t c = c.requires.of_board
 
 pub rejoin-requires : goal.rejoin-requires
 rejoin-requires g t c = (c.join-mine.ensures.first.0.0, c.join-mine.ensures.second.0.0)
+
+pub unreachable-unreachable : goal.unreachable-unreachable
+unreachable-unreachable g t c = omega arith
+
+pub unreachable-requires : goal.unreachable-requires
+unreachable-requires g t c = grind (arith, common_steps)
+
+pub both-requires : goal.both-requires
+both-requires g t c κs = grind (arith, common_steps)
+
+pub returns-clause-hand : goal.returns-clause-hand
+returns-clause-hand g t c = grind (arith, common_steps)
+
+pub join+arg2-draw_all-requires : goal.join+arg2-draw_all-requires
+join+arg2-draw_all-requires g t c κs within = grind (arith, common_steps)
+
+pub join+arg2-returns : goal.join+arg2-returns
+join+arg2-returns g t c = grind (arith, common_steps)
+
+pub join+arg3-draw_all-requires : goal.join+arg3-draw_all-requires
+join+arg3-draw_all-requires g t c κs within = grind (arith, common_steps)
+
+pub join+arg3-returns : goal.join+arg3-returns
+join+arg3-returns g t c = grind (arith, common_steps)
