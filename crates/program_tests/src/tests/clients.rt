@@ -44,10 +44,11 @@ fn are_served<R: Threads + Sync, A: Allocator + Copy + Send + Sync>(
     count: u32,
     told: (u8, &[u8]),
 ) -> Option<bool> {
-    let table = prepare(rt, plain, samples(plain, 1)?, &FreePass).ok()?;
     let plan = Plan::new(2, 3)?;
+    let table = prepare(rt, plain, samples(plain, 1)?, &FreePass).ok()?;
     let mut lines = Vec::new(global);
     let status = sessions(rt, alloc, &table, listener, count, plan, &mut lines);
+    drop(table);
     Some(status == told.0 && lines.as_slice() == told.1)
 }
 
