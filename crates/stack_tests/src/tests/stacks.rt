@@ -161,9 +161,9 @@ fn trees_show_and_cut(rt: HostRuntime) -> Result<(), Fail> {
 }
 
 /// The first word that is wrong of a tree of one layer, and whether asking for it takes no memory.
-fn asked(
-    memory: &Refusing<Global>,
-    images: &[Image<&Refusing<Global>>],
+fn asked<'a>(
+    memory: &'a Refusing<Global>,
+    images: &[Image<&'a Refusing<Global>>],
 ) -> Result<(Option<&'static str>, bool), BuildFault> {
     let tree = laid(memory, images, "0")?;
     let requests = memory.requests();
