@@ -65,74 +65,71 @@ impl LookupsAhead {
     #[inline(never)]
     fn read_all<A: Allocator>(&mut self, table: &Table<A>, stream: &[u8], balances: &[i128]) {
         let mut words = [0; MAX_ROUND_MESSAGES];
-        let seen = hash_all(stream, &mut words);
-        let hashes = &words[..seen];
-        self.sum ^= u64::from(table.read_guesses(hashes));
-        self.guess_all(table, hashes);
-        let rows = self.read_rows(table, seen, &mut words);
+        let mut messages = [0; MAX_ROUND_MESSAGES];
+        let lookups = hash_all(stream, &mut words, &mut messages);
+        let words = &mut words[..lookups];
+        let messages = &messages[..lookups];
+        self.sum ^= u64::from(table.read_guesses(words));
+        self.guess_all(table, words, messages);
+        self.read_rows(table, messages, words);
         let mut sum = 0;
-        for number in words.iter().take(rows) {
+        for number in words {
             sum ^= read_node(table, *number, balances).unwrap_or(0);
         }
         self.sum ^= sum;
     }
 
-    // Guesses where the rows of the LOOKUPs with these hashes stand; a hash of 0 is of none.
-    fn guess_all<A: Allocator>(&mut self, table: &Table<A>, hashes: &[u64]) {
-        for (place, hash) in self.places.iter_mut().zip(hashes) {
-            if *hash != 0 {
-                *place = noted(table.guess(*hash));
-            }
+    // Guesses where the rows of these messages, which are LOOKUPs with these hashes, stand.
+    fn guess_all<A: Allocator>(&mut self, table: &Table<A>, hashes: &[u64], messages: &[u8]) {
+        for (hash, message) in hashes.iter().zip(messages) {
+            self.places[usize::from(*message)] = noted(table.guess(*hash));
         }
     }
 
-    // Reads the rows that were guessed for so many messages, and says how many rows these are. The
-    // numbers that they have go to `numbers`.
-    fn read_rows<A: Allocator>(
-        &mut self,
-        table: &Table<A>,
-        seen: usize,
-        numbers: &mut [u64],
-    ) -> usize {
-        let mut rows = 0usize;
+    // Reads the rows that were guessed for these messages. The numbers that they have go to
+    // `numbers`, and 0 where no row was guessed.
+    fn read_rows<A: Allocator>(&mut self, table: &Table<A>, messages: &[u8], numbers: &mut [u64]) {
         let mut sum = 0;
-        for noted in self.places.iter().take(seen) {
-            match row_noted(table, *noted) {
-                Some(row) if rows < numbers.len() => {
-                    numbers[rows] = row.number;
-                    rows += 1;
+        for (number, message) in numbers.iter_mut().zip(messages) {
+            *number = match row_noted(table, self.places[usize::from(*message)]) {
+                Some(row) => {
                     sum ^= end_of(row);
+                    row.number
                 }
-                _ => {}
-            }
+                None => 0,
+            };
         }
         self.sum ^= u64::from(sum);
-        rows
     }
 }
 
-// The hashes of the LOOKUPs at the front of a stream, each at its message's place, and how many
-// messages were looked at.
-fn hash_all(stream: &[u8], hashes: &mut [u64; MAX_ROUND_MESSAGES]) -> usize
+// The hashes of the LOOKUPs at the front of a stream, the number of each one's message in its
+// round, and how many they are.
+fn hash_all(
+    stream: &[u8],
+    hashes: &mut [u64; MAX_ROUND_MESSAGES],
+    messages: &mut [u8; MAX_ROUND_MESSAGES],
+) -> usize
     ensures { result ≤ MAX_ROUND_MESSAGES }
 {
     let mut rest = stream;
     let mut lookups = 0usize;
     for message in 0..MAX_ROUND_MESSAGES {
         let Framed::Whole(len) = frame(rest) else {
-            return message;
+            return lookups;
         };
         match glance(&rest[..len]) {
             Some((node, name)) => {
-                hashes[message] = hashed(node, name);
-                lookups = lookups.wrapping_add(1);
+                hashes[lookups] = hashed(node, name);
+                messages[lookups] = message as u8;
+                lookups += 1;
             }
-            None if lookups.wrapping_add(HEAD_START) < message / 4 => return message,
+            None if lookups + HEAD_START < message / 4 => return lookups,
             None => {}
         }
         rest = &rest[len..];
     }
-    MAX_ROUND_MESSAGES
+    lookups
 }
 
 // The number that tells a place, or that none was noted.
