@@ -18,19 +18,20 @@ use test_kit::script::{script, script_replies};
 
 /// A client that has written the first bytes of the script, and writes no more.
 fn client<R: Net>(rt: &R, global: Global, to: &UnixListener, given: usize) -> Option<UnixStream> {
-    let script = script(global).ok()?;
     let mut client = UnixStream::connect_addr(rt, &to.local_addr().ok()?).ok()?;
-    client.write_all(&script[..given.min(script.len())]).ok()?;
-    client.shutdown(Shutdown::Write).ok()?;
-    Some(client)
+    let script = script(global).ok()?;
+    let written = client.write_all(&script[..given.min(script.len())]);
+    drop(script);
+    let ended = written.and_then(|()| client.shutdown(Shutdown::Write));
+    ended.is_ok().then_some(client)
 }
 
 /// How many bytes the client reads to the end, where they are the first of the script's replies.
 fn read_of(global: Global, mut client: UnixStream) -> Option<usize> {
     let replies = script_replies(global).ok()?;
     let mut read = Vec::new(global);
-    client.read_to_end(&mut read).ok()?;
-    replies.starts_with(&read).then_some(read.len())
+    let ended = client.read_to_end(&mut read);
+    (ended.is_ok() && replies.starts_with(&read)).then_some(read.len())
 }
 
 /// Whether so many sessions over the sample image come to this status and these lines. The table

@@ -57,14 +57,15 @@ fn writers_that_fail_are_told(rt: HostRuntime) -> Result<(), Fail> {
     let image = image_file(&rt, "writers")?;
     let path = image.as_str();
     let (global, line) = (rt.alloc(), b"write fault\n");
-    for words in [["check", path], ["list", path], ["serve", path]] {
-        for (room, flushes) in [(10, true), (1000, false)] {
+    let told = [(10, true), (1000, false)].map(|(room, flushes)| {
+        [["check", path], ["list", path], ["serve", path]].map(|words| {
             let full = Full { room, flushes };
-            let status = status_of(&rt, global, global, &words, REQUESTS.as_slice(), full, line);
-            assert!(rt; status == Some(1), "room {room}");
-        }
-    }
+            status_of(&rt, global, global, &words, REQUESTS.as_slice(), full, line)
+        })
+    });
     fs::remove_file(&rt, path)?;
+    drop(image);
+    assert_eq!(rt; told, [[Some(1); 3]; 2]);
     Ok(())
 }
 
@@ -79,7 +80,10 @@ fn a_reader_that_fails_is_told(rt: HostRuntime) -> Result<(), Fail> {
     let (global, line) = (rt.alloc(), b"read fault\n");
     let mut output = Vec::new(global);
     let status = status_of(&rt, global, global, &words, broken, &mut output, line);
-    assert!(rt; status == Some(1) && output.as_slice() == REPLIES.as_slice());
+    let are_replies = output.as_slice() == REPLIES.as_slice();
+    drop(output);
     fs::remove_file(&rt, image.as_str())?;
+    drop(image);
+    assert!(rt; status == Some(1) && are_replies);
     Ok(())
 }

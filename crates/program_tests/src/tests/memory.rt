@@ -54,11 +54,12 @@ fn refused_memory_is_told_of_lines(rt: HostRuntime) -> Result<(), Fail> {
     let paths = b"1 040755 2 0 1 /\n";
     let checking = told_refusals(&rt, rt.alloc(), &["check", path, path], sizes);
     let listing = told_refusals(&rt, rt.alloc(), &["list", path, path], paths);
+    fs::remove_file(&rt, path)?;
+    drop(image);
     assert!(rt;
         matches!((checking, listing), (Ok(6..), Ok(6..))),
         "{checking:?} {listing:?}"
     );
-    fs::remove_file(&rt, path)?;
     Ok(())
 }
 
@@ -69,8 +70,10 @@ fn refused_memory_is_told_of_a_stream(rt: HostRuntime) -> Result<(), Fail> {
     let words = ["serve", "--balances", balances.as_str(), image.as_str()];
     let requests = told_refusals(&rt, rt.alloc(), &words, &REPLIES);
     let lines = fs::read(&rt, balances.as_str())?;
-    assert!(rt; matches!(requests, Ok(11..)) && lines.as_slice() == b"1 0\n".as_slice());
+    let are_told = lines.as_slice() == b"1 0\n".as_slice();
+    drop(lines);
     fs::remove_file(&rt, balances.as_str())?;
     fs::remove_file(&rt, image.as_str())?;
+    assert!(rt; matches!(requests, Ok(11..)) && are_told);
     Ok(())
 }

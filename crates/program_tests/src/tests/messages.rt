@@ -104,6 +104,36 @@ fn pull_all<S: Source>(alloc: Global, source: &mut S, room: usize) -> Result<Pul
     Err(AllocError)
 }
 
+/// What was seen of pulls until the end or a failure.
+#[derive(Clone, Copy, PartialEq, Eq)]
+struct Seen {
+    /// Whether they gave the messages that they should.
+    whole: bool,
+    /// Whether they came to the end.
+    ended: bool,
+    pulls: u32,
+    /// Whether the mount was taken away, before the first pull and after the last.
+    gone: (bool, bool),
+}
+
+/// Pulls messages off the reader, into a room of this size: those of these sizes, and no others.
+fn pulls_of(
+    alloc: Global,
+    reader: &mut Messages<'_>,
+    room: usize,
+    sizes: &[usize],
+) -> Result<Seen, AllocError> {
+    let mut tap = MessageTap::new(alloc, reader)?;
+    let at_first = tap.is_gone();
+    let pulled = pull_all(alloc, &mut tap, room)?;
+    Ok(Seen {
+        whole: are_messages(&pulled.bytes, sizes),
+        ended: pulled.ended,
+        pulls: pulled.pulls,
+        gone: (at_first, tap.is_gone()),
+    })
+}
+
 /// Whether the bytes are one message after the other.
 fn are_messages(bytes: &[u8], sizes: &[usize]) -> bool {
     let mut rest = bytes;
@@ -142,12 +172,14 @@ const SIZES: [([usize; 2], usize, u32); 10] = [
 fn a_message_a_read(rt: HostRuntime) -> Result<(), Fail> {
     for (sizes, room, pulls) in SIZES {
         let mut reader = messages_of(&sizes);
-        let mut tap = MessageTap::new(rt.alloc(), &mut reader)?;
-        let pulled = pull_all(rt.alloc(), &mut tap, room)?;
-        let gone = tap.is_gone();
-        drop(tap);
-        assert!(rt; are_messages(&pulled.bytes, &sizes), "{sizes:?}");
-        assert!(rt; pulled.ended && pulled.pulls == pulls && !gone, "{sizes:?}");
+        let seen = pulls_of(rt.alloc(), &mut reader, room, &sizes)?;
+        let told = Seen {
+            whole: true,
+            ended: true,
+            pulls,
+            gone: (false, false),
+        };
+        assert!(rt; seen == told, "{sizes:?}");
         assert!(rt;
             reader.reads == 3 && LEAST_ROOM <= reader.least,
             "{sizes:?}"
@@ -169,16 +201,15 @@ fn interrupted_reads(rt: HostRuntime) -> Result<(), Fail> {
         let mut reader = messages_of(&[40, 80]);
         reader.times = times;
         reader.number = number;
-        let mut tap = MessageTap::new(rt.alloc(), &mut reader)?;
-        let pulled = pull_all(rt.alloc(), &mut tap, 65_536)?;
-        let gone = tap.is_gone();
-        drop(tap);
-        assert!(rt;
-            pulled.ended == ended && pulled.pulls == pulls && !gone,
-            "{number}"
-        );
         let sizes: &[usize] = if ended { &[40, 80] } else { &[] };
-        assert!(rt; are_messages(&pulled.bytes, sizes), "{number}");
+        let seen = pulls_of(rt.alloc(), &mut reader, 65_536, sizes)?;
+        let told = Seen {
+            whole: true,
+            ended,
+            pulls,
+            gone: (false, false),
+        };
+        assert!(rt; seen == told, "{number}");
         assert!(rt; ended || reader.reads == u64::from(times), "{number}");
     }
     Ok(())
@@ -192,14 +223,14 @@ fn mounts_that_are_taken_away(rt: HostRuntime) -> Result<(), Fail> {
         for (sizes, pulls) in [(none.as_slice(), 1), (two.as_slice(), 4)] {
             let mut reader = messages_of(sizes);
             reader.last = Some(number);
-            let mut tap = MessageTap::new(rt.alloc(), &mut reader)?;
-            assert!(rt; !tap.is_gone());
-            let pulled = pull_all(rt.alloc(), &mut tap, 65_536)?;
-            assert!(rt;
-                tap.is_gone() == taken && !pulled.ended && pulled.pulls == pulls,
-                "{number}"
-            );
-            assert!(rt; are_messages(&pulled.bytes, sizes), "{number}");
+            let seen = pulls_of(rt.alloc(), &mut reader, 65_536, sizes)?;
+            let told = Seen {
+                whole: true,
+                ended: false,
+                pulls,
+                gone: (false, taken),
+            };
+            assert!(rt; seen == told, "{number}");
         }
     }
     Ok(())
@@ -211,9 +242,9 @@ fn no_memory_for_the_room(rt: HostRuntime) -> Result<(), Fail> {
     let counting = Refusing::new(rt.alloc(), 0);
     let mut tap = MessageTap::new(&counting, &mut reader)?;
     let requests = counting.requests();
-    let pulled = pull_all(rt.alloc(), &mut tap, 65_536)?;
+    let ended = pull_all(rt.alloc(), &mut tap, 65_536)?.ended;
     drop(tap);
-    assert!(rt; pulled.ended && 0 < requests && counting.requests() == requests);
+    assert!(rt; ended && 0 < requests && counting.requests() == requests);
     for refuse_at in 1..=requests {
         let refusing = Refusing::new(rt.alloc(), refuse_at);
         let mut reader = messages_of(&[40]);

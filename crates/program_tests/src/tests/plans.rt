@@ -30,26 +30,34 @@ where
     (status == Some(0)).then_some(memory.requests())
 }
 
+/// What three plans ask for over 120 pages of the directory of the image at a path: one worker, two
+/// with the largest batches, and two with the smallest.
+fn requests_of_plans<R: Files + Net + Threads + Sync>(
+    rt: &R,
+    global: Global,
+    path: &str,
+) -> Result<[u64; 3], Fail>
+where
+    R::File: Send,
+    R::Dir: Send,
+{
+    let stream = stream(global, Long::Readdir, 120)?;
+    let plans = [("1", "1"), ("2", "256"), ("2", "1")];
+    Ok(plans.map(|plan| requests_by(rt, global, path, &stream, plan).unwrap_or(0)))
+}
+
 /// Of 120 pages of a directory workers have a board and pieces, and each batch asks for memory of
 /// its own: two batches, one for each of two workers, or 120. Which worker draws how many is left
 /// to chance, and moves these numbers by some ten.
 #[test]
 fn a_line_has_its_plan(rt: HostRuntime) -> Result<(), Fail> {
-    let global = rt.alloc();
-    let image = image(global)?;
-    let path = written(&rt, "plans", &image)?;
-    let stream = stream(global, Long::Readdir, 120)?;
-    let [alone, even, small] = [("1", "1"), ("2", "256"), ("2", "1")].map(|plan| requests_by(
-        &rt,
-        global,
-        path.as_str(),
-        &stream,
-        plan,
-    ).unwrap_or(0));
+    let path = written(&rt, "plans", &image(rt.alloc())?)?;
+    let [alone, even, small] = requests_of_plans(&rt, rt.alloc(), path.as_str())?;
+    fs::remove_file(&rt, path.as_str())?;
+    drop(path);
     assert!(rt;
         0 < alone && alone < even && even.saturating_add(60) < small,
         "{alone}, {even}, {small}"
     );
-    fs::remove_file(&rt, path.as_str())?;
     Ok(())
 }

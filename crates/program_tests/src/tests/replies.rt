@@ -58,17 +58,55 @@ fn bytes_of(alloc: Global, lengths: &[u32]) -> Result<Vec<u8>, AllocError> {
     Ok(bytes)
 }
 
+/// What was seen of pushing bytes to a writer.
+#[derive(Clone, Copy, PartialEq, Eq)]
+struct Seen {
+    /// How many bytes were pushed; none where it failed.
+    pushed: Option<usize>,
+    /// How many bytes the writer has, where they are the first of those that were pushed.
+    taken: Option<usize>,
+    /// Whether its writes had the sizes that they should.
+    sized: bool,
+    flushes: u64,
+    /// Whether the mount was taken away, before the first push and after the last.
+    gone: (bool, bool),
+}
+
+/// Pushes bytes once, or hands them on whole, to a writer whose writes should have these sizes.
+fn pushes_of(mut writer: Replies, bytes: &[u8], whole: bool, sizes: &[usize]) -> Seen {
+    let mut spout = ReplySpout::new(&mut writer);
+    let at_first = spout.is_gone();
+    let pushed = if whole {
+        hand_on(&mut spout, bytes).ok().map(|()| bytes.len())
+    } else {
+        spout.push(bytes).ok()
+    };
+    let gone = (at_first, spout.is_gone());
+    drop(spout);
+    let taken = writer.taken.len();
+    Seen {
+        pushed,
+        taken: bytes.starts_with(&writer.taken).then_some(taken),
+        sized: writer.sizes.as_slice() == sizes,
+        flushes: writer.flushes,
+        gone,
+    }
+}
+
 #[test]
 fn a_reply_a_write(rt: HostRuntime) -> Result<(), Fail> {
     let bytes = bytes_of(rt.alloc(), &[16, 80, 120, 1_048_592, 16])?;
-    let mut writer = replies_of(rt.alloc(), usize::MAX, usize::MAX, 5);
-    let mut spout = ReplySpout::new(&mut writer);
-    let done = hand_on(&mut spout, &bytes);
-    let gone = spout.is_gone();
-    drop(spout);
-    assert!(rt; done.is_ok() && !gone && writer.flushes == 1);
-    assert!(rt; writer.taken.as_slice() == bytes.as_slice());
-    assert!(rt; writer.sizes.as_slice() == [16, 80, 120, 1_048_592, 16].as_slice());
+    let writer = replies_of(rt.alloc(), usize::MAX, usize::MAX, 5);
+    let seen = pushes_of(writer, &bytes, true, &[16, 80, 120, 1_048_592, 16]);
+    drop(bytes);
+    let told = Seen {
+        pushed: Some(1_048_824),
+        taken: Some(1_048_824),
+        sized: true,
+        flushes: 1,
+        gone: (false, false),
+    };
+    assert!(rt; seen == told);
     Ok(())
 }
 
@@ -76,18 +114,16 @@ fn a_reply_a_write(rt: HostRuntime) -> Result<(), Fail> {
 fn a_short_write_is_told(rt: HostRuntime) -> Result<(), Fail> {
     let bytes = bytes_of(rt.alloc(), &[80, 120])?;
     for (most, taken) in [(79, 79), (1, 1), (0, 0), (80, 80), (200, 80)] {
-        let mut writer = replies_of(rt.alloc(), most, usize::MAX, 5);
-        let mut spout = ReplySpout::new(&mut writer);
-        let pushed = spout.push(&bytes);
-        drop(spout);
-        assert!(rt;
-            pushed == Ok(taken) && writer.sizes.as_slice() == [80].as_slice(),
-            "{most}"
-        );
-        assert!(rt;
-            writer.taken.len() == taken && bytes.starts_with(&writer.taken),
-            "{most}"
-        );
+        let writer = replies_of(rt.alloc(), most, usize::MAX, 5);
+        let seen = pushes_of(writer, &bytes, false, &[80]);
+        let told = Seen {
+            pushed: Some(taken),
+            taken: Some(taken),
+            sized: true,
+            flushes: 0,
+            gone: (false, false),
+        };
+        assert!(rt; seen == told, "{most}");
     }
     Ok(())
 }
@@ -104,15 +140,17 @@ fn bytes_without_a_whole_reply(rt: HostRuntime) -> Result<(), Fail> {
     ] {
         let mut bytes = bytes_of(rt.alloc(), &[said])?;
         bytes.resize(size, 0)?;
-        let mut writer = replies_of(rt.alloc(), usize::MAX, usize::MAX, 5);
-        let mut spout = ReplySpout::new(&mut writer);
-        let failed = spout.push(&bytes).is_err();
-        let gone = spout.is_gone();
-        drop(spout);
-        assert!(rt;
-            failed && !gone && writer.sizes.is_empty(),
-            "{said} in {size}"
-        );
+        let writer = replies_of(rt.alloc(), usize::MAX, usize::MAX, 5);
+        let seen = pushes_of(writer, &bytes, false, &[]);
+        drop(bytes);
+        let told = Seen {
+            pushed: None,
+            taken: Some(0),
+            sized: true,
+            flushes: 0,
+            gone: (false, false),
+        };
+        assert!(rt; seen == told, "{said} in {size}");
     }
     Ok(())
 }
@@ -121,18 +159,17 @@ fn bytes_without_a_whole_reply(rt: HostRuntime) -> Result<(), Fail> {
 fn writes_that_fail(rt: HostRuntime) -> Result<(), Fail> {
     let bytes = bytes_of(rt.alloc(), &[16, 80, 120])?;
     for (number, taken_away) in [(2, true), (19, true), (4, false), (5, false), (11, false)] {
-        for (writes, taken) in [(0, 0), (2, 96)] {
-            let mut writer = replies_of(rt.alloc(), usize::MAX, writes, number);
-            let mut spout = ReplySpout::new(&mut writer);
-            assert!(rt; !spout.is_gone());
-            let failed = hand_on(&mut spout, &bytes).is_err();
-            let gone = spout.is_gone();
-            drop(spout);
-            assert!(rt; failed && gone == taken_away, "{number}");
-            assert!(rt;
-                writer.taken.len() == taken && writer.sizes.len() == writes + 1,
-                "{number}"
-            );
+        for (sizes, taken) in [([16].as_slice(), 0), ([16, 80, 120].as_slice(), 96)] {
+            let writer = replies_of(rt.alloc(), usize::MAX, sizes.len() - 1, number);
+            let seen = pushes_of(writer, &bytes, true, sizes);
+            let told = Seen {
+                pushed: None,
+                taken: Some(taken),
+                sized: true,
+                flushes: 0,
+                gone: (false, taken_away),
+            };
+            assert!(rt; seen == told, "{number}");
         }
     }
     Ok(())
