@@ -1,6 +1,7 @@
 //! `fuse_wire` and `fuse_answer`: messages, requests, replies. `draw_board` and `reply_pool`:
 //! batches.
 
+ghost use Rattle.std.specs.Prelude.{◌≡◌, IfOk};
 ghost use Rattle.draw_board.specs.Hands.{IsHandOf};
 ghost use Rattle.fuse_answer.specs.Puts.{PutsMoves};
 ghost use Rattle.fuse_answer.specs.Reads.{asked_of};
@@ -8,9 +9,9 @@ ghost use Rattle.fuse_answer.specs.Reads.{asked_of};
 pub use draw_board::{Board, Few, Hand};
 pub use fuse_answer::{Move, Session, after, answer, moves};
 pub use fuse_wire::{
-    Attr, Dirent, Errno, Framed, InitOut, Op, Request, frame, put_attr, put_data, put_dirent,
-    put_direntplus, put_entry, put_error, put_head, put_init, put_negative_entry, put_open,
-    put_statfs,
+    Attr, Dirent, Errno, Framed, InitOut, Op, Replies, Request, frame, put_attr, put_data,
+    put_dirent, put_direntplus, put_entry, put_error, put_head, put_init, put_negative_entry,
+    put_open, put_statfs,
 };
 use node_table::Table;
 pub use reply_pool::{Piece, Plan, Rounded, round, work};
@@ -21,7 +22,7 @@ pub fn answered<A: Allocator>(
     table: &Table<A>,
     session: Session,
     bytes: &[u8],
-    replies: &mut Vec<u8, A>,
+    replies: &mut Replies<A>,
 ) -> Result<Session, AllocError> {
     let Framed::Whole(len) = frame(bytes) else {
         return Ok(session);
@@ -29,6 +30,20 @@ pub fn answered<A: Allocator>(
     let request = Request::read(&bytes[..len]);
     answer(table, session, &request, replies)?;
     Ok(after(session, &request))
+}
+
+/// Replies of which the first bytes are these.
+pub fn begun<A: Allocator>(alloc: A, front: &[u8]) -> Result<Replies<A>, AllocError>
+    ensures { IfOk result (λ replies. replies.items ≡ front.now) }
+{
+    let mut replies = Replies::new(alloc);
+    replies.append(front)?;
+    Ok(replies)
+}
+
+/// How many bytes replies have, and the first of them.
+pub fn first_of<A: Allocator>(replies: &Replies<A>) -> (usize, Option<u8>) {
+    (replies.len(), replies.as_slice().first().copied())
 }
 
 /// Appends what a request gives and takes.

@@ -1,11 +1,8 @@
 -- The bytes of a directory's rows, row by row: `IsSoFar` is what holds as they are appended, from
--- none (`none_written`) by rows that are set and each that is appended (`row_next`) to all
--- (`all_rows`). Rows that take no more than a listing's room are answered, and then others are not
--- (`answered`, `last_answered`), so these are all where no more fit (`fits_no_more`). Rows are set
--- one after another (`sets_next`), over zeros that are cut behind them (`rows_cut`), and the
--- header's length is set last (`header_set`).
+-- none (`none_written`) by each that is appended (`row_next`) to all (`all_rows`). Rows that take no more than a listing's room are answered, and then others are not
+-- (`answered`, `last_answered`), so these are all where no more fit (`fits_no_more`). The header's
+-- length is set last (`header_set`).
 use Rattle.std.proofs.Common.{◌≡◌, ◌∙◌, sym, ap, ℕ, zero, suc, ◌+◌, ◌-◌, ◌/◌, ◌^◌, ◌<◌, ◌≤◌, List, [], ◌∷◌, ◌++◌, length, map, drop, take, get_or, Bool, true, false, cond, Option, Some, None, refl, subst, arith, append-nil, append_assoc, length-append, length-take-le}
-use borrow.Rule.Slice.PartMut.{post_of}
 use Rattle.std.specs.Prelude.{nat_le, nat_lt, ◌&&◌, slice_get, replicate, MatchOption, IfSome}
 use Rattle.std.specs.List.{enumerate_from, flat_map}
 use Rattle.std.specs.Option.{option_map_or}
@@ -21,7 +18,6 @@ use Rattle.stack_table.specs.Stacked.{Stacked}
 use Rattle.stack_table.specs.Readers.{attr_at}
 use Rattle.fuse_answer.specs.declared.listing.Listing.{Listing}
 use Rattle.fuse_answer.specs.Listings.{IsPaddedAt, IsLineAt, IsWhole, NumberedLine, bytes_before, fit_count, fits_at, line_bytes, lines_of, listed_data, name_lengths, row_bytes_at, row_size, row_sizes, size_of, type_at, until_of}
-use Rattle.fuse_answer.specs.Setting.{AddsRows, AreSet, SetsRow, SetsRows}
 use Rattle.fuse_answer.proofs.Fitting.{fits_among, fits_few, fits_most, fits_total, length-sizes, size_named, total, total-append}
 use Rattle.fuse_answer.proofs.Lines.{lines_before, lines_sized, next_line, none_before}
 
@@ -54,15 +50,6 @@ length-line_bytes stack true r =
 abbrev pub written : {A : Type 0} → Stacked → Listing A → ℕ → List ℕ
 written stack l index = flat_map (line_bytes stack l.with_entries) (lines_before l index)
 
--- a row of READDIRPLUS is as long as its name says
-pub row_length : {A : Type 0} (stack : Stacked) (l : Listing A) (index : ℕ) (r : NumberedLine) → slice_get (lines_of l) index ≡ Some r
-    → l.with_entries ≡ true → length (row_bytes_at stack l index) ≡ 128 + dirent_size (length r.1.name)
-row_length stack l index r is plus =
-    let row = ap (λ o. length (option_map_or (line_bytes stack l.with_entries) o [])) is in
-    let with_entry = ap (λ b. length (line_bytes stack b r)) plus in
-    let size = length-line_bytes stack true r in
-    omega arith
-
 -- the name of a row with zeros behind it, as a row is set from it
 pub padded_there : {A : Type 0} (l : Listing A) (index : ℕ) (r : NumberedLine) (padded : List ℕ) → slice_get (lines_of l) index ≡ Some r
     → IsPaddedAt l index padded → padded ≡ r.1.name ++ zeros (22 - length r.1.name)
@@ -86,10 +73,6 @@ padded_line None now l index r is given = tt
 padded_line (Some p) now l index r is given =
     subst (λ o. IfSome o (λ r. (length r.1.name ≤ 22) × (now p ≡ r.1.name ++ replicate (22 - length r.1.name) 0))) (sym is) given
 
--- a row with a short name ends within the bytes that it may set
-pub short_end : (at end n : ℕ) → n ≤ 22 → end ≡ at + (128 + dirent_size n) → end ≤ at + 176
-short_end at end n short is = omega arith
-
 -- the bytes of a child's row
 pub child_bytes : {A : Type 0} (stack : Stacked) (l : Listing A) (index number : ℕ) (name : List ℕ) (a : Attr)
     → IsLineAt l index number name → l.with_entries ≡ true → 2 ≤ index → attr_at stack number ≡ Some a
@@ -103,43 +86,6 @@ child_bytes stack l index number name a is plus big has =
     ∙ ap (λ b. line_bytes stack b row) plus
     ∙ ap (λ b. form b (attr_at stack number)) child
     ∙ ap (form true) has)
-
--- no rows
-pub sets_none : {A : Type 0} (stack : Stacked) (l : Listing A) (from start : ℕ) (now : List ℕ) → start ≤ length now
-    → SetsRows stack l from from start start now now
-sets_none stack l from start now within = record { rows = λ before set. set; within = within; size = refl }
-
--- where the next row is not, or is set behind them only, rows are set as before
-pub sets_kept : {A : Type 0} (stack : Stacked) (l : Listing A) (from index start at : ℕ) (old now next : List ℕ) (end : Option ℕ)
-    → SetsRows stack l from index start at old now → SetsRow stack l index at end now next → SetsRows stack l from index start at old next
-sets_kept stack l from index start at old now next end sets row = record {
-  rows = λ first set. (let s = sets.rows first set in record { so_far = kept end row ∙ s.so_far; place = s.place });
-  within = (let a = sets.within in let b = row.size in omega arith);
-  size = row.size ∙ sets.size;
-}
-  where
-    kept : (o : Option ℕ) → SetsRow stack l index at o now next → take at next ≡ take at now
-    kept None row = ap (take at) row.row
-    kept (Some end) row =
-        let len = length-take-le at now sets.within in
-        let bytes = row_bytes_at stack l index in
-        sym (take-take at end next (let e = row.end_is in omega arith))
-        ∙ ap (take at) row.row
-        ∙ take-append-le at (take at now) bytes (omega arith)
-        ∙ take_all at (take at now) (omega arith)
-
--- rows that were set over zeros, which are cut behind them
-pub rows_cut : {A : Type 0} (stack : Stacked) (l : Listing A) (from until start end : ℕ) (old zeroed now new : List ℕ)
-    → start ≡ length old → take start zeroed ≡ old → SetsRows stack l from until start end zeroed now → new ≡ take end now
-    → AddsRows stack l from until old new
-rows_cut stack l from until start end old zeroed now new at kept sets cut = record {
-  rows = λ first is.
-      let set = sets.rows first (record {
-        so_far = kept ∙ is;
-        place = at ∙ ap length is ∙ length-append first (bytes_before stack l from);
-      }) in
-      cut ∙ set.so_far;
-}
 
 -- rows have as many bytes as their sizes say
 lines_long : (stack : Stacked) (plus : Bool) (rs : List NumberedLine) → length (flat_map (line_bytes stack plus) rs)
@@ -161,69 +107,32 @@ pub rows_behind : (before made head headed rows items : List ℕ) → made ≡ b
 rows_behind before made head headed rows items kept put all =
     all ∙ ap (λ b. b ++ rows) (put ∙ ap (λ b. b ++ head) kept)
 
--- the bytes from a place on are a header and rows
-part_is : (before head rows bytes items : List ℕ) (start : ℕ) → items ≡ (before ++ head) ++ rows → bytes ≡ items → start ≡ length before
-    → take (length bytes - start) (drop start bytes) ≡ head ++ rows
-part_is before head rows bytes items start is same at =
-    take_rest bytes start ∙ ap (drop start) (same ∙ is ∙ append_assoc before head rows) ∙ drop_at before (head ++ rows) start (sym at)
-
--- and as long as both
-part_long : (before head rows bytes items : List ℕ) (start : ℕ) → items ≡ (before ++ head) ++ rows → bytes ≡ items
-    → start ≡ length before → length head ≡ 16 → length (take (length bytes - start) (drop start bytes)) ≡ 16 + length rows
-part_long before head rows bytes items start is same at long =
-    let part = ap length (part_is before head rows bytes items start is same at) in
-    let both = length-append head rows in
+-- and are as long as all of them
+pub reply_long : (before head rows items : List ℕ) → items ≡ (before ++ head) ++ rows → length head ≡ 16
+    → length items ≡ length before + (16 + length rows)
+reply_long before head rows items is long =
+    let all = ap length is ∙ length-append (before ++ head) rows in
+    let both = length-append before head in
     omega arith
 
--- where a header and rows were appended, the bytes from their place on are as long as both
-pub reply_long : (before made head headed rows items bytes : List ℕ) (start : ℕ) → made ≡ before → headed ≡ made ++ head
-    → items ≡ headed ++ rows → bytes ≡ items → start ≡ length before → length head ≡ 16
-    → length (take (length bytes - start) (drop start bytes)) ≡ 16 + length rows
-reply_long before made head headed rows items bytes start kept put all =
-    part_long before head rows bytes items start (rows_behind before made head headed rows items kept put all)
-
 -- where there was room for a header and so many bytes, and the header was put, there is room for these
-pub room_left : (before made head headed : List ℕ) (old_len headed_len made_room headed_room size : ℕ) → made ≡ before
-    → headed ≡ made ++ head → length head ≡ 16 → old_len ≡ length before → headed_len ≡ length headed
-    → old_len + (16 + size) ≤ made_room → made_room ≤ headed_room → headed_len + size ≤ headed_room
-room_left before made head headed old_len headed_len made_room headed_room size kept put long at len room grown =
+pub room_left : (before made head headed : List ℕ) (made_room headed_room size : ℕ) → made ≡ before → headed ≡ made ++ head
+    → length head ≡ 16 → length before + (16 + size) ≤ made_room → made_room ≤ headed_room → length headed + size ≤ headed_room
+room_left before made head headed made_room headed_room size kept put long room grown =
     let same = ap length kept in
     let both = ap length put ∙ length-append made head in
     omega arith
 
--- a header is set in front of rows, over the bytes from its place on
-pub header_set : (unique : ℕ) (before head rows bytes items new : List ℕ) (start len : ℕ) → items ≡ (before ++ head) ++ rows
-    → bytes ≡ items → start ≡ length before → len ≡ length items → length head ≡ 16
-    → new ≡ reply_head unique (length (take (length bytes - start) (drop start bytes)) - 16)
-    ++ drop 16 (take (length bytes - start) (drop start bytes))
-    → take len ((take start bytes ++ (new ++ post_of start (length bytes - start) bytes))
-    ++ drop (length (take start bytes ++ (new ++ post_of start (length bytes - start) bytes))) items) ≡ before ++ reply_with unique rows
-unfolding reply_with
-header_set unique before head rows bytes items new start len is same at len_is long new_is =
-    let part = take (length bytes - start) (drop start bytes) in
-    let post = post_of start (length bytes - start) bytes in
-    let reply = reply_head unique (length rows) ++ rows in
-    let joined : bytes ≡ before ++ (head ++ rows) = same ∙ is ∙ append_assoc before head rows in
-    let there : part ≡ head ++ rows = part_is before head rows bytes items start is same at in
-    let both = length-append head rows in
-    let all = ap length joined in
-    let front_long = length-append before (head ++ rows) in
-    let size : length part - 16 ≡ length rows = (let a = ap length there in omega arith) in
-    let rest : drop 16 part ≡ rows = ap (drop 16) there ∙ drop_at head rows 16 long in
-    let set : new ≡ reply = new_is ∙ ap (λ n. reply_head unique n ++ drop 16 part) size
-    ∙ ap (λ b. reply_head unique (length rows) ++ b) rest in
-    let front : take start bytes ≡ before = ap (take start) joined ∙ take_at before (head ++ rows) start (sym at) in
-    let none : post ≡ [] = drop_all (length bytes - start) (drop start bytes) (let e = length-drop start bytes in omega arith) in
-    let whole : take start bytes ++ (new ++ post) ≡ before ++ reply = ap (λ b. b ++ (new ++ post)) front
-    ∙ ap (λ b. before ++ (b ++ post)) set ∙ ap (λ b. before ++ (reply ++ b)) none ∙ ap (λ b. before ++ b) (append-nil reply) in
-    let head_long = length-head unique (length rows) in
-    let reply_long = length-append (reply_head unique (length rows)) rows in
-    let whole_long = length-append before reply in
-    let same_long = ap length same in
-    ap (λ w. take len (w ++ drop (length w) items)) whole
-    ∙ ap (λ b. take len ((before ++ reply) ++ b)) (drop_all (length (before ++ reply)) items (omega arith))
-    ∙ ap (take len) (append-nil (before ++ reply))
-    ∙ take_all len (before ++ reply) (omega arith)
+-- a header is set in front of rows, over the one that stood there
+pub header_set : (unique : ℕ) (before head rows items new : List ℕ) (start : ℕ) → items ≡ (before ++ head) ++ rows
+    → start ≡ length before → length head ≡ 16 → new ≡ take start items ++ reply_with unique (drop (start + 16) items)
+    → new ≡ before ++ reply_with unique rows
+header_set unique before head rows items new start is at long new_is =
+    let joined : items ≡ before ++ (head ++ rows) = is ∙ append_assoc before head rows in
+    let both = length-append before head in
+    let front : take start items ≡ before = ap (take start) joined ∙ take_at before (head ++ rows) start (sym at) in
+    let rest : drop (start + 16) items ≡ rows = ap (drop (start + 16)) is ∙ drop_at (before ++ head) rows (start + 16) (omega arith) in
+    new_is ∙ ap (λ b. b ++ reply_with unique (drop (start + 16) items)) front ∙ ap (λ b. before ++ reply_with unique b) rest
 
 module _ {A : Type 0} (stack : Stacked) (l : Listing A) where
   abbrev bytes_of : NumberedLine → List ℕ
@@ -328,34 +237,6 @@ module _ {A : Type 0} (stack : Stacked) (l : Listing A) where
   -- before the first row nothing is written
   pub none_written : (before : List ℕ) → IsSoFar before l.from before
   none_written before = sym (append-nil before) ∙ ap (λ ls. before ++ flat_map bytes_of ls) (sym (none_before l))
-
-  -- where the row with the index is set next, those before the next index are
-  pub set_next : (index : ℕ) (before now next : List ℕ) (at end : ℕ) → l.from ≤ index → index < 2 + length l.children.now
-      → AreSet stack l before now at index
-      → take end next ≡ take at now ++ row_bytes_at stack l index → end ≡ at + length (row_bytes_at stack l index)
-      → AreSet stack l before next end (index + 1)
-  set_next index before now next at end from there set is place =
-      let w = written stack l index in
-      let r = row_bytes_at stack l index in
-      let one = one_written index from there in
-      let len = ap length one in
-      let sum = length-append w r in
-      let old = set.place in
-      record {
-        so_far = is ∙ ap (λ b. b ++ r) set.so_far ∙ append_assoc before w r ∙ ap (λ b. before ++ b) (sym one);
-        place = omega arith;
-      }
-
-  -- where some rows were set, and the one with the next index is, these are
-  pub sets_next : (from index : ℕ) (old now next : List ℕ) (start at end : ℕ) → l.from ≤ index → index < 2 + length l.children.now
-      → SetsRows stack l from index start at old now → take end next ≡ take at now ++ row_bytes_at stack l index
-      → end ≡ at + length (row_bytes_at stack l index) → end ≤ length next → length next ≡ length now
-      → SetsRows stack l from (index + 1) start end old next
-  sets_next from index old now next start at end first there sets is place within size = record {
-    rows = λ before set. set_next index before now next at end first there (sets.rows before set) is place;
-    within = within;
-    size = size ∙ sets.size;
-  }
 
   -- where a row is appended after those before it, those before the next one are written
   pub row_next : (index : ℕ) (before now next : List ℕ) → l.from ≤ index → index < 2 + length l.children.now

@@ -1,7 +1,8 @@
--- What a call leaves of a vector that it appends to, and of balances.
+-- What a call leaves of replies or of a vector that it appends to, and of balances.
 use Rattle.std.specs.Prelude.{◌≡◌, ℕ, ◌+◌, ◌<◌, ◌≤◌, ◌^◌, ℤ, unsigned_abs, List, ◌++◌, length, Result, OnOk, OnErr, vec_len, vec_capacity}
 use Rattle.std.specs.List.{All}
 use Rattle.std.specs.declared.vec.Vec.{Vec}
+use Rattle.fuse_wire.specs.Appends.{Appends, Filled}
 use Rattle.fuse_wire.specs.Requests.{Asked}
 use Rattle.stack_table.specs.Stacked.{Stacked}
 use Rattle.reply_model.specs.declared.moves.Move.{Move}
@@ -18,13 +19,6 @@ Puts result before after appended =
     × OnErr result (vec_capacity before < vec_len before + length appended)
     × (vec_capacity before ≤ vec_capacity after)
 
--- the call makes room for so many items more; or, where the vector has none for them, it may fail
-abbrev pub MakesRoom : {X A E : Type 0} → Result (Unit {0}) E → Vec X A → Vec X A → ℕ → Type 0
-MakesRoom result before after count =
-    (after.items ≡ before.items) × OnOk result (vec_len before + count ≤ vec_capacity after)
-    × OnErr result (vec_capacity before < vec_len before + count)
-    × (vec_capacity before ≤ vec_capacity after)
-
 -- the call appends exactly these; or, where the vector has no room for them and gets none,
 -- something
 abbrev pub Grows : {X A E : Type 0} → Result (Unit {0}) E → Vec X A → Vec X A → List X → Type 0
@@ -39,10 +33,10 @@ abbrev pub AreSmall : List Move → Type 0
 AreSmall moves = All (λ m. unsigned_abs m.amount ≤ 2 ^ 64) moves
 
 -- the reply to a request over a stack is appended; or, where there is no room for it, nothing
-abbrev pub PutsReply : {A E : Type 0} → Stacked → Session → Asked → Result (Unit {0}) E → Vec ℕ A
-    → Vec ℕ A → Type 0
+abbrev pub PutsReply : {E : Type 0} → Stacked → Session → Asked → Result (Unit {0}) E → Filled
+    → Filled → Type 0
 PutsReply stack s q result before after =
-    Puts result before after (reply stack.layers stack.entries s q)
+    Appends result before after (reply stack.layers stack.entries s q)
 
 -- what a request over a stack moves is appended; or, where there is no room for it, nothing
 abbrev pub PutsMoves : {A E : Type 0} → Stacked → Session → Asked → Result (Unit {0}) E → Vec Move A

@@ -12,7 +12,7 @@ use crate::decide::decide;
 use crate::outcome::Answer;
 use crate::rows::put_rows;
 use crate::write::write;
-use fuse_wire::{Errno, Op, Request, opcode, put_error};
+use fuse_wire::{Errno, Op, Replies, Request, opcode, put_error};
 use reply_model::Session;
 use stack_table::{Guess, Table};
 use std::alloc::{AllocError, Allocator};
@@ -29,12 +29,12 @@ struct InSession<'r, 'b> {
 /// with the data of the answer, or with the error that refuses the request.
 ///
 /// The session is the one before the request ([`after`](crate::after) says the next). `AllocError`
-/// comes only where the vector had no room for the reply and got none; it is then as before.
+/// comes only where there was no room for the reply and none was got; all is then as before.
 pub fn answer<A: Allocator, O: Allocator>(
     table: &Table<A>,
     session: Session,
     request: &Request<'_>,
-    out: &mut Vec<u8, O>,
+    out: &mut Replies<O>,
 ) -> Result<(), AllocError>
     ensures { PutsReply table.now session (asked_of request.now) result out.old out.new }
 {
@@ -53,15 +53,15 @@ pub fn answer<A: Allocator, O: Allocator>(
 /// A guess of the row that a LOOKUP finds ([`Table::guess`]) makes it faster where it is right, and
 /// changes nothing else.
 ///
-/// `AllocError` comes only where the vector had no room for the reply and got none; it and the
-/// balances are then as before.
+/// `AllocError` comes only where there was no room for the reply and none was got; the replies and
+/// the balances are then as before.
 #[inline(always)]
 pub fn answer_and_move<A: Allocator, O: Allocator>(
     table: &Table<A>,
     session: Session,
     request: &Request<'_>,
     guess: Guess,
-    out: &mut Vec<u8, O>,
+    out: &mut Replies<O>,
     balances: &mut [i128],
 ) -> Result<(), AllocError>
     requires { AreWithin (2 ^ 123) balances.old }
@@ -93,7 +93,7 @@ pub fn answer_and_move<A: Allocator, O: Allocator>(
 fn settle<A: Allocator, O: Allocator>(
     table: &Table<A>,
     asked: InSession<'_, '_>,
-    out: &mut Vec<u8, O>,
+    out: &mut Replies<O>,
     balances: &mut [i128],
 ) -> Result<(), AllocError>
     requires { AreWithin (2 ^ 123) balances.old }
@@ -129,7 +129,7 @@ fn tell<A: Allocator, O: Allocator>(
     session: Session,
     request: &Request<'_>,
     decided: &Result<Answer<'_, A>, Errno>,
-    out: &mut Vec<u8, O>,
+    out: &mut Replies<O>,
 ) -> Result<(), AllocError>
     requires { Decides table.now session (asked_of request.now) decided.now }
     ensures { PutsReply table.now session (asked_of request.now) result out.old out.new }

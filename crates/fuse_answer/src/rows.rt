@@ -1,31 +1,23 @@
 //! Rows of a directory as bytes, one after another.
 
-ghost use Rattle.std.specs.Prelude.{◌≡◌, ◌≤◌, ◌<◌, ◌+◌, ◌/◌, ◌^◌, ◌++◌, ◌-◌, length, take, true, None, OnOk, OnErr, nat_lt, if◌then◌else◌, vec_len, vec_capacity, MatchOption, IfSome};
+ghost use Rattle.std.specs.Prelude.{◌≡◌, ◌≤◌, ◌<◌, ◌+◌, ◌/◌, ◌^◌, ◌++◌, ◌-◌, length, true, None, OnOk, OnErr, nat_lt, if◌then◌else◌, IfSome};
 ghost use Rattle.std.specs.Option.{option_map_or};
 ghost use Rattle.fuse_wire.specs.Replies.{reply_with};
-ghost use Rattle.fuse_wire.specs.declared.put.TheConstants.{SHORT_ROW_SIZE};
+ghost use Rattle.fuse_wire.specs.Appends.{Appends, MakesRoom};
 ghost use Rattle.stack_table.specs.Readers.{attr_at};
 ghost use Rattle.fuse_answer.specs.Listings.{IsWhole, IsLineAt, IsPaddedAt, IsRow, listed_data, listed_moves, row_bytes_at, size_of, type_at};
-ghost use Rattle.fuse_answer.specs.Puts.{MakesRoom, Puts};
-ghost use Rattle.fuse_answer.specs.Setting.{AddsGiven, AddsRows, SetsRow, SetsRows};
+ghost use Rattle.fuse_answer.specs.Appending.{PutsShort};
 ghost use Rattle.lookup_balances.specs.Balances.{AreWithin, IsMoved};
 
 use crate::balances::add_row;
 use crate::listing::{Listing, count, fit, fits};
 use fuse_wire::limits::OUT_HEADER_SIZE;
 use fuse_wire::{
-    Attr, Dirent, SHORT_ROW_SIZE, put_data_head, put_dirent, put_direntplus, set_data_head,
-    set_direntplus,
+    Attr, Dirent, Replies, SHORT_ROW_SIZE, put_data_head, put_dirent, put_direntplus,
+    put_short_direntplus, set_data_head,
 };
 use stack_table::Table;
 use std::alloc::{AllocError, Allocator};
-
-/// Zeros over which rows are set.
-const ZEROS: [u8; 1024] = [0; 1024];
-
-/// Over zeros for how many more rows than one rows are set at once: few enough for the zeros to be
-/// in the processor's cache still when the rows are.
-const MORE_AT_ONCE: usize = 46;
 
 /// The names of the first two rows, with zeros behind them.
 const DOT: &[u8; 22] = b".\0\0\0\0\0\0\0\0\0\0\0\0\0\0\0\0\0\0\0\0\0";
@@ -39,12 +31,12 @@ pub(crate) fn put_rows<A: Allocator, O: Allocator>(
     table: &Table<A>,
     unique: u64,
     rows: &Listing<'_, A>,
-    out: &mut Vec<u8, O>,
+    out: &mut Replies<O>,
     balances: &mut [i128],
 ) -> Result<(), AllocError>
     requires whole { IsWhole rows.now }
     requires within { AreWithin (2 ^ 123) balances.old }
-    ensures reply { Puts result out.old out.new
+    ensures reply { Appends result out.old out.new
         (reply_with unique (listed_data table.now rows.now)) }
     ensures moves { OnOk result (IsMoved (listed_moves rows.now) balances.old balances.new) }
     ensures none { OnErr result (balances.new ≡ balances.old) }
@@ -53,9 +45,7 @@ pub(crate) fn put_rows<A: Allocator, O: Allocator>(
     let start = out.len();
     put_data_head(out, unique, 0)?;
     put_listed(table, rows, out, balances)?;
-    let reply = &mut out.as_mut_slice()[start..];
-    let size = reply.len() - OUT_HEADER_SIZE;
-    set_data_head(reply, unique, size);
+    set_data_head(out, start, unique);
     Ok(())
 }
 
@@ -64,14 +54,14 @@ pub(crate) fn put_rows<A: Allocator, O: Allocator>(
 #[inline(always)]
 fn make_room<A: Allocator, O: Allocator>(
     rows: &Listing<'_, A>,
-    out: &mut Vec<u8, O>,
+    out: &mut Replies<O>,
 ) -> Result<(), AllocError>
     requires { IsWhole rows.now }
     ensures { MakesRoom result out.old out.new (16 + size_of rows.now) }
 {
-    if out.capacity() - out.len() < OUT_HEADER_SIZE + rows.room {
+    if out.room_left() < OUT_HEADER_SIZE + rows.room {
         let (_, size) = fit(rows);
-        out.reserve(OUT_HEADER_SIZE + size)?;
+        out.make_room(OUT_HEADER_SIZE + size)?;
     }
     Ok(())
 }
@@ -82,22 +72,18 @@ fn make_room<A: Allocator, O: Allocator>(
 fn put_listed<A: Allocator, O: Allocator>(
     table: &Table<A>,
     rows: &Listing<'_, A>,
-    out: &mut Vec<u8, O>,
+    out: &mut Replies<O>,
     balances: &mut [i128],
 ) -> Result<(), AllocError>
     requires whole { IsWhole rows.now }
-    requires room { vec_len out.old + size_of rows.now ≤ vec_capacity out.old }
+    requires room { length out.old.items + size_of rows.now ≤ out.old.room }
     requires within { AreWithin (2 ^ 123) balances.old }
-    ensures rows { Puts result out.old out.new (listed_data table.now rows.now) }
+    ensures rows { Appends result out.old out.new (listed_data table.now rows.now) }
     ensures moves { OnOk result (IsMoved (listed_moves rows.now) balances.old balances.new) }
 {
     let limit = out.len() + rows.room;
     let mut index = rows.from;
-    while index < count(rows.children) {
-        index = set_rows(table, rows, index, out, limit, balances);
-        if !fits(rows, index, limit - out.len()) {
-            return Ok(());
-        }
+    while fits(rows, index, limit - out.len()) {
         put_row(table, rows, index, out)?;
         add_row(rows, index, balances);
         index += 1;
@@ -105,126 +91,52 @@ fn put_listed<A: Allocator, O: Allocator>(
     Ok(())
 }
 
-// Sets rows of READDIRPLUS from an index on, over zeros and up to a place, adds what they give, and
-// returns the index of the next one: of one with a long name, or of one that has no room before the
-// place or the zeros' end.
+// Appends the row with this index.
 #[inline(always)]
-fn set_rows<A: Allocator, O: Allocator>(
-    table: &Table<A>,
-    rows: &Listing<'_, A>,
-    from: usize,
-    out: &mut Vec<u8, O>,
-    limit: usize,
-    balances: &mut [i128],
-) -> usize
-    requires first { rows.now.from ≤ from }
-    requires there { from < 2 + length rows.now.children.now }
-    requires limit { vec_len out.old ≤ limit }
-    requires within { AreWithin (2 ^ 123 + (from - rows.now.from)) balances.old }
-    ensures from { from ≤ result }
-    ensures there { result ≤ 2 + length rows.now.children.now }
-    ensures items { AddsRows table.now rows.now from result out.old.items out.new.items }
-    ensures limit { vec_len out.new ≤ limit }
-    ensures capacity { vec_capacity out.old ≤ vec_capacity out.new }
-    ensures given { AddsGiven rows.now from result balances.old balances.new }
-{
-    if !rows.with_entries {
-        return from;
-    }
-    let start = out.len();
-    let more = (count(rows.children) - from - 1).min(MORE_AT_ONCE);
-    let wanted = (limit - start).min(more * SHORT_ROW_SIZE) + SHORT_ROW_SIZE;
-    put_zeros(out, wanted.min(out.capacity() - start));
-    let (next, at) = set_over(
-        table,
-        rows,
-        from,
-        out.as_mut_slice(),
-        start,
-        limit,
-        balances,
-    );
-    out.truncate(at);
-    next
-}
-
-// Sets rows of READDIRPLUS from an index on over bytes from a place on, up to one with a long name,
-// to the bytes' end, or to one that would end behind the limit, adds what they give, and returns
-// the index of the next one and its place.
-#[inline(always)]
-fn set_over<A: Allocator>(
-    table: &Table<A>,
-    rows: &Listing<'_, A>,
-    from: usize,
-    bytes: &mut [u8],
-    start: usize,
-    limit: usize,
-    balances: &mut [i128],
-) -> (usize, usize)
-    requires entries { rows.now.with_entries ≡ true }
-    requires first { rows.now.from ≤ from }
-    requires there { from ≤ 2 + length rows.now.children.now }
-    requires start { start ≤ length bytes.old }
-    requires limit { start ≤ limit }
-    requires within { AreWithin (2 ^ 123 + (from - rows.now.from)) balances.old }
-    ensures from { from ≤ result.0 }
-    ensures there { result.0 ≤ 2 + length rows.now.children.now }
-    ensures set { SetsRows table.now rows.now from result.0 start result.1 bytes.old bytes.new }
-    ensures limit { result.1 ≤ limit }
-    ensures given { AddsGiven rows.now from result.0 balances.old balances.new }
-{
-    let mut at = start;
-    let rows_end = count(rows.children);
-    for index in from..rows_end {
-        if bytes.len() - at < SHORT_ROW_SIZE {
-            return (index, at);
-        }
-        match set_row(table, rows, index, bytes, at) {
-            Some(end) if end <= limit => at = end,
-            _ => return (index, at),
-        }
-        add_row(rows, index, balances);
-    }
-    (rows_end, at)
-}
-
-// Appends so many bytes, where there is room for them.
-fn put_zeros<O: Allocator>(out: &mut Vec<u8, O>, count: usize)
-    requires { vec_len out.old + count ≤ vec_capacity out.old }
-    ensures before { take (vec_len out.old) out.new.items ≡ out.old.items }
-    ensures size { vec_len out.new ≡ vec_len out.old + count }
-    ensures capacity { vec_capacity out.old ≤ vec_capacity out.new }
-{
-    let mut left = count;
-    while left > ZEROS.len() {
-        let _ = out.extend_from_slice(&ZEROS);
-        left -= ZEROS.len();
-    }
-    let _ = out.extend_from_slice(&ZEROS[..left]);
-}
-
-// Sets the row of READDIRPLUS with this index at a place, and returns its end; none where its name
-// is long.
-#[inline(always)]
-fn set_row<A: Allocator>(
+fn put_row<A: Allocator, O: Allocator>(
     table: &Table<A>,
     rows: &Listing<'_, A>,
     index: usize,
-    bytes: &mut [u8],
-    at: usize,
-) -> Option<usize>
+    out: &mut Replies<O>,
+) -> Result<(), AllocError>
+    requires there { IsRow rows.now index }
+    requires short { length (row_bytes_at table.now rows.now index) < 2 ^ 32 }
+    ensures { Appends result out.old out.new (row_bytes_at table.now rows.now index) }
+{
+    if rows.with_entries && put_short(table, rows, index, out) {
+        return Ok(());
+    }
+    put_any(table, rows, index, out)
+}
+
+// The same of READDIRPLUS, where the row's name is short and there is room for the most bytes that
+// such a row takes; else it is false, and nothing is appended.
+#[inline(always)]
+fn put_short<A: Allocator, O: Allocator>(
+    table: &Table<A>,
+    rows: &Listing<'_, A>,
+    index: usize,
+    out: &mut Replies<O>,
+) -> bool
     requires there { IsRow rows.now index }
     requires entries { rows.now.with_entries ≡ true }
-    requires room { at + SHORT_ROW_SIZE ≤ length bytes.old }
-    ensures { SetsRow table.now rows.now index at result bytes.old bytes.new }
+    ensures { PutsShort result out.old out.new (row_bytes_at table.now rows.now index) }
 {
-    let padded = padded_at(rows, index)?;
+    let Some(padded) = padded_at(rows, index) else {
+        return false;
+    };
+    if out.room_left() < SHORT_ROW_SIZE {
+        return false;
+    }
     if index < 2 {
         let (row, entry) = row_at(table, rows, index);
-        return Some(set_direntplus(bytes, at, entry.as_ref(), &row, padded));
+        put_short_direntplus(out, entry.as_ref(), &row, padded);
+        return true;
     }
     let (ino, name) = line_at(rows, index);
-    let attr = table.attr(ino)?;
+    let Some(attr) = table.attr(ino) else {
+        return false;
+    };
     let off = index as u64 + 1;
     let row = Dirent {
         ino,
@@ -232,19 +144,20 @@ fn set_row<A: Allocator>(
         file_type: attr.mode / 4096,
         name,
     };
-    Some(set_direntplus(bytes, at, Some(&attr), &row, padded))
+    put_short_direntplus(out, Some(&attr), &row, padded);
+    true
 }
 
-// Appends the row with this index.
-fn put_row<A: Allocator, O: Allocator>(
+// The same of any row.
+fn put_any<A: Allocator, O: Allocator>(
     table: &Table<A>,
     rows: &Listing<'_, A>,
     index: usize,
-    out: &mut Vec<u8, O>,
+    out: &mut Replies<O>,
 ) -> Result<(), AllocError>
     requires there { IsRow rows.now index }
     requires short { length (row_bytes_at table.now rows.now index) < 2 ^ 32 }
-    ensures { Puts result out.old out.new (row_bytes_at table.now rows.now index) }
+    ensures { Appends result out.old out.new (row_bytes_at table.now rows.now index) }
 {
     let (row, entry) = row_at(table, rows, index);
     if rows.with_entries {

@@ -2,12 +2,13 @@
 
 ghost use Rattle.fuse_wire.specs.Replies.{reply_with};
 ghost use Rattle.fuse_answer.specs.Answers.{IsSized, answer_data};
-ghost use Rattle.fuse_answer.specs.Puts.{Puts};
+ghost use Rattle.fuse_wire.specs.Appends.{Appends};
 
 use crate::outcome::Answer;
 use crate::rows::put_rows;
 use fuse_wire::{
-    put_attr, put_data, put_entry, put_head, put_init, put_negative_entry, put_open, put_statfs,
+    Replies, put_attr, put_data, put_entry, put_head, put_init, put_negative_entry, put_open,
+    put_statfs,
 };
 use stack_table::Table;
 use std::alloc::{AllocError, Allocator};
@@ -18,10 +19,10 @@ pub(crate) fn write<A: Allocator, O: Allocator>(
     table: &Table<A>,
     unique: u64,
     answer: &Answer<'_, A>,
-    out: &mut Vec<u8, O>,
+    out: &mut Replies<O>,
 ) -> Result<(), AllocError>
     requires { IsSized table.now answer.now }
-    ensures { Puts result out.old out.new (reply_with unique (answer_data table.now answer.now)) }
+    ensures { Appends result out.old out.new (reply_with unique (answer_data table.now answer.now)) }
 {
     match answer {
         Answer::Done | Answer::Forgotten(_) | Answer::AllForgotten(_) => put_head(out, unique),

@@ -4,6 +4,7 @@ pub mod FlagBits
 pub mod Names
 pub mod Sizes
 pub mod Padding
+pub mod Heads
 pub mod Items
 pub mod Bodies
 pub mod Computing

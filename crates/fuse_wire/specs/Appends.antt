@@ -1,12 +1,23 @@
--- What a call leaves of a vector that it appends to.
-use Rattle.std.specs.Prelude.{◌≡◌, ℕ, ◌+◌, ◌<◌, ◌≤◌, List, ◌++◌, length, Result, OnOk, OnErr, vec_len, vec_capacity}
-use Rattle.std.specs.declared.vec.Vec.{Vec}
+-- Replies that stand one after another, and what calls leave of them.
+use Rattle.std.specs.Prelude.{◌≡◌, ℕ, ◌+◌, ◌<◌, ◌≤◌, List, ◌++◌, length, Result, OnOk, OnErr}
 
--- the call appends exactly these bytes; or, where the vector has no room for them and gets none,
+-- the bytes of replies, and for how many in all there is room
+pub record Filled : Type 0 where
+  pub items : List ℕ
+  pub room : ℕ
+
+-- the call appends exactly these bytes; or, where there is no room for them and none is got,
 -- nothing
-abbrev pub Appends : {A E : Type 0} → Result (Unit {0}) E → Vec ℕ A → Vec ℕ A → List ℕ → Type 0
+abbrev pub Appends : {E : Type 0} → Result (Unit {0}) E → Filled → Filled → List ℕ → Type 0
 Appends result before after bytes =
     OnOk result (after.items ≡ before.items ++ bytes)
     × OnErr result (after.items ≡ before.items)
-    × OnErr result (vec_capacity before < vec_len before + length bytes)
-    × (vec_capacity before ≤ vec_capacity after)
+    × OnErr result (before.room < length before.items + length bytes)
+    × (before.room ≤ after.room)
+
+-- the call makes room for so many bytes more; or, where there is none for them, it may fail
+abbrev pub MakesRoom : {E : Type 0} → Result (Unit {0}) E → Filled → Filled → ℕ → Type 0
+MakesRoom result before after count =
+    (after.items ≡ before.items) × OnOk result (length before.items + count ≤ after.room)
+    × OnErr result (before.room < length before.items + count)
+    × (before.room ≤ after.room)

@@ -1,13 +1,13 @@
 //! Messages of the FUSE kernel protocol, version 7.31 (linux/fuse.h), as bytes, in little-endian.
 //!
 //! [`frame`] cuts a stream into messages, and [`Request::read`] says what one asks, for every
-//! opcode. [`put_head`] and its like append a whole reply each; a READDIR's is written row by row,
-//! [`put_data_head`] and then [`put_dirent`] or [`put_direntplus`], or [`set_data_head`] and
-//! [`set_direntplus`] over bytes that stand. Definitions in `specs/` restate the protocol; [`laws`]
-//! says that a stream is cut in one way, [`examples`] what each opcode asks. Framing and reading
-//! take no memory, and a few steps for each byte; names are borrowed. What appends asks for memory
-//! at most once, for the vector's growth, and leaves it as it was where that is refused; where
-//! there is room nothing fails. The crate stands on `node_attr`, `byteorder`, `memchr`.
+//! opcode. [`put_head`] and its like append a whole reply each to [`Replies`]; a READDIR's is
+//! written row by row, [`put_data_head`] and then [`put_dirent`] or [`put_direntplus`], and its
+//! length last, by [`set_data_head`]. Definitions in `specs/` restate the protocol; [`laws`] says
+//! that a stream is cut in one way, [`examples`] what each opcode asks. Framing and reading take no
+//! memory, and a few steps for each byte; names are borrowed. What appends asks for memory at most
+//! once, for the replies' growth, and leaves them as they were where that is refused; where there
+//! is room nothing fails. The crate stands on `node_attr`, `byteorder`, `memchr`.
 #![tactic(auto)]
 
 mod body;
@@ -20,6 +20,7 @@ pub mod laws;
 pub mod limits;
 pub mod opcode;
 mod put;
+mod replies;
 pub mod reply;
 pub mod request;
 mod structure;
@@ -31,8 +32,9 @@ pub use framing::{Framed, frame};
 pub use node_attr::Attr;
 pub use put::{
     SHORT_ROW_SIZE, dirent_size, put_attr, put_data, put_data_head, put_dirent, put_direntplus,
-    put_entry, put_error, put_head, put_init, put_negative_entry, put_open, put_statfs,
-    set_data_head, set_direntplus,
+    put_entry, put_error, put_head, put_init, put_negative_entry, put_open, put_short_direntplus,
+    put_statfs, set_data_head,
 };
+pub use replies::Replies;
 pub use reply::{Dirent, InitOut};
 pub use request::{Op, Request, glance};

@@ -2,7 +2,7 @@
 //! for them and gets none, it is as before.
 #![tactic(auto, unfolding(crate::specs::Replies::reply_with), using(crate::proofs::Sizes::sizes))]
 
-ghost use Rattle.std.specs.Prelude.{◌≡◌, ◌++◌, ◌<◌, ◌≤◌, ◌+◌, ◌-◌, ◌^◌, [], length, take, drop, vec_len, vec_capacity};
+ghost use Rattle.std.specs.Prelude.{◌≡◌, ◌++◌, ◌<◌, ◌≤◌, ◌+◌, ◌-◌, ◌^◌, [], length, take, drop, vec_len};
 ghost use Rattle.std.specs.Option.{option_copied, option_map_or};
 ghost use Rattle.fuse_wire.specs.Structures.{zeros, init_out, entry_out, negative_entry_out, attr_out, open_out, statfs_out, dirent_size, padding, row_bytes, plus_row_bytes};
 ghost use Rattle.fuse_wire.specs.Replies.{reply_head, reply_with, error_reply};
@@ -10,6 +10,7 @@ ghost use Rattle.fuse_wire.specs.Appends.{Appends};
 ghost use Rattle.fuse_wire.specs.declared.put.TheConstants.{DIRENT_FRONT_SIZE, SHORT_ROW_SIZE};
 
 use crate::limits::OUT_HEADER_SIZE;
+use crate::replies::{Replies, clear_behind};
 use crate::structure::{set_bytes, set_zeros};
 use crate::structures::{
     ATTR_OUT_SIZE, COMPAT_22_INIT_OUT_SIZE, ENTRY_OUT_SIZE, INIT_OUT_SIZE, OPEN_OUT_SIZE,
@@ -30,7 +31,7 @@ pub const SHORT_ROW_SIZE: usize = 176;
 const PADDING: [u8; 8] = [0; 8];
 
 /// Appends a reply without data: a `struct fuse_out_header` of 16 bytes alone, with no error.
-pub fn put_head<A: Allocator>(out: &mut Vec<u8, A>, unique: u64) -> Result<(), AllocError>
+pub fn put_head<A: Allocator>(out: &mut Replies<A>, unique: u64) -> Result<(), AllocError>
     ensures { Appends result out.old out.new (reply_with unique []) }
 {
     put_data_head(out, unique, 0)
@@ -39,7 +40,7 @@ pub fn put_head<A: Allocator>(out: &mut Vec<u8, A>, unique: u64) -> Result<(), A
 /// Appends the header of a reply with `size` bytes of data, which are to follow: a
 /// `struct fuse_out_header` of 16 bytes, with no error.
 pub fn put_data_head<A: Allocator>(
-    out: &mut Vec<u8, A>,
+    out: &mut Replies<A>,
     unique: u64,
     size: usize,
 ) -> Result<(), AllocError>
@@ -48,24 +49,28 @@ pub fn put_data_head<A: Allocator>(
 {
     let mut reply = [0; OUT_HEADER_SIZE];
     let end = head(&mut reply, 0, unique, size);
-    out.extend_from_slice(&reply[..end])
+    out.append(&reply[..end])
 }
 
-/// Sets the header of a reply with `size` bytes of data over the first 16 bytes of a reply that
-/// stands already, and leaves those behind it.
+/// Sets the header of the last reply, which begins at this place: it tells how many bytes of data
+/// stand behind it, and no error.
 #[inline(always)]
-pub fn set_data_head(reply: &mut [u8], unique: u64, size: usize)
-    requires room { 16 ≤ length reply.old }
-    requires size { 16 + size < 2 ^ 32 }
-    ensures { reply.new ≡ reply_head unique size ++ drop 16 reply.old }
+pub fn set_data_head<A: Allocator>(out: &mut Replies<A>, start: usize, unique: u64)
+    requires there { start + 16 ≤ length out.old.items }
+    requires size { length out.old.items < start + 2 ^ 32 }
+    ensures items { out.new.items ≡ take start out.old.items
+        ++ reply_with unique (drop (start + 16) out.old.items) }
+    ensures room { out.new.room ≡ out.old.room }
 {
-    let _ = head(&mut reply[..OUT_HEADER_SIZE], 0, unique, size);
+    let size = out.len - start - OUT_HEADER_SIZE;
+    let front = &mut out.bytes.as_mut_slice()[start..start + OUT_HEADER_SIZE];
+    let _ = head(front, 0, unique, size);
 }
 
 /// Appends the reply of an error: a `struct fuse_out_header` of 16 bytes alone, with the negated
 /// number.
 pub fn put_error<A: Allocator>(
-    out: &mut Vec<u8, A>,
+    out: &mut Replies<A>,
     unique: u64,
     errno: Errno,
 ) -> Result<(), AllocError>
@@ -73,12 +78,12 @@ pub fn put_error<A: Allocator>(
 {
     let mut reply = [0; OUT_HEADER_SIZE];
     let end = error_head(&mut reply, 0, unique, errno);
-    out.extend_from_slice(&reply[..end])
+    out.append(&reply[..end])
 }
 
 /// Appends a reply with these bytes of data behind its header, in one growth.
 pub fn put_data<A: Allocator>(
-    out: &mut Vec<u8, A>,
+    out: &mut Replies<A>,
     unique: u64,
     bytes: &[u8],
 ) -> Result<(), AllocError>
@@ -93,7 +98,7 @@ pub fn put_data<A: Allocator>(
 /// Appends the reply to an INIT that is not refused (`struct fuse_init_out`): 80 bytes, or 40 where
 /// the client speaks a minor version below 23.
 pub fn put_init<A: Allocator>(
-    out: &mut Vec<u8, A>,
+    out: &mut Replies<A>,
     unique: u64,
     init: &InitOut,
 ) -> Result<(), AllocError>
@@ -102,7 +107,7 @@ pub fn put_init<A: Allocator>(
     let mut reply = [0; OUT_HEADER_SIZE + INIT_OUT_SIZE];
     let at = head(&mut reply, 0, unique, init_out_size(init));
     let end = init_out(&mut reply, at, init);
-    out.extend_from_slice(&reply[..end])
+    out.append(&reply[..end])
 }
 
 // The size of the answer to an INIT.
@@ -118,7 +123,7 @@ fn init_out_size(init: &InitOut) -> usize
 
 /// Appends the reply that names a node, of 144 bytes (`struct fuse_entry_out`).
 pub fn put_entry<A: Allocator>(
-    out: &mut Vec<u8, A>,
+    out: &mut Replies<A>,
     unique: u64,
     node: &Attr,
 ) -> Result<(), AllocError>
@@ -127,23 +132,23 @@ pub fn put_entry<A: Allocator>(
     let mut reply = [0; OUT_HEADER_SIZE + ENTRY_OUT_SIZE];
     let at = head(&mut reply, 0, unique, ENTRY_OUT_SIZE);
     let end = entry_out(&mut reply, at, node);
-    out.extend_from_slice(&reply[..end])
+    out.append(&reply[..end])
 }
 
 /// Appends the reply that a name is none, of 144 bytes (`struct fuse_entry_out`, with a nodeid of
 /// 0): for an hour the client need not ask for it again.
-pub fn put_negative_entry<A: Allocator>(out: &mut Vec<u8, A>, unique: u64) -> Result<(), AllocError>
+pub fn put_negative_entry<A: Allocator>(out: &mut Replies<A>, unique: u64) -> Result<(), AllocError>
     ensures { Appends result out.old out.new (reply_with unique negative_entry_out) }
 {
     let mut reply = [0; OUT_HEADER_SIZE + ENTRY_OUT_SIZE];
     let at = head(&mut reply, 0, unique, ENTRY_OUT_SIZE);
     let end = negative_entry_out(&mut reply, at);
-    out.extend_from_slice(&reply[..end])
+    out.append(&reply[..end])
 }
 
 /// Appends the reply with a node's attributes, of 120 bytes (`struct fuse_attr_out`).
 pub fn put_attr<A: Allocator>(
-    out: &mut Vec<u8, A>,
+    out: &mut Replies<A>,
     unique: u64,
     node: &Attr,
 ) -> Result<(), AllocError>
@@ -152,14 +157,14 @@ pub fn put_attr<A: Allocator>(
     let mut reply = [0; OUT_HEADER_SIZE + ATTR_OUT_SIZE];
     let at = head(&mut reply, 0, unique, ATTR_OUT_SIZE);
     let end = attr_out(&mut reply, at, node);
-    out.extend_from_slice(&reply[..end])
+    out.append(&reply[..end])
 }
 
 /// Appends the reply to an OPEN or OPENDIR, of 32 bytes (`struct fuse_open_out`), with handle 0 and
 /// these flags ([`FOPEN_KEEP_CACHE`](crate::flags::FOPEN_KEEP_CACHE),
 /// [`FOPEN_CACHE_DIR`](crate::flags::FOPEN_CACHE_DIR), both or none).
 pub fn put_open<A: Allocator>(
-    out: &mut Vec<u8, A>,
+    out: &mut Replies<A>,
     unique: u64,
     open_flags: u32,
 ) -> Result<(), AllocError>
@@ -168,13 +173,13 @@ pub fn put_open<A: Allocator>(
     let mut reply = [0; OUT_HEADER_SIZE + OPEN_OUT_SIZE];
     let at = head(&mut reply, 0, unique, OPEN_OUT_SIZE);
     let end = open_out(&mut reply, at, open_flags);
-    out.extend_from_slice(&reply[..end])
+    out.append(&reply[..end])
 }
 
 /// Appends the reply to a STATFS, of 96 bytes (`struct fuse_statfs_out`): all blocks of 512 bytes,
 /// none free, and the number of nodes.
 pub fn put_statfs<A: Allocator>(
-    out: &mut Vec<u8, A>,
+    out: &mut Replies<A>,
     unique: u64,
     blocks: u64,
     files: u64,
@@ -184,7 +189,7 @@ pub fn put_statfs<A: Allocator>(
     let mut reply = [0; OUT_HEADER_SIZE + STATFS_OUT_SIZE];
     let at = head(&mut reply, 0, unique, STATFS_OUT_SIZE);
     let end = statfs_out(&mut reply, at, blocks, files);
-    out.extend_from_slice(&reply[..end])
+    out.append(&reply[..end])
 }
 
 /// The bytes of a row of READDIR whose name has this many bytes (`FUSE_DIRENT_SIZE`), a multiple of
@@ -201,7 +206,7 @@ pub fn dirent_size(name_len: usize) -> usize
 /// of 8.
 #[tactic(auto, unfolding(crate::specs::Structures::dirent), using(crate::proofs::Sizes::sizes))]
 #[inline(always)]
-pub fn put_dirent<A: Allocator>(out: &mut Vec<u8, A>, row: &Dirent<'_>) -> Result<(), AllocError>
+pub fn put_dirent<A: Allocator>(out: &mut Replies<A>, row: &Dirent<'_>) -> Result<(), AllocError>
     requires { length row.now.name.now < 2 ^ 32 }
     ensures { Appends result out.old out.new (row_bytes row.now) }
 {
@@ -214,7 +219,7 @@ pub fn put_dirent<A: Allocator>(out: &mut Vec<u8, A>, row: &Dirent<'_>) -> Resul
 /// and `..`, which have none, and the row of READDIR.
 #[inline(always)]
 pub fn put_direntplus<A: Allocator>(
-    out: &mut Vec<u8, A>,
+    out: &mut Replies<A>,
     entry: Option<&Attr>,
     row: &Dirent<'_>,
 ) -> Result<(), AllocError>
@@ -227,12 +232,34 @@ pub fn put_direntplus<A: Allocator>(
     put_row(out, &front[..end], row.name)
 }
 
-/// Sets a row of READDIRPLUS over bytes that stand already, from a place on, and returns where it
-/// ends. Its name has at most 22 bytes, and comes also with zeros behind it, up to 22; of the
-/// [`SHORT_ROW_SIZE`] bytes that are set those behind the end say nothing.
+/// Appends a row of READDIRPLUS whose name has at most 22 bytes, and comes also with zeros behind
+/// it, up to 22, where there is room for [`SHORT_ROW_SIZE`] bytes: nothing fails.
+#[inline(always)]
+pub fn put_short_direntplus<A: Allocator>(
+    out: &mut Replies<A>,
+    entry: Option<&Attr>,
+    row: &Dirent<'_>,
+    padded: &[u8; 22],
+)
+    requires room { length out.old.items + SHORT_ROW_SIZE ≤ out.old.room }
+    requires short { length row.now.name.now ≤ 22 }
+    requires padded { padded.now ≡ row.now.name.now ++ zeros (22 - length row.now.name.now) }
+    ensures items { out.new.items
+        ≡ out.old.items ++ plus_row_bytes (option_copied entry.entry) row.now }
+    ensures room { out.old.room ≤ out.new.room }
+{
+    let missing = SHORT_ROW_SIZE.saturating_sub(out.bytes.len() - out.len);
+    if 0 < missing {
+        clear_behind(&mut out.bytes, missing);
+    }
+    out.len = set_direntplus(out.bytes.as_mut_slice(), out.len, entry, row, padded);
+}
+
+// Sets such a row over bytes that stand already, from a place on, and returns where it ends. Of the
+// bytes that are set those behind the end say nothing.
 #[tactic(auto, unfolding(crate::specs::Structures::dirent), using(crate::proofs::Sizes::sizes))]
 #[inline(always)]
-pub fn set_direntplus(
+fn set_direntplus(
     bytes: &mut [u8],
     at: usize,
     entry: Option<&Attr>,
@@ -245,7 +272,7 @@ pub fn set_direntplus(
     ensures row { take result bytes.new
         ≡ take at bytes.old ++ plus_row_bytes (option_copied entry.entry) row.now }
     ensures size { length bytes.new ≡ length bytes.old }
-    ensures end { result ≡ at + (128 + dirent_size (length row.now.name.now)) }
+    ensures end { result ≤ at + SHORT_ROW_SIZE }
 {
     let at = entry_or_zeros(bytes, at, entry);
     let end = at + dirent_size(row.name.len());
@@ -273,35 +300,54 @@ fn entry_or_zeros(fields: &mut [u8], at: usize, entry: Option<&Attr>) -> usize
 // Appends the front of a row, its name, and zeros.
 #[tactic(auto, using(crate::proofs::Padding::padding_is))]
 #[inline(always)]
-fn put_row<A: Allocator>(out: &mut Vec<u8, A>, front: &[u8], name: &[u8]) -> Result<(), AllocError>
+fn put_row<A: Allocator>(out: &mut Replies<A>, front: &[u8], name: &[u8]) -> Result<(), AllocError>
     requires front { length front.now ≤ 152 }
     requires name { length name.now < 2 ^ 32 }
     ensures { Appends result out.old out.new (front.now ++ name.now ++ padding (length name.now)) }
 {
     let padding = padding(name.len());
-    if out.capacity() - out.len() < front.len() + name.len() + PADDING.len() {
+    if out.room_left() < front.len() + name.len() + PADDING.len() {
         return put_three(out, front, name, &PADDING[..padding]);
     }
     put_in_room(out, front, name, padding);
     Ok(())
 }
 
-// The same, where there is room for more zeros than are wanted: eight are written at once, and cut
-// to these.
-#[tactic(auto, using(crate::proofs::Padding::cut_to))]
+// The same, where there is room for more zeros than are wanted: eight are set at once, and cut to
+// these.
 #[inline(always)]
-fn put_in_room<A: Allocator>(out: &mut Vec<u8, A>, front: &[u8], name: &[u8], padding: usize)
+fn put_in_room<A: Allocator>(out: &mut Replies<A>, front: &[u8], name: &[u8], padding: usize)
     requires few { padding ≤ 8 }
-    requires room { vec_len out.old + length front.now + length name.now + 8
-        ≤ vec_capacity out.old }
+    requires front { length front.now ≤ 152 }
+    requires name { length name.now < 2 ^ 32 }
+    requires room { length out.old.items + length front.now + length name.now + 8
+        ≤ out.old.room }
     ensures items { out.new.items ≡ out.old.items ++ front.now ++ name.now ++ zeros padding }
-    ensures capacity { vec_capacity out.old ≤ vec_capacity out.new }
+    ensures room { out.old.room ≤ out.new.room }
 {
-    let _ = out.extend_from_slice(front);
-    let _ = out.extend_from_slice(name);
-    let end = out.len() + padding;
-    let _ = out.extend_from_slice(&PADDING);
-    out.truncate(end);
+    let wanted = front.len() + name.len() + PADDING.len();
+    let missing = wanted.saturating_sub(out.bytes.len() - out.len);
+    if 0 < missing {
+        clear_behind(&mut out.bytes, missing);
+    }
+    out.len = set_padded(out.bytes.as_mut_slice(), out.len, front, name, padding);
+}
+
+// Sets the front of a row, its name, and zeros over bytes that stand already, and returns where
+// they end.
+#[inline(always)]
+fn set_padded(bytes: &mut [u8], at: usize, front: &[u8], name: &[u8], padding: usize) -> usize
+    requires few { padding ≤ 8 }
+    requires room { at + (length front.now + length name.now + 8) ≤ length bytes.old }
+    ensures row { take result bytes.new
+        ≡ take at bytes.old ++ front.now ++ name.now ++ zeros padding }
+    ensures size { length bytes.new ≡ length bytes.old }
+    ensures end { result ≡ at + (length front.now + length name.now + padding) }
+{
+    let at = set_bytes(bytes, at, front);
+    let at = set_bytes(bytes, at, name);
+    let _ = set_zeros::<8>(bytes, at);
+    at + padding
 }
 
 // How many zeros stand behind a name of this many bytes.
@@ -318,7 +364,7 @@ fn padding(name_len: usize) -> usize
 #[tactic(auto)]
 #[inline(always)]
 fn put_three<A: Allocator>(
-    out: &mut Vec<u8, A>,
+    out: &mut Replies<A>,
     first: &[u8],
     second: &[u8],
     third: &[u8],
@@ -326,9 +372,9 @@ fn put_three<A: Allocator>(
     requires { length first.now + length second.now + length third.now < 2 ^ 33 }
     ensures { Appends result out.old out.new (first.now ++ second.now ++ third.now) }
 {
-    out.reserve(first.len() + second.len() + third.len())?;
-    let _ = out.extend_from_slice(first);
-    let _ = out.extend_from_slice(second);
-    let _ = out.extend_from_slice(third);
+    out.make_room(first.len() + second.len() + third.len())?;
+    let _ = out.append(first);
+    let _ = out.append(second);
+    let _ = out.append(third);
     Ok(())
 }

@@ -2,6 +2,7 @@
 -- have those of joined hands (`both_all`), and of the last hand each number once. So `every_batch`
 -- answers all, and `rounds` makes a round of it.
 use Rattle.std.proofs.Common.{◌≡◌, ℕ, zero, suc, nat_lt, cond, lt-ltb, le-ltb, lt_of_not-le, append-nil, Option, Some, None, ◌^◌, ◌+◌, ◌*◌, ◌<◌, ◌≤◌, max, List, [], ◌∷◌, ◌++◌, length, drop, sym, ap, subst, ◌∙◌, arith, Result, Ok, Err, IfOk, Vec}
+use Rattle.fuse_wire.specs.Appends.{Filled}
 use Rattle.std.specs.List.{All, flat_map, range_with_len}
 use mathlib.Core.Logic.{dite}
 use native.Mathlib.Decide.{dec_le}
@@ -144,7 +145,7 @@ module _ {A : Type 0} where
         → js ≡ batch_of size piece.number jobs
         → piece.bytes ≡ rounded.bytes → piece.moves ≡ rounded.moves → IsPiece stack jobs size piece
     piece_of rounded piece js told is bytes moves = record {
-      replies = ap (λ (v : Vec ℕ A). v.items) bytes ∙ told.replies ∙ ap (flat_map (reply_to stack)) is;
+      replies = ap (λ (v : Filled). v.items) bytes ∙ told.replies ∙ ap (flat_map (reply_to stack)) is;
       sums = subst (λ (v : Vec Move A). AreSums (flat_map (moved_by stack) (batch_of size piece.number jobs)) v.items) (sym moves)
           (subst (λ (bs : List Job). AreSums (flat_map (moved_by stack) bs) rounded.moves.items) is told.sums);
     }

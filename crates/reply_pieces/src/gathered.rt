@@ -11,6 +11,7 @@ ghost use Rattle.reply_pieces.specs.Batches.{AreEachOnce, AreLight};
 ghost use Rattle.reply_pieces.specs.Spread.{SpreadsOut};
 
 use crate::pieces::{Piece, sort_by_number};
+use fuse_wire::Replies;
 use lookup_balances::add_moves;
 use serve_loop::Round;
 use std::alloc::{AllocError, Allocator};
@@ -33,7 +34,7 @@ pub trait Gathered {
     /// Appends the replies, and adds what they move to the balances.
     fn append<A: Allocator>(
         self,
-        replies: &mut Vec<u8, A>,
+        replies: &mut Replies<A>,
         balances: &mut [i128],
     ) -> Result<Round, AllocError>
         requires whole { whole self }
@@ -52,7 +53,7 @@ impl<A: Allocator> Gathered for RoundPieces<A> {
 
     fn append<B: Allocator>(
         self,
-        replies: &mut Vec<u8, B>,
+        replies: &mut Replies<B>,
         balances: &mut [i128],
     ) -> Result<Round, AllocError> {
         let RoundPieces { round, mut pieces } = self;
@@ -65,7 +66,7 @@ impl<A: Allocator> Gathered for RoundPieces<A> {
 // Appends the bytes of pieces one after another, and adds what they move to balances.
 fn append_all<A: Allocator, B: Allocator>(
     pieces: &[Piece<A>],
-    replies: &mut Vec<u8, B>,
+    replies: &mut Replies<B>,
     balances: &mut [i128],
 ) -> Result<(), AllocError>
     requires light { weight (flat_map (λ piece. piece.moves.items) pieces.now) ≤ 2 ^ 112 }
@@ -76,7 +77,7 @@ fn append_all<A: Allocator, B: Allocator>(
         balances.old balances.new) }
 {
     for piece in pieces {
-        replies.extend_from_slice(&piece.bytes)?;
+        replies.append(piece.bytes.as_slice())?;
         add_moves(balances, &piece.moves);
     }
     Ok(())

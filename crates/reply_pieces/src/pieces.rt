@@ -7,6 +7,7 @@ ghost use Rattle.reply_pieces.specs.Batches.{AreEachOnce, AreLight, AreOrdered, 
 ghost use Rattle.reply_pieces.specs.Sums.{AreSums};
 
 use crate::by_node::sums;
+use fuse_wire::Replies;
 use reply_model::Move;
 use std::alloc::{AllocError, Allocator};
 
@@ -14,7 +15,7 @@ use std::alloc::{AllocError, Allocator};
 #[derive(Drop)]
 pub struct Rounded<A: Allocator> {
     /// The replies in the order of the jobs, one after another.
-    pub bytes: Vec<u8, A>,
+    pub bytes: Replies<A>,
     /// How many lookups of each node the round gives, less those that it takes: in ascending order
     /// of nodes, each node once, and none with 0.
     pub moves: Vec<Move, A>,
@@ -26,7 +27,7 @@ pub struct Piece<A: Allocator> {
     /// The number of the batch.
     pub number: u32,
     /// The replies to its jobs, one after another.
-    pub bytes: Vec<u8, A>,
+    pub bytes: Replies<A>,
     /// How many lookups of each node its jobs give, less those that they take: in ascending order
     /// of nodes, each node once, and none with 0.
     pub moves: Vec<Move, A>,
@@ -61,10 +62,10 @@ fn join_pieces<A: Allocator + Copy>(alloc: A, pieces: &[Piece<A>]) -> Result<Rou
     ensures moves { IfOk result (λ rounded.
         AreSums (flat_map (λ piece. piece.moves.items) pieces.now) rounded.moves.items) }
 {
-    let mut bytes = Vec::new(alloc);
+    let mut bytes = Replies::new(alloc);
     let mut moves = Vec::new(alloc);
     for piece in pieces {
-        bytes.extend_from_slice(&piece.bytes)?;
+        bytes.append(piece.bytes.as_slice())?;
         moves.extend_from_slice(&piece.moves)?;
     }
     let moves = sums(alloc, moves)?;

@@ -8,7 +8,7 @@ ghost use Rattle.lookup_balances.specs.Balances.{weight};
 ghost use Rattle.reply_pieces.specs.Jobs.{HasFewItems, IsRounded, moved_by, reply_to};
 
 use fuse_answer::{answer, moves};
-use fuse_wire::{Op, Request};
+use fuse_wire::{Op, Replies, Request};
 use reply_model::{Move, Session};
 use reply_pieces::{Rounded, sums};
 use stack_table::Table;
@@ -24,7 +24,7 @@ pub(crate) fn answer_jobs<A: Allocator, B: Allocator + Copy>(
     ensures rounded { IfOk result (λ rounded. IsRounded table.now jobs.now rounded) }
     ensures light { IfOk result (λ rounded. weight rounded.moves.items ≤ 2 ^ 104) }
 {
-    let mut bytes = Vec::new(alloc);
+    let mut bytes = Replies::new(alloc);
     let mut moved = Vec::new(alloc);
     for job in jobs {
         answer_job(table, job, &mut bytes, &mut moved)?;
@@ -37,7 +37,7 @@ pub(crate) fn answer_jobs<A: Allocator, B: Allocator + Copy>(
 fn answer_job<A: Allocator, B: Allocator>(
     table: &Table<A>,
     job: &(Session, Request<'_>),
-    bytes: &mut Vec<u8, B>,
+    bytes: &mut Replies<B>,
     moved: &mut Vec<Move, B>,
 ) -> Result<(), AllocError>
     ensures reply { OnOk result (bytes.new.items ≡ bytes.old.items ++ reply_to table.now job.now) }

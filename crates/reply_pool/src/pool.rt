@@ -9,7 +9,7 @@ ghost use Rattle.reply_pieces.specs.Answers.{answering};
 ghost use Rattle.reply_pieces.specs.Spread.{IsSpreadable};
 
 use fuse_answer::{after, answer_and_move};
-use fuse_wire::Request;
+use fuse_wire::{Replies, Request};
 use reply_model::Session;
 use reply_pieces::Gathered;
 use round_plan::{LookupsAhead, Plan, pass_batch, worth_workers};
@@ -89,7 +89,7 @@ impl<'r, A: Allocator, G: Gate> AnswersOne for OneRound<'r, A, G> {
         number: u32,
         session: Session,
         message: &[u8],
-        replies: &mut Vec<u8, B>,
+        replies: &mut Replies<B>,
         balances: &mut [i128],
     ) -> Result<Session, AllocError> {
         pass_batch(self.gate, self.plan, number);
@@ -136,7 +136,7 @@ impl<
         _alloc: B,
         stream: &[u8],
         session: Session,
-        replies: &mut Vec<u8, B>,
+        replies: &mut Replies<B>,
         balances: &mut [i128],
     ) -> Result<Round, AllocError> {
         if let Some(messages) = self.worth(stream, session) {

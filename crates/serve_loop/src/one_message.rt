@@ -6,6 +6,7 @@ ghost use Rattle.reply_model.specs.declared.session.Session.{Session};
 ghost use Rattle.lookup_balances.specs.Balances.{AreWithin};
 ghost use Rattle.serve_loop.specs.Rounds.{Answering, change, AppendsAnswer};
 
+use fuse_wire::Replies;
 use reply_model::Session;
 use std::alloc::{AllocError, Allocator};
 
@@ -26,7 +27,7 @@ pub trait AnswersOne {
         number: u32,
         session: Session,
         message: &[u8],
-        replies: &mut Vec<u8, A>,
+        replies: &mut Replies<A>,
         balances: &mut [i128],
     ) -> Result<Session, AllocError>
         requires message { IsMessage message.now }

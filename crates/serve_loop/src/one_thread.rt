@@ -7,7 +7,7 @@ ghost use Rattle.serve_loop.specs.Rounds.{change, AppendsRound};
 use crate::one_message::AnswersOne;
 use crate::round::Round;
 use fuse_wire::limits::{ENOUGH_REPLIES, MAX_ROUND_MESSAGES};
-use fuse_wire::{Framed, frame};
+use fuse_wire::{Framed, Replies, frame};
 use reply_model::Session;
 use std::alloc::{AllocError, Allocator};
 
@@ -20,7 +20,7 @@ pub fn walk<T: AnswersOne, A: Allocator>(
     answers: &T,
     stream: &[u8],
     session: Session,
-    replies: &mut Vec<u8, A>,
+    replies: &mut Replies<A>,
     balances: &mut [i128],
 ) -> Result<Round, AllocError>
     requires nodes { length balances.old ≡ T.nodes answers.now }

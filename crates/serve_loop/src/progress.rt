@@ -6,6 +6,7 @@ ghost use Rattle.serve_loop.specs.Steps.{serving_state, beginning};
 
 use crate::buffer::Buffer;
 use crate::done::Done;
+use fuse_wire::Replies;
 use fuse_wire::limits::{ENOUGH_REPLIES, MAX_REPLY_SIZE};
 use reply_model::Session;
 use std::alloc::{AllocError, Allocator};
@@ -29,7 +30,7 @@ pub(crate) struct Progress<A: Allocator> {
     // What they gave to each node, less what they took.
     pub balances: Vec<i128, A>,
     // Room for the replies of one round.
-    pub replies: Vec<u8, A>,
+    pub replies: Replies<A>,
 }
 
 impl<A: Allocator + Copy> Progress<A> {
@@ -45,7 +46,7 @@ impl<A: Allocator + Copy> Progress<A> {
             messages: 0,
             written: 0,
             balances: vec![in alloc; 0i128; nodes as usize]?,
-            replies: Vec::with_capacity(alloc, REPLIES_ROOM)?,
+            replies: Replies::with_capacity(alloc, REPLIES_ROOM)?,
         })
     }
 }

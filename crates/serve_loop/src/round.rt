@@ -5,6 +5,7 @@ ghost use Rattle.reply_model.specs.declared.session.Session.{Session};
 ghost use Rattle.lookup_balances.specs.Balances.{AreWithin};
 ghost use Rattle.serve_loop.specs.Rounds.{Answering, change, AppendsRound};
 
+use fuse_wire::Replies;
 use reply_model::Session;
 use std::alloc::{AllocError, Allocator};
 use std::thread::Threads;
@@ -49,7 +50,7 @@ pub trait Rounds {
         alloc: A,
         stream: &[u8],
         session: Session,
-        replies: &mut Vec<u8, A>,
+        replies: &mut Replies<A>,
         balances: &mut [i128],
     ) -> Result<Round, AllocError>
         requires ready { ready self.now }

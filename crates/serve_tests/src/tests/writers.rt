@@ -2,8 +2,9 @@
 //! call goes through.
 
 use fuse_wire::{
-    Attr, Dirent, Errno, InitOut, put_attr, put_data, put_data_head, put_dirent, put_direntplus,
-    put_entry, put_error, put_head, put_init, put_negative_entry, put_open, put_statfs,
+    Attr, Dirent, Errno, InitOut, Replies, put_attr, put_data, put_data_head, put_dirent,
+    put_direntplus, put_entry, put_error, put_head, put_init, put_negative_entry, put_open,
+    put_statfs,
 };
 use std::alloc::{AllocError, Allocator, Global};
 use test_kit::refusing::Refusing;
@@ -24,7 +25,7 @@ const OLDER: InitOut = InitOut::Terms {
     flags: 1,
 };
 
-fn put_reply<A: Allocator>(writer: u8, out: &mut Vec<u8, A>) -> Result<(), AllocError> {
+fn put_reply<A: Allocator>(writer: u8, out: &mut Replies<A>) -> Result<(), AllocError> {
     match writer {
         0 => put_head(out, 1),
         1 => put_error(out, 1, Errno::EIO),
@@ -39,7 +40,7 @@ fn put_reply<A: Allocator>(writer: u8, out: &mut Vec<u8, A>) -> Result<(), Alloc
     }
 }
 
-fn put_row<A: Allocator>(writer: u8, out: &mut Vec<u8, A>) -> Result<(), AllocError> {
+fn put_row<A: Allocator>(writer: u8, out: &mut Replies<A>) -> Result<(), AllocError> {
     let row = Dirent {
         ino: 2,
         off: 3,
@@ -54,7 +55,7 @@ fn put_row<A: Allocator>(writer: u8, out: &mut Vec<u8, A>) -> Result<(), AllocEr
     }
 }
 
-fn put_one<A: Allocator>(writer: u8, out: &mut Vec<u8, A>) -> Result<(), AllocError> {
+fn put_one<A: Allocator>(writer: u8, out: &mut Replies<A>) -> Result<(), AllocError> {
     if writer < 10 {
         put_reply(writer, out)
     } else {
@@ -66,8 +67,8 @@ fn put_one<A: Allocator>(writer: u8, out: &mut Vec<u8, A>) -> Result<(), AllocEr
 /// again, and how many requests there were; none where the refusal is not told, or changes what
 /// stood.
 fn stands<'a>(memory: &'a Refusing<Global>, writer: u8) -> Option<(usize, u64)> {
-    let mut out = Vec::new(memory);
-    out.extend_from_slice(b"kept").ok()?;
+    let mut out = Replies::new(memory);
+    out.append(b"kept").ok()?;
     let is_told = put_one(writer, &mut out).is_err() && memory.refused();
     let is_kept = out.as_slice() == b"kept".as_slice();
     put_one(writer, &mut out).ok()?;

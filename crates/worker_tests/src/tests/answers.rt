@@ -3,6 +3,7 @@
 use super::jobs::{Job, jobs_of};
 use super::tables::sample_table;
 use fuse_answer::{answer, moves};
+use fuse_wire::Replies;
 use node_table::Table;
 use reply_model::Move;
 use std::alloc::{Allocator, Global};
@@ -22,11 +23,13 @@ pub type Left = (bool, usize);
 
 /// An answer behind the front; none where the front is refused, or isn't as it was.
 fn answered<A: Allocator>(alloc: A, table: &Table<A>, job: &Job<'_>) -> Option<Left> {
-    let mut out = Vec::new(alloc);
-    out.extend_from_slice(&FRONT).ok()?;
+    let mut out = Replies::new(alloc);
+    out.append(&FRONT).ok()?;
     let told = answer(table, job.0, &job.1, &mut out).is_ok();
     let appended = out.len().checked_sub(FRONT.len())?;
-    out.starts_with(&FRONT).then_some((told, appended))
+    out.as_slice()
+        .starts_with(&FRONT)
+        .then_some((told, appended))
 }
 
 /// What a job moves, behind the first move; none where that is refused, or isn't as it was.

@@ -30,7 +30,7 @@ fn is_given_up_over<R: Threads + Sync>(
         return None;
     }
     let rounded = round(rt, alloc, table, few, plan, gate).ok()?;
-    (!rounded.bytes.is_empty()).then_some(gate.is_given_up())
+    (0 < rounded.bytes.len()).then_some(gate.is_given_up())
 }
 
 /// The same in batches of one by two workers, over the table of the sample image.

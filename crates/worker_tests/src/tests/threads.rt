@@ -196,7 +196,7 @@ fn are_whole(
     pieces.sort_unstable_by_key(|piece| piece.number);
     let mut bytes = Vec::new(alloc);
     for piece in &pieces {
-        bytes.extend_from_slice(&piece.bytes)?;
+        bytes.extend_from_slice(piece.bytes.as_slice())?;
     }
     let told = pieces.iter().map(|piece| piece.number).eq(0..numbers);
     Ok(told && bytes.as_slice() == replies)

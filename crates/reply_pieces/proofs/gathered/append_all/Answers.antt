@@ -8,7 +8,7 @@ use Rattle.reply_pieces.proofs.gathered.append_all.Goals as goal
 pub add_moves-requires-clause-light : goal.add_moves-requires-clause-light
 add_moves-requires-clause-light g c =
     let w = next_light c.args.pieces.now c.loop-piece.piece-index c.piece-item.result c.loop-piece-test.true c.piece-item.is in
-    let e = ap weight c.deref-in-loop-piece.ensures.value in
+    let e = ap weight c.deref.ensures.value in
     let light = c.requires.light in
     omega arith
 
@@ -26,12 +26,12 @@ loop-piece-preserved g c =
     let is = c.piece-item.is in
     record {
       bytes = bytes_on c.args.pieces.now c.loop-piece.piece-index p c.args.replies.now.items c.loop-piece.replies.items
-          c.deref.result.now c.extend_from_slice.new.self.items there is
-          c.loop-piece.invariant.bytes c.in_ok-extend_from_slice.ensures.items c.deref.ensures.value;
+          c.as_slice.result.now c.append.new.self.items there is
+          c.loop-piece.invariant.bytes c.in_ok-append.ensures.0 c.as_slice.ensures;
       moves = moves_on c.args.pieces.now c.loop-piece.piece-index p c.args.balances.now c.loop-piece.balances c.add_moves.new.balances there
           is
           c.loop-piece.invariant.moves (subst (λ (ms : List Move). IsMoved ms c.loop-piece.balances c.add_moves.new.balances)
-          c.deref-in-loop-piece.ensures.value c.add_moves.ensures);
+          c.deref.ensures.value c.add_moves.ensures);
     }
 
 pub loop-piece-init : goal.loop-piece-init

@@ -7,7 +7,7 @@ use Rattle.reply_pieces.proofs.Told.{told_all, told_on}
 use Rattle.reply_pieces.proofs.pieces.join_pieces.Goals as goal
 
 pub loop-piece-init : goal.loop-piece-init
-loop-piece-init g c = record { bytes = c.new-bytes.ensures.items; moves = c.new-moves.ensures.items }
+loop-piece-init g c = record { bytes = c.new-bytes.ensures; moves = c.new-moves.ensures.items }
 
 pub loop-piece-preserved : goal.loop-piece-preserved
 loop-piece-preserved g c =
@@ -17,12 +17,11 @@ loop-piece-preserved g c =
     let there = c.loop-piece-test.true in
     let is = c.piece-item.is in
     record {
-      bytes = told_on (λ (q : Piece g.row.A.Denot). q.bytes.items) ps i p c.loop-piece.bytes.items c.deref.result.now
-          c.extend_from_slice.new.self.items there is c.loop-piece.invariant.bytes c.in_ok-extend_from_slice.ensures.items
-          c.deref.ensures.value;
-      moves = told_on (λ (q : Piece g.row.A.Denot). q.moves.items) ps i p c.loop-piece.moves.items c.deref-in-loop-piece.result.now
-          c.extend_from_slice-in-loop-piece.new.self.items there is c.loop-piece.invariant.moves
-          c.in_ok-extend_from_slice-2.ensures.items c.deref-in-loop-piece.ensures.value;
+      bytes = told_on (λ (q : Piece g.row.A.Denot). q.bytes.items) ps i p c.loop-piece.bytes.items c.as_slice.result.now
+          c.append.new.self.items there is c.loop-piece.invariant.bytes c.in_ok-append.ensures.0 c.as_slice.ensures;
+      moves = told_on (λ (q : Piece g.row.A.Denot). q.moves.items) ps i p c.loop-piece.moves.items c.deref.result.now
+          c.extend_from_slice.new.self.items there is c.loop-piece.invariant.moves
+          c.in_ok-extend_from_slice.ensures.items c.deref.ensures.value;
     }
 
 pub sums-requires : goal.sums-requires

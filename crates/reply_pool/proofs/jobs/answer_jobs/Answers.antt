@@ -18,7 +18,7 @@ weight_small (x ∷ xs) small =
 
 pub loop-job-init : goal.loop-job-init
 loop-job-init g c = let none = c.new-moved.ensures.items in record {
-  replies = c.new-bytes.ensures.items;
+  replies = c.new-bytes.ensures;
   moves = none;
   few = (let e = ap length none in omega arith);
   small = subst AreSmall (sym none) (All-nil (λ (m : Move). unsigned_abs m.amount ≤ 2 ^ 64));

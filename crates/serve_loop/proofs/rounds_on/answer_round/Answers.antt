@@ -65,8 +65,9 @@ returns g c =
     let round = c.in_ok-round.round in
     let put = c.in_ok-round.ensures.0 in
     let r = seen g (goal.at.returns g c).In_ok-round in
-    let all = c.as_slice.ensures.value ∙ all_of _ _ put c.clear.ensures.items c.in_ok-round.ensures.1 in
-    let size = c.len.ensures ∙ sym c.as_slice.ensures.len ∙ ap length all in
+    let is = all_of _ _ put c.clear.ensures.items c.in_ok-round.ensures.1 in
+    let all = c.as_slice.ensures ∙ is in
+    let size = c.len.ensures.len ∙ ap length is in
     let went = goes_round by from round put (held_in c.pass.new.self) _ _ _ _ r c.pass.ensures.rest refl refl
     (ap (λ n. from.written + n) size) in
     let (sent, front, on) = c.in-Ok.ensures in

@@ -1,5 +1,5 @@
 use Rattle.fuse_answer.proofs.Writing.{short_name}
-use Rattle.fuse_answer.proofs.rows.put_row.Goals as goal
+use Rattle.fuse_answer.proofs.rows.put_any.Goals as goal
 
 pub put_direntplus-requires : goal.put_direntplus-requires
 put_direntplus-requires g c =

@@ -1,0 +1,162 @@
+//! Replies, one after another, as they go to a device.
+//!
+//! They stand at the front of a vector that keeps its length. What stands behind them are bytes of
+//! earlier replies, or zeros, and says nothing: the next replies are set over it. So memory is
+//! cleared once, where it is first written to, and not for each round anew.
+
+ghost use Rattle.std.specs.Prelude.{◌≡◌, ◌+◌, ◌<◌, ◌≤◌, ◌^◌, [], length, take, vec_len, vec_capacity, IfOk};
+ghost use Rattle.fuse_wire.specs.Appends.{Appends, MakesRoom};
+
+use crate::structure::set_bytes;
+use std::alloc::{AllocError, Allocator};
+use std::marker::Model;
+
+/// Zeros by which memory is cleared.
+const ZEROS: [u8; 1024] = [0; 1024];
+
+/// How many bytes are cleared at once, where there are so many: few enough to be in the processor's
+/// cache still when replies are set over them.
+const CLEARED: usize = 8192;
+
+/// Replies, one after another.
+#[derive(Drop)]
+pub struct Replies<A: Allocator> {
+    pub(crate) bytes: Vec<u8, A>,
+    // How many bytes they have.
+    pub(crate) len: usize,
+}
+
+impl<A: Allocator> Model for Replies<A> {
+    ghost use Rattle.std.specs.Prelude.{◌≤◌, length, take, vec_capacity};
+    ghost use Rattle.fuse_wire.specs.Appends.{Filled};
+
+    ghost Value = { Filled };
+
+    ghost view = { λ r. record { items = take r.len r.bytes.items; room = vec_capacity r.bytes } };
+
+    ghost invariant = { λ r. r.len ≤ length r.bytes.items };
+}
+
+impl<A: Allocator> Replies<A> {
+    /// No replies. They take no memory.
+    pub fn new(alloc: A) -> Self
+        ensures { result.items ≡ [] }
+    {
+        Replies {
+            bytes: Vec::new(alloc),
+            len: 0,
+        }
+    }
+
+    /// No replies, with room for so many bytes.
+    pub fn with_capacity(alloc: A, capacity: usize) -> Result<Self, AllocError>
+        ensures items { IfOk result (λ replies. replies.items ≡ []) }
+        ensures room { IfOk result (λ replies. capacity ≤ replies.room) }
+    {
+        Ok(Replies {
+            bytes: Vec::with_capacity(alloc, capacity)?,
+            len: 0,
+        })
+    }
+
+    /// How many bytes they have.
+    pub fn len(&self) -> usize
+        ensures len { result ≡ length self.now.items }
+        ensures few { result < 2 ^ 63 }
+    {
+        self.len
+    }
+
+    /// For how many bytes more there is room.
+    pub fn room_left(&self) -> usize
+        ensures { length self.now.items + result ≡ self.now.room }
+    {
+        self.bytes.capacity() - self.len
+    }
+
+    /// Their bytes.
+    pub fn as_slice(&self) -> &[u8]
+        ensures { result.now ≡ self.now.items }
+    {
+        &self.bytes[..self.len]
+    }
+
+    /// Lets go of all of them. Their room stays.
+    pub fn clear(&mut self)
+        ensures items { self.new.items ≡ [] }
+        ensures room { self.new.room ≡ self.old.room }
+    {
+        self.len = 0;
+    }
+
+    /// Makes room for so many bytes more.
+    pub fn make_room(&mut self, more: usize) -> Result<(), AllocError>
+        ensures { MakesRoom result self.old self.new more }
+    {
+        if self.bytes.capacity() - self.len < more {
+            self.bytes.reserve(more - (self.bytes.len() - self.len))?;
+        }
+        Ok(())
+    }
+
+    /// Appends bytes.
+    #[inline(always)]
+    pub fn append(&mut self, bytes: &[u8]) -> Result<(), AllocError>
+        ensures { Appends result self.old self.new bytes.now }
+    {
+        if self.bytes.len() - self.len < bytes.len() {
+            return self.append_to_end(bytes);
+        }
+        self.len = set_bytes(self.bytes.as_mut_slice(), self.len, bytes);
+        Ok(())
+    }
+
+    // The same, where bytes are taken behind those that stand.
+    #[inline(never)]
+    fn append_to_end(&mut self, bytes: &[u8]) -> Result<(), AllocError>
+        ensures { Appends result self.old self.new bytes.now }
+    {
+        self.make_room(bytes.len())?;
+        self.bytes.truncate(self.len);
+        let _ = self.bytes.extend_from_slice(bytes);
+        self.len = self.bytes.len();
+        Ok(())
+    }
+
+    /// Lets go of the bytes behind the first ones.
+    #[inline(always)]
+    pub(crate) fn truncate(&mut self, len: usize)
+        requires { len ≤ length self.old.items }
+        ensures items { self.new.items ≡ take len self.old.items }
+        ensures room { self.new.room ≡ self.old.room }
+    {
+        self.len = len;
+    }
+}
+
+/// Takes so many bytes behind those that stand, and clears them, and some more where there is room.
+#[inline(never)]
+pub(crate) fn clear_behind<A: Allocator>(bytes: &mut Vec<u8, A>, count: usize)
+    requires { vec_len bytes.old + count ≤ vec_capacity bytes.old }
+    ensures before { take (vec_len bytes.old) bytes.new.items ≡ bytes.old.items }
+    ensures size { vec_len bytes.old + count ≤ vec_len bytes.new }
+    ensures capacity { vec_capacity bytes.old ≤ vec_capacity bytes.new }
+{
+    let room = bytes.capacity() - bytes.len();
+    put_zeros(bytes, count.max(CLEARED).min(room));
+}
+
+// Appends so many zeros, where there is room for them.
+fn put_zeros<A: Allocator>(bytes: &mut Vec<u8, A>, count: usize)
+    requires { vec_len bytes.old + count ≤ vec_capacity bytes.old }
+    ensures before { take (vec_len bytes.old) bytes.new.items ≡ bytes.old.items }
+    ensures size { vec_len bytes.new ≡ vec_len bytes.old + count }
+    ensures capacity { vec_capacity bytes.old ≤ vec_capacity bytes.new }
+{
+    let mut left = count;
+    while left > ZEROS.len() {
+        let _ = bytes.extend_from_slice(&ZEROS);
+        left -= ZEROS.len();
+    }
+    let _ = bytes.extend_from_slice(&ZEROS[..left]);
+}
