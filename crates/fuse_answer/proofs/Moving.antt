@@ -18,7 +18,7 @@ use Rattle.fuse_answer.specs.declared.listing.Listing.{Listing}
 use Rattle.fuse_answer.specs.Answers.{taken_back}
 use Rattle.fuse_answer.specs.Puts.{Grows}
 use Rattle.fuse_answer.specs.Listings.{NumberedLine, is_child_line, lines_answered, lines_given, listed_moves, moves_before, row_given, until_of}
-use Rattle.fuse_answer.specs.Appending.{AddsGiven}
+use Rattle.fuse_answer.specs.Adding.{AddsGiven}
 use Rattle.fuse_answer.proofs.Lines.{IsNext, before_later, lines_before, next_line, none_before}
 
 given_on : (xs ys : List NumberedLine) → lines_given (xs ++ ys) ≡ lines_given xs ++ lines_given ys

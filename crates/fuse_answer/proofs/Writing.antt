@@ -2,22 +2,22 @@
 -- none (`none_written`) by each that is appended (`row_next`) to all (`all_rows`). Rows that take no more than a listing's room are answered, and then others are not
 -- (`answered`, `last_answered`), so these are all where no more fit (`fits_no_more`). The header's
 -- length is set last (`header_set`).
-use Rattle.std.proofs.Common.{◌≡◌, ◌∙◌, sym, ap, ℕ, zero, suc, ◌+◌, ◌-◌, ◌/◌, ◌^◌, ◌<◌, ◌≤◌, List, [], ◌∷◌, ◌++◌, length, map, drop, take, get_or, Bool, true, false, cond, Option, Some, None, refl, subst, arith, append-nil, append_assoc, length-append, length-take-le}
+use Rattle.std.proofs.Common.{◌≡◌, ◌∙◌, sym, ap, ℕ, zero, suc, ◌+◌, ◌-◌, ◌/◌, ◌^◌, ◌<◌, ◌≤◌, List, [], ◌∷◌, ◌++◌, length, map, drop, take, get_or, Bool, true, false, cond, Option, Some, None, refl, subst, arith, append-nil, append_assoc, length-append}
 use Rattle.std.specs.Prelude.{nat_le, nat_lt, ◌&&◌, slice_get, replicate, MatchOption, IfSome}
 use Rattle.std.specs.List.{enumerate_from, flat_map}
 use Rattle.std.specs.Option.{option_map_or}
 use Rattle.std.proofs.lemmas.Bool.{le-ltb, leb-false, leb-true, lt-ltb, ltb-false, ltb-true}
-use Rattle.std.proofs.lemmas.List.{drop-map, drop_all, drop_at, get_or-drop, length-drop, take-append-le, take-map, take-take, take_all, take_at, take_more, take_rest}
+use Rattle.std.proofs.lemmas.List.{drop-map, drop_at, get_or-drop, take-map, take_at, take_more}
 use Rattle.std.proofs.lemmas.List.Concat.{flat_map-append}
-use Rattle.fuse_wire.specs.Replies.{reply_head, reply_with}
-use Rattle.fuse_wire.specs.Structures.{direntplus, dirent_size, zeros}
-use Rattle.fuse_wire.proofs.Sizes.{length-dirent, length-direntplus, length-head}
+use Rattle.fuse_wire.specs.Replies.{reply_with}
+use Rattle.fuse_wire.specs.Structures.{direntplus, zeros}
+use Rattle.fuse_wire.proofs.Sizes.{length-dirent, length-direntplus}
 use Rattle.node_attr.specs.declared.attr.Attr.{Attr}
 use Rattle.stack_table.specs.Rows.{Line}
 use Rattle.stack_table.specs.Stacked.{Stacked}
 use Rattle.stack_table.specs.Readers.{attr_at}
 use Rattle.fuse_answer.specs.declared.listing.Listing.{Listing}
-use Rattle.fuse_answer.specs.Listings.{IsPaddedAt, IsLineAt, IsWhole, NumberedLine, bytes_before, fit_count, fits_at, line_bytes, lines_of, listed_data, name_lengths, row_bytes_at, row_size, row_sizes, size_of, type_at, until_of}
+use Rattle.fuse_answer.specs.Listings.{IsPaddedAt, IsLineAt, IsWhole, NumberedLine, fit_count, fits_at, line_bytes, lines_of, listed_data, name_lengths, row_bytes_at, row_size, row_sizes, size_of, type_at, until_of}
 use Rattle.fuse_answer.proofs.Fitting.{fits_among, fits_few, fits_most, fits_total, length-sizes, size_named, total, total-append}
 use Rattle.fuse_answer.proofs.Lines.{lines_before, lines_sized, next_line, none_before}
 

@@ -1,6 +1,6 @@
 pub mod Answers
 pub mod Listings
 pub mod Puts
-pub mod Appending
+pub mod Adding
 pub use Rattle.fuse_wire.specs.Reads
 pub use Rattle.lookup_balances.specs.Balances

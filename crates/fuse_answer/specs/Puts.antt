@@ -1,5 +1,5 @@
 -- What a call leaves of replies or of a vector that it appends to, and of balances.
-use Rattle.std.specs.Prelude.{◌≡◌, ℕ, ◌+◌, ◌<◌, ◌≤◌, ◌^◌, ℤ, unsigned_abs, List, ◌++◌, length, Result, OnOk, OnErr, vec_len, vec_capacity}
+use Rattle.std.specs.Prelude.{◌≡◌, ◌+◌, ◌<◌, ◌≤◌, ◌^◌, ℤ, unsigned_abs, List, ◌++◌, length, Result, OnOk, OnErr, vec_len, vec_capacity}
 use Rattle.std.specs.List.{All}
 use Rattle.std.specs.declared.vec.Vec.{Vec}
 use Rattle.fuse_wire.specs.Appends.{Appends, Filled}

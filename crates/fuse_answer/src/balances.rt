@@ -5,7 +5,7 @@ ghost use Rattle.fuse_wire.specs.Reads.{items_of};
 ghost use Rattle.lookup_balances.specs.Balances.{AreWithin, IsMoved};
 ghost use Rattle.fuse_answer.specs.Answers.{IsSized, answer_moves, taken_back};
 ghost use Rattle.fuse_answer.specs.Listings.{IsRow, IsWhole, listed_moves, row_given};
-ghost use Rattle.fuse_answer.specs.Appending.{AddsGiven};
+ghost use Rattle.fuse_answer.specs.Adding.{AddsGiven};
 
 use crate::listing::{Listing, fit};
 use crate::outcome::Answer;

@@ -3,18 +3,17 @@
 ghost use Rattle.std.specs.Prelude.{◌≡◌, ◌≤◌, ◌<◌, ◌+◌, ◌/◌, ◌^◌, ◌++◌, ◌-◌, length, true, None, OnOk, OnErr, nat_lt, if◌then◌else◌, IfSome};
 ghost use Rattle.std.specs.Option.{option_map_or};
 ghost use Rattle.fuse_wire.specs.Replies.{reply_with};
-ghost use Rattle.fuse_wire.specs.Appends.{Appends, MakesRoom};
+ghost use Rattle.fuse_wire.specs.Appends.{Appends, MakesRoom, PutsUpTo};
 ghost use Rattle.stack_table.specs.Readers.{attr_at};
 ghost use Rattle.fuse_answer.specs.Listings.{IsWhole, IsLineAt, IsPaddedAt, IsRow, listed_data, listed_moves, row_bytes_at, size_of, type_at};
-ghost use Rattle.fuse_answer.specs.Appending.{PutsShort};
 ghost use Rattle.lookup_balances.specs.Balances.{AreWithin, IsMoved};
 
 use crate::balances::add_row;
 use crate::listing::{Listing, count, fit, fits};
 use fuse_wire::limits::OUT_HEADER_SIZE;
 use fuse_wire::{
-    Attr, Dirent, Replies, SHORT_ROW_SIZE, put_data_head, put_dirent, put_direntplus,
-    put_short_direntplus, set_data_head,
+    Attr, Dirent, Replies, put_data_head, put_dirent, put_direntplus, put_short_direntplus,
+    set_data_head,
 };
 use stack_table::Table;
 use std::alloc::{AllocError, Allocator};
@@ -81,57 +80,43 @@ fn put_listed<A: Allocator, O: Allocator>(
     ensures rows { Appends result out.old out.new (listed_data table.now rows.now) }
     ensures moves { OnOk result (IsMoved (listed_moves rows.now) balances.old balances.new) }
 {
-    let limit = out.len() + rows.room;
+    let most = out.len() + rows.room;
     let mut index = rows.from;
-    while fits(rows, index, limit - out.len()) {
-        put_row(table, rows, index, out)?;
+    while index < count(rows.children) {
+        if !put_short(table, rows, index, out, most) {
+            if !fits(rows, index, most - out.len()) {
+                return Ok(());
+            }
+            put_any(table, rows, index, out)?;
+        }
         add_row(rows, index, balances);
         index += 1;
     }
     Ok(())
 }
 
-// Appends the row with this index.
-#[inline(always)]
-fn put_row<A: Allocator, O: Allocator>(
-    table: &Table<A>,
-    rows: &Listing<'_, A>,
-    index: usize,
-    out: &mut Replies<O>,
-) -> Result<(), AllocError>
-    requires there { IsRow rows.now index }
-    requires short { length (row_bytes_at table.now rows.now index) < 2 ^ 32 }
-    ensures { Appends result out.old out.new (row_bytes_at table.now rows.now index) }
-{
-    if rows.with_entries && put_short(table, rows, index, out) {
-        return Ok(());
-    }
-    put_any(table, rows, index, out)
-}
-
-// The same of READDIRPLUS, where the row's name is short and there is room for the most bytes that
-// such a row takes; else it is false, and nothing is appended.
+// Appends the row of READDIRPLUS with this index, where its name is short, as long as the replies
+// have no more bytes than this then. Else, or without room, it is false, and nothing is appended.
 #[inline(always)]
 fn put_short<A: Allocator, O: Allocator>(
     table: &Table<A>,
     rows: &Listing<'_, A>,
     index: usize,
     out: &mut Replies<O>,
+    most: usize,
 ) -> bool
-    requires there { IsRow rows.now index }
-    requires entries { rows.now.with_entries ≡ true }
-    ensures { PutsShort result out.old out.new (row_bytes_at table.now rows.now index) }
+    requires { IsRow rows.now index }
+    ensures { PutsUpTo most result out.old out.new (row_bytes_at table.now rows.now index) }
 {
+    if !rows.with_entries {
+        return false;
+    }
     let Some(padded) = padded_at(rows, index) else {
         return false;
     };
-    if out.room_left() < SHORT_ROW_SIZE {
-        return false;
-    }
     if index < 2 {
         let (row, entry) = row_at(table, rows, index);
-        put_short_direntplus(out, entry.as_ref(), &row, padded);
-        return true;
+        return put_short_direntplus(out, entry.as_ref(), &row, padded, most);
     }
     let (ino, name) = line_at(rows, index);
     let Some(attr) = table.attr(ino) else {
@@ -144,11 +129,10 @@ fn put_short<A: Allocator, O: Allocator>(
         file_type: attr.mode / 4096,
         name,
     };
-    put_short_direntplus(out, Some(&attr), &row, padded);
-    true
+    put_short_direntplus(out, Some(&attr), &row, padded, most)
 }
 
-// The same of any row.
+// Appends the row with this index.
 fn put_any<A: Allocator, O: Allocator>(
     table: &Table<A>,
     rows: &Listing<'_, A>,

@@ -1,5 +1,5 @@
 -- Replies that stand one after another, and what calls leave of them.
-use Rattle.std.specs.Prelude.{◌≡◌, ℕ, ◌+◌, ◌<◌, ◌≤◌, List, ◌++◌, length, Result, OnOk, OnErr}
+use Rattle.std.specs.Prelude.{◌≡◌, ℕ, ◌+◌, ◌<◌, ◌≤◌, Bool, true, List, ◌++◌, length, if◌then◌else◌, Result, OnOk, OnErr}
 
 -- the bytes of replies, and for how many in all there is room
 pub record Filled : Type 0 where
@@ -14,6 +14,13 @@ Appends result before after bytes =
     × OnErr result (after.items ≡ before.items)
     × OnErr result (before.room < length before.items + length bytes)
     × (before.room ≤ after.room)
+
+-- where it is told so, the call appends exactly these bytes, and there are no more than so many
+-- then; else nothing
+pub record PutsUpTo (most : ℕ) (told : Bool) (before after : Filled) (bytes : List ℕ) : Type 0 where
+  pub items : after.items ≡ (if told then before.items ++ bytes else before.items)
+  pub few : told ≡ true → length after.items ≤ most
+  pub room : before.room ≤ after.room
 
 -- the call makes room for so many bytes more; or, where there is none for them, it may fail
 abbrev pub MakesRoom : {E : Type 0} → Result (Unit {0}) E → Filled → Filled → ℕ → Type 0

@@ -6,7 +6,7 @@ ghost use Rattle.std.specs.Prelude.{◌≡◌, ◌++◌, ◌<◌, ◌≤◌, ◌
 ghost use Rattle.std.specs.Option.{option_copied, option_map_or};
 ghost use Rattle.fuse_wire.specs.Structures.{zeros, init_out, entry_out, negative_entry_out, attr_out, open_out, statfs_out, dirent_size, padding, row_bytes, plus_row_bytes};
 ghost use Rattle.fuse_wire.specs.Replies.{reply_head, reply_with, error_reply};
-ghost use Rattle.fuse_wire.specs.Appends.{Appends};
+ghost use Rattle.fuse_wire.specs.Appends.{Appends, PutsUpTo};
 ghost use Rattle.fuse_wire.specs.declared.put.TheConstants.{DIRENT_FRONT_SIZE, SHORT_ROW_SIZE};
 
 use crate::limits::OUT_HEADER_SIZE;
@@ -233,26 +233,33 @@ pub fn put_direntplus<A: Allocator>(
 }
 
 /// Appends a row of READDIRPLUS whose name has at most 22 bytes, and comes also with zeros behind
-/// it, up to 22, where there is room for [`SHORT_ROW_SIZE`] bytes: nothing fails.
+/// it, up to 22. It is false, and nothing is appended, where the replies would then have more than
+/// `most` bytes, or there is no room for [`SHORT_ROW_SIZE`] more.
 #[inline(always)]
 pub fn put_short_direntplus<A: Allocator>(
     out: &mut Replies<A>,
     entry: Option<&Attr>,
     row: &Dirent<'_>,
     padded: &[u8; 22],
-)
-    requires room { length out.old.items + SHORT_ROW_SIZE ≤ out.old.room }
+    most: usize,
+) -> bool
     requires short { length row.now.name.now ≤ 22 }
     requires padded { padded.now ≡ row.now.name.now ++ zeros (22 - length row.now.name.now) }
-    ensures items { out.new.items
-        ≡ out.old.items ++ plus_row_bytes (option_copied entry.entry) row.now }
-    ensures room { out.old.room ≤ out.new.room }
+    ensures { PutsUpTo most result out.old out.new
+        (plus_row_bytes (option_copied entry.entry) row.now) }
 {
-    let missing = SHORT_ROW_SIZE.saturating_sub(out.bytes.len() - out.len);
-    if 0 < missing {
-        clear_behind(&mut out.bytes, missing);
+    if most < out.len + ENTRY_OUT_SIZE + dirent_size(row.name.len()) {
+        return false;
+    }
+    let behind = out.bytes.len() - out.len;
+    if behind < SHORT_ROW_SIZE {
+        if out.bytes.capacity() - out.len < SHORT_ROW_SIZE {
+            return false;
+        }
+        clear_behind(&mut out.bytes, SHORT_ROW_SIZE - behind);
     }
     out.len = set_direntplus(out.bytes.as_mut_slice(), out.len, entry, row, padded);
+    true
 }
 
 // Sets such a row over bytes that stand already, from a place on, and returns where it ends. Of the
@@ -272,7 +279,8 @@ fn set_direntplus(
     ensures row { take result bytes.new
         ≡ take at bytes.old ++ plus_row_bytes (option_copied entry.entry) row.now }
     ensures size { length bytes.new ≡ length bytes.old }
-    ensures end { result ≤ at + SHORT_ROW_SIZE }
+    ensures end { result ≡ at + (128 + dirent_size (length row.now.name.now)) }
+    ensures short { result ≤ at + SHORT_ROW_SIZE }
 {
     let at = entry_or_zeros(bytes, at, entry);
     let end = at + dirent_size(row.name.len());

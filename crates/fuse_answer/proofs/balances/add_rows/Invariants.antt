@@ -1,4 +1,4 @@
-use Rattle.fuse_answer.specs.Appending.{AddsGiven}
+use Rattle.fuse_answer.specs.Adding.{AddsGiven}
 use Rattle.fuse_answer.proofs.balances.add_rows.Given as goal
 
 -- the rows before the index are added
