@@ -1,6 +1,7 @@
--- A reply's header is set over its first 16 bytes, once its data stand behind it (`header_set`):
--- over the bytes that are kept, of which the replies are the first.
-use Rattle.std.proofs.Common.{◌≡◌, ◌∙◌, sym, ap, ℕ, ◌+◌, ◌-◌, ◌≤◌, List, [], ◌++◌, length, take, drop, arith, append-nil, length-append, length-take-le}
+-- A reply is set over the bytes that are kept, of which the replies are the first: its header and
+-- its data, one after another (`reply_set`), or its header alone, once its data stand behind the
+-- place of the header (`header_set`).
+use Rattle.std.proofs.Common.{◌≡◌, ◌∙◌, sym, ap, ℕ, ◌+◌, ◌-◌, ◌≤◌, List, [], ◌++◌, length, take, drop, arith, append-nil, append_assoc, length-append, length-take-le}
 use Rattle.std.proofs.lemmas.List.{drop-drop, drop-take, drop_all, length-drop, take_all, take-take}
 use Rattle.std.proofs.Math.Seq.{take-append-add}
 use Rattle.fuse_wire.specs.Replies.{reply_head, reply_with}
@@ -48,3 +49,20 @@ header_set unique len start n all kept lent items new lent_is items_is few all_i
     ∙ sym (ap (λ v. v ++ (reply_head unique (length (drop (start + 16) items)) ++ drop (start + 16) items)) front
     ∙ ap (λ k. take start kept ++ (reply_head unique k ++ drop (start + 16) items)) size
     ∙ ap (λ v. take start kept ++ (head ++ v)) following)
+
+-- a header is set behind the replies, and data behind it
+pub reply_set : (unique n end all len at : ℕ) (bytes items before kept lent first new : List ℕ) → before ≡ items → take len kept ≡ before
+    → lent ≡ kept → take at first ≡ take len lent ++ reply_head unique n → take end new ≡ take at first ++ bytes
+    → length new ≡ length kept → all ≡ length kept → length bytes ≡ n
+    → take end (take all (new ++ drop (length new) kept)) ≡ items ++ reply_with unique bytes
+unfolding reply_with
+reply_set unique n end all len at bytes items before kept lent first new same held lent_is head_set data_set size all_is long =
+    let none : drop (length new) kept ≡ [] = drop_all (length new) kept (omega arith) in
+    let front : take len lent ≡ items = ap (take len) lent_is ∙ held ∙ same in
+    ap (λ v. take end (take all (new ++ v))) none
+    ∙ ap (λ v. take end (take all v)) (append-nil new)
+    ∙ ap (take end) (take_all all new (omega arith))
+    ∙ data_set
+    ∙ ap (λ v. v ++ bytes) (head_set ∙ ap (λ v. v ++ reply_head unique n) front)
+    ∙ append_assoc items (reply_head unique n) bytes
+    ∙ ap (λ k. items ++ (reply_head unique k ++ bytes)) (sym long)

@@ -1,10 +1,11 @@
 -- Replies that stand one after another, and what calls leave of them.
 use Rattle.std.specs.Prelude.{◌≡◌, ℕ, ◌+◌, ◌<◌, ◌≤◌, Bool, true, List, ◌++◌, length, if◌then◌else◌, Result, OnOk, OnErr}
 
--- the bytes of replies, and for how many in all there is room
+-- the bytes of replies, for how many in all there is room, and how many of these stand already
 pub record Filled : Type 0 where
   pub items : List ℕ
   pub room : ℕ
+  pub standing : ℕ
 
 -- the call appends exactly these bytes; or, where there is no room for them and none is got,
 -- nothing

@@ -47,9 +47,9 @@ pub fn put_data_head<A: Allocator>(
     requires { 16 + size < 2 ^ 32 }
     ensures { Appends result out.old out.new (reply_head unique size) }
 {
-    let mut reply = [0; OUT_HEADER_SIZE];
-    let end = head(&mut reply, 0, unique, size);
-    out.append(&reply[..end])
+    out.stand(OUT_HEADER_SIZE)?;
+    out.len = head(out.bytes.as_mut_slice(), out.len, unique, size);
+    Ok(())
 }
 
 /// Sets the header of the last reply, which begins at this place: it tells how many bytes of data
@@ -76,9 +76,9 @@ pub fn put_error<A: Allocator>(
 ) -> Result<(), AllocError>
     ensures { Appends result out.old out.new (error_reply unique errno) }
 {
-    let mut reply = [0; OUT_HEADER_SIZE];
-    let end = error_head(&mut reply, 0, unique, errno);
-    out.append(&reply[..end])
+    out.stand(OUT_HEADER_SIZE)?;
+    out.len = error_head(out.bytes.as_mut_slice(), out.len, unique, errno);
+    Ok(())
 }
 
 /// Appends a reply with these bytes of data behind its header, in one growth.
@@ -129,10 +129,11 @@ pub fn put_entry<A: Allocator>(
 ) -> Result<(), AllocError>
     ensures { Appends result out.old out.new (reply_with unique (entry_out node.now)) }
 {
-    let mut reply = [0; OUT_HEADER_SIZE + ENTRY_OUT_SIZE];
-    let at = head(&mut reply, 0, unique, ENTRY_OUT_SIZE);
-    let end = entry_out(&mut reply, at, node);
-    out.append(&reply[..end])
+    out.stand(OUT_HEADER_SIZE + ENTRY_OUT_SIZE)?;
+    let bytes = out.bytes.as_mut_slice();
+    let at = head(bytes, out.len, unique, ENTRY_OUT_SIZE);
+    out.len = entry_out(bytes, at, node);
+    Ok(())
 }
 
 /// Appends the reply that a name is none, of 144 bytes (`struct fuse_entry_out`, with a nodeid of
@@ -140,10 +141,11 @@ pub fn put_entry<A: Allocator>(
 pub fn put_negative_entry<A: Allocator>(out: &mut Replies<A>, unique: u64) -> Result<(), AllocError>
     ensures { Appends result out.old out.new (reply_with unique negative_entry_out) }
 {
-    let mut reply = [0; OUT_HEADER_SIZE + ENTRY_OUT_SIZE];
-    let at = head(&mut reply, 0, unique, ENTRY_OUT_SIZE);
-    let end = negative_entry_out(&mut reply, at);
-    out.append(&reply[..end])
+    out.stand(OUT_HEADER_SIZE + ENTRY_OUT_SIZE)?;
+    let bytes = out.bytes.as_mut_slice();
+    let at = head(bytes, out.len, unique, ENTRY_OUT_SIZE);
+    out.len = negative_entry_out(bytes, at);
+    Ok(())
 }
 
 /// Appends the reply with a node's attributes, of 120 bytes (`struct fuse_attr_out`).
@@ -154,10 +156,11 @@ pub fn put_attr<A: Allocator>(
 ) -> Result<(), AllocError>
     ensures { Appends result out.old out.new (reply_with unique (attr_out node.now)) }
 {
-    let mut reply = [0; OUT_HEADER_SIZE + ATTR_OUT_SIZE];
-    let at = head(&mut reply, 0, unique, ATTR_OUT_SIZE);
-    let end = attr_out(&mut reply, at, node);
-    out.append(&reply[..end])
+    out.stand(OUT_HEADER_SIZE + ATTR_OUT_SIZE)?;
+    let bytes = out.bytes.as_mut_slice();
+    let at = head(bytes, out.len, unique, ATTR_OUT_SIZE);
+    out.len = attr_out(bytes, at, node);
+    Ok(())
 }
 
 /// Appends the reply to an OPEN or OPENDIR, of 32 bytes (`struct fuse_open_out`), with handle 0 and
@@ -170,10 +173,11 @@ pub fn put_open<A: Allocator>(
 ) -> Result<(), AllocError>
     ensures { Appends result out.old out.new (reply_with unique (open_out open_flags)) }
 {
-    let mut reply = [0; OUT_HEADER_SIZE + OPEN_OUT_SIZE];
-    let at = head(&mut reply, 0, unique, OPEN_OUT_SIZE);
-    let end = open_out(&mut reply, at, open_flags);
-    out.append(&reply[..end])
+    out.stand(OUT_HEADER_SIZE + OPEN_OUT_SIZE)?;
+    let bytes = out.bytes.as_mut_slice();
+    let at = head(bytes, out.len, unique, OPEN_OUT_SIZE);
+    out.len = open_out(bytes, at, open_flags);
+    Ok(())
 }
 
 /// Appends the reply to a STATFS, of 96 bytes (`struct fuse_statfs_out`): all blocks of 512 bytes,
@@ -186,10 +190,11 @@ pub fn put_statfs<A: Allocator>(
 ) -> Result<(), AllocError>
     ensures { Appends result out.old out.new (reply_with unique (statfs_out blocks files)) }
 {
-    let mut reply = [0; OUT_HEADER_SIZE + STATFS_OUT_SIZE];
-    let at = head(&mut reply, 0, unique, STATFS_OUT_SIZE);
-    let end = statfs_out(&mut reply, at, blocks, files);
-    out.append(&reply[..end])
+    out.stand(OUT_HEADER_SIZE + STATFS_OUT_SIZE)?;
+    let bytes = out.bytes.as_mut_slice();
+    let at = head(bytes, out.len, unique, STATFS_OUT_SIZE);
+    out.len = statfs_out(bytes, at, blocks, files);
+    Ok(())
 }
 
 /// The bytes of a row of READDIR whose name has this many bytes (`FUSE_DIRENT_SIZE`), a multiple of

@@ -4,7 +4,7 @@
 //! earlier replies, or zeros, and says nothing: the next replies are set over it. So memory is
 //! cleared once, where it is first written to, and not for each round anew.
 
-ghost use Rattle.std.specs.Prelude.{◌≡◌, ◌+◌, ◌<◌, ◌≤◌, ◌^◌, [], length, take, vec_len, vec_capacity, IfOk};
+ghost use Rattle.std.specs.Prelude.{◌≡◌, ◌+◌, ◌<◌, ◌≤◌, ◌^◌, [], length, take, vec_len, vec_capacity, IfOk, OnOk};
 ghost use Rattle.fuse_wire.specs.Appends.{Appends, MakesRoom};
 
 use crate::structure::set_bytes;
@@ -32,7 +32,11 @@ impl<A: Allocator> Model for Replies<A> {
 
     ghost Value = { Filled };
 
-    ghost view = { λ r. record { items = take r.len r.bytes.items; room = vec_capacity r.bytes } };
+    ghost view = { λ r. record {
+      items = take r.len r.bytes.items;
+      room = vec_capacity r.bytes;
+      standing = length r.bytes.items;
+    } };
 
     ghost invariant = { λ r. r.len ≤ length r.bytes.items };
 }
@@ -96,6 +100,30 @@ impl<A: Allocator> Replies<A> {
         if self.bytes.capacity() - self.len < more {
             self.bytes.reserve(more - (self.bytes.len() - self.len))?;
         }
+        Ok(())
+    }
+
+    /// Sees to it that so many bytes stand behind the replies, over which others may be set.
+    #[inline(always)]
+    pub(crate) fn stand(&mut self, more: usize) -> Result<(), AllocError>
+        ensures room { MakesRoom result self.old self.new more }
+        ensures standing { OnOk result (length self.old.items + more ≤ self.new.standing) }
+    {
+        if self.bytes.len() - self.len < more {
+            self.stand_anew(more)?;
+        }
+        Ok(())
+    }
+
+    // The same, where fewer stand.
+    #[inline(never)]
+    fn stand_anew(&mut self, more: usize) -> Result<(), AllocError>
+        ensures room { MakesRoom result self.old self.new more }
+        ensures standing { OnOk result (length self.old.items + more ≤ self.new.standing) }
+    {
+        self.make_room(more)?;
+        let missing = more.saturating_sub(self.bytes.len() - self.len);
+        clear_behind(&mut self.bytes, missing);
         Ok(())
     }
 

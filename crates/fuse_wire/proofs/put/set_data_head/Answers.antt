@@ -1,4 +1,4 @@
-use Rattle.std.proofs.Common.{◌≡◌, ◌∙◌, sym, ap, ◌+◌, ◌-◌, ◌≤◌, length, take, arith, length-take-le}
+use Rattle.std.proofs.Common.{◌≡◌, ◌∙◌, sym, ap, ◌+◌, ◌-◌, length, take, arith, length-take-le}
 use Rattle.std.proofs.lemmas.List.{take_all}
 use Rattle.fuse_wire.specs.Replies.{reply_head}
 use Rattle.fuse_wire.proofs.Heads.{header_set}
