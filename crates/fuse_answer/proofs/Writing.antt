@@ -1,7 +1,7 @@
 -- The bytes of a directory's rows, row by row: `IsSoFar` is what holds as they are appended, from
--- none (`none_written`) by each that is appended (`row_next`) to all (`all_rows`). Rows that take no more than a listing's room are answered, and then others are not
--- (`answered`, `last_answered`), so these are all where no more fit (`fits_no_more`). The header's
--- length is set last (`header_set`).
+-- none (`none_written`) by each that is appended (`row_next`) to all (`all_rows`). Rows that take no
+-- more than a listing's room are answered, and then others are not (`answered`, `last_answered`), so
+-- these are all where no more fit (`fits_no_more`). The header's length is set last (`header_set`).
 use Rattle.std.proofs.Common.{◌≡◌, ◌∙◌, sym, ap, ℕ, zero, suc, ◌+◌, ◌-◌, ◌/◌, ◌^◌, ◌<◌, ◌≤◌, List, [], ◌∷◌, ◌++◌, length, map, drop, take, get_or, Bool, true, false, cond, Option, Some, None, refl, subst, arith, append-nil, append_assoc, length-append}
 use Rattle.std.specs.Prelude.{nat_le, nat_lt, ◌&&◌, slice_get, replicate, MatchOption, IfSome}
 use Rattle.std.specs.List.{enumerate_from, flat_map}

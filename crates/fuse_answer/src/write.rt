@@ -22,7 +22,8 @@ pub(crate) fn write<A: Allocator, O: Allocator>(
     out: &mut Replies<O>,
 ) -> Result<(), AllocError>
     requires { IsSized table.now answer.now }
-    ensures { Appends result out.old out.new (reply_with unique (answer_data table.now answer.now)) }
+    ensures { Appends result out.old out.new
+        (reply_with unique (answer_data table.now answer.now)) }
 {
     match answer {
         Answer::Done | Answer::Forgotten(_) | Answer::AllForgotten(_) => put_head(out, unique),
