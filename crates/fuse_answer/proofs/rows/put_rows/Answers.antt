@@ -71,6 +71,11 @@ returns-clause-reply g c =
           c.set_data_head.ensures.items,
       tt,
       tt,
-      omega (arith, c.in_ok-make_room.ensures.3, c.in_ok-put_data_head.ensures.3, c.in_ok-put_listed.ensures.rows.3,
-      c.set_data_head.ensures.room),
+      omega (
+        arith,
+        c.in_ok-make_room.ensures.3,
+        c.in_ok-put_data_head.ensures.3,
+        c.in_ok-put_listed.ensures.rows.3,
+        c.set_data_head.ensures.room,
+      ),
     )

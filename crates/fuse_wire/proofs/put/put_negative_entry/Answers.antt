@@ -14,8 +14,8 @@ returns g c =
       reply_set c.args.unique 128 c.negative_entry_out-out-inside.result inside.bytes.len inside.len c.head-at.result negative_entry_out
           c.args.out.now.items c.stand.new.self.items inside.bytes.items c.as_mut_slice-bytes.result.now c.head-at.new.fields
           c.negative_entry_out-out-inside.new.fields c.in_ok-stand.ensures.room.0 (ap (λ f. f.items) c.out.view_is)
-          c.as_mut_slice-bytes.ensures.value c.head-at.ensures.fields c.negative_entry_out-out-inside.ensures.fields (omega arith) (omega arith)
-          length-negative_entry_out,
+          c.as_mut_slice-bytes.ensures.value c.head-at.ensures.fields c.negative_entry_out-out-inside.ensures.fields (omega arith)
+          (omega arith) length-negative_entry_out,
       tt,
       tt,
       omega (arith, room, c.in_ok-stand.ensures.room.3),
