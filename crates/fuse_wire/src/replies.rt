@@ -18,7 +18,8 @@ const ZEROS: [u8; 1024] = [0; 1024];
 /// cache still when replies are set over them.
 const CLEARED: usize = 8192;
 
-/// Replies, one after another.
+/// Replies, one after another. To a contract they are their bytes, how many bytes there is room for
+/// in all, and how many of these stand.
 #[derive(Drop)]
 pub struct Replies<A: Allocator> {
     pub(crate) bytes: Vec<u8, A>,
@@ -52,7 +53,7 @@ impl<A: Allocator> Replies<A> {
         }
     }
 
-    /// No replies, with room for so many bytes.
+    /// No replies, with room for so many bytes. `AllocError` comes only where memory was refused.
     pub fn with_capacity(alloc: A, capacity: usize) -> Result<Self, AllocError>
         ensures items { IfOk result (λ replies. replies.items ≡ []) }
         ensures room { IfOk result (λ replies. capacity ≤ replies.room) }
@@ -93,7 +94,8 @@ impl<A: Allocator> Replies<A> {
         self.len = 0;
     }
 
-    /// Makes room for so many bytes more.
+    /// Makes room for so many bytes more. `AllocError` comes only where there was none for them and
+    /// memory was refused; what stands is then as before.
     pub fn make_room(&mut self, more: usize) -> Result<(), AllocError>
         ensures { MakesRoom result self.old self.new more }
     {
@@ -127,7 +129,8 @@ impl<A: Allocator> Replies<A> {
         Ok(())
     }
 
-    /// Appends bytes.
+    /// Appends bytes. `AllocError` comes only where there was no room for them and memory was
+    /// refused; what stands is then as before.
     #[inline(always)]
     pub fn append(&mut self, bytes: &[u8]) -> Result<(), AllocError>
         ensures { Appends result self.old self.new bytes.now }
@@ -149,16 +152,6 @@ impl<A: Allocator> Replies<A> {
         let _ = self.bytes.extend_from_slice(bytes);
         self.len = self.bytes.len();
         Ok(())
-    }
-
-    /// Lets go of the bytes behind the first ones.
-    #[inline(always)]
-    pub(crate) fn truncate(&mut self, len: usize)
-        requires { len ≤ length self.old.items }
-        ensures items { self.new.items ≡ take len self.old.items }
-        ensures room { self.new.room ≡ self.old.room }
-    {
-        self.len = len;
     }
 }
 
