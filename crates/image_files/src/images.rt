@@ -91,20 +91,20 @@ where
     let half = paths.len() / 2;
     let (lows, highs) = paths.split_at(half);
     let next = first + half;
-    let (low, high) = join(
+    let (high, low) = join(
         rt,
-        move || -> Result<Vec<Vec<u8, A>, A>, FilesFault>
-            requires { IsSync R.row × IsSync A.row × IsSend A.row
-                × Frees A.Allocator A.dealloc_token × (first + length lows.now < 2 ^ 64) }
-            ensures ok { IfOk result (λ images. vec_len images ≡ length lows.entry.now) }
-            ensures err { IfErr result (IsUnread first (length lows.entry.now)) }
-        { read_from(rt, alloc, first, lows, less) },
         move || -> Result<Vec<Vec<u8, A>, A>, FilesFault>
             requires { IsSync R.row × IsSync A.row × IsSend A.row
                 × Frees A.Allocator A.dealloc_token × (next + length highs.now < 2 ^ 64) }
             ensures ok { IfOk result (λ images. vec_len images ≡ length highs.entry.now) }
             ensures err { IfErr result (IsUnread next (length highs.entry.now)) }
         { read_from(rt, alloc, next, highs, less) },
+        move || -> Result<Vec<Vec<u8, A>, A>, FilesFault>
+            requires { IsSync R.row × IsSync A.row × IsSend A.row
+                × Frees A.Allocator A.dealloc_token × (first + length lows.now < 2 ^ 64) }
+            ensures ok { IfOk result (λ images. vec_len images ≡ length lows.entry.now) }
+            ensures err { IfErr result (IsUnread first (length lows.entry.now)) }
+        { read_from(rt, alloc, first, lows, less) },
     );
     let mut images = low?;
     images.append(&mut high?)?;

@@ -62,18 +62,18 @@ fn check_from<R: Threads + Sync, A: Allocator + Copy + Send + Sync, G: Gate + Sy
     let highs = images.split_off(half)?;
     let lows = images;
     let next = first + half as u16;
-    let (low, high) = join(
+    let (high, low) = join(
         rt,
-        move || -> Result<Vec<Image<A>, A>, Stop>
-            requires { IsSync R.row × IsSync G.row × IsSync A.row × IsSend A.row
-                × Frees A.Allocator A.dealloc_token × (first + length lows.items ≤ MAX_LAYERS) }
-            ensures { Checks first profile (contents_of lows) result }
-        { check_from(rt, alloc, first, lows, profile, gate, less) },
         move || -> Result<Vec<Image<A>, A>, Stop>
             requires { IsSync R.row × IsSync G.row × IsSync A.row × IsSend A.row
                 × Frees A.Allocator A.dealloc_token × (next + length highs.items ≤ MAX_LAYERS) }
             ensures { Checks next profile (contents_of highs) result }
         { check_from(rt, alloc, next, highs, profile, gate, less) },
+        move || -> Result<Vec<Image<A>, A>, Stop>
+            requires { IsSync R.row × IsSync G.row × IsSync A.row × IsSend A.row
+                × Frees A.Allocator A.dealloc_token × (first + length lows.items ≤ MAX_LAYERS) }
+            ensures { Checks first profile (contents_of lows) result }
+        { check_from(rt, alloc, first, lows, profile, gate, less) },
     );
     together(low, high)
 }

@@ -57,20 +57,20 @@ fn stack_from<R: Threads + Sync, A: Allocator + Copy + Send + Sync, G: Gate + Sy
     let (lows, highs) = images.split_at(half);
     let next = first + half as u16;
     let less = forks - 1;
-    let (low, high) = join(
+    let (high, low) = join(
         rt,
-        move || -> Result<Tree<A>, AllocError>
-            requires { IsSync R.row × IsSync G.row × IsSync A.row × IsSend A.row
-                × Frees A.Allocator A.dealloc_token
-                × (1 ≤ length lows.now) × (first + length lows.now ≤ MAX_LAYERS) }
-            ensures { IfOk result (λ tree. IsTreeOf first lows.entry.now tree) }
-        { stack_from(rt, alloc, first, lows, gate, less) },
         move || -> Result<Tree<A>, AllocError>
             requires { IsSync R.row × IsSync G.row × IsSync A.row × IsSend A.row
                 × Frees A.Allocator A.dealloc_token
                 × (1 ≤ length highs.now) × (next + length highs.now ≤ MAX_LAYERS) }
             ensures { IfOk result (λ tree. IsTreeOf next highs.entry.now tree) }
         { stack_from(rt, alloc, next, highs, gate, less) },
+        move || -> Result<Tree<A>, AllocError>
+            requires { IsSync R.row × IsSync G.row × IsSync A.row × IsSend A.row
+                × Frees A.Allocator A.dealloc_token
+                × (1 ≤ length lows.now) × (first + length lows.now ≤ MAX_LAYERS) }
+            ensures { IfOk result (λ tree. IsTreeOf first lows.entry.now tree) }
+        { stack_from(rt, alloc, first, lows, gate, less) },
     );
     lay(alloc, low?, high?)
 }

@@ -5,10 +5,10 @@ use Rattle.image_files.proofs.images.+halves.Given as goal
 abbrev pub decreases-read_from : goal.decreases-read_from
 decreases-read_from g l = 2 * l.forks
 
--- how often the lower half's thread may cut its run
+-- how often the upper half's thread may cut its run
 abbrev pub decreases-join+arg2 : goal.decreases-join+arg2
 decreases-join+arg2 g l = 2 * l.less + 1
 
--- and how often the upper half's
+-- and how often the lower half's, in the caller's
 abbrev pub decreases-join+arg3 : goal.decreases-join+arg3
 decreases-join+arg3 g l = 2 * l.less + 1

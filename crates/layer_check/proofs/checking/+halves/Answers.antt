@@ -11,7 +11,7 @@ returns g t c =
     let within : half ≤ length c.args.images.items = omega arith in
     let up = counted (λ image. image.items) c.args.images.items lows half c.args.first c.in_ok-highs.ensures.items within in
     let all = joined c.args.first c.args.profile (map (λ image. image.items) lows) (map (λ image. image.items) highs)
-    _ _ c.together.result (record { lower = c.join-low.ensures.first; upper = rw up at c.join-low.ensures.second }) c.together.ensures in
+    _ _ c.together.result (record { lower = c.join-high.ensures.second; upper = rw up at c.join-high.ensures.first }) c.together.ensures in
     subst (λ xs. Checks c.args.first c.args.profile xs c.together.result) (halved (λ image. image.items) c.args.images.items lows highs half
     c.in_ok-highs.ensures.items c.in_ok-highs.ensures.tail) all
 
