@@ -13,6 +13,9 @@ use std::alloc::Allocator;
 /// How many headers are read together.
 const TOGETHER: usize = 64;
 
+/// Of fewer places nothing is read ahead.
+const MANY: usize = 0x4000;
+
 /// How far the places have been gone over.
 #[derive(Drop)]
 pub(crate) struct HeadersAhead {
@@ -34,7 +37,7 @@ impl HeadersAhead {
         walk: &Walked<'_, Entry, A>,
         starts: &[usize],
     ) {
-        if self.passed % TOGETHER == 0 {
+        if starts.len() > MANY && self.passed % TOGETHER == 0 {
             self.read(images, walk, starts);
         }
         self.passed = self.passed.wrapping_add(1);
