@@ -8,6 +8,7 @@ import concurrent.futures
 import fcntl
 import os
 import select
+import signal
 import struct
 import termios
 import threading
@@ -28,7 +29,8 @@ def ended(child):
         with stream:
             return stream.read()
 
-    patience = threading.Timer(MINUTE, child.kill)
+    # child.kill would wait for a child that has ended, and take what wait4 is to tell below
+    patience = threading.Timer(MINUTE, os.kill, (child.pid, signal.SIGKILL))
     patience.start()
     with concurrent.futures.ThreadPoolExecutor(2) as readers:
         output, errors = readers.map(read, (child.stdout, child.stderr))
