@@ -91,6 +91,7 @@ where
     let half = paths.len() / 2;
     let (lows, highs) = paths.split_at(half);
     let next = first + half;
+    // the lowest layer, mostly the largest, waits for no thread to start
     let (high, low) = join(
         rt,
         move || -> Result<Vec<Vec<u8, A>, A>, FilesFault>

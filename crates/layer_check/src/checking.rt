@@ -62,6 +62,7 @@ fn check_from<R: Threads + Sync, A: Allocator + Copy + Send + Sync, G: Gate + Sy
     let highs = images.split_off(half)?;
     let lows = images;
     let next = first + half as u16;
+    // the lowest layer, mostly the largest, waits for no thread to start
     let (high, low) = join(
         rt,
         move || -> Result<Vec<Image<A>, A>, Stop>

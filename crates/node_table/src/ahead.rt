@@ -1,9 +1,9 @@
 //! Headers that will be read, read ahead.
 //!
 //! Places in the order of their numbers stand anywhere in their images, which are larger than the
-//! processor's caches. One after another the read of each header would be waited for. Here a byte
-//! of some dozens is read together, before their nodes are made, and none of these reads waits for
-//! another. No node follows from what is read here.
+//! processor's caches where there are many. One after another the read of each header would be
+//! waited for. Here a byte of some dozens is read together, before their nodes are made, and none
+//! of these reads waits for another. No node follows from what is read here.
 
 use crate::walk::Walked;
 use romfs_reader::Image;
@@ -13,7 +13,7 @@ use std::alloc::Allocator;
 /// How many headers are read together.
 const TOGETHER: usize = 64;
 
-/// Of fewer places nothing is read ahead.
+/// Of no more places than this nothing is read ahead.
 const MANY: usize = 0x4000;
 
 /// How far the places have been gone over.
@@ -30,7 +30,8 @@ impl HeadersAhead {
         HeadersAhead { passed: 0, sum: 0 }
     }
 
-    /// Goes over one place more of these; now and then the headers of the next ones are read.
+    /// Goes over one place more of these; now and then, where there are many, the headers of the
+    /// next ones are read.
     pub(crate) fn pass<A: Allocator>(
         &mut self,
         images: &[Image<A>],

@@ -57,6 +57,7 @@ fn stack_from<R: Threads + Sync, A: Allocator + Copy + Send + Sync, G: Gate + Sy
     let (lows, highs) = images.split_at(half);
     let next = first + half as u16;
     let less = forks - 1;
+    // the lowest layer, mostly the largest, waits for no thread to start
     let (high, low) = join(
         rt,
         move || -> Result<Tree<A>, AllocError>
