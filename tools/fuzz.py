@@ -13,9 +13,9 @@ Each try of a part makes its inputs of a seed of its own, from N (1) on, and goe
 - `made`: genromfs's images of random folders with bits flipped, records swapped and words changed, through `check`, `list`
   and one of these ways; `kernel`: the requests of a real mount over the demo's layers, changed in the same spirit.
 
-With --minutes the parts go on by turns, and end then. Where a try differs, or takes more than two seconds of processor time three
-times, its files are kept, its words are printed, and how to make it again alone; where the words name no file of requests, that
-file's bytes came through a pipe or as packets, and those of requests-1 and so on from the clients.
+With --minutes the parts go on by turns, and end then. Where a try differs, or three times takes more than two seconds of processor
+time or a minute by the clock, its files are kept, its words are printed, and how to make it again alone; where the words name no
+file of requests, that file's bytes came through a pipe or as packets, and those of requests-1 and so on from the clients.
 """
 import argparse
 import collections
@@ -264,7 +264,8 @@ class Counts:
 
 
 def make(running, counts, seed):
-    """Makes a try. A slow one is made again: on a full machine a program that waits for its threads takes time for that."""
+    """Makes a try. A slow one is made again: on a full machine a program that waits for its threads takes time for that, and a
+    machine that stands still a minute ends what was under way."""
     for again in (True, True, False):
         try:
             PARTS[counts.part](running, random.Random("%s %d" % (counts.part, seed)), counts.seen)

@@ -25,7 +25,7 @@ class Difference(Exception):
 
 
 class TooSlow(Difference):
-    """All is as it should be, but the processor time that it took."""
+    """It took more processor time than it should, or did not end within a minute by the clock, as where the machine stood still."""
 
 
 Wanted = collections.namedtuple("Wanted", "status output line files")
@@ -69,7 +69,7 @@ class Running:
     def hold_end(self, words, want, done):
         """Holds how a run ended, and that it took no long time."""
         if done.status is None:
-            raise Difference("%s does not end" % self.told(words))
+            raise TooSlow("%s does not end" % self.told(words))
         got = done.status, done.errors.decode(errors="replace")
         if got != (want.status, want.line):
             raise Difference("%s: the status and the line should be %r, and are %r" % (
