@@ -46,7 +46,8 @@ pub fn words<R: Env + AllocGlobal>(rt: &R) -> Result<Vec<String>, LineFault> {
 /// has the path of the socket.
 ///
 /// It is `Usage` only where the words are no command of the program, as where they ask for help,
-/// where they give another number, or where they name a file beside the device.
+/// where they give another number, or where they name a file beside the device; `Memory` only where
+/// memory was refused.
 pub fn line<'a, S: AsStr>(alloc: Global, words: &'a [S]) -> Result<Line<'a>, LineFault>
     ensures ok { IfOk result (λ line. IsLineOf (map S.text words.now) line) }
     ensures limits { IfOk result (λ line. IsInLimits line) }

@@ -1,5 +1,5 @@
 -- Replies that stand one after another, and what calls leave of them.
-use Rattle.std.specs.Prelude.{◌≡◌, ℕ, ◌+◌, ◌<◌, ◌≤◌, Bool, true, List, ◌++◌, length, if◌then◌else◌, Result, OnOk, OnErr}
+use Rattle.std.specs.Prelude.{◌≡◌, ◌⊎◌, ℕ, ◌+◌, ◌<◌, ◌≤◌, Bool, true, List, ◌++◌, length, if◌then◌else◌, Result, OnOk, OnErr}
 
 -- the bytes of replies, for how many in all there is room, and how many of these stand already
 pub record Filled : Type 0 where
@@ -22,6 +22,11 @@ pub record PutsUpTo (most : ℕ) (told : Bool) (before after : Filled) (bytes : 
   pub items : after.items ≡ (if told then before.items ++ bytes else before.items)
   pub few : told ≡ true → length after.items ≤ most
   pub room : before.room ≤ after.room
+
+-- with these bytes there would be more than so many, or there is no room for so many bytes more
+abbrev pub IsTooMuch : ℕ → ℕ → Filled → List ℕ → Type 0
+IsTooMuch most more before bytes =
+    (most < length before.items + length bytes) ⊎ (before.room < length before.items + more)
 
 -- the call makes room for so many bytes more; or, where there is none for them, it may fail
 abbrev pub MakesRoom : {E : Type 0} → Result (Unit {0}) E → Filled → Filled → ℕ → Type 0

@@ -2,11 +2,11 @@
 //! for them and gets none, it is as before.
 #![tactic(auto, unfolding(crate::specs::Replies::reply_with), using(crate::proofs::Sizes::sizes))]
 
-ghost use Rattle.std.specs.Prelude.{◌≡◌, ◌++◌, ◌<◌, ◌≤◌, ◌+◌, ◌-◌, ◌^◌, [], length, take, drop, vec_len};
+ghost use Rattle.std.specs.Prelude.{◌≡◌, ◌++◌, ◌<◌, ◌≤◌, ◌+◌, ◌-◌, ◌^◌, [], length, take, drop, vec_len, IsFalse};
 ghost use Rattle.std.specs.Option.{option_copied, option_map_or};
 ghost use Rattle.fuse_wire.specs.Structures.{zeros, init_out, entry_out, negative_entry_out, attr_out, open_out, statfs_out, dirent_size, padding, row_bytes, plus_row_bytes};
 ghost use Rattle.fuse_wire.specs.Replies.{reply_head, reply_with, error_reply};
-ghost use Rattle.fuse_wire.specs.Appends.{Appends, PutsUpTo};
+ghost use Rattle.fuse_wire.specs.Appends.{Appends, PutsUpTo, IsTooMuch};
 ghost use Rattle.fuse_wire.specs.declared.put.TheConstants.{DIRENT_FRONT_SIZE, SHORT_ROW_SIZE};
 
 use crate::limits::OUT_HEADER_SIZE;
@@ -238,8 +238,8 @@ pub fn put_direntplus<A: Allocator>(
 }
 
 /// Appends a row of READDIRPLUS whose name has at most 22 bytes, and comes also with zeros behind
-/// it, up to 22. It is false, and nothing is appended, where the replies would then have more than
-/// `most` bytes, or there is no room for [`SHORT_ROW_SIZE`] more.
+/// it, up to 22. It is false, and nothing is appended, only where the replies would then have more
+/// than `most` bytes, or there is no room for [`SHORT_ROW_SIZE`] more.
 #[inline(always)]
 pub fn put_short_direntplus<A: Allocator>(
     out: &mut Replies<A>,
@@ -250,7 +250,9 @@ pub fn put_short_direntplus<A: Allocator>(
 ) -> bool
     requires short { length row.now.name.now ≤ 22 }
     requires padded { padded.now ≡ row.now.name.now ++ zeros (22 - length row.now.name.now) }
-    ensures { PutsUpTo most result out.old out.new
+    ensures row { PutsUpTo most result out.old out.new
+        (plus_row_bytes (option_copied entry.entry) row.now) }
+    ensures too_much { IsFalse result → IsTooMuch most SHORT_ROW_SIZE out.old
         (plus_row_bytes (option_copied entry.entry) row.now) }
 {
     if most < out.len + ENTRY_OUT_SIZE + dirent_size(row.name.len()) {

@@ -33,7 +33,8 @@ pub struct Guesses<A: Allocator> {
 }
 
 impl<A: Allocator> Guesses<A> {
-    /// No guesses yet, with room for this many rows: 8 to 16 bytes a row.
+    /// No guesses yet, with room for this many rows: 8 to 16 bytes a row. `AllocError` comes only
+    /// where memory was refused.
     pub fn for_rows(alloc: A, rows: usize) -> Result<Self, AllocError> {
         let bits = bits_for(rows);
         let slots = vec![in alloc; NOWHERE; 2 << bits]?;

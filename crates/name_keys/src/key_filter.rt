@@ -36,7 +36,8 @@ impl<A: Allocator> Model for KeyFilter<A> {
 }
 
 impl<A: Allocator> KeyFilter<A> {
-    /// No keys yet, with room for this many rows: a byte a row.
+    /// No keys yet, with room for this many rows: a byte a row. `AllocError` comes only where
+    /// memory was refused.
     pub fn for_rows(alloc: A, rows: usize) -> Result<Self, AllocError> {
         let count = rows.saturating_mul(BITS_A_ROW).min(MAX_BITS);
         let bits = SlotSet::new(alloc, count)?;

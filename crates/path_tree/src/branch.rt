@@ -91,7 +91,7 @@ impl<T: Copy + Drop, A: Allocator> Branch<T, A> {
         self.children.as_slice()
     }
 
-    /// The branch at a path from this one.
+    /// The branch at a path from this one; none where there is no such path.
     pub fn find(&self, path: &[&[u8]]) -> Option<&Branch<T, A>>
         ensures { MatchOption result
             (IsUnder (whole self.now) (map (λ n. n.now) path.now) [])
@@ -141,7 +141,7 @@ impl<T: Copy + Drop, A: Allocator + Copy> Branch<T, A> {
     }
 }
 
-/// The branch of that name, by halves.
+/// The branch of that name, by halves; none where none has it.
 pub fn child<'a, T: Copy + Drop, A: Allocator>(
     children: &'a [Branch<T, A>],
     name: &[u8],

@@ -13,7 +13,7 @@ use reply_model::Move;
 use std::alloc::{AllocError, Allocator};
 
 /// The sums of moves by node, in ascending order: each node once with its sum, and none whose sum
-/// is 0.
+/// is 0. `AllocError` comes only where memory was refused.
 pub fn sums<A: Allocator + Copy>(
     alloc: A,
     mut moves: Vec<Move, A>,

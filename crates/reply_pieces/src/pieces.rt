@@ -34,7 +34,7 @@ pub struct Piece<A: Allocator> {
 }
 
 /// Joins pieces in the order of their numbers: their bytes one after another, and the sums of their
-/// moves. Each number occurs once.
+/// moves. Each number occurs once. `AllocError` comes only where memory was refused.
 pub fn in_order<A: Allocator + Copy>(
     alloc: A,
     mut pieces: Vec<Piece<A>, A>,

@@ -95,7 +95,8 @@ fn name_field(image: &[u8], at: usize) -> &[u8]
     }
 }
 
-/// The name whose field begins at a place of the accessible bytes.
+/// The name whose field begins at a place of the accessible bytes; none where it has no end, or its
+/// padding ends beyond them.
 pub fn text_at(image: &[u8], at: usize) -> Option<&[u8]>
     requires at { at ≤ length image.now }
     requires small { length image.now < 2 ^ 32 }

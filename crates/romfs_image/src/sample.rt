@@ -94,8 +94,9 @@ impl<T: Drop> From<AllocFailed<T>> for BuildFault {
 /// directory is followed by its own `.` and `..`, hard links to it and to the directory above, and
 /// a file by its data. Header sums and the volume sum are set, and the full size is the length.
 ///
-/// `Listing` is looked at first, then `Size`. Faults that break other rules of an image can be
-/// built, such as a bad name, a loop of hard links or a path that is too deep.
+/// `Listing` is looked at first, then `Size`; `Memory` comes only where memory was refused. Faults
+/// that break other rules of an image can be built, such as a bad name, a loop of hard links or a
+/// path that is too deep.
 pub fn build<A: Allocator + Copy>(
     alloc: A,
     volume: &[u8],

@@ -35,7 +35,7 @@ impl<'s, A: Allocator> Model for SlotNumbers<'s, A> {
 }
 
 impl<'s, A: Allocator + Copy> SlotNumbers<'s, A> {
-    /// Numbers the slots of a set.
+    /// Numbers the slots of a set. `AllocError` comes only where memory was refused.
     pub fn of(alloc: A, set: &'s SlotSet<A>) -> Result<SlotNumbers<'s, A>, AllocError>
         requires { length set.now < 2 ^ 32 }
         ensures { IfOk result (λ numbers. numbers ≡ set.now) }

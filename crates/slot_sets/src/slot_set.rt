@@ -29,7 +29,7 @@ impl<A: Allocator> Model for SlotSet<A> {
 }
 
 impl<A: Allocator> SlotSet<A> {
-    /// The empty set of slots below a number.
+    /// The empty set of slots below a number. `AllocError` comes only where memory was refused.
     pub fn new(alloc: A, slots: usize) -> Result<SlotSet<A>, AllocError>
         requires { slots < 2 ^ 32 }
         ensures { IfOk result (λ empty. empty ≡ replicate slots false) }
@@ -96,7 +96,7 @@ impl<A: Allocator> SlotSet<A> {
         }
     }
 
-    /// The first slot from a slot on that is in this set or in another.
+    /// The first slot from a slot on that is in this set or in another; none where none is.
     pub fn next_of_either(&self, other: &SlotSet<A>, from: usize) -> Option<usize>
         requires { length other.now ≡ length self.now }
         ensures { IsNextOfEither self.now other.now from result }
@@ -118,7 +118,7 @@ impl<A: Allocator> SlotSet<A> {
         None
     }
 
-    /// The first slot of the set from a slot on.
+    /// The first slot of the set from a slot on; none where there is none.
     #[tactic(auto, using(crate::proofs::Unions::next_of_one))]
     pub fn next_from(&self, from: usize) -> Option<usize>
         ensures next { IsNextSlot self.now from result }

@@ -164,7 +164,7 @@ impl<A: Allocator> Table<A> {
         self.hints.guesses.first(hash)
     }
 
-    /// The row that stands at a guessed place among all rows.
+    /// The row that stands at a guessed place among all rows; none beyond the last.
     pub fn guessed(&self, place: usize) -> Option<&Row<A>> {
         self.directories.rows.get(place)
     }

@@ -56,7 +56,7 @@ impl Fault {
         }
     }
 
-    /// Writes its line.
+    /// Writes its line, and flushes. An error is the writer's.
     pub fn tell<W: Write>(&self, writer: &mut W) -> io::Result<()>
         ensures { OnOk result (Appends (W.contents writer.old) (W.contents writer.new)
             (fault_text self.now ++ 10 ∷ [])) }

@@ -218,7 +218,8 @@ fn note_all<A: Allocator + Copy>(alloc: A, graph: &Graph<A>) -> Result<Vec<bool,
 }
 
 /// Notes the points of which a lower one of the same class comes before or after: `next` is the
-/// point that each leads on to, and `class` the class of each.
+/// point that each leads on to, and `class` the class of each. `AllocError` comes only where memory
+/// was refused.
 pub fn note_repeats<A: Allocator + Copy>(
     alloc: A,
     next: Vec<u32, A>,

@@ -14,6 +14,7 @@ use std::collections::VecDeque;
 /// one alone has a value, that one. The name is that of the upper tree.
 ///
 /// Directories of both are merged child by child; what one alone has is moved and not looked into.
+/// `AllocError` comes only where memory was refused; both trees are then lost.
 pub fn cover<T: Lay, A: Allocator + Copy>(
     alloc: A,
     low: Branch<T, A>,
@@ -27,7 +28,8 @@ pub fn cover<T: Lay, A: Allocator + Copy>(
     Ok(Branch::new(name, T::lay(below, above), children))
 }
 
-/// The branches of a directory, laid on those of another one.
+/// The branches of a directory, laid on those of another one. `AllocError` comes only where memory
+/// was refused; the branches of both are then lost.
 #[cycle(laying)]
 pub fn merge<T: Lay, A: Allocator + Copy>(
     alloc: A,
