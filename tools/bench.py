@@ -1,9 +1,9 @@
 """Times the built program, and hostile inputs against honest ones: python3 tools/bench.py PROGRAM [--quick] [PART..]
 
 The parts are `serve` (a million requests, against cat), `lookups` (in a large directory, against attributes in a small
-one), `sockets` (a million requests at a socket, against pipes; the shortest sessions), `check` (images), `stacks` (check,
-list and serve of stacks), `streams` (dear requests), `pulls` (a byte at a time) and `workers` (long replies by four workers,
-against one). Files lie in memory (/dev/shm where it is there). A time is processor time, user and system, the least of three
+one), `check` (images), `stacks` (check, list and serve of stacks), `streams` (dear requests), `pulls` (a byte at a time),
+`workers` (long replies by four workers, against one) and `sockets` (a million requests at a socket, against pipes; the shortest
+sessions). Files lie in memory (/dev/shm where it is there). A time is processor time, user and system, the least of three
 runs; memory is the most that a run had at one moment, and less than some 20 MiB is not told apart. The status is 0 where each
 hostile input takes at most five times as long as an honest one of its size; where it gives a longer list, at most five times
 as long for each byte of it; where `serve`, `lookups` and `sockets` are within bounds of their own; and where four workers give
@@ -34,7 +34,8 @@ MOST_WORKERS = 3
 # how many times the processor time of a stream through pipes one at a socket may take; how many of the shortest sessions
 MOST_OF_PIPES, SESSIONS = 4, 20000
 HOSTILE = ("check", "stacks", "streams", "pulls")
-PARTS = ("serve", "lookups", "sockets", *HOSTILE, "workers")
+# `sockets` comes last: it holds its streams itself, and what a run is told to have had counts what stood when it was forked
+PARTS = ("serve", "lookups", *HOSTILE, "workers", "sockets")
 # what the sizes are divided by for the gate
 QUICK = 4
 Cost = namedtuple("Cost", "seconds memory written line")
@@ -85,14 +86,14 @@ class Bench:
     def __init__(self, program, folder):
         self.program, self.folder, self.within = program, folder, True
 
-    def held(self, what, taken, honest):
-        """Prints what a hostile input costs, beside an honest one."""
+    def held(self, what, taken, honest, beside="honest"):
+        """Prints what a hostile input costs, beside an honest one, or beside another program."""
         ratio = taken.seconds / max(honest.seconds, 0.001)
         longer = max(1, taken.written / max(honest.written, 1))
         self.within = self.within and ratio <= MOST * longer
         line = taken.line or "for %.1f times the output" % longer * (longer > 1.1)
-        print("%-30s %8.3f s %6.0f MiB   honest %8.3f s %6.0f MiB  %5.1f times  %s" % (
-            what, taken.seconds, taken.memory, honest.seconds, honest.memory, ratio, line), flush=True)
+        print("%-30s %8.3f s %6.0f MiB   %-6s %8.3f s %6.0f MiB  %5.1f times  %s" % (
+            what, taken.seconds, taken.memory, beside, honest.seconds, honest.memory, ratio, line), flush=True)
 
     def serve(self):
         """A million LOOKUPs and GETATTRs over 5,000 files, against reading and writing as many bytes."""
@@ -169,7 +170,7 @@ class Bench:
         """Requests through a pipe, a byte a read, against cat, which reads them like that too."""
         image, packets = apart(inputs.write_packets, self.folder)
         self.held("%d pulls of a byte" % os.path.getsize(packets), cost(self.program, "serve", image, packets=packets),
-                  cost("cat", packets=packets))
+                  cost("cat", packets=packets), "cat")
 
 
     def workers(self):
