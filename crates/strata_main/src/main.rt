@@ -1,13 +1,13 @@
 //! The program `strata`, over the process's own words and streams.
 #![tactic(auto)]
 
-use command_line::{LineFault, line, words};
+use command_line::{line, words};
 use devices::{Spout, Tap};
 use fuse_device::{MessageTap, ReplySpout};
 use std::alloc::{Allocator, Global};
 use std::fs;
 use std::fs::Files;
-use std::io::{BufWriter, Read, Write};
+use std::io::{Read, Write};
 use std::net::Net;
 use std::process::ExitCode;
 use std::thread::Threads;
@@ -40,33 +40,19 @@ fn main(rt: HostRuntime) -> ExitCode {
     let _held = stand_ins(&rt);
     let alloc = rt.alloc();
     keep_freed_blocks(alloc);
-    let words = words(&rt);
-    let (input, output) = (rt.stdin(), rt.stdout());
-    // a line that is put together first is one write, and no other program's text stands inside it
-    let status = match BufWriter::new(alloc, rt.stderr()) {
-        Ok(mut faults) => start(&rt, alloc, words, input, output, &mut faults),
-        Err(_) => start(&rt, alloc, words, input, output, &mut rt.stderr()),
+    let mut faults = rt.stderr();
+    let status = match words(&rt) {
+        Ok(words) => run(
+            &rt,
+            alloc,
+            words.as_slice(),
+            rt.stdin(),
+            rt.stdout(),
+            &mut faults,
+        ),
+        Err(fault) => Fault::from(fault).end(&mut faults),
     };
     ExitCode::from(status)
-}
-
-// Runs the program on its words, where all of them are text.
-fn start<R: Files + Net + Threads + Sync, I: Read + Drop, O: Write + Drop, E: Write>(
-    rt: &R,
-    alloc: Global,
-    words: Result<Vec<String>, LineFault>,
-    reader: I,
-    writer: O,
-    faults: &mut E,
-) -> u8
-where
-    R::File: Send,
-    R::Dir: Send,
-{
-    match words {
-        Ok(words) => run(rt, alloc, words.as_slice(), reader, writer, faults),
-        Err(fault) => Fault::from(fault).end(faults),
-    }
 }
 
 // Runs the program over a reader and a writer, which are both an open `/dev/fuse` where the words
